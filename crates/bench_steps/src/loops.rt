@@ -16,7 +16,7 @@ pub(crate) struct Sums {
 
 /// What steps are made on.
 pub(crate) trait Steps {
-    /// Makes a step, and gives the number that is told, 0 where none is.
+    /// Makes a step, and gives the number that is told, 0 if none is.
     fn make(&mut self, worker: WorkerId, act: Act) -> Option<u64>;
 }
 

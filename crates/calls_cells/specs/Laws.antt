@@ -16,7 +16,7 @@ AFaultLeavesNoOrder =
     (past : List Event) (f : Fault) (t : ℕ) (cs : List Call) → IsHistoryOf Cell past
     → clock past ≤ t → Shows past f → IsOrderOf Cell past t cs → ⊥
 
--- the same where the gets of the fault are any list
+-- the same if the gets of the fault are any list
 abbrev pub AnyFaultLeavesNoOrder : Type 0
 AnyFaultLeavesNoOrder =
     (past : List Event) (t : ℕ) (cs : List Call) → IsHistoryOf Cell past → clock past ≤ t

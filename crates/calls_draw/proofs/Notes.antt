@@ -99,7 +99,7 @@ writer_stays text status before after w new checks =
     (record { out = after; notes = new }) checks in
     (said.1 old [] (refl, ([], refl, refl))).0
 
--- and is a note there, where all of it was written
+-- and is a note there, if all of it was written
 pub noted : (text : List ℕ) (status : Status) (before after : Option (List ℕ)) (w : ℕ)
     (new : Outgoing) (note : List ℕ) → ChecksWhole status text
     (record { out = before; notes = at_first w (Some []) }) (record { out = after; notes = new })

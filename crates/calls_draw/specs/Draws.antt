@@ -44,7 +44,7 @@ WritesNone Chosen text status old new =
     ⊎ (((status ≡ statuses.Memory) × Puts old.notes new.notes (codes "no memory\n"))
     ⊎ SaysAsCheck text status old.notes new.notes))
 
--- how `draw_calls` ended, where this says that something is chosen
+-- how `draw_calls` ended, if this says that something is chosen
 abbrev pub Draws : Type 0 → List ℕ → Status → Outlets → Outlets → Type 0
 Draws Chosen text status old new =
     WritesOne text status old new ⊎ WritesNone Chosen text status old new

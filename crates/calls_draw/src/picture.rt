@@ -205,7 +205,7 @@ const BEFORE: usize = 4;
 /// The fewest events that are shown of a long history that is refused.
 const FEWEST: usize = 20;
 
-/// Returns the first event that is shown where none is chosen.
+/// Returns the first event that is shown if none is chosen.
 fn usual_from(evidence: &Option<Evidence<'_>>, count: usize) -> usize {
     match evidence {
         Some(evidence) => {

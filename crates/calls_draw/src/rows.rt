@@ -40,7 +40,7 @@ pub(crate) fn put_columns(out: &mut Pen<'_>, picture: &Picture<'_>, rows: usize)
     }
 }
 
-/// Puts the class that makes a text small where it has more room than this.
+/// Puts the class that makes a text small if it has more room than this.
 fn put_squeezed(out: &mut Pen<'_>, class: &[u8], at: Place, text: &[u8], room: u64) {
     let letters = text.len() as u64;
     out.put(b"<text class='");

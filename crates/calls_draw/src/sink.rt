@@ -20,7 +20,7 @@ pub(crate) fn xy(x: u64, y: u64) -> Place {
     Place { x, y }
 }
 
-/// Puts a byte of a text, escaped where XML needs it; what is no plain character is a question
+/// Puts a byte of a text, escaped if XML needs it; what is no plain character is a question
 /// mark.
 fn put_escaped_byte(out: &mut Pen<'_>, byte: u8) {
     match byte {

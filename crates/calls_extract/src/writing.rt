@@ -143,7 +143,7 @@ fn put_history<W: Write>(
 /// the run is on: of the entry that begins a call its invocation, and of the entry that ends one its
 /// response. A hand leaves no line.
 ///
-/// A WriteFault comes only where a write failed or wrote none of its bytes. It takes no memory.
+/// A WriteFault comes only if a write failed or wrote none of its bytes. It takes no memory.
 pub fn write_calls<W: Write>(run: &Run, heading: &Heading, writer: &mut W) -> Result<(), WriteFault>
     ensures ok { (o : Outline) → IsOutline o → headed o ≡ heading.now → OnOk result
         (Appends (W.contents writer.old) (W.contents writer.new) (calls_text o run.now.entries)) }

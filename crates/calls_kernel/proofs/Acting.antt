@@ -1,4 +1,4 @@
--- Advances, tickets, puts and gets that are made where no call is under way.
+-- Advances, tickets, puts and gets that are made if no call is under way.
 use Rattle.std.proofs.Common.{◌≡◌, ℕ, ◌+◌, ◌-◌, ◌<◌, ◌≤◌, true, false, ◌&&◌, ◌==◌}
 use Rattle.std.proofs.Common.{cond, List, [], ◌∷◌, length, Option, Some, None, is_some, refl, ap}
 use Rattle.std.proofs.Common.{sym}

@@ -1,4 +1,4 @@
--- A call that is made where no other is under way.
+-- A call that is made if no other is under way.
 use Rattle.std.proofs.Common.{◌≡◌, ℕ, ◌+◌, ◌<◌, ◌≤◌, Bool, true, false, not, ◌&&◌, ◌==◌}
 use Rattle.std.proofs.Common.{cond, List, [], ◌∷◌, ◌++◌, length, Option, Some, None, is_some, Ok}
 use Rattle.std.proofs.Common.{refl, ap, sym, ◌∙◌, arith, count_by, slice_get}

@@ -1,4 +1,4 @@
--- Reads and awaits that are made where no call is under way: one round, whose entries follow one
+-- Reads and awaits that are made if no call is under way: one round, whose entries follow one
 -- another.
 use Rattle.std.proofs.Common.{◌≡◌, ℕ, zero, suc, ◌+◌, ◌-◌, ◌<◌, ◌≤◌, Bool, true, false, not, ◌&&◌}
 use Rattle.std.proofs.Common.{◌==◌, cond, List, [], ◌∷◌, ◌++◌, length, Some, None, is_some}
@@ -253,7 +253,7 @@ module _ (t : Tables) where
           | false ↦ way_after now ms act (replies.Number n) h v
         ] refl
 
-    -- the call, where its round ends with the total
+    -- the call, if its round ends with the total
     look_played : (c : Call) (n : ℕ → ℕ → ℕ) (k : ℕ) (left : List Call)
         → IsClear t past n (c ∷ left) → 0 < wide → IsAmid past [] op → w ≡ c.worker
         → op ≡ act_of t c

@@ -18,7 +18,7 @@ use Rattle.calls_core.specs.declared.history.Reply.{Reply}
 use Rattle.calls_core.specs.declared.history.Reply.TheVariants.{Done, Number, Timeout}
 use Rattle.calls_core.specs.declared.history.Call.{Call}
 
--- the act that begins a call of object k, where the objects are the declared eventcounts, then the
+-- the act that begins a call of object k, if the objects are the declared eventcounts, then the
 -- sequencers, then the cells
 abbrev pub act_on : Tables → ℕ → Op → Act
 act_on t k Advance = acts.Advance k
@@ -51,7 +51,7 @@ pub record KeepsLimit (t : Tables) (cs : List Call) : Type 0 where
 
 -- HOW THEY ARE MADE
 
--- what a call of this op returned, and the reply to its last entry. Where an await returned no
+-- what a call of this op returned, and the reply to its last entry. If an await returned no
 -- number, the reply is a number that reaches its threshold
 abbrev pub IsReplyOf : Op → Reply → StepReply → Type 0
 IsReplyOf (Await v) Done (replies.Number n) = v ≤ n

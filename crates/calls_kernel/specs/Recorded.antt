@@ -18,7 +18,7 @@ use Rattle.calls_core.specs.Linearizations.{answered_calls}
 use Rattle.calls_kernel.specs.Seen.{is_call}
 use Rattle.calls_kernel.specs.Made.{IsMadeAs, IsGranted, KeepsLimit}
 
--- the call c was recorded of the kernel's call d, where the entry at position i happened at the
+-- the call c was recorded of the kernel's call d, if the entry at position i happened at the
 -- position `moment i` of the record: each of its entries from its invocation to its response
 pub record IsRecordedAs (t : Tables) (moment : ℕ → ℕ) (d : FinishedCall) (c : Call) : Type 0 where
   pub made : IsMadeAs t d c

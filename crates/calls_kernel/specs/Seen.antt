@@ -91,7 +91,7 @@ invocation_at t i x =
     } ∷ []
     else []
 
--- the response of the call that it ends: none where its reply is pending
+-- the response of the call that it ends: none if its reply is pending
 abbrev pub response_at : ℕ → Entry → List Event
 response_at i x =
     if is_pending x.reply then [] else (

@@ -76,7 +76,7 @@ module _ (t w : ℕ) (o : PendingCall) (r : Reply) (a : PendingCall → Option R
   Answered os = (unanswered more os ≡ without w (unanswered a os))
       × IsPermutation (answered_calls t more os) (completion t r o ∷ answered_calls t a os)
 
-  -- the rest, where the first of it is y
+  -- the rest, if the first of it is y
   kept_answered : (y : PendingCall) (os : List PendingCall) (z : Option Reply) → a y ≡ z
       → more y ≡ a y → (y.worker == w) ≡ false → z ≡ None → Answered os → Answered (y ∷ os)
   kept_answered y os z e same other is h =

@@ -68,7 +68,7 @@ one_part t k o (Some r) rest true e = filter_yes (λ (c : Call). c.object == k)
 one_part t k o (Some r) rest false e = filter_no (λ (c : Call). c.object == k)
     (completion t r o) rest e
 
--- those of object k, where the answers are given by objects
+-- those of object k, if the answers are given by objects
 pub answered_part : (t : ℕ) (f : ℕ → PendingCall → Option Reply) (k : ℕ) (os : List PendingCall)
     → calls_on k (answered_calls t (λ o. f o.object o) os) ≡ answered_calls t (f k)
     (pending_on k os)

@@ -138,7 +138,7 @@ each_moved Q xs ys moved h = each_from_all Q ys (All-permutation Q xs ys moved
 
 -- POINTS
 
--- each call is returned after the latest invocation up to it, where m is right after the latest one
+-- each call is returned after the latest invocation up to it, if m is right after the latest one
 -- before
 abbrev pub Timely : ℕ → List Call → Type 0
 Timely m [] = Unit {0}

@@ -66,7 +66,7 @@ takes_store (Some (Semaphores units)) (V i) h = refl
 takes_store (Some (Semaphores units)) (PBoth i j) h = refl
 takes_store kind op h = absurd h
 
--- the numbers n of an object whose values are renamed, where it had m
+-- the numbers n of an object whose values are renamed, if it had m
 abbrev pub Match : (ℕ → ℕ) → Bool → (ℕ → ℕ) → (ℕ → ℕ) → Type 0
 Match g true m n = n 0 ≡ g (m 0)
 Match g false m n = (i : ℕ) → n i ≡ m i

@@ -23,7 +23,7 @@ IsListRun vs [] = Unit {0}
 IsListRun vs (Write us ∷ ls) = IsListRun us ls
 IsListRun vs (Snapshot us ∷ ls) = (us ≡ vs) × IsListRun vs ls
 
--- the call as it is recorded, where f us is the number of the list us
+-- the call as it is recorded, if f us is the number of the list us
 abbrev pub IsNumbered : (List ℕ → ℕ) → ListCall → Call → Type 0
 IsNumbered f (Write us) c = (c.op ≡ Put (f us)) × (c.reply ≡ Done)
 IsNumbered f (Snapshot us) c = (c.op ≡ Get) × (c.reply ≡ Number (f us))

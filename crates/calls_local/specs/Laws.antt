@@ -98,7 +98,7 @@ OrderOnHasPoints = (kinds : List Kind) (k : ℕ) (done : List Call) (pending : L
     → IsPlacedOrder (IsSequentialRun (start kinds k)) (calls_on k done) (pending_on k pending) t
     (placed_one 0 cs)
 
--- and the converse: where each call has a point of its own time and the points ascend, the calls
+-- and the converse: if each call has a point of its own time and the points ascend, the calls
 -- stand in real-time order
 abbrev pub PointsKeepTheOrder : Type 0
 PointsKeepTheOrder = (ps : List Placed) → Each Within ps → EachPair NoLater ps

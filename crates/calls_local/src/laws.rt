@@ -74,7 +74,7 @@ pub fn order_on_has_points()
     ensures { OrderOnHasPoints }
 {}
 
-/// States that calls stand in real-time order where each has a point of its own time and the points
+/// States that calls stand in real-time order if each has a point of its own time and the points
 /// ascend.
 pub fn points_keep_the_order()
     ensures { PointsKeepTheOrder }

@@ -40,7 +40,7 @@ use Rattle.calls_monitor.proofs.Entries.{get_set, get_other}
 
 -- THE OBJECT OF AN EVENT
 
--- the object of an event, where its worker has this pending call
+-- the object of an event, if its worker has this pending call
 abbrev pub object_of : Action → Option PendingCall → Option ℕ
 object_of (Invoke k op) o = Some k
 object_of (Respond r) None = None

@@ -60,7 +60,7 @@ pub record Judged : Type 0 where
   pub read : OneRead
   pub order : List Placed
 
--- from line n on, where the lines are these, the text has these histories, each linearizable, and
+-- from line n on, if the lines are these, the text has these histories, each linearizable, and
 -- then come these lines, from line m on
 abbrev pub AreJudged : ℕ → List (List ℕ) → List Judged → ℕ → List (List ℕ) → Type 0
 AreJudged n ps [] m qs = (n ≡ m) × (ps ≡ qs)

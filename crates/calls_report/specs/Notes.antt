@@ -76,7 +76,7 @@ scene_of n r object at = record {
   at = at;
 }
 
--- the same, where n is the number of the line of the event at position 0
+-- the same, if n is the number of the line of the event at position 0
 abbrev pub scene_at : Recorded → ℕ → ℕ → ℕ → Scene
 scene_at r object n at = record {
   heading = r.heading;

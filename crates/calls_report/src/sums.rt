@@ -8,7 +8,7 @@ ghost use Rattle.calls_report.specs.kept.Sums.{AddsUnits, AddsPair};
 use calls_core::{Call, Op, Placed, Reply};
 use std::alloc::{AllocError, Global};
 
-/// What the calls of an order make of the objects. Where no number is kept, it is 0.
+/// What the calls of an order make of the objects. If no number is kept, it is 0.
 #[derive(Drop)]
 pub(crate) struct Sums {
     /// For each object how many advances, tickets and puts of it there are.

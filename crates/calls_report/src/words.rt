@@ -103,7 +103,7 @@ impl<'a> Speaker<'a> {
         self.put_sequencer(out, object.saturating_sub(first_sequencer(self.heading)));
     }
 
-    /// Returns whether the object is a cell, where it is a cell or a database.
+    /// Returns whether the object is a cell, if it is a cell or a database.
     pub fn is_cell(&self, object: usize) -> bool
         ensures { result ≡ nat_lt object (first_group self.now.heading) }
     {

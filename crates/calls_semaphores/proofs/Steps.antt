@@ -1,5 +1,5 @@
--- A linearization that grows with the history: a v is in it where it is invoked, and every other
--- call where it has its response.
+-- A linearization that grows with the history: a v is in it if it is invoked, and every other
+-- call if it has its response.
 use Rattle.std.proofs.Common.{◌≡◌, ℕ, ◌+◌, ◌<◌, ◌≤◌, ◌==◌, Bool, true, false, ◌&&◌, ◌||◌, List, []}
 use Rattle.std.proofs.Common.{◌∷◌, ◌++◌, map, Option, Some, None, refl, ap, sym, ◌∙◌, arith, subst}
 use Rattle.std.proofs.Common.{count_by, append_assoc, Vec, if◌then◌else◌}

@@ -4,7 +4,7 @@ use calls_verdict::{Fault, Misuse, Refusal, Verdict};
 use std::io;
 use std::io::Write;
 
-/// Writes where a monitor stopped.
+/// Writes if a monitor stopped.
 pub fn write_stop<W: Write>(out: &mut W, at: Option<usize>) -> io::Result<()> {
     match at {
         Some(at) => writeln!(out, "{at}"),

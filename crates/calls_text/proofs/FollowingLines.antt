@@ -105,7 +105,7 @@ no_draft : {P : Type 0} (x : Result Draft Kind) (q : Recorded) → drafted_on x 
 no_draft (Ok d) q is = absurd (let never : ⊥ = cc in never)
 no_draft (Err kind) q is = absurd (let never : ⊥ = cc in never)
 
--- where events may come they may have come before, or there is none
+-- if events may come they may have come before, or there is none
 abbrev pub IsFrom : Stage → Recorded → Type 0
 IsFrom s q = (q.events ≡ []) ⊎ ((r : Recorded) × (s ≡ Running r) × IsGrown r q)
 

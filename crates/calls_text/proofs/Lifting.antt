@@ -273,7 +273,7 @@ unfolding step
 by_event r line other =
     ap (λ b. cond b (Ok (reading.Ended r)) (ran_on (event_step r line))) other
 
--- where these were the events, the line is no event
+-- if these were the events, the line is no event
 pub event_failed : (events : List Event) (run : Running) (line : List ℕ) (fault : LineFault)
     → bytes_eq line (codes "end") ≡ false → IsRunning events run
     → StepFails fault (event_by run line)

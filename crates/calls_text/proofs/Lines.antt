@@ -74,7 +74,7 @@ fails_line n s line more rest o fault going none whole is fails =
     told n line (step s line) (λ u. goes (n + 1) u (parts_of more)) o fault
     (sym (goes_line n s line more rest going none whole) ∙ is) fails
 
--- the same where its LF is missing
+-- the same if its LF is missing
 pub fails_rest : (n : ℕ) (s : Stage) (line : List ℕ) (fault : LineFault) → (line ≡ [] → ⊥)
     → StepFails fault (step s line) → TellsFault (ended n s line) (fault_at n line fault)
 fails_rest n s [] fault some fails = absurd (some refl)

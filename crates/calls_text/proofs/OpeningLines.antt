@@ -240,7 +240,7 @@ pub record HeadsRun (h : Headed) (lines : List (List ℕ)) (t : Recorded) : Type
   pub some : 0 < last.heading.setup.workers
   pub runs : Leads (Running (recorded_of last)) rest (Ended t)
 
--- what a line does where it is not `run`
+-- what a line does if it is not `run`
 pub drafted_back : (r : Result Draft Kind) (s : Stage) → drafted_on r ≡ Ok s
     → (e : Draft) × (r ≡ Ok e) × (s ≡ Declaring e)
 drafted_back (Ok e) s is = (e, refl, cc)

@@ -139,7 +139,7 @@ append_cases (x ∷ xs) ys (z ∷ zs) ws is =
           )
     ]
 
--- what is left of a line with its LF, where some bytes follow
+-- what is left of a line with its LF, if some bytes follow
 short_of : (line front t : List ℕ) → line ++ 10 ∷ [] ≡ front ++ t → t ≢ []
     → (tail : List ℕ) × (line ≡ front ++ tail)
 short_of line [] t is some = (line, refl)

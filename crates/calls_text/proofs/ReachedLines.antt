@@ -162,7 +162,7 @@ none_lead : (s : Stage) (lines : List (List ℕ)) → Leads s lines Opening → 
 none_lead s [] leads = refl
 none_lead s (line ∷ lines) leads = absurd (leads_never s line lines leads)
 
--- where no line came, nothing was read
+-- if no line came, nothing was read
 pub reached_opening : (n : ℕ) (ps : List (List ℕ)) (m : ℕ) (qs : List (List ℕ))
     → IsReached n ps Opening m qs → (n ≡ m) × (ps ≡ qs)
 reached_opening n ps m qs at =

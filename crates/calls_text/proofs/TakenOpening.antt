@@ -138,7 +138,7 @@ not_run h next line e =
     sym (not_heading h) ∙ ap (head_step h) (sym ((bytes_eq-Decides line (codes "run")).0 same)) ∙ e
     in cc))
 
--- nor is a line that begins with `from`, where the workers came
+-- nor is a line that begins with `from`, if the workers came
 words_fail : (h : Headed) (ws : List (List ℕ)) → opens_from ws ≡ true → 0 < h.setup.workers
     → words_step h ws ≡ Err heads.BadLine
 unfolding parts_in

@@ -30,8 +30,8 @@ HasSeen events f = IsFollowing events f.stage
 
 -- WHERE A TEXT HAS BEEN READ TO
 
--- from line n on, where the parts of the text are ps, the lines of one history have led to this
--- stage; line m is the next, where the parts are qs
+-- from line n on, if the parts of the text are ps, the lines of one history have led to this
+-- stage; line m is the next, if the parts are qs
 pub record IsReached (n : ℕ) (ps : List (List ℕ)) (s : Stage) (m : ℕ) (qs : List (List ℕ))
     : Type 0 where
   pub lines : List (List ℕ)

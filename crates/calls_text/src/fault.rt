@@ -126,9 +126,9 @@ pub enum Cause {
     Empty,
     /// It begins or ends with a space, or has two in a row.
     Space,
-    /// It is the first line of a trace, where that of a history is expected.
+    /// It is the first line of a trace, if that of a history is expected.
     Trace,
-    /// It is the first line of a script, where that of a history is expected.
+    /// It is the first line of a script, if that of a history is expected.
     Script,
     /// None of these.
     Other,

@@ -71,7 +71,7 @@ impl Stage {
     /// Takes a line, given without its LF, and returns the event if it is one. The event is not
     /// kept.
     ///
-    /// A stage is large, and most lines leave it where it is.
+    /// A stage is large, and most lines leave it if it is.
     #[tactic(auto, unfolding(crate::specs::Reading::step))]
     pub(crate) fn follow(&mut self, alloc: Global, line: &[u8]) -> Result<Option<Event>, LineFault>
         ensures follows { (events : List Event) → IsFollowing events self.old

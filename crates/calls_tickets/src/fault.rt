@@ -8,6 +8,6 @@ pub enum Fault {
     Twice(Call, Call),
     /// The first returned its number before the second, which returned a smaller one, was invoked.
     Turned(Call, Call),
-    /// Fewer than n + 1 tickets can have returned 0 to n, where n is what this ticket returned.
+    /// Fewer than n + 1 tickets can have returned 0 to n, if n is what this ticket returned.
     Drawn(Call),
 }

@@ -1,4 +1,4 @@
--- A fault and a linearization: not both, and one of them where all objects are decided.
+-- A fault and a linearization: not both, and one of them if all objects are decided.
 use Rattle.std.proofs.Common.{◌≡◌, ℕ, zero, suc, ◌+◌, ◌<◌, ◌≤◌, ◌⊎◌, inl, inr}
 use Rattle.std.proofs.Common.{List, [], ◌∷◌, ◌++◌, length, cond, refl}
 use Rattle.std.proofs.Common.{Option, Some, ap, sym, ◌∙◌, arith, subst, slice_get, map}

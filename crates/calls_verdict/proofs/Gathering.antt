@@ -85,7 +85,7 @@ module _ (kinds : List Kind) (past : List Event) (h : IsHistory kinds past) wher
             (placed_more n k.0 r.0 o.0 k.1 o.1 r.1),
       ))
 
-  -- where each object has an order, all have one together
+  -- if each object has an order, all have one together
   pub whole_from_parts : ((k : ℕ) (kind : Kind) → slice_get kinds k ≡ Some kind
       → HasOrderOf kind (part k past))
       → (cs : List Call) × IsAnsweredLinearization kinds past cs

@@ -8,7 +8,7 @@ use Rattle.calls_core.specs.Completions.{IsLinearizable}
 use Rattle.calls_verdict.specs.declared.verdict.Fault.{Fault}
 use Rattle.calls_verdict.specs.Verdicts.{HasFault, IsFaultyOn, AreDecided, IsFirstRefusal}
 
--- where an object has a fault, no history that begins with these events has a linearization
+-- if an object has a fault, no history that begins with these events has a linearization
 abbrev pub AFaultLeavesNoLinearization : Type 0
 AFaultLeavesNoLinearization =
     (kinds : List Kind) (late past : List Event) (k : ℕ) → IsHistory kinds (late ++ past)

@@ -11,7 +11,7 @@ use Rattle.calls_verdict.specs.declared.checking.Misuse.{Misuse}
 use Rattle.calls_verdict.specs.declared.checking.Misuse.TheVariants.{OutOfOrder, Busy, NotTaken}
 use Rattle.calls_verdict.specs.declared.checking.Misuse.TheVariants.{Idle, Unsuited}
 
--- what is wrong with an action, where its worker has this pending call
+-- what is wrong with an action, if its worker has this pending call
 abbrev pub IsMisuseBy : List Kind → Action → Option PendingCall → Misuse → Type 0
 IsMisuseBy kinds (Invoke k op) (Some o) Busy = Unit {0}
 IsMisuseBy kinds (Invoke k op) o NotTaken = Takes (slice_get kinds k) op → ⊥

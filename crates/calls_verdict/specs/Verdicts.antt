@@ -58,7 +58,7 @@ abbrev pub AreClear : List Kind → List Event → Type 0
 AreClear kinds past =
     (k : ℕ) (kind : Kind) → slice_get kinds k ≡ Some kind → IsClear kind (part k past)
 
--- each beginning before position n is clear, and has a linearization where every object is decided
+-- each beginning before position n is clear, and has a linearization if every object is decided
 abbrev pub IsCleanBefore : List Kind → List Event → ℕ → Type 0
 IsCleanBefore kinds past n =
     (m : ℕ) → m ≤ n → AreClear kinds (until m past)

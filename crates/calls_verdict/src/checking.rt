@@ -93,7 +93,7 @@ fn is_out_of_order(events: &[Event], i: usize) -> bool
     i > 0 && events[i].at <= events[i - 1].at
 }
 
-/// Finds what is wrong with an action, where its worker has this pending call.
+/// Finds what is wrong with an action, if its worker has this pending call.
 fn misuse_by(kinds: &[Kind], action: Action, pending: Option<PendingCall>) -> Option<Misuse>
     ensures { MatchOption result (IsNext kinds.now action pending)
         (IsFirstMisuseBy kinds.now action pending) }

@@ -3,7 +3,7 @@ ghost use Rattle.calls_verdict.specs.Laws.{AFaultLeavesNoLinearization, EveryHis
 ghost use Rattle.calls_verdict.specs.Laws.{WhatIsShownIsAFault, ARefusalIsFinal};
 ghost use Rattle.calls_verdict.specs.Laws.{TheFirstFaultIsOne};
 
-/// States that where an object has a fault, no history that begins with these events has a
+/// States that if an object has a fault, no history that begins with these events has a
 /// linearization.
 pub fn a_fault_leaves_no_linearization()
     ensures { AFaultLeavesNoLinearization }

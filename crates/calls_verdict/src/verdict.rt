@@ -42,7 +42,7 @@ pub enum Verdict {
     Linearizable(Vec<Placed>),
     /// It has none.
     Refused(Refusal),
-    /// It has one exactly where the calls of this cell or database have, and those of others that
+    /// It has one exactly if the calls of this cell or database have, and those of others that
     /// aren't decided either.
     NotDecided(Undecided),
 }

@@ -70,7 +70,7 @@ monitor_there s r events o is monitored =
 
 -- A STATE
 
--- the parts of a state, where the stage is known
+-- the parts of a state, if the stage is known
 built_state : (ps qs : List (List ℕ)) (w : Watcher) (reads : List OneRead) (start : ℕ)
     (begun : List (List ℕ)) (events : List Event) (s : Stage) (n : ℕ) → AreGood 1 ps reads start begun
     → built events w.follower ≡ s → w.number ≡ n → IsReached start begun s n qs
@@ -91,7 +91,7 @@ built_state ps qs w reads start begun events s n good is number reached going se
       load = load;
     }
 
--- the load before an event, where there is none
+-- the load before an event, if there is none
 none_loaded : (reads : List OneRead) (events : List Event) (l k : Load) → events ≡ [] → k ≡ l
     → IsLoad reads (reverse events) l → IsLoad reads [] k
 none_loaded reads events l k none same load =
@@ -373,7 +373,7 @@ module _ (ps qs : List (List ℕ)) (q line : List ℕ) (old mid new : Watcher)
 
 -- A LINE AT FAULT
 
--- where the parts are one empty part, that is all that is left
+-- if the parts are one empty part, that is all that is left
 pub one_part : (n : ℕ) (ps : List (List ℕ)) (s : Stage) (m : ℕ) (line : List ℕ) (qs : List (List ℕ))
     → IsReached n ps s m (line ∷ qs) → ps ≡ [] ∷ [] → (Opening ≡ s) × (line ≡ []) × (qs ≡ [])
 one_part n ps s m line qs at one = by_lines s line qs at.lines at.leads (sym at.are ∙ one)

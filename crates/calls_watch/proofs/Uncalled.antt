@@ -79,7 +79,7 @@ order_of (Semaphores units) past h w order = order tt
 order_of Cell past h w order = uncalled_order Cell cell_begins past h w
 order_of (Database n) past h w order = uncalled_order (Database n) (database_begins n) past h w
 
--- so where the calls of each watched object have a linearization, the history has one
+-- so if the calls of each watched object have a linearization, the history has one
 pub all_linearizable : (kinds : List Kind) (past : List Event) → IsHistory kinds past
     → AreWatched past → IsFine kinds past → IsLinearizable kinds past
 all_linearizable kinds past h w fine =

@@ -33,7 +33,7 @@ WatchAgreesWithCheck =
     (before after : Outgoing) → IsWatchedTo watched text old new
     → IsJudged checked text judged before after → Agree watched checked
 
--- where both refuse an event, it is the same one of the same history
+-- if both refuse an event, it is the same one of the same history
 abbrev pub BothRefuseOneEvent : Type 0
 BothRefuseOneEvent =
     (text : List ℕ) (reads : List OneRead) (n : ℕ) (ps : List (List ℕ)) (m : ℕ) (r : Recorded)

@@ -57,7 +57,7 @@ pub record IsGood (r : Recorded) : Type 0 where
   pub watched : AreWatched (reverse r.events)
   pub linearizable : IsLinearizable kinds (reverse r.events)
 
--- from line n on, where the parts are these, the text has these histories, each linearizable, and
+-- from line n on, if the parts are these, the text has these histories, each linearizable, and
 -- then come these parts, from line m on
 abbrev pub AreGood : ℕ → List (List ℕ) → List OneRead → ℕ → List (List ℕ) → Type 0
 AreGood n ps [] m qs = (n ≡ m) × (ps ≡ qs)

@@ -19,7 +19,7 @@ pub writers_next : (b : Buffer) (x : Entry) (past : List Entry) (old new : List 
 unfolding writers_of
 writers_next b x past old new was is = is ∙ ap (writers_after (put_place b x.act) x.worker) was
 
--- the deliveries after one more entry, where memory was never refused
+-- the deliveries after one more entry, if memory was never refused
 pub list_next : (b : Buffer) (x : Entry) (past : List Entry) (writers : List ℕ) (old new : List Delivery) (lacked lacks : Bool)
     → writers ≡ writers_of b past → (lacked ≡ false → old ≡ collected b past)
     → (lacks ≡ false → lacked ≡ false) → (lacks ≡ false → new ≡ list_after (get_place b x.act) x writers old)

@@ -220,7 +220,7 @@ quiet_counted : (b : Buffer) (produces : ℕ → Bool) (t : Tables) (x : Entry) 
 quiet_counted b produces t x past op s is q =
     counted b t x past op false false false false false false s.accepted is q.ticket_put q.advance_in (ap is_some q.put_one) q.ticket_take q.advance_out q.get_one
 
--- a quiet call, where the seats are as they were but for a move of the worker's
+-- a quiet call, if the seats are as they were but for a move of the worker's
 pub quiet_next : (b : Buffer) (produces : ℕ → Bool) (t : Tables) (x : Entry) (past : List Entry) (op : Act) → IsStep b produces t x past → op_at x past ≡ op → IsQuiet b op
     → IsQueue (put_seat b produces (x ∷ past)) (issued b.put_seq past) (total b.in_count past) (puts b past)
     → IsQueue (get_seat b produces (x ∷ past)) (issued b.take_seq past) (total b.out_count past) (gets b past)

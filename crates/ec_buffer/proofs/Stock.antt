@@ -24,7 +24,7 @@ apart_mod n i j lt near same =
       | inr down ↦ (let less : j / n * n ≤ i / n * n = mul-le (j / n) n (i / n) n down (omega arith) in omega arith)
     ]
 
--- one thing stands for another where nothing changes
+-- one thing stands for another if nothing changes
 pub stock_same : (n made given made' given' : ℕ) (put got put' got' : ℕ → Option Moved) (item item' : ℕ → Moved)
     → made' ≡ made → given' ≡ given → ((i : ℕ) → put' i ≡ put i) → ((i : ℕ) → got' i ≡ got i) → ((j : ℕ) → j < n → item' j ≡ item j) → 0 < n
     → IsStocked n made given put got item → IsStocked n made' given' put' got' item'
@@ -40,7 +40,7 @@ stock_same n made given made' given' put got put' got' item item' em eg ep eq ei
           (k.0, k.1, eq i ∙ k.2, ep i ∙ k.3, k.4));
     }
 
--- the item that comes next is put where no item is that is still to be got
+-- the item that comes next is put if no item is that is still to be got
 pub stock_put : (n made given made' given' w v : ℕ) (put got put' got' : ℕ → Option Moved) (item item' : ℕ → Moved)
     → made' ≡ 1 + made → given' ≡ given → put' made ≡ Some (record { worker = w; item = v }) → ((i : ℕ) → (made == i) ≡ false → put' i ≡ put i) → ((i : ℕ) → got' i ≡ got i)
     → item' (made % n) ≡ record { worker = w; item = v } → ((j : ℕ) → j < n → (made % n == j) ≡ false → item' j ≡ item j) → 0 < n → made < given + n

@@ -1,4 +1,4 @@
--- A worker follows a buffer exactly where its calls are the written lists, joined end to end.
+-- A worker follows a buffer exactly if its calls are the written lists, joined end to end.
 use Rattle.std.proofs.Common.{◌≡◌, ℕ, zero, suc, ◌<◌, ◌≤◌, Bool, true, false, not, List, [], ◌∷◌, length, Option, Some, None, is_some, refl, ap, sym, ◌∙◌, arith, cond, slice_get, take, get_or}
 use Rattle.std.specs.Prelude.{All, IfSome, ◌↔◌}
 use Rattle.std.proofs.lemmas.List.{length-take-le}

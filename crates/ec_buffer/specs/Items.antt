@@ -1,5 +1,5 @@
--- The items of a buffer, by number. Item n is produced where a worker puts it in a Produce whose ticket is n, and
--- delivered where a worker gets it in a Consume whose ticket is n. Histories are in order of time, and entries are
+-- The items of a buffer, by number. Item n is produced if a worker puts it in a Produce whose ticket is n, and
+-- delivered if a worker gets it in a Consume whose ticket is n. Histories are in order of time, and entries are
 -- counted from 0.
 use Rattle.std.specs.Prelude.{◌≡◌, ℕ, Bool, true, false, List, Option, Some, None, is_some, length, count_by, if◌then◌else◌, slice_get}
 use Rattle.ec_count.specs.Tables.{Tables}

@@ -40,7 +40,7 @@ pub record AreLists (list : ℕ → List Act) (calls : List Told) (going : Optio
   pub begun : IsBegun list last
   pub next : IfSome going (IsNext list last)
 
--- an accepted history follows a buffer exactly where each worker's calls on it are its lists joined end to end
+-- an accepted history follows a buffer exactly if each worker's calls on it are its lists joined end to end
 abbrev pub FollowingMeansLists : Type 0
 FollowingMeansLists = (t : Tables) (b : Buffer) (h : List Entry) → IsDeclared t → IsAccepted t (reverse h)
     → FollowsBuffer t b (reverse h)

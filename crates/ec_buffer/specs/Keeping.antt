@@ -22,7 +22,7 @@ place_after at reply = if is_pending reply then at else at + 1
 abbrev pub turn_after : ℕ → ℕ → Reply → ℕ
 turn_after at turn reply = if is_pending reply then turn else (if at == 0 then number_of reply else turn)
 
--- the call that comes after further calls, where so many are finished and the first of them drew this ticket
+-- the call that comes after further calls, if so many are finished and the first of them drew this ticket
 abbrev pub rest_of : (ℕ → List Act) → ℕ → ℕ → List Told → Option Act
 rest_of list at turn calls = slice_get (list (if at == 0 then turn_of calls else turn)) (at + length calls)
 

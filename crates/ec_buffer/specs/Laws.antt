@@ -9,7 +9,7 @@ use Rattle.ec_buffer.specs.Shapes.{Buffer, IsShape, Fits}
 use Rattle.ec_buffer.specs.Follows.{FollowsBuffer}
 use Rattle.ec_buffer.specs.Items.{PutsItem, GetsItem, AreDeliveries, puts_made, gets_made}
 
--- a buffer that is declared stays so where more is declared
+-- a buffer that is declared stays so if more is declared
 abbrev pub BuffersStay : Type 0
 BuffersStay = (b : Buffer) (old new : Tables) → KeepsObjects old new → Fits b old → Fits b new
 

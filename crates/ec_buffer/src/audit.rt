@@ -196,7 +196,7 @@ impl<'a> DeliveryAudit<'a> {
     }
 }
 
-/// Returns the deliveries of a buffer in a run, by number: one for each get that was made. Where
+/// Returns the deliveries of a buffer in a run, by number: one for each get that was made. If
 /// the workers don't follow the buffer's call lists, the first entry that breaks them is told. The
 /// run is as before, whatever is answered.
 pub fn deliveries(

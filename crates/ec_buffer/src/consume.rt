@@ -30,7 +30,7 @@ impl Consume {
     }
 }
 
-/// Returns the call at a place of the list, where the ticket is `turn`.
+/// Returns the call at a place of the list, if the ticket is `turn`.
 pub(crate) fn consume_at(shape: &BufferShape, at: usize, turn: u64) -> Option<Act>
     requires { at ≡ 2 → turn ≤ VALUE_MAX }
     ensures { result ≡ slice_get (consume_list shape.now turn) at }

@@ -3,12 +3,12 @@ ghost use Rattle.ec_buffer.specs.Auditing.{OthersMayBeLeftOut, GoesMayBeLeftOut}
 ghost use Rattle.ec_buffer.specs.Joined.{FollowingMeansLists};
 ghost use Rattle.ec_buffer.specs.Laws.{BuffersStay, PutsGoByNumber, GetsGoByNumber, ItemsArePutOnce, ItemsAreGotOnce, WhatIsGotWasPut, PutsWaitForRoom, DeliveriesAreDetermined};
 
-/// States that a buffer that fits declarations fits them still where more is declared.
+/// States that a buffer that fits declarations fits them still if more is declared.
 pub fn declared_buffers_stay()
     ensures { BuffersStay }
 {}
 
-/// States that an accepted history follows a buffer exactly where each worker's calls on it are
+/// States that an accepted history follows a buffer exactly if each worker's calls on it are
 /// whole lists, of producing or of consuming one item, joined end to end, and the beginning of one
 /// more.
 pub fn following_means_lists()

@@ -65,7 +65,7 @@ fn is_wait(shape: &BufferShape, number: u64, act: &Act) -> bool
     }
 }
 
-/// Returns whether the worker of a number is a producer; false where there is no such worker.
+/// Returns whether the worker of a number is a producer; false if there is no such worker.
 fn is_producer(shape: &BufferShape, setup: &Setup, number: usize) -> bool
     requires { number < 16 }
     ensures { result ≡ may_take setup.now shape.now.put_seq number }

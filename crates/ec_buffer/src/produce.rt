@@ -33,7 +33,7 @@ impl Produce {
     }
 }
 
-/// Returns the call at a place of the list, where the ticket is `turn`.
+/// Returns the call at a place of the list, if the ticket is `turn`.
 pub(crate) fn produce_at(shape: &BufferShape, item: u64, at: usize, turn: u64) -> Option<Act>
     ensures { result ≡ slice_get (produce_list shape.now item turn) at }
 {

@@ -142,7 +142,7 @@ idle_run : (past : List Entry) → past ≡ [] → IsRunOf [] past
 unfolding IsRun
 idle_run past none = subst (IsRunOf []) (sym none) tt
 
--- where the commands of each declared worker's program suit its rule, what the programs did follows the rules
+-- if the commands of each declared worker's program suit its rule, what the programs did follows the rules
 pub programs_follow : (t : Tables) (rules : ℕ → Rule) (P : Command → Type 0) (programs : ℕ → List Command) (h : List Entry) → IsAccepted t (reverse h)
     → ((w last : ℕ) (c : Command) → P c → Suits (IsGranted t w) (rules w) (command_call last c)) → EachCommand t P programs → AreRuns t programs h → Follow rules (reverse h)
 programs_follow t rules P programs h acc suits each runs =

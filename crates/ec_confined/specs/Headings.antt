@@ -10,7 +10,7 @@ use Rattle.ec_heading.specs.Outlined.{IsHeading}
 use Rattle.ec_heading.specs.Rules.{FollowsGroup}
 use Rattle.ec_script.specs.Confined.{AreConfinedPrograms}
 
--- where each command of the programs, written out, uses the objects of a heading's groups by the groups' procedures alone: an
+-- if each command of the programs, written out, uses the objects of a heading's groups by the groups' procedures alone: an
 -- accepted history in which each declared worker's entries are a run of its program follows every group
 abbrev pub GroupsAreFollowed : Type 0
 GroupsAreFollowed = (heading : Headed) (programs : List (List Command)) (h : List Entry) → IsHeading heading → AreConfinedPrograms heading.groups programs

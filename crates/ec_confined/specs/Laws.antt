@@ -1,4 +1,4 @@
--- Where programs use a group by its procedures alone, their accepted histories follow the group.
+-- If programs use a group by its procedures alone, their accepted histories follow the group.
 use Rattle.std.specs.Prelude.{◌≡◌, ℕ, Bool, List, reverse}
 use Rattle.ec_count.specs.Tables.{Tables}
 use Rattle.ec_core.specs.declared.act.Entry.{Entry}

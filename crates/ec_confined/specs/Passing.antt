@@ -36,12 +36,12 @@ pub record HasWritten (old new : Outlets) (text : List ℕ) : Type 0 where
   pub had : old.out ≡ Some before
   pub has : new.out ≡ Some (before ++ text)
 
--- what `sim` wrote where it ended with status 0 is such a trace, where it is within the bound of traces; so it passes
+-- what `sim` wrote if it ended with status 0 is such a trace, if it is within the bound of traces; so it passes
 abbrev pub SimulatedTracesPass : Type 0
 SimulatedTracesPass = (bytes text : List ℕ) (left : Option (List ℕ)) (old new : Outlets) → Sims bytes left Done old new → HasWritten old new text → length text ≤ TRACE_MAX
     → IsFollowedTrace text × Passes text
 
--- `run` wrote its trace to the end: with status 0, or with 4 or 5 where it wrote anything
+-- `run` wrote its trace to the end: with status 0, or with 4 or 5 if it wrote anything
 abbrev pub IsWhole : Status → List ℕ → Type 0
 IsWhole Done text = Unit {0}
 IsWhole Memory text = text ≢ []

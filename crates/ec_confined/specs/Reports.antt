@@ -11,13 +11,13 @@ use Rattle.ec_runner.specs.Reported.{IsReport}
 use Rattle.ec_runner.specs.RunReports.{IsReportOf}
 use Rattle.ec_heading.specs.Rules.{FollowsGroup}
 
--- where a schedule of confined programs was played, the run follows every group of the heading
+-- if a schedule of confined programs was played, the run follows every group of the heading
 abbrev pub PlayedGroupsAreFollowed : Type 0
 PlayedGroupsAreFollowed = (heading : Headed) (programs : List (List Command)) (schedule : List ℕ) (report : Report) → IsHeading heading
     → AreConfinedPrograms heading.groups programs → IsReport heading.setup programs schedule report
     → All (FollowsGroup heading.setup heading.groups (reverse report.run.entries)) heading.groups
 
--- where workers ran confined programs on threads, and the run that is reported is accepted, it follows every group of the heading
+-- if workers ran confined programs on threads, and the run that is reported is accepted, it follows every group of the heading
 abbrev pub ReportedGroupsAreFollowed : Type 0
 ReportedGroupsAreFollowed = (heading : Headed) (programs : List (List Command)) (turns : ℕ) (report : Report) → IsHeading heading
     → AreConfinedPrograms heading.groups programs → IsAccepted heading.setup (reverse report.run.entries) → IsReportOf heading.setup programs turns report

@@ -56,15 +56,15 @@ pub fn followed_traces_pass()
     ensures { FollowedTracesPass }
 {}
 
-/// States that what `sim` wrote of a script, with status 0, is such a trace, where it is within the
+/// States that what `sim` wrote of a script, with status 0, is such a trace, if it is within the
 /// bound of traces. So `check` and `audit` of it end with status 0, memory and failed reads and
 /// writes apart.
 pub fn simulated_traces_pass()
     ensures { SimulatedTracesPass }
 {}
 
-/// States that what `run` wrote of a script is such a trace too, where it wrote it to the end: with
-/// status 0, or with 4 or 5 where it wrote anything.
+/// States that what `run` wrote of a script is such a trace too, if it wrote it to the end: with
+/// status 0, or with 4 or 5 if it wrote anything.
 pub fn ran_traces_pass()
     ensures { RanTracesPass }
 {}

@@ -17,7 +17,7 @@ use Rattle.ec_core.proofs.shared.Moments.{past_next, past_end, beginnings}
 use Rattle.ec_core.proofs.shared.Pasts.{pending_is}
 use Rattle.ec_core.proofs.shared.Totals.{sum_same}
 
--- where entry k is not w's, its moments are as before
+-- if entry k is not w's, its moments are as before
 pub moments_kept : (w : ℕ) (h : List Entry) (first k : ℕ) → is_own_at w h k ≡ false → own_moments w h first (suc k) ≡ own_moments w h first k
 unfolding own_moments
 moments_kept w h first k off =
@@ -40,7 +40,7 @@ moments_none w h first (suc k) le =
 pub own_is : (w : ℕ) (h : List Entry) (k : ℕ) (x : Entry) (b : Bool) → slice_get h k ≡ Some x → (x.worker == w) ≡ b → is_own_at w h k ≡ b
 own_is w h k x b at own = ap (λ o. option_map_or (λ (y : Entry). y.worker == w) o false) at ∙ own
 
--- an entry of w's before moment k + 1 stands before moment k, where entry k is not w's
+-- an entry of w's before moment k + 1 stands before moment k, if entry k is not w's
 own_below : (w : ℕ) (h : List Entry) (k i : ℕ) (x : Entry) → is_own_at w h k ≡ false → i < suc k → slice_get h i ≡ Some x → x.worker ≡ w → i < k
 own_below w h k i x off lt at own =
     elim (i == k) as (λ b. (i == k) ≡ b → i < k) [
@@ -157,7 +157,7 @@ cut w (suc k) h = cut_next w h k (slice_get h k) refl (cut w k h)
 
 -- FROM THE ENTRIES TO THE DEFINITION
 
--- the same call a moment earlier, where entry k is not w's
+-- the same call a moment earlier, if entry k is not w's
 shorter : (w : ℕ) (h : List Entry) (k : ℕ) (call : CallSoFar) → is_own_at w h k ≡ false → IsUnderWay w h (suc k) call → IsUnderWay w h k call
 shorter w h k call off r = record {
   first = r.first;

@@ -139,7 +139,7 @@ pub none_kept : (ws : List ℕ) (components : List (Option ℕ)) (w i : ℕ) →
 none_kept ws components w i s small is none =
     ap (λ v. place_of v ws) (sym is) ∙ sym (component_is ws components i s small) ∙ some_or_none (get_or components i None) none
 
--- where the receiver signals the eventcount, nothing is handed
+-- if the receiver signals the eventcount, nothing is handed
 pub present_stays : (w b : ℕ) (ws : List ℕ) (o : Option ℕ) → o ≡ place_of b ws → is_some o ≡ true → ws ≡ replaced_new (place_of w ws) b ws
 present_stays w b ws o is some =
     elim (is_member b ws) as (λ m. is_member b ws ≡ m → ws ≡ cond m ws (replaced (place_of w ws) b ws)) [
@@ -147,7 +147,7 @@ present_stays w b ws o is some =
       | false ↦ λ e. (let bad : true ≡ false = sym some ∙ ap is_some (is ∙ no_place b ws 0 e) in cc)
     ] refl
 
--- and so where the giver signals none of it
+-- and so if the giver signals none of it
 pub nothing_handed : (b : ℕ) (ws : List ℕ) (o : Option ℕ) → o ≡ None → ws ≡ replaced_new o b ws
 nothing_handed b ws o none =
     subst (λ p. ws ≡ replaced_new p b ws) (sym none) (elim (is_member b ws) as (λ m. ws ≡ cond m ws ws) [ true ↦ refl | false ↦ refl ])

@@ -51,7 +51,7 @@ hands_change t h k e b x at is =
       λ y. ap (cell_value y) next ∙ cell_quiet y x past (n.put y),
     )
 
--- the receiver, where there is one
+-- the receiver, if there is one
 abbrev latest : Option ℕ → Option ℕ → Option ℕ
 latest None s = s
 latest (Some b) s = Some b

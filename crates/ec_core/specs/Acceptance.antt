@@ -77,7 +77,7 @@ refusal_in t w act busy right at_limit already = first_that (
 abbrev pub refusal_of : Tables → List Entry → ℕ → Act → Option Refusal
 refusal_of t past w act = refusal_in t w act (is_some (under_way w past)) (has_right t past w act) (is_at_limit t past w act) (signals_already t past act)
 
--- the right reply to it, where it is not refused
+-- the right reply to it, if it is not refused
 abbrev pub reply_of : Tables → List Entry → ℕ → Act → Reply
 reply_of t past w (Advance e) = Done
 reply_of t past w (Read e) = read_reply t (Read e) past []

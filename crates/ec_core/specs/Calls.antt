@@ -30,7 +30,7 @@ gone_on Go past None = None
 gone_on Go past (Some call) = Some (record { op = call.op; moments = past ∷ call.moments })
 gone_on act past call = Some (record { op = act; moments = past ∷ [] })
 
--- the call of w that is pending after a past: none where its latest entry was told more than Pending
+-- the call of w that is pending after a past: none if its latest entry was told more than Pending
 unfoldable pub under_way : ℕ → List Entry → Option CallSoFar
 under_way w [] = None
 under_way w (x ∷ past) =

@@ -35,7 +35,7 @@ abbrev pub replaced : Option ℕ → ℕ → List ℕ → List ℕ
 replaced None b ws = ws
 replaced (Some c) b ws = slice_set ws c b
 
--- the signallers of e after an act of w, where they were ws before it: where w is one of them, a hand of e to b puts b
+-- the signallers of e after an act of w, if they were ws before it: if w is one of them, a hand of e to b puts b
 -- in its place
 abbrev pub handed : ℕ → ℕ → Act → List ℕ → List ℕ
 handed e w (Advance f) ws = ws
@@ -79,7 +79,7 @@ abbrev pub put_in : ℕ → Act → Option ℕ
 put_in x (Put y v) = if y == x then Some v else None
 put_in x _ = None
 
--- the value last put into cell x; 0 where there is none
+-- the value last put into cell x; 0 if there is none
 unfoldable pub cell_value : ℕ → List Entry → ℕ
 cell_value x [] = 0
 cell_value x (y ∷ past) = unwrap_or (put_in x y.act) (cell_value x past)

@@ -27,7 +27,7 @@ pub record HasJustFallenShort (t : Tables) (w : ℕ) (h : List Entry) (k e v : �
   pub one : length (own_moments w h round k) ≡ width t e
   pub short : round_sum t e (own_moments w h round k) < v
 
--- an await is pending whose next component is the first again exactly where it has just ended a round that fell short;
+-- an await is pending whose next component is the first again exactly if it has just ended a round that fell short;
 -- and then the sum that is kept with it is 0
 abbrev pub IndexZeroMeansFallenShort : Type 0
 IndexZeroMeansFallenShort = (t : Tables) (h : List Entry) (w k e v sum : ℕ) → IsDeclared t → IsAccepted t (reverse h)

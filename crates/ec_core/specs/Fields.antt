@@ -125,7 +125,7 @@ changed s w (effects.Put x v) = record s { cells = slice_set s.cells x v }
 changed s w (effects.Get n) = s
 changed s w (effects.Hand e b) = record s { signal = changed_at (λ ws. replaced_new (place_of w ws) b ws) s.signal e }
 
--- the act that began the call that an act of w is part of, where this call is pending
+-- the act that began the call that an act of w is part of, if this call is pending
 abbrev pub op_in : State → ℕ → Act → Act
 op_in s w Go = option_map_or (λ u. u.op) (kept_call s w) Go
 op_in s w act = act

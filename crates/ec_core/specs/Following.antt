@@ -21,7 +21,7 @@ pub record Rule : Type 0 where
   pub fits : List Told → Act → Bool  -- whether it is the call that the list has next
   pub ends : List Told → Bool  -- whether the calls are the whole list
 
--- the act that began the call that an act is part of, where this call of its worker is pending
+-- the act that began the call that an act is part of, if this call of its worker is pending
 abbrev pub opened : Act → Option CallSoFar → Act
 opened Go None = Go
 opened Go (Some call) = call.op

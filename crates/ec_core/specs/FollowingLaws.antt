@@ -24,7 +24,7 @@ abbrev pub BreaksAreFirst : Type 0
 BreaksAreFirst = (rules : ℕ → Rule) (h : List Entry) (w k : ℕ) → BreaksAt rules h w k
     → (i : ℕ) → (i ≤ k → Follow rules (past_at i h)) × (k < i → Follow rules (past_at i h) → ⊥)
 
--- where each worker's rule speaks of its calls on a group: a history follows exactly where each worker's completed
+-- if each worker's rule speaks of its calls on a group: a history follows exactly if each worker's completed
 -- calls on the group are whole lists joined end to end and the beginning of one more, in which its pending call,
 -- if that is on the group, comes next
 abbrev pub FollowingMeansJoinedLists : Type 0
@@ -33,7 +33,7 @@ FollowingMeansJoinedLists = (t : Tables) (rules : ℕ → Rule) (is_on : ℕ →
     → Follow rules (reverse h)
     ↔ ((w : ℕ) → IsJoined (rules w) (calls_on (is_on w) (finished_by w (reverse h))) (going_on (is_on w) (under_way w (reverse h))))
 
--- where within a list each call of the worker has to be the list's: a history follows exactly where all completed
+-- if within a list each call of the worker has to be the list's: a history follows exactly if all completed
 -- calls of each worker are whole lists with calls on other objects between them, and the beginning of one more list,
 -- in which its pending call comes next
 abbrev pub FollowingMeansUnbrokenLists : Type 0

@@ -5,7 +5,7 @@ use Rattle.ec_count.specs.Tables.{Tables}
 use Rattle.ec_core.specs.declared.act.Entry.{Entry}
 use Rattle.ec_core.specs.Counts.{past_at, is_advance, is_place, component_at, put_in, hand_of, signaller_at}
 
--- 1 where entry i advances component c of e: it advances e, and its worker signals c at moment i
+-- 1 if entry i advances component c of e: it advances e, and its worker signals c at moment i
 abbrev pub advances_at : Tables → ℕ → ℕ → List Entry → ℕ → ℕ
 advances_at t e c h i = option_map_or (λ (x : Entry). if is_advance e x.act && is_place c (component_at t e (past_at i h) x.worker) then 1 else 0) (slice_get h i) 0
 

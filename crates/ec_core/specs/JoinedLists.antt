@@ -50,7 +50,7 @@ SpeaksOf r is_on = (calls : List Told) (op : Act) → r.concerns calls op ≡ is
 abbrev pub calls_on : (Act → Bool) → List Told → List Told
 calls_on is_on calls = filter (λ c. is_on c.op) calls
 
--- the act that began the pending call, where it is on the group
+-- the act that began the pending call, if it is on the group
 abbrev pub going_on : (Act → Bool) → Option CallSoFar → Option Act
 going_on is_on None = None
 going_on is_on (Some call) = if is_on call.op then Some call.op else None

@@ -26,11 +26,11 @@ ComponentsCountAdvances = (t : Tables) (e c k : ℕ) (h : List Entry) → compon
 abbrev pub IssuedCountsTickets : Type 0
 IssuedCountsTickets = (q k : ℕ) (h : List Entry) → issued q (past_at k h) ≡ count_by (λ x. is_ticket q x.act) (take k h)
 
--- a cell holds the value last put into it, and 0 where none was
+-- a cell holds the value last put into it, and 0 if none was
 abbrev pub CellsHoldTheLastPut : Type 0
 CellsHoldTheLastPut = (x k : ℕ) (h : List Entry) → IsLastPut x h k (cell_value x (past_at k h)) ⊎ IsUntouched x h k (cell_value x (past_at k h))
 
--- a call of w is pending at moment k exactly where one is that began, went on and has not ended
+-- a call of w is pending at moment k exactly if one is that began, went on and has not ended
 abbrev pub CallsUnderWayAreCutInOrder : Type 0
 CallsUnderWayAreCutInOrder = (w k : ℕ) (h : List Entry) (call : CallSoFar) → (under_way w (past_at k h) ≡ Some call) ↔ IsUnderWay w h k call
 
@@ -65,7 +65,7 @@ RoundsLieBetween = (t : Tables) (e : ℕ) (early late : List Entry) (moments : L
     → length moments ≡ width t e → IsPastOfEach early moments → EachIsPastOf moments late
     → (total e early ≤ sum_read t e (width t e) moments) × (sum_read t e (width t e) moments ≤ total e late)
 
--- where entry k ends a round of a call that reads e, the round's sum is at least the total at the moment of the round's
+-- if entry k ends a round of a call that reads e, the round's sum is at least the total at the moment of the round's
 -- first entry and at most the total at moment k
 abbrev pub RoundsOfCallsLieBetween : Type 0
 RoundsOfCallsLieBetween = (t : Tables) (h : List Entry) (k e : ℕ) (x : Entry) (call : CallSoFar) → IsDeclared t → IsAccepted t (reverse h)
@@ -76,7 +76,7 @@ RoundsOfCallsLieBetween = (t : Tables) (h : List Entry) (k e : ℕ) (x : Entry) 
 abbrev pub BeginningsAreAccepted : Type 0
 BeginningsAreAccepted = (t : Tables) (k : ℕ) (h : List Entry) → IsAccepted t (reverse h) → IsAccepted t (past_at k h)
 
--- a history is accepted exactly where each entry is the answer to its act at its own moment
+-- a history is accepted exactly if each entry is the answer to its act at its own moment
 abbrev pub AcceptedMeansAnswered : Type 0
 AcceptedMeansAnswered = (t : Tables) (h : List Entry)
     → IsAccepted t (reverse h) ↔ ((k : ℕ) (x : Entry) → slice_get h k ≡ Some x → answer_of t (past_at k h) x.worker x.act ≡ Ok x.reply)
@@ -101,13 +101,13 @@ abbrev pub FixedEventsKeepTheirSignallers : Type 0
 FixedEventsKeepTheirSignallers = (t : Tables) (e k : ℕ) (h : List Entry) → IsAccepted t (reverse h) → may_hand t e ≡ false
     → signallers_at t e (past_at k h) ≡ signallers t e
 
--- the signaller of a component at moment k is the receiver of the last hand of it before k, and the declared one where
+-- the signaller of a component at moment k is the receiver of the last hand of it before k, and the declared one if
 -- there is none
 abbrev pub SignallersAreTheLastReceivers : Type 0
 SignallersAreTheLastReceivers = (t : Tables) (e c k : ℕ) (h : List Entry)
     → IsLastHand t e c h k (signaller_at t e (past_at k h) c) ⊎ IsUnhanded t e c h k (signaller_at t e (past_at k h) c)
 
--- where entry k is a hand, each total, each component, each number of tickets and each cell is after it as before
+-- if entry k is a hand, each total, each component, each number of tickets and each cell is after it as before
 abbrev pub HandsChangeNoNumber : Type 0
 HandsChangeNoNumber = (t : Tables) (h : List Entry) (k e b : ℕ) (x : Entry) → slice_get h k ≡ Some x → hand_of e x.act ≡ Some b
     → ((f : ℕ) → total f (past_at (k + 1) h) ≡ total f (past_at k h))

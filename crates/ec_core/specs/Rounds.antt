@@ -57,7 +57,7 @@ abbrev pub round_reply : Act → ℕ → Reply
 round_reply (Await e v) s = if nat_le v s then Number s else Pending
 round_reply _ s = Number s
 
--- the reply to an entry that reads for op at the end of a past, where earlier entries of the call were at these moments
+-- the reply to an entry that reads for op at the end of a past, if earlier entries of the call were at these moments
 unfoldable pub read_reply : Tables → Act → List Entry → List (List Entry) → Reply
 read_reply t op past moments =
     let e = event_or op in

@@ -11,7 +11,7 @@ use Rattle.ec_core.specs.declared.stored.Answer.{Answer}
 use Rattle.ec_core.specs.declared.stored.Answer.TheVariants as answers
 use Rattle.ec_core.specs.declared.stored.Stored.{Stored}
 
--- the words of a number: one where it is below 2 ^ 32, else two, the low one first
+-- the words of a number: one if it is below 2 ^ 32, else two, the low one first
 abbrev pub words_of_number : ℕ → List ℕ
 words_of_number n = if nat_lt n (2 ^ 32) then n ∷ [] else (n % 2 ^ 32) ∷ (n / 2 ^ 32) ∷ []
 
@@ -38,7 +38,7 @@ verb_in (acts.Put x v) = if nat_lt v (2 ^ 32) then verbs.Put x else verbs.PutLon
 verb_in (acts.Get x) = verbs.Get x
 verb_in (acts.Hand e b) = verbs.Hand e
 
--- the value of an act, where it has one
+-- the value of an act, if it has one
 abbrev pub value_in : Act → Option ℕ
 value_in (acts.Await e v) = Some v
 value_in (acts.Put x v) = Some v
@@ -73,7 +73,7 @@ answer_in replies.Done = answers.Done
 answer_in (replies.Number n) = if nat_lt n (2 ^ 32) then answers.Number else answers.LongNumber
 answer_in replies.Pending = answers.Pending
 
--- the number of a reply, where it has one
+-- the number of a reply, if it has one
 abbrev pub number_in : Reply → Option ℕ
 number_in (replies.Number n) = Some n
 number_in reply = None
@@ -125,7 +125,7 @@ unfoldable pub stored_entries : List ℕ → List Stored → List Entry
 stored_entries words [] = []
 stored_entries words (s ∷ rest) = stored_entry words s ∷ stored_entries (drop (width s) words) rest
 
--- these are the places at which the words of each sixteenth entry begin; and that of the next entry may stand there, where it is such a one
+-- these are the places at which the words of each sixteenth entry begin; and that of the next entry may stand there, if it is such a one
 pub record AreStarts (stored : List Stored) (starts : List ℕ) : Type 0 where
   pub each : (k : ℕ) → k < length starts → slice_index starts k ≡ widths (take (16 * k) stored)
   pub many : length stored ≤ 16 * length starts

@@ -51,7 +51,7 @@ impl<'a> Entries<'a> {
 }
 
 /// Returns the first of the entries that are left. (It is handed their parts, so that these may
-/// stand in registers where they are gone on with.)
+/// stand in registers if they are gone on with.)
 #[cold]
 #[inline(never)]
 fn first_entry(full: &[Segment], last: &Segment, begun: usize, left: Kept<'_>) -> Option<Entry>

@@ -17,14 +17,14 @@ pub fn breaks_are_first()
     ensures { BreaksAreFirst }
 {}
 
-/// States that a history follows exactly where each worker's calls on the group are whole lists
+/// States that a history follows exactly if each worker's calls on the group are whole lists
 /// joined end to end and the beginning of one more.
 pub fn following_means_joined_lists()
     ensures { FollowingMeansJoinedLists }
 {}
 
 /// States the same of lists whose calls stand next to each other among all calls of their worker: a
-/// history follows exactly where each worker's calls are whole lists with calls on other objects
+/// history follows exactly if each worker's calls are whole lists with calls on other objects
 /// between them, and the beginning of one more list.
 pub fn following_means_unbroken_lists()
     ensures { FollowingMeansUnbrokenLists }

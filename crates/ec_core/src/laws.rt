@@ -21,12 +21,12 @@ pub fn issued_counts_tickets()
     ensures { IssuedCountsTickets }
 {}
 
-/// States that a cell holds the value last put into it, and 0 where none was.
+/// States that a cell holds the value last put into it, and 0 if none was.
 pub fn cells_hold_the_last_put()
     ensures { CellsHoldTheLastPut }
 {}
 
-/// States that a call is pending exactly where the worker's entries, from one that is no go on, are
+/// States that a call is pending exactly if the worker's entries, from one that is no go on, are
 /// goes behind it, each told Pending.
 pub fn calls_under_way_are_cut_in_order()
     ensures { CallsUnderWayAreCutInOrder }
@@ -38,7 +38,7 @@ pub fn calls_under_way_read()
     ensures { CallsUnderWayRead }
 {}
 
-/// States that a pending await has 0 as the component that comes next exactly where it has just
+/// States that a pending await has 0 as the component that comes next exactly if it has just
 /// ended a round that fell short.
 pub fn index_zero_means_fallen_short()
     ensures { IndexZeroMeansFallenShort }
@@ -87,7 +87,7 @@ pub fn beginnings_are_accepted()
     ensures { BeginningsAreAccepted }
 {}
 
-/// States that a history is accepted exactly where each entry is the answer to its act at its own
+/// States that a history is accepted exactly if each entry is the answer to its act at its own
 /// moment.
 pub fn accepted_means_answered()
     ensures { AcceptedMeansAnswered }
@@ -116,7 +116,7 @@ pub fn fixed_events_keep_their_signallers()
 {}
 
 /// States that the signaller of a component is the worker that it was last handed to, and the
-/// declared one where it was not handed over.
+/// declared one if it was not handed over.
 pub fn signallers_are_the_last_receivers()
     ensures { SignallersAreTheLastReceivers }
 {}

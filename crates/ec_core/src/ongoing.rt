@@ -20,7 +20,7 @@ pub struct Ongoing {
     pub first: usize,
     /// The position at which its last round began.
     pub round: usize,
-    /// The component that its last entry read, where it is a read or an await; else 0.
+    /// The component that its last entry read, if it is a read or an await; else 0.
     pub index: usize,
 }
 
@@ -97,7 +97,7 @@ impl Calls {
         }
     }
 
-    /// Takes the next entry in, at this position, and gives the call that it is part of, up to it; None where it is a Go that
+    /// Takes the next entry in, at this position, and gives the call that it is part of, up to it; None if it is a Go that
     /// goes on with no call.
     #[inline(always)]
     pub fn take(&mut self, setup: &Setup, place: usize, entry: &Entry) -> Option<Ongoing>

@@ -12,13 +12,13 @@ use crate::{Act, Reply};
 /// answered. Who drives a procedure asks for the next act, makes it a step, and hands its reply
 /// over, until no act is due.
 pub trait Procedure {
-    // The call that comes after these further calls, or none where the list is then done.
+    // The call that comes after these further calls, or none if the list is then done.
     ghost rest: { Self → List Told → Option Act };
 
     // The last reply was Pending.
     ghost is_going: { Self → Bool };
 
-    /// Returns the act that is due: Go where the last reply was Pending, else the act that begins
+    /// Returns the act that is due: Go if the last reply was Pending, else the act that begins
     /// the list's next call; `None` if the list is done.
     fn next(&self) -> Option<Act>
         ensures { result ≡ next_of (is_going self.now) (rest self.now []) };

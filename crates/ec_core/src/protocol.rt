@@ -7,7 +7,7 @@ use crate::{Act, Reply};
 use ec_count::WorkerId;
 
 /// What is kept of the list of calls that a worker is in: how many of its calls are finished, and
-/// two numbers that they told, each 0 where a group has no use for it.
+/// two numbers that they told, each 0 if a group has no use for it.
 #[derive(Clone, Copy, Debug, PartialEq, Eq)]
 pub struct Kept {
     pub at: usize,
@@ -22,7 +22,7 @@ pub trait Protocol {
 
     ghost keeps: { Self → List Told → Kept };
 
-    /// Returns what is kept where no call of a list is finished.
+    /// Returns what is kept if no call of a list is finished.
     fn start(&self) -> Kept
         ensures { result ≡ keeps self.now [] };
 

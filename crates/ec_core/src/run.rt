@@ -37,7 +37,7 @@ pub enum StepFault {
 
 /// A world and the history that it stands for: each entry was answered at its own moment as the
 /// definition of an accepted history says. The entries are kept in segments: so a step that is
-/// recorded moves none of them, but for the numbers of the last segment where these need more room.
+/// recorded moves none of them, but for the numbers of the last segment if these need more room.
 #[derive(Drop)]
 pub struct Run {
     world: World,
@@ -59,7 +59,7 @@ impl Model for Run {
 impl Run {
     ghost use Rattle.ec_core.specs.Faults.{IsFaultOf};
 
-    /// Makes a run without entries on these declarations, which are dropped where there is no
+    /// Makes a run without entries on these declarations, which are dropped if there is no
     /// memory.
     pub fn open(alloc: Global, setup: Setup) -> Result<Self, AllocError>
         ensures { IfOk result (λ run. run ≡ record { setup = setup; entries = [] }) }
@@ -152,7 +152,7 @@ impl Run {
     }
 
     /// Makes one step, which adds its entry. It is refused as a step of its world is. Memory is
-    /// wanted only where the step is right, and taken before anything is changed.
+    /// wanted only if the step is right, and taken before anything is changed.
     #[inline(always)]
     pub fn step(&mut self, worker: WorkerId, act: Act) -> Result<Reply, StepFault>
         ensures answer { MatchResult result

@@ -107,7 +107,7 @@ impl Segment {
     }
 }
 
-/// Makes room for the words of the next entry. Where it is a sixteenth, that is for those of all before the next such entry, and where
+/// Makes room for the words of the next entry. If it is a sixteenth, that is for those of all before the next such entry, and where
 /// its own begin is kept.
 #[inline(always)]
 fn make_room(

@@ -13,7 +13,7 @@ const SEGMENTS_MAX: usize = 1 << 51;
 
 /// A list of entries that grows by segments, so that it is never copied. An entry takes 4 bytes in
 /// it, which never move, and 4 more for most numbers. A segment has room for one such number an
-/// entry; where there are more, it takes more room, and its numbers may move.
+/// entry; if there are more, it takes more room, and its numbers may move.
 #[derive(Drop)]
 pub struct Segments {
     full: Vec<Segment>,

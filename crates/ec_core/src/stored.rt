@@ -94,7 +94,7 @@ impl<'a> Words<'a> {
 }
 
 /// An entry without its numbers, the value of its act and the number of its reply. They stand in a list of words for many
-/// entries, one entry behind another, and take none there where the entry has none. So this takes 4 bytes, where an `Entry` takes 40.
+/// entries, one entry behind another, and take none there if the entry has none. So this takes 4 bytes, if an `Entry` takes 40.
 #[derive(Clone, Copy)]
 pub(crate) struct Stored {
     worker: WorkerId,
@@ -253,7 +253,7 @@ fn verb_in(act: &Act) -> Verb
     }
 }
 
-/// Returns the value of an act, where it has one.
+/// Returns the value of an act, if it has one.
 pub(crate) fn value_in(act: &Act) -> Option<u64>
     ensures value { result ≡ value_in act.now }
     ensures receiver { receiver_in act.now < 16 }
@@ -276,7 +276,7 @@ fn answer_in(reply: &Reply) -> Answer
     }
 }
 
-/// Returns the number of a reply, where it has one.
+/// Returns the number of a reply, if it has one.
 pub(crate) fn number_in(reply: &Reply) -> Option<u64>
     ensures { result ≡ number_in reply.now }
 {

@@ -19,7 +19,7 @@ pub trait Audit {
             → stands start self.old past → stands start self.new (entry.now ∷ past) };
 }
 
-/// Returns the act that began a call, and Go where there is none.
+/// Returns the act that began a call, and Go if there is none.
 fn op_of(call: Option<Ongoing>) -> Act
     ensures { result ≡ option_map_or (λ c. c.op) call Act.Go }
 {

@@ -109,7 +109,7 @@ impl World {
     }
 
     /// Returns the one worker that signals a component now; `None` if there is no such component,
-    /// and so where the eventcount is not declared.
+    /// and so if the eventcount is not declared.
     pub fn signaller(&self, event: EventId, component: usize) -> Option<WorkerId>
         ensures { (h : List Entry) → StandsFor self.now h → result ≡ signaller_at self.now.setup event (reverse h) component }
     {
@@ -118,7 +118,7 @@ impl World {
     }
 
     /// Returns the component of an eventcount that the worker signals now. `None` if it signals
-    /// none of it, as where either is not declared.
+    /// none of it, as if either is not declared.
     pub fn component_of(&self, event: EventId, worker: WorkerId) -> Option<usize>
         ensures { (h : List Entry) → StandsFor self.now h → result ≡ component_at self.now.setup event (reverse h) worker }
     {
@@ -148,7 +148,7 @@ impl World {
     }
 
     /// Returns a component of an eventcount: how many advances were made by who signalled it at
-    /// their moment. `None` if there is no such component, and so where the eventcount is not
+    /// their moment. `None` if there is no such component, and so if the eventcount is not
     /// declared.
     pub fn component(&self, event: EventId, component: usize) -> Option<u64>
         ensures { (h : List Entry) → StandsFor self.now h
@@ -329,7 +329,7 @@ impl World {
         }
     }
 
-    /// Returns the act that began the call that an act of the worker is part of, where this call is
+    /// Returns the act that began the call that an act of the worker is part of, if this call is
     /// pending.
     #[inline(always)]
     fn begun_by(&self, worker: WorkerId, act: &Act) -> Act
@@ -341,7 +341,7 @@ impl World {
         }
     }
 
-    /// Makes that change, and tells what began the call. It is asked where it costs least: a call that goes on keeps in place
+    /// Makes that change, and tells what began the call. It is asked if it costs least: a call that goes on keeps in place
     /// what began it, so whoever has no use for it has it read in vain nowhere.
     #[inline(always)]
     fn make(&mut self, worker: WorkerId, act: &Act, effect: &Effect) -> Act

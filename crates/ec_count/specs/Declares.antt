@@ -1,4 +1,4 @@
--- What is declared at an id, and what stays declared where more is added.
+-- What is declared at an id, and what stays declared if more is added.
 use Rattle.std.specs.Prelude.{◌≡◌, ℕ, ◌+◌, ◌<◌, true, List, [], ◌∷◌, ◌++◌, Some, slice_get}
 use Rattle.ec_count.specs.declared.setup.Rights.{Rights}
 use Rattle.ec_count.specs.declared.setup.Access.{Access}

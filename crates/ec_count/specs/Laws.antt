@@ -5,14 +5,14 @@ use Rattle.ec_count.specs.declared.target.Target.{Target}
 use Rattle.ec_count.specs.Names.{AreNames, find_name, name_of}
 use Rattle.ec_count.specs.Tables.{Tables, IsDeclared, first_that, component_of, signaller, is_silent, may_observe, may_take, may_write, may_read}
 
--- where a fault is answered its test holds and none before it does; where none is, no test holds
+-- if a fault is answered its test holds and none before it does; if none is, no test holds
 abbrev pub FirstTestAnswers : Type 0 → Type 0
 FirstTestAnswers F = (tests : List (Bool × F))
     → MatchOption (first_that tests)
     (All (λ x. x.0 ≡ false) tests)
     (λ f. (i : ℕ) × (slice_get tests i ≡ Some (true, f)) × ((k : ℕ) (x : Bool × F) → k < i → slice_get tests k ≡ Some x → x.0 ≡ false))
 
--- a worker signals a component exactly where the component is its own
+-- a worker signals a component exactly if the component is its own
 abbrev pub OneSignaller : Type 0
 OneSignaller = (t : Tables) → IsDeclared t → (e c w : ℕ) → (component_of t e w ≡ Some c) ↔ (signaller t e c ≡ Some w)
 
@@ -26,7 +26,7 @@ pub record HasNoRight (t : Tables) (w : ℕ) : Type 0 where
 abbrev pub SilenceIsNoRight : Type 0
 SilenceIsNoRight = (t : Tables) (w : ℕ) → (is_silent t w ≡ true) ↔ ((w < t.workers) × HasNoRight t w)
 
--- where w has a right on i, both are declared
+-- if w has a right on i, both are declared
 pub record AreBothDeclared (t : Tables) (i w : ℕ) : Type 0 where
   pub signals : (c : ℕ) → component_of t i w ≡ Some c → (i < length t.events) × (w < t.workers)
   pub observes : may_observe t i w ≡ true → (i < length t.events) × (w < t.workers)

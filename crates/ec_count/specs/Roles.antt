@@ -10,7 +10,7 @@ use Rattle.ec_count.specs.Tables.{Tables, first_that, names_unknown}
 abbrev pub shares_worker : List ℕ → List ℕ → Bool
 shares_worker first second = list_any (λ w. is_member w second) first
 
--- why a thing with these two roles can't be declared, if it can't, where it would pass the bound of a table or has nothing to hold
+-- why a thing with these two roles can't be declared, if it can't, if it would pass the bound of a table or has nothing to hold
 abbrev pub roles_fault : Tables → Bool → List ℕ → List ℕ → Bool → Option SetupFault
 roles_fault t full first second none = first_that (
     (full || nat_lt 16 (length first) || nat_lt 16 (length second), TooMany)

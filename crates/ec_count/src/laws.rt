@@ -2,12 +2,12 @@
 ghost use Rattle.ec_count.specs.Laws.{FirstTestAnswers, OneSignaller, RightsAreDeclared, SilenceIsNoRight, NamesAreFound};
 
 /// States that if a list of tests with their faults answers a fault, its test is the first that
-/// holds; where it answers none, no test holds.
+/// holds; if it answers none, no test holds.
 pub fn the_first_test_answers<F>()
     ensures { FirstTestAnswers F }
 {}
 
-/// States that in declarations a worker is the signaller of a component exactly where that
+/// States that in declarations a worker is the signaller of a component exactly if that
 /// component is its own.
 pub fn each_component_has_one_signaller()
     ensures { OneSignaller }

@@ -111,7 +111,7 @@ impl Vocabulary {
         }
     }
 
-    /// Returns what the word stands for, where it is the word at the place that is looked at first.
+    /// Returns what the word stands for, if it is the word at the place that is looked at first.
     #[inline(always)]
     fn find_at_hint(&self, word: &[u8]) -> Option<Target>
         ensures { IfSome result (λ target. find_name word.now self.now ≡ Some target) }

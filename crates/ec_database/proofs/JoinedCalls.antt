@@ -1,4 +1,4 @@
--- A worker follows a database exactly where its calls are the written lists, joined end to end.
+-- A worker follows a database exactly if its calls are the written lists, joined end to end.
 use Rattle.std.proofs.Common.{◌≡◌, ℕ, zero, suc, ◌+◌, ◌<◌, ◌≤◌, Bool, true, false, not, List, [], ◌∷◌, length, Option, Some, None, is_some, nat_lt, refl, ap, sym, ◌∙◌, arith, cond, ◌==◌, slice_get, take, get_or, replicate}
 use Rattle.std.specs.Prelude.{All, IfSome, ◌↔◌}
 use Rattle.std.proofs.lemmas.List.{length-take-le, length-replicate}

@@ -39,7 +39,7 @@ drawn_less d writers t past acc h =
     let b = total_by t d.start past acc in
     omega arith)
 
--- where no more was started than done, no writer is in its list
+-- if no more was started than done, no writer is in its list
 calm : (d : Database) (writers : ℕ → Bool) (t : Tables) (past : List Entry) (w : ℕ) → IsAccepted t past → IsWriting d writers past → w < t.workers → total d.start past ≤ total d.done past → lead d writers past w ≡ 0
 calm d writers t past w acc h lt le =
     elim (lead d writers past w) as (λ n. lead d writers past w ≡ n → n ≡ 0) [

@@ -98,7 +98,7 @@ puts_step : (d : Database) (j : ℕ) (t : Tables) (x : Entry) (past : List Entry
 unfolding puts_at
 puts_step d j t x past acc = ap (λ o. cond (is_some o) 1 0 + puts_at d j past) (put_in_op (d.first_cell + j) t x past acc)
 
--- what holds of each worker's counts, where it holds of the one that moved
+-- what holds of each worker's counts, if it holds of the one that moved
 each_count : (d : Database) (writers : ℕ → Bool) (f g : Act → Bool) (m : List Told → ℕ) (x : Entry) (past : List Entry)
     → ((w : ℕ) → made_by f w past ≡ cond (writers w) (m (block (write_rule d) w past)) 0 + made_by g w past)
     → made_by f x.worker (x ∷ past) ≡ cond (writers x.worker) (m (block (write_rule d) x.worker (x ∷ past))) 0 + made_by g x.worker (x ∷ past)

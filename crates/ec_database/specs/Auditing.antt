@@ -73,7 +73,7 @@ pub record Versioning : Type 0 where
   pub list : List AcceptedTry
   pub lacks : Bool
 
--- how many accepting tries were found so far, where memory was not refused for one
+-- how many accepting tries were found so far, if memory was not refused for one
 abbrev pub found_in : Versioning → Option ℕ
 found_in a = if a.lacks then None else Some (length a.list)
 

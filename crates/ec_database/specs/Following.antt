@@ -17,7 +17,7 @@ is_cell d x = nat_le d.first_cell x && nat_lt x (d.first_cell + d.cells)
 abbrev pub is_on : Database → Act → Bool
 is_on d act = is_among (λ e. e == d.start || e == d.done) (λ q. q == d.turn) (is_cell d) act
 
--- whether w is one of its writers, by the eventcount of starts: where the database fits the tables, they signal both
+-- whether w is one of its writers, by the eventcount of starts: if the database fits the tables, they signal both
 abbrev pub writes : Tables → Database → ℕ → Bool
 writes t d w = is_some (component_of t d.start w)
 

@@ -40,7 +40,7 @@ pub record AreLists (list : List Told → List Act) (calls : List Told) (going :
   pub begun : IsBegun list last
   pub next : IfSome going (IsNext list last)
 
--- an accepted history follows a database exactly where each worker's calls on it are its lists joined end to end, and
+-- an accepted history follows a database exactly if each worker's calls on it are its lists joined end to end, and
 -- the beginning of one more
 abbrev pub FollowingMeansLists : Type 0
 FollowingMeansLists = (t : Tables) (d : Database) (h : List Entry) → IsDeclared t → IsAccepted t (reverse h)

@@ -13,7 +13,7 @@ use Rattle.ec_database.specs.Following.{writes, FollowsDatabase}
 use Rattle.ec_database.specs.Versions.{PutsValue}
 use Rattle.ec_database.specs.Tries.{AcceptedTry, EndsTry, IsUndisturbed, accepted_tries, ListsTries}
 
--- a database that is declared stays so where more is declared
+-- a database that is declared stays so if more is declared
 abbrev pub DatabasesStay : Type 0
 DatabasesStay = (d : Database) (old new : Tables) → KeepsObjects old new → Fits d old → Fits d new
 

@@ -35,7 +35,7 @@ pub record Trying : Type 0 where
   pub left : ℕ
   pub calls : List Told
 
--- the next try, where this one is whole, its reads differ and one is left
+-- the next try, if this one is whole, its reads differ and one is left
 abbrev pub try_again : Database → Trying → Trying
 try_again d s =
     if is_whole d s.calls && not (agrees d s.calls) && nat_lt 1 s.left
@@ -78,7 +78,7 @@ pub record IsDisturbed (d : Database) (calls : List Told) : Type 0 where
   pub differ : agrees d calls ≡ false
 
 -- the calls are disturbed tries, fewer than the snapshot may make, and the beginning of one more, or the whole of it: it is
--- what the snapshot asks for and ends with, and is itself disturbed only where no try is left
+-- what the snapshot asks for and ends with, and is itself disturbed only if no try is left
 pub record AreTries (d : Database) (tries : ℕ) (calls : List Told) : Type 0 where
   pub disturbed : List (List Told)
   pub last : List Told

@@ -1,4 +1,4 @@
--- Accepting tries: a try is accepting where its two reads of the count of starts agree. These definitions mean a history
+-- Accepting tries: a try is accepting if its two reads of the count of starts agree. These definitions mean a history
 -- that follows the database; of others they say how many calls on it a reader finished, and what two of them were told.
 use Rattle.std.specs.Prelude.{◌≡◌, ℕ, ◌+◌, ◌-◌, ◌<◌, Bool, false, ◌&&◌, ◌||◌, List, [], ◌∷◌, ◌++◌, length, slice_get, Option, Some, None, if◌then◌else◌, option_to_list}
 use Rattle.ec_count.specs.Tables.{Tables}
@@ -70,7 +70,7 @@ abbrev pub is_put_on : Database → Act → Bool
 is_put_on d (Put x v) = is_cell d x
 is_put_on d _ = false
 
--- entry k is one of a call of w, which this act began, and was told this: the call's last one where that is not Pending
+-- entry k is one of a call of w, which this act began, and was told this: the call's last one if that is not Pending
 pub record EndsCall (h : List Entry) (k w : ℕ) (op : Act) (reply : Reply) : Type 0 where
   pub entry : Entry
   pub is : slice_get h k ≡ Some entry
@@ -85,7 +85,7 @@ calls_before d h w k = length (calls_on (is_on d) (finished_by w (past_at k h)))
 -- the entries of the accepting try that ends at entry last: its reader read its version at entry first, got each value at
 -- entry got j, one after another, and read the version again at entry last. The numbers say that these are of this try
 -- and of no other: from first to last its reader finished no call on the database but these, and one between the first
--- and the gets, where the list has the await. No entry between the gets puts into the database
+-- and the gets, if the list has the await. No entry between the gets puts into the database
 pub record IsUndisturbed (t : Tables) (d : Database) (h : List Entry) (last : ℕ) (a : AcceptedTry) : Type 0 where
   pub first : ℕ
   pub got : ℕ → ℕ

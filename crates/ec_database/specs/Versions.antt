@@ -9,7 +9,7 @@ use Rattle.ec_database.specs.Shapes.{Database}
 use Rattle.ec_database.specs.Calls.{turn_of}
 use Rattle.ec_database.specs.Following.{writes, write_rule}
 
--- entry k puts v into cell j, in a writing of this turn; in a history that follows the database, where each writing has
+-- entry k puts v into cell j, in a writing of this turn; in a history that follows the database, if each writing has
 -- drawn its turn before it puts
 pub record PutsValue (t : Tables) (d : Database) (h : List Entry) (k turn j v : ℕ) : Type 0 where
   pub entry : Entry

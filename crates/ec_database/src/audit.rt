@@ -73,7 +73,7 @@ impl Got {
         }
     }
 
-    /// Keeps the value that a reader's call answered, where that is a get.
+    /// Keeps the value that a reader's call answered, if that is a get.
     fn keep(&mut self, cells: usize, call: &ReaderCall)
         requires { cells ≤ 256 }
         ensures { (row : List ℕ) → slice_get self.old.rows call.now.worker ≡ Some row → self.new.rows ≡ rows_after cells self.old.rows row call.now }
@@ -282,7 +282,7 @@ impl<'a> VersionAudit<'a> {
     }
 }
 
-/// Returns the accepting tries of a database in a run, by their last steps. Where the workers don't
+/// Returns the accepting tries of a database in a run, by their last steps. If the workers don't
 /// follow the database's call lists, the first entry that breaks them is told. The run is as
 /// before, whatever is answered.
 pub fn versions(

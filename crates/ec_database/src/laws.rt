@@ -3,7 +3,7 @@ ghost use Rattle.ec_database.specs.Auditing.{OthersMayBeLeftOut, GoesMayBeLeftOu
 ghost use Rattle.ec_database.specs.Joined.{FollowingMeansLists};
 ghost use Rattle.ec_database.specs.Laws.{DatabasesStay, VersionsArePutOnce, AcceptedTriesAreUndisturbed, TriesHaveOwnEntries, TriesAreListed, TriesAreDetermined, CallListsAreWritten, SnapshotsAreTries};
 
-/// States that a database that fits declarations fits them still where more is declared.
+/// States that a database that fits declarations fits them still if more is declared.
 pub fn declared_databases_stay()
     ensures { DatabasesStay }
 {}
@@ -48,7 +48,7 @@ pub fn snapshots_are_tries()
     ensures { SnapshotsAreTries }
 {}
 
-/// States that an accepted history follows a database exactly where each worker's calls on it are
+/// States that an accepted history follows a database exactly if each worker's calls on it are
 /// its written lists joined end to end, and the beginning of one more.
 pub fn following_means_lists()
     ensures { FollowingMeansLists }

@@ -58,7 +58,7 @@ pub fn is_on(shape: &DatabaseShape, act: &Act) -> bool
     }
 }
 
-/// Returns whether the worker of a number is a writer; false where there is no such worker.
+/// Returns whether the worker of a number is a writer; false if there is no such worker.
 fn is_writer(shape: &DatabaseShape, setup: &Setup, number: usize) -> bool
     requires { number < 16 }
     ensures { result ≡ writes setup.now shape.now number }

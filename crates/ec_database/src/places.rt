@@ -5,7 +5,7 @@ ghost use Rattle.ec_database.specs.Places.{write_at, try_at};
 use crate::DatabaseShape;
 use ec_core::Act;
 
-/// Returns the call at a place of a writing, from its turn and, where it is a put, the value that
+/// Returns the call at a place of a writing, from its turn and, if it is a put, the value that
 /// it puts.
 pub(crate) fn write_at(shape: &DatabaseShape, at: usize, turn: u64, value: u64) -> Option<Act>
     ensures { (values : List ℕ) → value ≡ get_or values (at - 3) 0 → result ≡ write_at shape.now values at turn }

@@ -13,7 +13,7 @@ use arrayvec::ArrayVec;
 use ec_core::{Act, Procedure, Reply};
 
 /// Reads all cells of a database in tries: each reads how many writings were started, waits until
-/// that many are done, gets each cell, and reads again how many were started. Where both reads
+/// that many are done, gets each cell, and reads again how many were started. If both reads
 /// agree, it is accepted, and in a history that follows the database its values are those of one
 /// version; else the next try begins, until none is left.
 #[derive(Debug, Drop)]

@@ -18,7 +18,7 @@ pub struct Accepted {
     pub values: Vec<u64>,
 }
 
-/// An accepting try where it is kept.
+/// An accepting try if it is kept.
 #[derive(Drop)]
 pub struct TryView<'a> {
     worker: WorkerId,

@@ -133,7 +133,7 @@ shades_next a b w x past (Some n) span hs gs same on old new is at was adds =
     ∙ ap (λ z. z ++ filter (is_in w) (option_to_list (shade_at t d x past))) was
     ∙ sym (filter_behind (is_in w) (shades_in t d past) (shade_at t d x past))
 
--- the same, in the words of the walk: the list of the entry's worker began where the table says
+-- the same, in the words of the walk: the list of the entry's worker began if the table says
 pub tries_next : (a b : Versioning) (d : Database) (w : Window) (x : Entry) (past : List Entry)
     (before : Option ℕ) (count i place : ℕ) (starts : List ℕ) (hs gs : List Shaded)
     → x.worker < 16 → i ≡ x.worker → place ≡ length past → a.shape ≡ d → b.shape ≡ a.shape

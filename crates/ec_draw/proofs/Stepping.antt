@@ -90,7 +90,7 @@ more_open w past n os is = ap (λ z. z ++ open_bars_of w n past) is
 
 -- DOTS
 
--- the dots after one entry more, where it is shown and where it is not
+-- the dots after one entry more, if it is shown and where it is not
 pub dots_yes : (t : Tables) (w : Window) (h : List Entry) (k : ℕ) (x : Entry) (ds : List Dot)
     (d : Dot) → slice_get h k ≡ Some x → shows w k ≡ true → ds ≡ dots_of t w (past_at k h)
     → d ≡ dot_of t (past_at k h) x → ds ++ d ∷ [] ≡ dots_of t w (past_at (k + 1) h)
@@ -123,7 +123,7 @@ dots_after t w (y ∷ ys) past most =
     ap (λ b. dots_of t w (ys ++ past) ++ cond b (dot_of t (ys ++ past) y ∷ []) []) out
     ∙ append-nil (dots_of t w (ys ++ past)) ∙ dots_after t w ys past most
 
--- so the dots up to a moment are all, where it is behind the window or the last one
+-- so the dots up to a moment are all, if it is behind the window or the last one
 pub dots_all : (t : Tables) (w : Window) (h : List Entry) (k : ℕ) → min w.to (length h) ≤ k
     → dots_of t w (past_at k h) ≡ dots_of t w (reverse h)
 dots_all t w h k most =

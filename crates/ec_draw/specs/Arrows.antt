@@ -35,7 +35,7 @@ places m b (x ∷ past) = places m b past ++ (if is_move m b x.act then length p
 abbrev pub place_of : List ℕ → ℕ → ℕ
 place_of ks n = unwrap_or (slice_get ks n) 0
 
--- the arrow of a delivery, where these are the positions of the puts and of the gets: item n is put
+-- the arrow of a delivery, if these are the positions of the puts and of the gets: item n is put
 -- by put n and got by get n, counted from 0. Its buffer is told by the eventcount of the puts
 abbrev pub arrow_of : Buffer → List ℕ → List ℕ → Delivery → Arrow
 arrow_of b puts gets d = record {
@@ -54,7 +54,7 @@ arrows_in b past =
 abbrev pub is_in : Window → Arrow → Bool
 is_in w a = shows w a.put || shows w a.got
 
--- those of a group, where it is a buffer and is followed
+-- those of a group, if it is a buffer and is followed
 abbrev pub group_arrows : Tables → Window → List Entry → Group → List Arrow
 group_arrows t w h (groups.Buffer b) = if follows (buffer_rules t b) (reverse h)
     then filter (is_in w) (arrows_in b (reverse h)) else []

@@ -45,7 +45,7 @@ balance_line w h s = record { object = Balance s.count; heights = lefts s w (rev
 abbrev pub line_if : Bool → Line → List Line
 line_if b l = if b then l ∷ [] else []
 
--- that of a group, where it is a semaphore, or `both`, and is followed; these are all the
+-- that of a group, if it is a semaphore, or `both`, and is followed; these are all the
 -- semaphores
 abbrev pub group_line : List Semaphore → Window → List Entry → Group → List Line
 group_line all w h (groups.Semaphore s) =

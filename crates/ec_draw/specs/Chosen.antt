@@ -29,7 +29,7 @@ abbrev pub stands_for : List ℕ → List ℕ → Bool
 stands_for word name =
     starts_with (λ a b. a == b) word name && ends_name (slice_get word (length name))
 
--- whether a word is chosen: some name stands for it; where there is no name all are
+-- whether a word is chosen: some name stands for it; if there is no name all are
 abbrev pub is_chosen : List (Bor (List ℕ)) → List ℕ → Bool
 is_chosen names word = (length names == 0) || list_any (λ name. stands_for word name.now) names
 

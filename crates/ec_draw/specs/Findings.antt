@@ -24,7 +24,7 @@ abbrev pub CourseFor : Window → Semaphore → Finding → List Entry → Type 
 CourseFor w s (finds.Balance c) past = (c.audit.shape ≡ s) × (c.window ≡ w) × IsCourse c past
 CourseFor w s f past = ⊥
 
--- that of `both`, where these are all semaphores
+-- that of `both`, if these are all semaphores
 abbrev pub BothFor : List Semaphore → Window → Semaphore → Finding → List Entry → Type 0
 BothFor all w c (finds.Both b) past =
     (b.course.audit.shape ≡ c) × (b.course.window ≡ w) × IsCourse b.course past

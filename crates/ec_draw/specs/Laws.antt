@@ -71,7 +71,7 @@ BalanceCurvesAreLefts = (s : Semaphore) (w : Window) (h : List Entry) (j : ℕ) 
     → w.from + j ≤ length h
     → slice_get (lefts s w (reverse h)) j ≡ Some (left_of s (past_at (w.from + j) h))
 
--- and that is the balance, where the semaphore is followed
+-- and that is the balance, if the semaphore is followed
 abbrev pub LeftsAreBalances : Type 0
 LeftsAreBalances = (s : Semaphore) (t : Tables) (k : ℕ) (h : List Entry) → IsDeclared t
     → IsAccepted t (reverse h) → Follow (use_rules s) (reverse h)

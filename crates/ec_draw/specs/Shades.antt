@@ -76,7 +76,7 @@ is_in w s = meets w s.span.first s.span.last
 abbrev pub shades_shown : Tables → Database → Window → List Entry → List Shaded
 shades_shown t d w past = filter (is_in w) (shades_in t d past)
 
--- those of a group, where it is a database and is followed
+-- those of a group, if it is a database and is followed
 abbrev pub group_shades : Tables → Window → List Entry → Group → List Shaded
 group_shades t w h (groups.Database d) = if follows (database_rules t d) (reverse h)
     then shades_shown t d w (reverse h) else []
@@ -115,7 +115,7 @@ abbrev pub TriesOn : Trying → Trying → List Entry → Type 0
 TriesOn start now past = (now.shape ≡ start.shape) × (now.audit.setup ≡ start.audit.setup)
     × (now.window ≡ start.window) × IsTrying now past
 
--- the starts after an entry, where its worker had finished so many calls of its list
+-- the starts after an entry, if its worker had finished so many calls of its list
 abbrev pub starts_after : Database → ℕ → ℕ → Entry → List ℕ → List ℕ
 starts_after d finished place x starts =
     if (finished == 0 && not (is_go x.act)) && is_on d x.act then slice_set starts x.worker place

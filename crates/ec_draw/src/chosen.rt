@@ -63,7 +63,7 @@ fn any_named(names: &[&str], word: &[u8]) -> bool
     names.iter().any(|name| is_named(word, name))
 }
 
-/// Returns whether a word is chosen by names; where there are none all are.
+/// Returns whether a word is chosen by names; if there are none all are.
 fn is_chosen(names: &[&str], word: &[u8]) -> bool
     ensures { result ≡ is_chosen names.now word.now }
 {

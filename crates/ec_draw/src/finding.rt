@@ -127,7 +127,7 @@ fn walked<'a>(
     Ok(walk_groups(run, groups, list))
 }
 
-/// What the audits of the groups find that are followed, where it is shown.
+/// What the audits of the groups find that are followed, if it is shown.
 #[derive(Drop)]
 pub(crate) struct Findings {
     /// The curves of balances.

@@ -46,7 +46,7 @@ begun_is n c e = sym (zero-mod n) ∙ next_is n 0 c e
 
 -- WHAT IS KEPT
 
--- where the next component is m, and k was read
+-- if the next component is m, and k was read
 more : (t : Tables) (e : ℕ) (past : List Entry) (moments : List (List Entry)) (m k : ℕ)
     → ((c : ℕ) → m ≡ suc c → k ≡ c)
     → kept (nat_lt 0 m) Go (Some (look_at t e k past)) (looks_in t e k moments)
@@ -191,7 +191,7 @@ none_here [] i e lt = omega arith
 none_here (x ∷ h) zero e lt = cc
 none_here (x ∷ h) (suc i) e lt = none_here h i e (omega arith)
 
--- what is kept of an entry of the worker, where this is found by the world before and after it
+-- what is kept of an entry of the worker, if this is found by the world before and after it
 pub take_kept : {A E : Type 0} (r : Result A E) (t now : Tables) (w : ℕ) (h : List Entry)
     (x : Entry)
     (goes_on : Bool) (look : Option Look) (old new : List Look) → (x.worker == w) ≡ true → now ≡ t

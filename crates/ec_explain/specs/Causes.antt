@@ -239,7 +239,7 @@ word_place site causes.NoReply line = equals_place line + 1
 word_place site causes.EntryWords line = equals_place line + 2
 word_place site _ line = 0
 
--- where the line shows it, by the bytes before: at a byte that may not stand there, or where a word
+-- if the line shows it, by the bytes before: at a byte that may not stand there, or where a word
 -- begins
 abbrev pub place_at : Site → Cause → List ℕ → ℕ
 place_at site causes.Long line = 8192

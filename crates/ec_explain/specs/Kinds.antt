@@ -24,7 +24,7 @@ use Rattle.ec_explain.specs.TextLines.{line_at}
 abbrev pub script_number_place : List ℕ → ℕ
 script_number_place line = if length (words_of line) == 2 then 1 else 2
 
--- a line that names one where two are wanted: a pboth, or a declaration
+-- a line that names one if two are wanted: a pboth, or a declaration
 abbrev pub script_roles_at : ℕ → List ℕ → Finding
 script_roles_at n line =
     if bytes_eq (word_at 0 line) (codes "pboth")

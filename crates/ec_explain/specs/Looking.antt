@@ -32,7 +32,7 @@ fits (Hand worker name) line = hands_by worker.now name.now line
 abbrev pub lines_of : List ℕ → List (List ℕ)
 lines_of text = slice_split (λ b. b == 10) text
 
--- the number of the last of these lines that passes a test, where k lines come before them, of
+-- the number of the last of these lines that passes a test, if k lines come before them, of
 -- which this one passed; what stands behind the last LF is no line
 abbrev pub last_before : (List ℕ → Bool) → ℕ → Option ℕ → List ℕ → List (List ℕ) → Option ℕ
 last_before p k found line [] = found

@@ -7,7 +7,7 @@ use Rattle.ec_text.specs.Words.{words_of, number_of}
 use Rattle.ec_heading.specs.Lists.{worker_in}
 use Rattle.ec_heading.specs.Spelled.{Named}
 
--- the word at a place, counted from 0; nothing where there are not so many
+-- the word at a place, counted from 0; nothing if there are not so many
 abbrev pub word_at : ℕ → List ℕ → List ℕ
 word_at k line = unwrap_or (slice_get (words_of line) k) []
 
@@ -21,7 +21,7 @@ abbrev pub bytes_before : ℕ → List (List ℕ) → ℕ
 bytes_before k [] = 0
 bytes_before k (w ∷ ws) = if k == 0 then 0 else length w + 1 + bytes_before (k - 1) ws
 
--- where the word at a place begins; behind the last byte where there are not so many
+-- where the word at a place begins; behind the last byte if there are not so many
 abbrev pub start_of : ℕ → List ℕ → ℕ
 start_of k line = min (bytes_before k (words_of line)) (length line)
 

@@ -80,7 +80,7 @@ has_begun t call = nat_lt 0 (next_component t (event_or call.op) call.moments)
 abbrev pub is_in_round : Tables → ℕ → List Entry → Bool
 is_in_round t w past = option_map_or (has_begun t) (under_way w past) false
 
--- what is kept of what was found, where a go adds to it, and any other act begins anew
+-- what is kept of what was found, if a go adds to it, and any other act begins anew
 abbrev pub kept_by : Act → List Look → List Look
 kept_by act looks = if is_go act then looks else []
 

@@ -3,7 +3,7 @@ use Rattle.std.specs.Prelude.{ℕ, ◌+◌, ◌-◌, zero, suc, ◌==◌, nat_lt
 use Rattle.std.specs.Prelude.{unwrap_or, count_by, if◌then◌else◌}
 use Rattle.std.specs.List.{position_from}
 
--- where a byte stands first; behind the last byte where it doesn't
+-- where a byte stands first; behind the last byte if it doesn't
 abbrev pub place_of : ℕ → List ℕ → ℕ
 place_of sign xs = unwrap_or (position_from (λ b. b == sign) 0 xs) (length xs)
 

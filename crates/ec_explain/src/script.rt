@@ -17,7 +17,7 @@ fn number_place(line: &[u8]) -> usize
     if count_words(line) == 2 { 1 } else { 2 }
 }
 
-/// Returns what is wrong with a line that names one where two are wanted.
+/// Returns what is wrong with a line that names one if two are wanted.
 fn roles_at(number: u64, line: &[u8]) -> Finding
     ensures { result ≡ script_roles_at number line.now }
 {

@@ -6,7 +6,7 @@ use Rattle.ec_heading.specs.declared.sort.Sort.{Sort}
 use Rattle.ec_heading.specs.declared.form.Parts.{Parts}
 use Rattle.ec_heading.specs.declared.form.Lists.{Lists}
 
--- a line of one of the forms: its name is the sort's own word where the form has none, and its number is []
+-- a line of one of the forms: its name is the sort's own word if the form has none, and its number is []
 pub record Phrase : Type 0 where
   pub sort : Sort
   pub name : List ℕ
@@ -70,7 +70,7 @@ abbrev pub sorted_in : Option Sort → List (List ℕ) → Option Phrase
 sorted_in None ws = None
 sorted_in (Some s) ws = named_in s ws
 
--- the parts of a line, where it has one of the forms
+-- the parts of a line, if it has one of the forms
 unfoldable pub parts_in : List (List ℕ) → Option Phrase
 parts_in [] = None
 parts_in (w ∷ ws) = sorted_in (sort_of w) ws

@@ -47,7 +47,7 @@ workers_fault ws = first_that (
 abbrev pub second_list : Phrase → List (List ℕ)
 second_list p = unwrap_or p.second []
 
--- the number; 0 where the form has none, and where there are more than 18 digits
+-- the number; 0 if the form has none, and where there are more than 18 digits
 abbrev pub size_in : Phrase → ℕ
 size_in p = unwrap_or (number_of p.number) 0
 

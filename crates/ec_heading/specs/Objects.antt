@@ -24,7 +24,7 @@ pub record Next : Type 0 where
 abbrev pub ids_after : Tables → ℕ → Next
 ids_after t groups = record { event = length t.events; sequencer = length t.takers; cell = length t.cells; group = groups }
 
--- each object by what it is called behind the name, nothing where the name alone spells it, and what it is; a name that
+-- each object by what it is called behind the name, nothing if the name alone spells it, and what it is; a name that
 -- spells no cells stands for the group itself, which no line uses
 abbrev pub objects_of : Sort → Next → ℕ → List (List ℕ × Target)
 objects_of sorts.EventCount k n = ([], Event k.event) ∷ []

@@ -19,7 +19,7 @@ use Rattle.ec_heading.specs.Headed.{Headed}
 use Rattle.ec_heading.specs.declared.version.Version.{Version}
 use Rattle.ec_heading.specs.Versions.{greatest_limit}
 
--- a declaration: its sort, what it is called (its name, or its sort's own word where its form has none), its number (0 where
+-- a declaration: its sort, what it is called (its name, or its sort's own word if its form has none), its number (0 if
 -- its form has none), and the workers of its two lists
 pub record Declaration : Type 0 where
   pub sort : Sort
@@ -56,7 +56,7 @@ objects_fault sorts.Database t n ws vs = database_fault t n ws vs
 objects_fault sorts.Semaphore t n ws vs = semaphore_fault t n ws
 objects_fault sorts.Both t n ws vs = semaphore_fault t 1 ws
 
--- the name that a declaration adds, where its form has one
+-- the name that a declaration adds, if its form has one
 abbrev pub named_as : Sort → List ℕ → Target → List (List ℕ × Target)
 named_as s name target = if has_name s then (name, target) ∷ [] else []
 
@@ -101,7 +101,7 @@ fits_form None vs = length vs == 0
 fits_form (Some w) vs = true
 
 -- the declaration may stand after this heading: it may be called so, nothing is called so yet, its number is in range,
--- and the tables take its objects (there is room, and each list names declared workers, each once, and somebody where
+-- and the tables take its objects (there is room, and each list names declared workers, each once, and somebody if
 -- it must)
 pub record IsDeclarable (h : Headed) (d : Declaration) : Type 0 where
   pub word : is_called d.sort d.name ≡ true

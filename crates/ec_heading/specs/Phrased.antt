@@ -14,7 +14,7 @@ HasWords ws = (v : List ℕ) × (vs : List (List ℕ)) × (ws ≡ v ∷ vs)
 abbrev pub NameFits : Sort → List ℕ → Type 0
 NameFits s name = has_name s ≡ false → name ≡ sort_word s
 
--- the number, where the form has one
+-- the number, if the form has one
 abbrev pub number_part : Sort → List ℕ → List (List ℕ)
 number_part s number = if has_number s then number ∷ [] else []
 
@@ -28,7 +28,7 @@ abbrev pub second_part : Option (List ℕ) → Option (List (List ℕ)) → List
 second_part (Some stop) (Some vs) = stop ∷ vs
 second_part _ _ = []
 
--- it may be left out where the form doesn't need it, and has a word where it stands
+-- it may be left out if the form doesn't need it, and has a word where it stands
 abbrev pub SecondFits : Bool → Option (List ℕ) → Option (List (List ℕ)) → Type 0
 SecondFits needs o None = needs ≡ false
 SecondFits needs None (Some vs) = ⊥
@@ -44,7 +44,7 @@ HasNoStop None ws = Unit {0}
 HasNoStop (Some stop) [] = Unit {0}
 HasNoStop (Some stop) (w ∷ ws) = (bytes_eq w stop ≡ false) × HasNoStop (Some stop) ws
 
--- the words are those of this phrase: its sort's word, its name and its number where its form has them, the word before its first
+-- the words are those of this phrase: its sort's word, its name and its number if its form has them, the word before its first
 -- list, that list, and the second one behind its word; each list has a word, and the first ends before the first such word
 pub record IsSpelled (ws : List (List ℕ)) (p : Phrase) : Type 0 where
   pub words : ws ≡ sort_word p.sort ∷ (name_words p.sort p.name ++ behind_name p.sort p.number (p.first ++ second_part (second_opener p.sort) p.second))

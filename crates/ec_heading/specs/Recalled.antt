@@ -48,7 +48,7 @@ outline_of h = record { version = h.version; limit = h.setup.limit; workers = wo
 abbrev pub spaced : List (List ℕ) → List ℕ
 spaced words = flat_map (λ w. 32 ∷ w) words
 
--- the second list, left out where it is empty
+-- the second list, left out if it is empty
 abbrev pub second_names : Named → Option (List ℕ) → List ℕ → List (List ℕ)
 second_names names None ids = []
 second_names names (Some word) [] = []

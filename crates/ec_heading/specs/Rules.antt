@@ -17,7 +17,7 @@ semaphores_of [] = []
 semaphores_of (groups.Semaphore s ∷ gs) = s ∷ semaphores_of gs
 semaphores_of (g ∷ gs) = semaphores_of gs
 
--- the rule of each worker on a group, where these are all the groups
+-- the rule of each worker on a group, if these are all the groups
 abbrev pub group_rules : Tables → List Group → Group → ℕ → Rule
 group_rules t gs (groups.Buffer b) = buffer_rules t b
 group_rules t gs (groups.Database d) = database_rules t d

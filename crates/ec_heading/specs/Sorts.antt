@@ -46,7 +46,7 @@ has_number sorts.Database = true
 has_number sorts.Semaphore = true
 has_number sorts.Both = false
 
--- the least and the greatest number of such a declaration; 0 where its form has none
+-- the least and the greatest number of such a declaration; 0 if its form has none
 abbrev pub least : Sort → ℕ
 least sorts.EventCount = 0
 least sorts.Sequencer = 0
@@ -69,7 +69,7 @@ greatest sorts.Both = 0
 abbrev pub is_in_range : Sort → ℕ → Bool
 is_in_range s n = nat_le (least s) n && nat_le n (greatest s)
 
--- whether a declaration of this sort may be called so: by a name, or by its own word where its form has no name
+-- whether a declaration of this sort may be called so: by a name, or by its own word if its form has no name
 abbrev pub is_called : Sort → List ℕ → Bool
 is_called s name = if has_name s then is_name name else bytes_eq name (sort_word s)
 

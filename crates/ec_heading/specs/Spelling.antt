@@ -36,7 +36,7 @@ name_words s name = if has_name s then name ∷ [] else []
 abbrev pub number_words : Sort → ℕ → List (List ℕ)
 number_words s n = if has_number s then decimal n ∷ [] else []
 
--- the second list, left out where it is empty
+-- the second list, left out if it is empty
 abbrev pub second_words : List (List ℕ) → Option (List ℕ) → List ℕ → List (List ℕ)
 second_words workers None ids = []
 second_words workers (Some word) [] = []

@@ -32,6 +32,6 @@ can_spell v act = true
 abbrev pub CanSpellAll : Version → List Entry → Type 0
 CanSpellAll v entries = All (λ (e : Entry). can_spell v e.act ≡ true) entries
 
--- the version that a line tells, where these are the first lines of the versions
+-- the version that a line tells, if these are the first lines of the versions
 abbrev pub version_of : (Version → List ℕ) → List ℕ → Option Version
 version_of header line = if bytes_eq line (header One) then Some One else if bytes_eq line (header Two) then Some Two else None

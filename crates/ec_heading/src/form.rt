@@ -8,7 +8,7 @@ use crate::lists::is_same;
 use crate::sort::{Sort, sort_of};
 use ec_text::{cut_word, is_number_form};
 
-/// A declaration, by its words: where the form has no name it is the sort's own word, and where it
+/// A declaration, by its words: if the form has no name it is the sort's own word, and where it
 /// has no number that is empty.
 #[derive(Clone, Copy)]
 pub(crate) struct Parts<'a> {
@@ -52,7 +52,7 @@ fn stop_at(list: &[u8], stop: &[u8]) -> Option<usize>
     }
 }
 
-/// Returns the lists before and behind the first `stop` of a list, where both are well formed.
+/// Returns the lists before and behind the first `stop` of a list, if both are well formed.
 fn split_lists<'a>(list: &'a [u8], stop: &[u8], needs: bool) -> Option<Lists<'a>>
     ensures { option_map shown_lists result ≡ well_or needs (split_words stop.now (words_of list.now)) }
 {
@@ -82,7 +82,7 @@ fn split_lists<'a>(list: &'a [u8], stop: &[u8], needs: bool) -> Option<Lists<'a>
     }
 }
 
-/// Returns the two lists of names of a declaration of this sort, where both are well formed.
+/// Returns the two lists of names of a declaration of this sort, if both are well formed.
 fn lists_of<'a>(sort: Sort, list: &'a [u8]) -> Option<Lists<'a>>
     ensures { option_map shown_lists result ≡ well_or (needs_second sort) (both_lists (second_opener sort) (words_of list.now)) }
 {

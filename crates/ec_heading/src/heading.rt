@@ -110,7 +110,7 @@ impl Model for Heading {
     ghost invariant = { λ h. IsHeading (record { version = h.version; setup = h.setup; names = h.names; words = h.words; groups = h.groups.items; declarations = h.declarations.items }) };
 }
 
-/// Returns the names that a line of workers lists, where it has that form.
+/// Returns the names that a line of workers lists, if it has that form.
 #[tactic(auto, using(crate::proofs::WorkersLine::some_workers))]
 fn worker_list(line: &[u8]) -> Option<&[u8]>
     ensures { option_map (λ list. words_of list.now) result ≡ workers_in (words_of line.now) }
@@ -256,7 +256,7 @@ impl Heading {
         self.declare_with(parts, first.as_slice(), second.as_slice())
     }
 
-    /// Adds a declaration with these workers: first what may want memory, so that nothing changes where it is refused.
+    /// Adds a declaration with these workers: first what may want memory, so that nothing changes if it is refused.
     fn declare_with(
         &mut self,
         parts: &Parts<'_>,
@@ -401,7 +401,7 @@ impl Heading {
     }
 }
 
-/// Adds the name of a declaration, where its form has one.
+/// Adds the name of a declaration, if its form has one.
 fn add_name(names: &mut Names, sort: Sort, name: &[u8], target: &Target) -> Result<(), NameFault>
     ensures ok { OnOk result (names.new ≡ names.old ++ named_as sort name.now target.now) }
     ensures err { OnErr result (names.new ≡ names.old) }
@@ -458,7 +458,7 @@ fn reserve_one(declarations: &mut Vec<Target>, groups: &mut Vec<Group>) -> Resul
     Ok(())
 }
 
-/// Adds what was declared, where there is room for it.
+/// Adds what was declared, if there is room for it.
 fn push_target(declarations: &mut Vec<Target>, target: Target)
     requires { length declarations.old.items + 1 ≤ vec_capacity declarations.old }
     ensures { declarations.new.items ≡ declarations.old.items ++ target ∷ [] }
@@ -468,7 +468,7 @@ fn push_target(declarations: &mut Vec<Target>, target: Target)
     }
 }
 
-/// Adds a group, if there is one, where there is room for it.
+/// Adds a group, if there is one, if there is room for it.
 fn push_group(groups: &mut Vec<Group>, group: Option<Group>)
     requires { length groups.old.items + 1 ≤ vec_capacity groups.old }
     ensures { groups.new.items ≡ groups.old.items ++ cons_option group [] }

@@ -43,7 +43,7 @@ pub(crate) fn workers_fault(list: &[u8]) -> Option<HeadFault>
     None
 }
 
-/// Returns the number, or 0 where there is none of at most 18 digits.
+/// Returns the number, or 0 if there is none of at most 18 digits.
 pub(crate) fn size_of(parts: &Parts<'_>) -> u64
     ensures { result ≡ size_in (shown parts.now) }
 {

@@ -15,7 +15,7 @@ use ec_database::declare_database;
 use ec_semaphore::{declare_both, declare_semaphore};
 use std::alloc::AllocError;
 
-/// An object: what is written behind the name of its declaration (nothing where the name alone
+/// An object: what is written behind the name of its declaration (nothing if the name alone
 /// means it), and what it is.
 #[derive(Clone, Copy)]
 pub(crate) struct Object {

@@ -74,7 +74,7 @@ impl Sort {
     }
 
     /// Returns whether a declaration of this sort may be called so: by a name, or by the sort's own
-    /// word where its form has no name.
+    /// word if its form has no name.
     pub fn is_called(self, name: &[u8]) -> bool
         ensures { result ≡ is_called self name.now }
     {

@@ -116,7 +116,7 @@ is_done f g left p c at some law none =
     (ap is_some (sym (law [] ∙ i.rest (c ∷ []))) ∙ none)
     ∙ ap (λ n. record { left = left; last = n; told = [] }) (last_more p.last p.told c)
 
--- the outcome where a call is due
+-- the outcome if a call is due
 pub outcome_due : (f : List Told → Option Act) (left : List Command) (p : Place) → IsAt f left p → IsSome (f []) → outcome_at p ≡ outcomes.Running
 outcome_due f left p at some =
     let i = (at.at some).1 in

@@ -29,16 +29,16 @@ pub record AreListsOf (cs : List Command) (calls : List Told) (going : Option Ac
   pub begun : IsBegun (number_told lists) left last
   pub next : IfSome going (λ op. next_in left (number_told lists) last ≡ Some op)
 
--- steps as they are cut into calls: each is a go exactly where a call is pending
+-- steps as they are cut into calls: each is a go exactly if a call is pending
 unfoldable pub AreSteps : List Entry → Type 0
 AreSteps [] = Unit {0}
 AreSteps (x ∷ past) = (is_go x.act ≡ is_some (opening past)) × AreSteps past
 
--- steps are a run of a program exactly where their calls are such lists
+-- steps are a run of a program exactly if their calls are such lists
 abbrev pub RunsMeanWholeLists : Type 0
 RunsMeanWholeLists = (cs : List Command) (past : List Entry) → AreSteps past → IsRunOf cs past ↔ AreListsOf cs (finished past) (opening past)
 
--- in an accepted history the entries of w are a run of its program exactly where its calls are such lists
+-- in an accepted history the entries of w are a run of its program exactly if its calls are such lists
 abbrev pub FollowingMeansWholeLists : Type 0
 FollowingMeansWholeLists = (t : Tables) (programs : List (List Command)) (h : List Entry) (w : ℕ) → IsAccepted t (reverse h)
     → Follows programs h w ↔ AreListsOf (program_at programs w) (finished_by w (reverse h)) (op_of (under_way w (reverse h)))

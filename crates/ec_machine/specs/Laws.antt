@@ -29,7 +29,7 @@ AreWhole last [] (b ∷ lists) = ⊥
 AreWhole last (c ∷ cs) [] = ⊥
 AreWhole last (c ∷ cs) (b ∷ lists) = IsWholeOf last c b × AreWhole (last_number last b) cs lists
 
--- the calls are the beginning of a command's list, and not the whole; they are none where it has too large a value
+-- the calls are the beginning of a command's list, and not the whole; they are none if it has too large a value
 pub record IsBegunOf (last : ℕ) (c : Command) (calls : List Told) : Type 0 where
   pub asked : IsWritten (command_call last c) calls
   pub fits : has_large last c ≡ true → calls ≡ []

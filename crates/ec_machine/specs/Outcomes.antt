@@ -15,6 +15,6 @@ is_set outcomes.OutOfTurns = true
 is_set outcomes.Memory = true
 is_set _ = false
 
--- the outcome after `refuse`, which takes effect only where the program is running and the new outcome comes from outside
+-- the outcome after `refuse`, which takes effect only if the program is running and the new outcome comes from outside
 abbrev pub refused : Outcome → Outcome → Outcome
 refused old new = if is_running old && is_set new then new else old

@@ -19,7 +19,7 @@ use Rattle.ec_machine.specs.Written.{written}
 use Rattle.ec_machine.specs.Values.{value_of, values_of, has_large}
 use Rattle.ec_machine.specs.Steps.{finished, due_after, IsRun}
 
--- the number that was told last: this one, or `last` where it is none
+-- the number that was told last: this one, or `last` if it is none
 abbrev pub number_after : ℕ → Reply → ℕ
 number_after last (Number n) = n
 number_after last _ = last
@@ -70,7 +70,7 @@ next_in (c ∷ cs) last told = if has_large last c then None else command_call l
 abbrev pub next_call : Place → Option Act
 next_call p = next_in p.left p.last p.told
 
--- where the first command has no call after these, the next command is due
+-- if the first command has no call after these, the next command is due
 abbrev pub moved : List Command → ℕ → List Told → Place
 moved [] last told = record { left = []; last = last; told = told }
 moved (c ∷ cs) last told =

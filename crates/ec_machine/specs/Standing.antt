@@ -19,7 +19,7 @@ pub record IsIn (calls : List Told → Option Act) (left : List Command) (p : Pl
   pub fits : has_large p.last c ≡ false
   pub rest : (more : List Told) → calls more ≡ command_call p.last c (p.told ++ more)
 
--- the calls are what is due at a place; where they are some, they are what is left of its first command
+-- the calls are what is due at a place; if they are some, they are what is left of its first command
 pub record IsAt (calls : List Told → Option Act) (left : List Command) (p : Place) : Type 0 where
   pub due : next_call p ≡ calls []
   pub at : IsSome (calls []) → (c : Command) × IsIn calls left p c
@@ -36,7 +36,7 @@ is_refused m = is_set m.outcome
 abbrev pub act_of : Machine → Option Act
 act_of m = next_of (task_going m.task) (task_rest m.task [])
 
--- the machine stands for a run of the program: the last number, and, where nothing ended it from outside, its outcome, the
+-- the machine stands for a run of the program: the last number, and, if nothing ended it from outside, its outcome, the
 -- pending call and the calls that are left, are those after these steps
 pub record StandsFor (cs : List Command) (m : Machine) (past : List Entry) : Type 0 where
   pub run : IsRunOf cs past

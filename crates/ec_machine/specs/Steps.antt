@@ -10,7 +10,7 @@ use Rattle.ec_core.specs.Calls.{is_pending}
 use Rattle.ec_core.specs.Following.{Told}
 use Rattle.ec_core.specs.Procedures.{next_of}
 
--- the act that began the call that an act is part of, where this one began the pending call
+-- the act that began the call that an act is part of, if this one began the pending call
 abbrev pub begun_by : Act → Option Act → Act
 begun_by Go None = Go
 begun_by Go (Some op) = op
@@ -29,7 +29,7 @@ finished (x ∷ past) =
     then finished past
     else finished past ++ record { op = begun_by x.act (opening past); reply = x.reply } ∷ []
 
--- the act that a written list of calls has next: Go where a call is pending
+-- the act that a written list of calls has next: Go if a call is pending
 abbrev pub due_after : (List Told → Option Act) → List Entry → Option Act
 due_after list past = next_of (is_some (opening past)) (list (finished past))
 

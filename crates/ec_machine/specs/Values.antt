@@ -1,4 +1,4 @@
--- The numbers that a command's values mean, where `last` is the number of the last completed call that answered
+-- The numbers that a command's values mean, if `last` is the number of the last completed call that answered
 -- one.
 use Rattle.std.specs.Prelude.{ℕ, ◌+◌, Bool, false, nat_lt, List, map}
 use Rattle.std.specs.List.{list_any}

@@ -9,13 +9,13 @@ pub fn runs_are_of_whole_lists()
     ensures { RunsAreOfWholeLists }
 {}
 
-/// Steps are a run of a program exactly where their completed calls are such lists, and the pending
+/// Steps are a run of a program exactly if their completed calls are such lists, and the pending
 /// call is the one that comes next.
 pub fn runs_mean_whole_lists()
     ensures { RunsMeanWholeLists }
 {}
 
-/// States that in an accepted history the entries of a worker follow its program exactly where its
+/// States that in an accepted history the entries of a worker follow its program exactly if its
 /// completed calls are such lists, and its pending call is the one that comes next.
 pub fn following_means_whole_lists()
     ensures { FollowingMeansWholeLists }

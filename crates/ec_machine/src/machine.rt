@@ -70,7 +70,7 @@ impl<'a> Machine<'a> {
         }
     }
 
-    /// Returns the act that is due: Go where the last reply was Pending. None once the program has
+    /// Returns the act that is due: Go if the last reply was Pending. None once the program has
     /// ended.
     pub fn next(&self) -> Option<Act>
         ensures value { result ≡ act_of self.now }
@@ -105,7 +105,7 @@ impl<'a> Machine<'a> {
         }
     }
 
-    /// Ends the program from outside. It takes effect only where the outcome is Running and the new
+    /// Ends the program from outside. It takes effect only if the outcome is Running and the new
     /// one is Refused, Stopped, OutOfTurns or Memory.
     pub fn refuse(&mut self, outcome: Outcome)
         ensures outcome { kept_outcome self.new ≡ refused (kept_outcome self.old) outcome }

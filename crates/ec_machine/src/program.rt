@@ -31,7 +31,7 @@ impl Model for Program {
 }
 
 impl Program {
-    /// Returns a program of these commands, where they keep the limits: at most 4096 commands,
+    /// Returns a program of these commands, if they keep the limits: at most 4096 commands,
     /// repeats among them, and at most four repeats in one another; each count of a repeat from 1
     /// to 1000000, and a command in each block; as many values of a WriteAll as cells; from 1 to
     /// 1000 tries of a Snapshot; three different semaphores of a DownBoth, the common one with

@@ -53,7 +53,7 @@ fn push_rest<'a>(
     }
 }
 
-/// Returns the first plain command of those that a command stands for. Where the command is a
+/// Returns the first plain command of those that a command stands for. If the command is a
 /// repeat, frames for what remains of it are added.
 fn enter<'a>(frames: &mut ArrayVec<Frame<'a>, 5>, command: &'a Command) -> &'a Command
     requires fit { FramesFit 0 frames.old.items }

@@ -26,7 +26,7 @@ use ec_core::{Act, VALUE_MAX};
 use ec_database::{DatabaseShape, Snapshot, WriteAll};
 use ec_semaphore::{Down, DownBoth, Up};
 
-/// Returns the act that a command is, where it is one and its value is not too large.
+/// Returns the act that a command is, if it is one and its value is not too large.
 fn act_of(last: u64, command: &Command) -> Act
     requires last { last ≤ VALUE_MAX }
     requires sound { is_sound_one command.now ≡ true }

@@ -10,7 +10,7 @@ use crate::{Command, Value};
 use arrayvec::ArrayVec;
 use ec_core::VALUE_MAX;
 
-/// Returns the number that a value means, where the last number told is `last`.
+/// Returns the number that a value means, if the last number told is `last`.
 pub(crate) fn value_of(last: u64, value: &Value) -> u64
     requires last { last ≤ VALUE_MAX }
     requires sound { is_value value.now ≡ true }

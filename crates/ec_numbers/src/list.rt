@@ -52,7 +52,7 @@ fn widened(list: &Vec<u32>) -> Result<Vec<u64>, AllocError>
     Ok(wide)
 }
 
-/// Makes room for one more where there is none, and changes nothing where there is.
+/// Makes room for one more if there is none, and changes nothing if there is.
 #[inline(always)]
 fn make_room_in<T: Copy>(list: &mut Vec<T>) -> Result<(), AllocError>
     ensures items { list.new.items ≡ list.old.items }
@@ -146,8 +146,8 @@ impl NumberList {
         Ok(())
     }
 
-    /// Makes room for this number. Where there is room for it already, nothing changes; there is
-    /// none where the list is full, or where this is its first number that needs 64 bits.
+    /// Makes room for this number. If there is room for it already, nothing changes; there is
+    /// none if the list is full, or where this is its first number that needs 64 bits.
     #[inline(always)]
     pub fn make_room(&mut self, number: u64) -> Result<(), AllocError>
         ensures same { self.new.list ≡ self.old.list }
@@ -179,7 +179,7 @@ impl NumberList {
         }
     }
 
-    /// Adds one at the end, or changes nothing. Where there is room for it, it stands in that room.
+    /// Adds one at the end, or changes nothing. If there is room for it, it stands in that room.
     #[inline(always)]
     pub fn push(&mut self, number: u64) -> Result<(), AllocError>
         ensures ok { OnOk result (self.new.list ≡ self.old.list ++ number ∷ []) }
@@ -193,7 +193,7 @@ impl NumberList {
         Ok(())
     }
 
-    /// Puts one in at a place, which is mostly behind the last, where there is room for it. It
+    /// Puts one in at a place, which is mostly behind the last, if there is room for it. It
     /// takes no memory.
     pub fn insert(&mut self, place: usize, number: u64)
         requires room { HasRoom self.old number }

@@ -143,7 +143,7 @@ pub dates_due : (k : ℕ) (ms : List Bool) (xs : List Entry) (rs : List Dated) (
     → dates k ms xs (drop i rs) ≡ d ∷ dates k ms xs (drop (i + 1) rs)
 dates_due k ms xs rs i d at due = due_next (due_moment (read_comes ms xs)) k (dates_on k ms xs) rs i d at due
 
--- where none is due, a whole call does
+-- if none is due, a whole call does
 pub dates_own : (k : ℕ) (ms : List Bool) (x : Entry) (xs : List Entry) (rs : List Dated) (i : ℕ) → NoneDue rs i k (read_comes (true ∷ ms) (x ∷ xs))
     → dates k (true ∷ ms) (x ∷ xs) (drop i rs) ≡ record { point = k; entry = x } ∷ dates (k + 1) ms xs (drop i rs)
 unfolding dates_on

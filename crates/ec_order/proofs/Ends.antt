@@ -24,7 +24,7 @@ pub record Shows (o : SequentialState) (past : List Entry) : Type 0 where
   pub sequencers : (q : ℕ) → o.sequencers q ≡ issued q past
   pub cells : (x : ℕ) → o.cells x ≡ cell_value x past
 
--- where the number is the one answered, the sequential object answers so
+-- if the number is the one answered, the sequential object answers so
 abbrev pub IsTold : Act → Reply → Type 0
 IsTold op reply = (o : SequentialState) → o.events (event_or op) ≡ number_of reply → sequential_reply o op ≡ Some reply
 
@@ -68,7 +68,7 @@ read_told t op past rest reply some r h p =
       | false ↦ λ e g. cc
     ] refl h
 
--- WHAT AN ENTRY ENDS, where o is the call of its worker that was under way
+-- WHAT AN ENTRY ENDS, if o is the call of its worker that was under way
 
 abbrev pub IsQuiet : Act → Type 0
 IsQuiet act = (o : SequentialState) → sequential_after o act ≡ o

@@ -36,7 +36,7 @@ own_entries_is w whole q h =
 
 -- EACH FINISHED CALL IS CUT SO
 
--- the call that x ends, where these are its entries
+-- the call that x ends, if these are its entries
 module _ (t : Tables) (whole : List Entry) (op : Act) (x : Entry) (p : List Entry) (rest : List (List Entry))
     (in' : IsPastOf (x ∷ p) whole) (final : is_pending x.reply ≡ false) (k : IsWhole x.worker op x p rest) where
   abbrev the_call : Call
@@ -73,7 +73,7 @@ module _ (t : Tables) (whole : List Entry) (op : Act) (x : Entry) (p : List Entr
         round = round;
       }
 
-  -- the last round, where it is whole
+  -- the last round, if it is whole
   pub last_round : suc (length rest % width t (event_or op)) ≡ width t (event_or op) → IsLastRound t (reverse whole) the_call
   last_round whole_is =
       let w = x.worker in

@@ -19,7 +19,7 @@ below_low (suc n) (suc l) w le ge lt =
     let more : nat_le w 1 ≡ false = grind arith in
     rw (more, below_low n l (w / 2) (omega arith) (omega arith) (omega arith)) refl
 
--- one more, where there is room for it
+-- one more, if there is room for it
 more_low : (l w b : ℕ) → b < 2 → low_marks (suc l) (w * 2 + b) ≡ low_marks l w ++ (b == 1) ∷ []
 unfolding low_marks
 more_low l w b lt =

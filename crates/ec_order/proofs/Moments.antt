@@ -145,7 +145,7 @@ long_here : (t : Tables) (past : List Entry) (k : ℕ) → at_moment (long_readi
 long_here t past k =
     moment_reads k (long_readings t past) (long_read t past) ∙ filter_within (reads_at k) is_long (readings t past) ∙ filter_within (λ p. is_long p && reads_at k p) reads (placed t past)
 
--- what is so at a moment, where these are all calls and the long ones, and this is its entry
+-- what is so at a moment, if these are all calls and the long ones, and this is its entry
 pub record IsMoment (all longs : List Placed) (k : ℕ) (x : Entry) : Type 0 where
   pub calls : at_moment all k ≡ told_calls k x ++ (at_moment longs k ++ own_calls k x)
   pub whole : is_alone x.act ≡ true → stands_alone x ≡ true

@@ -82,7 +82,7 @@ readers_next : (e : ℕ) (x : Entry) (past : List Entry) → x.worker < 16 → r
 readers_next e x past lt =
     sum_but_one (λ w. one_if e (under_way w (x ∷ past))) (λ w. one_if e (under_way w past)) x.worker 16 lt (λ w other. ap (one_if e) (call_other w x past other))
 
--- where there is none, no call of a worker is one
+-- if there is none, no call of a worker is one
 pub none_reads : (e : ℕ) (past : List Entry) (w : ℕ) (call : CallSoFar) → readers e past ≡ 0 → w < 16 → under_way w past ≡ Some call → is_reading_of e call.op ≡ true → ⊥
 none_reads e past w call none lt is reads =
     let zero_here : one_if e (under_way w past) ≡ 0 = sum_none (λ v. one_if e (under_way v past)) 16 w none lt in

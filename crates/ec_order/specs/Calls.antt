@@ -1,6 +1,6 @@
 -- Completed calls. A worker's entries are cut, in order, into calls: a read or an await goes on with that worker's
 -- following goes, up to its first entry whose reply is not Pending; every other act is a call of one entry. A call is
--- finished where its last reply is not Pending. A past is the list of the entries before a moment, the newest first.
+-- finished if its last reply is not Pending. A past is the list of the entries before a moment, the newest first.
 use Rattle.std.specs.Prelude.{◌≡◌, ℕ, ◌-◌, Bool, true, false, not, ◌&&◌, List, [], ◌∷◌, ◌++◌, length, Option, Some, None, if◌then◌else◌}
 use Rattle.std.specs.Option.{option_map, option_to_list}
 use Rattle.ec_count.specs.Tables.{Tables}
@@ -26,12 +26,12 @@ is_reading _ = false
 abbrev pub stands_alone : Entry → Bool
 stands_alone x = not (is_go x.act) && not (is_pending x.reply)
 
--- the number that a reply tells; 0 where it tells none
+-- the number that a reply tells; 0 if it tells none
 abbrev pub number_of : Reply → ℕ
 number_of (Number n) = n
 number_of _ = 0
 
--- the call whose last entry is x, begun by op, where the pasts of its entries are these, the newest first. An entry
+-- the call whose last entry is x, begun by op, if the pasts of its entries are these, the newest first. An entry
 -- stands at the position that is the length of its past
 abbrev pub call_of_entries : Tables → Entry → Act → List (List Entry) → Call
 call_of_entries t x op moments = record {
@@ -43,7 +43,7 @@ call_of_entries t x op moments = record {
   last = position_of moments 0;
 }
 
--- the call that x ends, where this is the call of its worker with x: none where it is told Pending
+-- the call that x ends, if this is the call of its worker with x: none if it is told Pending
 abbrev pub ended_by : Tables → Entry → Option CallSoFar → List Call
 ended_by t x None = []
 ended_by t x (Some call) = if is_pending x.reply then [] else call_of_entries t x call.op call.moments ∷ []
@@ -65,6 +65,6 @@ pub record EndsCall (t : Tables) (past : List Entry) (x : Entry) (told : Option 
   pub call : ended_by t x (call_with x past) ≡ option_to_list told
   pub after : AreCalls t calls (x ∷ past)
 
--- the same after any past that has the pending calls before it, where the entry stands at position i
+-- the same after any past that has the pending calls before it, if the entry stands at position i
 pub record Ending (before : List (Option Ongoing)) (i : ℕ) (x : Entry) (told : Option Call) (calls : List (Option Ongoing)) (t : Tables) : Type 0 where
   pub ends : (past : List Entry) → IsAccepted t past → i ≡ length past → AreCalls t before past → EndsCall t past x told calls

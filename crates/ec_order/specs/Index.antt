@@ -27,7 +27,7 @@ moments_in lists e = slice_index_or (map (λ v. v.list) lists) e []
 abbrev pub IsIndex : List Entry → List KeptNumbers → Type 0
 IsIndex past lists = (e : ℕ) → e < 32 → moments_in lists e ≡ advanced e past
 
--- the point of a call, where these are the moments after the advances of its eventcount
+-- the point of a call, if these are the moments after the advances of its eventcount
 abbrev pub point_by : List ℕ → Call → ℕ
 point_by moments c = if is_reading c.op then max c.round (moment_of moments (number_of c.reply)) else c.last
 

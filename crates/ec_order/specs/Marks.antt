@@ -7,7 +7,7 @@ unfoldable pub low_marks : ℕ → ℕ → List Bool
 low_marks zero word = []
 low_marks (suc n) word = low_marks n (word / 2) ++ (word % 2 == 1) ∷ []
 
--- those below the highest bit that is one, where so many are looked at
+-- those below the highest bit that is one, if so many are looked at
 unfoldable pub marks_below : ℕ → ℕ → List Bool
 marks_below zero word = []
 marks_below (suc n) word = if nat_le word 1 then [] else marks_below n (word / 2) ++ (word % 2 == 1) ∷ []

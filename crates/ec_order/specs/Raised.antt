@@ -28,7 +28,7 @@ pub record Raised : Type 0 where
 abbrev pub moment_since : Raised → ℕ → ℕ
 moment_since k r = if nat_le r k.before then 0 else slice_index k.moments (r - k.before - 1)
 
--- one more advance: where nobody reads it is counted, and else the moment after it is kept
+-- one more advance: if nobody reads it is counted, and else the moment after it is kept
 pub record IsRaisedOnce (old : Raised) (moment : ℕ) (new : Raised) : Type 0 where
   pub unread : old.readers ≡ 0 → old.before + 1 < 2 ^ 64 → new ≡ record old { before = old.before + 1 }
   pub read : 0 < old.readers → new ≡ record old { moments = old.moments ++ moment ∷ [] }
@@ -79,7 +79,7 @@ AreRaised kept past = (e : ℕ) → e < 32 → (k : Raised) × (slice_get kept e
 
 -- WITH ONE MORE ENTRY
 
--- the eventcount that a call with this opening was pending on, where an entry with this act ends it: one that is told at once never was
+-- the eventcount that a call with this opening was pending on, if an entry with this act ends it: one that is told at once never was
 abbrev pub left_of : Act → Act → Option ℕ
 left_of Go op = read_of op
 left_of _ op = None

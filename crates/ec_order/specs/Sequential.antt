@@ -1,4 +1,4 @@
--- The sequential object: one number for each eventcount, sequencer and cell, all 0 at first, where each call is one
+-- The sequential object: one number for each eventcount, sequencer and cell, all 0 at first, if each call is one
 -- step.
 use Rattle.std.specs.Prelude.{◌≡◌, ℕ, ◌+◌, ◌==◌, nat_le, List, [], ◌∷◌, Option, Some, None, if◌then◌else◌}
 use Rattle.ec_core.specs.declared.act.Act.{Act}
@@ -17,7 +17,7 @@ abbrev pub zero_state : SequentialState
 zero_state = record { events = λ e. 0; sequencers = λ q. 0; cells = λ x. 0 }
 
 -- what a call is answered: an advance, a put and a hand are done; a read gives the number, and so does an await, which is
--- possible only where the number has reached its threshold; a ticket and a get give theirs. No call begins with a go
+-- possible only if the number has reached its threshold; a ticket and a get give theirs. No call begins with a go
 abbrev pub sequential_reply : SequentialState → Act → Option Reply
 sequential_reply s (Advance e) = Some Done
 sequential_reply s (Read e) = Some (Number (s.events e))

@@ -93,12 +93,12 @@ abbrev pub read_comes : List Bool → List Entry → Bool
 read_comes (true ∷ marks) (x ∷ alone) = not (is_alone x.act)
 read_comes marks alone = false
 
--- the moment at which a read or an await of more entries comes: that of its point, but the one after it where it waits for a read or an
+-- the moment at which a read or an await of more entries comes: that of its point, but the one after it if it waits for a read or an
 -- await that is a whole call, and so has its point there and ends no later
 abbrev pub due_moment : Bool → Dated → ℕ
 due_moment waits d = if waits then d.point + 1 else d.point
 
--- what comes after those that are due at moment k, where these are the entries from position k on, and the reads and awaits of more
+-- what comes after those that are due at moment k, if these are the entries from position k on, and the reads and awaits of more
 -- entries that are left
 unfoldable pub dates_on : ℕ → List Bool → List Entry → List Dated → List Dated
 dates_on k [] alone readings = []

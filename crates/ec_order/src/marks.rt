@@ -140,7 +140,7 @@ impl<'a> MarksLeft<'a> {
 }
 
 /// Returns the first of the marks that are left. (It is handed their parts, so that these may stand
-/// in registers where they are gone on with.)
+/// in registers if they are gone on with.)
 #[cold]
 #[inline(never)]
 fn first_mark(words: &[u64], last: u64, place: usize, word: u64, left: u32) -> Option<bool>

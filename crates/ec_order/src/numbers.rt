@@ -47,7 +47,7 @@ impl Numbers {
         self.reply(call.op) == Some(call.reply)
     }
 
-    /// Returns what a call is answered now; none where it is not possible.
+    /// Returns what a call is answered now; none if it is not possible.
     fn reply(&self, op: Act) -> Option<Reply>
         ensures named { IsNamed op }
         ensures value { result ≡ reply_in self.now op }

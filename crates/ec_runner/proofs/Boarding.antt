@@ -282,7 +282,7 @@ none_waits : (b : Bool) (s : Seat) (e v : ℕ) → s ≡ cond b Running Gone →
 none_waits true s e v is waits = (let no : Running ≡ Waiting e v = sym is ∙ waits in cc)
 none_waits false s e v is waits = (let no : Gone ≡ Waiting e v = sym is ∙ waits in cc)
 
--- the seat of a worker, where the first n are live
+-- the seat of a worker, if the first n are live
 seat_there : (seats : List Seat) (n w : ℕ) (s : Seat) → length seats ≡ 16 → ((v : ℕ) → v < 16 → slice_get seats v ≡ Some (cond (nat_lt v n) Running Gone))
     → slice_get seats w ≡ Some s → s ≡ cond (nat_lt w n) Running Gone
 seat_there seats n w s long is at =
@@ -290,7 +290,7 @@ seat_there seats n w s long is at =
     let both : Some s ≡ Some (cond (nat_lt w n) Running Gone) = sym at ∙ is w (omega arith) in
     cc
 
--- where all who are declared are live and the flag is down, nobody waits
+-- if all who are declared are live and the flag is down, nobody waits
 pub opened : (b : Boarded) (n : ℕ) → n ≡ b.run.setup.workers → length b.seats ≡ 16 → ((w : ℕ) → w < 16 → slice_get b.seats w ≡ Some (cond (nat_lt w n) Running Gone))
     → b.stuck ≡ false → AreWaiters b
 opened b n all long is down = record {

@@ -554,7 +554,7 @@ one_waits e (s ∷ seats) (suc w) v at = or_right (waits_on e s) (list_any (wait
 holds_one : (n : ℕ) → 0 < n → not (n == 0) ≡ true
 holds_one n h = grind (arith, nat_tests)
 
--- somebody waits where the line isn't empty
+-- somebody waits if the line isn't empty
 pub line_tells : (e : ℕ) (seats : List Seat) (line : List Waiter) → IsLine e seats line → not (length line == 0) ≡ list_any (waits_on e) seats
 line_tells e seats [] is = sym (none_waits e seats (λ w v at. is.all w v at))
 line_tells e seats (x ∷ line) is = holds_one (length (x ∷ line)) (omega arith) ∙ sym (one_waits e seats x.worker x.threshold is.wait.0)

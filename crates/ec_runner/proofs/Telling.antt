@@ -40,7 +40,7 @@ entry_at run w cs turns (Some told) log outcome h a b =
     subst (λ (l : Vec Entry). IsTold run w cs turns l.items outcome) p
     (subst (λ (o : Outcome). IsTold run w cs turns told.log.items o) q (h told refl))
 
--- how a worker ended by its program and log, where the run bears it out
+-- how a worker ended by its program and log, if the run bears it out
 ended : (o : Outcome) (asked : Option Asked) (run : Recorded) (w : ℕ) (cs : List Command) (turns : ℕ) (log : List Entry) → own w run.entries ≡ log
     → EndsSo o cs turns log → IsAsked o cs log asked → IsBorneOut o run w asked → HasEnded o run w cs turns log
 ended outcomes.Running asked run w cs turns log entries e a b = absurd e
@@ -86,7 +86,7 @@ report_of t programs turns run tolds r many told fits is =
           (sym (slice_get-map outcome_in tolds w) ∙ ap (λ xs. slice_get xs w) (sym is.outcomes) ∙ q));
     }
 
--- the verdict on what workers told of their programs, where it is a report
+-- the verdict on what workers told of their programs, if it is a report
 pub verdict_report : (t : Tables) (programs : List (List Command)) (turns : ℕ) (run : Recorded) (tolds : List Told) (r : Result Report RunFault) → length programs ≡ t.workers
     → AreToldOf programs turns tolds → IsVerdict r t run tolds → IfOk r (IsReportOf t programs turns)
 verdict_report t programs turns run tolds (Ok r) many told v = report_of t programs turns run tolds r many told v.0 v.1

@@ -100,7 +100,7 @@ others_stay (next.GoOn reply) b d w act may_park quiet h v not = made_stays b d 
 others_stay (next.Sleep reply) b d w act may_park quiet h v not = made_stays b d w v act may_park reply quiet not h.0
 others_stay (next.Leave outcome moment) b d w act may_park quiet h v not = ap (λ (c : Boarded). slice_get c.seats v) h.0
 
--- who is woken where nobody else's seat is changed, by the flags before and after
+-- who is woken if nobody else's seat is changed, by the flags before and after
 woken_by : (b d : Boarded) (w : ℕ) (s t : Bool) → b.stuck ≡ s → d.stuck ≡ t → ((v : ℕ) → w ≢ v → slice_get d.seats v ≡ slice_get b.seats v) → (v : ℕ)
     → is_woken b w d v ≡ (not (v == w) && ((is_waiting (seat_of d.seats v) && not s) && not (is_waiting (seat_of d.seats v) && not t)))
 woken_by b d w s t was is same v =
@@ -131,7 +131,7 @@ sleeps_on false y = refl
 sleeps_on true false = refl
 sleeps_on true true = refl
 
--- nor where the board is not stuck yet
+-- nor if the board is not stuck yet
 pub none_released : (b d : Boarded) (w : ℕ) → b.stuck ≡ false → d.stuck ≡ false → ((v : ℕ) → w ≢ v → slice_get d.seats v ≡ slice_get b.seats v)
     → (v : ℕ) → is_woken b w d v ≡ false
 none_released b d w was is same v =
@@ -142,7 +142,7 @@ sleeps_no_more false y = refl
 sleeps_no_more true false = refl
 sleeps_no_more true true = refl
 
--- where it has come to be stuck, all who wait are
+-- if it has come to be stuck, all who wait are
 pub all_released : (b d : Boarded) (w : ℕ) → b.stuck ≡ false → d.stuck ≡ true → ((v : ℕ) → w ≢ v → slice_get d.seats v ≡ slice_get b.seats v)
     → (v : ℕ) → is_woken b w d v ≡ (not (v == w) && is_waiting (seat_of d.seats v))
 all_released b d w was is same v =

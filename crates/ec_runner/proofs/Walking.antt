@@ -40,7 +40,7 @@ take_next xs k x is =
 pub index_is : (tolds : List Told) (w : ℕ) (told : Told) → told ≡ get_or tolds w told → w < length tolds → slice_get tolds w ≡ Some told
 index_is tolds w told is within = slice_get-get_or tolds w told within ∙ ap (λ t. Some t) (sym is)
 
--- where the entry at a place is another worker's, a worker has no more entries after it
+-- if the entry at a place is another worker's, a worker has no more entries after it
 pub none_there : (w : ℕ) (h : List Entry) (k : ℕ) (x : Entry) → slice_get h k ≡ Some x → (x.worker == w) ≡ false → own w (take (k + 1) h) ≡ own w (take k h)
 none_there w h k x is not = ap (own w) (take_next h k x is) ∙ own_same w (take k h) x not
 
@@ -94,7 +94,7 @@ walks tolds cursors done x told h small is next =
       ];
     }
 
--- where each log is gone through to its end, the entries gone through are those of the logs
+-- if each log is gone through to its end, the entries gone through are those of the logs
 pub all_walked : (tolds : List Told) (cursors : List ℕ) (done : List Entry) → AreWalked tolds cursors done
     → ((w : ℕ) (told : Told) → slice_get tolds w ≡ Some told → slice_index cursors w ≡ length told.log.items)
     → AreLogsOf tolds done
@@ -166,7 +166,7 @@ own_at w (y ∷ h) (suc k) x is mine =
       | false ↦ own_at w h k x is mine
     ]
 
--- where the entry at a place is the worker's own, it had not made all its steps before
+-- if the entry at a place is the worker's own, it had not made all its steps before
 pub more_there : (w : ℕ) (h : List Entry) (k : ℕ) (x : Entry) → slice_get h k ≡ Some x → (x.worker == w) ≡ true → own w (take k h) ≢ own w h
 more_there w h k x is mine = λ same.
     (let within : length (own w (take k h)) < length (own w h) = slice_get_within (own w h) (length (own w (take k h))) x (own_at w h k x is mine) in

@@ -106,7 +106,7 @@ ends_so cs m turns log o works had is =
     subst (λ (v : Outcome). EndsSo v cs turns log) (sym is)
     (ends (kept_outcome m) cs turns log works.stopped works.stands.outcome works.turns_left had.each)
 
--- what was asked for stays so where the turns are over
+-- what was asked for stays so if the turns are over
 pub asked_still : (o : Outcome) (cs : List Command) (log : List Entry) (asked : Option Asked) → IsAsked o cs log asked → IsAsked (refused o outcomes.OutOfTurns) cs log asked
 asked_still outcomes.Running cs log asked h = tt
 asked_still outcomes.Finished cs log asked h = tt

@@ -6,7 +6,7 @@ use Rattle.ec_runner.specs.declared.board.BoardFault.TheVariants.{Stopped, Refus
 use Rattle.ec_runner.specs.Boarded.{Boarded, is_stopped, answer_on}
 
 -- a worker that is stopped is told so, whatever it asks for; else it is told the refusal; and memory is wanted only
--- where the step is right
+-- if the step is right
 abbrev pub IsBoardFault : BoardFault → Boarded → ℕ → Act → Type 0
 IsBoardFault Stopped b w act = is_stopped b w ≡ true
 IsBoardFault (Refused r) b w act = (is_stopped b w ≡ false) × (answer_on b w act ≡ Err r)

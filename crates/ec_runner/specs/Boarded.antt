@@ -35,16 +35,16 @@ short_at act c = None
 abbrev pub fallen_short : Tables → CallSoFar → Option Wait
 fallen_short t call = short_at call.op (next_component t (event_or call.op) call.moments)
 
--- the await of w whose last round fell short, where w's latest entry ended it
+-- the await of w whose last round fell short, if w's latest entry ended it
 abbrev pub awaited : Tables → ℕ → List Entry → Option Wait
 awaited t w past = option_and_then (fallen_short t) (under_way w past)
 
--- the same where the total of its eventcount has not come to its threshold since
+-- the same if the total of its eventcount has not come to its threshold since
 abbrev pub unmet : List Entry → Option Wait → Option Wait
 unmet past None = None
 unmet past (Some a) = if nat_lt (total a.event past) a.threshold then Some a else None
 
--- what an active worker has to wait for; nothing where it may go on
+-- what an active worker has to wait for; nothing if it may go on
 abbrev pub wait_of : Boarded → ℕ → Option Wait
 wait_of b w = if is_live (seat_of b.seats w) then unmet (past_of b.run) (awaited b.run.setup w (past_of b.run)) else None
 
@@ -57,7 +57,7 @@ pub record AreWaiters (b : Boarded) : Type 0 where
   pub above : (w e v : ℕ) → slice_get b.seats w ≡ Some (Waiting e v) → total e (past_of b.run) < v
   pub all : b.stuck ≡ true → every_live_waits b.seats ≡ true
 
--- the board where w has another seat: the flag is set where now some worker is active and every active worker waits,
+-- the board where w has another seat: the flag is set if now some worker is active and every active worker waits,
 -- and is never cleared
 abbrev pub with_seat : Boarded → ℕ → Seat → Boarded
 with_seat b w seat =

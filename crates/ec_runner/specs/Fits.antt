@@ -34,7 +34,7 @@ abbrev pub IsAtEnd : Option Asked → Recorded → Type 0
 IsAtEnd None run = ⊥
 IsAtEnd (Some a) run = a.moment ≡ length run.entries
 
--- the run bears out why the program of w was cut off. Who is stopped is so where the board is deadlocked, so at the end of
+-- the run bears out why the program of w was cut off. Who is stopped is so if the board is deadlocked, so at the end of
 -- the run
 abbrev pub IsBorneOut : Outcome → Recorded → ℕ → Option Asked → Type 0
 IsBorneOut (outcomes.Refused r) run w asked = WasRefusedSo run w r asked
@@ -61,7 +61,7 @@ abbrev pub IsRightAt : Outcome → Option Asked → Recorded → ℕ → ℕ →
 IsRightAt (outcomes.Refused r) asked run k w = IsRightThen asked run k w r
 IsRightAt _ asked run k w = Unit {0}
 
--- the moment that w tells of, 0 where it was not refused
+-- the moment that w tells of, 0 if it was not refused
 abbrev pub asked_at : Option Asked → ℕ
 asked_at None = 0
 asked_at (Some a) = a.moment
@@ -102,7 +102,7 @@ pub record IsOf (run : Recorded) (tolds : List Told) (r : Report) : Type 0 where
   pub logs : r.logs.items ≡ map (λ (d : Told). d.log) tolds
   pub outcomes : r.outcomes.items ≡ map (λ (d : Told). d.outcome) tolds
 
--- THE VERDICT: a report or want of memory where all fits, and the mismatch where something doesn't
+-- THE VERDICT: a report or want of memory if all fits, and the mismatch if something doesn't
 abbrev pub IsVerdict : Result Report RunFault → Tables → Recorded → List Told → Type 0
 IsVerdict (Ok r) t run tolds = AllFit t run tolds × IsOf run tolds r
 IsVerdict (Err (faults.Mismatch w)) t run tolds = IsMismatch t run tolds w

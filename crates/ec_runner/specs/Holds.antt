@@ -28,12 +28,12 @@ is_asleep b w = is_waiting (seat_of b.seats w) && not b.stuck
 abbrev pub is_woken : Boarded → ℕ → Boarded → ℕ → Bool
 is_woken b w d v = not (v == w) && (is_asleep b v && not (is_asleep d v))
 
--- just those are woken, and nobody where there is no table
+-- just those are woken, and nobody if there is no table
 abbrev pub AreWoken : Option (List Bool) → Boarded → ℕ → Boarded → Type 0
 AreWoken None b w d = (v : ℕ) → v < 16 → is_woken b w d v ≡ false
 AreWoken (Some table) b w d = (v : ℕ) → v < 16 → slice_get table v ≡ Some (is_woken b w d v)
 
--- the board where w waits for what it has to wait for
+-- the board if w waits for what it has to wait for
 abbrev pub waiting_for : Boarded → ℕ → Option Wait → Boarded
 waiting_for b w None = b
 waiting_for b w (Some a) = with_seat b w (Waiting a.event a.threshold)
@@ -46,7 +46,7 @@ abbrev pub is_awaited : Act → List Seat → Bool
 is_awaited (Advance e) seats = list_any (waits_on e) seats
 is_awaited _ seats = false
 
--- the board after a step of w that was answered: where the answer is Pending and w may wait, it parks
+-- the board after a step of w that was answered: if the answer is Pending and w may wait, it parks
 abbrev pub after_hold : Boarded → ℕ → Act → Bool → Reply → Boarded
 after_hold b w act may_park reply =
     let d = after_entry b (record { worker = w; act = act; reply = reply }) in
@@ -66,7 +66,7 @@ IsHalt (outcomes.Refused r) b w act = (is_stopped b w ≡ false) × (answer_on b
 IsHalt outcomes.Memory b w act = (is_stopped b w ≡ false) × IsOk (answer_on b w act)
 IsHalt _ b w act = ⊥
 
--- ONE HOLD: what w does next, where it asked the board b for an act and the board is d after it. Where it got no reply, that
+-- ONE HOLD: what w does next, if it asked the board b for an act and the board is d after it. If it got no reply, that
 -- comes with how many entries the run had
 abbrev pub IsNext : Next → Boarded → ℕ → Act → Bool → Boarded → Type 0
 IsNext (next.GoOn reply) b w act may_park d = IsMade reply b w act may_park d × (is_asleep d w ≡ false)

@@ -35,7 +35,7 @@ placed y (x ∷ xs) = if comes_before x y then x ∷ placed y xs else y ∷ x �
 abbrev pub without : ℕ → List Waiter → List Waiter
 without w line = filter (λ x. not (x.worker == w)) line
 
--- the first in line, where the total has come to its threshold
+-- the first in line, if the total has come to its threshold
 abbrev pub first_reached : ℕ → List Waiter → Option Waiter
 first_reached sum [] = None
 first_reached sum (x ∷ xs) = if nat_le x.threshold sum then Some x else None

@@ -23,7 +23,7 @@ AreFor [] (cs ∷ programs) turns = ⊥
 AreFor (h ∷ hs) [] turns = ⊥
 AreFor (h ∷ hs) (cs ∷ programs) turns = IsFor h cs turns × AreFor hs programs turns
 
--- what a thread told: what it was to, and nothing where it was not started
+-- what a thread told: what it was to, and nothing if it was not started
 abbrev pub IsJoined : Option Handle → Option Told → Type 0
 IsJoined None None = Unit {0}
 IsJoined None (Some t) = ⊥
@@ -43,7 +43,7 @@ lacks_one [] = false
 lacks_one (None ∷ hs) = true
 lacks_one (Some h ∷ hs) = lacks_one hs
 
--- what comes of the joins: Spawn exactly where a thread was not started, and else Memory only where there was none
+-- what comes of the joins: Spawn exactly if a thread was not started, and else Memory only if there was none
 abbrev pub AreJoined : List (Option Handle) → Result (Vec Told) RunFault → Type 0
 AreJoined hs (Ok tolds) = AreKept hs tolds.items
 AreJoined hs (Err faults.Spawn) = lacks_one hs ≡ true

@@ -35,7 +35,7 @@ pub record WasRefused (run : Recorded) (w : ℕ) (cs : List Command) (log : List
   pub whole : own w (take moment run.entries) ≡ log
   pub refused : answer_of run.setup (past_at moment run.entries) w act ≡ Err r
 
--- what more there is to say of a worker whose program had not ended after its log, where there were so many turns
+-- what more there is to say of a worker whose program had not ended after its log, if there were so many turns
 abbrev pub IsCutOff : Outcome → Recorded → ℕ → List Command → ℕ → List Entry → Type 0
 IsCutOff (outcomes.Refused r) run w cs turns log = WasRefused run w cs log r
 IsCutOff outcomes.Stopped run w cs turns log = IsCaught run w
@@ -64,7 +64,7 @@ pub record IsReportOf (t : Tables) (programs : List (List Command)) (turns : ℕ
   pub told : (w : ℕ) (log : Vec Entry) (outcome : Outcome) → slice_get r.logs.items w ≡ Some log → slice_get r.outcomes.items w ≡ Some outcome
       → IsTold r.run w (program_at programs w) turns log.items outcome
 
--- a worker that is named in place of a report is a declared one, where any is declared
+-- a worker that is named in place of a report is a declared one, if any is declared
 abbrev pub NamesDeclared : Tables → RunFault → Type 0
 NamesDeclared t (faults.Mismatch w) = 0 < t.workers → w < t.workers
 NamesDeclared t faults.Spawn = Unit {0}

@@ -15,7 +15,7 @@ use Rattle.ec_machine.specs.Runs.{next_act, outcome_of}
 use Rattle.ec_machine.specs.Steps.{own}
 use Rattle.ec_runner.specs.Schedules.{Turn, Plays, HasEnded, entries_of, outcome_after}
 
--- THE PLACES OF A SCHEDULE, each with a mark: the refusal that was told there, or none where an entry was made
+-- THE PLACES OF A SCHEDULE, each with a mark: the refusal that was told there, or none if an entry was made
 
 -- how many of these places made an entry
 abbrev pub made : List (Option Refusal) → ℕ
@@ -30,13 +30,13 @@ unrefused (w ∷ schedule) [] = []
 unrefused (w ∷ schedule) (None ∷ marks) = w ∷ unrefused schedule marks
 unrefused (w ∷ schedule) (Some r ∷ marks) = unrefused schedule marks
 
--- what a mark says of the answer to an act of w, where k entries had been made: it is refused so, or the act is the next entry
+-- what a mark says of the answer to an act of w, if k entries had been made: it is refused so, or the act is the next entry
 abbrev pub IsMarked : Option Refusal → List Entry → ℕ → ℕ → Act → Result Reply Refusal → Type 0
 IsMarked None h k w act answer =
     (reply : Reply) × (answer ≡ Ok reply) × (slice_get h k ≡ Some (record { worker = w; act = act; reply = reply }))
 IsMarked (Some r) h k w act answer = answer ≡ Err r
 
--- a place of w with this mark, where k entries had been made before: the program of w is running after its entries among them, and
+-- a place of w with this mark, if k entries had been made before: the program of w is running after its entries among them, and
 -- the mark tells the answer to the act that comes next in it
 pub record IsPlace (t : Tables) (cs : List Command) (h : List Entry) (k w : ℕ) (mark : Option Refusal) : Type 0 where
   pub act : Act
@@ -71,7 +71,7 @@ abbrev pub SchedulesHaveOneRun : Type 0
 SchedulesHaveOneRun = (t : Tables) (programs : List (List Command)) (schedule : List ℕ) (turns others : List Turn)
     → Plays t programs schedule turns → Plays t programs schedule others → turns ≡ others
 
--- where it names a worker that has ended, in none
+-- if it names a worker that has ended, in none
 abbrev pub EndedIsNotPlayed : Type 0
 EndedIsNotPlayed = (t : Tables) (programs : List (List Command)) (schedule : List ℕ) (place w : ℕ) (turns : List Turn)
     → HasEnded t programs schedule place w → Plays t programs schedule turns → ⊥

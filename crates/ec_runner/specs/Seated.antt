@@ -36,7 +36,7 @@ every_live_waits seats = not (list_any is_running seats)
 abbrev pub is_stuck_in : List Seat → Bool
 is_stuck_in seats = list_any is_live seats && every_live_waits seats
 
--- a seat where the total of e has come to this: who waits on e for at most so much waits no more
+-- a seat if the total of e has come to this: who waits on e for at most so much waits no more
 abbrev pub kept : ℕ → ℕ → Seat → Seat
 kept e sum Gone = Gone
 kept e sum Running = Running

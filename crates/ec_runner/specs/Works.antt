@@ -41,7 +41,7 @@ abbrev pub IsAsked : Outcome → List Command → List Entry → Option Asked �
 IsAsked (outcomes.Refused r) cs log asked = IsDue cs log asked
 IsAsked _ cs log asked = Unit {0}
 
--- how a program ended after a log, where there were so many turns
+-- how a program ended after a log, if there were so many turns
 abbrev pub EndsSo : Outcome → List Command → ℕ → List Entry → Type 0
 EndsSo outcomes.Finished cs turns log = outcome_of cs (reverse log) ≡ outcomes.Finished
 EndsSo outcomes.ValueTooLarge cs turns log = outcome_of cs (reverse log) ≡ outcomes.ValueTooLarge

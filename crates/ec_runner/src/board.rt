@@ -69,7 +69,7 @@ impl Board {
     ghost use Rattle.ec_runner.specs.BoardFaults.{IsBoardFault};
     ghost use Rattle.ec_runner.specs.Holds.{is_asleep, is_awaited};
 
-    /// Makes a board with an empty run on these declarations, which are dropped where there is no
+    /// Makes a board with an empty run on these declarations, which are dropped if there is no
     /// memory. Every declared worker is active, and nobody waits.
     pub fn open(alloc: Global, setup: Setup) -> Result<Self, AllocError>
         ensures run { IfOk result (λ b. b.run ≡ record { setup = setup; entries = [] }) }
@@ -116,7 +116,7 @@ impl Board {
         Ok(reply)
     }
 
-    /// Makes a worker a waiter, where it is active and has something to wait for. It takes no
+    /// Makes a worker a waiter, if it is active and has something to wait for. It takes no
     /// memory.
     pub fn park(&mut self, worker: WorkerId) -> Parked
         ensures stuck { self.old.stuck ≡ true → (result ≡ Parked.Stuck) × (self.new ≡ self.old) }

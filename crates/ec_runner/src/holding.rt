@@ -13,7 +13,7 @@ use ec_count::WorkerId;
 use ec_machine::Outcome;
 
 /// What a worker does after it asked the board for a step: it goes on with the reply, or sleeps and
-/// then goes on with it, or leaves, where it got no reply. That comes with how many entries the run
+/// then goes on with it, or leaves, if it got no reply. That comes with how many entries the run
 /// had.
 #[derive(Clone, Copy)]
 pub(crate) enum Next {
@@ -93,7 +93,7 @@ fn park(board: &mut Board, worker: WorkerId)
     board.park(worker);
 }
 
-/// Returns the step, and the wait where it fell short.
+/// Returns the step, and the wait if it fell short.
 fn step(board: &mut Board, worker: WorkerId, act: Act, may_park: bool) -> Next
     ensures next { IsNext result board.old worker act may_park board.new }
     ensures kind { FitsAct result act }
@@ -117,7 +117,7 @@ fn step(board: &mut Board, worker: WorkerId, act: Act, may_park: bool) -> Next
     }
 }
 
-/// Returns who is woken where the seats of the others are as before: nobody, or, where the board
+/// Returns who is woken if the seats of the others are as before: nobody, or, if the board
 /// has come to be deadlocked, all others that wait.
 fn woken_if_stuck(was_stuck: bool, board: &Board, worker: WorkerId) -> Option<[bool; 16]>
     ensures none { board.now.stuck ≡ false → result ≡ None }
@@ -148,10 +148,10 @@ fn advance(board: &mut Board, worker: WorkerId, act: Act, may_park: bool) -> Hel
     Held { next, woken }
 }
 
-/// Makes one hold of the board: a step and, after an await that fell short, where the worker may
+/// Makes one hold of the board: a step and, after an await that fell short, if the worker may
 /// wait, the wait. Only an advance of what somebody waits for, and a wait by which the board comes
 /// to be deadlocked, can wake others, and only then is it looked who sleeps. Where the worker goes
-/// to sleep nobody is woken; and it does so only where it may.
+/// to sleep nobody is woken; and it does so only if it may.
 pub(crate) fn hold(board: &mut Board, worker: WorkerId, act: Act, may_park: bool) -> Held
     ensures last { is_sleep result.next ≡ true → may_park ≡ true }
     ensures none { is_sleep result.next ≡ true → result.woken ≡ None }

@@ -81,7 +81,7 @@ impl Line {
         self.waiters.retain(|waiter| waiter.worker != worker);
     }
 
-    /// Takes the first off, where the total has come to its threshold.
+    /// Takes the first off, if the total has come to its threshold.
     pub fn take_reached(&mut self, total: u64) -> Option<Waiter>
         ensures first { result ≡ first_reached total self.old }
         ensures rest { self.new ≡ (if is_some result then drop 1 self.old else self.old) }

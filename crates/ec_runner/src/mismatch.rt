@@ -14,7 +14,7 @@ fn are_same(setup: &Setup, other: &Setup) -> bool
     setup == other
 }
 
-/// Returns a worker of whom what is told doesn't fit the run; the first worker where the run is on
+/// Returns a worker of whom what is told doesn't fit the run; the first worker if the run is on
 /// other declarations. It takes no memory.
 pub(crate) fn mismatched(setup: &Setup, run: &Run, tolds: &[Told]) -> Option<WorkerId>
     requires few { length tolds.now ≤ 16 }

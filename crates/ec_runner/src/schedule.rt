@@ -99,7 +99,7 @@ fn play(
 }
 
 /// Plays the schedule of a plan, one turn for each place, on one thread. In its turn a worker makes
-/// the step that its program asks for next; where the step is refused, no entry is made, and the
+/// the step that its program asks for next; if the step is refused, no entry is made, and the
 /// program has ended. The time is linear in the number of places.
 pub fn simulate(alloc: Global, plan: &Plan) -> Result<Report, SimFault>
     requires programs { length plan.now.programs.items ≡ plan.now.heading.setup.workers }

@@ -85,7 +85,7 @@ impl Seats {
         self.table[worker.get()] = Seat::Waiting(event, threshold);
     }
 
-    /// Lets the first in line for an eventcount go, where the total has come to its threshold.
+    /// Lets the first in line for an eventcount go, if the total has come to its threshold.
     fn release_first(&mut self, event: EventId, total: u64) -> bool
         ensures yes { result ≡ true → LetsOneGo event total self.old self.new }
         ensures no { result ≡ false → (self.new ≡ self.old) × (map (kept event total) self.old ≡ self.old) }
@@ -149,7 +149,7 @@ fn join(lines: &mut [Line; 32], event: EventId, waiter: Waiter)
     line.join(waiter);
 }
 
-/// Takes the first off the line for an eventcount, where the total has come to its threshold.
+/// Takes the first off the line for an eventcount, if the total has come to its threshold.
 fn take_reached(lines: &mut [Line; 32], event: EventId, total: u64) -> Option<Waiter>
     ensures first { (line : List Waiter) → slice_get lines.old event ≡ Some line → result ≡ first_reached total line }
     ensures rest { lines.new ≡ changed_at (λ line. if is_some result then drop 1 line else line) lines.old event }

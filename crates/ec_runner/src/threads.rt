@@ -82,7 +82,7 @@ fn has_turn_after_next(log: &[Entry], turns: u64) -> bool
     (log.len() as u64) < turns.saturating_sub(1)
 }
 
-/// Makes one hold of the lock and, where the worker is to wait, the sleep: in its last turn a
+/// Makes one hold of the lock and, if the worker is to wait, the sleep: in its last turn a
 /// worker doesn't wait. The others are woken once the lock is free; a worker that goes to sleep
 /// wakes nobody.
 fn hold_locked<R: Wait, G>(
@@ -157,7 +157,7 @@ fn take(machine: &mut Machine<'_>, log: &mut Vec<Entry>, worker: WorkerId, act: 
     machine.take(reply);
 }
 
-/// Takes what comes next: the reply, or the end of the program. Returns what was asked for, where there
+/// Takes what comes next: the reply, or the end of the program. Returns what was asked for, if there
 /// was no reply.
 fn take_next(
     machine: &mut Machine<'_>,
@@ -188,7 +188,7 @@ fn take_next(
 }
 
 /// Returns the step that the program asks for, for whose entry the log has room. Returns what was
-/// asked for, where there was no reply.
+/// asked for, if there was no reply.
 fn make_step<R: Wait, G>(
     rt: &R,
     shared: Shared<'_, G>,
@@ -283,7 +283,7 @@ fn work<R: Wait, G: Gate>(rt: &R, shared: Shared<'_, G>, place: usize, program: 
     told
 }
 
-/// Starts a thread for a program. None where it could not be started: its worker leaves.
+/// Starts a thread for a program. None if it could not be started: its worker leaves.
 fn started<'s, E: 's, R: Wait + Sync, G: Gate + Sync>(
     rt: &'s R,
     scope: &Scope<'s, E>,

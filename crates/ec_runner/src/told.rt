@@ -9,7 +9,7 @@ pub(crate) struct Asked {
     pub moment: usize,
 }
 
-/// The log of a worker, how its program ended, and what it asked for last, where it got no reply.
+/// The log of a worker, how its program ended, and what it asked for last, if it got no reply.
 #[derive(Drop)]
 pub(crate) struct Told {
     pub log: Vec<Entry>,

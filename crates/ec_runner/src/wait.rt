@@ -13,7 +13,7 @@ pub(crate) struct Wait {
     pub threshold: u64,
 }
 
-/// Returns the await whose last round fell short, where the worker's latest entry ended it.
+/// Returns the await whose last round fell short, if the worker's latest entry ended it.
 fn awaited(run: &Run, worker: WorkerId) -> Option<Wait>
     ensures { result ≡ awaited run.now.setup worker (past_of run.now) }
 {
@@ -24,7 +24,7 @@ fn awaited(run: &Run, worker: WorkerId) -> Option<Wait>
     }
 }
 
-/// Returns the same where the total has not come to the threshold.
+/// Returns the same if the total has not come to the threshold.
 fn unmet(run: &Run, wait: Option<Wait>) -> Option<Wait>
     requires { (a : Wait) → wait ≡ Some a → a.event < length run.now.setup.events }
     ensures { result ≡ unmet (past_of run.now) wait }
@@ -38,7 +38,7 @@ fn unmet(run: &Run, wait: Option<Wait>) -> Option<Wait>
     }
 }
 
-/// Returns the await of a worker whose last round fell short, where the worker's latest entry ended
+/// Returns the await of a worker whose last round fell short, if the worker's latest entry ended
 /// it and the total has not come to the threshold since.
 pub(crate) fn unmet_await(run: &Run, worker: WorkerId) -> Option<Wait>
     ensures { result ≡ unmet (past_of run.now) (awaited run.now.setup worker (past_of run.now)) }

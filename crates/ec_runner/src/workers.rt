@@ -146,7 +146,7 @@ fn ran<R: Threads + Wait + Sync, G: Gate + Sync>(
     Ok((board.into_inner().into_run(), tolds))
 }
 
-/// Returns what is told of a run: its report, where what the workers tell fits it, and else the
+/// Returns what is told of a run: its report, if what the workers tell fits it, and else the
 /// mismatch.
 fn reported(alloc: Global, setup: &Setup, run: Run, tolds: Vec<Told>) -> Result<Report, RunFault>
     requires few { length tolds.items ≤ 16 }
@@ -199,7 +199,7 @@ fn run_on<R: Threads + Wait + Sync, G: Gate + Sync>(
 
 /// Runs the programs of a plan, each worker's in a thread of its own, all at once, on one board
 /// under one lock; the plan's schedule is not used. A turn is one step that a worker asks the board
-/// for, in one hold of the lock, and no worker has more than `turns`. Where a worker's await has
+/// for, in one hold of the lock, and no worker has more than `turns`. If a worker's await has
 /// fallen short it sleeps until the total has come to its threshold, or until no active worker is
 /// left that doesn't wait. The gate is called before each hold. When all have ended, what they were
 /// told is held against the run: a mismatch names a declared worker. A thread that could not be

@@ -170,7 +170,7 @@ opened_fits os news cs n o is before some few deep room d =
       few = omega (arith, room);
     }
 
--- where there was no room for a repeat, the innermost block is lost
+-- if there was no room for a repeat, the innermost block is lost
 pub lost_fits : (os : List Open) (cs : List Command) (n : ℕ) → IsDraft os cs n → IsDraft os [] n
 lost_fits os cs n d = record {
   outer = d.outer;

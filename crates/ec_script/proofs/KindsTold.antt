@@ -1,4 +1,4 @@
--- A kind is told of a line exactly where it is the least that holds.
+-- A kind is told of a line exactly if it is the least that holds.
 use Rattle.std.proofs.Common.{◌≡◌, ◌≢◌, ◌⊎◌, inl, inr, ℕ, ◌<◌, ◌==◌, ◌&&◌, List, [], ◌∷◌, length, Bool, true, false, not, cond, Option, Some, None, Result, Ok, Err, option_map, is_some, is_none, refl, sym, ap, ◌∙◌, subst, arith, codes, bytes_eq, nat_lt}
 use Rattle.std.specs.Bool.{Decides}
 use Rattle.std.specs.Prelude.{◌↔◌}
@@ -94,7 +94,7 @@ form_tests None t kinds.BadLine = true
 form_tests None t _ = false
 form_tests (Some f) t k = t f k
 
--- a line is read as a form exactly where it has it
+-- a line is read as a form exactly if it has it
 record Reads {F : Type 0} (o : Option F) (Is : F → Type 0) : Type 0 where
   has : (f : F) → o ≡ Some f → Is f
   read : (f : F) → Is f → o ≡ Some f

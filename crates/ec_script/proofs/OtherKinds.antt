@@ -233,7 +233,7 @@ other_decided s p kinds.NoRight is tail =
 other_decided s p kinds.BadNesting is tail = decides_block s.block (is_badly_nested p.verb) (λ b. IsMisplaced b p.verb) refl (misplaced_decided p.verb)
 other_decided s p _ is tail = never (λ t. t)
 
--- where such a line may stand, the first of these tests tells the fault
+-- if such a line may stand, the first of these tests tells the fault
 pub other_least : (s : Scripted) (p : Phrase) → (has_verb s.heading.version p.verb && is_allowed p.verb (is_some (option_map view_of_block s.block)) (length s.schedule)) ≡ true → phrase_fault (seen s) p (object_in s.heading p) ≡ first_that (
     (is_named_again s.named (or_nothing (object_in s.heading p)), kinds.NameTaken)
     ∷ (is_none (object_in s.heading p) || has_unknown_name s.heading p.verb p.rest, kinds.UnknownName)

@@ -1,4 +1,4 @@
--- A text is a script exactly where it spells a heading, blocks and a schedule.
+-- A text is a script exactly if it spells a heading, blocks and a schedule.
 use Rattle.std.proofs.Common.{◌≡◌, ◌==◌, ℕ, ◌≤◌, List, [], ◌∷◌, length, map, true, cond, refl, sym, ap, ap₂, ◌∙◌, subst}
 use Rattle.std.specs.List.{AllByRecursion, range_with_len}
 use Rattle.ec_count.specs.Members.{has_repeat}

@@ -1,4 +1,4 @@
--- A line of P on two semaphores has two roles where it names one of them twice.
+-- A line of P on two semaphores has two roles if it names one of them twice.
 use Rattle.std.proofs.Common.{◌≡◌, ℕ, Bool, true, false, not, ◌&&◌, ◌||◌, ◌==◌, List, [], ◌∷◌, Option, Some, None, is_some, is_none, option_map, option_and_then, refl, sym, ap, ◌∙◌, subst, bytes_eq}
 use Rattle.std.proofs.lemmas.Bool.{true≢false, eq-eqb, ne_eqb, and_from}
 use Rattle.std.proofs.lemmas.Option.{same_Some}
@@ -52,7 +52,7 @@ same_itself s =
     and_from (s.count == s.count && s.line == s.line) (s.initial == s.initial)
     (and_from (s.count == s.count) (s.line == s.line) (eq-eqb s.count s.count refl) (eq-eqb s.line s.line refl)) (eq-eqb s.initial s.initial refl)
 
--- two named ones are one where their names are
+-- two named ones are one if their names are
 same_names : (h : Headed) (w v : List ℕ) (s u : Semaphore) → IsHeading h → semaphore_in h w ≡ Some s → semaphore_in h v ≡ Some u → is_same s u ≡ bytes_eq w v
 same_names h w v s u is p q =
     elim (bytes_eq w v) as (λ b. bytes_eq w v ≡ b → is_same s u ≡ b) [

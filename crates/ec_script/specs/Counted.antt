@@ -29,7 +29,7 @@ abbrev pub EndsInBegin : List Order → Type 0
 EndsInBegin os = (front : List Order) × (n : ℕ) × (os ≡ front ++ Begin n ∷ [])
 
 -- there are as many commands as the lines say, the repeats that begin are those that end and those that are open, and where one is open
--- it has no command yet exactly where the last line begins it
+-- it has no command yet exactly if the last line begins it
 pub record IsCounted (d : Drafted) : Type 0 where
   pub commands : d.commands ≡ commands_in d.orders
   pub repeats : begins_in d.orders ≡ ends_in d.orders + d.depth

@@ -35,10 +35,10 @@ pub record EndsEarly (text : List ℕ) (n : ℕ) : Type 0 where
 
 -- LAWS
 
--- a line is taken exactly where no kind holds of it
+-- a line is taken exactly if no kind holds of it
 abbrev pub FaultlessLinesAreTaken : Type 0
 FaultlessLinesAreTaken = (before : List (List ℕ)) (stage : Stage) (line : List ℕ) → Leads Opening before stage → ((next : Stage) × (step stage line ≡ Ok next)) ↔ IsFaultless stage line
 
--- a text is told as unfinished exactly where it is within the bound and ends too early
+-- a text is told as unfinished exactly if it is within the bound and ends too early
 abbrev pub UnfinishedIsTold : Type 0
 UnfinishedIsTold = (text : List ℕ) (n : ℕ) → (outcome text ≡ Err (n, kinds.Unfinished)) ↔ ((length text ≤ SCRIPT_MAX) × EndsEarly text n)

@@ -30,13 +30,13 @@ abbrev pub number_or_more : Option (List ℕ) → List ℕ → Option Value
 number_or_more None w = option_map Number (number_of w)
 number_or_more (Some digits) w = option_and_then last_plus (number_of digits)
 
--- the value that a word spells, where its number is in range
+-- the value that a word spells, if its number is in range
 unfoldable pub value_of : List ℕ → Option Value
 value_of w = if bytes_eq w (codes "last") then Some Last else number_or_more (more_in w) w
 
 -- FORMS
 
--- the only word, where there is just one
+-- the only word, if there is just one
 abbrev pub only_in : List (List ℕ) → Option (List ℕ)
 only_in [] = None
 only_in (w ∷ []) = Some w
@@ -51,7 +51,7 @@ is_tail tails.Digits ws = option_map_or is_number_form (only_in ws) false
 is_tail tails.Word ws = is_some (only_in ws)
 is_tail tails.Words ws = nat_le 1 (length ws)
 
--- a line of one of the forms: its object is [] where the form has none
+-- a line of one of the forms: its object is [] if the form has none
 pub record Phrase : Type 0 where
   pub verb : Verb
   pub object : List ℕ
@@ -68,14 +68,14 @@ abbrev pub verbed_in : Option Verb → List (List ℕ) → Option Phrase
 verbed_in None ws = None
 verbed_in (Some v) ws = if has_object v then objected_in v ws else tailed_in v [] ws
 
--- the parts of a line, where it has one of the forms
+-- the parts of a line, if it has one of the forms
 unfoldable pub phrase_in : List (List ℕ) → Option Phrase
 phrase_in [] = None
 phrase_in (w ∷ ws) = verbed_in (verb_of w) ws
 
 -- AS THE CODE HOLDS THEM
 
--- the words of what is left of a line, none where nothing is
+-- the words of what is left of a line, none if nothing is
 abbrev pub rest_words : Option (Bor (List ℕ)) → List (List ℕ)
 rest_words None = []
 rest_words (Some r) = words_of r.now

@@ -63,6 +63,6 @@ MayGive h w o = IsGiven h w o × (length (order_line h o) ≤ 8192)
 
 -- LAWS
 
--- a line says an order exactly where it spells the order, and the order may be given
+-- a line says an order exactly if it spells the order, and the order may be given
 abbrev pub LinesSayOrders : Type 0
 LinesSayOrders = (o : Outline) (w : ℕ) (line : List ℕ) (order : Order) → IsOutline o → Says (headed o) w line order ↔ ((line ≡ order_line (headed o) order) × MayGive (headed o) w order)

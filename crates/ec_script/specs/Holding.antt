@@ -169,6 +169,6 @@ IsLeast stage line kind = HasKind stage line kind × ((less : Kind) → kind_num
 
 -- LAWS
 
--- a kind is told of a line exactly where it is the least that holds
+-- a kind is told of a line exactly if it is the least that holds
 abbrev pub LeastKindIsTold : Type 0
 LeastKindIsTold = (before : List (List ℕ)) (stage : Stage) (line : List ℕ) (kind : Kind) → Leads Opening before stage → (step stage line ≡ Err kind) ↔ IsLeast stage line kind

@@ -37,7 +37,7 @@ seen_of v = record { heading = v.heading.now; named = v.named.now; block = v.blo
 
 -- BAD LINE
 
--- whether such a line may stand there: commands, `repeat` and `end` in a block; `worker` in a block, where it is badly nested,
+-- whether such a line may stand there: commands, `repeat` and `end` in a block; `worker` in a block, if it is badly nested,
 -- and before the schedule; `schedule` anywhere
 abbrev pub is_allowed : Verb → Bool → ℕ → Bool
 is_allowed verbs.Schedule in_block scheduled = true
@@ -141,7 +141,7 @@ is_badly_nested v (Some n) = false
 
 -- THE LEAST
 
--- the object that is sought is none where no declared one is spelled
+-- the object that is sought is none if no declared one is spelled
 abbrev pub or_nothing : Option Object → Object
 or_nothing o = unwrap_or o Nothing
 

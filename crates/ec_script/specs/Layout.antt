@@ -129,7 +129,7 @@ layout_lines l =
     script_header l.outline.version ∷ heading_lines l.outline
     ++ (flat_map (block_lines l.outline.workers) l.blocks ++ map (schedule_line l.outline.workers) l.rows)
 
--- the orders of a worker's block, none where it has no block
+-- the orders of a worker's block, none if it has no block
 abbrev pub program_of : List Block → ℕ → List Order
 program_of [] w = []
 program_of (b ∷ blocks) w = if b.worker == w then orders_of b.lines else program_of blocks w

@@ -19,14 +19,14 @@ use Rattle.ec_script.specs.declared.object.Object.{Object}
 use Rattle.ec_script.specs.declared.object.Object.TheVariants.{Nothing, Worker, Event, Sequencer, Cell, Handed, OfBuffer, OfDatabase, OfSemaphore, SemaphorePair}
 use Rattle.ec_script.specs.Forms.{only_in, value_of}
 
--- the value that a word spells; it is `last` where the word spells none in its range, of which no command is made
+-- the value that a word spells; it is `last` if the word spells none in its range, of which no command is made
 abbrev pub amount_of : List ℕ → amounts.Value
 amount_of w = unwrap_or (value_of w) Last
 
 abbrev pub amount_in : List (List ℕ) → amounts.Value
 amount_in ws = amount_of (unwrap_or (only_in ws) [])
 
--- the number that the only word spells, 0 where it spells none
+-- the number that the only word spells, 0 if it spells none
 abbrev pub size_in : List (List ℕ) → ℕ
 size_in ws = unwrap_or (option_and_then number_of (only_in ws)) 0
 
@@ -54,7 +54,7 @@ abbrev pub semaphore_order : Verb → Semaphore → Order
 semaphore_order verbs.Down s = Do (commands.Down s)
 semaphore_order _ s = Do (commands.Up s)
 
--- what a line says that does this with the object, to whose word these follow; none where it is about nothing
+-- what a line says that does this with the object, to whose word these follow; none if it is about nothing
 abbrev pub command_in : Verb → Bool → Object → List (List ℕ) → Option Order
 command_in v giving (Event e) ws = Some (event_order v e (amount_in ws))
 command_in v giving (Sequencer q) ws = Some (Do (commands.Ticket q))

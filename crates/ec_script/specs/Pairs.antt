@@ -1,4 +1,4 @@
--- P on two semaphores: where a line names one of them twice.
+-- P on two semaphores: if a line names one of them twice.
 use Rattle.std.specs.Prelude.{◌≡◌, ◌⊎◌, ◌↔◌, ℕ, true, false, List, [], ◌∷◌, Some, Err, is_some, bytes_eq}
 use Rattle.ec_text.specs.Words.{words_of}
 use Rattle.ec_heading.specs.Headed.{Headed}
@@ -16,7 +16,7 @@ use Rattle.ec_script.specs.Scripted.{Scripted}
 use Rattle.ec_script.specs.Reading.{seen, step}
 use Rattle.ec_script.specs.Grammar.{Leads}
 
--- under a heading the test on the three semaphores that a `pboth` line is about says that two of them are one exactly where its two words are
+-- under a heading the test on the three semaphores that a `pboth` line is about says that two of them are one exactly if its two words are
 -- one: the common semaphore has no name, and declared semaphores of different names have no common object
 abbrev pub TwoRolesAreOneName : Type 0
 TwoRolesAreOneName = (heading : Headed) (one : List ℕ) (words : List (List ℕ)) (object : Object) → IsHeading heading → object_for heading verbs.DownBoth one words ≡ Some object

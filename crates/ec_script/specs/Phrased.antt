@@ -35,7 +35,7 @@ abbrev pub object_word : Bool → List ℕ → Type 0
 object_word true object = Unit {0}
 object_word false object = object ≡ []
 
--- the words are those of this phrase: its verb's word, the word of its object where its form has one, and a tail of its form
+-- the words are those of this phrase: its verb's word, the word of its object if its form has one, and a tail of its form
 pub record Worded (words : List (List ℕ)) (p : Phrase) : Type 0 where
   pub are : words ≡ verb_word p.verb ∷ behind_verb (has_object p.verb) p.object p.rest
   pub none : object_word (has_object p.verb) p.object

@@ -23,13 +23,13 @@ IsLimitLine line digits = (length line ≤ 8192) × (words_of line ≡ codes "li
 abbrev pub IsWorkersLine : List ℕ → List (List ℕ) → Type 0
 IsWorkersLine line names = IsOfWords line × (words_of line ≡ codes "workers" ∷ names) × (names ≢ [])
 
--- a declaration, where no `worker` line and no `schedule` line came yet
+-- a declaration, if no `worker` line and no `schedule` line came yet
 pub record IsDeclaration (s : Scripted) (line : List ℕ) (p : headings.Phrase) : Type 0 where
   pub first : (s.named ≡ []) × (s.schedule ≡ [])
   pub whole : IsOfWords line
   pub form : IsSpelled (words_of line) p
 
--- commands, `repeat` and `end` stand in a block, and `hand` in one of version 2; `worker` in a block, where it is badly nested, and before
+-- commands, `repeat` and `end` stand in a block, and `hand` in one of version 2; `worker` in a block, if it is badly nested, and before
 -- the schedule; `schedule` anywhere
 abbrev pub MayStand : Scripted → Verb → Type 0
 MayStand s verbs.Schedule = Unit {0}
@@ -37,7 +37,7 @@ MayStand s verbs.Worker = (s.block ≢ None) ⊎ (s.schedule ≡ [])
 MayStand s verbs.Hand = (s.heading.version ≡ Two) × (s.block ≢ None)
 MayStand s _ = s.block ≢ None
 
--- a line of a block, of the schedule, or the first of a block, where such a line may stand
+-- a line of a block, of the schedule, or the first of a block, if such a line may stand
 pub record IsOther (s : Scripted) (line : List ℕ) (p : Phrase) : Type 0 where
   pub place : MayStand s p.verb
   pub whole : IsOfWords line

@@ -155,7 +155,7 @@ step (Limiting v) line = limit_step v line
 step (Naming b) line = named_on (head_step (opened b.version b.limit []) line)
 step (Reading s) line = read_on (script_step s line)
 
--- what a call returned and left is what the step gives; out of memory is reported only where the line has no fault
+-- what a call returned and left is what the step gives; out of memory is reported only if the line has no fault
 abbrev pub StepFails : {S : Type 0} → StageFault → Result S Kind → Type 0
 StepFails faults.Memory stepped = IsOk stepped
 StepFails (faults.Of kind) stepped = stepped ≡ Err kind

@@ -35,7 +35,7 @@ pub record IsSpelled (s : Spelled) : Type 0 where
   pub rows : AllByRecursion (IsRow s.outline.workers) s.rows
   pub few : length (joined s.rows) ≤ 65536
 
--- the orders of a worker's block, none where it has no block
+-- the orders of a worker's block, none if it has no block
 abbrev pub orders_for : List (ℕ × List Order) → ℕ → List Order
 orders_for [] w = []
 orders_for (b ∷ blocks) w = if b.0 == w then b.1 else orders_for blocks w
@@ -55,6 +55,6 @@ pub record IsSpelling (bytes : List ℕ) (p : Planned) : Type 0 where
   pub within : length bytes ≤ SCRIPT_MAX
   pub plan : p ≡ spelled_plan spelled
 
--- a text is a script of a plan exactly where it spells what the plan says
+-- a text is a script of a plan exactly if it spells what the plan says
 abbrev pub ScriptsAreSpelled : Type 0
 ScriptsAreSpelled = (bytes : List ℕ) (p : Planned) → IsScript bytes p ↔ IsSpelling bytes p

@@ -146,7 +146,7 @@ fn database_order(
     }
 }
 
-/// Returns what a line says of the worker's commands; none where it is about nothing.
+/// Returns what a line says of the worker's commands; none if it is about nothing.
 pub(crate) fn command_in(
     alloc: Global,
     parts: &Parts<'_>,

@@ -9,7 +9,7 @@ use crate::verb::{Tail, Verb, verb_of};
 use ec_machine::Value;
 use ec_text::{cut_word, is_number_form, number};
 
-/// A line of one of the forms, by its words: the object has no bytes where the form has none.
+/// A line of one of the forms, by its words: the object has no bytes if the form has none.
 #[derive(Clone, Copy)]
 pub(crate) struct Parts<'a> {
     pub(crate) verb: Verb,
@@ -37,7 +37,7 @@ fn is_value_form(word: &[u8]) -> bool
     }
 }
 
-/// Returns the value that a word spells, where its number is in range.
+/// Returns the value that a word spells, if its number is in range.
 #[tactic(auto, unfolding(crate::specs::Forms::value_of))]
 pub(crate) fn value_of(word: &[u8]) -> Option<Value>
     ensures value { result ≡ value_of word.now }
@@ -72,7 +72,7 @@ fn are_value_forms(list: &[u8]) -> bool
     }
 }
 
-/// Returns the only word that is left, where it is the only one.
+/// Returns the only word that is left, if it is the only one.
 #[tactic(auto, using(crate::proofs::Words::only_word))]
 pub(crate) fn only_word(rest: Option<&[u8]>) -> Option<&[u8]>
     ensures { option_map (λ w. w.now) result ≡ only_in (rest_words rest.entry) }

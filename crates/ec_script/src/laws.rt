@@ -37,31 +37,31 @@ pub fn long_is_line_1()
     ensures { LongIsLine1 }
 {}
 
-/// States that a line and a kind are told of a text exactly where they are its fault: of a text
+/// States that a line and a kind are told of a text exactly if they are its fault: of a text
 /// within the bound that of its first faulty line, of a longer one that of line 1.
 pub fn faults_are_told()
     ensures { FaultsAreTold }
 {}
 
-/// States that a kind is told of a line exactly where it is the least that holds of the line in its
+/// States that a kind is told of a line exactly if it is the least that holds of the line in its
 /// place, each kind by its own words.
 pub fn least_kind_is_told()
     ensures { LeastKindIsTold }
 {}
 
-/// States that a line is taken exactly where none holds of it.
+/// States that a line is taken exactly if none holds of it.
 pub fn faultless_lines_are_taken()
     ensures { FaultlessLinesAreTaken }
 {}
 
 /// States that what is said of the open block is what its lines come to: how many commands they
-/// are, how many repeats are open, and that the innermost has no command exactly where the last
+/// are, how many repeats are open, and that the innermost has no command exactly if the last
 /// line begins it.
 pub fn blocks_are_counted()
     ensures { BlocksAreCounted }
 {}
 
-/// States that a text is told as unfinished exactly where it is within the bound and ends too
+/// States that a text is told as unfinished exactly if it is within the bound and ends too
 /// early: before the line of the workers, inside a block, or without the LF of a last line that has
 /// no other fault.
 pub fn unfinished_is_told()
@@ -103,13 +103,13 @@ pub fn layouts_are_spelled()
     ensures { LayoutsAreSpelled }
 {}
 
-/// States that a line says an order exactly where it spells the order, and the order may be given
+/// States that a line says an order exactly if it spells the order, and the order may be given
 /// to the worker.
 pub fn lines_say_orders()
     ensures { LinesSayOrders }
 {}
 
-/// States that a text is a script of a plan exactly where it spells what the plan says: a heading,
+/// States that a text is a script of a plan exactly if it spells what the plan says: a heading,
 /// for each block a worker and orders that may be given to it, with their repeats properly nested
 /// and no worker twice, and the names of a schedule, all within the bounds.
 pub fn scripts_are_spelled()

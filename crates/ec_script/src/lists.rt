@@ -46,7 +46,7 @@ pub(crate) fn push_ids(
     }
 }
 
-/// Returns the value that a word spells, `last` where it spells none.
+/// Returns the value that a word spells, `last` if it spells none.
 pub(crate) fn amount_of(word: &[u8]) -> Value
     ensures value { result ≡ amount_of word.now }
     ensures sound { is_value result ≡ true }

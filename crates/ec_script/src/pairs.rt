@@ -1,13 +1,13 @@
 //! Laws of P on two semaphores. Each is the contract of a function that does nothing.
 ghost use Rattle.ec_script.specs.Pairs.{LinesLeadToHeadings, LinesOfTwoRoles, TwoRolesAreOneName, TwoRolesAreTold};
 
-/// States that under a heading two of the three semaphores of a `pboth` line are one exactly where
+/// States that under a heading two of the three semaphores of a `pboth` line are one exactly if
 /// its two words are one: the common semaphore has no name, and two names have no object in common.
 pub fn two_roles_are_one_name()
     ensures { TwoRolesAreOneName }
 {}
 
-/// States that two roles are told of a line behind the declarations where it is a `pboth` that
+/// States that two roles are told of a line behind the declarations if it is a `pboth` that
 /// names one declared semaphore twice, in a block that has room for it, and of no other.
 pub fn two_roles_are_told()
     ensures { TwoRolesAreTold }

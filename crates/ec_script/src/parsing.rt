@@ -105,7 +105,7 @@ fn parse_lines(alloc: Global, text: &[u8]) -> Result<Plan, ScriptFault>
 /// Lines are counted from 1. A line is judged by those before it. A last line without its LF is
 /// judged like every line, and then the text is unfinished; so is one that ends before its line of
 /// workers or inside a block. Of a text of more than 1048576 bytes line 1 alone is looked at: too
-/// many where it is the first line of a version.
+/// many if it is the first line of a version.
 #[tactic(auto, unfolding(crate::specs::Outcome::outcome))]
 pub fn parse(alloc: Global, text: &[u8]) -> Result<Plan, ScriptFault>
     ensures tells { Tells (outcome text.now) result }

@@ -304,7 +304,7 @@ fn opens_outer(line: &[u8]) -> bool
 }
 
 impl Script {
-    /// Returns the plan, where no block is open.
+    /// Returns the plan, if no block is open.
     pub(crate) fn plan(self) -> Option<Plan>
         ensures { option_map shown_plan result ≡ plan_or self self.block }
     {

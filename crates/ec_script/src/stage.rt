@@ -148,7 +148,7 @@ impl Stage {
 }
 
 impl Stage {
-    /// Returns the plan, where the text may end here.
+    /// Returns the plan, if the text may end here.
     pub(crate) fn plan(self) -> Option<Plan>
         ensures { option_map shown_plan result ≡ plan_in self }
     {

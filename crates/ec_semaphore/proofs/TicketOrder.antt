@@ -54,7 +54,7 @@ elsewhere c lines x past v h = ap seat_of (other_block (both_rule c lines) v x p
 issued_up : (t : Tables) (q : ℕ) (x : Entry) (past : List Entry) → IsAccepted t (x ∷ past) → issued q past ≤ issued q (x ∷ past)
 issued_up t q x past acc = (let k = issued_step t q x past acc in omega arith)
 
--- what stays true where no pair is drawn: the seats' queue is given, and what the worker waits with, if it does
+-- what stays true if no pair is drawn: the seats' queue is given, and what the worker waits with, if it does
 kept : (c : Semaphore) (lines : ℕ → Bool) (t : Tables) (x : Entry) (past : List Entry) → IsAccepted t (x ∷ past) → IsPaired c lines past → pairs_in c lines (x ∷ past) ≡ pairs_in c lines past
     → IsQueue (seat c lines (x ∷ past)) (issued c.line (x ∷ past)) (total c.count (x ∷ past)) (length (pairs_in c lines past))
     → ((u a r : Told) → lists c lines (x ∷ past) x.worker ≡ u ∷ a ∷ r ∷ [] → All (IsBelow (line_of r.op) (number_of r.reply)) (pairs_in c lines past) × (number_of r.reply < issued (line_of r.op) (x ∷ past)))

@@ -48,7 +48,7 @@ pub record ArePaired (c : Semaphore) (lines : ℕ → Bool) (latest : List Drawn
   pub drawn : AreDrawn c lines latest past
   pub pairs : list ≡ pairs_in c lines past
 
--- it is that after a past; the tickets and the pairs, where the past is one of a run and follows
+-- it is that after a past; the tickets and the pairs, if the past is one of a run and follows
 pub record IsPairing (a : Pairing) (past : List Entry) : Type 0 where
   pub tracked : IsTracked (both_rules a.common (is_line a.common a.shapes)) kept_of_both a.tracked past
   pub paired : a.lacks ≡ false → (t : Tables) → IsDeclared t → IsAccepted t past → Follow (both_rules a.common (is_line a.common a.shapes)) past

@@ -9,7 +9,7 @@ use Rattle.ec_core.specs.CallLists.{is_due, number_of}
 use Rattle.ec_semaphore.specs.Shapes.{Semaphore}
 use Rattle.ec_semaphore.specs.Uses.{threshold, is_on}
 
--- the critical section, where the tickets are drawn from p and then q: the call that comes after these completed calls, or
+-- the critical section, if the tickets are drawn from p and then q: the call that comes after these completed calls, or
 -- none
 abbrev pub guarded_call : Semaphore → ℕ → ℕ → List Told → Option Act
 guarded_call c p q [] = Some (Ticket c.line)

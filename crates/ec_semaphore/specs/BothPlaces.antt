@@ -8,7 +8,7 @@ use Rattle.ec_semaphore.specs.Shapes.{Semaphore}
 use Rattle.ec_semaphore.specs.Both.{down_both_call}
 use Rattle.ec_semaphore.specs.Spent.{spent, told_number}
 
--- the first of the two tickets where it is needed, else 0
+-- the first of the two tickets if it is needed, else 0
 abbrev pub first_of : Place → ℕ
 first_of (DrawSecond first) = first
 first_of (Leave first second) = first
@@ -33,7 +33,7 @@ made (WaitFirst first second) = spent ∷ spent ∷ told_number first ∷ told_n
 made (WaitSecond second) = spent ∷ spent ∷ spent ∷ told_number second ∷ spent ∷ spent ∷ []
 made Over = spent ∷ spent ∷ spent ∷ spent ∷ spent ∷ spent ∷ spent ∷ []
 
--- the place that follows, where a call told this number
+-- the place that follows, if a call told this number
 abbrev pub next_place : Place → ℕ → Place
 next_place Line number = Enter number
 next_place (Enter turn) number = DrawFirst

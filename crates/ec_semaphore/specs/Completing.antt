@@ -9,7 +9,7 @@ use Rattle.ec_semaphore.specs.declared.pairing.Drawn.{Drawn}
 use Rattle.ec_semaphore.specs.Both.{line_of, both_rule}
 use Rattle.ec_semaphore.specs.Shapes.{Semaphore}
 
--- where a worker has drawn the first of two tickets, and not the second, this is it
+-- if a worker has drawn the first of two tickets, and not the second, this is it
 abbrev pub IsDrawn : Drawn → List Told → Type 0
 IsDrawn d calls = (t a r : Told) → calls ≡ t ∷ a ∷ r ∷ [] → d ≡ record { line = line_of r.op; number = number_of r.reply }
 

@@ -8,7 +8,7 @@ use Rattle.ec_semaphore.specs.Shapes.{Semaphore}
 use Rattle.ec_semaphore.specs.Uses.{down_call}
 use Rattle.ec_semaphore.specs.Spent.{spent, told_number}
 
--- the ticket that is needed; 0 where none is
+-- the ticket that is needed; 0 if none is
 abbrev pub ticket_of : Place → ℕ
 ticket_of Draw = 0
 ticket_of (Wait ticket) = ticket

@@ -12,7 +12,7 @@ use Rattle.ec_semaphore.specs.Shapes.{Semaphore}
 use Rattle.ec_semaphore.specs.Balances.{is_down}
 use Rattle.ec_semaphore.specs.Both.{both_rule}
 
--- 1 where entry i finishes a P
+-- 1 if entry i finishes a P
 abbrev pub down_at : Semaphore → List Entry → ℕ → ℕ
 down_at s h i = option_map_or (λ (x : Entry). if is_down s x (past_at i h) then 1 else 0) (slice_get h i) 0
 

@@ -51,7 +51,7 @@ pub record IsGuarded (c : Semaphore) (lines : ℕ → Bool) (calls : List Told) 
 abbrev pub UsesAreDownsAndUps : Type 0
 UsesAreDownsAndUps = (s : Semaphore) (calls : List Told) → IsWholeList (use_rule s) calls ↔ (IsDown s calls ⊎ IsUp s calls)
 
--- an accepted history follows a semaphore exactly where each worker's calls on it are such lists joined end to end, and the
+-- an accepted history follows a semaphore exactly if each worker's calls on it are such lists joined end to end, and the
 -- beginning of one more
 abbrev pub FollowingMeansUses : Type 0
 FollowingMeansUses = (s : Semaphore) (t : Tables) (h : List Entry) → IsDeclared t → IsAccepted t (reverse h)
@@ -62,7 +62,7 @@ FollowingMeansUses = (s : Semaphore) (t : Tables) (h : List Entry) → IsDeclare
 abbrev pub WholePartsAreGuarded : Type 0
 WholePartsAreGuarded = (c : Semaphore) (lines : ℕ → Bool) (calls : List Told) → IsWholeList (both_rule c lines) calls ↔ IsGuarded c lines calls
 
--- an accepted history follows `both` exactly where the calls of each worker are critical sections, with calls on other
+-- an accepted history follows `both` exactly if the calls of each worker are critical sections, with calls on other
 -- objects between them, and the beginning of one more
 abbrev pub FollowingBothMeansGuardedParts : Type 0
 FollowingBothMeansGuardedParts = (c : Semaphore) (shapes : List Semaphore) (t : Tables) (h : List Entry) → IsDeclared t → IsAccepted t (reverse h)

@@ -14,7 +14,7 @@ use Rattle.ec_semaphore.specs.Both.{is_line, both_rules}
 use Rattle.ec_semaphore.specs.Pairs.{pairs_of, IsEarlier}
 use Rattle.ec_semaphore.specs.InOrder.{down_at, ArePairs}
 
--- a semaphore that is declared stays so where more is declared
+-- a semaphore that is declared stays so if more is declared
 abbrev pub SemaphoresStay : Type 0
 SemaphoresStay = (s : Semaphore) (old new : Tables) → KeepsObjects old new → Fits s old → Fits s new
 
@@ -23,7 +23,7 @@ SemaphoresStay = (s : Semaphore) (old new : Tables) → KeepsObjects old new →
 abbrev pub DownsCountFinishedWaits : Type 0
 DownsCountFinishedWaits = (s : Semaphore) (k : ℕ) (h : List Entry) → downs s (past_at k h) ≡ sum_to (down_at s h) k
 
--- where the workers of an accepted history follow a semaphore, its balance is at least 0 at every moment
+-- if the workers of an accepted history follow a semaphore, its balance is at least 0 at every moment
 abbrev pub BalancesAreNeverNegative : Type 0
 BalancesAreNeverNegative = (s : Semaphore) (t : Tables) (k : ℕ) (h : List Entry) → IsDeclared t → IsAccepted t (reverse h) → Follow (use_rules s) (reverse h)
     → pos 0 ≤ℤ balance_of s (past_at k h)
@@ -33,7 +33,7 @@ abbrev pub BothIsFollowedAsASemaphore : Type 0
 BothIsFollowedAsASemaphore = (c : Semaphore) (shapes : List Semaphore) (t : Tables) (h : List Entry) → c.initial ≡ 1 → IsDeclared t → IsAccepted t (reverse h)
     → Follow (both_rules c (is_line c shapes)) (reverse h) → Follow (use_rules c) (reverse h)
 
--- where the workers of an accepted history follow `both`, its pairs are those whose two tickets it draws, by the entry that draws the first
+-- if the workers of an accepted history follow `both`, its pairs are those whose two tickets it draws, by the entry that draws the first
 abbrev pub PairsAreDrawn : Type 0
 PairsAreDrawn = (c : Semaphore) (shapes : List Semaphore) (t : Tables) (h : List Entry) → IsDeclared t → IsAccepted t (reverse h)
     → Follow (both_rules c (is_line c shapes)) (reverse h) → ArePairs c (is_line c shapes) h (pairs_of c shapes h)

@@ -9,12 +9,12 @@ use Rattle.ec_semaphore.specs.declared.pair.Pair.{Pair}
 use Rattle.ec_semaphore.specs.Shapes.{Semaphore}
 use Rattle.ec_semaphore.specs.Both.{line_of, is_line, both_rule}
 
--- the first ticket, and one more, where the act draws one
+-- the first ticket, and one more, if the act draws one
 abbrev pub pair_of : Told → Entry → Act → Option Pair
 pair_of r x (Ticket q) = Some (record { worker = x.worker; first = line_of r.op; first_ticket = number_of r.reply; second = q; second_ticket = number_of x.reply })
 pair_of r x _ = None
 
--- the pair that an entry completes, where its worker has made these calls of its critical section
+-- the pair that an entry completes, if its worker has made these calls of its critical section
 abbrev pub pair_with : List Told → Entry → Option Pair
 pair_with (t ∷ a ∷ r ∷ []) x = pair_of r x x.act
 pair_with calls x = None

@@ -37,7 +37,7 @@ fn is_up(shape: &SemaphoreShape, act: &Act) -> bool
     }
 }
 
-/// Counts one more where it holds. The greatest number stays as it is.
+/// Counts one more if it holds. The greatest number stays as it is.
 #[inline(always)]
 fn count(count: &mut u64, holds: bool)
     ensures { count.old + 1 < 2 ^ 64 → count.new ≡ count.old + (if holds then 1 else 0) }
@@ -113,7 +113,7 @@ impl BalanceAudit {
         }
     }
 
-    /// Returns the parts of the balance after the entries so far, where the workers follow the
+    /// Returns the parts of the balance after the entries so far, if the workers follow the
     /// semaphore. Err is NotFollowed, with the first entry that breaks the lists of calls.
     pub fn finish(&self) -> Result<Balance, AuditFault>
         ensures ok { (t : Tables) (h : List Entry) → EndsAt t (IsCounted self.now) h → IsOk result ↔ Follow (use_rules self.now.shape) (reverse h) }

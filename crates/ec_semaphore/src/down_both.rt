@@ -53,7 +53,7 @@ impl DownBoth {
         }
     }
 
-    /// Returns the act that is due where no call is pending.
+    /// Returns the act that is due if no call is pending.
     fn due(&self) -> Option<Act>
         ensures { result ≡ ⟦<DownBoth as Procedure>⟧.rest self.now [] }
     {
@@ -75,7 +75,7 @@ impl DownBoth {
     }
 }
 
-/// Returns the place after one where a call told this number; 0 if it told none.
+/// Returns the place after one if a call told this number; 0 if it told none.
 fn next_place(place: Place, number: u64) -> Place
     ensures { result ≡ next_place place number }
 {

@@ -5,12 +5,12 @@ ghost use Rattle.ec_semaphore.specs.Auditing.{OthersMayBeLeftOut, GoesMayBeLeftO
 ghost use Rattle.ec_semaphore.specs.Joined.{FollowingMeansUses, UsesAreDownsAndUps, FollowingBothMeansGuardedParts, WholePartsAreGuarded, DownIsWritten, UpIsWritten, DownBothIsWritten};
 ghost use Rattle.ec_semaphore.specs.Laws.{SemaphoresStay, DownsCountFinishedWaits, BalancesAreNeverNegative, BothIsFollowedAsASemaphore, PairsAreDrawn, TicketsAgree};
 
-/// States that a semaphore that fits declarations fits them still where more is declared.
+/// States that a semaphore that fits declarations fits them still if more is declared.
 pub fn declared_semaphores_stay()
     ensures { SemaphoresStay }
 {}
 
-/// States that an accepted history follows a semaphore exactly where each worker's calls on it are
+/// States that an accepted history follows a semaphore exactly if each worker's calls on it are
 /// whole lists joined end to end, and the beginning of one more. The whole lists are the P and the
 /// V.
 pub fn following_means_uses()
@@ -18,7 +18,7 @@ pub fn following_means_uses()
     ensures whole { UsesAreDownsAndUps }
 {}
 
-/// States that an accepted history follows `both` exactly where each worker's calls are critical
+/// States that an accepted history follows `both` exactly if each worker's calls are critical
 /// sections, with calls on other objects between them, and the beginning of one more.
 pub fn following_both_means_guarded_parts()
     ensures joined { FollowingBothMeansGuardedParts }

@@ -83,7 +83,7 @@ fn note_drawn(kept: &Kept, entry: &Entry, latest: &mut [Drawn; 16]) -> Option<Pa
     pair
 }
 
-/// Adds a pair, where there is one.
+/// Adds a pair, if there is one.
 fn add(pairs: &mut Vec<Pair>, pair: Option<Pair>) -> Result<(), AllocError>
     ensures { OnOk result (pairs.new.items ≡ pairs.old.items ++ option_to_list pair) }
 {
@@ -93,7 +93,7 @@ fn add(pairs: &mut Vec<Pair>, pair: Option<Pair>) -> Result<(), AllocError>
     Ok(())
 }
 
-/// Adds a pair, where there is one, as long as the list could grow. Whether it could not, now or
+/// Adds a pair, if there is one, as long as the list could grow. Whether it could not, now or
 /// before.
 fn lacks_after(lacks: bool, pairs: &mut Vec<Pair>, pair: Option<Pair>) -> bool
     ensures before { result ≡ false → lacks ≡ false }
@@ -158,8 +158,8 @@ impl<'a> PairAudit<'a> {
         }
     }
 
-    /// Returns the pairs after the entries so far, where the workers follow the critical sections.
-    /// Where they don't, the first entry that breaks the lists of calls is told.
+    /// Returns the pairs after the entries so far, if the workers follow the critical sections.
+    /// If they don't, the first entry that breaks the lists of calls is told.
     pub fn finish(self) -> Result<Vec<Pair>, AuditFault>
         ensures followed { (t : Tables) (h : List Entry) → EndsAt t (IsPairing self.entry) h → IsOk result → Follow (both_rules self.entry.common (is_line self.entry.common self.entry.shapes)) (reverse h) }
         ensures pairs { (t : Tables) (h : List Entry) → EndsAt t (IsPairing self.entry) h → IfOk result (λ ps. ps.items ≡ pairs_of self.entry.common self.entry.shapes h) }
@@ -177,7 +177,7 @@ impl<'a> PairAudit<'a> {
     }
 
     /// Returns the pairs after all entries of a run whose workers follow the critical sections.
-    /// Where they don't, the first entry that breaks the lists of calls is told.
+    /// If they don't, the first entry that breaks the lists of calls is told.
     pub fn pairs(self, run: &Run) -> Result<Vec<Pair>, AuditFault>
         requires { IsPairing self (reverse run.now.entries) }
         ensures followed { IsOk result → Follow (both_rules self.entry.common (is_line self.entry.common self.entry.shapes)) (reverse run.now.entries) }
@@ -194,7 +194,7 @@ impl<'a> PairAudit<'a> {
 /// Returns the pairs of tickets that the P on two of these semaphores draw in a run whose workers
 /// follow the critical sections of a common one, in the order in which their first tickets were
 /// drawn: one for each P that has drawn both. Err is NotFollowed, with the first entry that breaks
-/// the lists of calls, or want of memory where there is none.
+/// the lists of calls, or want of memory if there is none.
 ///
 /// A semaphore is told by its sequencer here: two shapes with one sequencer are one semaphore, and
 /// a shape with the sequencer of the common one is none of the two. It is meant for shapes that fit

@@ -67,7 +67,7 @@ impl SemaphoreShape {
 }
 
 /// Declares a semaphore with an initial value and its users: an eventcount that they signal and
-/// observe, and a sequencer that they draw from. Refused as TooMany where the initial value is
+/// observe, and a sequencer that they draw from. Refused as TooMany if the initial value is
 /// above INITIAL_MAX.
 pub fn declare_semaphore(
     setup: &mut Setup,

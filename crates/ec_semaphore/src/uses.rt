@@ -15,7 +15,7 @@ pub(crate) struct Uses {
     shape: SemaphoreShape,
 }
 
-/// Nothing is kept where no call of a list is finished.
+/// Nothing is kept if no call of a list is finished.
 pub(crate) const NOTHING: Kept = Kept {
     at: 0,
     first: 0,

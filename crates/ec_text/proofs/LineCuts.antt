@@ -41,7 +41,7 @@ ends_near bytes = mask_l (map (is_byte 10) (take 32 bytes))
 abbrev pub nearest : List ℕ → ℕ
 nearest bytes = count_trailing_zeros 64 (ends_near bytes)
 
--- 1 where this is
+-- 1 if this is
 abbrev unit : Bool → ℕ
 unit b = cond b 1 0
 

@@ -2,7 +2,7 @@
 use Rattle.std.specs.Prelude.{◌≡◌, ◌<◌, [], ℕ, List, ◌++◌, length, Option, Some, None, Bool, true, false, ⊤}
 use Rattle.std.specs.Io.KnownBytes.{Appends}
 
--- bytes on their way: the writer, by the name of the reference to it; what it holds, where that is known; the bytes that wait for it; and
+-- bytes on their way: the writer, by the name of the reference to it; what it holds, if that is known; the bytes that wait for it; and
 -- whether a write has failed
 pub record Outgoing : Type 0 where
   pub writer : ℕ

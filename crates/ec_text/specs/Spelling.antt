@@ -23,6 +23,6 @@ NumberHasOneSpelling = (w : List ℕ) (n : ℕ) → number_of w ≡ Some n → (
 abbrev pub NumberIsReadBack : Type 0
 NumberIsReadBack = (n : ℕ) → n < 1000000000000000000 → number_of (decimal n) ≡ Some n
 
--- a word is read as a number exactly where it is digits without a leading zero, at most 18
+-- a word is read as a number exactly if it is digits without a leading zero, at most 18
 abbrev pub NumbersAreShortForms : Type 0
 NumbersAreShortForms = (w : List ℕ) → IsSome (number_of w) ↔ ((is_number_form w ≡ true) × (length w ≤ 18))

@@ -24,7 +24,7 @@ digits_from n (c ∷ cs) = if is_ascii_digit c && nat_lt n 100000000000000000 th
 abbrev pub has_form : List ℕ → Bool
 has_form w = (length w == 1) || (nat_lt 0 (length w) && not (slice_index w 0 == 48))
 
--- the number that a word spells, where it is at most 18 digits without a leading zero
+-- the number that a word spells, if it is at most 18 digits without a leading zero
 abbrev pub number_of : List ℕ → Option ℕ
 number_of w = if has_form w then digits_from 0 w else None
 

@@ -7,7 +7,7 @@ use std::marker::Model;
 /// A number and its decimal digits, so that one that is put again and again isn't spelled anew each time.
 ///
 /// Meant for a number that mostly stays or changes by little, as the points of lines do: `set` then keeps another last digit alone.
-/// Any number may follow any other, and is spelled anew where the last digit isn't enough.
+/// Any number may follow any other, and is spelled anew if the last digit isn't enough.
 #[derive(Drop)]
 pub struct Decimal {
     /// The number with a last digit of 0.

@@ -31,7 +31,7 @@ pub fn number_is_read_back()
     ensures { NumberIsReadBack }
 {}
 
-/// States that a word is read as a number exactly where it is digits without a leading zero, at
+/// States that a word is read as a number exactly if it is digits without a leading zero, at
 /// most 18.
 pub fn numbers_are_short_forms()
     ensures { NumbersAreShortForms }

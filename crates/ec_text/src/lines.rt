@@ -5,7 +5,7 @@ ghost use Rattle.memchr.specs.Find.{IsFirstByte, is_byte};
 use memchr::memchr;
 use std::simd::prelude::*;
 
-/// Returns where the first LF stands, where that is among the first 32 bytes. These are looked at
+/// Returns where the first LF stands, if that is among the first 32 bytes. These are looked at
 /// all at once.
 #[inline(always)]
 fn near_line_end(bytes: &[u8]) -> Option<usize>
@@ -34,7 +34,7 @@ fn line_end(bytes: &[u8]) -> Option<usize>
     }
 }
 
-/// Returns the bytes before the first LF, and those behind it: `None` where there is no LF.
+/// Returns the bytes before the first LF, and those behind it: `None` if there is no LF.
 #[inline(always)]
 #[tactic(auto, using(crate::proofs::LineCuts::line_cuts))]
 pub fn cut_line(bytes: &[u8]) -> Option<(&[u8], &[u8])>

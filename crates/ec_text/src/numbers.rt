@@ -34,7 +34,7 @@ fn is_digits(word: &[u8]) -> bool
     word.iter().all(|b| b.is_ascii_digit())
 }
 
-/// Returns the number that digits spell, where there are at most 18 after the zeros.
+/// Returns the number that digits spell, if there are at most 18 after the zeros.
 #[tactic(auto, using(crate::proofs::shared::NumberLemmas::digits_steps))]
 fn digits(word: &[u8]) -> Option<u64>
     ensures value { result ≡ digits_from 0 word.now }

@@ -52,7 +52,7 @@ impl<'a, W: Write> Out<'a, W> {
         self.failed
     }
 
-    /// Takes the bytes in where there is room for all of them: else they must be written. What is taken in after a failure doesn't
+    /// Takes the bytes in if there is room for all of them: else they must be written. What is taken in after a failure doesn't
     /// wait, and is let go when the table is full.
     #[inline(always)]
     fn take_in(&mut self, bytes: &[u8]) -> bool
@@ -95,7 +95,7 @@ impl<'a, W: Write> Out<'a, W> {
         self.put_behind(bytes);
     }
 
-    /// Takes bytes and a short text in as `take_in` does, where there is room for the longest.
+    /// Takes bytes and a short text in as `take_in` does, if there is room for the longest.
     #[inline(always)]
     fn take_in_short(&mut self, before: &[u8], text: &ShortText) -> bool
         ensures puts { IsTrue result → Puts self.old self.new (before.now ++ text.now) }

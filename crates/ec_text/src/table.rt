@@ -28,7 +28,7 @@ fn write_ends<const N: usize>(table: &mut [u8], place: usize, bytes: &[u8])
     write_front::<N>(table, place + last, &bytes[last..]);
 }
 
-/// Writes bytes into a table, over those from a place on. At most 32 of them are two stores of one size, which may overlap; where they are
+/// Writes bytes into a table, over those from a place on. At most 32 of them are two stores of one size, which may overlap; if they are
 /// a literal, a compiler chooses that size. (It is put into its callers without `#[inline(always)]`, by which these would be taken for very
 /// large, and called.)
 fn write_at(table: &mut [u8], place: usize, bytes: &[u8])
@@ -93,7 +93,7 @@ impl ShortText {
         text
     }
 
-    /// Takes bytes in behind those that are there, where the text stays short, and tells whether it did.
+    /// Takes bytes in behind those that are there, if the text stays short, and tells whether it did.
     #[inline(always)]
     pub fn take_in(&mut self, bytes: &[u8]) -> bool
         ensures taken { IsTrue result → self.new ≡ self.old ++ bytes.now }
@@ -160,7 +160,7 @@ impl Table {
         self.len = 0;
     }
 
-    /// Takes bytes in where there is room for all of them, and tells whether it did.
+    /// Takes bytes in if there is room for all of them, and tells whether it did.
     #[inline(always)]
     pub(crate) fn take_in(&mut self, bytes: &[u8]) -> bool
         ensures taken { IsTrue result → self.new ≡ self.old ++ bytes.now }
@@ -175,7 +175,7 @@ impl Table {
         true
     }
 
-    /// Takes bytes in, and a short text behind them, where there is room for the longest, and tells whether it did. Of bytes there are
+    /// Takes bytes in, and a short text behind them, if there is room for the longest, and tells whether it did. Of bytes there are
     /// at most 32 here.
     #[inline(always)]
     pub(crate) fn take_in_short(&mut self, before: &[u8], text: &ShortText) -> bool

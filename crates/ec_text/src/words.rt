@@ -37,7 +37,7 @@ fn front_of_8(line: &[u8]) -> usize
     }
 }
 
-/// Returns some bytes at the front among which there is no space, found at once where the line is
+/// Returns some bytes at the front among which there is no space, found at once if the line is
 /// long enough.
 #[inline(always)]
 #[tactic(auto, using(crate::proofs::shared::WordLemmas::fronts))]
@@ -54,7 +54,7 @@ fn front(line: &[u8]) -> usize
     }
 }
 
-/// Returns the first word of a line, and what stands behind the space after it: `None` where no
+/// Returns the first word of a line, and what stands behind the space after it: `None` if no
 /// space follows.
 ///
 /// Words are what lies between single spaces, so that two spaces in a row have an empty word between them.
@@ -75,7 +75,7 @@ pub fn cut_word(line: &[u8]) -> (&[u8], Option<&[u8]>)
     (line, None)
 }
 
-/// Returns whether a word of a line is empty, as where two spaces stand in a row.
+/// Returns whether a word of a line is empty, as if two spaces stand in a row.
 pub fn has_blank(line: &[u8]) -> bool
     ensures { result ≡ list_any (λ w. length w == 0) (words_of line.now) }
 {

@@ -1,4 +1,4 @@
--- A line is read as the entry that it spells, and as none where it spells none.
+-- A line is read as the entry that it spells, and as none if it spells none.
 use Rattle.std.proofs.Common.{◌≡◌, ◌≢◌, inl, inr, ℕ, ◌+◌, ◌<◌, ◌≤◌, List, [], ◌∷◌, length, cond, true, false, nat_lt, Option, Some, None, Result, Ok, Err, refl, sym, ap, subst, ◌∙◌, arith, codes, reverse}
 use Rattle.std.specs.Prelude.{bytes_eq, nat_le}
 use Rattle.std.proofs.lemmas.Bool.{true≢false, false_from_ne_true, ltb-true, leb-true, lt-leb, le-ltb, or_from}
@@ -247,7 +247,7 @@ at_entry t line e s spells =
 off_reply : (right r : Reply) → right ≢ r → same_reply right r ≡ false
 off_reply right r off = false_from_ne_true _ (λ same. off (same_is right r same))
 
--- where the line spells no entry that the version may have, the entry that was read, if one was, is none that it may have
+-- if the line spells no entry that the version may have, the entry that was read, if one was, is none that it may have
 bad_entry : (t : Recounted) (line : List ℕ) (o : Option Entry) → IsSound t.heading → SpellsNoneInVersion t.heading line → entry_of t.heading.words line ≡ o → entered t o ≡ Err Bad
 bad_entry t line None s none read = refl
 bad_entry t line (Some e) s none read =

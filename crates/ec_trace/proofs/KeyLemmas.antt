@@ -52,7 +52,7 @@ taken_on : (n m : ℕ) (xs : List ℕ) → take n xs ++ take m (drop n xs) ≡ t
 taken_on n m xs =
     ap (λ (r : List ℕ). r ++ take m (drop n xs)) (sym (take-take n (n + m) xs (omega arith))) ∙ ap (λ (r : List ℕ). take n (take (n + m) xs) ++ r) (sym (drop-take n m xs)) ∙ take-append-drop n (take (n + m) xs)
 
--- as much from the beginning as up to the end, where that is at least half
+-- as much from the beginning as up to the end, if that is at least half
 lapped : (xs head tail : List ℕ) (m : ℕ) → m ≤ length xs → length xs ≤ m + m → head ≡ take m xs → tail ≡ drop (length xs - m) xs → head ++ drop (m + m - length xs) tail ≡ xs
 lapped xs head tail m least most h t =
     let at : (length xs - m) + (m + m - length xs) ≡ m = omega arith in

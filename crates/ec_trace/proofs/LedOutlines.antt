@@ -1,4 +1,4 @@
--- What the lines of a trace have declared, where `run` came, is what an outline declares.
+-- What the lines of a trace have declared, if `run` came, is what an outline declares.
 use Rattle.std.proofs.Common.{◌≡◌, ◌⊎◌, inl, inr, ℕ, ◌<◌, ◌≤◌, List, [], ◌∷◌, cond, true, false, ◌&&◌, nat_lt, Ok, refl, sym, ap, subst, ◌∙◌, arith, codes, reverse}
 use Rattle.std.specs.Prelude.{bytes_eq}
 use Rattle.std.proofs.lemmas.Bool.{and_parts, ltb-true}

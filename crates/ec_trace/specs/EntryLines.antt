@@ -52,19 +52,19 @@ IsEntryFault t line (WrongReply right) = (e : Entry) × SpellsInVersion t.headin
 
 -- LAWS
 
--- a line is read as an entry exactly where it spells that entry, of which it is then asked whether the version may have it
+-- a line is read as an entry exactly if it spells that entry, of which it is then asked whether the version may have it
 abbrev pub EntriesAreSpelled : Type 0
 EntriesAreSpelled = (o : Outline) (line : List ℕ) (e : Entry) → IsOutline o → (entry_of (headed o).words line ≡ Some e) ↔ SpellsEntry (headed o) line e
 
--- and as none exactly where it spells none
+-- and as none exactly if it spells none
 abbrev pub OtherLinesSpellNone : Type 0
 OtherLinesSpellNone = (o : Outline) (line : List ℕ) → IsOutline o → (entry_of (headed o).words line ≡ None) ↔ SpellsNoEntry (headed o) line
 
--- what the lines of a trace have declared, where `run` came, is what an outline declares
+-- what the lines of a trace have declared, if `run` came, is what an outline declares
 abbrev pub LinesLeadToOutlines : Type 0
 LinesLeadToOutlines = (before : List (List ℕ)) (t : Recounted) → Leads Opening before (Running t) → HasOutline t.heading
 
--- so a line behind `run` is told a fault exactly where it has it
+-- so a line behind `run` is told a fault exactly if it has it
 abbrev pub FaultsOfEntries : Type 0
 FaultsOfEntries = (before : List (List ℕ)) (t : Recounted) (line : List ℕ) (fault : LineFault) → Leads Opening before (Running t)
     → (step (Running t) line ≡ Err fault) ↔ IsEntryFault t line fault

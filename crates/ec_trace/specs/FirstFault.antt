@@ -53,11 +53,11 @@ LineFaultIsTheFirst = (bytes : List ℕ) (n : ℕ) (fault : LineFault) → outco
 abbrev pub FirstFaultIsTold : Type 0
 FirstFaultIsTold = (bytes : List ℕ) (n : ℕ) (fault : LineFault) → IsFirstFault (take TRACE_MAX bytes) n fault → outcome TRACE_MAX bytes ≡ Err (numbered n fault)
 
--- a text is too large only where it has more bytes than the bound, and unfinished only where it has not
+-- a text is too large only if it has more bytes than the bound, and unfinished only if it has not
 abbrev pub FaultOfTheWhole : Type 0
 FaultOfTheWhole = (bytes : List ℕ)
     → (outcome TRACE_MAX bytes ≡ Err TooLarge → TRACE_MAX < length bytes) × (outcome TRACE_MAX bytes ≡ Err Unfinished → length bytes ≤ TRACE_MAX)
 
--- where a failed read is told, what the reader gave has no faulty line
+-- if a failed read is told, what the reader gave has no faulty line
 abbrev pub FailedReadHasNoFault : Type 0
 FailedReadHasNoFault = (bytes : List ℕ) (left : Option (List ℕ)) (failed : HasNoFault TRACE_MAX bytes left) (n : ℕ) (fault : LineFault) → IsFirstFault failed.given n fault → ⊥

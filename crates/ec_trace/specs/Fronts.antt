@@ -18,7 +18,7 @@ HasFront line front = (answer : List ℕ) × (line ≡ front ++ 32 ∷ answer) �
 abbrev pub EndsIn : List ℕ → List ℕ → Reply → Type 0
 EndsIn line front r = (answer : List ℕ) × (line ≡ front ++ 32 ∷ answer) × IsWord answer × (reply_of answer ≡ Some r)
 
--- the entry of a worker and an act, with a reply where there is one
+-- the entry of a worker and an act, with a reply if there is one
 abbrev pub with_reply : ℕ → Act → Option Reply → Option Entry
 with_reply w a None = None
 with_reply w a (Some r) = Some (record { worker = w; act = a; reply = r })
@@ -34,7 +34,7 @@ with_value (acts.Await e v) n = acts.Await e n
 with_value (acts.Put x v) n = acts.Put x n
 with_value a n = a
 
--- the entry of a worker and an act with this value, where there is one, and a reply
+-- the entry of a worker and an act with this value, if there is one, and a reply
 abbrev pub with_both : ℕ → Act → Option ℕ → Option Reply → Option Entry
 with_both w a None r = None
 with_both w a (Some n) r = with_reply w (with_value a n) r

@@ -7,7 +7,7 @@ use Rattle.ec_heading.specs.Spelling.{trace_text}
 use Rattle.ec_heading.specs.Versions.{CanSpellAll}
 use Rattle.ec_trace.specs.declared.read.TheConstants.{TRACE_MAX}
 
--- the bytes are the trace of this heading and this history, which has no hand where the heading is of version 1
+-- the bytes are the trace of this heading and this history, which has no hand if the heading is of version 1
 pub record IsTrace (bytes : List ℕ) (o : Outline) (entries : List Entry) : Type 0 where
   pub heading : IsOutline o
   pub accepted : IsAccepted (headed o).setup (reverse entries)

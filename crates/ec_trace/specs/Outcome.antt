@@ -57,7 +57,7 @@ goes_from p more = goes p.number p.stage (parts_of (p.part ++ more))
 unfoldable pub start : Place
 start = record { stage = Opening; number = 1; part = [] }
 
--- a text whose lines have no fault is whole where its last line came, with its LF
+-- a text whose lines have no fault is whole if its last line came, with its LF
 abbrev pub traced_in : Stage → Result Recounted TraceFault
 traced_in (Ended t) = Ok t
 traced_in _ = Err Unfinished
@@ -69,11 +69,11 @@ abbrev pub bounded : ℕ → List ℕ → Result Place TraceFault → Result Rec
 bounded max xs (Err f) = Err f
 bounded max xs (Ok p) = if nat_lt max (length xs) then Err TooLarge else ended_at p
 
--- what an input comes to that is read to its end, where a text has at most max bytes
+-- what an input comes to that is read to its end, if a text has at most max bytes
 unfoldable pub outcome : ℕ → List ℕ → Result Recounted TraceFault
 outcome max xs = bounded max xs (goes_from start (take max xs))
 
--- what is known where a failed read is told, of a reader that had these bytes and has those left: in what it gave no line is
+-- what is known if a failed read is told, of a reader that had these bytes and has those left: in what it gave no line is
 -- faulty, and what stands behind the last LF is not faulty either
 pub record HasNoFault (max : ℕ) (xs : List ℕ) (left : Option (List ℕ)) : Type 0 where
   pub given : List ℕ

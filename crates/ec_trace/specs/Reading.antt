@@ -41,7 +41,7 @@ pub record IsSound (piece : List ℕ) (from end read before number first last : 
   pub short : length apart ≤ 8192
   pub plain : All (λ b. b ≢ 10) apart
 
--- no more than a text may have was taken and is at hand, all of that where there is more; and the part of a line is no whole line
+-- no more than a text may have was taken and is at hand, all of that if there is more; and the part of a line is no whole line
 pub record IsWithin (r : Reading) : Type 0 where
   pub bound : r.taken + length r.behind ≤ TRACE_MAX
   pub full : 0 < length r.over → r.taken + length r.behind ≡ TRACE_MAX

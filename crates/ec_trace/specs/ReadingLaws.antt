@@ -47,14 +47,14 @@ TraceHasOneMeaning = (bytes : List ℕ) (o p : Outline) (es fs : List Entry) →
 abbrev pub NoTraceBeginsAnother : Type 0
 NoTraceBeginsAnother = (bytes more : List ℕ) (o p : Outline) (es fs : List Entry) → IsTrace bytes o es → IsTrace (bytes ++ more) p fs → more ≡ []
 
--- the trace of an accepted history under a heading whose version can spell it is read again as that heading and that history, where it is
+-- the trace of an accepted history under a heading whose version can spell it is read again as that heading and that history, if it is
 -- within the bound
 abbrev pub WrittenIsReadAgain : Type 0
 WrittenIsReadAgain = (o : Outline) (entries : List Entry) → IsOutline o → IsAccepted (headed o).setup (reverse entries) → CanSpellAll o.version entries → length (trace_text o entries) ≤ TRACE_MAX
     → outcome TRACE_MAX (trace_text o entries) ≡ Ok (record { heading = headed o; entries = entries })
 
 -- a text that is the trace of the same declarations and the same history under version 2: behind its first line it is these bytes, so it
--- is as long, and is these bytes where they have version 2; and it is read so
+-- is as long, and is these bytes if they have version 2; and it is read so
 pub record UpgradesTo (bytes text : List ℕ) (o : Outline) (entries : List Entry) : Type 0 where
   pub trace : IsTrace text (upgraded_outline o) entries
   pub behind : List ℕ

@@ -18,7 +18,7 @@ use ec_text::number_at_end;
 use std::alloc::{AllocError, Global};
 use std::marker::Model;
 
-/// How many places fronts have at first. Where these are too few, they get four times as many, up to the greatest number:
+/// How many places fronts have at first. If these are too few, they get four times as many, up to the greatest number:
 /// that is enough for the puts and gets of 16 workers on 256 cells.
 const PLACES: usize = 256;
 
@@ -74,7 +74,7 @@ fn replace(fronts: &mut Vec<Front>, number: usize, known: Front)
 }
 
 /// The fronts that were read lately, one beside the other as they came, and the number of each at one of two places that its bytes
-/// give. So where there are many fronts, they lie close together and the free places take little. The more fronts a trace has, the
+/// give. So if there are many fronts, they lie close together and the free places take little. The more fronts a trace has, the
 /// more places they get.
 #[derive(Drop)]
 pub(crate) struct Fronts {
@@ -117,7 +117,7 @@ impl Fronts {
         }
     }
 
-    /// Returns what is kept of a front, where it was read lately.
+    /// Returns what is kept of a front, if it was read lately.
     #[inline(always)]
     #[tactic(auto, using(crate::proofs::FrontLemmas::found))]
     fn find(&self, front: &[u8]) -> Option<&Front>
@@ -143,7 +143,7 @@ impl Fronts {
         }
     }
 
-    /// Puts a front at one of its two places, in the stead of another where neither is free.
+    /// Puts a front at one of its two places, in the stead of another if neither is free.
     fn put(&mut self, known: Front)
         ensures { (names : Named) → AreKept names self.old → IsKept names known → AreKept names self.new }
     {
@@ -225,7 +225,7 @@ impl Fronts {
         Some(entry)
     }
 
-    /// Returns the entry that a front without a value spells with a reply, where it was read
+    /// Returns the entry that a front without a value spells with a reply, if it was read
     /// lately.
     #[inline(always)]
     pub(crate) fn whole(&self, front: &[u8], reply: Reply) -> Option<Entry>
@@ -243,7 +243,7 @@ impl Fronts {
     }
 
     /// Returns the entry that a front spells with a reply, by its value and what stands before
-    /// that, where the latter was read lately.
+    /// that, if the latter was read lately.
     #[inline(always)]
     pub(crate) fn valued(&self, opening: &[u8], value: u64, reply: Reply) -> Option<Entry>
         ensures { (names : Named) (line front : List ℕ) → AreKept names self.now → EndsIn line front reply → HasNumber front opening.now value → IfSome result (λ e. entry_of names line ≡ Some e) }
@@ -272,7 +272,7 @@ fn is_valued(act: &Act) -> bool
     }
 }
 
-/// Returns the act with another value, where it has one.
+/// Returns the act with another value, if it has one.
 #[inline(always)]
 fn with_value(act: Act, value: u64) -> Act
     ensures { result ≡ with_value act value }

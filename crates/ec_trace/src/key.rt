@@ -5,7 +5,7 @@
 ghost use Rattle.std.specs.Prelude.{◌≡◌, ◌+◌, ◌≤◌, ◌<◌, IfSome, IsTrue, length, take, drop};
 ghost use Rattle.ec_trace.specs.Keys.{eight_of, four_of};
 
-/// The key of a text of four to 32 bytes: its length, and words of eight bytes of it, or of four where it has fewer than
+/// The key of a text of four to 32 bytes: its length, and words of eight bytes of it, or of four if it has fewer than
 /// eight. The first word begins where the text does, the last ends where it does, and the second and the third are the
 /// next to these. In a text of fewer than 16 bytes they overlap.
 #[derive(Clone, Copy)]
@@ -20,7 +20,7 @@ pub(crate) struct Key {
 impl Key {
     ghost use Rattle.ec_trace.specs.Keys.{text_of};
 
-    /// Returns the key of a text, where it has one.
+    /// Returns the key of a text, if it has one.
     #[inline(always)]
     pub(crate) fn of(text: &[u8]) -> Option<Self>
         ensures { IfSome result (λ k. text_of k ≡ text.now) }

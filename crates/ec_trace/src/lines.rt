@@ -139,7 +139,7 @@ impl Lines {
         }
     }
 
-    /// Reads the next piece, where all of the last one is taken. Whether there is one.
+    /// Reads the next piece, if all of the last one is taken. Whether there is one.
     fn refill<R: Read>(&mut self, reader: &mut R) -> io::Result<bool>
         requires taken { self.old.behind ≡ [] }
         requires within { self.old.over ≡ [] }

@@ -87,7 +87,7 @@ fn take_anew<H: History>(
     enter(heading, history, &entry)
 }
 
-/// Takes the next entry, by its line, where its front was read lately. Else it does nothing.
+/// Takes the next entry, by its line, if its front was read lately. Else it does nothing.
 #[inline(always)]
 fn take_known<H: History>(
     heading: &Heading,

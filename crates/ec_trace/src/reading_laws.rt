@@ -41,8 +41,8 @@ pub fn first_fault_is_told()
     ensures { FirstFaultIsTold }
 {}
 
-/// States that a text is too large only where it has more bytes than the bound, and unfinished only
-/// where it has not.
+/// States that a text is too large only if it has more bytes than the bound, and unfinished only
+/// if it has not.
 #[tactic(auto, using(crate::proofs::FirstFaults::fault_of_the_whole))]
 pub fn fault_of_the_whole()
     ensures { FaultOfTheWhole }
@@ -53,13 +53,13 @@ pub fn failed_read_has_no_fault()
     ensures { FailedReadHasNoFault }
 {}
 
-/// States that a line is read as an entry exactly where it is the spelling of that entry, one that
+/// States that a line is read as an entry exactly if it is the spelling of that entry, one that
 /// may be written under the heading.
 pub fn entries_are_spelled()
     ensures { EntriesAreSpelled }
 {}
 
-/// States that a line is read as no entry exactly where it is the spelling of none.
+/// States that a line is read as no entry exactly if it is the spelling of none.
 pub fn other_lines_spell_none()
     ensures { OtherLinesSpellNone }
 {}
@@ -69,15 +69,15 @@ pub fn lines_lead_to_outlines()
     ensures { LinesLeadToOutlines }
 {}
 
-/// States that a line behind `run` is told as a bad line exactly where it is neither `end` nor the
-/// spelling of an entry that the version may have, as refused or as a wrong reply exactly where it
+/// States that a line behind `run` is told as a bad line exactly if it is neither `end` nor the
+/// spelling of an entry that the version may have, as refused or as a wrong reply exactly if it
 /// spells such an entry of which that holds.
 pub fn faults_of_entries()
     ensures { FaultsOfEntries }
 {}
 
 /// States that what `write_trace` writes of a run under a heading is read again as the same heading
-/// and the same run, where it is within the bound and, under version 1, the run has no hand.
+/// and the same run, if it is within the bound and, under version 1, the run has no hand.
 #[tactic(auto, using(crate::proofs::shared::ReadTraces::written_is_read))]
 pub fn written_is_read_again()
     ensures { WrittenIsReadAgain }

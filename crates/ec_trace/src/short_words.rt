@@ -7,7 +7,7 @@ ghost use Rattle.ec_heading.specs.Spelling.{Named};
 use crate::spell::{CellName, Words};
 use ec_text::{Decimal, ShortText};
 
-/// A short text for each number of each sort, where its word is short.
+/// A short text for each number of each sort, if its word is short.
 #[derive(Drop)]
 pub(crate) struct ShortWords {
     pub(crate) workers: [Option<ShortText>; 16],
@@ -35,7 +35,7 @@ impl ShortWords {
     }
 }
 
-/// Has a word ready, where it is short.
+/// Has a word ready, if it is short.
 fn short_word(word: &[u8]) -> Option<ShortText>
     ensures { IsShortOf result word.now }
 {
@@ -43,7 +43,7 @@ fn short_word(word: &[u8]) -> Option<ShortText>
     if text.take_in(word) { Some(text) } else { None }
 }
 
-/// Has the name of a cell ready, where it is short.
+/// Has the name of a cell ready, if it is short.
 fn short_cell(cell: &Option<CellName<'_>>) -> Option<ShortText>
     ensures { IsShortOf result (option_map_or cell_name_bytes cell.now []) }
 {

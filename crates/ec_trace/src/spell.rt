@@ -19,7 +19,7 @@ pub(crate) struct CellName<'a> {
     pub(crate) place: usize,
 }
 
-/// A word for each number of each sort; of no bytes where there is no name.
+/// A word for each number of each sort; of no bytes if there is no name.
 #[derive(Clone, Copy)]
 pub(crate) struct Words<'a> {
     pub(crate) workers: [&'a [u8]; 16],
@@ -96,28 +96,28 @@ impl<'a> Spellings<'a> {
         }
     }
 
-    /// Returns the name of a worker, of no bytes where it has none.
+    /// Returns the name of a worker, of no bytes if it has none.
     pub fn worker(&self, worker: WorkerId) -> &'a [u8]
         ensures { result.now ≡ word_of self.now (Worker worker) }
     {
         word_in(&self.words.workers, worker.get())
     }
 
-    /// Returns the name of an eventcount, of no bytes where it has none.
+    /// Returns the name of an eventcount, of no bytes if it has none.
     pub fn event(&self, event: EventId) -> &'a [u8]
         ensures { result.now ≡ word_of self.now (Event event) }
     {
         word_in(&self.words.events, event.get())
     }
 
-    /// Returns the name of a sequencer, of no bytes where it has none.
+    /// Returns the name of a sequencer, of no bytes if it has none.
     pub fn sequencer(&self, sequencer: SeqId) -> &'a [u8]
         ensures { result.now ≡ word_of self.now (Sequencer sequencer) }
     {
         word_in(&self.words.sequencers, sequencer.get())
     }
 
-    /// Returns the block that a cell stands in and its number there, where it has a name.
+    /// Returns the block that a cell stands in and its number there, if it has a name.
     fn cell(&self, cell: CellId) -> Option<CellName<'a>>
         ensures { option_map_or cell_name_bytes result [] ≡ cell_word self.now cell }
     {

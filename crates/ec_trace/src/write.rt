@@ -142,7 +142,7 @@ pub fn put_entry<W: Write>(out: &mut Out<'_, W>, spellings: &Spellings<'_>, entr
 }
 
 /// Writes an entry, without LF, as a trace has it. What has no name is spelled by no bytes.
-/// A WriteFault comes only where a write failed or wrote none of its bytes.
+/// A WriteFault comes only if a write failed or wrote none of its bytes.
 pub fn write_entry<W: Write>(
     entry: &Entry,
     heading: &Heading,
@@ -202,7 +202,7 @@ fn put_trace<W: Write>(
 
 /// Writes the trace of a run under the heading whose declarations the run is on: all its entries,
 /// those of pending calls too. Version 1 has no trace of a run with a hand: what is written of one
-/// under it is no trace. A WriteFault comes only where a write failed or wrote none of its bytes.
+/// under it is no trace. A WriteFault comes only if a write failed or wrote none of its bytes.
 /// It takes no memory.
 pub fn write_trace<W: Write>(run: &Run, heading: &Heading, writer: &mut W) -> Result<(), WriteFault>
     ensures ok { (o : Outline) → IsOutline o → headed o ≡ heading.now → OnOk result (Appends (W.contents writer.old) (W.contents writer.new) (trace_text o run.now.entries)) }

@@ -33,7 +33,7 @@ impl<'a> Model for Line<'a> {
     ghost view = { λ d. record { sort = d.sort; name = d.name.now; number = d.number; first = d.first.now; second = d.second.now } };
 }
 
-/// Returns the name of what was declared, of no bytes where it has none.
+/// Returns the name of what was declared, of no bytes if it has none.
 fn name_of(heading: &Heading, target: Target) -> &[u8]
     ensures { result.now ≡ word_of heading.now.names target }
 {
@@ -132,7 +132,7 @@ fn put_names<W: Write>(out: &mut Out<'_, W>, spellings: &Spellings<'_>, workers:
     }
 }
 
-/// Puts a name with a space before it, where such a declaration has one.
+/// Puts a name with a space before it, if such a declaration has one.
 fn put_name<W: Write>(out: &mut Out<'_, W>, sort: Sort, name: &[u8])
     ensures { Puts out.old out.new (spaced (name_words sort name.now)) }
 {
@@ -141,7 +141,7 @@ fn put_name<W: Write>(out: &mut Out<'_, W>, sort: Sort, name: &[u8])
     }
 }
 
-/// Puts a number with a space before it, where such a declaration has one.
+/// Puts a number with a space before it, if such a declaration has one.
 fn put_amount<W: Write>(out: &mut Out<'_, W>, sort: Sort, number: usize)
     ensures { Puts out.old out.new (spaced (number_words sort number)) }
 {
@@ -151,7 +151,7 @@ fn put_amount<W: Write>(out: &mut Out<'_, W>, sort: Sort, number: usize)
     }
 }
 
-/// Puts the second list with the word before it, nothing where the list is empty.
+/// Puts the second list with the word before it, nothing if the list is empty.
 fn put_second<W: Write>(
     out: &mut Out<'_, W>,
     spellings: &Spellings<'_>,

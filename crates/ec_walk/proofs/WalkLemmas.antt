@@ -276,7 +276,7 @@ module _ {A : Type 0} (stands : A → A → List Entry
         | false ↦ λ e. (let other : i ≢ n = eqb-false i n e in let less : i < n + 1 = r.1 in no_earlier (r.0, omega arith, r.2))
       ] refl)
 
-  -- up to the end, or none where that is before the first
+  -- up to the end, or none if that is before the first
   pub hands_all : (gs : List Group) (wide : Bool) (first end n : ℕ) (old new : List A) → end ≤ n
       → (end < n → n ≡ first) → HandsAmong stands gs wide first n place op x old new
       → HandsAmong stands gs wide first end place op x old new

@@ -54,7 +54,7 @@ is_asked_at gs false act i = passes_at gs (λ g. not (is_wide g) && names g act)
 
 -- THE TABLE
 
--- the least span in which those of the first n groups are that pass a test: where it is not empty,
+-- the least span in which those of the first n groups are that pass a test: if it is not empty,
 -- the groups at its two ends pass it
 pub record CoversFirst (gs : List Group) (test : Group → Bool) (span : Span) (n : ℕ) : Type 0 where
   pub among : (i : ℕ) → i < n → (g : Group) → slice_get gs i ≡ Some g → test g ≡ true

@@ -52,7 +52,7 @@ fn goes_on(entry: &Entry) -> bool
     matches!(entry.act, Act::Go) && matches!(entry.reply, Reply::Pending)
 }
 
-/// Returns whether the group with a number, if there is one, is wide, where those that are wide are
+/// Returns whether the group with a number, if there is one, is wide, if those that are wide are
 /// among these.
 #[inline(always)]
 fn is_wide_at(groups: &[Group], among: Span, number: usize) -> bool
@@ -277,7 +277,7 @@ impl<'a, A: GroupAudit> Audit for Walked<'a, A> {
     }
 }
 
-/// Returns the audits of groups after all entries of a run, in one walk over them, where there are
+/// Returns the audits of groups after all entries of a run, in one walk over them, if there are
 /// groups. Each was handed the entries whose calls are on its group, and no others; they stand in
 /// the order in which they were given, and none is added or taken away.
 pub fn walk_groups<A: GroupAudit>(run: &Run, groups: &[Group], audits: Vec<A>) -> Vec<A>

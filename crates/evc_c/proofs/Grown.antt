@@ -33,7 +33,7 @@ fronted a c bs p = (p.0, p.3, (p.0, p.1, p.2, refl, p.4))
 
 -- THE COMMANDS
 
--- what a command wrote stands behind what was there, and by itself it is what the command would have written where nothing was
+-- what a command wrote stands behind what was there, and by itself it is what the command would have written if nothing was
 abbrev pub GrowsAt : {S O : Type 0} → (List ℕ → Outgoing → O) → ContractBy S O → List ℕ → Option (List ℕ) → S → (first last : Outgoing) → List ℕ → List ℕ
     → Type 0
 GrowsAt outlets Does bytes left status first last a c = Grown a c (λ w. Does bytes left status (outlets [] first) (outlets w last))

@@ -12,13 +12,13 @@ use Rattle.calls_report.specs.Checks as calls_checks
 abbrev pub ContractBy : Type 0 → Type 0 → Type 1
 ContractBy S O = List ℕ → Option (List ℕ) → S → O → O → Type 0
 
--- the code that is returned: 4 where notes were cut off before the caller's room for them was full, since there was no memory for them;
--- else that of the status. Where notes were cut off then, as many bytes of them came as the caller has room for
+-- the code that is returned: 4 if notes were cut off before the caller's room for them was full, since there was no memory for them;
+-- else that of the status. If notes were cut off then, as many bytes of them came as the caller has room for
 abbrev pub IsCode : ℕ → ℕ → Bool → ℕ → ℕ → Type 0
 IsCode code given is_cut many room =
     ((code ≡ 4) × (is_cut ≡ true) × (many < room)) ⊎ ((code ≡ given) × (is_cut ≡ true → room ≤ many))
 
--- for these bytes the command ended with this status, where at first nothing was written and no note waited; this text was written, and
+-- for these bytes the command ended with this status, if at first nothing was written and no note waited; this text was written, and
 -- of its notes their writer holds these: all of them, or as much of them as the caller has room for, or the code is 4
 pub record AnswersBy {S O : Type 0} (code_of : S → ℕ) (outlets : List ℕ → Outgoing → O) (Does : ContractBy S O) (bytes : List ℕ) (code : ℕ)
     (text notes : List ℕ) (room : ℕ) : Type 0 where

@@ -12,7 +12,7 @@ abbrev pub room_holds : Room → List ℕ
 room_holds r = r.bytes.ghost_name ∷ take r.len r.bytes.now
 
 -- what a command did to a room in which nothing had been written, and to the notes: it is the same room, and what is written in it is
--- what the command writes; and no note waits, where none waited
+-- what the command writes; and no note waits, if none waited
 pub record FillsBy {S O : Type 0} (outlets : List ℕ → Outgoing → O) (Does : ContractBy S O) (bytes : List ℕ) (status : S) (r new : Room)
     (first last : Outgoing) : Type 0 where
   pub same : new.bytes.ghost_name ≡ r.bytes.ghost_name

@@ -42,7 +42,7 @@ fn hand_out(out: &Room<'_>, told: &[u8], notes: &mut [u8], written: &mut EvcWrit
     written.notes = put_front(notes, told);
 }
 
-/// Returns a status as the caller gets it: 4 where notes were cut off before the caller's room for them
+/// Returns a status as the caller gets it: 4 if notes were cut off before the caller's room for them
 /// was full, since there was no memory for them.
 fn code_for(code: u8, is_cut: bool, noted: usize, room: usize) -> u8
     ensures { IsCode result code is_cut noted room }
@@ -68,7 +68,7 @@ fn check_bytes(
 
 /// Checks a trace: the order of its completed calls and the totals are the text.
 ///
-/// The status is that of `evc check`, and 3 where the text had no room: then a proper front of it was written.
+/// The status is that of `evc check`, and 3 if the text had no room: then a proper front of it was written.
 #[tactic(auto, using(crate::proofs::Grown::answers))]
 #[unsafe(no_mangle)]
 pub extern "C" fn evc_check(
@@ -266,7 +266,7 @@ fn answer_no_memory(calls: &[u8], text: &mut [u8], notes: &mut [u8], written: &m
 /// Checks histories of calls: an order of the calls of each is the text. The notes have the remarks on them, and then the note on what
 /// ended the check, if there is one.
 ///
-/// The status is that of `evc-calls check`, and 3 where the text had no room: then a proper front of it was written.
+/// The status is that of `evc-calls check`, and 3 if the text had no room: then a proper front of it was written.
 #[tactic(auto, using(crate::proofs::Grown::answers))]
 #[unsafe(no_mangle)]
 pub extern "C" fn evc_calls_check(

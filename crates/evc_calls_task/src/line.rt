@@ -135,7 +135,7 @@ fn file_found<'a>(found: &ArgMatches<'a>) -> Option<&'a str>
 /// Reads the command line, whose first word is the program's name.
 ///
 /// An `Err` that is not out of memory says what is wrong with the words, or is the text of the help
-/// or the version that they ask for. `Error::print` writes it where it belongs.
+/// or the version that they ask for. `Error::print` writes it if it belongs.
 pub fn task<'a>(alloc: Global, words: &'a [String]) -> Result<Task<'a>, Error>
     ensures action { IfOk result (λ t. t.action ≡ action_in (texts_of words.now)) }
     ensures file { IfOk result (λ t. option_map (λ f. f.now) t.file ≡ file_in (texts_of words.now)) }

@@ -7,7 +7,7 @@ use Rattle.ec_draw.specs.declared.window.TheConstants.{COLUMNS_MAX}
 use Rattle.evc_draw_task.specs.declared.choice.Range.{Range}
 use Rattle.evc_draw.specs.Windows.{is_wide, window_for}
 
--- the last column is shown where the range has its position
+-- the last column is shown if the range has its position
 pub has_column : (r : Range) (n : ℕ) → r.from < n → n ≤ r.to → ((window_for r n).from < n)
     × ((window_for r n).to ≡ n)
 has_column r n low high = (omega (arith, clamps), omega (arith, clamps))

@@ -43,7 +43,7 @@ pub want_drawn : (v : View) (old left : Option (List ℕ)) (status : Status) (be
 want_drawn v None left status before after is told = tt
 want_drawn v (Some bytes) left status before after is told = inl (is, told)
 
--- how histories were drawn, where what says that something is chosen is said in other words
+-- how histories were drawn, if what says that something is chosen is said in other words
 pub histories_drawn : (v : View) (text : List ℕ) (status : Status) (end : calls.Status)
     (old new : Outlets) (view : CallsView) → (Chooses view → AsksForPart v)
     → status ≡ status_as end

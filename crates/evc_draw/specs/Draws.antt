@@ -1,6 +1,6 @@
 -- What the program answered and wrote, for an input whose bytes are known and what was asked for.
 -- That the bytes of a picture are those of its shapes is tested; that the shapes are those of the
--- history is a `requires` where they are handed to the writer.
+-- history is a `requires` if they are handed to the writer.
 use Rattle.std.specs.Prelude.{◌≡◌, ◌⊎◌, ℕ, ◌+◌, ◌<◌, Ok, Err, Bool, true, false, nat_eq, List}
 use Rattle.std.specs.Prelude.{length, Option, Some, None, codes}
 use Rattle.std.specs.Io.KnownBytes.{Appends, Keeps}
@@ -64,7 +64,7 @@ abbrev pub IsDrawable : View → Recounted → Type 0
 IsDrawable v t = (has_unknown v.choice t.heading.words ≡ false)
     × (is_empty v.range (length t.entries) ≡ false)
 
--- a note says that only the last entries are drawn, where the range has more than a picture has;
+-- a note says that only the last entries are drawn, if the range has more than a picture has;
 -- else there is none
 abbrev pub TellsCut : View → Recounted → Outlets → Outlets → Type 0
 TellsCut v t old new =
@@ -84,7 +84,7 @@ Drawn v t Stopped old new = ⊥
 -- TEXTS THAT ARE REFUSED
 
 -- the history that is drawn of a text that is refused: that of the lines before the faulty one, and
--- of that line with its right reply where its reply alone is wrong; none where the fault has no
+-- of that line with its right reply if its reply alone is wrong; none if the fault has no
 -- line, or where no run had begun there
 abbrev pub history_at : List ℕ → TraceFault → Option ℕ → Option Recounted
 history_at text fault None = None
@@ -93,7 +93,7 @@ history_at text fault (Some n) = history n (right_of fault) text
 abbrev pub story : List ℕ → TraceFault → Option Recounted
 story text fault = history_at text fault (fault_line fault)
 
--- how the telling of a fault of a text ended, where this is the history up to there
+-- how the telling of a fault of a text ended, if this is the history up to there
 abbrev pub TellsFault : Option Recounted → TraceFault → Status → Outlets → Outlets → Type 0
 TellsFault None fault Refused old new = Keeps old.out new.out × Notes old new (fault_note fault)
 TellsFault (Some t) fault Refused old new = Wrote old.out new.out × Notes old new (fault_note fault)
@@ -152,7 +152,7 @@ TellsRead status old new =
     (status ≡ InputOutput) × Keeps old.out new.out × Notes old new (codes "read fault\n")
 
 -- how it ended with the beginning of a trace, behind which a read failed: a fault of its lines is
--- told in the same way, but not that it has no end; where there is none the failed read is told
+-- told in the same way, but not that it has no end; if there is none the failed read is told
 abbrev pub DrawsTraceSoFar : List ℕ → Status → Outlets → Outlets → Type 0
 DrawsTraceSoFar text status old new =
     ((status ≡ Memory) × Wants old new)

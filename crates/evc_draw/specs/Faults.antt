@@ -1,5 +1,5 @@
 -- What is drawn of a text that is refused for one of its lines: the trace of the lines before that
--- line, and of the line itself with the right reply where its reply alone is wrong.
+-- line, and of the line itself with the right reply if its reply alone is wrong.
 use Rattle.std.specs.Prelude.{ℕ, ◌+◌, ◌-◌, zero, suc, ◌==◌, nat_lt, List, [], ◌++◌, length, take}
 use Rattle.std.specs.Prelude.{drop, Option, Some, None, unwrap_or, Result, Ok, Err, codes}
 use Rattle.std.specs.Prelude.{if◌then◌else◌}
@@ -14,7 +14,7 @@ use Rattle.ec_trace.specs.declared.read.TheConstants.{TRACE_MAX}
 
 -- THE LINES OF A TEXT
 
--- where a sign stands first; behind the last byte where it doesn't
+-- where a sign stands first; behind the last byte if it doesn't
 abbrev pub place_of : ℕ → List ℕ → ℕ
 place_of sign xs = unwrap_or (position_from (λ b. b == sign) 0 xs) (length xs)
 
@@ -57,7 +57,7 @@ abbrev pub read_back : Result Recounted TraceFault → Option Recounted
 read_back (Ok t) = Some t
 read_back (Err e) = None
 
--- the trace of that text; none where no run had begun before line n
+-- the trace of that text; none if no run had begun before line n
 abbrev pub history : ℕ → Option Reply → List ℕ → Option Recounted
 history n right xs = read_back (outcome TRACE_MAX (mended (before_line n xs) (line_at n xs) right))
 
@@ -70,12 +70,12 @@ fault_line (Refused n r) = Some n
 fault_line (WrongReply n r) = Some n
 fault_line _ = None
 
--- the right reply, where the reply alone is wrong
+-- the right reply, if the reply alone is wrong
 abbrev pub right_of : TraceFault → Option Reply
 right_of (WrongReply n r) = Some r
 right_of _ = None
 
--- the position of the line's entry, where a history of k entries was read: behind them, or that of
+-- the position of the line's entry, if a history of k entries was read: behind them, or that of
 -- the last
 abbrev pub position_in : Option Reply → ℕ → ℕ
 position_in None k = k

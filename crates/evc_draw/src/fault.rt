@@ -21,7 +21,7 @@ fn position_of(sign: u8, bytes: &[u8]) -> Option<usize>
     bytes.iter().position(|b| *b == sign)
 }
 
-/// Returns where a sign stands first; behind the last byte where it doesn't.
+/// Returns where a sign stands first; behind the last byte if it doesn't.
 fn place_of(sign: u8, bytes: &[u8]) -> usize
     ensures value { result ≡ place_of sign bytes.now }
     ensures within { result ≤ length bytes.now }
@@ -140,7 +140,7 @@ pub(crate) fn read_text(alloc: Global, text: &[u8]) -> Result<Traced, TraceFault
 }
 
 /// Returns the trace of the lines before a faulty one, and of that with its right reply, if it has
-/// one; none where no run had begun.
+/// one; none if no run had begun.
 pub(crate) fn history(
     alloc: Global,
     number: u64,
@@ -174,7 +174,7 @@ pub(crate) fn fault_line(fault: &TraceFault) -> Option<u64>
     }
 }
 
-/// Returns the right reply, where the reply alone is wrong.
+/// Returns the right reply, if the reply alone is wrong.
 pub(crate) fn right_of(fault: &TraceFault) -> Option<Reply>
     ensures { result ≡ right_of fault.now }
 {
@@ -184,7 +184,7 @@ pub(crate) fn right_of(fault: &TraceFault) -> Option<Reply>
     }
 }
 
-/// Returns the position of the entry of a faulty line, where so many entries were read.
+/// Returns the position of the entry of a faulty line, if so many entries were read.
 pub(crate) fn position_in(right: &Option<Reply>, entries: usize) -> usize
     ensures { result ≡ position_in right.now entries }
 {

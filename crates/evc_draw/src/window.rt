@@ -27,7 +27,7 @@ pub(crate) fn is_wide(range: Range, entries: usize) -> bool
     window.to.saturating_sub(window.from) > COLUMNS_MAX
 }
 
-/// Returns what is drawn of so many columns: where a range has more than a picture has, the last of
+/// Returns what is drawn of so many columns: if a range has more than a picture has, the last of
 /// them.
 #[tactic(auto, using(crate::proofs::Columns::has_column, crate::proofs::Columns::is_narrow))]
 pub(crate) fn window_for(range: Range, columns: usize) -> Window

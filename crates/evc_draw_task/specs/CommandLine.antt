@@ -51,7 +51,7 @@ draw_app =
 abbrev pub rows_in : List Text → List Row
 rows_in words = matches_of draw_app words
 
--- the form: a page where `--html` was given, else a text where `--text` was
+-- the form: a page if `--html` was given, else a text if `--text` was
 abbrev pub form_by : List Row → Form
 form_by rows =
     if nat_lt 0 (count_of (codes "html") rows) then Html

@@ -148,7 +148,7 @@ fn words_found<'a>(
 /// Reads the command line, whose first word is the program's name.
 ///
 /// An `Err` that is not out of memory says what is wrong with the words, or is the text of the help
-/// or the version that they ask for. `Error::print` writes it where it belongs. That the words for
+/// or the version that they ask for. `Error::print` writes it if it belongs. That the words for
 /// `--from` and `--to` are numbers is asked by `Task::range`.
 pub fn task<'a>(alloc: Global, words: &'a [String]) -> Result<Task<'a>, Error>
     ensures file { IfOk result

@@ -1,4 +1,4 @@
--- What the contract of `audit` means: one input has one text at most, and none where a group is not followed.
+-- What the contract of `audit` means: one input has one text at most, and none if a group is not followed.
 use Rattle.std.specs.Prelude.{◌≡◌, ℕ, List}
 use Rattle.ec_trace.specs.Recounted.{Recounted}
 use Rattle.evc_engine.specs.declared.audited.Audited.{Audited}

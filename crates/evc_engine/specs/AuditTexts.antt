@@ -42,7 +42,7 @@ version_words words a = spaced (decimal a.version) ++ spaced (worker_word words 
 abbrev pub version_line : Named → List ℕ → AcceptedTry → List ℕ
 version_line words name a = codes "version " ++ name ++ version_words words a
 
--- what a balance is, by its parts; of a semaphore that is followed, where it is never negative
+-- what a balance is, by its parts; of a semaphore that is followed, if it is never negative
 abbrev pub now_of : Balance → ℕ
 now_of b = b.initial + b.ups - b.downs
 

@@ -6,7 +6,7 @@ use Rattle.evc_engine.specs.declared.status.Status.TheVariants.{Refused}
 use Rattle.evc_engine.specs.Checks.{Outlets, Notes, Checks}
 use Rattle.evc_engine.specs.Audits.{Audits}
 
--- where none waited before, the writer has the whole note, or a proper front of it where a write has failed
+-- if none waited before, the writer has the whole note, or a proper front of it if a write has failed
 abbrev pub NotesLeaveTheTable : Type 0
 NotesLeaveTheTable = (old new : Outlets) (note : List ℕ) → IsFresh old.notes → Notes old new note
     → (new.notes.failed ≡ false → Appends old.notes.contents new.notes.contents note) × (new.notes.failed ≡ true → AppendsPrefix old.notes.contents new.notes.contents note)

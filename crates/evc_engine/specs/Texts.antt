@@ -22,7 +22,7 @@ dated_line names d = decimal d.point ++ codes " " ++ entry_line names d.entry
 abbrev pub cell_line : List ℕ → ℕ → ℕ → List ℕ
 cell_line name i value = codes "cell " ++ (name ++ codes "[" ++ decimal i ++ codes "]") ++ codes " " ++ decimal value
 
--- the lines of n cells of a block, from its i-th on, where the block begins at cell first
+-- the lines of n cells of a block, from its i-th on, if the block begins at cell first
 unfoldable pub cell_lines : List ℕ → List Entry → ℕ → ℕ → ℕ → List (List ℕ)
 cell_lines name past first i zero = []
 cell_lines name past first i (suc n) = cell_line name i (cell_value (first + i) past) ∷ cell_lines name past first (i + 1) n

@@ -34,7 +34,7 @@ Rewrites t status old new = ⊥
 -- THE END OF THE COMMAND
 
 -- the bytes are a trace, and the text is the trace of the same declarations and the same history in version 2: it is read as these, and
--- behind its first line it is the bytes, so it is as long, and is the bytes where they have version 2; and of both `check` writes the same
+-- behind its first line it is the bytes, so it is as long, and is the bytes if they have version 2; and of both `check` writes the same
 pub record IsUpgraded (bytes text : List ℕ) (t : Recounted) : Type 0 where
   pub from : ReadsAs bytes t
   pub to : ReadsAs text (trace_upgraded t)

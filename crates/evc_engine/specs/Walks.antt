@@ -34,7 +34,7 @@ abbrev pub CountsFor : Semaphore → Auditing → List Entry → Type 0
 CountsFor s (audits.Balance a) past = (a.shape ≡ s) × IsCounted a past
 CountsFor s a past = ⊥
 
--- those of `both`, where these are all semaphores
+-- those of `both`, if these are all semaphores
 abbrev pub PairsFor : Semaphore → List Semaphore → Auditing → List Entry → Type 0
 PairsFor c all (audits.Both a) past =
     (a.balance.shape ≡ c) × IsCounted a.balance past × (a.pairs.common ≡ c) × (a.pairs.shapes ≡ all) × IsPairing a.pairs past × (a.common ≡ c)

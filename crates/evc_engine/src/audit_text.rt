@@ -138,7 +138,7 @@ fn is_line_of(sequencer: SeqId, group: &Group) -> bool
     }
 }
 
-/// Returns the name of the semaphore of a sequencer, of no bytes where none of the groups, which
+/// Returns the name of the semaphore of a sequencer, of no bytes if none of the groups, which
 /// are numbered from `from` on, is one.
 #[tactic(auto, unfolding(crate::specs::AuditTexts::semaphore_word))]
 fn semaphore_word<'a>(names: &'a Names, from: usize, groups: &[Group], sequencer: SeqId) -> &'a [u8]

@@ -3,7 +3,7 @@ use ec_buffer::Delivery;
 use ec_database::AcceptedTries;
 use ec_semaphore::{Balance, Pair};
 
-/// What the audit of a group found, where its workers follow it.
+/// What the audit of a group found, if its workers follow it.
 #[derive(Drop)]
 pub enum Audited {
     /// The deliveries of a buffer, by number.

@@ -3,7 +3,7 @@ ghost use Rattle.evc_engine.specs.AuditLaws.{AuditsHaveOneText, TextOrBreak};
 ghost use Rattle.evc_engine.specs.NoteLaws.{NotesLeaveTheTable, RefusalsAreAlike, RefusedAuditsHaveOneNote, RefusedChecksHaveOneNote};
 ghost use Rattle.evc_engine.specs.Upgrades.{TextsHaveNoVersion};
 
-/// States that what `audit` writes where it is done is determined by the bytes that it read: there
+/// States that what `audit` writes if it is done is determined by the bytes that it read: there
 /// is one text.
 pub fn audits_have_one_text()
     ensures { AuditsHaveOneText }
@@ -14,8 +14,8 @@ pub fn audits_end_one_way()
     ensures { TextOrBreak }
 {}
 
-/// States that a note that was put where none waited has left the table: its writer has it, or a
-/// front of it where a write has failed.
+/// States that a note that was put if none waited has left the table: its writer has it, or a
+/// front of it if a write has failed.
 pub fn notes_leave_the_table()
     ensures { NotesLeaveTheTable }
 {}
@@ -26,7 +26,7 @@ pub fn refused_checks_have_one_note()
     ensures { RefusedChecksHaveOneNote }
 {}
 
-/// States the same of `audit`: where the bytes are no trace, and where they are one with a group
+/// States the same of `audit`: if the bytes are no trace, and where they are one with a group
 /// that is not followed. So one group, one worker and one entry are named.
 pub fn refused_audits_have_one_note()
     ensures { RefusedAuditsHaveOneNote }

@@ -105,7 +105,7 @@ pub(crate) enum Auditing<'a> {
 }
 
 impl<'a> Auditing<'a> {
-    /// Makes what is kept before the first entry of a run on this setup, where these are all
+    /// Makes what is kept before the first entry of a run on this setup, if these are all
     /// semaphores.
     fn new(
         alloc: Global,
@@ -180,7 +180,7 @@ impl<'a> GroupAudit for Auditing<'a> {
     ghost stays = { audits_stay };
 }
 
-/// Returns the audits of groups before the first entry, where these are all semaphores.
+/// Returns the audits of groups before the first entry, if these are all semaphores.
 pub(crate) fn opened<'a>(
     alloc: Global,
     groups: &'a [Group],

@@ -152,7 +152,7 @@ abbrev pub Judges : List ℕ → ℕ → Recorded → Option Told → Type 0
 Judges text n r None = (order : List Placed) × HasOrder r order
 Judges text n r (Some t) = TellsRefused text n r t ⊎ TellsOpen text n r t
 
--- of a text from line n on, with these lines, where this was said of the histories before: the
+-- of a text from line n on, with these lines, if this was said of the histories before: the
 -- first one has a fault, which is explained; or it has no linearization or is not decided, and that
 -- is explained; or it has one and is the last; or it has one, and others follow
 pub data TellsFrom (text : List ℕ) (t : Told) : List ℕ → ℕ → List (List ℕ) → Type 0 where

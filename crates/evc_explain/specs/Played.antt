@@ -33,7 +33,7 @@ awaited_in call = awaited_by call.op
 abbrev pub awaited : ℕ → List Entry → Option Awaited
 awaited w past = option_and_then awaited_in (under_way w past)
 
--- how a worker is left that is in this await, where this is the count
+-- how a worker is left that is in this await, if this is the count
 abbrev pub awaiting_end : Awaited → ℕ → End
 awaiting_end a n = if nat_lt n a.threshold then ends.Waits a n else ends.Reached a
 

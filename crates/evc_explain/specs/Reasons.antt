@@ -160,7 +160,7 @@ holders_at t a = holders_text t.heading.words a.act
 abbrev pub event_at : Recounted → Asked → ℕ
 event_at t a = event_or (opened a.act (under_way a.worker (reverse t.entries)))
 
--- the round with this act at line n after a trace, where this is the right reply
+-- the round with this act at line n after a trace, if this is the right reply
 abbrev pub round_at : ℕ → Reply → Recounted → Asked → Round
 round_at n right t a = record {
   names = t.heading.words;
@@ -180,7 +180,7 @@ is_reading (acts.Await e v) = true
 is_reading acts.Go = true
 is_reading _ = false
 
--- what is said of who asks at line n after a trace, where this is the right reply
+-- what is said of who asks at line n after a trace, if this is the right reply
 abbrev pub round_for : ℕ → Reply → Recounted → Asked → List ℕ
 round_for n right t a = if is_reading a.act then round_text (round_at n right t a) else []
 

@@ -73,7 +73,7 @@ fn pending_await(run: &Run, worker: WorkerId) -> Option<Awaited>
     }
 }
 
-/// Returns how a worker is left that is in this await, where this is the count.
+/// Returns how a worker is left that is in this await, if this is the count.
 fn awaiting_end(awaited: Awaited, count: u64) -> End
     ensures { result ≡ awaiting_end awaited count }
 {

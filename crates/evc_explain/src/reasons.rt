@@ -190,7 +190,7 @@ fn total_of(run: &Run, event: EventId) -> u64
     run.world().total(event).unwrap_or(0)
 }
 
-/// Returns the round with an act after a trace, where this is the right reply.
+/// Returns the round with an act after a trace, if this is the right reply.
 fn round_at<'a>(
     alloc: Global,
     traced: &'a Traced,
@@ -224,7 +224,7 @@ fn is_reading(act: &Act) -> bool
     }
 }
 
-/// Returns what is said of who asks after a trace, where this is the right reply.
+/// Returns what is said of who asks after a trace, if this is the right reply.
 fn round_for(
     alloc: Global,
     traced: &Traced,
@@ -255,7 +255,7 @@ fn holders_before(alloc: Global, number: u64, text: &[u8]) -> Result<Vec<u8>, Al
     }
 }
 
-/// Returns what the round has found that the act of a line goes on with, where this is its right
+/// Returns what the round has found that the act of a line goes on with, if this is its right
 /// reply.
 fn round_before(
     alloc: Global,

@@ -60,7 +60,7 @@ fn file_found<'a>(found: &ArgMatches<'a>) -> Option<&'a str>
 /// names.
 ///
 /// An `Err` that is not out of memory says what is wrong with the words, or is the text of the help
-/// or the version that they ask for. `Error::print` writes it where it belongs.
+/// or the version that they ask for. `Error::print` writes it if it belongs.
 pub fn file_named<'a>(alloc: Global, words: &'a [String]) -> Result<Option<&'a str>, Error>
     ensures file { IfOk result (λ f. option_map (λ w. w.now) f ≡ file_in (texts_of words.now)) }
     ensures faults { FailsBy (faults_in (texts_of words.now)) result }

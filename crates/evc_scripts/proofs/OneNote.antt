@@ -21,7 +21,7 @@ one_fault bytes n m kind sort one other =
     let same = told_once (outcome (looked_at SCRIPT_MAX bytes)) (n, kind) (m, sort) one.told other.told in
     (ap (λ (x : ℕ × Kind). x.0) same, ap (λ (x : ℕ × Kind). x.1) same)
 
--- where the line and the kind are one, so is the note
+-- if the line and the kind are one, so is the note
 same_note : (bytes : List ℕ) (n m : ℕ) (kind sort : Kind) → RefusedAt bytes n kind → RefusedAt bytes m sort → script_note m sort ≡ script_note n kind
 same_note bytes n m kind sort one other =
     let same = one_fault bytes n m kind sort one other in

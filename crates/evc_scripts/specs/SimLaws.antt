@@ -35,7 +35,7 @@ abbrev pub SimsHaveOneText : Type 0
 SimsHaveOneText = (p : Planned) (trace note other remark : List ℕ)
     → IsPlayed p trace note → IsPlayed p other remark → (trace ≡ other) × (note ≡ remark)
 
--- where its schedule names a worker that has ended, in none
+-- if its schedule names a worker that has ended, in none
 abbrev pub EndedPlansAreNotPlayed : Type 0
 EndedPlansAreNotPlayed = (p : Planned) (place w : ℕ) (turns : List Turn) (outcomes : List Outcome) → EndsEarly p place w → PlaysPlan p turns outcomes → ⊥
 
@@ -75,7 +75,7 @@ RefusalsAreAlike = (bytes : List ℕ) (left rest : Option (List ℕ)) (turns : �
 
 -- WHAT IS WRITTEN IS READ AGAIN
 
--- the trace that is written is read again as the same run, where it is within the bound of traces
+-- the trace that is written is read again as the same run, if it is within the bound of traces
 abbrev pub SimulatedIsReadAgain : Type 0
 SimulatedIsReadAgain = (p : Planned) (trace note : List ℕ) (played : IsPlayed p trace note) → length trace ≤ TRACE_MAX
     → outcome TRACE_MAX trace ≡ Ok (record { heading = p.heading; entries = reverse (entries_of played.turns) })

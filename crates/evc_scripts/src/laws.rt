@@ -2,7 +2,7 @@
 ghost use Rattle.evc_scripts.specs.RunLaws.{LinesReportAlike, PlansReportAlike, ReportsHaveOneText};
 ghost use Rattle.evc_scripts.specs.SimLaws.{EndedPlansAreNotPlayed, EndedPlansHaveNoHistory, LinesPlayAlike, PlansEndAtOnePlace, PlansHaveOneRun, RanIsReadAgain, RefusalsAreAlike, RefusedRunsHaveOneNote, RefusedScriptsHaveOneFault, RefusedSimsHaveOneNote, SimsEndOneWay, SimsHaveOneText, SimulatedIsReadAgain};
 
-/// States that commands of the same lines do the same, whatever holds their lists in memory: where
+/// States that commands of the same lines do the same, whatever holds their lists in memory: if
 /// a schedule is played for programs, the same turns play it for others of the same lines, and end
 /// them alike.
 pub fn lines_play_alike()
@@ -46,7 +46,7 @@ pub fn refused_scripts_have_one_fault()
 {}
 
 /// States that wherever `sim` ends with status 1 on the same bytes, it writes nothing but the same
-/// note: where they are no script, and where its schedule names a worker that has ended.
+/// note: if they are no script, and where its schedule names a worker that has ended.
 pub fn refused_sims_have_one_note()
     ensures { RefusedSimsHaveOneNote }
 {}
@@ -61,13 +61,13 @@ pub fn refusals_are_alike()
     ensures { RefusalsAreAlike }
 {}
 
-/// States that the trace that `sim` writes is read again as the run of the schedule, where it is
+/// States that the trace that `sim` writes is read again as the run of the schedule, if it is
 /// within the bound of traces.
 pub fn simulated_is_read_again()
     ensures { SimulatedIsReadAgain }
 {}
 
-/// States that the trace that `run` writes is read again as the run of its workers, where it is
+/// States that the trace that `run` writes is read again as the run of its workers, if it is
 /// within the bound of traces.
 pub fn ran_is_read_again()
     ensures { RanIsReadAgain }

@@ -104,7 +104,7 @@ fn sim_text<W: Write, N: Write>(
 }
 
 /// Reads a script, and writes the trace of what its workers do by its schedule; then notes say how
-/// each worker's program has ended. Where the script or its schedule is refused, a note says why.
+/// each worker's program has ended. If the script or its schedule is refused, a note says why.
 ///
 /// Nothing is written to `out` before the schedule was played to its end.
 // (Put into its caller, it would have that hold its half a megabyte of tables under each other task too.)

@@ -15,7 +15,7 @@ use std::io::{Read, Write};
 use std::sync::Wait;
 use std::thread::Threads;
 
-/// Does what the task says, where that takes no threads: the input from `reader`, the text to `out`,
+/// Does what the task says, if that takes no threads: the input from `reader`, the text to `out`,
 /// the notes to `notes`. By its type it never waits.
 ///
 /// `Err` tells the turns of `Task::Run`, which alone takes threads; then nothing was read or written.

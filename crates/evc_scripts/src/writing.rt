@@ -13,7 +13,7 @@ use ec_text::Out;
 use ec_trace::{Heading, write_trace};
 use std::io::Write;
 
-/// Writes the trace of a run, and then notes how the workers have ended; where a write fails, notes
+/// Writes the trace of a run, and then notes how the workers have ended; if a write fails, notes
 /// that. Tells whether all was written.
 pub(crate) fn write_run<W: Write, N: Write>(
     heading: &Heading,

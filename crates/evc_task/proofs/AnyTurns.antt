@@ -1,4 +1,4 @@
--- `run --turns N`, by computing what clap makes of it where N begins with no hyphen and clap's test of it is known.
+-- `run --turns N`, by computing what clap makes of it if N begins with no hyphen and clap's test of it is known.
 use Rattle.std.proofs.Common.{◌≡◌, ◌∙◌, ◌++◌, inl, inr, ◌<◌, ◌≤◌, ◌==◌, ◌^◌, ℕ, Bool, true, false, true≢false, cond, refl, ap, ap₂, sym, subst, arith, List, [], ◌∷◌, Some, None, codes, eqb-true}
 use Rattle.std.specs.Prelude.{option_and_then}
 use Rattle.std.specs.List.{slice_index_or}

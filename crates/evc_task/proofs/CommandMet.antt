@@ -158,7 +158,7 @@ module _ (name : Text) where
       go false is None h = tt
       go false is (Some s) h = (inr h.0, h.1)
 
--- a name among these and `help` is among these, where it is not `help`
+-- a name among these and `help` is among these, if it is not `help`
 before_help : (names : List Text) (name : Text) → IsNotHelp name → IsOneOf (names ++ codes "help" ∷ []) name → IsOneOf names name
 before_help [] name is_not (inl is) = absurd (true≢false (sym ((bytes_eq-Decides name (codes "help")).1 is) ∙ is_not))
 before_help [] name is_not (inr none) = none
@@ -181,7 +181,7 @@ level_parts s names h words has_command below e =
 abbrev pub ready : App
 ready = built evc_app
 
--- where a walk without `help` stops, there is one of the program's commands
+-- if a walk without `help` stops, there is one of the program's commands
 stops_at : (stopped : Option (Text × List Text)) (rows : List Row) → MetNoHelp stopped → check_fault ready.top rows (is_some (entered ready stopped)) ≡ []
     → IsSomeAnd (entered ready stopped) (λ found. IsOneOf command_names found.0)
 stops_at None rows is e = absurd (not_empty _ _ e)

@@ -27,6 +27,6 @@ module _ (m : ArgMatches) (words : List Text) (name : Text) (rows : List Row)
   pub text_at : first_of (codes "turns") rows ≡ turns_text words
   text_at = ap (option_and_then (λ p. first_of (codes "turns") p.1)) (sym found_at)
 
-  -- and passed clap's test, where the command is `run`
+  -- and passed clap's test, if the command is `run`
   pub pass_at : fault_of evc_app words ≡ [] → name ≡ codes "run" → PassTurns rows
   pass_at right is = subst (λ o. IfSome o (λ p. p.0 ≡ codes "run" → PassTurns p.1)) found_at (turns_pass words right) is

@@ -45,7 +45,7 @@ name_of (tasks.Run turns) = codes "run"
 abbrev pub Names : List Text → Task → Type 0
 Names words t = option_map (λ found. found.0) (subcommand_of evc_app words) ≡ Some (name_of t)
 
--- the text that clap finds in them for `--turns`, where they give one
+-- the text that clap finds in them for `--turns`, if they give one
 abbrev pub turns_text : List Text → Option Text
 turns_text words = option_and_then (λ found. first_of (codes "turns") found.1) (subcommand_of evc_app words)
 
@@ -54,12 +54,12 @@ abbrev pub AskFor : List Text → Task → Type 0
 AskFor words t = Names words t × HasTurnsOf (turns_text words) t
 
 -- what is wrong with the words, by clap's rules, or what they ask for in place of a task: nothing
--- where they are right
+-- if they are right
 abbrev pub faults_in : List Text → Kinds
 faults_in words = fault_of evc_app words
 
--- the exit status for a kind of error: 0 where help or the version was asked for, 4 where memory ran out, and 2
--- where the words are wrong
+-- the exit status for a kind of error: 0 if help or the version was asked for, 4 if memory ran out, and 2
+-- if the words are wrong
 abbrev pub status_by : ErrorKind → ℕ
 status_by kinds.DisplayHelp = 0
 status_by kinds.DisplayVersion = 0
@@ -85,7 +85,7 @@ abbrev pub RunWith : Text → List Text → Type 0
 RunWith text words = (program : Text) × ((words ≡ program ∷ codes "run" ∷ codes "--turns" ∷ text ∷ [])
     ⊎ (words ≡ program ∷ codes "run" ∷ (codes "--turns=" ++ text) ∷ []))
 
--- where the text writes a number, these words are right exactly where that is a number of turns that a worker may get,
+-- if the text writes a number, these words are right exactly if that is a number of turns that a worker may get,
 -- and then ask for that many
 pub record ReadsTurns : Type 0 where
   pub right : (turns : ℕ) (text : Text) (words : List Text) → RunWith text words → Writes turns text → IsInRange turns

@@ -29,7 +29,7 @@ run_app = with_rule (new_app (codes "run")) turns_rule
 abbrev pub Writes : ℕ → Text → Type 0
 Writes n text = IsNumeral 10 (without_leading_plus text) × (n ≡ digits_value 10 (without_leading_plus text))
 
--- the number of turns that the text writes which was given, and 10000 where none was
+-- the number of turns that the text writes which was given, and 10000 if none was
 abbrev pub IsTurnsOf : Option Text → ℕ → Type 0
 IsTurnsOf given turns = MatchOption given (turns ≡ 10000) (Writes turns)
 
@@ -46,7 +46,7 @@ abbrev pub HasTurnsInRange : Task → Type 0
 HasTurnsInRange (tasks.Run turns) = IsInRange turns
 HasTurnsInRange _ = ⊤
 
--- among what clap found, the text for `--turns`, where there is one, is read as it was written, and passed clap's test
+-- among what clap found, the text for `--turns`, if there is one, is read as it was written, and passed clap's test
 abbrev pub PassTurns : List Row → Type 0
 PassTurns rows = (one_of (codes "turns") rows ≡ first_of (codes "turns") rows)
     × IfSome (first_of (codes "turns") rows) (Accepts false turns_parser)

@@ -14,7 +14,7 @@ use clap::error::ErrorKind;
 use clap::{Arg, ArgAction, ArgMatches, Command, Error, value_parser};
 use std::alloc::{AllocError, Global};
 
-// The turns of each worker of `run`, where the command line doesn't say.
+// The turns of each worker of `run`, if the command line doesn't say.
 const DEFAULT_TURNS: u64 = 10_000;
 
 fn check_command<'a>(alloc: Global) -> Command<'a>
@@ -147,7 +147,7 @@ fn task_named(name: &str, found: &ArgMatches<'_>) -> Option<Task>
 /// Reads the command line, whose first word is the program's name.
 ///
 /// An `Err` that is no want of memory says what is wrong with the words, or is the text of the help
-/// or the version that they ask for. `Error::print` writes it where it belongs.
+/// or the version that they ask for. `Error::print` writes it if it belongs.
 pub fn task(alloc: Global, words: &[String]) -> Result<Task, Error>
     ensures names { IfOk result (λ t. Names (texts_of words.now) t) }
     ensures turns { IfOk result (λ t. HasTurnsOf (turns_text (texts_of words.now)) t) }

@@ -14,7 +14,7 @@ fn hundred() -> Result<Limit, Fail> {
     }
 }
 
-/// Fails where an example comes to something else.
+/// Fails if an example comes to something else.
 fn is_so(is_right: bool) -> Result<(), Fail> {
     if is_right {
         Ok(())

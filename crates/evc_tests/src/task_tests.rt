@@ -1,4 +1,4 @@
-//! The command line: what its words ask for, where they are more than a system hands on. tests/rows has plainer ones.
+//! The command line: what its words ask for, if they are more than a system hands on. tests/rows has plainer ones.
 use evc_task::{Task, status_of, task};
 use std::alloc::{AllocError, Global};
 use std::test::Fail;

@@ -13,7 +13,7 @@ pub trait Driver {
     fn write_all(&self, out: &mut Output) -> Result<(), Fault>;
 }
 
-/// Sums up all that can be asked, or nothing where it is not watched.
+/// Sums up all that can be asked, or nothing if it is not watched.
 fn sum_of<D: Driver>(driver: &D, watched: bool) -> Result<u64, Fault> {
     let mut out = Output::Sum(0);
     if watched {
@@ -25,7 +25,7 @@ fn sum_of<D: Driver>(driver: &D, watched: bool) -> Result<u64, Fault> {
     }
 }
 
-/// Answers a line, and once more where an allocation failed.
+/// Answers a line, and once more if an allocation failed.
 fn answer_line<D: Driver>(
     alloc: Global,
     driver: &mut D,

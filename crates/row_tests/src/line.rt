@@ -7,7 +7,7 @@ use std::str::SplitWhitespace;
 /// The words of a line that are left.
 pub type Words<'a> = SplitWhitespace<'a>;
 
-/// Takes the next word, or the empty one where there is none.
+/// Takes the next word, or the empty one if there is none.
 pub fn word<'a>(words: &mut Words<'a>) -> &'a str {
     words.next().unwrap_or("")
 }

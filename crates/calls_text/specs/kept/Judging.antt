@@ -94,7 +94,7 @@ event_by r line = if is_no_line line then Err kinds.BadLine
 
 -- WHAT AN EVENT LEAVES
 
--- one more where the event is an advance
+-- one more if the event is an advance
 abbrev pub IsTallied : Tally → Tally → Event → Type 0
 IsTallied old new x =
     (w e : ℕ) → w < 16 → e < 32

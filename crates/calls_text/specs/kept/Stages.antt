@@ -46,7 +46,7 @@ Keeps _ new e = ⊥
 
 -- WITH EVENTS THAT NEED NOT BE KEPT
 
--- what the lines have built, where these were the events
+-- what the lines have built, if these were the events
 abbrev pub seen_with : List Event → held.Stage → Stage
 seen_with events holds.Opening = Opening
 seen_with events holds.Limiting = Limiting

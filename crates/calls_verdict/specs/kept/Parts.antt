@@ -15,7 +15,7 @@ pub record IsPendingOf (os : List PendingCall) (w i : ℕ) : Type 0 where
   pub first : (d : PendingCall) → pending_of w os ≡ Some (slice_index_or os i d)
   pub others : without w os ≡ remove os i
 
--- the index of the object of an event, where its worker has this pending call
+-- the index of the object of an event, if its worker has this pending call
 abbrev pub object_of : Action → Option PendingCall → Option ℕ
 object_of (Invoke k op) o = Some k
 object_of (Respond r) None = None

@@ -60,7 +60,7 @@ pub record IsWatching (ps qs : List (List ℕ)) (w : Watcher) : Type 0 where
   pub monitored : IsMonitored (built events w.follower) events w.monitor
   pub load : IsLoad reads (reverse events) w.load
 
--- why the text is not watched further, from line n on, where the parts are these
+-- why the text is not watched further, from line n on, if the parts are these
 abbrev pub StopsAt : Stop → ℕ → List (List ℕ) → Watcher → Type 0
 StopsAt (stops.Unread fault) n ps w = TellsFault (goes n Opening ps) fault × IsNoEnd n ps
 StopsAt (stops.Refused x report) n ps w =
@@ -141,7 +141,7 @@ Begins r old new (Ok u) =
 Begins r old new (Err stops.Memory) = Unit {0}
 Begins r old new (Err _) = ⊥
 
--- how the load grows by an event, where the follower has seen it
+-- how the load grows by an event, if the follower has seen it
 abbrev pub LoadGrows : Watcher → Event → Watcher → Type 0
 LoadGrows old x new =
     (events : List Event) (r : Recorded) → HasSeen events old.follower
@@ -200,7 +200,7 @@ GathersTo (Err stop) bytes old new =
     × ((ps qs : List (List ℕ)) (line : List ℕ) → IsWatching ps (line ∷ qs) old.watcher
     → 8192 < length line → Stops stop ps new.watcher)
 
--- the same where the bytes of the input are known
+-- the same if the bytes of the input are known
 abbrev pub FedFrom : Option (List ℕ) → Option (List ℕ) → Feeder → Type 0
 FedFrom None now f = ⊤
 FedFrom (Some bytes) None f = ⊥

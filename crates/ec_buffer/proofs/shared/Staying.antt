@@ -1,4 +1,4 @@
--- A declared buffer stays declared where more is declared.
+-- A declared buffer stays declared if more is declared.
 use Rattle.std.proofs.Common.{ℕ, List, ◌++◌}
 use Rattle.ec_count.specs.Declares.{KeepsObjects, with_sequencer}
 use Rattle.ec_count.specs.Tables.{Tables, with_fixed_event}
@@ -16,7 +16,7 @@ still_declared b old new produce consume k d = record {
   apart = d.apart;
 }
 
--- a buffer that is declared stays so where more is declared
+-- a buffer that is declared stays so if more is declared
 pub buffers_stay : BuffersStay
 buffers_stay b old new k f = (f.0, f.1, still_declared b old new f.0 f.1 k f.2)
 

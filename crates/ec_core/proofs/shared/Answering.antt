@@ -104,7 +104,7 @@ IsReading t (Read e) = e < length t.events
 IsReading t (Await e v) = e < length t.events
 IsReading t _ = ⊥
 
--- a call, where there is one, was begun by a read or an await of a declared eventcount
+-- a call, if there is one, was begun by a read or an await of a declared eventcount
 abbrev pub IsReadingCall : Tables → Option CallSoFar → Type 0
 IsReadingCall t None = Unit {0}
 IsReadingCall t (Some call) = IsReading t call.op
@@ -190,7 +190,7 @@ reading_event t (Put x v) h = absurd h
 reading_event t (Get x) h = absurd h
 reading_event t (Hand e f) h = absurd h
 
--- counting round: the next remainder is one more, or 0 where that makes the whole
+-- counting round: the next remainder is one more, or 0 if that makes the whole
 pub mod_next : (n k : ℕ) → 0 < n → suc k % n ≡ cond (nat_le n (k % n + 1)) 0 (k % n + 1)
 mod_next n k h =
     elim (nat_le n (k % n + 1)) as (λ b. nat_le n (k % n + 1) ≡ b → suc k % n ≡ cond b 0 (k % n + 1)) [

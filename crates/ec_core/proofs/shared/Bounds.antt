@@ -19,7 +19,7 @@ use Rattle.ec_core.proofs.shared.Answering.{allowed, width_few, width_some, call
 use Rattle.ec_core.proofs.shared.Totals.{comp_later}
 use Rattle.ec_core.proofs.shared.Pasts.{IsCallBefore, call_before}
 
--- one more, where the test passes, which it does below the limit alone
+-- one more, if the test passes, which it does below the limit alone
 grown : (b : Bool) (n limit : ℕ) → (b ≡ true → (n == limit) ≡ false) → n ≤ limit → cond b 1 0 + n ≤ limit
 grown true n limit h le = (let other : n ≢ limit = eqb-false n limit (h refl) in omega arith)
 grown false n limit h le = omega arith

@@ -82,7 +82,7 @@ past_by_length h p is =
     ap (take (length p)) whole ∙ ap (λ n. take n (reverse p ++ reverse is.since)) (sym (length-reverse p)) ∙ take-append_seam (reverse p) (reverse is.since) in
     ap reverse front ∙ reverse-reverse p
 
--- where a call has gone whole rounds, its last entry stands n - 1 places after its round's start
+-- if a call has gone whole rounds, its last entry stands n - 1 places after its round's start
 whole_rounds : (k n : ℕ) → 0 < n → suc k % n ≡ 0 → (k % n ≡ n - 1) × (n ≤ suc k)
 whole_rounds k n some h =
     elim (nat_le n (k % n + 1)) as (λ b. nat_le n (k % n + 1) ≡ b → cond b 0 (k % n + 1) ≡ 0 → (k % n ≡ n - 1) × (n ≤ suc k)) [

@@ -1,4 +1,4 @@
--- A history follows exactly where each worker's finished calls fit, one after another, and so does its call under way.
+-- A history follows exactly if each worker's finished calls fit, one after another, and so does its call under way.
 use Rattle.std.proofs.Common.{◌≡◌, ℕ, Bool, true, false, not, ◌&&◌, ◌||◌, List, [], ◌∷◌, ◌++◌, Option, Some, None, is_some, refl, ap, sym, ◌∙◌, subst, cond, ◌==◌, ◌⊎◌, inl, inr}
 use Rattle.std.proofs.lemmas.Bool.{eqb-true, eq-eqb}
 use Rattle.ec_count.specs.Tables.{Tables, IsDeclared}
@@ -21,7 +21,7 @@ use Rattle.ec_core.proofs.shared.Scans.{call_own, call_other}
 abbrev pub is_fitting : Rule → List Told → Act → Bool
 is_fitting r b op = not (r.concerns b op) || r.fits b op
 
--- the part of its list that a worker has behind it after these calls, where it had some before them
+-- the part of its list that a worker has behind it after these calls, if it had some before them
 abbrev pub list_after : Rule → List Told → List Told → List Told
 list_after r b [] = b
 list_after r b (c ∷ cs) = list_after r (extended r b c) cs
@@ -101,7 +101,7 @@ block_is r w (x ∷ past) =
 
 -- THE CALL UNDER WAY
 
--- a call, where there is one, is next in the list, or does not concern it
+-- a call, if there is one, is next in the list, or does not concern it
 abbrev pub IsFittingCall : Rule → List Told → Option CallSoFar → Type 0
 IsFittingCall r b None = Unit {0}
 IsFittingCall r b (Some call) = is_fitting r b call.op ≡ true
@@ -252,7 +252,7 @@ all_before rules t x past acc f w =
       | false ↦ λ e. other_before (rules w) w x past e (f w)
     ] refl
 
--- an accepted history follows where each worker alone makes calls that fit
+-- an accepted history follows if each worker alone makes calls that fit
 pub follow_alone : (rules : ℕ → Rule) (t : Tables) (past : List Entry) → IsAccepted t past → ((w : ℕ) → FitsAlone (rules w) w past) → Follow rules past
 follow_alone rules t [] acc f = tt
 follow_alone rules t (x ∷ past) acc f = (

@@ -342,7 +342,7 @@ grown r calls op Pending on h = cc
 grown r calls op Done on h = rw on refl
 grown r calls op (Number n) on h = rw on refl
 
--- a finished call that concerns its worker's list makes it longer, or begins it anew where it is whole
+-- a finished call that concerns its worker's list makes it longer, or begins it anew if it is whole
 pub after_told : (r : Rule) (x : Entry) (past : List Entry) (calls : List Told) (op : Act) → block r x.worker past ≡ calls → op_at x past ≡ op → r.concerns calls op ≡ true → is_pending x.reply ≡ false
     → block r x.worker (x ∷ past) ≡ cond (r.ends (calls ++ record { op = op; reply = x.reply } ∷ [])) [] (calls ++ record { op = op; reply = x.reply } ∷ [])
 after_told r x past calls op at is on done =

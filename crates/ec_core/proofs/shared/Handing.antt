@@ -1,4 +1,4 @@
--- What a hand does to those who signal, in a history where each act was answered.
+-- What a hand does to those who signal, in a history if each act was answered.
 use Rattle.std.proofs.Common.{◌≡◌, ℕ, ◌+◌, true, false, not, ◌||◌, List, [], ◌∷◌, Option, Some, None, is_some, Ok, refl, ap, sym, ◌∙◌, cond, ◌==◌}
 use Rattle.std.specs.List.{position_from}
 use Rattle.std.proofs.lemmas.Bool.{eqb-true}

@@ -1,4 +1,4 @@
--- A worker follows exactly where its calls are whole lists joined end to end and the beginning of one more.
+-- A worker follows exactly if its calls are whole lists joined end to end and the beginning of one more.
 use Rattle.std.proofs.Common.{◌≡◌, ℕ, ◌<◌, Bool, true, false, not, ◌||◌, List, [], ◌∷◌, ◌++◌, All, append_assoc, length, reverse, take, slice_get, Option, Some, None, IfSome, refl, ap, sym, ◌∙◌, arith, subst, cond, ◌⊎◌, inl, inr}
 use Rattle.std.specs.List.{flat_map}
 use Rattle.std.proofs.lemmas.List.{append-nil, take-append-le}

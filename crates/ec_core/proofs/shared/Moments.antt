@@ -77,7 +77,7 @@ accepted_of t h p acc is = accepted_before t is.since p (subst (IsAccepted t) is
 pub beginnings : BeginningsAreAccepted
 beginnings t k h acc = accepted_of t h (past_at k h) acc (moment_before h k)
 
--- where each entry is the answer at its own moment, each beginning is accepted
+-- if each entry is the answer at its own moment, each beginning is accepted
 next_accepted : (t : Tables) (h : List Entry) (k : ℕ) (o : Option Entry) → slice_get h k ≡ o
     → ((x : Entry) → slice_get h k ≡ Some x → answer_of t (past_at k h) x.worker x.act ≡ Ok x.reply) → IsAccepted t (past_at k h) → IsAccepted t (past_at (suc k) h)
 next_accepted t h k None at right acc = subst (IsAccepted t) (sym (past_end h k at)) acc
@@ -88,7 +88,7 @@ accepted_from : (t : Tables) (h : List Entry) → ((k : ℕ) (x : Entry) → sli
 accepted_from t h right zero = tt
 accepted_from t h right (suc k) = next_accepted t h k (slice_get h k) refl (right k) (accepted_from t h right k)
 
--- a history is accepted exactly where each entry is the answer to its act at its own moment
+-- a history is accepted exactly if each entry is the answer to its act at its own moment
 pub accepted_means : AcceptedMeansAnswered
 accepted_means t h = (
   λ acc k x at. accepted_at t h k x acc at,

@@ -31,7 +31,7 @@ each P seat next w other own rest v =
       | false ↦ λ h. (let Q : Seat → Type 0 = λ s. P v s in subst Q (sym (other v h)) (rest v h))
     ] refl
 
--- a queue stays one where no seat changes
+-- a queue stays one if no seat changes
 pub still : (seat next : ℕ → Seat) (drawn gone made w : ℕ) → IsQueue seat drawn gone made → IsElsewhereSame w seat next → next w ≡ seat w → IsQueue next drawn gone made
 still seat next drawn gone made w q other own =
     let same : (v : ℕ) → next v ≡ seat v = each (λ v s. s ≡ seat v) seat next w other own (λ v h. refl) in
@@ -49,7 +49,7 @@ still seat next drawn gone made w q other own =
       after = λ v. (let P : Seat → Type 0 = λ s. 4 ≤ s.stage → s.turn < made in subst P (sym (same v)) (q.after v));
     }
 
--- no two seats have one turn where the moved worker has a turn that no other has
+-- no two seats have one turn if the moved worker has a turn that no other has
 apart_by : (seat next : ℕ → Seat) (w : ℕ) → IsElsewhereSame w seat next
     → ((v u : ℕ) → 1 ≤ (seat v).stage → 1 ≤ (seat u).stage → (seat v).turn ≡ (seat u).turn → v ≡ u)
     → ((v : ℕ) → (w == v) ≡ false → 1 ≤ (next w).stage → 1 ≤ (seat v).stage → (seat v).turn ≡ (next w).turn → w ≡ v)
@@ -61,7 +61,7 @@ apart_by seat next w other apart new =
     (λ v h. each (λ u r. 1 ≤ (seat v).stage → 1 ≤ r.stage → (seat v).turn ≡ r.turn → v ≡ u) seat next w other
     (λ a b e. sym (new v h b a e)) (λ u k a b e. apart v u a b e))
 
--- a queue stays one where a worker draws the next ticket
+-- a queue stays one if a worker draws the next ticket
 pub draw : (seat next : ℕ → Seat) (drawn gone made w : ℕ) → IsQueue seat drawn gone made → IsElsewhereSame w seat next
     → (next w).stage ≡ 1 → (next w).turn ≡ drawn → IsQueue next (1 + drawn) gone made
 draw seat next drawn gone made w q other st tu =
@@ -84,7 +84,7 @@ keeps_apart : (seat next : ℕ → Seat) (drawn gone made w : ℕ) → IsQueue s
     → (v u : ℕ) → 1 ≤ (next v).stage → 1 ≤ (next u).stage → (next v).turn ≡ (next u).turn → v ≡ u
 keeps_apart seat next drawn gone made w q other on tu = apart_by seat next w other q.apart (λ v h a b e. q.apart w v on b (sym tu ∙ sym e))
 
--- a queue stays one where a worker whose turn it is goes in, or goes on inside
+-- a queue stays one if a worker whose turn it is goes in, or goes on inside
 pub enter : (seat next : ℕ → Seat) (drawn gone made w : ℕ) → IsQueue seat drawn gone made → IsElsewhereSame w seat next
     → 1 ≤ (seat w).stage → (seat w).stage ≤ 3 → 2 ≤ (next w).stage → (next w).stage ≤ 3 → (next w).turn ≡ (seat w).turn → (seat w).turn ≤ gone → IsQueue next drawn gone made
 enter seat next drawn gone made w q other was was_not st st_not tu reached =
@@ -114,7 +114,7 @@ turn_is seat drawn gone made w q was was_not =
     let before : made ≤ (seat w).turn = q.before w on (omega arith) in
     (omega arith, omega arith, omega arith)
 
--- a queue stays one where a worker that is let in makes its thing
+-- a queue stays one if a worker that is let in makes its thing
 pub make : (seat next : ℕ → Seat) (drawn gone made w : ℕ) → IsQueue seat drawn gone made → IsElsewhereSame w seat next
     → 2 ≤ (seat w).stage → (seat w).stage ≤ 3 → (next w).stage ≡ 4 → (next w).turn ≡ (seat w).turn → IsQueue next drawn gone (1 + made)
 make seat next drawn gone made w q other was was_not st tu =
@@ -147,7 +147,7 @@ leave_turn seat drawn gone made w q was =
     let inside : (seat w).turn ≤ gone = q.inside w (omega arith) in
     omega arith
 
--- a queue stays one where a worker that has made its thing leaves
+-- a queue stays one if a worker that has made its thing leaves
 pub leave : (seat next : ℕ → Seat) (drawn gone made w : ℕ) → IsQueue seat drawn gone made → IsElsewhereSame w seat next
     → (seat w).stage ≡ 4 → (next w).stage ≡ 0 → IsQueue next drawn (1 + gone) made
 leave seat next drawn gone made w q other was st =

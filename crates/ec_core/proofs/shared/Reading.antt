@@ -39,7 +39,7 @@ pub made_by_other : (f : Act → Bool) (w : ℕ) (x : Entry) (past : List Entry)
 unfolding made_by
 made_by_other f w x past h = ap (λ b. cond (f x.act && b) 1 0 + made_by f w past) h ∙ ap (λ b. cond b 1 0 + made_by f w past) (never (f x.act)) ∙ zero-add (made_by f w past)
 
--- an entry adds its act to those of its worker, where it passes the test
+-- an entry adds its act to those of its worker, if it passes the test
 pub made_by_own : (f : Act → Bool) (x : Entry) (past : List Entry) → made_by f x.worker (x ∷ past) ≡ cond (f x.act) 1 0 + made_by f x.worker past
 unfolding made_by
 made_by_own f x past = ap (λ b. cond (f x.act && b) 1 0 + made_by f x.worker past) (eq-eqb x.worker x.worker refl) ∙ ap (λ b. cond b 1 0 + made_by f x.worker past) (always (f x.act))
@@ -75,13 +75,13 @@ total_by t e past acc = made_is (is_advance e) t past acc ∙ total_made e past
 pub issued_by : (t : Tables) (q : ℕ) (past : List Entry) → IsAccepted t past → sum_to (λ w. made_by (is_ticket q) w past) t.workers ≡ issued q past
 issued_by t q past acc = made_is (is_ticket q) t past acc ∙ issued_made q past
 
--- where no number is greater than the other at its place, neither is the sum
+-- if no number is greater than the other at its place, neither is the sum
 pub sum_least : (n : ℕ) (f g : ℕ → ℕ) → ((c : ℕ) → f c ≤ g c) → sum_to f n ≤ sum_to g n
 unfolding sum_to
 sum_least zero f g h = omega arith
 sum_least (suc n) f g h = (let here : f n ≤ g n = h n in let rest : sum_to f n ≤ sum_to g n = sum_least n f g h in omega arith)
 
--- where no number is greater than the other at its place, and one is less, so is the sum
+-- if no number is greater than the other at its place, and one is less, so is the sum
 pub sum_less : (n : ℕ) (f g : ℕ → ℕ) (w : ℕ) → ((c : ℕ) → f c ≤ g c) → w < n → f w < g w → sum_to f n < sum_to g n
 unfolding sum_to
 sum_less zero f g w h lt less = absurd (omega arith)
@@ -274,7 +274,7 @@ is_reading t act op e (inl same) is known =
     let at : names_unknown_object t (Read e) ≡ false = subst P (same ∙ is) known in
     subst Q (sym is) (leb-false (length t.events) e at))
 
--- the number that ends a read is at least the total where the read began
+-- the number that ends a read is at least the total if the read began
 read_low_at : (t : Tables) (e : ℕ) (early past : List Entry) (moments : List (List Entry)) (s : ℕ) → IsAccepted t past → length moments < width t e
     → IsPastOf early past → IsPastOfEach early moments → EachIsPastOf moments past → read_reply t (Read e) past moments ≡ Number s → total e early ≤ s
 unfolding read_reply

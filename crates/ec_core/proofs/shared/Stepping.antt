@@ -63,7 +63,7 @@ issued_quiet q x past h = rw h (zero-add (issued q past))
 one_more : (n limit : ℕ) → (n == limit) ≡ false → raised (record { value = n; limit = limit }) ≡ record { value = 1 + n; limit = limit }
 one_more n limit h = rw h (let same : n + 1 ≡ 1 + n = omega arith in ap (λ v. (let x : Counted = record { value = v; limit = limit } in x)) same)
 
--- what counts is one more where the test passes, and there it is not at the limit
+-- what counts is one more if the test passes, and there it is not at the limit
 counted : (b : Bool) (n limit : ℕ) → (b ≡ true → (n == limit) ≡ false)
     → cond b (option_map raised (Some (record { value = n; limit = limit }))) (Some (record { value = n; limit = limit }))
     ≡ Some (record { value = cond b 1 0 + n; limit = limit })
@@ -465,7 +465,7 @@ go_op s past w reply (effects.Put x v) st lt of k = absurd of
 go_op s past w reply (effects.Get n) st lt of k = absurd of
 go_op s past w reply (effects.Hand e b) st lt of k = absurd of
 
--- where the call is still there, the world has what began it
+-- if the call is still there, the world has what began it
 op_right : (s : State) (past : List Entry) (w : ℕ) (act : Act) (reply : Reply) → Stands s past → w < 16 → IsRight s past w act reply (effect_in s w act)
     → op_in (still_there s w (effect_in s w act)) w act ≡ opened act (under_way w past)
 op_right s past w Go reply st lt k = go_op s past w reply (effect_in s w Go) st lt (next_of_call s (kept_call s w)) k

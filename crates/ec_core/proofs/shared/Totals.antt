@@ -41,7 +41,7 @@ unfolding sum_to
 same_sum zero f = refl
 same_sum (suc n) f = (let rest : sum_to (λ c. 0 + f c) n ≡ 0 + sum_to f n = same_sum n f in omega arith)
 
--- where an entry raises one of so many counts the sum is one more, and else the same
+-- if an entry raises one of so many counts the sum is one more, and else the same
 pub raised_sum : (b : Bool) (o : Option ℕ) (n : ℕ) (f : ℕ → ℕ) → (b ≡ true → (d : ℕ) × (o ≡ Some d) × (d < n))
     → sum_to (λ c. cond (b && is_place c o) 1 0 + f c) n ≡ cond b 1 0 + sum_to f n
 raised_sum true o n f h =

@@ -1,4 +1,4 @@
--- A walk keeps what it says it keeps, also where entries whose calls are not on a group are left out.
+-- A walk keeps what it says it keeps, also if entries whose calls are not on a group are left out.
 use Rattle.std.proofs.Common.{◌≡◌, ℕ, zero, suc, ◌+◌, ◌<◌, Bool, true, false, not, ◌||◌, List, [], ◌∷◌, ◌++◌, Option, Some, None, is_some, refl, ap, sym, ◌∙◌, subst, ◌==◌, add-one, take, length, reverse, slice_get, slice_set}
 use Rattle.std.proofs.lemmas.Bool.{eqb-true, and_parts}
 use Rattle.std.proofs.lemmas.List.{reverse-append, reverse-reverse, length-reverse}
@@ -93,7 +93,7 @@ pub tracked_first : (rules : ℕ → Rule) (keeps : List Told → Kept) (kept : 
 unfolding block
 tracked_first rules keeps kept start e k = record { lists = λ w lt. k w lt ∙ ap Some e; finding = tt }
 
--- what is kept of the lists stays where a call goes on
+-- what is kept of the lists stays if a call goes on
 lists_pending : (rules : ℕ → Rule) (keeps : List Told → Kept) (kept : List Kept) (x : Entry) (past : List Entry) → is_pending x.reply ≡ true → AreKept rules keeps kept past → AreKept rules keeps kept (x ∷ past)
 lists_pending rules keeps kept x past pending s = λ w lt. s w lt ∙ ap (λ b. Some (keeps b)) (sym (block_pending (rules w) w x past pending))
 
@@ -148,7 +148,7 @@ block_off rules x past w off =
       | false ↦ λ h. other_block (rules w) w x past h
     ] refl
 
--- where the rules speak of the calls on a group, an entry whose call is not on it changes nothing
+-- if the rules speak of the calls on a group, an entry whose call is not on it changes nothing
 pub tracked_off : (rules : ℕ → Rule) (keeps : List Told → Kept) (is_on : Act → Bool) (z : Tracked) (x : Entry) (past : List Entry)
     → ((w : ℕ) → SpeaksOf (rules w) is_on) → is_on (op_at x past) ≡ false → IsTracked rules keeps z past → IsTracked rules keeps z (x ∷ past)
 tracked_off rules keeps is_on z x past speaks off s =

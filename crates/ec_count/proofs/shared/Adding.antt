@@ -1,4 +1,4 @@
--- Where nothing speaks against it, an object is added.
+-- If nothing speaks against it, an object is added.
 use Rattle.std.proofs.Common.{◌≡◌, ℕ, ◌+◌, ◌<◌, ◌≤◌, ◌==◌, nat_le, nat_lt, Bool, false, ◌||◌, List, [], ◌∷◌, length, None, refl}
 use Rattle.std.specs.Prelude.{IsOk, Result, Ok, Err}
 use Rattle.std.specs.Result.{result_err}
@@ -27,7 +27,7 @@ sound_of t ws h =
     let q = or_parts (names_unknown t ws) (has_repeat ws) p.0 in
     record { known = q.0; different = q.1; few = p.1 }
 
--- where there is room, and the lists are sound and someone signals, a new eventcount has no fault
+-- if there is room, and the lists are sound and someone signals, a new eventcount has no fault
 pub event_free : (t : Tables) (signal observe : List ℕ) → length t.events < 32 → is_faulty t.workers signal ≡ false → is_faulty t.workers observe ≡ false → (length signal == 0) ≡ false → event_fault t signal observe ≡ None
 event_free t signal observe room p q some =
     let s = sound_of t signal p in
@@ -43,7 +43,7 @@ sequencer_free t take room p some =
     none_holds _ _ _ _ (or_from (nat_le 32 (length t.takers)) (nat_lt 16 (length take)) (lt-leb 32 (length t.takers) room) s.few)
     s.known s.different some
 
--- where there is room for some cells, and the lists are sound and someone writes, they have no fault
+-- if there is room for some cells, and the lists are sound and someone writes, they have no fault
 pub cells_free : (t : Tables) (n : ℕ) (write read : List ℕ) → length t.cells + n ≤ 256 → is_faulty t.workers write ≡ false → is_faulty t.workers read ≡ false → (length write == 0) ≡ false → (n == 0) ≡ false → cells_fault t n write read ≡ None
 cells_free t n write read room p q some more =
     let s = sound_of t write p in

@@ -16,7 +16,7 @@ use Rattle.ec_count.specs.declared.setup.SetupFault.{SetupFault}
 use Rattle.ec_count.specs.declared.setup.SetupFault.TheVariants.{TooMany, UnknownWorker, Repeated, Empty}
 use Rattle.std.proofs.lemmas.Option.{slice_get_within, slice_get-get_or, get_or_from_slice_get}
 
--- where no element passes a test, each element has what its failing gives
+-- if no element passes a test, each element has what its failing gives
 pub all_from_none : {X : Type 0} (bad : X → Bool) (P : X → Type 0) → ((x : X) → bad x ≡ false → P x) → (xs : List X) → list_any bad xs ≡ false → All P xs
 all_from_none bad P each [] h = All-nil P
 all_from_none bad P each (x ∷ xs) h = let p = or_parts (bad x) (list_any bad xs) h in All-cons P x xs (each x p.0) (all_from_none bad P each xs p.1)
@@ -73,17 +73,17 @@ two_lists_of n first second h =
     let q = or_parts (is_faulty n first) (is_faulty n second) p.0 in
     (workers_of n first q.0, some_length first p.1, workers_of n second q.1)
 
--- where no eventcount has a faulty list, each has sound signallers, at least one, and sound observers
+-- if no eventcount has a faulty list, each has sound signallers, at least one, and sound observers
 pub rights_of : (n : ℕ) (rows : List Rights) → has_faulty_rights n rows ≡ false → All (λ (r : Rights). AreTwoLists n r.signal r.observe) rows
 rights_of n rows h =
     all_from_none (λ (r : Rights). is_faulty_pair n r.signal r.observe) (λ (r : Rights). AreTwoLists n r.signal r.observe) (λ r. two_lists_of n r.signal r.observe) rows h
 
--- where no sequencer has a faulty or an empty list, each has sound takers, at least one
+-- if no sequencer has a faulty or an empty list, each has sound takers, at least one
 pub takers_of : (n : ℕ) (lists : List (List ℕ)) → has_faulty_takers n lists ≡ false → All (λ ws. AreWorkers n ws × (0 < length ws)) lists
 takers_of n lists h =
     all_from_none (λ ws. is_faulty n ws || length ws == 0) (λ ws. AreWorkers n ws × (0 < length ws)) (λ ws e. (let p = or_parts (is_faulty n ws) (length ws == 0) e in (workers_of n ws p.0, some_length ws p.1))) lists h
 
--- where no cell has a faulty list, each has sound writers, at least one, and sound readers
+-- if no cell has a faulty list, each has sound writers, at least one, and sound readers
 pub access_of : (n : ℕ) (rows : List Access) → has_faulty_access n rows ≡ false → All (λ (a : Access). AreTwoLists n a.write a.read) rows
 access_of n rows h =
     all_from_none (λ (a : Access). is_faulty_pair n a.write a.read) (λ (a : Access). AreTwoLists n a.write a.read) (λ a. two_lists_of n a.write a.read) rows h
@@ -186,7 +186,7 @@ repeated : (n k : ℕ) (a : Access) → is_faulty_pair n a.write a.read ≡ fals
 repeated n zero a h = refl
 repeated n (suc k) a h = or_from (is_faulty_pair n a.write a.read) (has_faulty_access n (replicate k a)) h (repeated n k a h)
 
--- where no cell has a faulty list, none has one after cells with sound lists and a writer are added
+-- if no cell has a faulty list, none has one after cells with sound lists and a writer are added
 pub more_cells : (n k : ℕ) (cells : List Access) (a : Access) → has_faulty_access n cells ≡ false
     → (is_faulty n a.write ≡ false) × (is_faulty n a.read ≡ false) × ((length a.write == 0) ≡ false)
     → has_faulty_access n (cells ++ replicate k a) ≡ false

@@ -9,7 +9,7 @@ still_there [] ys i x h = cc
 still_there (y ∷ xs) ys zero x h = h
 still_there (y ∷ xs) ys (suc i) x h = still_there xs ys i x h
 
--- what is declared stays so where nothing is added
+-- what is declared stays so if nothing is added
 pub keeps_same : (t : Tables) → KeepsObjects t t
 keeps_same t = record { events = λ e r h. h; takers = λ q take h. h; cells = λ x a h. h }
 
@@ -24,18 +24,18 @@ keeps_then t u v p q = record {
 pub keeps_worker : (t : Tables) (n : ℕ) → KeepsObjects t (record t { workers = n })
 keeps_worker t n = record { events = λ e r h. h; takers = λ q take h. h; cells = λ x a h. h }
 
--- what is declared stays so where an eventcount is added
+-- what is declared stays so if an eventcount is added
 pub keeps_event : (t : Tables) (signal observe : List ℕ) → KeepsObjects t (with_event t signal observe)
 keeps_event t signal observe = record { events = λ e r h. still_there t.events _ e r h; takers = λ q take h. h; cells = λ x a h. h }
 
--- what is declared stays so where a fixed eventcount is added
+-- what is declared stays so if a fixed eventcount is added
 pub keeps_fixed_event : (t : Tables) (signal observe : List ℕ) → KeepsObjects t (with_fixed_event t signal observe)
 keeps_fixed_event t signal observe = record { events = λ e r h. still_there t.events _ e r h; takers = λ q take h. h; cells = λ x a h. h }
 
--- what is declared stays so where a sequencer is added
+-- what is declared stays so if a sequencer is added
 pub keeps_sequencer : (t : Tables) (take : List ℕ) → KeepsObjects t (with_sequencer t take)
 keeps_sequencer t take = record { events = λ e r h. h; takers = λ q ws h. still_there t.takers _ q ws h; cells = λ x a h. h }
 
--- what is declared stays so where cells are added
+-- what is declared stays so if cells are added
 pub keeps_cells : (t : Tables) (n : ℕ) (write read : List ℕ) → KeepsObjects t (with_cells t n write read)
 keeps_cells t n write read = record { events = λ e r h. h; takers = λ q take h. h; cells = λ x a h. still_there t.cells _ x a h }

@@ -184,7 +184,7 @@ names_found names h = record {
   first = λ target name e. first_name target names name e;
 }
 
--- the table of names and that of first places keep what they keep where a name is added
+-- the table of names and that of first places keep what they keep if a name is added
 pub KeepsNames-push : (names : List (List ℕ × Target)) (firsts after : List (Target × ℕ)) (name : List ℕ) (u : Target) → KeepsNames names firsts → name_fault name names ≡ None
     → ((t : Target) → lookup (same_target t) after ≡ with_first u (length names) t (lookup (same_target t) firsts))
     → KeepsNames (names ++ (name, u) ∷ []) after

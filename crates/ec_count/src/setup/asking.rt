@@ -59,7 +59,7 @@ impl Setup {
     }
 
     /// Returns the component of an eventcount that is declared as the worker's own: its place, from
-    /// 0, among the signallers. `None` if the worker is declared for none, as where it is not
+    /// 0, among the signallers. `None` if the worker is declared for none, as if it is not
     /// declared itself.
     pub fn component_of(&self, event: EventId, worker: WorkerId) -> Option<usize>
         ensures value { result ≡ component_of self.now event worker }
@@ -167,7 +167,7 @@ impl Setup {
 }
 
 impl Setup {
-    /// Returns the signallers of an eventcount, in order of component; none where it is not
+    /// Returns the signallers of an eventcount, in order of component; none if it is not
     /// declared.
     pub fn signallers(&self, event: EventId) -> &[WorkerId]
         ensures { result.now ≡ signallers self.now event }
@@ -178,7 +178,7 @@ impl Setup {
         }
     }
 
-    /// Returns the observers of an eventcount, as they were declared; none where it is not
+    /// Returns the observers of an eventcount, as they were declared; none if it is not
     /// declared.
     pub fn observers(&self, event: EventId) -> &[WorkerId]
         ensures { result.now ≡ observers self.now event }
@@ -189,7 +189,7 @@ impl Setup {
         }
     }
 
-    /// Returns the takers of a sequencer, as they were declared; none where it is not declared.
+    /// Returns the takers of a sequencer, as they were declared; none if it is not declared.
     pub fn takers(&self, sequencer: SeqId) -> &[WorkerId]
         ensures { result.now ≡ takers self.now sequencer }
     {
@@ -199,7 +199,7 @@ impl Setup {
         }
     }
 
-    /// Returns the writers of a cell, as they were declared; none where it is not declared.
+    /// Returns the writers of a cell, as they were declared; none if it is not declared.
     pub fn writers(&self, cell: CellId) -> &[WorkerId]
         ensures { result.now ≡ writers self.now cell }
     {
@@ -209,7 +209,7 @@ impl Setup {
         }
     }
 
-    /// Returns the readers of a cell, as they were declared; none where it is not declared.
+    /// Returns the readers of a cell, as they were declared; none if it is not declared.
     pub fn readers(&self, cell: CellId) -> &[WorkerId]
         ensures { result.now ≡ readers self.now cell }
     {

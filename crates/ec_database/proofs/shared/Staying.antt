@@ -1,4 +1,4 @@
--- A declared database stays declared where more is declared.
+-- A declared database stays declared if more is declared.
 use Rattle.std.proofs.Common.{ℕ, List, ◌++◌}
 use Rattle.ec_count.specs.Declares.{KeepsObjects, with_sequencer}
 use Rattle.ec_count.specs.Tables.{Tables, with_fixed_event}
@@ -16,7 +16,7 @@ still_declared d old new write read k h = record {
   apart = h.apart;
 }
 
--- a database that is declared stays so where more is declared
+-- a database that is declared stays so if more is declared
 pub databases_stay : DatabasesStay
 databases_stay d old new k f = (f.0, f.1, still_declared d old new f.0 f.1 k f.2)
 

@@ -1,4 +1,4 @@
--- A declaration may stand exactly where its line has no fault.
+-- A declaration may stand exactly if its line has no fault.
 use Rattle.std.proofs.Common.{◌≡◌, ℕ, ◌+◌, ◌≤◌, List, [], ◌∷◌, ◌++◌, length, Bool, true, false, not, ◌||◌, ◌&&◌, Option, Some, None, is_some, unwrap_or, Err, refl, sym, ap, subst, ◌∙◌, arith, eqb, nat_le, nat_lt, leb, ltb, append_assoc, append-nil, eqb-true, lit≤}
 use Rattle.std.proofs.lemmas.Bool.{true≢false, or_parts, or_from, and_parts, and_left, and_right, ltb-false, le-ltb, leb-false, lt-leb, leb-true, not-false, not_from_true, ne_eqb}
 use Rattle.ec_count.specs.declared.setup.SetupFault.TheVariants as setups
@@ -29,12 +29,12 @@ use Rattle.ec_heading.proofs.shared.Listed.{Named, HasNoWorker, no_worker-append
 
 -- A LIST OF TESTS
 
--- where a list of tests has no fault, its first test does not hold, and the others have none
+-- if a list of tests has no fault, its first test does not hold, and the others have none
 pub passed : {F : Type 0} (b : Bool) (f : F) (rest : List (Bool × F)) → first_that ((b, f) ∷ rest) ≡ None → (b ≡ false) × (first_that rest ≡ None)
 passed true f rest e = cc
 passed false f rest e = (refl, e)
 
--- a list of tests has no fault where its first test does not hold, and the others have none
+-- a list of tests has no fault if its first test does not hold, and the others have none
 pub pass : {F : Type 0} (b : Bool) (f : F) (rest : List (Bool × F)) → b ≡ false → first_that rest ≡ None → first_that ((b, f) ∷ rest) ≡ None
 pass true f rest b e = absurd (true≢false b)
 pass false f rest b e = e
@@ -428,7 +428,7 @@ may_declare ws h words p heads is none =
       });
     }
 
--- and what may be declared passes the tests, where its number is good and the words of its lists are known
+-- and what may be declared passes the tests, if its number is good and the words of its lists are known
 pub is_clean : (h : Headed) (p : Phrase) (d : Declaration) → IsDeclarable h d → is_bad_number p.sort (number_of p.number) ≡ false → has_unknown h.words p.first ≡ false → has_unknown h.words (second_list p) ≡ false → IsClean h.setup h.words p d
 is_clean h p d may number first second =
     let r : HasRoom d.sort h.setup d.number d.first d.second = has_room d.sort h.setup d.number d.first d.second may.form may.taken in

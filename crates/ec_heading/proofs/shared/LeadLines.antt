@@ -75,7 +75,7 @@ outlined version limit line lines h low high leads =
 pub named_outlined : (version : Version) (limit : ℕ) (line : List ℕ) (h : Headed) → 1 ≤ limit → limit ≤ greatest_limit version → head_step (opened version limit []) line ≡ Ok h → HasOutline h
 named_outlined version limit line h low high is = outlined version limit line [] h low high (h, is, refl)
 
--- where a heading is what an outline declares, so it is after one more line
+-- if a heading is what an outline declares, so it is after one more line
 pub declared_outlined : (h : Headed) (line : List ℕ) (t : Headed) → HasOutline h → head_step h line ≡ Ok t → HasOutline t
 declared_outlined h line t has is =
     let o : Outline = has.outline in

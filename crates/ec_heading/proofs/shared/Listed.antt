@@ -66,7 +66,7 @@ tail_differs v ws h = λ i j d lt within. h (suc i) (suc j) d (omega arith) (ome
 pub head_differs : (v : List ℕ) (ws : List (List ℕ)) (k : ℕ) → Differ (v ∷ ws) → k < length ws → get_or ws k [] ≢ v
 head_differs v ws k h within = λ e. h 0 (suc k) [] (omega arith) (omega arith) (sym e)
 
--- where the names of workers differ, each is found as the worker at its place
+-- if the names of workers differ, each is found as the worker at its place
 pub finds_worker : (ws : List (List ℕ)) (n : ℕ) (es : Named) (k : ℕ) → Differ ws → k < length ws → worker_in (numbered n ws ++ es) (get_or ws k []) ≡ Some (n + k)
 finds_worker [] n es k h within = absurd (omega arith)
 finds_worker (v ∷ ws) n es zero h within =

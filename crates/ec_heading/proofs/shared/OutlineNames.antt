@@ -155,7 +155,7 @@ at_number n (suc i) k (w ∷ ws) more e h =
 pub worker_found : (ws : List (List ℕ)) (names more : Named) (i : ℕ) → names ≡ numbered 0 ws ++ more → NamesNoWorker more → word_of names (Worker i) ≡ slice_index_or ws i []
 worker_found ws names more i e h = ap (λ (r : Named). word_of r (Worker i)) e ∙ at_number 0 i i ws more (sym (zero-add i)) h
 
--- where each worker has the name at its place, a list of workers has the names at their places
+-- if each worker has the name at its place, a list of workers has the names at their places
 pub workers_found : (ws : List (List ℕ)) (names : Named) (ids : List ℕ) → ((i : ℕ) → word_of names (Worker i) ≡ slice_index_or ws i []) → names_of names ids ≡ list_words ws ids
 workers_found ws names [] h = refl
 workers_found ws names (i ∷ ids) h = let rest = workers_found ws names ids h in let first = h i in (cc)

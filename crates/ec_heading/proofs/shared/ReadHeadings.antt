@@ -178,7 +178,7 @@ sound_opened version limit ws low high h = record {
   bounds = record { events = omega arith; sequencers = omega arith; cells = omega arith };
 }
 
--- a name is new where it is no word
+-- a name is new if it is no word
 new_name : (h : Headed) (name : List ℕ) → IsSound h → find_name name h.words ≡ None → find_name name h.names ≡ None
 new_name h name is none =
     none_left (find_name name h.names) (λ t found.

@@ -62,7 +62,7 @@ named_back (x ∷ xs) word t apart plain e =
           rw off (named_back xs word t apart.1 plain g))
     ] refl e
 
--- where targets are apart, what a word is found as has that word as its name, if it is no block of cells
+-- if targets are apart, what a word is found as has that word as its name, if it is no block of cells
 pub word_back : (names : Named) (word : List ℕ) (t : Target) → AreApart names → is_block t ≡ false → find_name word names ≡ Some t → word_of names t ≡ word
 word_back names word t apart plain e = ap (λ (o : Option (List ℕ)). unwrap_or o []) (named_back names word t apart plain e)
 

@@ -38,12 +38,12 @@ opener_literal sorts.Database = refl
 opener_literal sorts.Semaphore = refl
 opener_literal sorts.Both = refl
 
--- whether a word, where there is one, is 1 to 10 small letters, and no name
+-- whether a word, if there is one, is 1 to 10 small letters, and no name
 abbrev pub is_stop : Option (List ℕ) → Bool
 is_stop None = true
 is_stop (Some w) = is_literal w && is_reserved w
 
--- the word before the second list, where there is one, is 1 to 10 small letters, and no name
+-- the word before the second list, if there is one, is 1 to 10 small letters, and no name
 pub other_stop : (s : Sort) → is_stop (second_opener s) ≡ true
 other_stop sorts.EventCount = refl
 other_stop sorts.Sequencer = refl
@@ -53,7 +53,7 @@ other_stop sorts.Database = refl
 other_stop sorts.Semaphore = refl
 other_stop sorts.Both = refl
 
--- numbers are small, and 0 where there are none
+-- numbers are small, and 0 if there are none
 pub greatest_small : (s : Sort) → greatest s ≤ 1000000
 greatest_small sorts.EventCount = lit≤ tt
 greatest_small sorts.Sequencer = lit≤ tt
@@ -159,11 +159,11 @@ literal_called w h =
     some_bytes [] e = absurd (true≢false e)
     some_bytes (b ∷ w) e = omega arith
 
--- where the form of a sort has a name, its declaration is called by a name
+-- if the form of a sort has a name, its declaration is called by a name
 pub called_name : (s : Sort) (name : List ℕ) → has_name s ≡ true → is_called s name ≡ true → is_name name ≡ true
 called_name s name has h = sym (ap (λ b. cond b (is_name name) (bytes_eq name (sort_word s))) has) ∙ h
 
--- where the form of a sort has none, its declaration is called by the sort's own word
+-- if the form of a sort has none, its declaration is called by the sort's own word
 pub called_word : (s : Sort) (name : List ℕ) → has_name s ≡ false → is_called s name ≡ true → name ≡ sort_word s
 called_word s name has h = (bytes_eq-Decides name (sort_word s)).0 (sym (ap (λ b. cond b (is_name name) (bytes_eq name (sort_word s))) has) ∙ h)
 

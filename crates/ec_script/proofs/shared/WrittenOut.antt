@@ -54,7 +54,7 @@ record Passes (P : Command-F Command → Type 0) (Q : Order → Type 0) : Type 0
   line : (c : Command) → Q (Do c) → P (out-Command c)
   write : (d : Database) (vs : Vec Value) → Q (Write d vs.items) → P (layer.WriteAll d vs)
 
--- where it holds of a command's lines, it holds of what it comes to
+-- if it holds of a command's lines, it holds of what it comes to
 abbrev Comes : (Command-F Command → Type 0) → (Order → Type 0) → Command → Type 0
 Comes P Q c = AllByRecursion Q (flat_one c) → AllByRecursion (Of P) (written_one c)
 

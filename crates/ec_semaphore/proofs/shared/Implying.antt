@@ -51,7 +51,7 @@ right_fit r b (Put x v) h = fits_or _ _ h
 right_fit r b (Get x) h = fits_or _ _ h
 right_fit r b (Hand e c) h = fits_or _ _ h
 
--- an entry is right where the call that it is part of does not concern the list, or is next in it
+-- an entry is right if the call that it is part of does not concern the list, or is next in it
 entry_right : (r : Rule) (b : List Told) (t : Tables) (act op : Act) → (act ≡ op) ⊎ (IsReading t op × (act ≡ Go)) → (r.concerns b op ≡ false) ⊎ (r.fits b op ≡ true) → is_right r b act ≡ true
 entry_right r b t act op (inr k) h = ap (is_right r b) k.1
 entry_right r b t act op (inl same) (inl off) = right_off r b act (ap (r.concerns b) same ∙ off)

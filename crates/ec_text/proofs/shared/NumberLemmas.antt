@@ -25,7 +25,7 @@ digits_from_end n i word h = let e : drop i word ≡ [] = drop_all i word h in r
 
 pub ruleset digits_steps = (digits_from_step, digits_from_end)
 
--- an option under a test has a value only where the test holds, and it is the value without the test
+-- an option under a test has a value only if the test holds, and it is the value without the test
 pub guarded : {X : Type 0} (b : Bool) (x : Option X) (m : X) → cond b x None ≡ Some m → (b ≡ true) × (x ≡ Some m)
 guarded true x m e = (refl, e)
 guarded false x m e = cc
@@ -135,7 +135,7 @@ some_number : (w : List ℕ) (o : Option ℕ) → number_of w ≡ o → IsSome o
 some_number w None e some = absurd (search rules)
 some_number w (Some n) e some = number_is_form w n e
 
--- a word is a number exactly where it has the form and at most 18 digits
+-- a word is a number exactly if it has the form and at most 18 digits
 pub numbers_short : (w : List ℕ) → IsSome (number_of w) ↔ ((is_number_form w ≡ true) × (length w ≤ 18))
 numbers_short w = (λ some. some_number w (number_of w) refl some, λ p. form_is_number w p.0 p.1)
 

@@ -36,14 +36,14 @@ wrote out now bs (Err x) good ok err = λ first all h.
     let h' : HoldsAs first.contents out.contents false out.waiting all = rw good at h.1 in
     (h.0, subst (AppendsPrefix first.contents now) (sym (ap (λ (r : List ℕ). r ++ bs) h'.1 ∙ append_assoc h'.0 out.waiting bs)) (prefix_after first.contents out.contents now h'.0 (out.waiting ++ bs) h'.2 err))
 
--- where nothing waited, the writer was given bytes
+-- if nothing waited, the writer was given bytes
 pub puts_written : {E : Type 0} (out : Outgoing) (now : Option (List ℕ)) (bs waiting : List ℕ) (failed : Bool) (r : Result (Unit {0}) E) → out.failed ≡ false → out.waiting ≡ [] → OnOk r (Appends out.contents now bs) → OnErr r (AppendsPrefix out.contents now bs)
     → waiting ≡ [] → failed ≡ is_err r → Puts out (record { writer = out.writer; contents = now; waiting = waiting; failed = failed }) bs
 puts_written out now bs waiting failed r good none ok err done is =
     let e : bs ≡ out.waiting ++ bs = ap (λ (k : List ℕ). k ++ bs) (sym none) in
     rw (done, is) (wrote out now bs r good (subst (λ (k : List ℕ). OnOk r (Appends out.contents now k)) e ok) (subst (λ (k : List ℕ). OnErr r (AppendsPrefix out.contents now k)) e err))
 
--- where the writer was given what waited, whether it took all or failed, nothing more is put
+-- if the writer was given what waited, whether it took all or failed, nothing more is put
 pub puts_flushed : {E : Type 0} (out : Outgoing) (now : Option (List ℕ)) (waiting : List ℕ) (failed : Bool) (r : Result (Unit {0}) E) → out.failed ≡ false → OnOk r (Appends out.contents now out.waiting) → OnErr r (AppendsPrefix out.contents now out.waiting)
     → waiting ≡ [] → failed ≡ is_err r → Puts out (record { writer = out.writer; contents = now; waiting = waiting; failed = failed }) []
 puts_flushed out now waiting failed r good ok err done is =
@@ -54,7 +54,7 @@ puts_flushed out now waiting failed r good ok err done is =
 pub puts_then : (a b c : Outgoing) (p q : List ℕ) → Puts a b p → Puts b c q → Puts a c (p ++ q)
 puts_then a b c p q one two = λ first all h. subst (Holds first c) (append_assoc all p q) (two first (all ++ p) (one first all h))
 
--- where nothing waits and nothing failed, nothing was put
+-- if nothing waits and nothing failed, nothing was put
 pub begins : (out : Outgoing) → IsFresh out → Holds out out []
 unfolding Holds
 begins out fresh = (refl, rw (fresh.1, fresh.0) ([], refl, appends_none out.contents))
@@ -63,7 +63,7 @@ begins out fresh = (refl, rw (fresh.1, fresh.0) ([], refl, appends_none out.cont
     appends_none None = tt
     appends_none (Some xs) = sym (append-nil xs)
 
--- what was put since then, where no more was put
+-- what was put since then, if no more was put
 pub flushed : (first old new : Outgoing) (all : List ℕ) → Puts old new [] → Holds first old all → Holds first new all
 flushed first old new all puts h = subst (Holds first new) (append-nil all) (puts first all h)
 
@@ -71,7 +71,7 @@ pub ends_same : (first now : Outgoing) (all : List ℕ) → Holds first now all 
 unfolding Holds
 ends_same first now all h = h.0
 
--- where nothing failed and nothing waits, all that was put stands there
+-- if nothing failed and nothing waits, all that was put stands there
 pub ends_ok : (first now : Outgoing) (all : List ℕ) → Holds first now all → now.failed ≡ false → now.waiting ≡ [] → Appends first.contents now.contents all
 unfolding Holds
 ends_ok first now all h good none =

@@ -1,7 +1,7 @@
 -- Inputs whose bytes may be known.
 use Rattle.std.proofs.Common.{◌≡◌, ℕ, List, Option, Some, None, IfSome, refl, subst}
 
--- what follows where they are
+-- what follows if they are
 pub if_known : (a : Option (List ℕ)) (P : List ℕ → Type 0) → ((xs : List ℕ) → a ≡ Some xs → P xs) → IfSome a P
 if_known None P all = tt
 if_known (Some xs) P all = all xs refl

@@ -37,7 +37,7 @@ module _ {G A : Type 0} (R : G → A → Type 0) (gs : List G) where
   pub from_next : (n : ℕ) (a : A) (rest : List A) → EachFrom R gs n (a ∷ rest) → EachFrom R gs (n + 1) rest
   from_next n a rest each = λ i g at. each (suc i) g (ap (slice_get gs) (omega arith) ∙ at)
 
-  -- there is one, where an element is left
+  -- there is one, if an element is left
   pub from_some : (n : ℕ) (g : G) → EachFrom R gs n [] → slice_get gs n ≡ Some g → ⊥
   from_some n g each at = (let here = each 0 g (ap (slice_get gs) (add-zero n) ∙ at) in cc)
 

@@ -101,7 +101,7 @@ totals_put a b c past words k before now =
     = ap text_of (one_more past words k) ∙ flat_map-append ended_line (totals_by past (take k words)) (totals_at past (slice_get words k)) in
     subst (Puts a c) (sym text) (puts_then a b c _ _ before now))
 
--- where each word has had its lines, all lines of totals are put
+-- if each word has had its lines, all lines of totals are put
 pub totals_all : (a b : Outgoing) (past : List Entry) (words : Named) (k : ℕ) (heading : Headed) → length words ≤ k → words ≡ heading.words
     → Puts a b (text_of (totals_by past (take k words))) → Puts a b (text_of (totals_lines heading past))
 totals_all a b past words k heading far all put =

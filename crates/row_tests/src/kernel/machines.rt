@@ -64,7 +64,7 @@ fn outcome(ask: &mut Ask<'_>) -> Result<Outcome, Fault> {
     }
 }
 
-/// Gives a machine the reply to an advance, where one is due.
+/// Gives a machine the reply to an advance, if one is due.
 fn give(worker: WorkerId, machine: &mut Machine<'_>, ask: &mut Ask<'_>) -> Result<(), Fault> {
     let act = machine.next().ok_or(Fault::Line)?;
     let reply = Reply::Done;

@@ -51,7 +51,7 @@ impl Stage {
         Ok(Err(refusal.name()))
     }
 
-    /// Returns the run, where there is one.
+    /// Returns the run, if there is one.
     pub fn run(&self) -> Result<&Run, Fault> {
         match self {
             Stage::Run(run) => Ok(run),
@@ -60,7 +60,7 @@ impl Stage {
         }
     }
 
-    /// Returns the world, where there is one.
+    /// Returns the world, if there is one.
     fn world(&self) -> Result<&World, Fault> {
         match self {
             Stage::World(world) => Ok(world),

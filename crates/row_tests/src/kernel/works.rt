@@ -56,7 +56,7 @@ fn go_on<P: Procedure>(
 }
 
 impl Begun {
-    /// Makes so many steps, or fewer where the procedure ends.
+    /// Makes so many steps, or fewer if the procedure ends.
     fn go_on(&mut self, run: &mut Run, steps: usize) -> Result<&'static str, Fault> {
         let worker = self.worker;
         match &mut self.work {

@@ -5,7 +5,7 @@ use crate::setup::line::{Line, Lists, cell, event, sequencer, tell_workers, two_
 use crate::writing::write_sizes;
 use ec_count::{CellId, EventId, SeqId, Setup, SetupFault, joined, shares_worker};
 
-/// Adds a worker or objects, so many where they are cells, and returns the number of the first.
+/// Adds a worker or objects, so many if they are cells, and returns the number of the first.
 fn add(setup: &mut Setup, sort: &str, many: usize, lists: &Lists) -> Result<usize, SetupFault> {
     let (first, second) = (&lists.first, &lists.second);
     Ok(match sort {

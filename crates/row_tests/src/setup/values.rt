@@ -4,7 +4,7 @@ use crate::line::tell_if;
 use crate::setup::line::Line;
 use ec_count::{CellId, Count, EventId, Limit, SeqId, WorkerId};
 
-/// Returns the number of an id, where a number has one.
+/// Returns the number of an id, if a number has one.
 fn id_of(sort: &str, n: usize) -> Option<usize> {
     Some(match sort {
         "worker" => WorkerId::new(n)?.get(),

@@ -108,7 +108,7 @@ impl<'a> Rules<'a> {
         self.has_failed.load(Ordering::SeqCst)
     }
 
-    /// Fails where this is not so.
+    /// Fails if this is not so.
     fn hold_to(&self, is_right: bool) {
         if !is_right {
             self.has_failed.store(true, Ordering::SeqCst);

@@ -2,7 +2,7 @@ use Rattle.std.proofs.Common.{◌≡◌, ◌<◌}
 use Rattle.ec_walk.specs.Walks.{HandsAmong}
 use Rattle.ec_walk.proofs.walked.hand.Given as goal
 
--- the groups so far; and none, where the span ends before its first
+-- the groups so far; and none, if the span ends before its first
 abbrev pub invariant-loop-number : goal.invariant-loop-number
 invariant-loop-number g l = record {
   handed : HandsAmong g.A.Audit.stands l.groups l.wide l.fn.span.first l.number l.place l.op l.entry l.initial.audits l.audits;
