@@ -241,22 +241,50 @@ fn round_for(
     round.bytes(alloc)
 }
 
-/// Returns who has the right at a line that it asks for.
-fn holders_before(alloc: Global, number: u64, text: &[u8]) -> Result<Vec<u8>, AllocError>
-    ensures { IfOk result (λ bytes. bytes.items
-        ≡ option_map_or (holders_before text.now number) (story number text.now) []) }
+/// Returns who has the right that a line asks for, after a trace.
+fn holders_of_line(
+    alloc: Global,
+    number: u64,
+    text: &[u8],
+    traced: &Traced,
+) -> Result<Vec<u8>, AllocError>
+    ensures { IfOk result (λ bytes. bytes.items ≡ holders_before text.now number traced.now) }
 {
-    let Some(traced) = story(alloc, number, text)? else {
-        return Ok(Vec::new(alloc));
-    };
     match asked_in(traced.heading(), line_at(number, text)) {
-        Some(asked) => holders_at(alloc, &traced, &asked),
+        Some(asked) => holders_at(alloc, traced, &asked),
         None => Ok(Vec::new(alloc)),
     }
 }
 
-/// Returns what the round has found that the act of a line goes on with, if this is its right
-/// reply.
+/// Returns who has the right that a line asks for.
+fn holders_before(alloc: Global, number: u64, text: &[u8]) -> Result<Vec<u8>, AllocError>
+    ensures { IfOk result (λ bytes. bytes.items
+        ≡ option_map_or (holders_before text.now number) (story number text.now) []) }
+{
+    match story(alloc, number, text)? {
+        Some(traced) => holders_of_line(alloc, number, text, &traced),
+        None => Ok(Vec::new(alloc)),
+    }
+}
+
+/// Returns what the round has found that the act of a line goes on with, after a trace, if this is
+/// its right reply.
+fn round_of_line(
+    alloc: Global,
+    number: u64,
+    right: Reply,
+    text: &[u8],
+    traced: &Traced,
+) -> Result<Vec<u8>, AllocError>
+    ensures { IfOk result (λ bytes. bytes.items ≡ round_before text.now number right traced.now) }
+{
+    match asked_in(traced.heading(), line_at(number, text)) {
+        Some(asked) => round_for(alloc, traced, &asked, number, right),
+        None => Ok(Vec::new(alloc)),
+    }
+}
+
+/// Returns what the round has found that the act of a line goes on with, if this is its right reply.
 fn round_before(
     alloc: Global,
     number: u64,
@@ -266,11 +294,8 @@ fn round_before(
     ensures { IfOk result (λ bytes. bytes.items
         ≡ option_map_or (round_before text.now number right) (story number text.now) []) }
 {
-    let Some(traced) = story(alloc, number, text)? else {
-        return Ok(Vec::new(alloc));
-    };
-    match asked_in(traced.heading(), line_at(number, text)) {
-        Some(asked) => round_for(alloc, &traced, &asked, number, right),
+    match story(alloc, number, text)? {
+        Some(traced) => round_of_line(alloc, number, right, text, &traced),
         None => Ok(Vec::new(alloc)),
     }
 }
