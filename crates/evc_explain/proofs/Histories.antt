@@ -1,11 +1,14 @@
 -- Histories in turn, up to the first that is rejected.
-use Rattle.std.proofs.Common.{◌≡◌, ℕ, List, [], ◌∷◌, length, Result, Ok, Err, IfOk, refl, arith}
+use Rattle.std.proofs.Common.{◌≡◌, ℕ, List, [], ◌∷◌, length, Result, Ok, Err, IfOk, Option, Some, None, refl}
+use Rattle.std.proofs.Common.{◌==◌, true, arith}
+use Rattle.std.proofs.lemmas.Bool.{eqb-true}
 use Rattle.calls_text.specs.declared.fault.TextFault.{TextFault}
 use Rattle.calls_text.specs.declared.fault.TextFault.TheVariants.{At, Memory}
 use Rattle.calls_text.specs.Outcomes.{goes, parts_of, TellsFault}
 use Rattle.calls_text.specs.Reading.{Opening}
 use Rattle.evc_explain.specs.declared.told.Told.{Told}
-use Rattle.evc_explain.specs.Judged.{IsUnread, TellsFrom, TellsHistories, unread}
+use Rattle.evc_explain.specs.Judged.{IsUnread, Judges, TellsFrom, TellsHistories, unread}
+use Rattle.calls_text.specs.Recordings.{Recorded}
 
 unread_from : (text before : List ℕ) (n : ℕ) (ps : List (List ℕ)) (fault : TextFault) (t : Told)
     → TellsFault (goes n Opening ps) fault → IsUnread text fault t → TellsFrom text t before n ps
@@ -22,7 +25,13 @@ stops text before rest n fault (Ok t) tells told follows =
     follows t (unread_from text before n (parts_of rest) fault t tells told)
 stops text before rest n fault (Err e) tells told follows = tt
 
--- where nothing is left there is one empty part
-pub no_rest : (xs : List ℕ) → length xs ≡ 0 → parts_of xs ≡ [] ∷ []
+-- if nothing is left there is one empty part
+pub no_rest : (xs : List ℕ) → (length xs == 0) ≡ true → parts_of xs ≡ [] ∷ []
 no_rest [] none = refl
-no_rest (x ∷ xs) none = absurd (omega (arith, none))
+no_rest (x ∷ xs) none = absurd (omega (arith, eqb-true (length (x ∷ xs)) 0 none))
+
+-- nothing is said of a history with a linearization
+pub judged_none : (text : List ℕ) (n : ℕ) (r : Recorded) (o : Option Told)
+    → ((t : Told) → o ≡ Some t → ⊥) → Judges text n r o → Judges text n r None
+judged_none text n r None not judged = judged
+judged_none text n r (Some t) not judged = absurd (not t refl)

@@ -1,4 +1,6 @@
 mod Places
 mod Histories
 mod Continuing
+mod Ending
+mod Unplayed
 mod Whole

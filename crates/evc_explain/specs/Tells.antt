@@ -13,7 +13,11 @@ use Rattle.ec_explain.specs.declared.cause.Cause.TheVariants as causes
 use Rattle.ec_script.specs.Outcome.{shown_plan}
 use Rattle.ec_script.specs.Outcome.{outcome as script_outcome}
 use Rattle.ec_script.specs.declared.plan.Plan.{Plan}
+use Rattle.ec_heading.specs.Spelling.{Named}
 use Rattle.ec_runner.specs.declared.report.Report.{Report}
+use Rattle.ec_runner.specs.declared.report.SimFault.{SimFault}
+use Rattle.ec_runner.specs.declared.report.SimFault.TheVariants.{Ended}
+use Rattle.ec_runner.specs.declared.report.SimFault.TheVariants as sims
 use Rattle.ec_runner.specs.Reported.{IsReport}
 use Rattle.ec_runner.specs.Schedules.{HasEnded}
 use Rattle.ec_script.specs.declared.fault.Kind.{Kind}
@@ -59,6 +63,12 @@ abbrev pub TellsPlayed : Plan → Report → Told → Type 0
 TellsPlayed p r t =
     (more : List ℕ) × SaysBeyond p more × IsTold (played_text p r ++ more) Done t
 
+-- of a script whose schedule was not played for this; out of memory says nothing of it
+abbrev pub IsUnplayed : List ℕ → Named → SimFault → Told → Type 0
+IsUnplayed text names (Ended place w) t =
+    IsTold (finding_text (of_whole causes.TurnOfEnded) (turn_text names place w) text) Refused t
+IsUnplayed text names sims.Memory t = ⊥
+
 -- of a script: its schedule was played, and that is said; or it has a turn of a worker that has
 -- ended
 abbrev pub TellsPlan : List ℕ → Plan → Told → Type 0
@@ -66,8 +76,7 @@ TellsPlan text p t =
     ((r : Report) × IsReport p.heading.setup p.programs.items p.schedule.items r
     × TellsPlayed p r t)
     ⊎ ((place w : ℕ) × HasEnded p.heading.setup p.programs.items p.schedule.items place w
-    × IsTold (finding_text (of_whole causes.TurnOfEnded) (turn_text p.heading.words place w) text)
-    Refused t)
+    × IsUnplayed text p.heading.words (Ended place w) t)
 
 -- of a text that is meant to be a script: it is one; or what is found of its first faulty line and
 -- the least kind of its faults

@@ -94,6 +94,7 @@ fn come_to(alloc: Global, plan: &mut Plan) -> Result<Option<Vec<End>>, AllocErro
     requires schedule { All (λ w. w < plan.old.heading.setup.workers) plan.old.schedule.items }
     ensures heading { plan.new.heading ≡ plan.old.heading }
     ensures ends { IfOk result (λ found. IfSome found (λ ends. AreLeft plan.old ends.items)) }
+    ensures few { IfOk result (λ found. IfSome found (λ ends. length ends.items ≤ 16)) }
 {
     let first = plan.schedule.len();
     let mut rounds = 1;
@@ -150,6 +151,19 @@ fn put_come<W: Write>(out: &mut Out<'_, W>, heading: &Heading, ends: &[End])
     }
 }
 
+/// Returns how the workers are left in the end, as bytes.
+fn come_bytes(alloc: Global, heading: &Heading, ends: &[End]) -> Result<Vec<u8>, AllocError>
+    requires { length ends.now ≤ 16 }
+    ensures { IfOk result (λ bytes. bytes.items ≡ come_text heading.now.words ends.now) }
+{
+    let mut bytes = Vec::new(alloc);
+    let mut out = Out::new(&mut bytes);
+    put_come(&mut out, heading, ends);
+    let done = out.finish();
+    out.into_writer();
+    whole(bytes, done)
+}
+
 /// Returns what is said of a script beyond its schedule: how the workers are left in the end if they
 /// go on in turn, or nothing if the schedule leaves none that can go on.
 pub(crate) fn beyond(alloc: Global, plan: &mut Plan) -> Result<Vec<u8>, AllocError>
@@ -159,17 +173,11 @@ pub(crate) fn beyond(alloc: Global, plan: &mut Plan) -> Result<Vec<u8>, AllocErr
     ensures { IfOk result (λ bytes. SaysBeyond plan.old bytes.items) }
 {
     let first = plan.schedule.len();
-    let found = come_to(alloc, plan)?;
-    let mut bytes = Vec::new(alloc);
-    let Some(ends) = found else {
-        return Ok(bytes);
+    let Some(ends) = come_to(alloc, plan)? else {
+        return Ok(Vec::new(alloc));
     };
     if plan.schedule.len() == first {
-        return Ok(bytes);
+        return Ok(Vec::new(alloc));
     }
-    let mut out = Out::new(&mut bytes);
-    put_come(&mut out, &plan.heading, ends.as_slice());
-    let done = out.finish();
-    out.into_writer();
-    whole(bytes, done)
+    come_bytes(alloc, &plan.heading, ends.as_slice())
 }

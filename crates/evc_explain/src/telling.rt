@@ -9,7 +9,7 @@ ghost use Rattle.evc_engine.specs.declared.status.Status.TheVariants.{Refused};
 ghost use Rattle.evc_explain.specs.Played.{turn_text};
 ghost use Rattle.evc_explain.specs.Said.{IsTold};
 ghost use Rattle.evc_explain.specs.Tells.{Tells, TellsCalls, TellsFault, TellsPlan, TellsScript};
-ghost use Rattle.evc_explain.specs.Tells.{TellsPlayed, TellsTrace};
+ghost use Rattle.evc_explain.specs.Tells.{IsUnplayed, TellsPlayed, TellsTrace};
 
 use crate::form::{Form, form_of};
 use crate::going_on::beyond;
@@ -90,6 +90,21 @@ fn tell_turn(
     tell_finding(alloc, &of_whole(Cause::TurnOfEnded), more.as_slice(), text)
 }
 
+/// Returns what is said of a script whose schedule was not played.
+fn tell_unplayed(
+    alloc: Global,
+    text: &[u8],
+    heading: &Heading,
+    fault: SimFault,
+) -> Result<Told, AllocError>
+    ensures { IfOk result (IsUnplayed text.now heading.now.words fault) }
+{
+    match fault {
+        SimFault::Ended { place, worker } => tell_turn(alloc, text, heading, place, worker),
+        SimFault::Memory => Err(AllocError),
+    }
+}
+
 /// Returns what is said of a script, by its parts.
 fn tell_plan(alloc: Global, text: &[u8], plan: &mut Plan) -> Result<Told, AllocError>
     requires { IsPlan (shown_plan plan.old) }
@@ -98,10 +113,7 @@ fn tell_plan(alloc: Global, text: &[u8], plan: &mut Plan) -> Result<Told, AllocE
     plan.heading.setup().known();
     match simulate(alloc, plan) {
         Ok(report) => tell_played(alloc, plan, &report),
-        Err(SimFault::Ended { place, worker }) => {
-            tell_turn(alloc, text, &plan.heading, place, worker)
-        }
-        Err(SimFault::Memory) => Err(AllocError),
+        Err(fault) => tell_unplayed(alloc, text, &plan.heading, fault),
     }
 }
 

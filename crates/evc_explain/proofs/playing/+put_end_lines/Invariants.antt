@@ -2,4 +2,4 @@ use Rattle.std.proofs.Common.{length}
 use Rattle.evc_explain.proofs.playing.+put_end_lines.Given as goal
 
 abbrev pub decreases-put_end_lines : goal.decreases-put_end_lines
-decreases-put_end_lines l = length l.ends.now
+decreases-put_end_lines g l = length l.ends.now
