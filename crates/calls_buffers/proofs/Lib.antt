@@ -1,0 +1,5 @@
+pub mod Runs
+pub mod Items
+pub mod Cuts
+pub mod Tallies
+mod Refuting

@@ -1,0 +1,4 @@
+pub mod Queues
+pub mod Counts
+pub mod Faults
+pub mod Laws

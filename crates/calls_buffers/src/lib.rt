@@ -1,0 +1,8 @@
+//! Decides whether the calls of a bounded buffer have a linearization, where it can.
+#![tactic(auto)]
+
+mod fault;
+mod laws;
+
+pub use fault::Fault;
+pub use laws::{a_buffer_is_a_queue, a_fault_leaves_no_order};
