@@ -5,6 +5,8 @@ use Rattle.calls_core.specs.declared.history.Op.TheVariants.{Produce, Consume}
 use Rattle.calls_core.specs.declared.history.Reply.{Reply}
 use Rattle.calls_core.specs.declared.history.Reply.TheVariants.{Done, Number, Timeout}
 use Rattle.calls_core.specs.declared.history.Call.{Call}
+use Rattle.calls_core.specs.Lists.{EachPair}
+use Rattle.calls_core.specs.Linearizations.{KeepsOrder}
 
 -- whether a buffer with room for n items may give this reply, if it holds these, the oldest first
 abbrev pub Allows : ℕ → List ℕ → Op → Reply → Type 0
@@ -26,3 +28,9 @@ abbrev pub IsQueueRun : ℕ → List ℕ → List Call → Type 0
 IsQueueRun n items [] = Unit {0}
 IsQueueRun n items (c ∷ cs) =
     Allows n items c.op c.reply × IsQueueRun n (items_after items c.op c.reply) cs
+
+-- the calls are in an order that keeps the real-time order, and are a run of a queue that is empty
+-- at first
+pub record IsLegal (n : ℕ) (cs : List Call) : Type 0 where
+  pub in_order : EachPair KeepsOrder cs
+  pub run : IsQueueRun n [] cs
