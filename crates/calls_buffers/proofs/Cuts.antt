@@ -11,7 +11,7 @@ use Rattle.calls_core.specs.declared.history.Call.{Call}
 use Rattle.calls_core.specs.Lists.{Each, EachPair}
 use Rattle.calls_core.specs.Linearizations.{KeepsOrder}
 use Rattle.calls_core.proofs.Lists.{each_weaker}
-use Rattle.calls_buffers.proofs.Items.{put_by, put_items}
+use Rattle.calls_buffers.proofs.Flows.{put_by, put_items}
 
 abbrev pub Lasts : Call → Type 0
 Lasts c = c.first < c.last

@@ -1,7 +1,8 @@
 pub mod Runs
-pub mod Items
+pub mod Flows
 pub mod Cuts
 pub mod Tallies
 pub mod Events
 pub mod Checks
+pub mod Untaking
 mod Refuting

@@ -37,8 +37,8 @@ use Rattle.calls_buffers.specs.Counts.{returned_takes, invoked_takes, later_take
 use Rattle.calls_buffers.specs.Counts.{untaken}
 use Rattle.calls_buffers.specs.Faults.{IsProduceOf, IsConsumeOf, FromUnproduced, FromOverfull}
 use Rattle.calls_buffers.specs.Faults.{FromCrowded, FromOvertaken, FromPassed, ShowsIn, Shows}
-use Rattle.calls_buffers.proofs.Items.{put_by, taken_by, put_items, taken_items, run_first, leaves}
-use Rattle.calls_buffers.proofs.Items.{count_put, count_taken, IsBounded, bounded}
+use Rattle.calls_buffers.proofs.Flows.{put_by, taken_by, put_items, taken_items, run_first, leaves}
+use Rattle.calls_buffers.proofs.Flows.{count_put, count_taken, IsBounded, bounded}
 use Rattle.calls_buffers.proofs.Cuts.{Lasts, Cut, cut, not_before, PutAt, put_at}
 use Rattle.calls_buffers.proofs.Tallies.{all_last, all_keep, queue, done_counted, counted}
 use Rattle.calls_buffers.proofs.Tallies.{returned_in_front, invoked_in_back, front_invoked}

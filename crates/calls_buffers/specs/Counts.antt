@@ -47,11 +47,18 @@ is_take test c = took_one test c.op c.reply
 abbrev pub returned_puts : (ℕ → Bool) → ℕ → List Call → ℕ
 returned_puts test n done = count_by (λ (c : Call). is_put test c && nat_le c.last n) done
 
+-- how many produces that put an item in had been invoked up to position n
+abbrev pub completed_puts : (ℕ → Bool) → ℕ → List Call → ℕ
+completed_puts test n done = count_by (λ (c : Call). is_put test c && nat_le c.first n) done
+
+-- how many pending produces had been invoked up to position n
+abbrev pub pending_puts : (ℕ → Bool) → ℕ → List PendingCall → ℕ
+pending_puts test n pending =
+    count_by (λ (o : PendingCall). produces test o.op && nat_le o.first n) pending
+
 -- how many produces had been invoked up to position n, and may have taken effect
 abbrev pub invoked_puts : (ℕ → Bool) → ℕ → List Call → List PendingCall → ℕ
-invoked_puts test n done pending =
-    count_by (λ (c : Call). is_put test c && nat_le c.first n) done
-    + count_by (λ (o : PendingCall). produces test o.op && nat_le o.first n) pending
+invoked_puts test n done pending = completed_puts test n done + pending_puts test n pending
 
 -- how many produces there are that may take effect
 abbrev pub all_puts : (ℕ → Bool) → List Call → List PendingCall → ℕ

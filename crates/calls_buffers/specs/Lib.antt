@@ -2,3 +2,4 @@ pub mod Queues
 pub mod Counts
 pub mod Faults
 pub mod Laws
+pub mod kept

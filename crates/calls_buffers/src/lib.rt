@@ -2,7 +2,9 @@
 #![tactic(auto)]
 
 mod checking;
+mod counting;
 mod fault;
+mod items;
 mod laws;
 mod recorded;
 

@@ -1,0 +1,2 @@
+-- What only the code's own representation needs.
+pub mod Items
