@@ -5,4 +5,5 @@ pub mod Tallies
 pub mod Events
 pub mod Checks
 pub mod Untaking
+pub mod Deciders
 mod Refuting

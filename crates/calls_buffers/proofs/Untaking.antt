@@ -81,15 +81,16 @@ pub untaken_item : (n v w : ℕ) (done : List Call) (i : ℕ) (d : Call) → i <
 untaken_item n v w done i d lt le e old new is before =
     let x = get_or done i d in
     let takes : is_take (item v) x ≡ (w == v) =
-        took_item (item v) x.op x.reply ∙ ap (passes (item v)) e in
+    took_item (item v) x.op x.reply ∙ ap (passes (item v)) e in
     let both : (is_take (item v) x && nat_le x.first n) ≡ (w == v) =
-        ap (λ t. is_take (item v) x && t) (le-leb x.first n le)
-        ∙ and_true (is_take (item v) x) ∙ takes in
+    ap (λ t. is_take (item v) x && t) (le-leb x.first n le)
+    ∙ and_true (is_take (item v) x) ∙ takes in
     ap not is ∙ inserted (w == v) ∙ sym (untaken_more n v done i d (w == v) lt both)
   where
     and_true : (b : Bool) → (b && true) ≡ b
     and_true true = refl
     and_true false = refl
+
     inserted : (b : Bool) → not (cond b true old) ≡ cond b false (untaken n (take i done) v)
     inserted true = refl
     inserted false = before

@@ -3,11 +3,19 @@
 
 mod checking;
 mod counting;
+mod deciding;
 mod fault;
+mod finding;
 mod items;
 mod laws;
+mod ordering;
+mod planning;
+mod ranking;
 mod recorded;
+mod testing;
+mod windows;
 
 pub use checking::verify;
+pub use deciding::{Outcome, decide};
 pub use fault::Fault;
 pub use laws::{a_buffer_is_a_queue, a_fault_leaves_no_order};

@@ -7,7 +7,7 @@ use calls_core::{Action, Call, Event, Part, PendingCall, Reply};
 use std::alloc::{AllocError, Global};
 
 /// The calls of a history.
-#[derive(Debug, Drop)]
+#[derive(Drop)]
 pub(crate) struct Recorded {
     /// The completed ones, the latest response first.
     pub(crate) done: Vec<Call>,
