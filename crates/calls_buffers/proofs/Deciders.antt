@@ -151,3 +151,11 @@ answered_some t answers k os d r base old new lt e is more =
     let after = answered_more t answers k os d (Some r) lt e in
     more ∙ ap (λ zs. zs ++ own) is ∙ append_assoc base before own
     ∙ ap (λ zs. base ++ zs) (sym after)
+
+-- the same of the calls as they were listed
+pub order_of_found : (n t : ℕ) (past : List Event) (done : List Call) (pending : List PendingCall)
+    (cs : List Call) → IsHistoryOf (Buffer n) past → clock past ≤ t → done ≡ completed_calls past
+    → pending ≡ pending_calls past → IsFound n done pending t cs → IsOrderOf (Buffer n) past t cs
+order_of_found n t past done pending cs h le d p f =
+    order_found n t past cs h le (subst (λ zs. IsFound n zs (pending_calls past) t cs) d
+    (subst (λ os. IsFound n done os t cs) p f))

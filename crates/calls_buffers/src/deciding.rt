@@ -6,8 +6,7 @@ ghost use Rattle.calls_buffers.specs.Outcomes.{IsOutcome};
 
 use crate::Fault;
 use crate::finding::find_fault;
-use crate::ordering::follow;
-use crate::planning::plan;
+use crate::planning::find_order;
 use crate::recorded::record;
 use crate::windows::windows_of;
 use calls_core::{Part, PlacedCalls};
@@ -41,10 +40,7 @@ pub fn decide(
     if let Some(fault) = find_fault(alloc, room, &calls, &windows)? {
         return Ok(Outcome::Refused(fault));
     }
-    let Some(plan) = plan(alloc, room, &calls, &windows.list)? else {
-        return Ok(Outcome::NotDecided);
-    };
-    match follow(alloc, room, &calls, &plan, end)? {
+    match find_order(alloc, room, &calls, &windows.list, end)? {
         Some(order) => Ok(Outcome::Ordered(order)),
         None => Ok(Outcome::NotDecided),
     }
