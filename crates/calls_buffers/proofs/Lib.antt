@@ -6,4 +6,6 @@ pub mod Events
 pub mod Checks
 pub mod Untaking
 pub mod Deciders
+pub mod Asking
+pub mod Squeezing
 mod Refuting

@@ -29,7 +29,7 @@ use Rattle.calls_core.proofs.Counting.{one, one_yes, count_cons, count_append, c
 use Rattle.calls_core.proofs.Counting.{split_at}
 use Rattle.calls_buffers.specs.declared.fault.Fault.{Fault}
 use Rattle.calls_buffers.specs.declared.fault.Fault.TheVariants.{Unproduced, Overfull, Crowded}
-use Rattle.calls_buffers.specs.declared.fault.Fault.TheVariants.{Overtaken, Passed}
+use Rattle.calls_buffers.specs.declared.fault.Fault.TheVariants.{Overtaken, Passed, Squeezed}
 use Rattle.calls_buffers.specs.Queues.{IsQueueRun}
 use Rattle.calls_buffers.specs.Counts.{any_item, item, produces, is_consume, put_one, took_one}
 use Rattle.calls_buffers.specs.Counts.{is_put, is_take, returned_puts, invoked_puts, all_puts}
@@ -40,88 +40,10 @@ use Rattle.calls_buffers.specs.Faults.{FromCrowded, FromOvertaken, FromPassed, S
 use Rattle.calls_buffers.proofs.Flows.{put_by, taken_by, put_items, taken_items, run_first, leaves}
 use Rattle.calls_buffers.proofs.Flows.{count_put, count_taken, IsBounded, bounded}
 use Rattle.calls_buffers.proofs.Cuts.{Lasts, Cut, cut, not_before, PutAt, put_at}
+use Rattle.calls_buffers.proofs.Asking.{put_asked, take_asked, none_untaken}
+use Rattle.calls_buffers.proofs.Squeezing.{no_squeeze}
 use Rattle.calls_buffers.proofs.Tallies.{all_last, all_keep, queue, done_counted, counted}
 use Rattle.calls_buffers.proofs.Tallies.{returned_in_front, invoked_in_back, front_invoked}
-
--- WHO PUTS AND WHO TAKES
-
-put_asked : (test : ℕ → Bool) (op : Op) (r : Reply) → put_one test op r ≡ true
-    → produces test op ≡ true
-put_asked test (Produce v) Done e = e
-put_asked test (Produce v) (Number w) e = absurd (cc)
-put_asked test (Produce v) Timeout e = absurd (cc)
-put_asked test Consume r e = absurd (cc)
-put_asked test Advance r e = absurd (cc)
-put_asked test Read r e = absurd (cc)
-put_asked test (Await v) r e = absurd (cc)
-put_asked test Ticket r e = absurd (cc)
-put_asked test (P i) r e = absurd (cc)
-put_asked test (V i) r e = absurd (cc)
-put_asked test (PBoth i j) r e = absurd (cc)
-put_asked test (Put v) r e = absurd (cc)
-put_asked test Get r e = absurd (cc)
-
--- the item that was taken
-record Took (test : ℕ → Bool) (op : Op) (r : Reply) : Type 0 where
-  value : ℕ
-  asks : op ≡ Consume
-  returns : r ≡ Number value
-  passes : test value ≡ true
-
-took : (test : ℕ → Bool) (op : Op) (r : Reply) → took_one test op r ≡ true → Took test op r
-took test Consume (Number v) e =
-    record { value = v; asks = refl; returns = refl; passes = e }
-took test Consume Done e = absurd (cc)
-took test Consume Timeout e = absurd (cc)
-took test (Produce v) r e = absurd (cc)
-took test Advance r e = absurd (cc)
-took test Read r e = absurd (cc)
-took test (Await v) r e = absurd (cc)
-took test Ticket r e = absurd (cc)
-took test (P i) r e = absurd (cc)
-took test (V i) r e = absurd (cc)
-took test (PBoth i j) r e = absurd (cc)
-took test (Put v) r e = absurd (cc)
-took test Get r e = absurd (cc)
-
-take_asked : (test : ℕ → Bool) (op : Op) (r : Reply) → took_one test op r ≡ true
-    → is_consume op ≡ true
-take_asked test op r e = ap is_consume (took test op r e).asks
-
--- COUNTS
-
-count_some : {X : Type 0} (p : X → Bool) (xs : List X) (x : X) → Contains xs x → p x ≡ true
-    → 0 < count_by p xs
-count_some p xs x h e =
-    let s = split_at xs x h in
-    omega (
-      arith,
-      ap (count_by p) s.is,
-      count_append p s.front (x ∷ s.back),
-      count_cons p x s.back,
-      one_yes (p x) e,
-    )
-
-no_or_yes : (b : Bool) → (b ≡ true → ⊥) → b ≡ false
-no_or_yes true f = absurd (f refl)
-no_or_yes false f = refl
-
--- what no consume returned, none returned
-none_untaken : (u : ℕ) (done : List Call) → invoked_takes (untaken u done) u done ≡ 0
-none_untaken u done =
-    let test : Call → Bool = λ (c : Call). is_take (untaken u done) c && nat_le c.first u in
-    count_none test done (λ k d lt. no_or_yes (test (get_or done k d)) (λ e.
-    let c = get_or done k d in
-    let here : Contains done c = (k, lt, get_or_default done k c d lt) in
-    let parts = and_parts (is_take (untaken u done) c) (nat_le c.first u) e in
-    let t = took (untaken u done) c.op c.reply parts.0 in
-    let own : Call → Bool = λ (x : Call). is_take (item t.value) x && nat_le x.first u in
-    let takes : is_take (item t.value) c ≡ true = ap (λ op. took_one (item t.value) op c.reply)
-    t.asks ∙ ap (took_one (item t.value) Consume) t.returns ∙ eq-eqb t.value t.value refl in
-    let more = count_some own done c here
-    (and_from (is_take (item t.value) c) (nat_le c.first u) takes parts.1) in
-    let none = eqb-true (invoked_takes (item t.value) u done) 0 t.passes in
-    absurd (omega arith)))
 
 -- ITEMS UP TO A CALL
 
@@ -339,6 +261,7 @@ module _ (n t : ℕ) (done : List Call) (pending : List PendingCall) (cs : List 
     taken_in_time s.y p.last c s.consume s.none (untaken c.last done),
     none_untaken c.last done,
   )
+  no_order (Squeezed q p) s = absurd (no_squeeze n t done pending cs l h q p s)
 
 pub fault_leaves_no_order : (n : ℕ) (past : List Event) (f : Fault) (t : ℕ) (cs : List Call)
     → IsHistoryOf (Buffer n) past → clock past ≤ t → Shows n past f

@@ -1,6 +1,6 @@
 -- What shows that the calls of a buffer have no linearization. Each fault is a few calls and counts
 -- of others up to one of their positions.
-use Rattle.std.specs.Prelude.{◌≡◌, ℕ, ◌+◌, ◌<◌, List}
+use Rattle.std.specs.Prelude.{◌≡◌, ℕ, ◌+◌, ◌<◌, ◌≤◌, ◌⊎◌, List}
 use Rattle.std.specs.List.{Contains}
 use Rattle.calls_core.specs.declared.history.Op.TheVariants.{Produce, Consume}
 use Rattle.calls_core.specs.declared.history.Reply.TheVariants.{Done, Number}
@@ -10,7 +10,7 @@ use Rattle.calls_core.specs.declared.history.Call.{Call}
 use Rattle.calls_core.specs.Histories.{pending_calls, completed_calls}
 use Rattle.calls_buffers.specs.declared.fault.Fault.{Fault}
 use Rattle.calls_buffers.specs.declared.fault.Fault.TheVariants.{Unproduced, Overfull, Crowded}
-use Rattle.calls_buffers.specs.declared.fault.Fault.TheVariants.{Overtaken, Passed}
+use Rattle.calls_buffers.specs.declared.fault.Fault.TheVariants.{Overtaken, Passed, Squeezed}
 use Rattle.calls_buffers.specs.Counts.{any_item, item, untaken, returned_puts, invoked_puts}
 use Rattle.calls_buffers.specs.Counts.{all_puts, returned_takes, invoked_takes, later_takes}
 use Rattle.calls_buffers.specs.Counts.{pending_takes}
@@ -73,6 +73,23 @@ pub record FromPassed (done : List Call) (pending : List PendingCall) (p c : Cal
   pub none : invoked_puts (item y) p.last done pending ≡ 0
   pub more : pending_takes c.last pending < returned_puts (untaken c.last done) p.last done
 
+-- up to the response of q, as many produces had returned as there is room for beside those items
+-- that pending consumes may have taken, of items that no consume returned which was invoked up to
+-- the response of p. And p is the only produce of z, which returned later, but z was not taken up
+-- to the response of q: no consume that returned it was invoked by then, or no produce of it was.
+-- So at some moment all these items are inside
+pub record FromSqueezed (n : ℕ) (done : List Call) (pending : List PendingCall) (q p : Call)
+    : Type 0 where
+  pub z : ℕ
+  pub known : Contains done q
+  pub produce : IsProduceOf done z p
+  pub before : q.last < p.last
+  pub once : all_puts (item z) done pending ≡ 1
+  pub none :
+      (invoked_takes (item z) q.last done ≡ 0) ⊎ (invoked_puts (item z) q.last done pending ≡ 0)
+  pub more :
+      n + pending_takes p.last pending ≤ returned_puts (untaken p.last done) q.last done
+
 -- completed and pending calls of a buffer with room for n items show a fault
 abbrev pub ShowsIn : ℕ → List Call → List PendingCall → Fault → Type 0
 ShowsIn n done pending (Unproduced c) = FromUnproduced done pending c
@@ -80,6 +97,7 @@ ShowsIn n done pending (Overfull c) = FromOverfull n done pending c
 ShowsIn n done pending (Crowded c) = FromCrowded n done pending c
 ShowsIn n done pending (Overtaken p c) = FromOvertaken done pending p c
 ShowsIn n done pending (Passed p c) = FromPassed done pending p c
+ShowsIn n done pending (Squeezed q p) = FromSqueezed n done pending q p
 
 -- a history shows a fault
 abbrev pub Shows : ℕ → List Event → Fault → Type 0

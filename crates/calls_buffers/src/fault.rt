@@ -23,4 +23,9 @@ pub enum Fault {
     /// more produces had returned of items that were not taken by the response of the consume than
     /// pending consumes were invoked by then.
     Passed(Call, Call),
+    /// Up to the response of the first call, as many produces had returned as the buffer has room
+    /// for, of items that were not taken by the response of the second one. And the item of the
+    /// second one, which is its only produce, was not taken by the response of the first one, or
+    /// not yet produced.
+    Squeezed(Call, Call),
 }

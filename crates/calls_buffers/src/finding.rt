@@ -4,10 +4,12 @@ ghost use Rattle.calls_buffers.specs.Faults.{ShowsIn};
 
 use crate::Fault;
 use crate::recorded::Recorded;
-use crate::testing::{crowded, overfull, overtaken, passed, unproduced};
+use crate::tally::Tally;
+use crate::testing::{crowded, overfull, overtaken, passed, squeezed, unproduced};
 use crate::windows::{NEVER, Place, Window, Windows};
 use calls_core::Op;
 use std::alloc::{AllocError, Global};
+use std::cmp::Reverse;
 
 /// Calls that may show a fault.
 #[derive(Clone, Copy)]
@@ -17,6 +19,7 @@ enum Candidate {
     Crowded(Place),
     Overtaken(Place, Place),
     Passed(Place, Place),
+    Squeezed(Place, Place),
 }
 
 /// A position, and the call whose response it is.
@@ -167,6 +170,49 @@ fn passed_over(windows: &[Window], kept: &[Moment], pending: &[usize]) -> Option
     None
 }
 
+/// Lists the indices of the moments by their other positions, the greatest first.
+fn latest_first(alloc: Global, moments: &[Moment]) -> Result<Vec<(usize, usize)>, AllocError> {
+    let mut list = Vec::new(alloc);
+    for (i, moment) in moments.iter().enumerate() {
+        list.push((moment.other, i))?;
+    }
+    list.sort_by_key(|pair| Reverse(pair.0))?;
+    Ok(list)
+}
+
+/// Adds those from an index on whose position is after another. Returns the index of the next one.
+fn add_after(tally: &mut Tally, list: &[(usize, usize)], from: usize, at: usize) -> usize {
+    let mut next = from;
+    while next < list.len() && list[next].0 > at {
+        tally.add(list[next].1);
+        next += 1;
+    }
+    next
+}
+
+/// Returns a call up to which the buffer was full, and a produce of one item more.
+fn squeezed_in(
+    alloc: Global,
+    room: usize,
+    moments: &[Moment],
+    pending: &[usize],
+) -> Result<Option<Candidate>, AllocError> {
+    let list = latest_first(alloc, moments)?;
+    let mut tally = Tally::new(alloc, moments.len())?;
+    let mut next = 0;
+    for moment in moments.iter().rev() {
+        next = add_after(&mut tally, &list, next, moment.at);
+        let n = before(moments, moment.at.min(moment.other));
+        let inside = tally.below(n);
+        if n > 0 && inside >= room.saturating_add(up_to(pending, moment.at)) {
+            if let Some(last) = moments.get(n - 1) {
+                return Ok(Some(Candidate::Squeezed(last.place, moment.place)));
+            }
+        }
+    }
+    Ok(None)
+}
+
 /// Tests the calls of a candidate.
 fn test(
     alloc: Global,
@@ -186,6 +232,9 @@ fn test(
             overtaken(room, calls, i, j),
         ),
         Candidate::Passed(Place::Completed(i), Place::Completed(j)) if i < n && j < n => passed(
+            alloc, room, calls, i, j,
+        ),
+        Candidate::Squeezed(Place::Completed(i), Place::Completed(j)) if i < n && j < n => squeezed(
             alloc, room, calls, i, j,
         ),
         _ => Ok(None),
@@ -214,6 +263,7 @@ fn candidates(
     list.push(crowd.map(|place| Candidate::Crowded(place)))?;
     list.push(too_late(&windows.list, &latest))?;
     list.push(passed_over(&windows.list, &kept, &pending))?;
+    list.push(squeezed_in(alloc, room, &moments, &pending)?)?;
     Ok(list)
 }
 

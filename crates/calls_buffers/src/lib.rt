@@ -12,6 +12,7 @@ mod ordering;
 mod planning;
 mod ranking;
 mod recorded;
+mod tally;
 mod testing;
 mod windows;
 

@@ -1,5 +1,5 @@
 //! Tests by counting whether calls show a fault.
-ghost use Rattle.std.specs.Prelude.{◌≡◌, ◌↔◌, ◌+◌, ◌<◌, ℕ, IfOk, IfSome, IsTrue, length};
+ghost use Rattle.std.specs.Prelude.{◌≡◌, ◌↔◌, ◌⊎◌, ◌+◌, ◌<◌, ◌≤◌, ℕ, IfOk, IfSome, IsTrue, length};
 ghost use Rattle.calls_core.specs.declared.history.Op.TheVariants.{Produce};
 ghost use Rattle.calls_core.specs.declared.history.Reply.TheVariants.{Done};
 ghost use Rattle.calls_buffers.specs.Counts.{any_item, item, untaken, returned_puts, invoked_puts};
@@ -195,6 +195,70 @@ pub(crate) fn passed(
     let puts = untaken_puts(alloc, calls, put.last, take.last)?;
     if pending_takes(take.last, &calls.pending) < puts {
         Ok(Some(Fault::Passed(put, take)))
+    } else {
+        Ok(None)
+    }
+}
+
+/// Returns whether an item was produced once.
+fn is_single(calls: &Recorded, value: usize) -> bool
+    ensures { IsTrue result → all_puts (item value) calls.now.done.items
+        calls.now.pending.items ≡ 1 }
+{
+    let items = Items::One(value);
+    let completed = all_completed_puts(&items, &calls.done);
+    completed == 1 && all_pending_puts(&items, &calls.pending) == 0
+}
+
+/// Returns whether an item was not taken up to a position: no consume that returned it was invoked
+/// by then, or no produce of it.
+fn is_outside(calls: &Recorded, value: usize, at: usize) -> bool
+    ensures { IsTrue result → (invoked_takes (item value) at calls.now.done.items ≡ 0)
+        ⊎ (invoked_puts (item value) at calls.now.done.items calls.now.pending.items ≡ 0) }
+{
+    if invoked_takes(&Items::One(value), at, &calls.done) == 0 {
+        return true;
+    }
+    is_none_produced(calls, value, at)
+}
+
+/// Returns whether a sum of two numbers is at most a third.
+fn is_at_most(a: usize, b: usize, c: usize) -> bool
+    ensures { IsTrue result ↔ a + b ≤ c }
+{
+    match a.checked_add(b) {
+        Some(sum) => sum <= c,
+        None => false,
+    }
+}
+
+/// Tests the call and the produce at two indices.
+pub(crate) fn squeezed(
+    alloc: Global,
+    room: usize,
+    calls: &Recorded,
+    i: usize,
+    j: usize,
+) -> Result<Option<Fault>, AllocError>
+    requires first { i < length calls.now.done.items }
+    requires second { j < length calls.now.done.items }
+    ensures { IfOk result (λ f. IfSome f (ShowsIn room calls.now.done.items
+        calls.now.pending.items)) }
+{
+    let first = calls.done[i];
+    let second = calls.done[j];
+    let Some(item) = put_item(&second) else {
+        return Ok(None);
+    };
+    if second.last <= first.last || !is_single(calls, item) {
+        return Ok(None);
+    }
+    if !is_outside(calls, item, first.last) {
+        return Ok(None);
+    }
+    let puts = untaken_puts(alloc, calls, first.last, second.last)?;
+    if is_at_most(room, pending_takes(second.last, &calls.pending), puts) {
+        Ok(Some(Fault::Squeezed(first, second)))
     } else {
         Ok(None)
     }
