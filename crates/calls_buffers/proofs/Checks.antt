@@ -1,8 +1,6 @@
 -- The steps of a check of an order.
 use Rattle.std.proofs.Common.{◌≡◌, ℕ, ◌<◌, ◌≤◌, ◌↔◌, max, List, [], ◌∷◌, length, get_or, drop}
 use Rattle.std.proofs.Common.{zero, suc, refl, sym, subst, arith, drop-cons}
-use Rattle.std.proofs.lemmas.Bool.{cases_lt}
-use Rattle.std.proofs.Common.{inl, inr}
 use Rattle.calls_buffers.specs.Queues.{IsQueueRun}
 use Rattle.calls_core.specs.declared.history.Call.{Call}
 use Rattle.calls_core.specs.Lists.{Each, EachPair}

@@ -1,18 +1,13 @@
 -- What shows a fault has no linearization.
-use Rattle.std.proofs.Common.{◌≡◌, ℕ, ◌+◌, ◌<◌, ◌≤◌, ◌==◌, inl, inr, Bool, true, false, ◌&&◌, nat_le}
-use Rattle.std.proofs.Common.{List, [], ◌∷◌, ◌++◌, length, get_or, refl, ap, sym, ◌∙◌, subst, arith}
+use Rattle.std.proofs.Common.{◌≡◌, ℕ, ◌+◌, ◌<◌, ◌≤◌, inl, inr, Bool, true, ◌&&◌, nat_le}
+use Rattle.std.proofs.Common.{List, [], ◌∷◌, ◌++◌, refl, ap, sym, ◌∙◌, subst, arith}
 use Rattle.std.proofs.Common.{Some, count_by, append_assoc, append-nil}
-use Rattle.std.specs.List.{Contains}
-use Rattle.std.proofs.lemmas.Bool.{cases_lt, eq-eqb, eqb-true, leb-true, le-leb, and_from, and_parts}
-use Rattle.std.proofs.lemmas.List.{get_or_default}
+use Rattle.std.proofs.lemmas.Bool.{cases_lt, eq-eqb, le-leb, and_from, and_parts}
 use Rattle.std.proofs.lemmas.List.Elements.{Contains-append_right}
 use Rattle.std.proofs.lemmas.List.Sorted.{Contains-permutation}
 use Rattle.calls_core.specs.declared.history.Kind.TheVariants.{Buffer}
-use Rattle.calls_core.specs.declared.history.Op.{Op}
-use Rattle.calls_core.specs.declared.history.Op.TheVariants.{Advance, Read, Await, Ticket, P, V}
-use Rattle.calls_core.specs.declared.history.Op.TheVariants.{PBoth, Put, Get, Produce, Consume}
+use Rattle.calls_core.specs.declared.history.Op.TheVariants.{Produce, Consume}
 use Rattle.calls_core.specs.declared.history.Reply.{Reply}
-use Rattle.calls_core.specs.declared.history.Reply.TheVariants.{Done, Number, Timeout}
 use Rattle.calls_core.specs.declared.history.Event.{Event}
 use Rattle.calls_core.specs.declared.history.PendingCall.{PendingCall}
 use Rattle.calls_core.specs.declared.history.Call.{Call}
@@ -25,24 +20,24 @@ use Rattle.calls_core.specs.Outcomes.{IsOrderOf}
 use Rattle.calls_core.specs.Calls.{AreCallsOf}
 use Rattle.calls_core.proofs.Positions.{are_calls_of, calls_of_later}
 use Rattle.calls_core.proofs.Lists.{each_weaker, each_right, each_pair_right, each_pair_across}
-use Rattle.calls_core.proofs.Counting.{one, one_yes, count_cons, count_append, count_none, Split}
+use Rattle.calls_core.proofs.Counting.{one_yes, count_cons, count_append, Split}
 use Rattle.calls_core.proofs.Counting.{split_at}
 use Rattle.calls_buffers.specs.declared.fault.Fault.{Fault}
 use Rattle.calls_buffers.specs.declared.fault.Fault.TheVariants.{Unproduced, Overfull, Crowded}
 use Rattle.calls_buffers.specs.declared.fault.Fault.TheVariants.{Overtaken, Passed, Squeezed}
 use Rattle.calls_buffers.specs.Queues.{IsQueueRun}
-use Rattle.calls_buffers.specs.Counts.{any_item, item, produces, is_consume, put_one, took_one}
+use Rattle.calls_buffers.specs.Counts.{any_item, item, produces, is_consume, put_one}
 use Rattle.calls_buffers.specs.Counts.{is_put, is_take, returned_puts, invoked_puts, all_puts}
 use Rattle.calls_buffers.specs.Counts.{returned_takes, invoked_takes, later_takes, pending_takes}
 use Rattle.calls_buffers.specs.Counts.{untaken}
-use Rattle.calls_buffers.specs.Faults.{IsProduceOf, IsConsumeOf, FromUnproduced, FromOverfull}
-use Rattle.calls_buffers.specs.Faults.{FromCrowded, FromOvertaken, FromPassed, ShowsIn, Shows}
+use Rattle.calls_buffers.specs.Faults.{IsConsumeOf}
+use Rattle.calls_buffers.specs.Faults.{ShowsIn, Shows}
 use Rattle.calls_buffers.proofs.Flows.{put_by, taken_by, put_items, taken_items, run_first, leaves}
 use Rattle.calls_buffers.proofs.Flows.{count_put, count_taken, IsBounded, bounded}
 use Rattle.calls_buffers.proofs.Cuts.{Lasts, Cut, cut, not_before, PutAt, put_at}
 use Rattle.calls_buffers.proofs.Asking.{put_asked, take_asked, none_untaken}
 use Rattle.calls_buffers.proofs.Squeezing.{no_squeeze}
-use Rattle.calls_buffers.proofs.Tallies.{all_last, all_keep, queue, done_counted, counted}
+use Rattle.calls_buffers.proofs.Tallies.{all_last, all_keep, queue, counted}
 use Rattle.calls_buffers.proofs.Tallies.{returned_in_front, invoked_in_back, front_invoked}
 
 -- ITEMS UP TO A CALL

@@ -1,5 +1,5 @@
 -- As many items as there is room for were inside, while one more was put in and not taken out.
-use Rattle.std.proofs.Common.{◌≡◌, ℕ, ◌+◌, ◌<◌, ◌≤◌, ◌==◌, inl, inr, Bool, true, false, ◌&&◌, ◌||◌}
+use Rattle.std.proofs.Common.{◌≡◌, ℕ, ◌+◌, ◌<◌, ◌≤◌, inl, inr, Bool, true, false, ◌&&◌, ◌||◌}
 use Rattle.std.proofs.Common.{nat_le, nat_lt, get_or, List, [], ◌∷◌, ◌++◌, Some, refl, ap, sym, ◌∙◌}
 use Rattle.std.proofs.Common.{subst, arith, count_by, append_assoc}
 use Rattle.std.proofs.lemmas.Bool.{cases_lt, eq-eqb, leb-true, le-leb, lt-leb, lt-ltb, le-ltb}
@@ -21,7 +21,7 @@ use Rattle.calls_core.proofs.Counting.{one, one_yes, one_no, one_less, count_con
 use Rattle.calls_core.proofs.Counting.{count_less}
 use Rattle.calls_buffers.specs.Queues.{IsQueueRun}
 use Rattle.calls_buffers.specs.Counts.{item, is_consume, put_one, took_one, is_put, is_take}
-use Rattle.calls_buffers.specs.Counts.{returned_puts, invoked_puts, all_puts, invoked_takes}
+use Rattle.calls_buffers.specs.Counts.{invoked_puts, all_puts, invoked_takes}
 use Rattle.calls_buffers.specs.Counts.{pending_takes, untaken, produces}
 use Rattle.calls_buffers.specs.Faults.{FromSqueezed}
 use Rattle.calls_buffers.proofs.Flows.{run_first, IsBounded, bounded}

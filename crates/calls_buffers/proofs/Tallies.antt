@@ -1,8 +1,7 @@
 -- Counts of a history, and of the calls of a linearization before and after a cut.
 use Rattle.std.proofs.Common.{◌≡◌, ℕ, ◌+◌, ◌<◌, ◌≤◌, Bool, true, false, ◌&&◌, nat_le, nat_lt, List}
-use Rattle.std.proofs.Common.{[], ◌∷◌, ◌++◌, Option, Some, None, refl, ap, sym, ◌∙◌, subst, arith}
+use Rattle.std.proofs.Common.{[], ◌∷◌, ◌++◌, Option, Some, None, ap, ◌∙◌, arith}
 use Rattle.std.proofs.Common.{count_by}
-use Rattle.std.specs.List.{All}
 use Rattle.std.proofs.lemmas.Bool.{lt-leb, le-leb, le-ltb, and_from, and_right, and_parts}
 use Rattle.std.proofs.lemmas.List.Sorted.{All-permutation}
 use Rattle.calls_core.specs.declared.history.Kind.TheVariants.{Buffer}
@@ -14,7 +13,7 @@ use Rattle.calls_core.specs.Histories.{Takes, completion}
 use Rattle.calls_core.specs.Linearizations.{IsSequentialRun, KeepsOrder, initial, IsLinearOrder}
 use Rattle.calls_core.specs.Linearizations.{answered_one, answered_calls}
 use Rattle.calls_core.specs.Calls.{Early, IsCallOf, AreCallsOf}
-use Rattle.calls_core.proofs.Lists.{each_weaker, each_append, each_both, all_from_each}
+use Rattle.calls_core.proofs.Lists.{each_weaker, each_append, all_from_each}
 use Rattle.calls_core.proofs.Filters.{each_from_all}
 use Rattle.calls_core.proofs.Counting.{one, one_less, count_cons, count_append, count_moved}
 use Rattle.calls_core.proofs.Counting.{count_less, count_none}

@@ -10,7 +10,7 @@ use Rattle.calls_core.specs.declared.history.Op.TheVariants.{PBoth, Put, Get, Pr
 use Rattle.calls_core.specs.declared.history.Reply.{Reply}
 use Rattle.calls_core.specs.declared.history.Reply.TheVariants.{Done, Number, Timeout}
 use Rattle.calls_core.specs.declared.history.Call.{Call}
-use Rattle.calls_core.proofs.Counting.{one, one_yes, one_no, count_cons, count_append}
+use Rattle.calls_core.proofs.Counting.{one, count_cons, count_append}
 use Rattle.calls_buffers.specs.Counts.{item, took_one, is_take, invoked_takes, untaken}
 use Rattle.calls_buffers.specs.kept.Items.{taken_item}
 

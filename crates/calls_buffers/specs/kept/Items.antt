@@ -1,10 +1,10 @@
 -- The items that a count is about.
-use Rattle.std.specs.Prelude.{ℕ, ◌==◌, nat_eq, Bool, true, false, not, Option, Some, None}
+use Rattle.std.specs.Prelude.{ℕ, ◌==◌, nat_eq, Bool, true, not, Option, Some, None}
 use Rattle.std.specs.HashSet as hash
 use Rattle.calls_core.specs.declared.history.Op.{Op}
 use Rattle.calls_core.specs.declared.history.Op.TheVariants.{Produce, Consume}
 use Rattle.calls_core.specs.declared.history.Reply.{Reply}
-use Rattle.calls_core.specs.declared.history.Reply.TheVariants.{Done, Number}
+use Rattle.calls_core.specs.declared.history.Reply.TheVariants.{Number}
 use Rattle.calls_buffers.specs.declared.items.Items.{Items}
 use Rattle.calls_buffers.specs.declared.items.Items.TheVariants.{Any, One, Without}
 

@@ -1,4 +1,4 @@
-use Rattle.std.proofs.Common.{◌≡◌, ◌↔◌, [], drop}
+use Rattle.std.proofs.Common.{◌↔◌, [], drop}
 use Rattle.calls_buffers.specs.Queues.{IsQueueRun}
 use Rattle.calls_buffers.proofs.checking.is_run.Given as goal
 

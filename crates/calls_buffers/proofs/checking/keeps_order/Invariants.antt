@@ -1,4 +1,4 @@
-use Rattle.std.proofs.Common.{◌≡◌, ◌↔◌, drop}
+use Rattle.std.proofs.Common.{◌↔◌, drop}
 use Rattle.calls_buffers.proofs.Checks.{Rises}
 use Rattle.calls_buffers.proofs.checking.keeps_order.Given as goal
 

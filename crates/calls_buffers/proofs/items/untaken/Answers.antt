@@ -1,4 +1,4 @@
-use Rattle.std.proofs.Common.{◌≡◌, ℕ, nat_eq, not, sym, ◌∙◌, ap}
+use Rattle.std.proofs.Common.{nat_eq, not, sym, ◌∙◌, ap}
 use Rattle.std.specs.HashSet as hash
 use Rattle.calls_buffers.proofs.Untaking.{untaken_late, untaken_other, untaken_item}
 use Rattle.calls_buffers.proofs.items.untaken.Goals as goal
