@@ -93,7 +93,7 @@ fn park(board: &mut Board, worker: WorkerId)
     board.park(worker);
 }
 
-/// Returns the step, and the wait if it fell short.
+/// Makes the step, and begins the wait if it falls short.
 fn step(board: &mut Board, worker: WorkerId, act: Act, may_park: bool) -> Next
     ensures next { IsNext result board.old worker act may_park board.new }
     ensures kind { FitsAct result act }
@@ -133,7 +133,7 @@ fn woken_if_stuck(was_stuck: bool, board: &Board, worker: WorkerId) -> Option<[b
     Some(waiting(board, worker))
 }
 
-/// Returns an advance of what somebody waits for, and whom it wakes. Its worker doesn't go to
+/// Makes an advance of what somebody waits for, and tells whom it wakes. Its worker doesn't go to
 /// sleep.
 fn advance(board: &mut Board, worker: WorkerId, act: Act, may_park: bool) -> Held
     requires { is_awaited act board.old.seats ≡ true }

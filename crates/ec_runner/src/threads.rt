@@ -207,7 +207,7 @@ fn make_step<R: Wait, G>(
     take_next(machine, log, worker, &act, &next)
 }
 
-/// Returns one turn of a worker: the log grows, then comes the step that the program asks for.
+/// Makes one turn of a worker: the log grows, then comes the step that the program asks for.
 /// `steps` counts the steps that it has asked for.
 fn take_turn<R: Wait, G: Gate>(
     rt: &R,
@@ -249,7 +249,7 @@ fn told(log: Vec<Entry>, mut machine: Machine<'_>, asked: Option<Asked>) -> Told
     }
 }
 
-/// Returns a worker at its program, up to the program's end.
+/// Runs a worker's program up to its end.
 fn work_through<R: Wait, G: Gate>(
     rt: &R,
     shared: Shared<'_, G>,
@@ -272,7 +272,7 @@ fn work_through<R: Wait, G: Gate>(
     told(log, machine, asked)
 }
 
-/// Returns a worker, in a thread of its own, up to its end.
+/// Runs a worker, in a thread of its own, up to its end.
 fn work<R: Wait, G: Gate>(rt: &R, shared: Shared<'_, G>, place: usize, program: &Program) -> Told
     requires { place < 16 }
     ensures { IsToldOf program.now shared.entry.turns result }

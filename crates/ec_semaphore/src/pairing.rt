@@ -93,8 +93,8 @@ fn add(pairs: &mut Vec<Pair>, pair: Option<Pair>) -> Result<(), AllocError>
     Ok(())
 }
 
-/// Adds a pair, if there is one, as long as the list could grow. Whether it could not, now or
-/// before.
+/// Adds a pair, if there is one, as long as the list could grow. Returns whether it could not, now
+/// or before.
 fn lacks_after(lacks: bool, pairs: &mut Vec<Pair>, pair: Option<Pair>) -> bool
     ensures before { result ≡ false → lacks ≡ false }
     ensures pairs { result ≡ false → pairs.new.items ≡ pairs.old.items ++ option_to_list pair }

@@ -108,7 +108,7 @@ impl Lines {
         }
     }
 
-    /// Takes what is at hand of a line over several pieces. Whether that is all of it.
+    /// Takes what is at hand of a line over several pieces. Returns whether that is all of it.
     fn hold(&mut self) -> Result<bool, TraceFault>
         ensures more { IfOk result (λ whole. whole ≡ true → (self.old.taken < self.new.taken) × (self.new.taken ≤ TRACE_MAX)) }
         ensures all { IfOk result (λ whole. whole ≡ false → (self.new.taken ≡ self.old.taken + length self.old.behind) × (self.new.taken ≤ TRACE_MAX) × (self.old.over ≡ []) × (self.new.behind ≡ []) × (self.new.over ≡ [])) }
@@ -139,7 +139,7 @@ impl Lines {
         }
     }
 
-    /// Reads the next piece, if all of the last one is taken. Whether there is one.
+    /// Reads the next piece, if all of the last one is taken. Returns whether there is one.
     fn refill<R: Read>(&mut self, reader: &mut R) -> io::Result<bool>
         requires taken { self.old.behind ≡ [] }
         requires within { self.old.over ≡ [] }
@@ -173,7 +173,7 @@ impl Lines {
         }
     }
 
-    /// Returns the next line, which does not lie whole in the piece.
+    /// Reads the next line, which does not lie whole in the piece.
     #[cold]
     #[inline(never)]
     fn next_over_pieces<R: Read>(&mut self, reader: &mut R) -> Result<(), TraceFault>

@@ -6,7 +6,7 @@ use Rattle.ec_heading.specs.Outline.{opened}
 use Rattle.ec_heading.specs.declared.heading.HeadFault.{HeadFault}
 use Rattle.ec_heading.specs.declared.version.Version.TheVariants.{One}
 use Rattle.ec_explain.specs.TextLines.{line_at}
-use Rattle.evc_explain.specs.Seeking.{Opens, up_to}
+use Rattle.evc_explain.specs.Seeking.{Heads, Opens, up_to}
 
 -- the least fault of a line after the heading that was opened
 pub workers_fail : (text line : List ℕ) (h : Headed) (fault : HeadFault) (o : Option HeadFault) → h
@@ -22,12 +22,12 @@ workers_fail text line h fault o is at some fails =
 -- the heading that the lines before a line declare, which stayed as it was
 pub heading_opens : (text before : List ℕ) (n : ℕ) (h now : Headed) (fault : HeadFault)
     (o : Option HeadFault) (found : Option Headed) → before ≡ up_to n text → found ≡ Some h
-    → IfSome found (Opens before) → o ≡ Some fault → IfSome o (λ f. now ≡ h)
+    → Heads before found → o ≡ Some fault → IfSome o (λ f. now ≡ h)
     → Opens (up_to n text) now
 heading_opens text before n h now fault o found is there opens some same =
     let stayed : now ≡ h = subst (λ (p : Option HeadFault). IfSome p (λ f. now ≡ h)) some same in
     let opened_h : Opens before h =
-    subst (λ (p : Option Headed). IfSome p (Opens before)) there opens in
+    subst (λ (p : Option Headed). Heads before p) there opens in
     subst (λ (b : List ℕ). Opens b now) is (subst (Opens before) (sym stayed) opened_h)
 
 -- and the least fault of the line after it

@@ -1,7 +1,7 @@
 pub mod Forms
-pub mod Seeking
 pub mod Good
 pub mod Reasons
+pub mod Seeking
 pub mod Played
 pub mod GoingOn
 pub mod Said

@@ -127,7 +127,7 @@ fn ended_before(alloc: Global, number: u64, text: &[u8]) -> Result<Vec<u8>, Allo
 }
 
 /// Returns the trace of the lines before a line, if they are one with `end`.
-fn story(alloc: Global, number: u64, text: &[u8]) -> Result<Option<Traced>, AllocError>
+pub(crate) fn story(alloc: Global, number: u64, text: &[u8]) -> Result<Option<Traced>, AllocError>
     ensures { IfOk result (λ read. read ≡ story number text.now) }
 {
     let ended = ended_before(alloc, number, text)?;

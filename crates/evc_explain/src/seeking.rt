@@ -1,20 +1,24 @@
 //! Where the faulty line of a trace stands, and what is wrong with it there.
-ghost use Rattle.std.specs.Prelude.{◌≡◌, ◌++◌, Err, IfOk, IfSome, codes};
+ghost use Rattle.std.specs.Prelude.{◌≡◌, ◌<◌, ◌++◌, Some, None, Ok, Err, IfOk, IfSome, IfNone};
+ghost use Rattle.std.specs.Prelude.{false, codes};
 ghost use Rattle.ec_heading.specs.Heading.{head_step};
 ghost use Rattle.ec_explain.specs.TextLines.{line_at};
-ghost use Rattle.evc_explain.specs.Seeking.{Finds, FindsBad, Opens, follows_end, up_to};
+ghost use Rattle.evc_explain.specs.Reasons.{story};
+ghost use Rattle.evc_explain.specs.Seeking.{Finds, FindsBad, Heads, IsUndeclared, Opens};
+ghost use Rattle.evc_explain.specs.Seeking.{follows_end, up_to};
 
+use crate::reasons::story;
 use ec_explain::{
     Cause, Finding, Site, before_line, found_at, line_at, of_whole, refused_at, unfinished,
     wrong_reply_at,
 };
 use ec_heading::{HeadFault, Heading, Version};
-use ec_trace::{Opened, TraceFault, open_trace};
+use ec_trace::{Opened, TraceFault, Traced, open_trace};
 use std::alloc::{AllocError, Global};
 
-/// Returns what a text declares up to its line `run`, if it comes to that.
+/// Returns what a text declares up to its line `run`; `None` if it is no trace.
 fn heading_of(alloc: Global, text: &[u8]) -> Result<Option<Heading>, AllocError>
-    ensures { IfOk result (λ found. IfSome found (Opens text.now)) }
+    ensures { IfOk result (Heads text.now) }
 {
     let mut rest = text;
     match open_trace(alloc, &mut rest) {
@@ -24,23 +28,31 @@ fn heading_of(alloc: Global, text: &[u8]) -> Result<Option<Heading>, AllocError>
                 lines: _lines,
             },
         ) => Ok(Some(heading)),
-        Err(TraceFault::Memory) => Err(AllocError),
-        Err(_) => Ok(None),
+        Err(TraceFault::Memory | TraceFault::Read) => Err(AllocError),
+        Err(
+            TraceFault::BadLine(_)
+            | TraceFault::Refused(_, _)
+            | TraceFault::WrongReply(_, _)
+            | TraceFault::Unfinished
+            | TraceFault::TooLarge,
+        ) => Ok(None),
     }
 }
 
-/// Returns the lines before a line, and then `run`.
+/// Returns the lines before a line, and then `run` and `end`.
 fn up_to(alloc: Global, number: u64, text: &[u8]) -> Result<Vec<u8>, AllocError>
     ensures { IfOk result (λ bytes. bytes.items ≡ up_to number text.now) }
 {
     let mut bytes = Vec::new(alloc);
     bytes.extend_from_slice(before_line(number, text))?;
-    bytes.extend_from_slice(b"run\n")?;
+    bytes.extend_from_slice(b"run\nend\n")?;
     Ok(bytes)
 }
 
-/// Returns the least fault of a line after a heading, which stays as it is then.
+/// Returns the least fault of a line after a heading, which stays as it is then; `None` if it fits.
 fn fault_of(heading: &mut Heading, line: &[u8]) -> Result<Option<HeadFault>, AllocError>
+    ensures fits { IfOk result (λ found. IfNone found
+        (head_step heading.old line.now ≡ Ok heading.new)) }
     ensures same { IfOk result (λ found. IfSome found (λ fault. heading.new ≡ heading.old)) }
     ensures fault { IfOk result (λ found. IfSome found
         (λ fault. head_step heading.old line.now ≡ Err fault)) }
@@ -54,11 +66,12 @@ fn fault_of(heading: &mut Heading, line: &[u8]) -> Result<Option<HeadFault>, All
 
 /// Returns what is wrong with the line of the workers.
 fn in_workers(alloc: Global, text: &[u8]) -> Result<Finding, AllocError>
+    requires { story 3 text.now ≡ None }
     ensures { IfOk result (FindsBad text.now 3) }
 {
     let line = line_at(3, text);
     let Some(limit) = Version::One.limit(1) else {
-        return Ok(found_at(&Site::Unknown, 3, line));
+        unreachable!();
     };
     let mut heading = Heading::new(alloc, Version::One, limit)?;
     match fault_of(&mut heading, line)? {
@@ -80,26 +93,37 @@ fn declared_at(heading: &Heading, fault: HeadFault, text: &[u8], number: u64) ->
     )
 }
 
+/// Returns what is found of a line after the line of the workers that is not wrong there.
+fn undeclared_at(text: &[u8], number: u64) -> Finding
+    requires before { story number text.now ≡ None }
+    requires undeclared { IsUndeclared text.now number }
+    ensures { FindsBad text.now number result }
+{
+    found_at(&Site::Unknown, number, line_at(number, text))
+}
+
 /// Returns what is wrong with a line after the line of the workers.
 fn in_declarations(alloc: Global, text: &[u8], number: u64) -> Result<Finding, AllocError>
+    requires before { story number text.now ≡ None }
+    requires behind { 3 < number }
     ensures { IfOk result (FindsBad text.now number) }
 {
-    let line = line_at(number, text);
     let before = up_to(alloc, number, text)?;
     let Some(mut heading) = heading_of(alloc, before.as_slice())? else {
-        return Ok(found_at(&Site::Unknown, number, line));
+        return Ok(undeclared_at(text, number));
     };
-    match fault_of(&mut heading, line)? {
+    match fault_of(&mut heading, line_at(number, text))? {
         Some(fault) => Ok(declared_at(&heading, fault, text, number)),
-        None => Ok(found_at(&Site::Unknown, number, line)),
+        None => Ok(undeclared_at(text, number)),
     }
 }
 
 /// Returns what is wrong with a line before `run`.
 fn in_heading(alloc: Global, text: &[u8], number: u64) -> Result<Finding, AllocError>
+    requires { story number text.now ≡ None }
     ensures { IfOk result (FindsBad text.now number) }
 {
-    if number == 1 {
+    if number <= 1 {
         return Ok(found_at(&Site::First, number, line_at(number, text)));
     }
     if number == 2 {
@@ -118,24 +142,28 @@ fn follows_end(number: u64, text: &[u8]) -> bool
     line_at(number.saturating_sub(1), text) == b"end".as_slice()
 }
 
-/// Returns what is wrong with a line after `run`.
-fn in_run(heading: &Heading, text: &[u8], number: u64) -> Finding
-    requires { Opens text.now heading.now }
+/// Returns what is wrong with a line after `run`, before which this trace stands.
+fn in_run(traced: &Traced, text: &[u8], number: u64) -> Finding
+    requires open { follows_end number text.now ≡ false }
+    requires before { story number text.now ≡ Some traced.now }
     ensures { FindsBad text.now number result }
 {
-    let line = line_at(number, text);
-    if follows_end(number, text) {
-        return found_at(&Site::Behind, number, line);
-    }
-    found_at(&Site::Entry(heading), number, line)
+    found_at(
+        &Site::Entry(traced.heading()),
+        number,
+        line_at(number, text),
+    )
 }
 
 /// Returns what is wrong with a bad line.
 fn bad_line(alloc: Global, text: &[u8], number: u64) -> Result<Finding, AllocError>
     ensures { IfOk result (FindsBad text.now number) }
 {
-    match heading_of(alloc, text)? {
-        Some(heading) => Ok(in_run(&heading, text, number)),
+    if follows_end(number, text) {
+        return Ok(found_at(&Site::Behind, number, line_at(number, text)));
+    }
+    match story(alloc, number, text)? {
+        Some(traced) => Ok(in_run(&traced, text, number)),
         None => in_heading(alloc, text, number),
     }
 }
