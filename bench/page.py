@@ -1,7 +1,8 @@
-"""What bench/run writes into docs/PERFORMANCE.md between its two marks: tables, lines, and the targets that are missed.
+"""What bench/run writes into docs/PERFORMANCE.md between its two marks: tables and lines, with figures that miss their
+targets in bold.
 
 `written` gives the page with the figures of a run. `faults` says without a measure where a page has another form than a run
-gives it, or where what it has as missed doesn't fit its figures; tests/pages asks it.
+gives it, or where what is bold doesn't fit the targets; tests/pages asks it.
 """
 
 import re
@@ -15,10 +16,7 @@ MARK = "<!-- bench/run -->\n"
 MACHINE = r"\d+ cores at \d+ MHz\."
 # What stands in place of a figure in the form that a run gives the page, and what a page has there (`-` is not measured yet).
 OPEN = "\0"
-FIGURE = r"(-|\d+(?:\.\d+)?)"
-# How many rows a line on a missed target names: pages have short sentences.
-NAMED = 6
-EVERYWHERE = "each row"
+FIGURE = r"(-|(?:\*\*)?\d+(?:\.\d+)?(?:\*\*)?)"
 
 # The columns of the tables. Those of the second are in groups, each with its rows: a row has the groups up to its last.
 COMMANDS = [of_traces.BESIDE["check"], of_traces.BESIDE["audit"], of_traces.MEMORY["check"]]
@@ -79,26 +77,13 @@ def summary(text_of):
 
 
 def lines(text_of):
-    """Gives the lines between the marks, without those on the machine and on what is missed. `text_of` gives the text of a
-    figure by its target and its row; of the worst, if the row is None."""
+    """Gives the lines between the marks, without the one on the machine. `text_of` gives the text of a figure by its target
+    and its row; of the worst, if the row is None."""
     for head, rows in tables():
         yield from [f"|{'|'.join(head)}|", "|-" * len(head) + "|"]
         yield from (f"|{'|'.join([row, *(text_of(it, row) for it in targets)])}|" for row, targets in rows.items())
         yield ""
     yield from (f"- {it}" for it in summary(text_of))
-
-
-def missed(figures):
-    """Gives the lines on each target that is missed, with the rows on which it is."""
-    over = {}
-    for it in figures:
-        rows = over.setdefault(it.target, [])
-        rows += [it.row] if not it.target.is_met(it.number) else []
-    for target, rows in over.items():
-        if rows and len(rows) == sum(it.target == target for it in figures):
-            rows = [EVERYWHERE]
-        for at in range(0, len(rows), NAMED):
-            yield f"- Missed: {target.named()}: {'; '.join(rows[at : at + NAMED])}."
 
 
 def written(page, machine, figures):
@@ -109,36 +94,20 @@ def written(page, machine, figures):
 
     def text_of(target, row):
         found = [it for it in figures if it.target == target and row in (None, it.row)]
-        return (min if target.least else max)(found, key=lambda it: it.number).text()
+        worst = (min if target.least else max)(found, key=lambda it: it.number)
+        return worst.text() if target.is_met(worst.number) else f"**{worst.text()}**"
 
-    block = [machine, "", *lines(text_of), *missed(figures)]
+    block = [machine, "", *lines(text_of)]
     return MARK.join([parts[0], "".join(f"{it}\n" for it in block), parts[2]])
 
 
-def is_row(figures, target, row):
-    """Whether a row that is missed is one of a target, also of a smaller trace."""
-    return row == EVERYWHERE or any(it in figures for it in ((target, None), (target, row.partition(" (")[0])))
-
-
-def faults_of_missed(figures, found):
-    """Yields what the lines on missed targets have otherwise than the figures of a page: a text by each target and row."""
-    targets = {it.named(): it for it, _ in figures}
-    named = {}
-    for it in found:
-        parts = re.fullmatch(r"- Missed: (.*): ([^:]*)\.", it)
-        rows = parts[2].split("; ") if parts else []
-        if not parts or parts[1] not in targets or not all(is_row(figures, targets[parts[1]], row) for row in rows):
-            yield f"bench/run --write doesn't make the line {it}"
-        else:
-            named.setdefault(targets[parts[1]], []).extend(rows)
-    for (target, row), text in figures.items():
-        rows = named.get(target, [])
-        said = bool(rows) if row is None else row in rows or EVERYWHERE in rows
-        if text != "-" and not said and not target.is_met(float(text)):
-            yield f"{target.named()}: {row or 'the worst'} is {text}, and no line has it as missed"
-        # (what is over may be printed as the bound)
-        if said and (text == "-" or target.is_met(float(text)) and float(text) != target.bound):
-            yield f"{target.named()}: {row or 'the worst'} is {text}, and a line has it as missed"
+def is_right(target, text):
+    """Whether a figure of a page is bold if it misses its target, and only then."""
+    number = text.strip("*")
+    if number == "-":
+        return text == number
+    # (what is over may be printed as the bound)
+    return float(number) == target.bound or text == (number if target.is_met(float(number)) else f"**{number}**")
 
 
 def faults(page):
@@ -162,7 +131,8 @@ def faults(page):
             yield f"bench/run --write doesn't make the line {line}"
             return
         texts += said.groups()
-    if len(block) < len(patterns):
-        yield "lines of bench/run --write are missing"
-        return
-    yield from faults_of_missed(dict(zip(asked, texts)), block[len(patterns) :])
+    if len(block) != len(patterns):
+        yield "bench/run --write makes another number of lines"
+    for (target, row), text in zip(asked, texts):
+        if not is_right(target, text):
+            yield f"{target.named()}: {row or 'the worst'} is {text}"
