@@ -1,3 +1,6 @@
+mod Cuts
+mod Stages
+mod Sought
 mod Places
 mod Histories
 mod Continuing

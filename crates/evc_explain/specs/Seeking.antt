@@ -1,6 +1,6 @@
 -- Where the faulty line of a trace stands, and what is wrong with it there.
-use Rattle.std.specs.Prelude.{◌≡◌, ◌⊎◌, ℕ, ◌-◌, ◌<◌, ◌≤◌, Bool, true, false, bytes_eq, List, []}
-use Rattle.std.specs.Prelude.{◌++◌, Option, Some, None, Ok, Err, codes}
+use Rattle.std.specs.Prelude.{◌≡◌, ℕ, ◌-◌, ◌<◌, ◌≤◌, Bool, true, false, bytes_eq, List, []}
+use Rattle.std.specs.Prelude.{◌++◌, length, Option, Some, None, Err, codes}
 use Rattle.ec_heading.specs.Headed.{Headed}
 use Rattle.ec_heading.specs.Heading.{head_step}
 use Rattle.ec_heading.specs.Outline.{opened}
@@ -36,26 +36,17 @@ Heads text None = (fault : TraceFault) × (outcome TRACE_MAX text ≡ Err fault)
 abbrev pub follows_end : ℕ → List ℕ → Bool
 follows_end n text = bytes_eq (line_at (n - 1) text) (codes "end")
 
--- a line fits the lines of a heading before it
-abbrev pub Fits : Headed → List ℕ → Type 0
-Fits h line = (k : Headed) × (head_step h line ≡ Ok k)
-
--- line n, behind the third, is not wrong after the declarations of those before it: it fits them;
--- or those, with `run` and `end`, are no trace
-abbrev pub IsUndeclared : List ℕ → ℕ → Type 0
-IsUndeclared text n = (3 < n)
-    × (((h : Headed) × Opens (up_to n text) h × Fits h (line_at n text))
-    ⊎ Heads (up_to n text) None)
-
--- no place is found at which line n is wrong: the lines before it are no trace with `end`, and it
--- fits as the line of workers, or is not wrong as a declaration
-abbrev pub IsUnplaced : List ℕ → ℕ → Type 0
-IsUnplaced text n = (story n text ≡ None)
-    × (((n ≡ 3) × Fits (opened One 1 []) (line_at n text)) ⊎ IsUndeclared text n)
+-- line n is the first faulty one of a text and bad, and stands before `run`: it isn't behind `end`,
+-- and the lines before it are no trace with `end`
+pub record IsInHeading (text : List ℕ) (n : ℕ) : Type 0 where
+  pub bad : outcome TRACE_MAX text ≡ Err (faults.BadLine n)
+  pub before : story n text ≡ None
+  pub early : follows_end n text ≡ false
 
 -- where line n of a text stands: the first and the second by their numbers; the third as a line of
 -- workers, with its least fault; one after the declarations of those before it, with its least
--- fault there; one behind `run`, if those before it are a trace with `end`; and one behind `end`
+-- fault there; one behind `run`, if those before it are a trace with `end`; and one behind `end`. It
+-- is not known where it stands only if `run` and `end` behind those before it make a text too large
 abbrev pub Stands : List ℕ → ℕ → Site → Type 0
 Stands text n sites.First = n ≤ 1
 Stands text n sites.Limit = n ≡ 2
@@ -69,7 +60,7 @@ Stands text n sites.Behind = follows_end n text ≡ true
 Stands text n (sites.Heading fault) = ⊥
 Stands text n sites.Script = ⊥
 Stands text n sites.Calls = ⊥
-Stands text n sites.Unknown = IsUnplaced text n
+Stands text n sites.Unknown = TRACE_MAX < length (up_to n text)
 
 -- what is found of a bad line: the first cause that is so of the line where it stands
 pub record FindsBad (text : List ℕ) (n : ℕ) (f : Finding) : Type 0 where

@@ -1,10 +1,14 @@
 //! Where the faulty line of a trace stands, and what is wrong with it there.
 ghost use Rattle.std.specs.Prelude.{◌≡◌, ◌<◌, ◌++◌, Some, None, Ok, Err, IfOk, IfSome, IfNone};
-ghost use Rattle.std.specs.Prelude.{false, codes};
+ghost use Rattle.std.specs.Prelude.{false, codes, length};
 ghost use Rattle.ec_heading.specs.Heading.{head_step};
+ghost use Rattle.ec_trace.specs.Outcome.{outcome};
+ghost use Rattle.ec_trace.specs.declared.fault.TraceFault.TheVariants.{BadLine};
+ghost use Rattle.ec_trace.specs.declared.read.TheConstants.{TRACE_MAX};
 ghost use Rattle.ec_explain.specs.TextLines.{line_at};
+ghost use Rattle.evc_engine.specs.Checks.{RefusedFor};
 ghost use Rattle.evc_explain.specs.Reasons.{story};
-ghost use Rattle.evc_explain.specs.Seeking.{Finds, FindsBad, Heads, IsUndeclared, Opens};
+ghost use Rattle.evc_explain.specs.Seeking.{Finds, FindsBad, Heads, IsInHeading, Opens};
 ghost use Rattle.evc_explain.specs.Seeking.{follows_end, up_to};
 
 use crate::reasons::story;
@@ -66,7 +70,7 @@ fn fault_of(heading: &mut Heading, line: &[u8]) -> Result<Option<HeadFault>, All
 
 /// Returns what is wrong with the line of the workers.
 fn in_workers(alloc: Global, text: &[u8]) -> Result<Finding, AllocError>
-    requires { story 3 text.now ≡ None }
+    requires { IsInHeading text.now 3 }
     ensures { IfOk result (FindsBad text.now 3) }
 {
     let line = line_at(3, text);
@@ -76,7 +80,7 @@ fn in_workers(alloc: Global, text: &[u8]) -> Result<Finding, AllocError>
     let mut heading = Heading::new(alloc, Version::One, limit)?;
     match fault_of(&mut heading, line)? {
         Some(fault) => Ok(found_at(&Site::Workers(fault), 3, line)),
-        None => Ok(found_at(&Site::Unknown, 3, line)),
+        None => Ok(unplaced_at(text, 3)),
     }
 }
 
@@ -93,10 +97,9 @@ fn declared_at(heading: &Heading, fault: HeadFault, text: &[u8], number: u64) ->
     )
 }
 
-/// Returns what is found of a line after the line of the workers that is not wrong there.
-fn undeclared_at(text: &[u8], number: u64) -> Finding
-    requires before { story number text.now ≡ None }
-    requires undeclared { IsUndeclared text.now number }
+/// Returns what is found of a line if `run` and `end` make the lines before it too large a text.
+fn unplaced_at(text: &[u8], number: u64) -> Finding
+    requires { TRACE_MAX < length (up_to number text.now) }
     ensures { FindsBad text.now number result }
 {
     found_at(&Site::Unknown, number, line_at(number, text))
@@ -104,23 +107,23 @@ fn undeclared_at(text: &[u8], number: u64) -> Finding
 
 /// Returns what is wrong with a line after the line of the workers.
 fn in_declarations(alloc: Global, text: &[u8], number: u64) -> Result<Finding, AllocError>
-    requires before { story number text.now ≡ None }
+    requires heading { IsInHeading text.now number }
     requires behind { 3 < number }
     ensures { IfOk result (FindsBad text.now number) }
 {
     let before = up_to(alloc, number, text)?;
     let Some(mut heading) = heading_of(alloc, before.as_slice())? else {
-        return Ok(undeclared_at(text, number));
+        return Ok(unplaced_at(text, number));
     };
     match fault_of(&mut heading, line_at(number, text))? {
         Some(fault) => Ok(declared_at(&heading, fault, text, number)),
-        None => Ok(undeclared_at(text, number)),
+        None => Ok(unplaced_at(text, number)),
     }
 }
 
 /// Returns what is wrong with a line before `run`.
 fn in_heading(alloc: Global, text: &[u8], number: u64) -> Result<Finding, AllocError>
-    requires { story number text.now ≡ None }
+    requires { IsInHeading text.now number }
     ensures { IfOk result (FindsBad text.now number) }
 {
     if number <= 1 {
@@ -144,7 +147,7 @@ fn follows_end(number: u64, text: &[u8]) -> bool
 
 /// Returns what is wrong with a line after `run`, before which this trace stands.
 fn in_run(traced: &Traced, text: &[u8], number: u64) -> Finding
-    requires open { follows_end number text.now ≡ false }
+    requires early { follows_end number text.now ≡ false }
     requires before { story number text.now ≡ Some traced.now }
     ensures { FindsBad text.now number result }
 {
@@ -157,6 +160,7 @@ fn in_run(traced: &Traced, text: &[u8], number: u64) -> Finding
 
 /// Returns what is wrong with a bad line.
 fn bad_line(alloc: Global, text: &[u8], number: u64) -> Result<Finding, AllocError>
+    requires { outcome TRACE_MAX text.now ≡ Err (BadLine number) }
     ensures { IfOk result (FindsBad text.now number) }
 {
     if follows_end(number, text) {
@@ -174,6 +178,7 @@ pub(crate) fn finding_of(
     text: &[u8],
     fault: &TraceFault,
 ) -> Result<Finding, AllocError>
+    requires { RefusedFor text.now fault.now }
     ensures { IfOk result (Finds text.now fault.now) }
 {
     match *fault {

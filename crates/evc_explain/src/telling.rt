@@ -5,6 +5,7 @@ ghost use Rattle.ec_trace.specs.declared.read.TheConstants.{TRACE_MAX};
 ghost use Rattle.ec_explain.specs.Findings.{finding_text, of_whole};
 ghost use Rattle.ec_script.specs.Confined.{IsPlan};
 ghost use Rattle.ec_script.specs.Outcome.{shown_plan};
+ghost use Rattle.evc_engine.specs.Checks.{RefusedFor};
 ghost use Rattle.evc_engine.specs.declared.status.Status.TheVariants.{Refused};
 ghost use Rattle.evc_explain.specs.Played.{turn_text};
 ghost use Rattle.evc_explain.specs.Said.{IsTold};
@@ -30,6 +31,7 @@ use std::alloc::{AllocError, Global};
 
 /// Returns what is found wrong with a text that has this fault as a trace.
 fn tell_fault(alloc: Global, text: &[u8], fault: &TraceFault) -> Result<Told, AllocError>
+    requires { RefusedFor text.now fault.now }
     ensures { IfOk result (TellsFault text.now fault.now) }
 {
     let finding = finding_of(alloc, text, fault)?;

@@ -3,10 +3,10 @@ use Rattle.ec_explain.specs.Findings.{found_at}
 use Rattle.ec_explain.specs.declared.site.Site.TheVariants.{First, Limit}
 use Rattle.evc_explain.proofs.seeking.in_heading.Goals as goal
 
-pub returns-then-number-eq1 : goal.returns-then-number-eq1
-returns-then-number-eq1 c = record {
+pub returns-then-number-le1 : goal.returns-then-number-le1
+returns-then-number-le1 c = record {
   site = First;
-  stands = c.if-number-eq1.true;
+  stands = c.if-number-le1.true;
   found = c.found_at.ensures
       ∙ ap (λ (l : List ℕ). found_at First c.args.number l) c.line_at.ensures;
 }
