@@ -1,28 +1,9 @@
 //! `evc-draw`: draws a trace, or a history of calls.
 #![tactic(auto)]
 
-mod calls;
-mod drawing;
-mod elements;
-mod fault;
-mod findings;
-mod html;
-mod names;
-mod note;
-mod shapes;
-mod sheet;
-mod style;
-mod svg;
-mod text;
-mod unknown;
-mod view;
-mod window;
-mod words;
-
-use crate::drawing::draw;
-use crate::view::View;
 use ec_draw::Choice;
 use ec_text::Out;
+use evc_draw_engine::{View, draw};
 use evc_draw_task::{Bound, Error, NoNumber, Task, status_of, task};
 use evc_engine::Status;
 use std::alloc::AllocError;

@@ -1,21 +1,9 @@
 //! `evc-explain`: says what is wrong with a text, and how to mend it.
 #![tactic(auto)]
 
-mod explaining;
-mod form;
-mod going_on;
-mod good;
-mod judging;
-mod playing;
-mod reasons;
-mod round;
-mod seeking;
-mod telling;
-mod told;
-
-use crate::explaining::explain;
 use ec_text::Out;
 use evc_engine::Status;
+use evc_explain_engine::explain;
 use evc_explain_task::{Error, file_named, status_of};
 use std::alloc::AllocError;
 use std::io::{ErrorKind, Write};

@@ -1,9 +1,0 @@
-use Rattle.std.proofs.Common.{take}
-use Rattle.std.specs.List.{flat_map}
-use Rattle.ec_text.specs.Puts.{Puts}
-use Rattle.evc_draw.specs.Unknown.{worker_note}
-use Rattle.evc_draw.proofs.unknown.put_worker_notes.Given as goal
-
--- those so far
-abbrev pub invariant-loop-name : goal.invariant-loop-name
-invariant-loop-name g l = Puts l.initial.out l.out (flat_map (λ s. worker_note l.words s.now) (take l.name-index l.names))

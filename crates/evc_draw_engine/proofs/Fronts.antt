@@ -1,0 +1,11 @@
+-- What stands behind the first lines of a text.
+use Rattle.std.proofs.Common.{◌≡◌, ℕ, ◌+◌, List, refl, sym, ap, add-one}
+use Rattle.evc_draw_engine.specs.Faults.{behind, behind_line}
+
+pub behind_none : (xs : List ℕ) → xs ≡ behind 0 xs
+unfolding behind
+behind_none xs = refl
+
+pub behind_more : (n : ℕ) (xs : List ℕ) → behind_line (behind n xs) ≡ behind (n + 1) xs
+unfolding behind
+behind_more n xs = ap (λ m. behind m xs) (sym (add-one n))

@@ -1,0 +1,206 @@
+//! What is drawn of a text that is refused for one of its lines.
+ghost use Rattle.std.specs.Prelude.{◌≡◌, ◌≤◌, ◌<◌, ◌==◌, ◌++◌, IfSome, IfOk, IfErr, OnOk, length};
+ghost use Rattle.std.specs.List.{position_from};
+ghost use Rattle.ec_heading.specs.Spelling.{reply_word};
+ghost use Rattle.evc_engine.specs.Checks.{ReadsAs};
+ghost use Rattle.evc_draw_engine.specs.Faults.{before_line, behind, behind_line, fault_line, first_line, history, line_at, mended, place_of, position_in, right_of, with_reply, with_right};
+ghost use Rattle.evc_draw_engine.specs.Draws.{RefusedOr};
+
+use ec_core::Reply;
+use ec_trace::{TraceFault, Traced, read_trace};
+use itoa::Buffer;
+use std::alloc::{AllocError, Global};
+
+/// Returns where a sign stands first.
+fn position_of(sign: u8, bytes: &[u8]) -> Option<usize>
+    ensures value { result ≡ position_from (λ b. b == sign) 0 bytes.now }
+    ensures within { IfSome result (λ place. place < length bytes.now) }
+{
+    bytes.iter().position(|b| *b == sign)
+}
+
+/// Returns where a sign stands first; behind the last byte if it doesn't.
+fn place_of(sign: u8, bytes: &[u8]) -> usize
+    ensures value { result ≡ place_of sign bytes.now }
+    ensures within { result ≤ length bytes.now }
+{
+    match position_of(sign, bytes) {
+        Some(place) => place,
+        None => bytes.len(),
+    }
+}
+
+/// Returns what stands behind the first line.
+fn behind_line(text: &[u8]) -> &[u8]
+    ensures { result.now ≡ behind_line text.now }
+{
+    let end = place_of(b'\n', text);
+    if end < text.len() {
+        &text[end + 1..]
+    } else {
+        &[]
+    }
+}
+
+/// Returns what stands behind so many lines.
+fn behind(lines: u64, text: &[u8]) -> &[u8]
+    ensures { result.now ≡ behind lines text.now }
+{
+    let mut rest = text;
+    for _line in 0..lines {
+        rest = behind_line(rest);
+    }
+    rest
+}
+
+/// Returns the first line, without its LF.
+fn first_line(text: &[u8]) -> &[u8]
+    ensures { result.now ≡ first_line text.now }
+{
+    &text[..place_of(b'\n', text)]
+}
+
+/// Returns a line of a text, counted from 1.
+pub(crate) fn line_at(number: u64, text: &[u8]) -> &[u8]
+    ensures { result.now ≡ line_at number text.now }
+{
+    first_line(behind(number.saturating_sub(1), text))
+}
+
+/// Returns all that stands before a line.
+fn before_line(number: u64, text: &[u8]) -> &[u8]
+    ensures { result.now ≡ before_line number text.now }
+{
+    let rest = behind(number.saturating_sub(1), text);
+    &text[..text.len().saturating_sub(rest.len())]
+}
+
+/// Adds the word of a reply.
+fn add_reply(text: &mut Vec<u8>, reply: &Reply) -> Result<(), AllocError>
+    ensures { OnOk result (text.new.items ≡ text.old.items ++ reply_word reply.now) }
+{
+    match *reply {
+        Reply::Done => text.extend_from_slice(b"done"),
+        Reply::Pending => text.extend_from_slice(b"pending"),
+        Reply::Number(n) => {
+            let mut digits = Buffer::new();
+            text.extend_from_slice(digits.format(n).as_bytes())
+        }
+    }
+}
+
+/// Adds a line with another reply.
+#[tactic(auto, unfolding(crate::specs::Faults::with_reply))]
+fn add_with_reply(text: &mut Vec<u8>, line: &[u8], reply: &Reply) -> Result<(), AllocError>
+    ensures { OnOk result (text.new.items ≡ text.old.items ++ with_reply line.now reply.now) }
+{
+    text.extend_from_slice(&line[..place_of(b'=', line)])?;
+    text.extend_from_slice(b"= ")?;
+    add_reply(text, reply)?;
+    text.extend_from_slice(b"\n")
+}
+
+/// Adds a line with the right reply, if there is one.
+fn add_with_right(text: &mut Vec<u8>, line: &[u8], right: &Option<Reply>) -> Result<(), AllocError>
+    ensures { OnOk result (text.new.items ≡ text.old.items ++ with_right line.now right.now) }
+{
+    if let Some(reply) = right {
+        add_with_reply(text, line, reply)?;
+    }
+    Ok(())
+}
+
+/// Returns the text of the lines before a faulty one, and of that with its right reply, if it has
+/// one.
+#[tactic(auto, unfolding(crate::specs::Faults::mended))]
+fn mended(
+    alloc: Global,
+    before: &[u8],
+    line: &[u8],
+    right: &Option<Reply>,
+) -> Result<Vec<u8>, AllocError>
+    ensures { IfOk result (λ text. text.items ≡ mended before.now line.now right.now) }
+{
+    let mut text = Vec::new(alloc);
+    text.extend_from_slice(before)?;
+    add_with_right(&mut text, line, right)?;
+    text.extend_from_slice(b"end\n")?;
+    Ok(text)
+}
+
+/// Reads a text as a trace.
+pub(crate) fn read_text(alloc: Global, text: &[u8]) -> Result<Traced, TraceFault>
+    ensures ok { IfOk result (ReadsAs text.now) }
+    ensures err { IfErr result (RefusedOr text.now) }
+{
+    let mut rest = text;
+    read_trace(alloc, &mut rest)
+}
+
+/// Returns the trace of the lines before a faulty one, and of that with its right reply, if it has
+/// one; none if no run had begun.
+pub(crate) fn history(
+    alloc: Global,
+    number: u64,
+    right: &Option<Reply>,
+    text: &[u8],
+) -> Result<Option<Traced>, AllocError>
+    ensures { IfOk result (λ read. read ≡ history number right.now text.now) }
+{
+    let mended = mended(
+        alloc,
+        before_line(number, text),
+        line_at(number, text),
+        right,
+    )?;
+    match read_text(alloc, mended.as_slice()) {
+        Ok(traced) => Ok(Some(traced)),
+        Err(TraceFault::Memory | TraceFault::Read) => Err(AllocError),
+        Err(
+            TraceFault::BadLine(_)
+            | TraceFault::Refused(_, _)
+            | TraceFault::WrongReply(_, _)
+            | TraceFault::Unfinished
+            | TraceFault::TooLarge,
+        ) => Ok(None),
+    }
+}
+
+/// Returns the number of the line of a fault.
+pub(crate) fn fault_line(fault: &TraceFault) -> Option<u64>
+    ensures { result ≡ fault_line fault.now }
+{
+    match *fault {
+        TraceFault::BadLine(number)
+        | TraceFault::Refused(number, _)
+        | TraceFault::WrongReply(number, _) => Some(number),
+        TraceFault::Unfinished | TraceFault::TooLarge | TraceFault::Read | TraceFault::Memory => {
+            None
+        }
+    }
+}
+
+/// Returns the right reply, if the reply alone is wrong.
+pub(crate) fn right_of(fault: &TraceFault) -> Option<Reply>
+    ensures { result ≡ right_of fault.now }
+{
+    match *fault {
+        TraceFault::WrongReply(_, right) => Some(right),
+        TraceFault::BadLine(_)
+        | TraceFault::Refused(_, _)
+        | TraceFault::Unfinished
+        | TraceFault::TooLarge
+        | TraceFault::Read
+        | TraceFault::Memory => None,
+    }
+}
+
+/// Returns the position of the entry of a faulty line, if so many entries were read.
+pub(crate) fn position_in(right: &Option<Reply>, entries: usize) -> usize
+    ensures { result ≡ position_in right.now entries }
+{
+    match right {
+        Some(_) => entries.saturating_sub(1),
+        None => entries,
+    }
+}

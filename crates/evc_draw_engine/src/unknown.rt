@@ -1,0 +1,138 @@
+//! Names that were chosen, and that the trace doesn't have.
+ghost use Rattle.std.specs.Prelude.{◌≡◌};
+ghost use Rattle.std.specs.List.{flat_map, list_any};
+ghost use Rattle.ec_text.specs.Puts.{Puts, IsWrittenOut};
+ghost use Rattle.evc_draw_engine.specs.Unknown.{has_unknown, is_object, is_worker, lacks_object, lacks_worker, object_note, unknown_note, unknown_notes, worker_note};
+
+use ec_count::{Target, Vocabulary};
+use ec_draw::Choice;
+use ec_text::Out;
+use std::io::Write;
+
+/// Returns whether a name stands for a worker.
+fn is_worker(target: Option<Target>) -> bool
+    ensures { result ≡ is_worker target }
+{
+    match target {
+        Some(Target::Worker(_)) => true,
+        Some(Target::Event(_)) => false,
+        Some(Target::Sequencer(_)) => false,
+        Some(Target::Cells(_, _)) => false,
+        Some(Target::Group(_)) => false,
+        None => false,
+    }
+}
+
+/// Returns whether a name stands for an object.
+fn is_object(target: Option<Target>) -> bool
+    ensures { result ≡ is_object target }
+{
+    match target {
+        Some(Target::Worker(_)) => false,
+        Some(Target::Event(_)) => true,
+        Some(Target::Sequencer(_)) => true,
+        Some(Target::Cells(_, _)) => true,
+        Some(Target::Group(_)) => true,
+        None => false,
+    }
+}
+
+/// Returns whether a name that was chosen among the workers stands for none.
+fn lacks_worker(words: &Vocabulary, name: &str) -> bool
+    ensures { result ≡ lacks_worker words.now name.now }
+{
+    !is_worker(words.find(name.as_bytes()))
+}
+
+/// Returns whether a name that was chosen among the objects stands for none.
+fn lacks_object(words: &Vocabulary, name: &str) -> bool
+    ensures { result ≡ lacks_object words.now name.now }
+{
+    !is_object(words.find(name.as_bytes()))
+}
+
+/// Returns whether some name among the workers stands for none.
+fn any_lacks_worker(words: &Vocabulary, names: &[&str]) -> bool
+    ensures { result ≡ list_any (λ s. lacks_worker words.now s.now) names.now }
+{
+    names.iter().any(|name| lacks_worker(words, name))
+}
+
+/// Returns whether some name among the objects stands for none.
+fn any_lacks_object(words: &Vocabulary, names: &[&str]) -> bool
+    ensures { result ≡ list_any (λ s. lacks_object words.now s.now) names.now }
+{
+    names.iter().any(|name| lacks_object(words, name))
+}
+
+/// Returns whether the trace doesn't have some name that was chosen.
+pub(crate) fn has_unknown(words: &Vocabulary, choice: &Choice<'_>) -> bool
+    ensures { result ≡ has_unknown choice.now words.now }
+{
+    any_lacks_worker(words, choice.workers) || any_lacks_object(words, choice.objects)
+}
+
+/// Puts the note on a name.
+#[tactic(auto, unfolding(crate::specs::Unknown::unknown_note))]
+fn put_unknown<N: Write>(out: &mut Out<'_, N>, what: &[u8], name: &[u8])
+    ensures { Puts out.old out.new (unknown_note what.now name.now) }
+{
+    out.put(what);
+    out.put(name);
+    out.put(b" is declared\n");
+}
+
+/// Puts the note on a name among the workers, if there is none of that name.
+#[tactic(auto, unfolding(crate::specs::Unknown::worker_note))]
+fn put_worker_note<N: Write>(out: &mut Out<'_, N>, words: &Vocabulary, name: &str)
+    ensures { Puts out.old out.new (worker_note words.now name.now) }
+{
+    if lacks_worker(words, name) {
+        put_unknown(out, b"no worker ", name.as_bytes());
+    }
+}
+
+/// Puts the note on a name among the objects, if there is none of that name.
+#[tactic(auto, unfolding(crate::specs::Unknown::object_note))]
+fn put_object_note<N: Write>(out: &mut Out<'_, N>, words: &Vocabulary, name: &str)
+    ensures { Puts out.old out.new (object_note words.now name.now) }
+{
+    if lacks_object(words, name) {
+        put_unknown(out, b"no object ", name.as_bytes());
+    }
+}
+
+/// Puts the notes on the names among the workers.
+fn put_worker_notes<N: Write>(out: &mut Out<'_, N>, words: &Vocabulary, names: &[&str])
+    ensures { Puts out.old out.new (flat_map (λ s. worker_note words.now s.now) names.now) }
+{
+    for name in names {
+        put_worker_note(out, words, name);
+    }
+}
+
+/// Puts the notes on the names among the objects.
+fn put_object_notes<N: Write>(out: &mut Out<'_, N>, words: &Vocabulary, names: &[&str])
+    ensures { Puts out.old out.new (flat_map (λ s. object_note words.now s.now) names.now) }
+{
+    for name in names {
+        put_object_note(out, words, name);
+    }
+}
+
+/// Puts a note on each name that the trace doesn't have.
+fn put_unknown_notes<N: Write>(out: &mut Out<'_, N>, words: &Vocabulary, choice: &Choice<'_>)
+    ensures { Puts out.old out.new (unknown_notes choice.now words.now) }
+{
+    put_worker_notes(out, words, choice.workers);
+    put_object_notes(out, words, choice.objects);
+}
+
+/// Writes a note on each name that the trace doesn't have.
+pub(crate) fn say_unknown<N: Write>(words: &Vocabulary, choice: &Choice<'_>, notes: &mut Out<'_, N>)
+    ensures puts { Puts notes.old notes.new (unknown_notes choice.now words.now) }
+    ensures written { IsWrittenOut notes.new }
+{
+    put_unknown_notes(notes, words, choice);
+    notes.flush();
+}

@@ -1,0 +1,98 @@
+//! Which entries are drawn.
+ghost use Rattle.std.specs.Prelude.{◌≡◌, ◌<◌, ◌≤◌, false};
+ghost use Rattle.ec_text.specs.Puts.{Puts, IsWrittenOut};
+ghost use Rattle.evc_draw_engine.specs.Windows.{empty_note, is_empty, is_whole, is_wide, last_of, last_words, range_words, window_for, window_on};
+
+use ec_draw::{COLUMNS_MAX, Window};
+use ec_text::Out;
+use evc_draw_task::{NO_END, Range};
+use std::io::Write;
+
+/// Returns the part of a range that so many entries have.
+fn window_on(range: Range, entries: usize) -> Window
+    ensures { result ≡ window_on range entries }
+{
+    Window {
+        from: range.from.min(entries),
+        to: range.to.min(entries),
+    }
+}
+
+/// Returns whether a window has too many entries for a picture.
+pub(crate) fn is_wide(range: Range, entries: usize) -> bool
+    ensures { result ≡ is_wide (window_on range entries) }
+{
+    let window = window_on(range, entries);
+    window.to.saturating_sub(window.from) > COLUMNS_MAX
+}
+
+/// Returns what is drawn of so many columns: if a range has more than a picture has, the last of them.
+#[tactic(auto, using(crate::proofs::Columns::has_column, crate::proofs::Columns::is_narrow))]
+pub(crate) fn window_for(range: Range, columns: usize) -> Window
+    ensures value { result ≡ window_for range columns }
+    ensures narrow { is_wide result ≡ false }
+    ensures column { range.from < columns → columns ≤ range.to → (result.from < columns) × (result.to ≡ columns) }
+{
+    let window = window_on(range, columns);
+    Window {
+        from: window.from.max(window.to.saturating_sub(COLUMNS_MAX)),
+        to: window.to,
+    }
+}
+
+/// Returns whether no range is asked for.
+fn is_whole(range: Range) -> bool
+    ensures { result ≡ is_whole range }
+{
+    range.from == 0 && range.to == NO_END
+}
+
+/// Returns whether a range is asked for, and a run of so many entries has none in it.
+pub(crate) fn is_empty(range: Range, entries: usize) -> bool
+    ensures { result ≡ is_empty range entries }
+{
+    !is_whole(range) && range.to.min(entries) <= range.from
+}
+
+/// Puts the last entry of the range, if one was named.
+fn put_last<N: Write>(notes: &mut Out<'_, N>, to: usize)
+    ensures { Puts notes.old notes.new (last_words to) }
+{
+    if to == NO_END {
+        notes.put(b" on");
+    } else {
+        notes.put(b" to ");
+        notes.put_number(to.saturating_sub(1) as u64);
+    }
+}
+
+/// Puts the range that was asked for.
+#[tactic(auto, unfolding(crate::specs::Windows::range_words))]
+fn put_range<N: Write>(notes: &mut Out<'_, N>, range: Range)
+    ensures { Puts notes.old notes.new (range_words range) }
+{
+    notes.put(b"from ");
+    notes.put_number(range.from as u64);
+    put_last(notes, range.to);
+}
+
+/// Puts the note on such a range.
+#[tactic(auto, unfolding(crate::specs::Windows::empty_note))]
+fn put_empty_note<N: Write>(notes: &mut Out<'_, N>, range: Range, entries: usize)
+    ensures { Puts notes.old notes.new (empty_note range entries) }
+{
+    notes.put(b"no entry ");
+    put_range(notes, range);
+    notes.put(b": the trace has ");
+    notes.put_number(entries as u64);
+    notes.put(b" entries\n");
+}
+
+/// Writes that note.
+pub(crate) fn say_empty<N: Write>(notes: &mut Out<'_, N>, range: Range, entries: usize)
+    ensures puts { Puts notes.old notes.new (empty_note range entries) }
+    ensures written { IsWrittenOut notes.new }
+{
+    put_empty_note(notes, range, entries);
+    notes.flush();
+}

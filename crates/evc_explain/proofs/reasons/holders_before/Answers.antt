@@ -1,5 +1,0 @@
-use Rattle.std.proofs.Common.{sym, ◌∙◌}
-use Rattle.evc_explain.proofs.reasons.holders_before.Goals as goal
-
-pub returns-in-Some : goal.returns-in-Some
-returns-in-Some c = rw (sym c.in_ok-traced.ensures ∙ c.in-Some.is) c.holders_of_line.ensures

@@ -1,0 +1,37 @@
+-- Histories in turn, up to the first that is rejected.
+use Rattle.std.proofs.Common.{◌≡◌, ℕ, List, [], ◌∷◌, length, Result, Ok, Err, IfOk, Option, Some, None, refl}
+use Rattle.std.proofs.Common.{◌==◌, true, arith}
+use Rattle.std.proofs.lemmas.Bool.{eqb-true}
+use Rattle.calls_text.specs.declared.fault.TextFault.{TextFault}
+use Rattle.calls_text.specs.declared.fault.TextFault.TheVariants.{At, Memory}
+use Rattle.calls_text.specs.Outcomes.{goes, parts_of, TellsFault}
+use Rattle.calls_text.specs.Reading.{Opening}
+use Rattle.evc_explain_engine.specs.declared.told.Told.{Told}
+use Rattle.evc_explain_engine.specs.Judged.{IsUnread, Judges, TellsFrom, TellsHistories, unread}
+use Rattle.calls_text.specs.Recordings.{Recorded}
+
+unread_from : (text before : List ℕ) (n : ℕ) (ps : List (List ℕ)) (fault : TextFault) (t : Told)
+    → TellsFault (goes n Opening ps) fault → IsUnread text fault t → TellsFrom text t before n ps
+unread_from text before n ps (At m kind cause) t tells is =
+    unread before n ps m kind tells.0 tells.1 is
+unread_from text before n ps Memory t tells is = absurd is
+
+-- a history that has a fault ends them
+pub stops : {E : Type 0} (text before rest : List ℕ) (n : ℕ) (fault : TextFault) (r : Result Told E)
+    → TellsFault (goes n Opening (parts_of rest)) fault → IfOk r (IsUnread text fault)
+    → ((t : Told) → TellsFrom text t before n (parts_of rest) → TellsHistories text t)
+    → IfOk r (TellsHistories text)
+stops text before rest n fault (Ok t) tells told follows =
+    follows t (unread_from text before n (parts_of rest) fault t tells told)
+stops text before rest n fault (Err e) tells told follows = tt
+
+-- if nothing is left there is one empty part
+pub no_rest : (xs : List ℕ) → (length xs == 0) ≡ true → parts_of xs ≡ [] ∷ []
+no_rest [] none = refl
+no_rest (x ∷ xs) none = absurd (omega (arith, eqb-true (length (x ∷ xs)) 0 none))
+
+-- nothing is said of a history with a linearization
+pub judged_none : (text : List ℕ) (n : ℕ) (r : Recorded) (o : Option Told)
+    → ((t : Told) → o ≡ Some t → ⊥) → Judges text n r o → Judges text n r None
+judged_none text n r None not judged = judged
+judged_none text n r (Some t) not judged = absurd (not t refl)

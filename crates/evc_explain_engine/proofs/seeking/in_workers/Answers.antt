@@ -1,0 +1,29 @@
+use Rattle.std.proofs.Common.{◌≡◌, refl, ap, ◌∙◌, List, ℕ, []}
+use Rattle.ec_heading.specs.Outline.{opened}
+use Rattle.ec_heading.specs.declared.version.Version.TheVariants.{One}
+use Rattle.ec_explain.specs.Findings.{found_at}
+use Rattle.ec_explain.specs.declared.site.Site.TheVariants.{Workers}
+use Rattle.evc_explain_engine.proofs.Places.{third_there, workers_fail}
+use Rattle.evc_explain_engine.proofs.seeking.in_workers.Goals as goal
+
+pub returns-in-Some-2 : goal.returns-in-Some-2
+returns-in-Some-2 c =
+    let one : c.in-Some.limit ≡ 1 = cc in
+    record {
+      site = Workers c.in-Some-2.fault;
+      stands = (
+        refl,
+        workers_fail c.args.text.now c.line_at-line.result.now _ c.in-Some-2.fault _
+            (c.in_ok-heading.ensures ∙ ap (λ (n : ℕ). opened One n []) one) c.line_at-line.ensures
+            c.in-Some-2.is c.in_ok-fault.ensures.fault,
+      );
+      found = c.found_at.ensures
+          ∙ ap (λ (l : List ℕ). found_at (Workers c.in-Some-2.fault) 3 l) c.line_at-line.ensures;
+    }
+
+pub unplaced_at-requires : goal.unplaced_at-requires
+unplaced_at-requires c =
+    let one : c.in-Some.limit ≡ 1 = cc in
+    third_there c.args.text.now c.line_at-line.result.now _ _ _
+    (c.in_ok-heading.ensures ∙ ap (λ (n : ℕ). opened One n []) one) c.line_at-line.ensures
+    c.in-None.is c.in_ok-fault.ensures.fits c.requires
