@@ -357,7 +357,7 @@ fn draw_cut_off<W: Write, N: Write>(
 /// what is wrong. A text of histories of calls is drawn as such.
 ///
 /// Nothing is written to `out` before the input was read to its end.
-pub(crate) fn draw<R: Read, W: Write, N: Write>(
+pub fn draw<R: Read, W: Write, N: Write>(
     alloc: Global,
     view: &View<'_>,
     reader: &mut R,
