@@ -1,7 +1,10 @@
 -- What `check` says, as one note.
-use Rattle.std.proofs.Common.{◌≡◌, ◌⊎◌, ℕ, Bool, false, List, [], ◌++◌, Option, Some, codes, refl}
+use Rattle.std.proofs.Common.{◌≡◌, ◌⊎◌, ℕ, Bool, true, false, List, [], ◌++◌, Option, Some, codes}
+use Rattle.std.proofs.Common.{Result, Ok, IsOk, IsErr, refl}
 use Rattle.std.proofs.Common.{ap, sym, ◌∙◌, subst, append_assoc, append-nil, inl, inr}
-use Rattle.ec_text.specs.Puts.{Outgoing, Holds, Puts, at_first}
+use Rattle.std.proofs.lemmas.Bool.{false≢true}
+use Rattle.ec_text.specs.Puts.{Outgoing, Holds, Puts, at_first, IsFresh, IsWrittenOut}
+use Rattle.ec_text.specs.declared.writing.WriteFault.{WriteFault}
 use Rattle.calls_report.specs.declared.status.Status.{Status}
 use Rattle.calls_report.specs.declared.status.Status.TheVariants.{Done, Refused, Usage, InputOutput}
 use Rattle.calls_report.specs.declared.status.Status.TheVariants.{Memory, NotDecided}
@@ -116,3 +119,38 @@ noted text status before after w new note checks holds none works =
           (record { out = before; notes = at_first w (Some []) })
           (record { out = after; notes = o })) is checks,
     )
+
+-- if what was said left nothing waiting and the writer finished well, all of it was written to that
+-- writer
+pub finished : (text : List ℕ) (status : Status) (before after : Option (List ℕ)) (w : ℕ)
+    (items note : List ℕ) (old mid new : Outgoing) (done : Result (Unit {0}) WriteFault)
+    (u : Unit {0}) → old ≡ at_first w (Some items) → items ≡ []
+    → ChecksWhole status text (record { out = before; notes = old })
+    (record { out = after; notes = mid })
+    → (IsWrittenOut old → IsWrittenOut mid) → (IsFresh mid → IsOk done × (new ≡ mid))
+    → (mid.failed ≡ true → IsErr done × (new ≡ mid)) → done ≡ Ok u → Some note ≡ new.contents
+    → (new.writer ≡ w) × IsNoteOn text status note
+finished text status before after w items note old mid new done u is empty checks written fresh
+    fails ends holds =
+    elim mid.failed as (λ b. mid.failed ≡ b → (new.writer ≡ w) × IsNoteOn text status note) [
+      | true ↦ λ e. absurd (false≢true
+          (subst (λ (d : Result (Unit {0}) WriteFault). IsErr d) ends (fails e).0))
+      | false ↦ λ e.
+          let out : mid.waiting ≡ [] = written (λ _. ap (λ (o : Outgoing). o.waiting) is) e in
+          let same : new ≡ mid = (fresh (out, e)).1 in
+          let first : old ≡ at_first w (Some []) = is ∙ ap (λ xs. at_first w (Some xs)) empty in
+          let all : ChecksWhole status text
+              (record { out = before; notes = at_first w (Some []) })
+              (record { out = after; notes = new }) =
+              subst (λ (o : Outgoing). ChecksWhole status text (record { out = before; notes = o })
+              (record { out = after; notes = new })) first
+              (subst (λ (o : Outgoing). ChecksWhole status text
+                  (record { out = before; notes = old }) (record { out = after; notes = o }))
+                  (sym same) checks) in
+          (
+            writer_stays text status before after w new all,
+            noted text status before after w new note all (sym holds)
+                (ap (λ (o : Outgoing). o.waiting) same ∙ out)
+                (ap (λ (o : Outgoing). o.failed) same ∙ e),
+          )
+    ] refl

@@ -1,5 +1,5 @@
 //! A text of histories of calls in, a picture of one of them out.
-ghost use Rattle.std.specs.Prelude.{◌≡◌, ◌⊎◌, ◌<◌, List, ℕ, length, codes, nat_eq};
+ghost use Rattle.std.specs.Prelude.{◌≡◌, ◌⊎◌, ◌<◌, List, [], ℕ, length, codes, nat_eq};
 ghost use Rattle.std.specs.Prelude.{false, IfOk, IsTrue, IsSome};
 ghost use Rattle.std.specs.List.{starts_with};
 ghost use Rattle.ec_text.specs.Puts.{IsWrittenOut, Puts};
@@ -32,6 +32,27 @@ struct Noted {
     note: Vec<u8>,
 }
 
+/// Puts what `check` says of a text into an empty note, and returns the status with which that ends.
+/// Keeps the history at which it ends.
+fn put_verdict<'a>(
+    alloc: Global,
+    text: &'a [u8],
+    last: &mut Option<LastJudged<'a>>,
+    note: &mut Vec<u8>,
+) -> Result<Status, AllocError>
+    requires { note.old.items ≡ [] }
+    ensures { IfOk result (λ status. IsNoteOn text.now status note.new.items) }
+{
+    let mut out = Out::new(note);
+    let status = check_whole(alloc, text, last, &mut sink(), &mut out);
+    let done = out.finish();
+    out.into_writer();
+    match done {
+        Ok(()) => Ok(status),
+        Err(_) => Err(AllocError),
+    }
+}
+
 /// Returns what `check` says of a text, and keeps the history at which it ends.
 fn note_on<'a>(
     alloc: Global,
@@ -41,14 +62,8 @@ fn note_on<'a>(
     ensures { IfOk result (λ n. IsNoteOn text.now n.status n.note.items) }
 {
     let mut note = Vec::new(alloc);
-    let mut out = Out::new(&mut note);
-    let status = check_whole(alloc, text, last, &mut sink(), &mut out);
-    let done = out.finish();
-    out.into_writer();
-    match done {
-        Ok(()) => Ok(Noted { status, note }),
-        Err(_) => Err(AllocError),
-    }
+    let status = put_verdict(alloc, text, last, &mut note)?;
+    Ok(Noted { status, note })
 }
 
 /// Says of a text what `check` says.
