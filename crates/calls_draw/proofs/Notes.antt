@@ -140,14 +140,13 @@ finished text status before after w items note old mid new done u is empty check
           let same : new ≡ mid = (fresh (out, e)).1 in
           let first : old ≡ at_first w (Some []) = is ∙ ap (λ xs. at_first w (Some xs)) empty in
           let all : ChecksWhole status text
-              (record { out = before; notes = at_first w (Some []) })
-              (record { out = after; notes = new }) =
-              subst (λ (o : Outgoing). ChecksWhole status text (record { out = before; notes = o })
-              (record { out = after; notes = new })) first
-              (subst (λ (o : Outgoing). ChecksWhole status text
-                  (record { out = before; notes = old }) (record { out = after; notes = o }))
-                  (sym same) checks) in
-          (
+          (record { out = before; notes = at_first w (Some []) })
+          (record { out = after; notes = new }) =
+          subst (λ (o : Outgoing). ChecksWhole status text (record { out = before; notes = o })
+          (record { out = after; notes = new })) first
+          (subst (λ (o : Outgoing). ChecksWhole status text
+          (record { out = before; notes = old }) (record { out = after; notes = o }))
+          (sym same) checks) in (
             writer_stays text status before after w new all,
             noted text status before after w new note all (sym holds)
                 (ap (λ (o : Outgoing). o.waiting) same ∙ out)
