@@ -17,6 +17,8 @@ pub enum Kind {
     /// As many cells as this, written and read together. Its value is a list of numbers, which
     /// goes by a number of its own: equal lists have one number, and the list of zeros has 0.
     Database(usize),
+    /// A queue of at most this many items: what was produced first is consumed first.
+    Buffer(usize),
 }
 
 /// What a call asks of its object.
@@ -41,19 +43,23 @@ pub enum Op {
     Put(usize),
     /// Returns the value of a cell, or the numbers of a database at once.
     Get,
+    /// Puts an item at the end of a buffer, once there is room for one.
+    Produce(usize),
+    /// Takes the first item out of a buffer and returns it, once there is one.
+    Consume,
 }
 
 /// What a call returns.
 #[derive(Clone, Copy, Debug, Default, PartialEq, Eq)]
 pub enum Reply {
-    /// Nothing: the reply to an advance, a p, a v and a put, and to an await that returns no
-    /// number.
+    /// Nothing: the reply to an advance, a p, a v, a put and a produce, and to an await that returns
+    /// no number.
     #[default]
     Done,
     /// The number.
     Number(usize),
     /// Nothing, since the call gave up: of an await, the count was below its threshold at some
-    /// moment of the call; of a p, it says nothing.
+    /// moment of the call; of a p, a produce and a consume, it says nothing.
     Timeout,
 }
 
