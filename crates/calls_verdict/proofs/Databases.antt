@@ -2,7 +2,7 @@
 use Rattle.std.proofs.Common.{ℕ, List, [], ◌∷◌, Option, Some, None, Result, Ok, Err, IfOk}
 use Rattle.calls_core.specs.declared.history.Kind.TheVariants.{Cell, Database}
 use Rattle.calls_core.specs.declared.history.Op.TheVariants.{Advance, Read, Await, Ticket}
-use Rattle.calls_core.specs.declared.history.Op.TheVariants.{P, V, PBoth, Put, Get}
+use Rattle.calls_core.specs.declared.history.Op.TheVariants.{P, V, PBoth, Put, Get, Produce, Consume}
 use Rattle.calls_core.specs.declared.history.Action.{Action}
 use Rattle.calls_core.specs.declared.history.Action.TheVariants.{Invoke, Respond}
 use Rattle.calls_core.specs.declared.history.Event.{Event}
@@ -24,6 +24,8 @@ next_of_cell n (Invoke k Ticket) None h = h
 next_of_cell n (Invoke k (P i)) None h = h
 next_of_cell n (Invoke k (V i)) None h = h
 next_of_cell n (Invoke k (PBoth i j)) None h = h
+next_of_cell n (Invoke k (Produce v)) None h = h
+next_of_cell n (Invoke k Consume) None h = h
 next_of_cell n (Invoke k op) (Some o) h = h
 next_of_cell n (Respond r) None h = h
 next_of_cell n (Respond r) (Some o) h = h
