@@ -16,6 +16,8 @@ use Rattle.calls_tickets.specs.declared.fault.Fault.TheVariants as ticket
 use Rattle.calls_verdict.specs.declared.verdict.Fault.{Fault}
 use Rattle.calls_verdict.specs.declared.verdict.Fault.TheVariants as faults
 use Rattle.calls_verdict.specs.declared.verdict.Refusal.{Refusal}
+use Rattle.calls_verdict.specs.declared.verdict.Cause as why
+use Rattle.calls_verdict.specs.declared.verdict.Cause.TheVariants.{Values, Unfound}
 use Rattle.calls_verdict.specs.declared.verdict.Undecided.{Undecided}
 use Rattle.calls_shapes.specs.Evidence.{faulty_calls}
 use Rattle.calls_text.specs.declared.fault.Kind.{Kind}
@@ -103,6 +105,8 @@ reason_for (faults.Ticket f) = ticket_reason f
 reason_for (faults.Units f) =
     codes "Each p and pboth that has returned took a unit that was there or was added.\n"
 reason_for (faults.Value f) = cell_reason f
+reason_for (faults.Items f) =
+    codes "A buffer returns its items in the order in which they were produced.\n"
 
 -- what is shown of a refusal: the certificate, as `evc-calls check` notes it; the lines that it
 -- names; and why they leave no linearization
@@ -125,14 +129,23 @@ TellsRefused text n r t =
 
 -- HISTORIES THAT ARE NOT DECIDED
 
--- the second of two puts that overlap shows it
+-- the second of two puts that overlap shows it; of a buffer the event with which nothing is found
+abbrev pub open_position : why.Cause → ℕ
+open_position (Values u) = u.second.first
+open_position (Unfound m) = m
+
 abbrev pub open_finding : ℕ → Recorded → Undecided → Finding
-open_finding n r u = shown_at causes.NotDecided (event_line n r u.cause.second.first) 0
+open_finding n r u = shown_at causes.NotDecided (event_line n r (open_position u.cause)) 0
+
+-- the position of the first put
+abbrev pub first_put : why.Cause → List ℕ
+first_put (Values u) = u.first.first ∷ []
+first_put (Unfound m) = []
 
 -- what is shown: which value it is, as `evc-calls check` notes it, and the line of the first put
 abbrev pub open_text : List ℕ → ℕ → Recorded → Undecided → List ℕ
 open_text text n r u =
-    undecided_note (scene_of n r u.object 0) u.cause ++ seen_at text n r u.cause.first.first
+    undecided_note (scene_of n r u.object 0) u.cause ++ seen_lines text n r (first_put u.cause)
 
 abbrev pub TellsOpen : List ℕ → ℕ → Recorded → Told → Type 0
 TellsOpen text n r t =

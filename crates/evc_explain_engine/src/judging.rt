@@ -11,6 +11,7 @@ ghost use Rattle.evc_explain_engine.specs.Judged.{if_before, ends_before, named_
 ghost use Rattle.evc_explain_engine.specs.Judged.{seen_lines, count_reason, ticket_reason, cell_reason};
 ghost use Rattle.evc_explain_engine.specs.Judged.{distinct_reason, reason_for, IsShown, TellsRefused};
 ghost use Rattle.evc_explain_engine.specs.Judged.{TellsOpen, open_text, Judges, TellsHistories, IsUnread};
+ghost use Rattle.evc_explain_engine.specs.Judged.{open_position, first_put};
 
 use crate::good::ordered_bytes;
 use crate::told::{Told, tell_finding, whole};
@@ -161,6 +162,8 @@ fn reason_for(fault: &Fault) -> &'static [u8]
         Fault::Units(_) =>
             b"Each p and pboth that has returned took a unit that was there or was added.\n",
         Fault::Value(fault) => cell_reason(fault),
+        Fault::Items(_) =>
+            b"A buffer returns its items in the order in which they were produced.\n",
     }
 }
 
@@ -201,6 +204,28 @@ fn tell_refused(
     tell_finding(alloc, &finding, more.as_slice(), text)
 }
 
+/// Returns the position of the event that shows that a history is not decided.
+fn open_position(cause: &calls_verdict::Cause) -> usize
+    ensures { result ≡ open_position cause.now }
+{
+    match cause {
+        calls_verdict::Cause::Values(values) => values.second.first,
+        calls_verdict::Cause::Unfound(position) => *position,
+    }
+}
+
+/// Returns the position of the first of two puts that overlap.
+fn first_put(alloc: Global, cause: &calls_verdict::Cause) -> Result<Vec<usize>, AllocError>
+    ensures { IfOk result (λ ps. ps.items ≡ first_put cause.now) }
+{
+    let mut positions = Vec::new(alloc);
+    match cause {
+        calls_verdict::Cause::Values(values) => positions.push(values.first.first)?,
+        calls_verdict::Cause::Unfound(_) => {}
+    }
+    Ok(positions)
+}
+
 /// Returns what is shown of a history that is not decided: which value it is, and the line of the
 /// first put.
 fn open_text(
@@ -212,10 +237,11 @@ fn open_text(
     ensures { IfOk result (λ bytes. bytes.items
         ≡ open_text text.now read.now.number read.now.recording undecided.now) }
 {
+    let positions = first_put(alloc, &undecided.cause)?;
     let mut bytes = Vec::new(alloc);
     let mut out = Out::new(&mut bytes);
     say_undecided(&mut out, read, undecided);
-    put_seen(&mut out, text, read, undecided.cause.first.first);
+    put_seen_lines(&mut out, text, read, positions.as_slice());
     let done = out.finish();
     out.into_writer();
     whole(bytes, done)
@@ -232,7 +258,7 @@ fn tell_open(
     ensures { IfOk result (TellsOpen text.now read.now.number read.now.recording) }
 {
     let more = open_text(alloc, text, read, undecided)?;
-    let line = event_line(read, undecided.cause.second.first);
+    let line = event_line(read, open_position(&undecided.cause));
     let finding = shown_at(Cause::NotDecided, line, 0);
     tell_finding(alloc, &finding, more.as_slice(), text)
 }
