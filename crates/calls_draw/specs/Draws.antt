@@ -1,10 +1,10 @@
 -- What `draw_calls` answered, said and wrote.
-use Rattle.std.specs.Prelude.{◌≡◌, ◌⊎◌, ◌<◌, List, ℕ, Option, None, Some, [], length, IsSome, codes}
+use Rattle.std.specs.Prelude.{◌≡◌, ◌⊎◌, ◌<◌, List, [], ℕ, Option, Some, length, IsSome, codes}
 use Rattle.std.specs.Io.KnownBytes.{Appends, Keeps}
-use Rattle.ec_text.specs.Puts.{Outgoing, Puts, AppendsPrefix}
+use Rattle.ec_text.specs.Puts.{Outgoing, Puts, AppendsPrefix, at_first}
 use Rattle.calls_report.specs.declared.status.Status.{Status}
 use Rattle.calls_report.specs.declared.status.Status.TheVariants as statuses
-use Rattle.calls_report.specs.Checks.{Outlets, Checks}
+use Rattle.calls_report.specs.Checks.{Outlets, ChecksWhole}
 use Rattle.calls_draw.specs.declared.view.CallsView.{CallsView}
 
 -- something is chosen
@@ -13,15 +13,21 @@ Chooses view =
     (0 < length view.workers.now)
     ⊎ ((0 < length view.objects.now) ⊎ (IsSome view.from ⊎ IsSome view.to))
 
--- the notes and the status are those of `check` for this text, wherever the order went
+-- `check` ends with this status for the text, and leaves this note in a writer that had nothing,
+-- wherever its order goes
+abbrev pub IsNoteOn : List ℕ → Status → List ℕ → Type 0
+IsNoteOn text status note =
+    (before after : Option (List ℕ)) × (writer : ℕ)
+    × ChecksWhole status text (record { out = before; notes = at_first writer (Some []) })
+    (record { out = after; notes = at_first writer (Some note) })
+
+-- the note and the status are those of `check` for this text
 abbrev pub SaysAsCheck : List ℕ → Status → Outgoing → Outgoing → Type 0
 SaysAsCheck text status old new =
-    (left before after : Option (List ℕ))
-    × Checks text left status (record { out = before; notes = old })
-    (record { out = after; notes = new })
+    (note : List ℕ) × IsNoteOn text status note × Puts old new note
 
--- a picture was written, and what `check` says was said; or a write failed, and only a proper prefix
--- of the picture was written
+-- a picture was written, and what `check` says was said; or a write failed, and only a proper
+-- prefix of the picture was written
 abbrev pub WritesOne : List ℕ → Status → Outlets → Outlets → Type 0
 WritesOne text status old new =
     (picture : List ℕ)
@@ -31,18 +37,14 @@ WritesOne text status old new =
 
 -- nothing was written: what was chosen is not there, or memory ran out, or `check` has something to
 -- say of the text
-abbrev pub WritesNone : CallsView → List ℕ → Status → Outlets → Outlets → Type 0
-WritesNone view text status old new =
+abbrev pub WritesNone : Type 0 → List ℕ → Status → Outlets → Outlets → Type 0
+WritesNone Chosen text status old new =
     Keeps old.out new.out
-    × (((status ≡ statuses.Usage) × Chooses view)
+    × (((status ≡ statuses.Usage) × Chosen)
     ⊎ (((status ≡ statuses.Memory) × Puts old.notes new.notes (codes "no memory\n"))
     ⊎ SaysAsCheck text status old.notes new.notes))
 
--- how the drawing of a history of the text ended
-abbrev pub EndsOn : CallsView → List ℕ → Status → Outlets → Outlets → Type 0
-EndsOn view text status old new =
-    WritesOne text status old new ⊎ WritesNone view text status old new
-
--- how `draw_calls` ended
-abbrev pub Draws : CallsView → List ℕ → Status → Outlets → Outlets → Type 0
-Draws view text status old new = EndsOn view text status old new
+-- how `draw_calls` ended, if this says that something is chosen
+abbrev pub Draws : Type 0 → List ℕ → Status → Outlets → Outlets → Type 0
+Draws Chosen text status old new =
+    WritesOne text status old new ⊎ WritesNone Chosen text status old new

@@ -2,18 +2,16 @@
 use crate::grid::LEFT;
 use crate::panels::{Panel, Spot};
 use crate::picture::{Evidence, Picture};
-use crate::sink::{Place, end_text, put_line, put_rect, start_text};
+use crate::sink::{Pen, Place, end_text, put_line, put_rect, start_text, xy};
 use crate::words::put_value;
 use calls_core::{Call, Op, Reply};
-use ec_text::Out;
-use std::io::Write;
 
 /// How high a block is.
 pub(crate) const BLOCK: u64 = 22;
 
 /// Puts a block with a value.
-fn put_block<W: Write>(
-    out: &mut Out<'_, W>,
+fn put_block(
+    out: &mut Pen<'_>,
     picture: &Picture<'_>,
     class: &[u8],
     object: usize,
@@ -22,10 +20,7 @@ fn put_block<W: Write>(
     width: u64,
 ) {
     put_rect(out, class, at, width, BLOCK - 4);
-    let middle = Place {
-        x: at.x.saturating_add(width / 2),
-        y: at.y.saturating_add(13),
-    };
+    let middle = xy(at.x.saturating_add(width / 2), at.y.saturating_add(13));
     start_text(out, b"middle", middle);
     put_value(out, picture, object, value);
     end_text(out);
@@ -38,23 +33,18 @@ fn end_of(picture: &Picture<'_>, spots: &[Spot]) -> u64 {
 }
 
 /// Puts the values along the order, a block from each put to the next.
-pub(crate) fn put_values<W: Write>(
-    out: &mut Out<'_, W>,
-    picture: &Picture<'_>,
-    panel: &Panel,
-    top: u64,
-) {
+pub(crate) fn put_values(out: &mut Pen<'_>, picture: &Picture<'_>, panel: &Panel, top: u64) {
     let object = panel.subject.object();
     let spots = panel.spots.as_slice();
     let end = end_of(picture, spots);
-    let first = Place { x: LEFT, y: top };
+    let first = xy(LEFT, top);
     let width = end.saturating_sub(LEFT);
     put_block(out, picture, b"block", object, panel.before, first, width);
     for (i, spot) in spots.iter().enumerate() {
         if matches!(spot.op, Op::Put(_)) {
             let rest = spots.get(i.saturating_add(1)..).unwrap_or(&[]);
             let width = end_of(picture, rest).saturating_sub(spot.x);
-            let at = Place { x: spot.x, y: top };
+            let at = xy(spot.x, top);
             put_block(out, picture, b"block", object, spot.value, at, width);
         }
     }
@@ -101,8 +91,8 @@ fn lane_y(calls: &[Call], call: &Call, top: u64) -> u64 {
 }
 
 /// Puts a tie from the end of a call to the beginning of another, if it precedes that one.
-fn put_before<W: Write>(
-    out: &mut Out<'_, W>,
+fn put_before(
+    out: &mut Pen<'_>,
     picture: &Picture<'_>,
     calls: &[Call],
     one: &Call,
@@ -113,25 +103,20 @@ fn put_before<W: Write>(
         return;
     }
     let half = BLOCK / 2 - 2;
-    let from = Place {
-        x: picture.grid.x(one.last),
-        y: lane_y(calls, one, top).saturating_add(half),
-    };
-    let to = Place {
-        x: picture.grid.x(other.first),
-        y: lane_y(calls, other, top).saturating_add(half),
-    };
+    let from = xy(
+        picture.grid.x(one.last),
+        lane_y(calls, one, top).saturating_add(half),
+    );
+    let to = xy(
+        picture.grid.x(other.first),
+        lane_y(calls, other, top).saturating_add(half),
+    );
     put_line(out, b"stair", from, to);
 }
 
-/// Puts which calls precede which: two calls, two pairs of a cell whose values alternate, or gets of
-/// which each follows the next one.
-fn put_ties<W: Write>(
-    out: &mut Out<'_, W>,
-    picture: &Picture<'_>,
-    evidence: &Evidence<'_>,
-    top: u64,
-) {
+/// Puts which calls precede which: two calls, two pairs of a cell whose values alternate, or gets
+/// of which each follows the next one.
+fn put_ties(out: &mut Pen<'_>, picture: &Picture<'_>, evidence: &Evidence<'_>, top: u64) {
     let calls = evidence.faulty.as_slice();
     if let [a, b, c, d] = calls {
         if evidence.is_distinct() {
@@ -149,8 +134,8 @@ fn put_ties<W: Write>(
 }
 
 /// Puts the calls of a certificate, as blocks, a lane for each value.
-pub(crate) fn put_lanes<W: Write>(
-    out: &mut Out<'_, W>,
+pub(crate) fn put_lanes(
+    out: &mut Pen<'_>,
     picture: &Picture<'_>,
     evidence: &Evidence<'_>,
     top: u64,
@@ -161,10 +146,7 @@ pub(crate) fn put_lanes<W: Write>(
     for call in calls {
         let x = picture.grid.x(call.first);
         let width = picture.grid.x(call.last).saturating_sub(x);
-        let at = Place {
-            x,
-            y: lane_y(calls, call, top),
-        };
+        let at = xy(x, lane_y(calls, call, top));
         put_block(
             out,
             picture,

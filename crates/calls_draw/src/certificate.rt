@@ -5,12 +5,10 @@ use crate::panels::{Panel, Subject, said_by};
 use crate::picture::{Evidence, Picture};
 use crate::scale::{Range, Scale};
 use crate::sink::{
-    Place, end_path, end_text, go_across, go_along, put_line, start_path, start_text,
+    Pen, Place, end_path, end_text, go_across, go_along, put_line, start_path, start_text, xy,
 };
 use calls_core::{Call, Op, Reply};
 use calls_shapes::{Counted, Portion, Stair};
-use ec_text::Out;
-use std::io::Write;
 
 /// Returns what shows that a history is refused, if this is the panel of its object.
 pub(crate) fn evidence_in<'a, 'b>(
@@ -24,7 +22,7 @@ pub(crate) fn evidence_in<'a, 'b>(
     if is_its { Some(evidence) } else { None }
 }
 
-/// Returns the number of a stair if the first column begins.
+/// Returns the number of a stair at the first column.
 fn number_before(picture: &Picture<'_>, stair: &Stair) -> usize {
     let from = picture.window().from;
     let before = stair.rises.iter().filter(|rise| **rise < from).count();
@@ -87,11 +85,8 @@ fn stair_words(stair: &Stair) -> &'static [u8] {
 }
 
 /// Puts the number at the end of a stair.
-fn put_stair_end<W: Write>(out: &mut Out<'_, W>, at: Place, stair: &Stair) {
-    let place = Place {
-        x: at.x.saturating_sub(5),
-        y: at.y.saturating_sub(5),
-    };
+fn put_stair_end(out: &mut Pen<'_>, at: Place, stair: &Stair) {
+    let place = xy(at.x.saturating_sub(5), at.y.saturating_sub(5));
     start_text(out, b"why end", place);
     out.put(stair_words(stair));
     out.put_number(number_at_end(stair) as u64);
@@ -99,7 +94,7 @@ fn put_stair_end<W: Write>(out: &mut Out<'_, W>, at: Place, stair: &Stair) {
 }
 
 /// Puts a stair.
-fn put_stair<W: Write>(out: &mut Out<'_, W>, picture: &Picture<'_>, scale: &Scale, stair: &Stair) {
+fn put_stair(out: &mut Pen<'_>, picture: &Picture<'_>, scale: &Scale, stair: &Stair) {
     let from = picture.window().from;
     let mut number = number_before(picture, stair);
     let x = if stair.course.from == 0 {
@@ -107,14 +102,7 @@ fn put_stair<W: Write>(out: &mut Out<'_, W>, picture: &Picture<'_>, scale: &Scal
     } else {
         picture.grid.x(stair.course.from)
     };
-    start_path(
-        out,
-        stair_class(stair),
-        Place {
-            x,
-            y: scale.y(number),
-        },
-    );
+    start_path(out, stair_class(stair), xy(x, scale.y(number)));
     for rise in &stair.rises {
         if *rise >= from {
             number = number.saturating_add(1);
@@ -125,49 +113,25 @@ fn put_stair<W: Write>(out: &mut Out<'_, W>, picture: &Picture<'_>, scale: &Scal
     let end = picture.grid.x(stair.course.to);
     go_across(out, end);
     end_path(out, false);
-    put_stair_end(
-        out,
-        Place {
-            x: end,
-            y: scale.y(number),
-        },
-        stair,
-    );
+    put_stair_end(out, xy(end, scale.y(number)), stair);
 }
 
 /// Puts the stairs.
-fn put_stairs<W: Write>(
-    out: &mut Out<'_, W>,
-    picture: &Picture<'_>,
-    scale: &Scale,
-    stairs: &[Stair],
-) {
+fn put_stairs(out: &mut Pen<'_>, picture: &Picture<'_>, scale: &Scale, stairs: &[Stair]) {
     for stair in stairs {
         put_stair(out, picture, scale, stair);
     }
 }
 
-/// Puts what a call said.
-fn put_said<W: Write>(out: &mut Out<'_, W>, picture: &Picture<'_>, scale: &Scale, call: &Call) {
-    put_level(
-        out, picture, scale, b"said", call.first, call.last, call.op, call.reply,
-    );
-}
-
 /// Puts what a call said in words.
-fn put_said_words<W: Write>(
-    out: &mut Out<'_, W>,
-    picture: &Picture<'_>,
-    scale: &Scale,
-    call: &Call,
-) {
+fn put_said_words(out: &mut Pen<'_>, picture: &Picture<'_>, scale: &Scale, call: &Call) {
     let Some(n) = said_by(call.op, call.reply) else {
         return;
     };
-    let at = Place {
-        x: picture.grid.x(call.last).saturating_add(4),
-        y: scale.y(n).saturating_add(14),
-    };
+    let at = xy(
+        picture.grid.x(call.last).saturating_add(4),
+        scale.y(n).saturating_add(14),
+    );
     start_text(out, b"why", at);
     out.put(said_words(call));
     out.put_number(n as u64);
@@ -184,16 +148,11 @@ fn said_words(call: &Call) -> &'static [u8] {
 }
 
 /// Puts what the calls said that are named, a number that several said once.
-fn put_all_said<W: Write>(
-    out: &mut Out<'_, W>,
-    picture: &Picture<'_>,
-    scale: &Scale,
-    calls: &[Call],
-) {
+fn put_all_said(out: &mut Pen<'_>, picture: &Picture<'_>, scale: &Scale, calls: &[Call]) {
     for (i, call) in calls.iter().enumerate() {
-        put_said(out, picture, scale, call);
-        let before = calls.get(..i).unwrap_or(&[]);
         let said = said_by(call.op, call.reply);
+        put_level(out, picture, scale, b"said", (call.first, call.last), said);
+        let before = calls.get(..i).unwrap_or(&[]);
         if before
             .iter()
             .all(|other| said_by(other.op, other.reply) != said)
@@ -204,12 +163,7 @@ fn put_all_said<W: Write>(
 }
 
 /// Puts a tie from the end of a stair to what the first call said.
-fn put_tie<W: Write>(
-    out: &mut Out<'_, W>,
-    picture: &Picture<'_>,
-    scale: &Scale,
-    evidence: &Evidence<'_>,
-) {
+fn put_tie(out: &mut Pen<'_>, picture: &Picture<'_>, scale: &Scale, evidence: &Evidence<'_>) {
     let (Some(stair), Some(call)) = (evidence.stairs.first(), evidence.faulty.first()) else {
         return;
     };
@@ -217,15 +171,12 @@ fn put_tie<W: Write>(
         return;
     };
     let x = picture.grid.x(stair.course.to);
-    let from = Place {
-        x,
-        y: scale.y(number_at_end(stair)),
-    };
-    put_line(out, b"tie", from, Place { x, y: scale.y(n) });
+    let from = xy(x, scale.y(number_at_end(stair)));
+    put_line(out, b"tie", from, xy(x, scale.y(n)));
 }
 
 /// Puts a tie from the end of a ticket to the beginning of another, which it precedes.
-fn put_turn<W: Write>(out: &mut Out<'_, W>, picture: &Picture<'_>, scale: &Scale, calls: &[Call]) {
+fn put_turn(out: &mut Pen<'_>, picture: &Picture<'_>, scale: &Scale, calls: &[Call]) {
     let [one, other] = calls else {
         return;
     };
@@ -233,25 +184,14 @@ fn put_turn<W: Write>(out: &mut Out<'_, W>, picture: &Picture<'_>, scale: &Scale
         return;
     };
     if n != m {
-        let from = Place {
-            x: picture.grid.x(one.last),
-            y: scale.y(n),
-        };
-        let to = Place {
-            x: picture.grid.x(other.first),
-            y: scale.y(m),
-        };
+        let from = xy(picture.grid.x(one.last), scale.y(n));
+        let to = xy(picture.grid.x(other.first), scale.y(m));
         put_line(out, b"tie", from, to);
     }
 }
 
 /// Puts the threshold below which an await returned a number.
-fn put_missed<W: Write>(
-    out: &mut Out<'_, W>,
-    picture: &Picture<'_>,
-    scale: &Scale,
-    calls: &[Call],
-) {
+fn put_missed(out: &mut Pen<'_>, picture: &Picture<'_>, scale: &Scale, calls: &[Call]) {
     let Some(call) = calls.first() else {
         return;
     };
@@ -261,11 +201,8 @@ fn put_missed<W: Write>(
     let y = scale.y(threshold);
     let from = picture.grid.x(call.first);
     let to = picture.grid.x(call.last);
-    put_line(out, b"waits", Place { x: from, y }, Place { x: to, y });
-    let at = Place {
-        x: to.saturating_add(4),
-        y: y.saturating_add(3),
-    };
+    put_line(out, b"waits", xy(from, y), xy(to, y));
+    let at = xy(to.saturating_add(4), y.saturating_add(3));
     start_text(out, b"why", at);
     out.put(b"awaited ");
     out.put_number(threshold as u64);
@@ -273,8 +210,8 @@ fn put_missed<W: Write>(
 }
 
 /// Puts what shows that a history is refused.
-pub(crate) fn put_evidence<W: Write>(
-    out: &mut Out<'_, W>,
+pub(crate) fn put_evidence(
+    out: &mut Pen<'_>,
     picture: &Picture<'_>,
     scale: &Scale,
     subject: Subject,

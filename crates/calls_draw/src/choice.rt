@@ -87,13 +87,10 @@ fn workers_chosen(
     heading: &Heading,
     names: &[&str],
 ) -> Result<Vec<Chosen>, AllocError> {
-    let mut chosen = Vec::new(alloc);
-    for name in names {
-        if let Some(one) = worker_chosen(heading, name.as_bytes()) {
-            chosen.push(one)?;
-        }
-    }
-    Ok(chosen)
+    names
+        .iter()
+        .filter_map(|name| worker_chosen(heading, name.as_bytes()))
+        .collect(alloc)
 }
 
 /// Returns what each of these names of objects chooses; of one that is not declared nothing.
@@ -102,13 +99,10 @@ fn objects_chosen(
     heading: &Heading,
     names: &[&str],
 ) -> Result<Vec<Chosen>, AllocError> {
-    let mut chosen = Vec::new(alloc);
-    for name in names {
-        if let Some(one) = object_chosen(heading, name.as_bytes()) {
-            chosen.push(one)?;
-        }
-    }
-    Ok(chosen)
+    names
+        .iter()
+        .filter_map(|name| object_chosen(heading, name.as_bytes()))
+        .collect(alloc)
 }
 
 /// Returns the first of these names that is not a worker's.

@@ -4,13 +4,11 @@ use crate::panels::{Bounds, Panel, Subject, said_by};
 use crate::picture::{Bar, Picture};
 use crate::scale::{Range, Scale};
 use crate::sink::{
-    Place, end_path, end_text, go_across, go_along, put_circle, put_line, put_number, start_path,
-    start_text,
+    Pen, end_path, end_text, go_across, go_along, put_circle, put_line, put_number, start_path,
+    start_text, xy,
 };
 use crate::words::{put_subject, put_worker};
-use calls_core::{Op, Reply};
-use ec_text::Out;
-use std::io::Write;
+use calls_core::Op;
 
 /// Returns the threshold of a pending await.
 fn awaited(bar: &Bar) -> Option<usize> {
@@ -47,13 +45,8 @@ pub(crate) fn range_of(picture: &Picture<'_>, panel: &Panel) -> Range {
 }
 
 /// Puts the name of a panel before it.
-pub(crate) fn put_panel_name<W: Write>(
-    out: &mut Out<'_, W>,
-    picture: &Picture<'_>,
-    subject: Subject,
-    y: u64,
-) {
-    start_text(out, b"name", Place { x: LEFT - 34, y });
+pub(crate) fn put_panel_name(out: &mut Pen<'_>, picture: &Picture<'_>, subject: Subject, y: u64) {
+    start_text(out, b"name", xy(LEFT - 34, y));
     put_subject(out, picture, subject);
     end_text(out);
 }
@@ -62,7 +55,7 @@ pub(crate) fn put_panel_name<W: Write>(
 const NUMBERS: usize = 16;
 
 /// Puts the numbers beside a panel, and a line for each.
-pub(crate) fn put_scale<W: Write>(out: &mut Out<'_, W>, picture: &Picture<'_>, scale: &Scale) {
+pub(crate) fn put_scale(out: &mut Pen<'_>, picture: &Picture<'_>, scale: &Scale) {
     let Range { low, high } = scale.range;
     let step = scale.range.step();
     let right = picture.grid.right();
@@ -72,17 +65,14 @@ pub(crate) fn put_scale<W: Write>(out: &mut Out<'_, W>, picture: &Picture<'_>, s
             return;
         }
         let y = scale.y(n);
-        put_line(out, b"grid", Place { x: LEFT, y }, Place { x: right, y });
-        let at = Place {
-            x: LEFT - 5,
-            y: y.saturating_add(3),
-        };
+        put_line(out, b"grid", xy(LEFT, y), xy(right, y));
+        let at = xy(LEFT - 5, y.saturating_add(3));
         put_number(out, b"scale", at, n as u64);
     }
 }
 
 /// Puts the upper edge of a band.
-fn put_most<W: Write>(out: &mut Out<'_, W>, picture: &Picture<'_>, scale: &Scale, panel: &Panel) {
+fn put_most(out: &mut Pen<'_>, picture: &Picture<'_>, scale: &Scale, panel: &Panel) {
     let from = picture.window().from;
     for (i, bounds) in panel.bounds.iter().enumerate() {
         go_along(out, scale.y(bounds.most).saturating_sub(2));
@@ -91,7 +81,7 @@ fn put_most<W: Write>(out: &mut Out<'_, W>, picture: &Picture<'_>, scale: &Scale
 }
 
 /// Puts the lower edge of a band, from right to left.
-fn put_least<W: Write>(out: &mut Out<'_, W>, picture: &Picture<'_>, scale: &Scale, panel: &Panel) {
+fn put_least(out: &mut Pen<'_>, picture: &Picture<'_>, scale: &Scale, panel: &Panel) {
     let from = picture.window().from;
     for (i, bounds) in panel.bounds.iter().enumerate().rev() {
         go_along(out, scale.y(bounds.least).saturating_add(2));
@@ -100,19 +90,11 @@ fn put_least<W: Write>(out: &mut Out<'_, W>, picture: &Picture<'_>, scale: &Scal
 }
 
 /// Puts the band between the bounds.
-pub(crate) fn put_band<W: Write>(
-    out: &mut Out<'_, W>,
-    picture: &Picture<'_>,
-    scale: &Scale,
-    panel: &Panel,
-) {
+pub(crate) fn put_band(out: &mut Pen<'_>, picture: &Picture<'_>, scale: &Scale, panel: &Panel) {
     let Some(first) = panel.bounds.first() else {
         return;
     };
-    let at = Place {
-        x: LEFT,
-        y: scale.y(first.most).saturating_sub(2),
-    };
+    let at = xy(LEFT, scale.y(first.most).saturating_sub(2));
     start_path(out, b"band", at);
     put_most(out, picture, scale, panel);
     put_least(out, picture, scale, panel);
@@ -120,16 +102,8 @@ pub(crate) fn put_band<W: Write>(
 }
 
 /// Puts the number along the order.
-pub(crate) fn put_curve<W: Write>(
-    out: &mut Out<'_, W>,
-    picture: &Picture<'_>,
-    scale: &Scale,
-    panel: &Panel,
-) {
-    let at = Place {
-        x: LEFT,
-        y: scale.y(panel.before),
-    };
+pub(crate) fn put_curve(out: &mut Pen<'_>, picture: &Picture<'_>, scale: &Scale, panel: &Panel) {
+    let at = xy(LEFT, scale.y(panel.before));
     start_path(out, b"curve", at);
     for spot in &panel.spots {
         go_across(out, spot.x);
@@ -140,21 +114,18 @@ pub(crate) fn put_curve<W: Write>(
 }
 
 /// Puts a dot on the curve for each read and await.
-pub(crate) fn put_seen<W: Write>(out: &mut Out<'_, W>, scale: &Scale, panel: &Panel) {
+pub(crate) fn put_seen(out: &mut Pen<'_>, scale: &Scale, panel: &Panel) {
     for spot in &panel.spots {
         if matches!(spot.op, Op::Read | Op::Await(_)) {
-            let at = Place {
-                x: spot.x,
-                y: scale.y(spot.value),
-            };
+            let at = xy(spot.x, scale.y(spot.value));
             put_circle(out, b"seen", at, 3);
         }
     }
 }
 
 /// Puts what a pending await waits for.
-fn put_waiting<W: Write>(
-    out: &mut Out<'_, W>,
+fn put_waiting(
+    out: &mut Pen<'_>,
     picture: &Picture<'_>,
     scale: &Scale,
     bar: &Bar,
@@ -163,11 +134,8 @@ fn put_waiting<W: Write>(
     let y = scale.y(threshold).saturating_sub(3);
     let x = picture.grid.x(bar.first);
     let right = picture.grid.right();
-    put_line(out, b"waits", Place { x, y }, Place { x: right, y });
-    let at = Place {
-        x: x.saturating_add(3),
-        y: y.saturating_sub(4),
-    };
+    put_line(out, b"waits", xy(x, y), xy(right, y));
+    let at = xy(x.saturating_add(3), y.saturating_sub(4));
     start_text(out, b"small", at);
     put_worker(out, picture, bar.worker);
     out.put(b" waits for ");
@@ -176,12 +144,7 @@ fn put_waiting<W: Write>(
 }
 
 /// Puts the thresholds of the pending awaits.
-pub(crate) fn put_awaited<W: Write>(
-    out: &mut Out<'_, W>,
-    picture: &Picture<'_>,
-    scale: &Scale,
-    panel: &Panel,
-) {
+pub(crate) fn put_awaited(out: &mut Pen<'_>, picture: &Picture<'_>, scale: &Scale, panel: &Panel) {
     for bar in &picture.shown {
         if panel.subject.shows(bar.object, bar.op) {
             if let Some(threshold) = awaited(bar).filter(|n| *n <= scale.range.high) {
@@ -192,39 +155,33 @@ pub(crate) fn put_awaited<W: Write>(
 }
 
 /// Puts the number that each completed ticket drew, from its invocation to its response.
-pub(crate) fn put_levels<W: Write>(
-    out: &mut Out<'_, W>,
-    picture: &Picture<'_>,
-    scale: &Scale,
-    panel: &Panel,
-) {
+pub(crate) fn put_levels(out: &mut Pen<'_>, picture: &Picture<'_>, scale: &Scale, panel: &Panel) {
     for bar in &picture.shown {
         if panel.subject.shows(bar.object, bar.op) {
             if let Some((last, reply)) = bar.end {
-                put_level(
-                    out, picture, scale, b"level", bar.first, last, bar.op, reply,
-                );
+                let said = said_by(bar.op, reply);
+                put_level(out, picture, scale, b"level", (bar.first, last), said);
             }
         }
     }
 }
 
-/// Puts the number that a call says, from its invocation to its response.
-pub(crate) fn put_level<W: Write>(
-    out: &mut Out<'_, W>,
+/// Puts the number that a call says, if it says one, from its invocation to its response.
+pub(crate) fn put_level(
+    out: &mut Pen<'_>,
     picture: &Picture<'_>,
     scale: &Scale,
     class: &[u8],
-    first: usize,
-    last: usize,
-    op: Op,
-    reply: Reply,
+    ends: (usize, usize),
+    said: Option<usize>,
 ) {
-    let Some(n) = said_by(op, reply) else {
-        return;
-    };
-    let y = scale.y(n);
-    let from = picture.grid.x(first);
-    let to = picture.grid.x(last);
-    put_line(out, class, Place { x: from, y }, Place { x: to, y });
+    if let Some(n) = said {
+        let y = scale.y(n);
+        put_line(
+            out,
+            class,
+            xy(picture.grid.x(ends.0), y),
+            xy(picture.grid.x(ends.1), y),
+        );
+    }
 }

@@ -1,16 +1,19 @@
 //! A text of histories of calls in, a picture of one of them out.
-ghost use Rattle.std.specs.Prelude.{◌≡◌, ◌⊎◌, ◌<◌, ◌≤◌, length, codes, nat_eq, false, IsTrue, IsSome};
+ghost use Rattle.std.specs.Prelude.{◌≡◌, ◌⊎◌, ◌<◌, List, [], ℕ, length, codes, nat_eq};
+ghost use Rattle.std.specs.Prelude.{false, IfOk, IsTrue, IsSome};
 ghost use Rattle.std.specs.List.{starts_with};
-ghost use Rattle.ec_text.specs.Puts.{IsWrittenOut};
-ghost use Rattle.calls_draw.specs.Draws.{Draws, Chooses, SaysAsCheck, EndsOn, WritesOne};
+ghost use Rattle.ec_text.specs.Puts.{IsWrittenOut, Puts};
+ghost use Rattle.calls_report.specs.declared.status.Status.TheVariants.{Memory};
+ghost use Rattle.calls_draw.specs.Draws.{Draws, Chooses, IsNoteOn, SaysAsCheck, WritesOne};
 
 use crate::choice::{unknown_object, unknown_worker};
-use crate::history::{Found, find_history};
+use crate::history::Found;
 use crate::picture::Picture;
+use crate::sink::{Pen, Put};
 use crate::svg::put_svg;
 use crate::text::put_plain;
 use crate::view::{CallsView, Form};
-use calls_report::{Status, TEXT_MAX, check};
+use calls_report::{LastJudged, Status, check_whole};
 use ec_text::{Out, write_out};
 use std::alloc::{AllocError, Global};
 use std::io::{Write, sink};
@@ -22,26 +25,65 @@ pub fn is_calls(text: &[u8]) -> bool
     text.starts_with(b"evc-calls 1\n".as_slice())
 }
 
-/// Says of a text what `check` says, and returns the status with which that ends.
-fn say_as_check<N: Write>(alloc: Global, text: &[u8], notes: &mut Out<'_, N>) -> Status
-    ensures says { SaysAsCheck text.now result notes.old notes.new }
-    ensures written { IsWrittenOut notes.old → IsWrittenOut notes.new }
-{
-    let mut reader = text;
-    check(alloc, &mut reader, &mut sink(), notes)
+/// What `check` says of a text.
+#[derive(Drop)]
+struct Noted {
+    status: Status,
+    note: Vec<u8>,
 }
 
-/// Returns what `check` says of a text.
-fn note_on(alloc: Global, text: &[u8]) -> Result<Vec<u8>, AllocError> {
-    let mut note = Vec::new(alloc);
-    let mut out = Out::new(&mut note);
-    let _status = say_as_check(alloc, text, &mut out);
+/// Puts what `check` says of a text into an empty note, and returns the status with which that ends.
+/// Keeps the history at which it ends.
+fn put_verdict<'a>(
+    alloc: Global,
+    text: &'a [u8],
+    last: &mut Option<LastJudged<'a>>,
+    note: &mut Vec<u8>,
+) -> Result<Status, AllocError>
+    requires { note.old.items ≡ [] }
+    ensures { IfOk result (λ status. IsNoteOn text.now status note.new.items) }
+{
+    let mut out = Out::new(note);
+    let status = check_whole(alloc, text, last, &mut sink(), &mut out);
     let done = out.finish();
     out.into_writer();
     match done {
-        Ok(()) => Ok(note),
+        Ok(()) => Ok(status),
         Err(_) => Err(AllocError),
     }
+}
+
+/// Returns what `check` says of a text, and keeps the history at which it ends.
+fn note_on<'a>(
+    alloc: Global,
+    text: &'a [u8],
+    last: &mut Option<LastJudged<'a>>,
+) -> Result<Noted, AllocError>
+    ensures { IfOk result (λ n. IsNoteOn text.now n.status n.note.items) }
+{
+    let mut note = Vec::new(alloc);
+    let status = put_verdict(alloc, text, last, &mut note)?;
+    Ok(Noted { status, note })
+}
+
+/// Says of a text what `check` says.
+fn say_noted<N: Write>(noted: &Noted, notes: &mut Out<'_, N>) -> Status
+    ensures says { (text : List ℕ) → IsNoteOn text noted.now.status noted.now.note.items
+        → SaysAsCheck text result notes.old notes.new }
+    ensures written { IsWrittenOut notes.new }
+{
+    notes.say(noted.note.as_slice());
+    noted.status
+}
+
+/// Says that memory ran out.
+fn want<N: Write>(notes: &mut Out<'_, N>) -> Status
+    ensures status { result ≡ Memory }
+    ensures puts { Puts notes.old notes.new (codes "no memory\n") }
+    ensures written { IsWrittenOut notes.new }
+{
+    notes.say(b"no memory\n");
+    Status::Memory
 }
 
 /// Says a name of the sort of this word that is not declared.
@@ -93,7 +135,7 @@ fn say_wrong_choice<N: Write>(
     ensures quiet { result ≡ false → notes.new ≡ notes.old }
     ensures written { IsWrittenOut notes.old → IsWrittenOut notes.new }
 {
-    let heading = found.read.recording.heading();
+    let heading = found.judged.read.recording.heading();
     if let Some(name) = unknown_worker(heading, view.workers) {
         say_unknown(b"worker", name, notes);
         return true;
@@ -111,30 +153,32 @@ fn say_wrong_choice<N: Write>(
 }
 
 /// Puts a picture.
-fn put_picture<W: Write>(
+fn put_picture(
     alloc: Global,
-    form: Form,
-    out: &mut Out<'_, W>,
+    view: &CallsView<'_>,
+    out: &mut Pen<'_>,
     picture: &Picture<'_>,
-) -> Result<(), AllocError> {
-    match form {
-        Form::Svg => put_svg(alloc, out, picture),
-        Form::Text => put_plain(alloc, out, picture),
+) -> Put {
+    out.put(view.before.as_bytes());
+    match view.form {
+        Form::Svg => put_svg(alloc, out, picture)?,
+        Form::Text => put_plain(alloc, out, picture)?,
     }
+    out.put(view.after.as_bytes());
+    Ok(())
 }
 
 /// Returns the picture of a history, with what is said of the text.
 fn drawn(
     alloc: Global,
     view: &CallsView<'_>,
-    text: &[u8],
+    note: &[u8],
     found: &Found<'_>,
 ) -> Result<Vec<u8>, AllocError> {
-    let note = note_on(alloc, text)?;
     let picture = Picture::of(alloc, view, found, note)?;
     let mut bytes = Vec::new(alloc);
     let mut out = Out::new(&mut bytes);
-    let put = put_picture(alloc, view.form, &mut out, &picture);
+    let put = put_picture(alloc, view, &mut out, &picture);
     let done = out.finish();
     out.into_writer();
     put?;
@@ -146,19 +190,19 @@ fn drawn(
 
 /// Writes a picture, and says of its text what `check` says.
 fn write_picture<W: Write, N: Write>(
-    alloc: Global,
-    text: &[u8],
+    noted: &Noted,
     picture: &[u8],
     out: &mut W,
     notes: &mut Out<'_, N>,
 ) -> Status
-    ensures ends { WritesOne text.now result
+    ensures ends { (text : List ℕ) → IsNoteOn text noted.now.status noted.now.note.items
+        → WritesOne text result
         (record { out = W.contents out.old; notes = notes.old })
         (record { out = W.contents out.new; notes = notes.new }) }
-    ensures written { IsWrittenOut notes.old → IsWrittenOut notes.new }
+    ensures written { IsWrittenOut notes.new }
 {
     match write_out(out, picture) {
-        Ok(()) => say_as_check(alloc, text, notes),
+        Ok(()) => say_noted(noted, notes),
         Err(_) => {
             notes.say(b"write fault\n");
             Status::InputOutput
@@ -170,12 +214,13 @@ fn write_picture<W: Write, N: Write>(
 fn draw_found<W: Write, N: Write>(
     alloc: Global,
     view: &CallsView<'_>,
-    text: &[u8],
+    noted: &Noted,
     found: &Found<'_>,
     out: &mut W,
     notes: &mut Out<'_, N>,
 ) -> Status
-    ensures ends { EndsOn view.now text.now result
+    ensures ends { (text : List ℕ) → IsNoteOn text noted.now.status noted.now.note.items
+        → Draws (Chooses view.now) text result
         (record { out = W.contents out.old; notes = notes.old })
         (record { out = W.contents out.new; notes = notes.new }) }
     ensures written { IsWrittenOut notes.old → IsWrittenOut notes.new }
@@ -183,12 +228,9 @@ fn draw_found<W: Write, N: Write>(
     if say_wrong_choice(view, found, notes) {
         return Status::Usage;
     }
-    match drawn(alloc, view, text, found) {
-        Ok(picture) => write_picture(alloc, text, &picture, out, notes),
-        Err(_) => {
-            notes.say(b"no memory\n");
-            Status::Memory
-        }
+    match drawn(alloc, view, &noted.note, found) {
+        Ok(picture) => write_picture(noted, &picture, out, notes),
+        Err(_) => want(notes),
     }
 }
 
@@ -203,16 +245,17 @@ pub fn draw_calls<W: Write, N: Write>(
     out: &mut W,
     notes: &mut Out<'_, N>,
 ) -> Status
-    ensures ends { Draws view.now text.now result
+    ensures ends { Draws (Chooses view.now) text.now result
         (record { out = W.contents out.old; notes = notes.old })
         (record { out = W.contents out.new; notes = notes.new }) }
     ensures written { IsWrittenOut notes.old → IsWrittenOut notes.new }
 {
-    if text.len() > TEXT_MAX {
-        return say_as_check(alloc, text, notes);
-    }
-    match find_history(alloc, text) {
-        Ok(found) => draw_found(alloc, view, text, &found, out, notes),
-        Err(_) => say_as_check(alloc, text, notes),
+    let mut last = None;
+    let Ok(noted) = note_on(alloc, text, &mut last) else {
+        return want(notes);
+    };
+    match last {
+        Some(judged) => draw_found(alloc, view, &noted, &Found { judged }, out, notes),
+        None => say_noted(&noted, notes),
     }
 }

@@ -1,6 +1,7 @@
 //! The panels below the rows: the numbers and the values of the objects.
 use crate::choice::uses_semaphore;
 use crate::picture::Picture;
+use crate::sink::Put;
 use calls_core::{Kind, Op, Placed, Reply};
 use calls_shapes::{Counted, Step, Tally, Track, start_of, steps_of, tallies_of};
 use std::alloc::{AllocError, Global};
@@ -38,7 +39,7 @@ pub(crate) struct Spot {
 #[derive(Drop)]
 pub(crate) struct Panel {
     pub(crate) subject: Subject,
-    /// The number if the first column begins.
+    /// The number at the first column.
     pub(crate) before: usize,
     /// What it is from the point of each call of the object on.
     pub(crate) spots: Vec<Spot>,
@@ -223,7 +224,7 @@ fn add_panel(
     panels: &mut Vec<Panel>,
     picture: &Picture<'_>,
     subject: Subject,
-) -> Result<(), AllocError> {
+) -> Put {
     if is_shown(picture, subject) {
         panels.push(panel_of(alloc, picture, subject)?)?;
     }
@@ -237,7 +238,7 @@ fn add_semaphores(
     picture: &Picture<'_>,
     object: usize,
     count: usize,
-) -> Result<(), AllocError> {
+) -> Put {
     for place in 0..count {
         if picture.choice.has_semaphore(place) {
             add_panel(alloc, panels, picture, Subject::Units(object, place))?;

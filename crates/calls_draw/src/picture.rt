@@ -66,7 +66,7 @@ pub(crate) struct Picture<'a> {
     /// Whether all calls are of one object.
     pub(crate) is_single: bool,
     /// What is said of the history, in lines.
-    pub(crate) note: Vec<u8>,
+    pub(crate) note: &'a [u8],
 }
 
 impl Bar {
@@ -147,7 +147,8 @@ impl<'a> Evidence<'a> {
         None
     }
 
-    /// Returns whether a ticket can have drawn a number up to that of a ticket for which too few did.
+    /// Returns whether a ticket can have drawn a number up to that of a ticket for which too few
+    /// did.
     fn may_have_drawn(&self, bar: &Bar) -> bool {
         let Fault::Ticket(calls_tickets::Fault::Drawn(call)) = &self.refusal.fault else {
             return false;
@@ -291,31 +292,12 @@ fn shown_bars(
     choice: &Choice,
     window: Window,
 ) -> Result<Vec<Bar>, AllocError> {
-    let mut shown = completed_bars(alloc, bars, choice, window)?;
-    for call in &bars.pending {
-        let bar = Bar::open(call);
-        if bar.is_shown(choice, window) {
-            shown.push(bar)?;
-        }
-    }
-    Ok(shown)
-}
-
-/// Returns the completed ones that are drawn.
-fn completed_bars(
-    alloc: Global,
-    bars: &Bars,
-    choice: &Choice,
-    window: Window,
-) -> Result<Vec<Bar>, AllocError> {
-    let mut shown = Vec::new(alloc);
-    for call in &bars.completed {
-        let bar = Bar::of(call);
-        if bar.is_shown(choice, window) {
-            shown.push(bar)?;
-        }
-    }
-    Ok(shown)
+    let completed = bars.completed.iter().map(|call| Bar::of(call));
+    let pending = bars.pending.iter().map(|call| Bar::open(call));
+    completed
+        .chain(pending)
+        .filter(|bar| bar.is_shown(choice, window))
+        .collect(alloc)
 }
 
 /// Returns the order of the calls, if there is one.
@@ -332,9 +314,9 @@ impl<'a> Picture<'a> {
         alloc: Global,
         view: &CallsView<'_>,
         found: &'a Found<'_>,
-        note: Vec<u8>,
+        note: &'a [u8],
     ) -> Result<Picture<'a>, AllocError> {
-        let recording = &found.read.recording;
+        let recording = &found.judged.read.recording;
         let heading = recording.heading();
         let kinds = recording.kinds();
         let events = found.events();
@@ -346,7 +328,7 @@ impl<'a> Picture<'a> {
         let window = window_of(view, events.len(), usual);
         let choice = Choice::of(alloc, heading, view)?;
         let bars = bars_of(alloc, events)?;
-        let order = order_of(&found.verdict);
+        let order = order_of(&found.judged.verdict);
         Ok(Picture {
             heading,
             lines: found.lines(alloc)?,

@@ -3,47 +3,45 @@ use crate::grid::{LEFT, TOP, below, row};
 use crate::lines::parts_of;
 use crate::picture::{Bar, Outline, Picture};
 use crate::sink::{
-    Place, end_text, put_attribute, put_circle, put_diamond, put_line, put_number, put_rect,
-    put_text, start_text,
+    Pen, Place, Put, end_text, put_attribute, put_diamond, put_line, put_number, put_rect,
+    put_text, start_text, xy,
 };
 use crate::words::{class_of, put_whole, put_worker};
 use calls_core::{Op, Reply};
-use ec_text::Out;
-use std::alloc::{AllocError, Global};
-use std::io::Write;
+use std::alloc::Global;
 
 /// Half the height of a bar.
 const HALF: u64 = 11;
 
 /// Puts what stands above the columns, and of how many events, if not all are shown.
-pub(crate) fn put_column_names<W: Write>(out: &mut Out<'_, W>, picture: &Picture<'_>) {
+pub(crate) fn put_column_names(out: &mut Pen<'_>, picture: &Picture<'_>) {
     let x = LEFT - 14;
-    start_text(out, b"scale", Place { x, y: 20 });
+    start_text(out, b"scale", xy(x, 20));
     out.put(b"event");
     if picture.window().len() < picture.events.len() {
         out.put(b" of ");
         out.put_number(picture.events.len() as u64);
     }
     end_text(out);
-    put_text(out, b"scale", Place { x, y: 32 }, b"line");
+    put_text(out, b"scale", xy(x, 32), b"line");
 }
 
 /// Puts the columns of the events.
-pub(crate) fn put_columns<W: Write>(out: &mut Out<'_, W>, picture: &Picture<'_>, rows: usize) {
+pub(crate) fn put_columns(out: &mut Pen<'_>, picture: &Picture<'_>, rows: usize) {
     let window = picture.window();
     for position in window.from..window.to {
         let x = picture.grid.x(position);
-        put_number(out, b"event", Place { x, y: 20 }, position as u64);
+        put_number(out, b"event", xy(x, 20), position as u64);
         let line = picture.first_line.saturating_add(position as u64);
-        put_number(out, b"line", Place { x, y: 32 }, line);
-        let from = Place { x, y: 38 };
-        let to = Place { x, y: below(rows) };
+        put_number(out, b"line", xy(x, 32), line);
+        let from = xy(x, 38);
+        let to = xy(x, below(rows));
         put_line(out, b"grid", from, to);
     }
 }
 
 /// Puts the class that makes a text small if it has more room than this.
-fn put_squeezed<W: Write>(out: &mut Out<'_, W>, class: &[u8], at: Place, text: &[u8], room: u64) {
+fn put_squeezed(out: &mut Pen<'_>, class: &[u8], at: Place, text: &[u8], room: u64) {
     let letters = text.len() as u64;
     out.put(b"<text class='");
     out.put(class);
@@ -63,7 +61,7 @@ fn put_squeezed<W: Write>(out: &mut Out<'_, W>, class: &[u8], at: Place, text: &
 }
 
 /// Puts as much of a text as there is room for in small letters.
-fn put_cut<W: Write>(out: &mut Out<'_, W>, text: &[u8], room: u64) {
+fn put_cut(out: &mut Pen<'_>, text: &[u8], room: u64) {
     let most = (room.saturating_mul(2) / 7).max(2) as usize;
     if text.len() <= most {
         out.put(text);
@@ -74,13 +72,7 @@ fn put_cut<W: Write>(out: &mut Out<'_, W>, text: &[u8], room: u64) {
 }
 
 /// Puts the outline of a bar, if a certificate names or counts it.
-fn put_outline<W: Write>(
-    out: &mut Out<'_, W>,
-    picture: &Picture<'_>,
-    bar: &Bar,
-    at: Place,
-    width: u64,
-) {
+fn put_outline(out: &mut Pen<'_>, picture: &Picture<'_>, bar: &Bar, at: Place, width: u64) {
     let Some(evidence) = &picture.evidence else {
         return;
     };
@@ -89,15 +81,12 @@ fn put_outline<W: Write>(
         Some(Outline::Warm) => b"warm",
         None => return,
     };
-    let place = Place {
-        x: at.x.saturating_sub(3),
-        y: at.y.saturating_sub(3),
-    };
+    let place = xy(at.x.saturating_sub(3), at.y.saturating_sub(3));
     put_rect(out, class, place, width.saturating_add(6), 28);
 }
 
 /// Puts the rectangle of a bar.
-fn put_bar_rect<W: Write>(out: &mut Out<'_, W>, bar: &Bar, at: Place, width: u64) {
+fn put_bar_rect(out: &mut Pen<'_>, bar: &Bar, at: Place, width: u64) {
     out.put(b"<rect class='bar ");
     out.put(class_of(bar.op));
     if bar.end.is_none() {
@@ -112,13 +101,10 @@ fn put_bar_rect<W: Write>(out: &mut Out<'_, W>, bar: &Bar, at: Place, width: u64
 }
 
 /// Puts a bar with its texts. The next bar of the row begins at this position.
-fn put_bar<W: Write>(out: &mut Out<'_, W>, picture: &Picture<'_>, bar: &Bar, next: usize, y: u64) {
+fn put_bar(out: &mut Pen<'_>, picture: &Picture<'_>, bar: &Bar, next: usize, y: u64) {
     let x = picture.grid.x(bar.first);
     let end = picture.grid.x(bar.last());
-    let at = Place {
-        x: x.saturating_add(2),
-        y: y.saturating_sub(HALF),
-    };
+    let at = xy(x.saturating_add(2), y.saturating_sub(HALF));
     let width = end.saturating_sub(x).saturating_sub(4).max(4);
     let room = picture.grid.x(next).saturating_sub(x);
     out.put(b"<g><title>");
@@ -126,50 +112,29 @@ fn put_bar<W: Write>(out: &mut Out<'_, W>, picture: &Picture<'_>, bar: &Bar, nex
     out.put(b"</title>\n");
     put_bar_rect(out, bar, at, width);
     put_outline(out, picture, bar, at, width);
-    put_labels(out, picture, bar, Place { x, y }, room);
-    put_returned(out, picture, bar, Place { x: end, y }, room);
+    put_labels(out, picture, bar, xy(x, y), room);
+    put_returned(out, picture, bar, xy(end, y), room);
     out.put(b"</g>\n");
 }
 
 /// Puts what a call returned below the end of its bar, nothing if that is `done`.
-fn put_returned<W: Write>(
-    out: &mut Out<'_, W>,
-    picture: &Picture<'_>,
-    bar: &Bar,
-    at: Place,
-    room: u64,
-) {
+fn put_returned(out: &mut Pen<'_>, picture: &Picture<'_>, bar: &Bar, at: Place, room: u64) {
     let Some((last, reply)) = bar.end else {
         return;
     };
     if matches!(reply, Reply::Done) {
         return;
     }
-    let place = Place {
-        x: at.x.saturating_sub(2),
-        y: at.y.saturating_add(25),
-    };
+    let place = xy(at.x.saturating_sub(2), at.y.saturating_add(25));
     let text = picture.lines.said(last);
     put_squeezed(out, b"reply", place, text, room.max(40));
 }
 
 /// Puts what a call asks for above its bar, and of which object if there are several.
-fn put_labels<W: Write>(
-    out: &mut Out<'_, W>,
-    picture: &Picture<'_>,
-    bar: &Bar,
-    at: Place,
-    room: u64,
-) {
+fn put_labels(out: &mut Pen<'_>, picture: &Picture<'_>, bar: &Bar, at: Place, room: u64) {
     let x = at.x.saturating_add(2);
-    let low = Place {
-        x,
-        y: at.y.saturating_sub(18),
-    };
-    let high = Place {
-        x,
-        y: at.y.saturating_sub(28),
-    };
+    let low = xy(x, at.y.saturating_sub(18));
+    let high = xy(x, at.y.saturating_sub(28));
     let act = picture.lines.said(bar.first);
     let (verb, object, rest) = parts_of(act);
     let verb = act.get(..verb.len()).unwrap_or(act);
@@ -188,39 +153,28 @@ fn put_labels<W: Write>(
 }
 
 /// Puts a verb and what a call asks for besides its object.
-fn put_act<W: Write>(out: &mut Out<'_, W>, at: Place, verb: &[u8], rest: &[u8], room: u64) {
+fn put_act(out: &mut Pen<'_>, at: Place, verb: &[u8], rest: &[u8], room: u64) {
     let letters = (verb.len() as u64).saturating_add(1);
     let used = letters.saturating_mul(6);
     put_squeezed(out, b"act", at, verb, room);
     if !rest.is_empty() {
-        let place = Place {
-            x: at.x.saturating_add(used),
-            y: at.y,
-        };
+        let place = xy(at.x.saturating_add(used), at.y);
         put_squeezed(out, b"act", place, rest, room.saturating_sub(used).max(12));
     }
 }
 
 /// Puts the name of a worker, and the line of its row.
-fn put_row_name<W: Write>(out: &mut Out<'_, W>, picture: &Picture<'_>, worker: usize, y: u64) {
-    let at = Place {
-        x: LEFT - 14,
-        y: y.saturating_add(4),
-    };
+fn put_row_name(out: &mut Pen<'_>, picture: &Picture<'_>, worker: usize, y: u64) {
+    let at = xy(LEFT - 14, y.saturating_add(4));
     start_text(out, b"name", at);
     put_worker(out, picture, worker);
     end_text(out);
     let right = picture.grid.right();
-    put_line(out, b"zero", Place { x: LEFT, y }, Place { x: right, y });
+    put_line(out, b"zero", xy(LEFT, y), xy(right, y));
 }
 
 /// Puts the row of a worker.
-fn put_row<W: Write>(
-    alloc: Global,
-    out: &mut Out<'_, W>,
-    picture: &Picture<'_>,
-    worker: usize,
-) -> Result<(), AllocError> {
+fn put_row(alloc: Global, out: &mut Pen<'_>, picture: &Picture<'_>, worker: usize) -> Put {
     let y = row(picture.rows_before(worker));
     put_row_name(out, picture, worker, y);
     let bars = picture.bars_of(alloc, worker)?;
@@ -235,11 +189,7 @@ fn put_row<W: Write>(
 }
 
 /// Puts the rows of the workers.
-pub(crate) fn put_rows<W: Write>(
-    alloc: Global,
-    out: &mut Out<'_, W>,
-    picture: &Picture<'_>,
-) -> Result<(), AllocError> {
+pub(crate) fn put_rows(alloc: Global, out: &mut Pen<'_>, picture: &Picture<'_>) -> Put {
     for worker in 0..picture.workers() {
         if picture.choice.has_worker(worker) {
             put_row(alloc, out, picture, worker)?;
@@ -249,30 +199,20 @@ pub(crate) fn put_rows<W: Write>(
 }
 
 /// Puts the marks at the points of the calls that are drawn.
-pub(crate) fn put_marks<W: Write>(out: &mut Out<'_, W>, picture: &Picture<'_>) {
+pub(crate) fn put_marks(out: &mut Pen<'_>, picture: &Picture<'_>) {
     for (i, placed) in picture.order.iter().enumerate() {
         let call = &placed.call;
         let is_shown = picture.window().has_point(placed.point)
             && picture.choice.has(call.worker, call.object, call.op);
         if is_shown {
             let y = row(picture.rows_before(call.worker));
-            put_diamond(
-                out,
-                Place {
-                    x: picture.x_of(i),
-                    y,
-                },
-            );
+            put_diamond(out, xy(picture.x_of(i), y));
         }
     }
 }
 
 /// Puts the column of the first faulty event.
-pub(crate) fn put_faulty_column<W: Write>(
-    out: &mut Out<'_, W>,
-    picture: &Picture<'_>,
-    rows: usize,
-) {
+pub(crate) fn put_faulty_column(out: &mut Pen<'_>, picture: &Picture<'_>, rows: usize) {
     let Some(evidence) = &picture.evidence else {
         return;
     };
@@ -282,10 +222,7 @@ pub(crate) fn put_faulty_column<W: Write>(
     }
     let x = picture.grid.x(at);
     let half = picture.grid.width / 3;
-    let place = Place {
-        x: x.saturating_sub(half),
-        y: TOP - 8,
-    };
+    let place = xy(x.saturating_sub(half), TOP - 8);
     let height = below(rows).saturating_sub(TOP - 8);
     put_rect(out, b"wrong", place, half.saturating_mul(2), height);
 }

@@ -1,6 +1,12 @@
 //! The elements of an SVG picture.
 use ec_text::Out;
-use std::io::Write;
+use std::alloc::AllocError;
+
+/// The bytes of a picture so far.
+pub(crate) type Pen<'a> = Out<'a, Vec<u8>>;
+
+/// Whether there was memory for what was put.
+pub(crate) type Put = Result<(), AllocError>;
 
 /// A place in a picture.
 #[derive(Clone, Copy, Debug, PartialEq, Eq)]
@@ -9,8 +15,14 @@ pub(crate) struct Place {
     pub(crate) y: u64,
 }
 
-/// Puts a byte of a text, escaped if XML needs it; what is no plain character is a question mark.
-fn put_escaped_byte<W: Write>(out: &mut Out<'_, W>, byte: u8) {
+/// Returns the place with these coordinates.
+pub(crate) fn xy(x: u64, y: u64) -> Place {
+    Place { x, y }
+}
+
+/// Puts a byte of a text, escaped if XML needs it; what is no plain character is a question
+/// mark.
+fn put_escaped_byte(out: &mut Pen<'_>, byte: u8) {
     match byte {
         b'<' => out.put(b"&lt;"),
         b'>' => out.put(b"&gt;"),
@@ -21,14 +33,14 @@ fn put_escaped_byte<W: Write>(out: &mut Out<'_, W>, byte: u8) {
 }
 
 /// Puts a text, escaped.
-pub(crate) fn put_escaped<W: Write>(out: &mut Out<'_, W>, text: &[u8]) {
+pub(crate) fn put_escaped(out: &mut Pen<'_>, text: &[u8]) {
     for byte in text {
         put_escaped_byte(out, *byte);
     }
 }
 
 /// Puts an attribute with a number.
-pub(crate) fn put_attribute<W: Write>(out: &mut Out<'_, W>, name: &[u8], n: u64) {
+pub(crate) fn put_attribute(out: &mut Pen<'_>, name: &[u8], n: u64) {
     out.put(b" ");
     out.put(name);
     out.put(b"='");
@@ -37,7 +49,7 @@ pub(crate) fn put_attribute<W: Write>(out: &mut Out<'_, W>, name: &[u8], n: u64)
 }
 
 /// Puts the name of an element and its class.
-fn put_open<W: Write>(out: &mut Out<'_, W>, name: &[u8], class: &[u8]) {
+fn put_open(out: &mut Pen<'_>, name: &[u8], class: &[u8]) {
     out.put(b"<");
     out.put(name);
     out.put(b" class='");
@@ -46,7 +58,7 @@ fn put_open<W: Write>(out: &mut Out<'_, W>, name: &[u8], class: &[u8]) {
 }
 
 /// Puts a line.
-pub(crate) fn put_line<W: Write>(out: &mut Out<'_, W>, class: &[u8], from: Place, to: Place) {
+pub(crate) fn put_line(out: &mut Pen<'_>, class: &[u8], from: Place, to: Place) {
     put_open(out, b"line", class);
     put_attribute(out, b"x1", from.x);
     put_attribute(out, b"y1", from.y);
@@ -56,13 +68,7 @@ pub(crate) fn put_line<W: Write>(out: &mut Out<'_, W>, class: &[u8], from: Place
 }
 
 /// Puts a rectangle.
-pub(crate) fn put_rect<W: Write>(
-    out: &mut Out<'_, W>,
-    class: &[u8],
-    at: Place,
-    width: u64,
-    height: u64,
-) {
+pub(crate) fn put_rect(out: &mut Pen<'_>, class: &[u8], at: Place, width: u64, height: u64) {
     put_open(out, b"rect", class);
     put_attribute(out, b"x", at.x);
     put_attribute(out, b"y", at.y);
@@ -72,7 +78,7 @@ pub(crate) fn put_rect<W: Write>(
 }
 
 /// Puts a circle.
-pub(crate) fn put_circle<W: Write>(out: &mut Out<'_, W>, class: &[u8], at: Place, r: u64) {
+pub(crate) fn put_circle(out: &mut Pen<'_>, class: &[u8], at: Place, r: u64) {
     put_open(out, b"circle", class);
     put_attribute(out, b"cx", at.x);
     put_attribute(out, b"cy", at.y);
@@ -81,7 +87,7 @@ pub(crate) fn put_circle<W: Write>(out: &mut Out<'_, W>, class: &[u8], at: Place
 }
 
 /// Puts the mark of a point: a diamond.
-pub(crate) fn put_diamond<W: Write>(out: &mut Out<'_, W>, at: Place) {
+pub(crate) fn put_diamond(out: &mut Pen<'_>, at: Place) {
     out.put(b"<path class='mark' d='M ");
     out.put_number(at.x);
     out.put(b" ");
@@ -90,7 +96,7 @@ pub(crate) fn put_diamond<W: Write>(out: &mut Out<'_, W>, at: Place) {
 }
 
 /// Puts the beginning of a text.
-pub(crate) fn start_text<W: Write>(out: &mut Out<'_, W>, class: &[u8], at: Place) {
+pub(crate) fn start_text(out: &mut Pen<'_>, class: &[u8], at: Place) {
     put_open(out, b"text", class);
     put_attribute(out, b"x", at.x);
     put_attribute(out, b"y", at.y);
@@ -98,26 +104,26 @@ pub(crate) fn start_text<W: Write>(out: &mut Out<'_, W>, class: &[u8], at: Place
 }
 
 /// Puts the end of a text.
-pub(crate) fn end_text<W: Write>(out: &mut Out<'_, W>) {
+pub(crate) fn end_text(out: &mut Pen<'_>) {
     out.put(b"</text>\n");
 }
 
 /// Puts a text.
-pub(crate) fn put_text<W: Write>(out: &mut Out<'_, W>, class: &[u8], at: Place, text: &[u8]) {
+pub(crate) fn put_text(out: &mut Pen<'_>, class: &[u8], at: Place, text: &[u8]) {
     start_text(out, class, at);
     put_escaped(out, text);
     end_text(out);
 }
 
 /// Puts a number as a text.
-pub(crate) fn put_number<W: Write>(out: &mut Out<'_, W>, class: &[u8], at: Place, n: u64) {
+pub(crate) fn put_number(out: &mut Pen<'_>, class: &[u8], at: Place, n: u64) {
     start_text(out, class, at);
     out.put_number(n);
     end_text(out);
 }
 
 /// Puts the beginning of a path.
-pub(crate) fn start_path<W: Write>(out: &mut Out<'_, W>, class: &[u8], at: Place) {
+pub(crate) fn start_path(out: &mut Pen<'_>, class: &[u8], at: Place) {
     put_open(out, b"path", class);
     out.put(b" d='M ");
     out.put_number(at.x);
@@ -126,19 +132,19 @@ pub(crate) fn start_path<W: Write>(out: &mut Out<'_, W>, class: &[u8], at: Place
 }
 
 /// Puts a horizontal piece of a path.
-pub(crate) fn go_across<W: Write>(out: &mut Out<'_, W>, x: u64) {
+pub(crate) fn go_across(out: &mut Pen<'_>, x: u64) {
     out.put(b" H ");
     out.put_number(x);
 }
 
 /// Puts a vertical piece of a path.
-pub(crate) fn go_along<W: Write>(out: &mut Out<'_, W>, y: u64) {
+pub(crate) fn go_along(out: &mut Pen<'_>, y: u64) {
     out.put(b" V ");
     out.put_number(y);
 }
 
 /// Puts the end of a path.
-pub(crate) fn end_path<W: Write>(out: &mut Out<'_, W>, closes: bool) {
+pub(crate) fn end_path(out: &mut Pen<'_>, closes: bool) {
     if closes {
         out.put(b" Z");
     }

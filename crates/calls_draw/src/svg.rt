@@ -9,11 +9,10 @@ use crate::panels::{Panel, Subject, panels_of};
 use crate::picture::{Evidence, Picture};
 use crate::rows::{put_column_names, put_columns, put_faulty_column, put_marks, put_rows};
 use crate::scale::{Range, Scale};
-use crate::sink::{Place, put_attribute, put_text};
+use crate::sink::{Pen, Put, put_attribute, put_text, xy};
 use crate::style::{OPENING, STYLE};
-use ec_text::{Out, cut_line};
-use std::alloc::{AllocError, Global};
-use std::io::Write;
+use ec_text::cut_line;
+use std::alloc::Global;
 
 /// The room between two panels.
 const GAP: u64 = 34;
@@ -67,7 +66,7 @@ fn measured(note: &[u8]) -> (u64, u64) {
 }
 
 /// Puts the beginning of a picture.
-fn put_header<W: Write>(out: &mut Out<'_, W>, width: u64, height: u64) {
+fn put_header(out: &mut Pen<'_>, width: u64, height: u64) {
     out.put(OPENING);
     put_attribute(out, b"width", width);
     put_attribute(out, b"height", height);
@@ -80,7 +79,7 @@ fn put_header<W: Write>(out: &mut Out<'_, W>, width: u64, height: u64) {
 }
 
 /// Puts a panel of numbers.
-fn put_numbers<W: Write>(out: &mut Out<'_, W>, picture: &Picture<'_>, panel: &Panel, top: u64) {
+fn put_numbers(out: &mut Pen<'_>, picture: &Picture<'_>, panel: &Panel, top: u64) {
     let scale = Scale::new(whole_range(picture, panel), top);
     put_scale(out, picture, &scale);
     match evidence_in(picture, panel) {
@@ -90,8 +89,8 @@ fn put_numbers<W: Write>(out: &mut Out<'_, W>, picture: &Picture<'_>, panel: &Pa
 }
 
 /// Puts a panel of numbers of an object whose calls are refused.
-fn put_refused<W: Write>(
-    out: &mut Out<'_, W>,
+fn put_refused(
+    out: &mut Pen<'_>,
     picture: &Picture<'_>,
     panel: &Panel,
     scale: &Scale,
@@ -106,31 +105,16 @@ fn put_refused<W: Write>(
 }
 
 /// Puts a panel of numbers of another object.
-fn put_accepted<W: Write>(
-    out: &mut Out<'_, W>,
-    picture: &Picture<'_>,
-    panel: &Panel,
-    scale: &Scale,
-) {
+fn put_accepted(out: &mut Pen<'_>, picture: &Picture<'_>, panel: &Panel, scale: &Scale) {
     put_band(out, picture, scale, panel);
-    put_levels_of_tickets(out, picture, panel, scale);
+    if matches!(panel.subject, Subject::Numbers(_)) {
+        put_levels(out, picture, scale, panel);
+    }
     if !picture.order.is_empty() {
         put_curve(out, picture, scale, panel);
         put_seen(out, scale, panel);
     }
     put_awaited(out, picture, scale, panel);
-}
-
-/// Puts the numbers that tickets drew, if it is the panel of a sequencer.
-fn put_levels_of_tickets<W: Write>(
-    out: &mut Out<'_, W>,
-    picture: &Picture<'_>,
-    panel: &Panel,
-    scale: &Scale,
-) {
-    if matches!(panel.subject, Subject::Numbers(_)) {
-        put_levels(out, picture, scale, panel);
-    }
 }
 
 /// Returns where the name of a panel stands: beside it, or above it if its numbers are long.
@@ -145,7 +129,7 @@ fn name_y(picture: &Picture<'_>, panel: &Panel, top: u64) -> u64 {
 }
 
 /// Puts a panel.
-fn put_panel<W: Write>(out: &mut Out<'_, W>, picture: &Picture<'_>, panel: &Panel, top: u64) {
+fn put_panel(out: &mut Pen<'_>, picture: &Picture<'_>, panel: &Panel, top: u64) {
     put_panel_name(out, picture, panel.subject, name_y(picture, panel, top));
     match (panel.subject, evidence_in(picture, panel)) {
         (Subject::Values(_), Some(evidence)) => put_lanes(out, picture, evidence, top),
@@ -159,12 +143,7 @@ fn put_panel<W: Write>(out: &mut Out<'_, W>, picture: &Picture<'_>, panel: &Pane
 }
 
 /// Puts the panels.
-fn put_panels<W: Write>(
-    out: &mut Out<'_, W>,
-    picture: &Picture<'_>,
-    rows: usize,
-    panels: &[Panel],
-) {
+fn put_panels(out: &mut Pen<'_>, picture: &Picture<'_>, rows: usize, panels: &[Panel]) {
     let mut y = below(rows).saturating_add(GAP);
     for panel in panels {
         put_panel(out, picture, panel, y);
@@ -175,31 +154,27 @@ fn put_panels<W: Write>(
 }
 
 /// Puts the lines of a note.
-fn put_note<W: Write>(out: &mut Out<'_, W>, picture: &Picture<'_>, top: u64) {
+fn put_note(out: &mut Pen<'_>, picture: &Picture<'_>, top: u64) {
     let class: &[u8] = if picture.evidence.is_some() {
         b"fault"
     } else {
         b"remark"
     };
     let mut y = top;
-    let mut rest = picture.note.as_slice();
+    let mut rest = picture.note;
     while let Some((line, behind)) = cut_line(rest) {
-        put_text(out, class, Place { x: 24, y }, line);
+        put_text(out, class, xy(24, y), line);
         y = y.saturating_add(NOTE);
         rest = behind;
     }
 }
 
 /// Puts a picture as SVG.
-pub(crate) fn put_svg<W: Write>(
-    alloc: Global,
-    out: &mut Out<'_, W>,
-    picture: &Picture<'_>,
-) -> Result<(), AllocError> {
+pub(crate) fn put_svg(alloc: Global, out: &mut Pen<'_>, picture: &Picture<'_>) -> Put {
     let panels = panels_of(alloc, picture)?;
     let rows = picture.rows_before(picture.workers());
     let end = panels_end(picture, rows, panels.as_slice());
-    let (lines, longest) = measured(picture.note.as_slice());
+    let (lines, longest) = measured(picture.note);
     let right = picture.grid.right().saturating_add(MARGIN);
     let width = longest.saturating_mul(8).max(right);
     let height = end.saturating_add(lines.saturating_mul(NOTE));

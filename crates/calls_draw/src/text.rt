@@ -1,12 +1,12 @@
 //! The whole picture, as a text for a terminal.
 use crate::panels::{Panel, Spot, Subject, panels_of};
 use crate::picture::{Bar, Evidence, Picture};
+use crate::sink::{Pen, Put};
 use crate::words::{put_subject, put_value, put_whole, put_worker, worker_letters};
 use calls_core::Op;
 use calls_shapes::Stair;
-use ec_text::{Decimal, Out};
-use std::alloc::{AllocError, Global};
-use std::io::Write;
+use ec_text::Decimal;
+use std::alloc::Global;
 
 /// How many places a name has.
 const NAME: usize = 18;
@@ -31,51 +31,38 @@ fn places_of(picture: &Picture<'_>) -> Places {
 }
 
 /// Puts so many times a byte.
-fn put_times<W: Write>(out: &mut Out<'_, W>, byte: u8, count: usize) {
+fn put_times(out: &mut Pen<'_>, byte: u8, count: usize) {
     for _place in 0..count {
         out.put_byte(byte);
     }
 }
 
 /// Puts a number at the end of so many places.
-fn put_padded<W: Write>(out: &mut Out<'_, W>, n: u64, places: usize) {
+fn put_padded(out: &mut Pen<'_>, n: u64, places: usize) {
     let digits = Decimal::new(n).digits();
     put_times(out, b' ', places.saturating_sub(digits.bytes().len()));
     out.put_number(n);
 }
 
 /// Puts what fills the name's places after so many letters.
-fn put_rest_of_name<W: Write>(out: &mut Out<'_, W>, letters: usize) {
+fn put_rest_of_name(out: &mut Pen<'_>, letters: usize) {
     put_times(out, b' ', NAME.saturating_sub(letters));
 }
 
-/// Puts the events, and their lines.
-fn put_heads<W: Write>(out: &mut Out<'_, W>, picture: &Picture<'_>, places: Places) {
+/// Puts a number for each event that is shown, after a word: its position and this number.
+fn put_heads(out: &mut Pen<'_>, word: &[u8], picture: &Picture<'_>, first: u64, places: Places) {
     let window = picture.window();
-    out.put(b"event");
-    put_rest_of_name(out, 5);
+    out.put(word);
+    put_rest_of_name(out, word.len());
     for position in window.from..window.to {
-        put_padded(out, position as u64, places.count);
-    }
-    out.put(b"\n");
-    put_lines(out, picture, places);
-}
-
-/// Puts the lines of the events.
-fn put_lines<W: Write>(out: &mut Out<'_, W>, picture: &Picture<'_>, places: Places) {
-    let window = picture.window();
-    out.put(b"line");
-    put_rest_of_name(out, 4);
-    for position in window.from..window.to {
-        let line = picture.first_line.saturating_add(position as u64);
-        put_padded(out, line, places.count);
+        put_padded(out, first.saturating_add(position as u64), places.count);
     }
     out.put(b"\n");
 }
 
 /// Puts the moment before a position: dashes within a call, with a star at its point.
-fn put_moment<W: Write>(
-    out: &mut Out<'_, W>,
+fn put_moment(
+    out: &mut Pen<'_>,
     picture: &Picture<'_>,
     bars: &[Bar],
     position: usize,
@@ -98,7 +85,7 @@ fn put_moment<W: Write>(
 }
 
 /// Puts the mark of the event at a position, if it is one of these bars.
-fn put_event<W: Write>(out: &mut Out<'_, W>, bars: &[Bar], position: usize) {
+fn put_event(out: &mut Pen<'_>, bars: &[Bar], position: usize) {
     if bars.iter().any(|bar| bar.first == position) {
         out.put(b"(");
     } else if bars.iter().any(|bar| bar.last() == position) {
@@ -114,13 +101,13 @@ fn put_event<W: Write>(out: &mut Out<'_, W>, bars: &[Bar], position: usize) {
 }
 
 /// Puts the row of a worker.
-fn put_row<W: Write>(
+fn put_row(
     alloc: Global,
-    out: &mut Out<'_, W>,
+    out: &mut Pen<'_>,
     picture: &Picture<'_>,
     worker: usize,
     places: Places,
-) -> Result<(), AllocError> {
+) -> Put {
     let bars = picture.bars_of(alloc, worker)?;
     let window = picture.window();
     put_worker(out, picture, worker);
@@ -138,12 +125,7 @@ fn put_row<W: Write>(
 }
 
 /// Puts the rows of the workers.
-fn put_rows<W: Write>(
-    alloc: Global,
-    out: &mut Out<'_, W>,
-    picture: &Picture<'_>,
-    places: Places,
-) -> Result<(), AllocError> {
+fn put_rows(alloc: Global, out: &mut Pen<'_>, picture: &Picture<'_>, places: Places) -> Put {
     for worker in 0..picture.workers() {
         if picture.choice.has_worker(worker) {
             put_row(alloc, out, picture, worker, places)?;
@@ -159,12 +141,7 @@ fn number_at(panel: &Panel, position: usize) -> usize {
 }
 
 /// Puts the number of an object along the order, before each event.
-fn put_numbers<W: Write>(
-    out: &mut Out<'_, W>,
-    picture: &Picture<'_>,
-    panel: &Panel,
-    places: Places,
-) {
+fn put_numbers(out: &mut Pen<'_>, picture: &Picture<'_>, panel: &Panel, places: Places) {
     let window = picture.window();
     put_rest_of_name(out, 5);
     for position in window.from..=window.to {
@@ -176,7 +153,7 @@ fn put_numbers<W: Write>(
 }
 
 /// Puts bounds, before each event.
-fn put_bounds<W: Write>(out: &mut Out<'_, W>, word: &[u8], numbers: &[usize], places: Places) {
+fn put_bounds(out: &mut Pen<'_>, word: &[u8], numbers: &[usize], places: Places) {
     out.put(word);
     put_rest_of_name(out, word.len());
     for number in numbers {
@@ -187,13 +164,13 @@ fn put_bounds<W: Write>(out: &mut Out<'_, W>, word: &[u8], numbers: &[usize], pl
 }
 
 /// Puts the rows of a panel of numbers.
-fn put_panel_rows<W: Write>(
+fn put_panel_rows(
     alloc: Global,
-    out: &mut Out<'_, W>,
+    out: &mut Pen<'_>,
     picture: &Picture<'_>,
     panel: &Panel,
     places: Places,
-) -> Result<(), AllocError> {
+) -> Put {
     let least: Vec<usize> = panel.bounds.iter().map(|it| it.least).collect(alloc)?;
     let most: Vec<usize> = panel.bounds.iter().map(|it| it.most).collect(alloc)?;
     put_subject(out, picture, panel.subject);
@@ -208,7 +185,7 @@ fn put_panel_rows<W: Write>(
 }
 
 /// Puts a value of a cell or a database, and from which point on it has it.
-fn put_later<W: Write>(out: &mut Out<'_, W>, picture: &Picture<'_>, panel: &Panel, spot: &Spot) {
+fn put_later(out: &mut Pen<'_>, picture: &Picture<'_>, panel: &Panel, spot: &Spot) {
     let object = panel.subject.object();
     put_subject(out, picture, panel.subject);
     out.put(b" ");
@@ -219,7 +196,7 @@ fn put_later<W: Write>(out: &mut Out<'_, W>, picture: &Picture<'_>, panel: &Pane
 }
 
 /// Puts the values of a cell or a database along the order.
-fn put_values<W: Write>(out: &mut Out<'_, W>, picture: &Picture<'_>, panel: &Panel) {
+fn put_values(out: &mut Pen<'_>, picture: &Picture<'_>, panel: &Panel) {
     let object = panel.subject.object();
     put_subject(out, picture, panel.subject);
     out.put(b" ");
@@ -233,12 +210,7 @@ fn put_values<W: Write>(out: &mut Out<'_, W>, picture: &Picture<'_>, panel: &Pan
 }
 
 /// Puts the panels.
-fn put_panels<W: Write>(
-    alloc: Global,
-    out: &mut Out<'_, W>,
-    picture: &Picture<'_>,
-    places: Places,
-) -> Result<(), AllocError> {
+fn put_panels(alloc: Global, out: &mut Pen<'_>, picture: &Picture<'_>, places: Places) -> Put {
     let panels = panels_of(alloc, picture)?;
     for panel in &panels {
         if !matches!(panel.subject, Subject::Values(_)) {
@@ -251,7 +223,7 @@ fn put_panels<W: Write>(
 }
 
 /// Puts a line for each call that is drawn.
-fn put_calls<W: Write>(out: &mut Out<'_, W>, picture: &Picture<'_>) {
+fn put_calls(out: &mut Pen<'_>, picture: &Picture<'_>) {
     for bar in &picture.shown {
         put_whole(out, picture, bar);
         out.put(b"\n");
@@ -259,7 +231,7 @@ fn put_calls<W: Write>(out: &mut Out<'_, W>, picture: &Picture<'_>) {
 }
 
 /// Puts a line for each call that a certificate names.
-fn put_named<W: Write>(out: &mut Out<'_, W>, picture: &Picture<'_>, evidence: &Evidence<'_>) {
+fn put_named(out: &mut Pen<'_>, picture: &Picture<'_>, evidence: &Evidence<'_>) {
     for call in &evidence.faulty {
         let mut bar = Bar::of(call);
         if call.last >= picture.events.len() {
@@ -272,7 +244,7 @@ fn put_named<W: Write>(out: &mut Out<'_, W>, picture: &Picture<'_>, evidence: &E
 }
 
 /// Puts the line of a stair.
-fn put_stair<W: Write>(out: &mut Out<'_, W>, stair: &Stair) {
+fn put_stair(out: &mut Pen<'_>, stair: &Stair) {
     out.put(b"stair: ");
     out.put_number(stair.course.base as u64);
     out.put(b" from event ");
@@ -288,20 +260,17 @@ fn put_stair<W: Write>(out: &mut Out<'_, W>, stair: &Stair) {
 }
 
 /// Puts the lines of the stairs.
-fn put_stairs<W: Write>(out: &mut Out<'_, W>, evidence: &Evidence<'_>) {
+fn put_stairs(out: &mut Pen<'_>, evidence: &Evidence<'_>) {
     for stair in &evidence.stairs {
         put_stair(out, stair);
     }
 }
 
 /// Puts a picture as a text.
-pub(crate) fn put_plain<W: Write>(
-    alloc: Global,
-    out: &mut Out<'_, W>,
-    picture: &Picture<'_>,
-) -> Result<(), AllocError> {
+pub(crate) fn put_plain(alloc: Global, out: &mut Pen<'_>, picture: &Picture<'_>) -> Put {
     let places = places_of(picture);
-    put_heads(out, picture, places);
+    put_heads(out, b"event", picture, 0, places);
+    put_heads(out, b"line", picture, picture.first_line, places);
     put_rows(alloc, out, picture, places)?;
     put_panels(alloc, out, picture, places)?;
     out.put(b"\n");
@@ -310,6 +279,6 @@ pub(crate) fn put_plain<W: Write>(
         put_named(out, picture, evidence);
         put_stairs(out, evidence);
     }
-    out.put(picture.note.as_slice());
+    out.put(picture.note);
     Ok(())
 }

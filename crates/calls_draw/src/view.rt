@@ -22,6 +22,9 @@ pub struct CallsView<'a> {
     pub objects: &'a [&'a str],
     /// As what the picture is written.
     pub form: Form,
+    /// What is written before the picture, and after it.
+    pub before: &'a str,
+    pub after: &'a str,
 }
 
 /// Some events that follow one another, by their positions.

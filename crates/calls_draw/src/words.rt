@@ -2,10 +2,9 @@
 use crate::lines::parts_of;
 use crate::panels::Subject;
 use crate::picture::{Bar, Picture};
+use crate::sink::Pen;
 use calls_core::{Kind, Op};
 use ec_count::{Target, WorkerId};
-use ec_text::Out;
-use std::io::Write;
 
 /// Returns the class of a call.
 pub(crate) fn class_of(op: Op) -> &'static [u8] {
@@ -22,7 +21,7 @@ pub(crate) fn class_of(op: Op) -> &'static [u8] {
 }
 
 /// Puts the name of a worker.
-pub(crate) fn put_worker<W: Write>(out: &mut Out<'_, W>, picture: &Picture<'_>, worker: usize) {
+pub(crate) fn put_worker(out: &mut Pen<'_>, picture: &Picture<'_>, worker: usize) {
     let Some(id) = WorkerId::new(worker) else {
         return;
     };
@@ -52,7 +51,7 @@ fn name_by(act: &[u8], op: Op, subject: Subject) -> &[u8] {
 }
 
 /// Puts the name of what a panel shows.
-pub(crate) fn put_subject<W: Write>(out: &mut Out<'_, W>, picture: &Picture<'_>, subject: Subject) {
+pub(crate) fn put_subject(out: &mut Pen<'_>, picture: &Picture<'_>, subject: Subject) {
     let shown = picture
         .shown
         .iter()
@@ -63,7 +62,7 @@ pub(crate) fn put_subject<W: Write>(out: &mut Out<'_, W>, picture: &Picture<'_>,
 }
 
 /// Puts each number of a list, and a space between two.
-fn put_list<W: Write>(out: &mut Out<'_, W>, list: &[u64]) {
+fn put_list(out: &mut Pen<'_>, list: &[u64]) {
     for (i, n) in list.iter().enumerate() {
         if i > 0 {
             out.put(b" ");
@@ -73,7 +72,7 @@ fn put_list<W: Write>(out: &mut Out<'_, W>, list: &[u64]) {
 }
 
 /// Puts so many zeros.
-fn put_zeros<W: Write>(out: &mut Out<'_, W>, count: usize) {
+fn put_zeros(out: &mut Pen<'_>, count: usize) {
     for i in 0..count {
         out.put(if i > 0 {
             b" 0".as_slice()
@@ -84,12 +83,7 @@ fn put_zeros<W: Write>(out: &mut Out<'_, W>, count: usize) {
 }
 
 /// Puts a value of a cell or a database. That of a database goes by the number of its list.
-pub(crate) fn put_value<W: Write>(
-    out: &mut Out<'_, W>,
-    picture: &Picture<'_>,
-    object: usize,
-    value: usize,
-) {
+pub(crate) fn put_value(out: &mut Pen<'_>, picture: &Picture<'_>, object: usize, value: usize) {
     match picture.kinds.get(object) {
         Some(Kind::Database(count)) if value == 0 => put_zeros(out, *count),
         Some(Kind::Database(_)) => {
@@ -101,7 +95,7 @@ pub(crate) fn put_value<W: Write>(
 }
 
 /// Puts the point of a call, if it has one in the order.
-fn put_point<W: Write>(out: &mut Out<'_, W>, picture: &Picture<'_>, bar: &Bar) {
+fn put_point(out: &mut Pen<'_>, picture: &Picture<'_>, bar: &Bar) {
     let point = picture.point_of(bar);
     if point > 0 {
         out.put(b", point ");
@@ -110,7 +104,7 @@ fn put_point<W: Write>(out: &mut Out<'_, W>, picture: &Picture<'_>, bar: &Bar) {
 }
 
 /// Puts from where to where a call goes.
-fn put_span<W: Write>(out: &mut Out<'_, W>, bar: &Bar) {
+fn put_span(out: &mut Pen<'_>, bar: &Bar) {
     match bar.end {
         Some((last, _)) => {
             out.put(b", events ");
@@ -126,7 +120,7 @@ fn put_span<W: Write>(out: &mut Out<'_, W>, bar: &Bar) {
 }
 
 /// Puts all that is known of a call.
-pub(crate) fn put_whole<W: Write>(out: &mut Out<'_, W>, picture: &Picture<'_>, bar: &Bar) {
+pub(crate) fn put_whole(out: &mut Pen<'_>, picture: &Picture<'_>, bar: &Bar) {
     put_worker(out, picture, bar.worker);
     out.put(b" ");
     out.put(picture.lines.said(bar.first));

@@ -8,7 +8,8 @@ use Rattle.evc_draw_task.specs.declared.choice.Range.{Range}
 use Rattle.evc_draw_engine.specs.Windows.{is_wide, window_for}
 
 -- the last column is shown if the range has its position
-pub has_column : (r : Range) (n : ℕ) → r.from < n → n ≤ r.to → ((window_for r n).from < n) × ((window_for r n).to ≡ n)
+pub has_column : (r : Range) (n : ℕ) → r.from < n → n ≤ r.to → ((window_for r n).from < n)
+    × ((window_for r n).to ≡ n)
 has_column r n low high = (omega (arith, clamps), omega (arith, clamps))
 
 -- and there are no more columns than a picture may have

@@ -1,5 +1,6 @@
 -- How a whole input was told, from how its text was.
-use Rattle.std.proofs.Common.{◌≡◌, ℕ, List, Option, Some, None, IfSome, true, false, length, refl, ap, ◌∙◌, subst, inl, inr}
+use Rattle.std.proofs.Common.{◌≡◌, ℕ, List, Option, Some, None, IfSome, true, false, length, refl}
+use Rattle.std.proofs.Common.{ap, ◌∙◌, subst, inl, inr}
 use Rattle.std.specs.Io.KnownBytes.{Appends}
 use Rattle.ec_text.specs.Puts.{AppendsPrefix, IsWrittenOut, Puts}
 use Rattle.evc_engine.specs.declared.status.Status.{Status}
@@ -11,43 +12,79 @@ use Rattle.ec_trace.specs.declared.fault.TraceFault.TheVariants.{Unfinished}
 use Rattle.evc_engine.specs.Checks.{Outlets, ReadsAs, RefusedFor}
 use Rattle.evc_draw_engine.specs.declared.view.View.{View}
 use Rattle.ec_text.specs.Inputs.{looked_at, IsReadUp, IsCutOff}
-use Rattle.evc_draw_engine.specs.Draws.{Draws, DrawsText, DrawsCutOff, HasNoFaultYet, IsLasting, TellsCut, TellsFault, Wants, Wrote, WrotePrefix, is_calls, story}
+use Rattle.calls_report.specs.declared.status.Status as calls
+use Rattle.calls_draw.specs.Draws.{Chooses}
+use Rattle.calls_draw.specs.Draws as histories
+use Rattle.calls_draw.specs.declared.view.CallsView.{CallsView}
+use Rattle.evc_draw_engine.specs.Draws.{AsksForPart, Draws, DrawsHistories, DrawsText, DrawsCutOff}
+use Rattle.evc_draw_engine.specs.Draws.{DrawsTraceSoFar, HasNoFaultYet, IsLasting, TellsCut, TellsFault}
+use Rattle.evc_draw_engine.specs.Draws.{Wants, Wrote, WrotePrefix, outlets_of, status_as, story}
 use Rattle.evc_draw_engine.specs.Windows.{cut_note, is_wide, window_on}
 
-pub whole_drawn : (v : View) (old left : Option (List ℕ)) (text : List ℕ) (status : Status) (before after : Outlets) → IfSome old (λ bytes. (text ≡ looked_at TRACE_MAX bytes) × IsReadUp TRACE_MAX bytes left)
-    → (is_calls text ≡ false → DrawsText v text status before after) → IfSome old (λ bytes. is_calls (looked_at TRACE_MAX bytes) ≡ false → Draws v bytes left status before after)
+pub whole_drawn : (v : View) (old left : Option (List ℕ)) (text : List ℕ) (status : Status)
+    (before after : Outlets)
+    → IfSome old (λ bytes. (text ≡ looked_at TRACE_MAX bytes) × IsReadUp TRACE_MAX bytes left)
+    → DrawsText v text status before after
+    → IfSome old (λ bytes. Draws v bytes left status before after)
 whole_drawn v None left text status before after is told = tt
 whole_drawn v (Some bytes) left text status before after is told =
-    λ other. inr (inl (subst (λ t. DrawsText v t status before after) is.0 (told (ap is_calls is.0 ∙ other))))
+    inr (inl (subst (λ t. DrawsText v t status before after) is.0 told))
 
-pub cut_off_drawn : (v : View) (old left : Option (List ℕ)) (text : List ℕ) (status : Status) (before after : Outlets) → IfSome old (λ bytes. IsCutOff TRACE_MAX bytes left text) → DrawsCutOff text status before after
-    → IfSome old (λ bytes. is_calls (looked_at TRACE_MAX bytes) ≡ false → Draws v bytes left status before after)
+pub cut_off_drawn : (v : View) (old left : Option (List ℕ)) (text : List ℕ) (status : Status)
+    (before after : Outlets) → IfSome old (λ bytes. IsCutOff TRACE_MAX bytes left text)
+    → DrawsCutOff text status before after
+    → IfSome old (λ bytes. Draws v bytes left status before after)
 cut_off_drawn v None left text status before after is told = tt
-cut_off_drawn v (Some bytes) left text status before after is told = λ other. inr (inr (text, is, told))
+cut_off_drawn v (Some bytes) left text status before after is told = inr (inr (text, is, told))
 
-pub want_drawn : (v : View) (old left : Option (List ℕ)) (status : Status) (before after : Outlets) → status ≡ Memory → Wants before after
-    → IfSome old (λ bytes. is_calls (looked_at TRACE_MAX bytes) ≡ false → Draws v bytes left status before after)
+pub want_drawn : (v : View) (old left : Option (List ℕ)) (status : Status) (before after : Outlets)
+    → status ≡ Memory → Wants before after
+    → IfSome old (λ bytes. Draws v bytes left status before after)
 want_drawn v None left status before after is told = tt
-want_drawn v (Some bytes) left status before after is told = λ other. inl (is, told)
+want_drawn v (Some bytes) left status before after is told = inl (is, told)
+
+-- how histories were drawn, if what says that something is chosen is said in other words
+pub histories_drawn : (v : View) (text : List ℕ) (status : Status) (end : calls.Status)
+    (old new : Outlets) (view : CallsView) → (Chooses view → AsksForPart v)
+    → status ≡ status_as end
+    → histories.Draws (Chooses view) text end (outlets_of old) (outlets_of new)
+    → DrawsHistories v text status old new
+histories_drawn v text status end old new view asks is (inl one) = (end, is, inl one)
+histories_drawn v text status end old new view asks is (inr (keeps, inl (usage, chosen))) =
+    (end, is, inr (keeps, inl (usage, asks chosen)))
+histories_drawn v text status end old new view asks is (inr (keeps, inr other)) =
+    (end, is, inr (keeps, inr other))
 
 pub no_fault_read : (text : List ℕ) (t : Recounted) → ReadsAs text t → HasNoFaultYet text
 no_fault_read text t r = inl (t, r.told)
 
-pub no_fault_unfinished : (text : List ℕ) → RefusedFor text Unfinished → HasNoFaultYet text
-no_fault_unfinished text r = inr r.told
+pub no_fault_yet : (text : List ℕ) → RefusedFor text Unfinished → HasNoFaultYet text
+no_fault_yet text r = inr r.told
 
-pub cut_off_refused : (text : List ℕ) (fault : TraceFault) (status : Status) (before after : Outlets) → RefusedFor text fault → IsLasting fault → TellsFault (story text fault) fault status before after → DrawsCutOff text status before after
-cut_off_refused text fault status before after refused is told = inr (inr (record { fault = fault; refused = refused; told = told }, is))
+pub cut_off_refused : (text : List ℕ) (fault : TraceFault) (status : Status)
+    (before after : Outlets) → RefusedFor text fault → IsLasting fault
+    → TellsFault (story text fault) fault status before after
+    → DrawsTraceSoFar text status before after
+cut_off_refused text fault status before after refused is told =
+    inr (inr (record { fault = fault; refused = refused; told = told }, is))
 
 pub wrote_all : (old new : Option (List ℕ)) (bytes : List ℕ) → Appends old new bytes → Wrote old new
 wrote_all old new bytes is = (bytes, is)
 
-pub wrote_prefix : (old new : Option (List ℕ)) (bytes : List ℕ) → AppendsPrefix old new bytes → WrotePrefix old new
+pub wrote_prefix : (old new : Option (List ℕ)) (bytes : List ℕ) → AppendsPrefix old new bytes
+    → WrotePrefix old new
 wrote_prefix old new bytes is = (bytes, is)
 
-pub cut_told : (v : View) (t : Recounted) (old new : Outlets) → (is_wide (window_on v.range (length t.entries)) ≡ true → Puts old.notes new.notes cut_note)
-    → (is_wide (window_on v.range (length t.entries)) ≡ true → IsWrittenOut new.notes) → (is_wide (window_on v.range (length t.entries)) ≡ false → new.notes ≡ old.notes) → TellsCut v t old new
-cut_told v t old new puts out keeps = elim (is_wide (window_on v.range (length t.entries))) as (λ b. is_wide (window_on v.range (length t.entries)) ≡ b → TellsCut v t old new) [
-  | true ↦ λ e. inr (e, (puts e, out e))
-  | false ↦ λ e. inl (e, keeps e)
-] refl
+pub ruleset wrote = (wrote_all, wrote_prefix)
+
+pub cut_told : (v : View) (t : Recounted) (old new : Outlets)
+    → (is_wide (window_on v.range (length t.entries)) ≡ true → Puts old.notes new.notes cut_note)
+    → (is_wide (window_on v.range (length t.entries)) ≡ true → IsWrittenOut new.notes)
+    → (is_wide (window_on v.range (length t.entries)) ≡ false → new.notes ≡ old.notes)
+    → TellsCut v t old new
+cut_told v t old new puts out keeps =
+    elim (is_wide (window_on v.range (length t.entries))) as (λ b. is_wide
+    (window_on v.range (length t.entries)) ≡ b → TellsCut v t old new) [
+      | true ↦ λ e. inr (e, (puts e, out e))
+      | false ↦ λ e. inl (e, keeps e)
+    ] refl

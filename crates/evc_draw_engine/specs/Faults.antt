@@ -1,13 +1,15 @@
--- What is drawn of a text that is refused for one of its lines: the trace of the lines before that line, and of the line itself
--- with the right reply if its reply alone is wrong.
-use Rattle.std.specs.Prelude.{ℕ, ◌+◌, ◌-◌, zero, suc, ◌==◌, nat_lt, List, [], ◌++◌, length, take, drop, Option, Some, None, unwrap_or, Result, Ok, Err, codes, if◌then◌else◌}
+-- What is drawn of a text that is refused for one of its lines: the trace of the lines before that
+-- line, and of the line itself with the right reply if its reply alone is wrong.
+use Rattle.std.specs.Prelude.{ℕ, ◌+◌, ◌-◌, zero, suc, ◌==◌, nat_lt, List, [], ◌++◌, length, take}
+use Rattle.std.specs.Prelude.{drop, Option, Some, None, unwrap_or, Result, Ok, Err, codes}
+use Rattle.std.specs.Prelude.{if◌then◌else◌}
 use Rattle.std.specs.List.{position_from}
 use Rattle.ec_core.specs.declared.act.Reply.{Reply}
 use Rattle.ec_heading.specs.Spelling.{reply_word}
 use Rattle.ec_trace.specs.Recounted.{Recounted}
 use Rattle.ec_trace.specs.Outcome.{outcome}
 use Rattle.ec_trace.specs.declared.fault.TraceFault.{TraceFault}
-use Rattle.ec_trace.specs.declared.fault.TraceFault.TheVariants.{BadLine, Refused, WrongReply, Unfinished, TooLarge, Read, Memory}
+use Rattle.ec_trace.specs.declared.fault.TraceFault.TheVariants.{BadLine, Refused, WrongReply}
 use Rattle.ec_trace.specs.declared.read.TheConstants.{TRACE_MAX}
 
 -- THE LINES OF A TEXT
@@ -46,7 +48,8 @@ abbrev pub with_right : List ℕ → Option Reply → List ℕ
 with_right line None = []
 with_right line (Some r) = with_reply line r
 
--- the text of the lines before a faulty one, and of that with its right reply if it has one, with the last line of a trace
+-- the text of the lines before a faulty one, and of that with its right reply if it has one, with
+-- the last line of a trace
 unfoldable pub mended : List ℕ → List ℕ → Option Reply → List ℕ
 mended before line right = before ++ with_right line right ++ codes "end\n"
 
@@ -65,22 +68,15 @@ abbrev pub fault_line : TraceFault → Option ℕ
 fault_line (BadLine n) = Some n
 fault_line (Refused n r) = Some n
 fault_line (WrongReply n r) = Some n
-fault_line Unfinished = None
-fault_line TooLarge = None
-fault_line Read = None
-fault_line Memory = None
+fault_line _ = None
 
 -- the right reply, if the reply alone is wrong
 abbrev pub right_of : TraceFault → Option Reply
-right_of (BadLine n) = None
-right_of (Refused n r) = None
 right_of (WrongReply n r) = Some r
-right_of Unfinished = None
-right_of TooLarge = None
-right_of Read = None
-right_of Memory = None
+right_of _ = None
 
--- the position of the line's entry, if a history of k entries was read: behind them, or that of the last
+-- the position of the line's entry, if a history of k entries was read: behind them, or that of
+-- the last
 abbrev pub position_in : Option Reply → ℕ → ℕ
 position_in None k = k
 position_in (Some r) k = k - 1

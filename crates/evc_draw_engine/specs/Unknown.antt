@@ -1,27 +1,21 @@
 -- Names that were chosen, and that the trace does not declare.
-use Rattle.std.specs.Prelude.{ℕ, Bool, true, false, not, ◌||◌, List, [], ◌++◌, Option, Some, None, codes, if◌then◌else◌}
+use Rattle.std.specs.Prelude.{ℕ, Bool, true, false, not, ◌||◌, List, [], ◌++◌, Option, Some, None}
+use Rattle.std.specs.Prelude.{codes, if◌then◌else◌}
 use Rattle.std.specs.List.{flat_map, list_any}
 use Rattle.ec_count.specs.Names.{find_name}
 use Rattle.ec_count.specs.declared.target.Target.{Target}
-use Rattle.ec_count.specs.declared.target.Target.TheVariants.{Worker, Event, Sequencer, Cells, Group}
+use Rattle.ec_count.specs.declared.target.Target.TheVariants.{Worker}
 use Rattle.ec_heading.specs.Spelling.{Named}
 use Rattle.ec_draw.specs.declared.chosen.Choice.{Choice}
 
 abbrev pub is_worker : Option Target → Bool
-is_worker None = false
 is_worker (Some (Worker w)) = true
-is_worker (Some (Event e)) = false
-is_worker (Some (Sequencer q)) = false
-is_worker (Some (Cells x n)) = false
-is_worker (Some (Group g)) = false
+is_worker _ = false
 
 abbrev pub is_object : Option Target → Bool
 is_object None = false
 is_object (Some (Worker w)) = false
-is_object (Some (Event e)) = true
-is_object (Some (Sequencer q)) = true
-is_object (Some (Cells x n)) = true
-is_object (Some (Group g)) = true
+is_object (Some t) = true
 
 -- whether a name that was chosen among the workers, or among the objects, stands for none
 abbrev pub lacks_worker : Named → List ℕ → Bool
@@ -31,7 +25,8 @@ abbrev pub lacks_object : Named → List ℕ → Bool
 lacks_object words s = not (is_object (find_name s words))
 
 abbrev pub has_unknown : Choice → Named → Bool
-has_unknown c words = list_any (λ s. lacks_worker words s.now) c.workers.now || list_any (λ s. lacks_object words s.now) c.objects.now
+has_unknown c words = list_any (λ s. lacks_worker words s.now) c.workers.now
+    || list_any (λ s. lacks_object words s.now) c.objects.now
 
 unfoldable pub unknown_note : List ℕ → List ℕ → List ℕ
 unknown_note what name = what ++ name ++ codes " is declared\n"
@@ -44,4 +39,5 @@ object_note words s = if lacks_object words s then unknown_note (codes "no objec
 
 -- each of these names in a line
 abbrev pub unknown_notes : Choice → Named → List ℕ
-unknown_notes c words = flat_map (λ s. worker_note words s.now) c.workers.now ++ flat_map (λ s. object_note words s.now) c.objects.now
+unknown_notes c words = flat_map (λ s. worker_note words s.now) c.workers.now
+    ++ flat_map (λ s. object_note words s.now) c.objects.now

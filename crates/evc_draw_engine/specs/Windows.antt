@@ -1,5 +1,6 @@
 -- Which entries of a trace are drawn.
-use Rattle.std.specs.Prelude.{ℕ, ◌-◌, ◌==◌, ◌&&◌, min, max, Bool, not, nat_le, nat_lt, List, ◌++◌, codes, decimal, if◌then◌else◌}
+use Rattle.std.specs.Prelude.{ℕ, ◌-◌, ◌==◌, ◌&&◌, min, max, Bool, not, nat_le, nat_lt, List, ◌++◌}
+use Rattle.std.specs.Prelude.{codes, decimal, if◌then◌else◌}
 use Rattle.ec_draw.specs.declared.window.Window.{Window}
 use Rattle.ec_draw.specs.declared.window.TheConstants.{COLUMNS_MAX}
 use Rattle.evc_draw_task.specs.declared.choice.Range.{Range}
@@ -17,7 +18,8 @@ is_wide w = nat_lt COLUMNS_MAX (w.to - w.from)
 abbrev pub last_of : Window → Window
 last_of w = record { from = max w.from (w.to - COLUMNS_MAX); to = w.to }
 
--- what is drawn of n columns: of an accepted trace its entries, and of a refused one those up to the faulty line, which has a column
+-- what is drawn of n columns: of an accepted trace its entries, and of a refused one those up to
+-- the faulty line, which has a column
 abbrev pub window_for : Range → ℕ → Window
 window_for r n = last_of (window_on r n)
 
@@ -43,4 +45,5 @@ unfoldable pub range_words : Range → List ℕ
 range_words r = codes "from " ++ decimal r.from ++ last_words r.to
 
 unfoldable pub empty_note : Range → ℕ → List ℕ
-empty_note r n = codes "no entry " ++ range_words r ++ codes ": the trace has " ++ decimal n ++ codes " entries\n"
+empty_note r n = codes "no entry " ++ range_words r ++ codes ": the trace has " ++ decimal n
+    ++ codes " entries\n"

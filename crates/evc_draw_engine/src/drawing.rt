@@ -1,12 +1,13 @@
 //! A trace in; a picture of it out.
 ghost use Rattle.std.specs.Prelude.{◌≡◌, Some, codes, false, true, IfSome, length};
-ghost use Rattle.ec_text.specs.Inputs.{looked_at};
 ghost use Rattle.ec_text.specs.Puts.{Puts, IsWrittenOut};
 ghost use Rattle.ec_trace.specs.declared.read.TheConstants.{TRACE_MAX};
 ghost use Rattle.evc_engine.specs.declared.status.Status.TheVariants.{InputOutput, Memory};
 ghost use Rattle.ec_draw.specs.Chosen.{chosen_targets};
 ghost use Rattle.ec_draw.specs.Pictures.{kept};
-ghost use Rattle.evc_draw_engine.specs.Draws.{CutOffFault, Drawn, Draws, DrawsCutOff, DrawsText, IsDrawable, TellsFault, columns_for, is_calls, shapes_for, story};
+ghost use Rattle.evc_draw_engine.specs.Draws.{CutOffFault, Drawn, Draws, DrawsCutOff, DrawsText};
+ghost use Rattle.evc_draw_engine.specs.Draws.{DrawsTrace, DrawsTraceSoFar, IsDrawable, TellsFault};
+ghost use Rattle.evc_draw_engine.specs.Draws.{columns_for, shapes_for, story};
 ghost use Rattle.evc_draw_engine.specs.Faults.{position_in, right_of};
 ghost use Rattle.evc_draw_engine.specs.Windows.{cut_note, is_wide, window_on};
 
@@ -62,7 +63,8 @@ fn text_of(
     Ok(text)
 }
 
-/// Returns the picture of a trace, of which so many columns are drawn, with what is to be said of a faulty line.
+/// Returns the picture of a trace, of which so many columns are drawn, with what is to be said of a
+/// faulty line.
 fn document(
     alloc: Global,
     view: &View<'_>,
@@ -112,7 +114,7 @@ fn say_cut<N: Write>(range: Range, entries: usize, notes: &mut Out<'_, N>)
 }
 
 /// Writes the picture of a trace that has each name and some entry.
-#[tactic(auto, using(crate::proofs::Whole::wrote_all, crate::proofs::Whole::wrote_prefix, crate::proofs::Whole::cut_told))]
+#[tactic(auto, using(crate::proofs::Whole::wrote, crate::proofs::Whole::cut_told))]
 fn write_whole<W: Write, N: Write>(
     alloc: Global,
     traced: &Traced,
@@ -166,7 +168,7 @@ fn write_drawn<W: Write, N: Write>(
 }
 
 /// Writes the picture of a history up to a faulty line, and reports the fault.
-#[tactic(auto, using(crate::proofs::Whole::wrote_all, crate::proofs::Whole::wrote_prefix))]
+#[tactic(auto, using(crate::proofs::Whole::wrote))]
 fn write_story<W: Write, N: Write>(
     alloc: Global,
     view: &View<'_>,
@@ -175,7 +177,8 @@ fn write_story<W: Write, N: Write>(
     out: &mut W,
     notes: &mut Out<'_, N>,
 ) -> Status
-    requires { note.now.position ≡ position_in (right_of note.now.fault) (length traced.now.entries) }
+    requires { note.now.position ≡ position_in (right_of note.now.fault)
+        (length traced.now.entries) }
     ensures ends { TellsFault (Some traced.now) note.now.fault result
         (record { out = W.contents out.old; notes = notes.old })
         (record { out = W.contents out.new; notes = notes.new }) }
@@ -249,15 +252,15 @@ fn tell_fault<W: Write, N: Write>(
     }
 }
 
-/// Draws a text that was read to its end.
-fn draw_whole<W: Write, N: Write>(
+/// Draws a trace that was read to its end.
+fn draw_trace<W: Write, N: Write>(
     alloc: Global,
     view: &View<'_>,
     text: &[u8],
     out: &mut W,
     notes: &mut Out<'_, N>,
 ) -> Status
-    ensures ends { DrawsText view.now text.now result
+    ensures ends { DrawsTrace view.now text.now result
         (record { out = W.contents out.old; notes = notes.old })
         (record { out = W.contents out.new; notes = notes.new }) }
     ensures written { IsWrittenOut notes.old → IsWrittenOut notes.new }
@@ -277,7 +280,7 @@ fn draw_text<W: Write, N: Write>(
     out: &mut W,
     notes: &mut Out<'_, N>,
 ) -> Status
-    ensures ends { is_calls text.now ≡ false → DrawsText view.now text.now result
+    ensures ends { DrawsText view.now text.now result
         (record { out = W.contents out.old; notes = notes.old })
         (record { out = W.contents out.new; notes = notes.new }) }
     ensures written { IsWrittenOut notes.old → IsWrittenOut notes.new }
@@ -285,11 +288,11 @@ fn draw_text<W: Write, N: Write>(
     if is_calls(text) {
         return draw_histories(alloc, view, text, out, notes);
     }
-    draw_whole(alloc, view, text, out, notes)
+    draw_trace(alloc, view, text, out, notes)
 }
 
 /// Returns the first fault of a text behind which a read failed, if it has one.
-#[tactic(auto, using(crate::proofs::Whole::no_fault_read, crate::proofs::Whole::no_fault_unfinished))]
+#[tactic(auto, using(crate::proofs::Whole::no_fault_read, crate::proofs::Whole::no_fault_yet))]
 fn cut_off_fault(alloc: Global, text: &[u8]) -> Option<TraceFault>
     ensures { CutOffFault text.now result }
 {
@@ -300,8 +303,38 @@ fn cut_off_fault(alloc: Global, text: &[u8]) -> Option<TraceFault>
     }
 }
 
-/// Draws a text behind which a read failed.
+/// Says that a read failed.
+fn read_fault<N: Write>(notes: &mut Out<'_, N>) -> Status
+    ensures status { result ≡ InputOutput }
+    ensures puts { Puts notes.old notes.new (codes "read fault\n") }
+    ensures written { IsWrittenOut notes.new }
+{
+    notes.say(b"read fault\n");
+    Status::InputOutput
+}
+
+/// Draws the beginning of a trace, behind which a read failed.
 #[tactic(auto, using(crate::proofs::Whole::cut_off_refused))]
+fn draw_trace_so_far<W: Write, N: Write>(
+    alloc: Global,
+    view: &View<'_>,
+    text: &[u8],
+    out: &mut W,
+    notes: &mut Out<'_, N>,
+) -> Status
+    ensures ends { DrawsTraceSoFar text.now result
+        (record { out = W.contents out.old; notes = notes.old })
+        (record { out = W.contents out.new; notes = notes.new }) }
+    ensures written { IsWrittenOut notes.old → IsWrittenOut notes.new }
+{
+    match cut_off_fault(alloc, text) {
+        None => read_fault(notes),
+        Some(TraceFault::Memory | TraceFault::Read) => want(notes),
+        Some(fault) => tell_fault(alloc, view, text, &fault, out, notes),
+    }
+}
+
+/// Draws a text behind which a read failed: what there is of a trace, and nothing of histories.
 fn draw_cut_off<W: Write, N: Write>(
     alloc: Global,
     view: &View<'_>,
@@ -314,18 +347,14 @@ fn draw_cut_off<W: Write, N: Write>(
         (record { out = W.contents out.new; notes = notes.new }) }
     ensures written { IsWrittenOut notes.old → IsWrittenOut notes.new }
 {
-    match cut_off_fault(alloc, text) {
-        None => {
-            notes.say(b"read fault\n");
-            Status::InputOutput
-        }
-        Some(TraceFault::Memory | TraceFault::Read) => want(notes),
-        Some(fault) => tell_fault(alloc, view, text, &fault, out, notes),
+    if is_calls(text) {
+        return read_fault(notes);
     }
+    draw_trace_so_far(alloc, view, text, out, notes)
 }
 
-/// Reads a trace, and writes a picture of it, or of what came before its first fault; notes say what is wrong. A text of histories of
-/// calls is drawn as such.
+/// Reads a trace, and writes a picture of it, or of what came before its first fault; notes say
+/// what is wrong. A text of histories of calls is drawn as such.
 ///
 /// Nothing is written to `out` before the input was read to its end.
 pub fn draw<R: Read, W: Write, N: Write>(
@@ -335,7 +364,8 @@ pub fn draw<R: Read, W: Write, N: Write>(
     out: &mut W,
     notes: &mut Out<'_, N>,
 ) -> Status
-    ensures ends { IfSome (R.remaining reader.old) (λ bytes. is_calls (looked_at TRACE_MAX bytes) ≡ false → Draws view.now bytes (R.remaining reader.new) result
+    ensures ends { IfSome (R.remaining reader.old)
+        (λ bytes. Draws view.now bytes (R.remaining reader.new) result
         (record { out = W.contents out.old; notes = notes.old })
         (record { out = W.contents out.new; notes = notes.new })) }
     ensures written { IsWrittenOut notes.old → IsWrittenOut notes.new }

@@ -1,14 +1,25 @@
 //! The elements of a picture.
-ghost use Rattle.std.specs.Prelude.{◌≤◌};
+ghost use Rattle.std.specs.Prelude.{◌≡◌, ◌≤◌};
 
 use crate::names::Name;
 use std::alloc::AllocError;
+
+/// Whether there was memory for what was put.
+pub(crate) type Put = Result<(), AllocError>;
 
 /// A place in a picture, in pixels.
 #[derive(Clone, Copy)]
 pub(crate) struct Place {
     pub(crate) x: u64,
     pub(crate) y: u64,
+}
+
+/// Returns the place with these coordinates.
+pub(crate) fn xy(x: u64, y: u64) -> Place
+    ensures across { result.x ≡ x }
+    ensures down { result.y ≡ y }
+{
+    Place { x, y }
 }
 
 impl Place {
@@ -18,12 +29,7 @@ impl Place {
     }
 }
 
-pub(crate) fn put_line(
-    out: &mut String,
-    class: &str,
-    from: Place,
-    to: Place,
-) -> Result<(), AllocError> {
+pub(crate) fn put_line(out: &mut String, class: &str, from: Place, to: Place) -> Put {
     let (x1, y1, x2, y2) = (from.x, from.y, to.x, to.y);
     write!(
         out,
@@ -31,12 +37,7 @@ pub(crate) fn put_line(
     )
 }
 
-pub(crate) fn put_rect(
-    out: &mut String,
-    at: Place,
-    width: u64,
-    height: u64,
-) -> Result<(), AllocError> {
+pub(crate) fn put_rect(out: &mut String, at: Place, width: u64, height: u64) -> Put {
     let Place { x, y } = at;
     write!(
         out,
@@ -45,12 +46,7 @@ pub(crate) fn put_rect(
 }
 
 /// Puts the beginning of a text. The class may have a second word, which makes the text small.
-pub(crate) fn put_text_start(
-    out: &mut String,
-    class: &str,
-    small: &str,
-    at: Place,
-) -> Result<(), AllocError> {
+pub(crate) fn put_text_start(out: &mut String, class: &str, small: &str, at: Place) -> Put {
     write!(
         out,
         "<text class='{class}{small}' x='{}' y='{}'>",
@@ -58,23 +54,18 @@ pub(crate) fn put_text_start(
     )
 }
 
-pub(crate) fn put_text_end(out: &mut String) -> Result<(), AllocError> {
+pub(crate) fn put_text_end(out: &mut String) -> Put {
     out.push_str("</text>\n")
 }
 
-pub(crate) fn put_number(
-    out: &mut String,
-    class: &str,
-    at: Place,
-    number: u64,
-) -> Result<(), AllocError> {
+pub(crate) fn put_number(out: &mut String, class: &str, at: Place, number: u64) -> Put {
     put_text_start(out, class, "", at)?;
     write!(out, "{number}")?;
     put_text_end(out)
 }
 
 /// Puts the name before a row.
-pub(crate) fn put_row_name(out: &mut String, at: Place, name: Name<'_>) -> Result<(), AllocError> {
+pub(crate) fn put_row_name(out: &mut String, at: Place, name: Name<'_>) -> Put {
     let small = if name.len() > 17 { " long" } else { "" };
     put_text_start(out, "name", small, at)?;
     write!(out, "{name}")?;

@@ -3,7 +3,9 @@ ghost use Rattle.std.specs.Prelude.{◌≡◌, ◌≤◌, ◌<◌, ◌==◌, ◌
 ghost use Rattle.std.specs.List.{position_from};
 ghost use Rattle.ec_heading.specs.Spelling.{reply_word};
 ghost use Rattle.evc_engine.specs.Checks.{ReadsAs};
-ghost use Rattle.evc_draw_engine.specs.Faults.{before_line, behind, behind_line, fault_line, first_line, history, line_at, mended, place_of, position_in, right_of, with_reply, with_right};
+ghost use Rattle.evc_draw_engine.specs.Faults.{before_line, behind, behind_line, fault_line, first_line};
+ghost use Rattle.evc_draw_engine.specs.Faults.{history, line_at, mended, place_of, position_in, right_of};
+ghost use Rattle.evc_draw_engine.specs.Faults.{with_reply, with_right};
 ghost use Rattle.evc_draw_engine.specs.Draws.{RefusedOr};
 
 use ec_core::Reply;
@@ -156,13 +158,7 @@ pub(crate) fn history(
     match read_text(alloc, mended.as_slice()) {
         Ok(traced) => Ok(Some(traced)),
         Err(TraceFault::Memory | TraceFault::Read) => Err(AllocError),
-        Err(
-            TraceFault::BadLine(_)
-            | TraceFault::Refused(_, _)
-            | TraceFault::WrongReply(_, _)
-            | TraceFault::Unfinished
-            | TraceFault::TooLarge,
-        ) => Ok(None),
+        Err(_) => Ok(None),
     }
 }
 
@@ -174,9 +170,7 @@ pub(crate) fn fault_line(fault: &TraceFault) -> Option<u64>
         TraceFault::BadLine(number)
         | TraceFault::Refused(number, _)
         | TraceFault::WrongReply(number, _) => Some(number),
-        TraceFault::Unfinished | TraceFault::TooLarge | TraceFault::Read | TraceFault::Memory => {
-            None
-        }
+        _ => None,
     }
 }
 
@@ -186,12 +180,7 @@ pub(crate) fn right_of(fault: &TraceFault) -> Option<Reply>
 {
     match *fault {
         TraceFault::WrongReply(_, right) => Some(right),
-        TraceFault::BadLine(_)
-        | TraceFault::Refused(_, _)
-        | TraceFault::Unfinished
-        | TraceFault::TooLarge
-        | TraceFault::Read
-        | TraceFault::Memory => None,
+        _ => None,
     }
 }
 

@@ -1,25 +1,20 @@
 //! What the audits of groups find: shades over accepting tries, and arrows from puts to gets.
 ghost use Rattle.std.specs.Prelude.{◌≤◌};
 
-use crate::elements::{Place, put_rect};
+use crate::elements::{Put, put_rect, xy};
 use crate::sheet::{ROW, Sheet};
 use crate::words::{put_delivery_words, put_version_words};
 use ec_draw::{Arrow, Shade};
-use std::alloc::AllocError;
 
 /// Puts a shade over its columns in the row of its reader.
-pub(crate) fn put_shade(
-    out: &mut String,
-    sheet: &Sheet<'_>,
-    shade: &Shade,
-) -> Result<(), AllocError> {
+pub(crate) fn put_shade(out: &mut String, sheet: &Sheet<'_>, shade: &Shade) -> Put {
     out.push_str("<g class='version'><title>")?;
     put_version_words(out, sheet.names, shade)?;
     out.push_str("</title>\n")?;
     let x = sheet.edge(shade.span.first);
     let y = sheet.row(shade.accepted.worker) + 2;
     let width = sheet.end_of(shade.span.last).saturating_sub(x);
-    put_rect(out, Place { x, y }, width, 72)?;
+    put_rect(out, xy(x, y), width, 72)?;
     out.push_str("</g>\n")
 }
 
@@ -48,11 +43,7 @@ fn lane(y: u64, other: u64, number: u64) -> u64
 }
 
 /// Puts the arrow of a delivery. It goes along the consumer's row, in one of three lanes.
-pub(crate) fn put_arrow(
-    out: &mut String,
-    sheet: &Sheet<'_>,
-    arrow: &Arrow,
-) -> Result<(), AllocError> {
+pub(crate) fn put_arrow(out: &mut String, sheet: &Sheet<'_>, arrow: &Arrow) -> Put {
     out.push_str("<g class='delivery'><title>")?;
     put_delivery_words(out, sheet.names, arrow)?;
     out.push_str("</title>\n")?;

@@ -1,8 +1,9 @@
 //! The picture in a page of HTML, in which it is scrolled and zoomed without a server.
 
+use crate::elements::Put;
 use crate::sheet::Sheet;
 use crate::svg::put_svg;
-use std::alloc::{AllocError, Global};
+use std::alloc::Global;
 
 /// The page before the picture.
 pub(crate) const BEGINNING: &str = "<!DOCTYPE html>
@@ -56,11 +57,7 @@ addEventListener('wheel', event => {
 ";
 
 /// Puts the page of a picture.
-pub(crate) fn put_html(
-    out: &mut String,
-    alloc: Global,
-    sheet: &Sheet<'_>,
-) -> Result<(), AllocError> {
+pub(crate) fn put_html(out: &mut String, alloc: Global, sheet: &Sheet<'_>) -> Put {
     out.push_str(BEGINNING)?;
     put_svg(out, alloc, sheet)?;
     out.push_str(END)

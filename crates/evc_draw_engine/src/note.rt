@@ -1,7 +1,7 @@
 //! What is said of a faulty line.
 ghost use Rattle.std.specs.Prelude.{◌≤◌};
 
-use crate::elements::{Place, put_line, put_text_end, put_text_start, squeeze};
+use crate::elements::{Put, put_line, put_text_end, put_text_start, squeeze, xy};
 use crate::names::{Plain, Returned};
 use crate::sheet::Sheet;
 use ec_core::Act;
@@ -107,7 +107,7 @@ fn add_reads(
     note: &Note<'_>,
     round: &Round,
     dots: &[Dot],
-) -> Result<(), AllocError> {
+) -> Put {
     for dot in dots {
         if let (true, Some(component), Some(number)) = (round.has(dot), dot.component, dot.number) {
             let before = note.position.saturating_sub(dot.position) as u64;
@@ -169,7 +169,7 @@ impl Told {
     }
 
     /// Puts it as lines, after an empty one.
-    pub(crate) fn put_lines(&self, out: &mut String) -> Result<(), AllocError> {
+    pub(crate) fn put_lines(&self, out: &mut String) -> Put {
         if !self.lines.is_empty() {
             out.push_str("\n")?;
         }
@@ -189,41 +189,25 @@ fn reply_in(line: &[u8]) -> &[u8] {
 }
 
 /// Puts the wrong reply of a faulty line, struck out, before the right one.
-fn put_wrong_reply(
-    out: &mut String,
-    sheet: &Sheet<'_>,
-    note: &Note<'_>,
-    dot: &Dot,
-) -> Result<(), AllocError> {
+fn put_wrong_reply(out: &mut String, sheet: &Sheet<'_>, note: &Note<'_>, dot: &Dot) -> Put {
     if !sheet.chosen.draws(dot.worker, &dot.op) {
         return Ok(());
     }
     let reply = reply_in(note.line);
     let shown = Plain(&reply[..reply.len().min(16)]);
-    let at = Place {
-        x: sheet.edge(dot.position) + 3,
-        y: sheet.row(dot.worker) + 66,
-    };
+    let at = xy(sheet.edge(dot.position) + 3, sheet.row(dot.worker) + 66);
     put_text_start(out, "struck", squeeze(reply.len()), at)?;
     write!(out, "= {shown}")?;
     put_text_end(out)
 }
 
 /// Puts a band over the column of a faulty line, and its wrong reply if it has one.
-fn put_column(out: &mut String, sheet: &Sheet<'_>, note: &Note<'_>) -> Result<(), AllocError> {
+fn put_column(out: &mut String, sheet: &Sheet<'_>, note: &Note<'_>) -> Put {
     if !sheet.picture.window.shows(note.position) {
         return Ok(());
     }
     let x = sheet.centre(note.position);
-    put_line(
-        out,
-        "wrong",
-        Place { x, y: 34 },
-        Place {
-            x,
-            y: sheet.below(),
-        },
-    )?;
+    put_line(out, "wrong", xy(x, 34), xy(x, sheet.below()))?;
     match (note.fault, sheet.picture.dots.last()) {
         (TraceFault::WrongReply(_, _), Some(dot)) => put_wrong_reply(out, sheet, note, dot),
         _ => Ok(()),
@@ -231,13 +215,13 @@ fn put_column(out: &mut String, sheet: &Sheet<'_>, note: &Note<'_>) -> Result<()
 }
 
 /// Puts what is said of a faulty line below the picture.
-pub(crate) fn put_note(out: &mut String, sheet: &Sheet<'_>, told: &Told) -> Result<(), AllocError> {
+pub(crate) fn put_note(out: &mut String, sheet: &Sheet<'_>, told: &Told) -> Put {
     if let Some(note) = &sheet.note {
         put_column(out, sheet, note)?;
     }
     let mut y = sheet.height();
     for line in told.lines.as_slice() {
-        put_text_start(out, "fault", "", Place { x: 16, y })?;
+        put_text_start(out, "fault", "", xy(16, y))?;
         write!(out, "{}", line.as_str())?;
         put_text_end(out)?;
         y = y.saturating_add(14);

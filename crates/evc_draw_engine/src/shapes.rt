@@ -1,17 +1,19 @@
 //! The bars, dots and marks of calls.
 ghost use Rattle.std.specs.Prelude.{◌≤◌};
 
-use crate::elements::{Place, digits, put_line, put_rect, put_text_end, put_text_start, squeeze};
+use crate::elements::{
+    Place, Put, digits, put_line, put_rect, put_text_end, put_text_start, squeeze, xy,
+};
 use crate::names::{Names, kind};
 use crate::sheet::Sheet;
 use crate::words::{put_call_words, put_open_words};
 use ec_core::{Act, Reply};
 use ec_draw::{Dot, Open};
 use ec_order::{Call, Placed};
-use std::alloc::AllocError;
 
-/// Puts the value that an act has beside its object: a threshold, the value of a put, or the worker that a component is handed to.
-fn put_act_words(out: &mut String, names: &Names<'_>, act: &Act) -> Result<(), AllocError> {
+/// Puts the value that an act has beside its object: a threshold, the value of a put, or the worker
+/// that a component is handed to.
+fn put_act_words(out: &mut String, names: &Names<'_>, act: &Act) -> Put {
     let word = kind(act);
     match *act {
         Act::Await(_, value) | Act::Put(_, value) => write!(out, "{word} {value}"),
@@ -33,7 +35,7 @@ fn letters(names: &Names<'_>, act: &Act) -> usize {
 }
 
 /// Puts the object of an act.
-fn put_object(out: &mut String, names: &Names<'_>, at: Place, act: &Act) -> Result<(), AllocError> {
+fn put_object(out: &mut String, names: &Names<'_>, at: Place, act: &Act) -> Put {
     let name = match *act {
         Act::Advance(event) | Act::Read(event) | Act::Await(event, _) | Act::Hand(event, _) => {
             names.event(event)
@@ -52,54 +54,42 @@ fn put_object(out: &mut String, names: &Names<'_>, at: Place, act: &Act) -> Resu
 }
 
 /// Puts the two lines above a bar: what was asked for, and of which object.
-fn put_label(out: &mut String, names: &Names<'_>, at: Place, act: &Act) -> Result<(), AllocError>
+fn put_label(out: &mut String, names: &Names<'_>, at: Place, act: &Act) -> Put
     requires { at.y ≤ 2000 }
 {
     let Place { x, y } = at;
-    put_text_start(
-        out,
-        "act",
-        squeeze(letters(names, act)),
-        Place { x, y: y + 14 },
-    )?;
+    put_text_start(out, "act", squeeze(letters(names, act)), xy(x, y + 14))?;
     put_act_words(out, names, act)?;
     put_text_end(out)?;
-    put_object(out, names, Place { x, y: y + 26 }, act)
+    put_object(out, names, xy(x, y + 26), act)
 }
 
 /// Puts where the last round of an await began, if that is a later one, and is shown.
-fn put_round(out: &mut String, sheet: &Sheet<'_>, call: &Call) -> Result<(), AllocError> {
+fn put_round(out: &mut String, sheet: &Sheet<'_>, call: &Call) -> Put {
     let window = sheet.picture.window;
     if call.round <= call.first || call.round < window.from || window.to < call.round {
         return Ok(());
     }
     let (x, y) = (sheet.edge(call.round), sheet.row(call.worker));
-    put_line(out, "round", Place { x, y: y + 32 }, Place { x, y: y + 54 })
+    put_line(out, "round", xy(x, y + 32), xy(x, y + 54))
 }
 
 /// Puts the number that was returned, below the end of the bar, if that is shown.
-fn put_reply(out: &mut String, sheet: &Sheet<'_>, call: &Call) -> Result<(), AllocError> {
+fn put_reply(out: &mut String, sheet: &Sheet<'_>, call: &Call) -> Put {
     let Reply::Number(number) = call.reply else {
         return Ok(());
     };
     if sheet.picture.window.to <= call.last {
         return Ok(());
     }
-    let at = Place {
-        x: sheet.bar_to(call.last),
-        y: sheet.row(call.worker) + 66,
-    };
+    let at = xy(sheet.bar_to(call.last), sheet.row(call.worker) + 66);
     put_text_start(out, "reply", squeeze(2 + digits(number)), at)?;
     write!(out, "= {number}")?;
     put_text_end(out)
 }
 
 /// Puts a completed call: its bar, which has its words as a title, its label and its reply.
-pub(crate) fn put_bar(
-    out: &mut String,
-    sheet: &Sheet<'_>,
-    placed: &Placed,
-) -> Result<(), AllocError> {
+pub(crate) fn put_bar(out: &mut String, sheet: &Sheet<'_>, placed: &Placed) -> Put {
     let call = &placed.call;
     write!(out, "<g class='{}'><title>", kind(&call.op))?;
     put_call_words(out, sheet.names, placed)?;
@@ -107,43 +97,29 @@ pub(crate) fn put_bar(
     let y = sheet.row(call.worker);
     let x = sheet.bar_from(call.first);
     let width = sheet.bar_to(call.last).saturating_sub(x);
-    put_rect(out, Place { x, y: y + 32 }, width, 22)?;
+    put_rect(out, xy(x, y + 32), width, 22)?;
     let x = sheet.edge(call.first) + 3;
-    put_label(out, sheet.names, Place { x, y }, &call.op)?;
+    put_label(out, sheet.names, xy(x, y), &call.op)?;
     put_round(out, sheet, call)?;
     put_reply(out, sheet, call)?;
     out.push_str("</g>\n")
 }
 
 /// Puts a pending call, whose bar goes on to the edge.
-pub(crate) fn put_open_bar(
-    out: &mut String,
-    sheet: &Sheet<'_>,
-    begun: &Open,
-) -> Result<(), AllocError> {
+pub(crate) fn put_open_bar(out: &mut String, sheet: &Sheet<'_>, begun: &Open) -> Put {
     write!(out, "<g class='open {}'><title>", kind(&begun.op))?;
     put_open_words(out, sheet.names, begun)?;
     out.push_str("</title>\n")?;
     let y = sheet.row(begun.worker);
     let x = sheet.bar_from(begun.first);
-    put_rect(
-        out,
-        Place { x, y: y + 32 },
-        sheet.width().saturating_sub(x),
-        22,
-    )?;
+    put_rect(out, xy(x, y + 32), sheet.width().saturating_sub(x), 22)?;
     let x = sheet.edge(begun.first) + 3;
-    put_label(out, sheet.names, Place { x, y }, &begun.op)?;
+    put_label(out, sheet.names, xy(x, y), &begun.op)?;
     out.push_str("</g>\n")
 }
 
 /// Puts the component that an entry read or raised, and what it read of it.
-fn put_component(
-    out: &mut String,
-    at: Place,
-    component: usize,
-    number: Option<u64>,
-) -> Result<(), AllocError> {
+fn put_component(out: &mut String, at: Place, component: usize, number: Option<u64>) -> Put {
     let letters = digits(component as u64)
         + match number {
             Some(number) => 1 + digits(number),
@@ -159,15 +135,12 @@ fn put_component(
 }
 
 /// Puts the dot of an entry.
-pub(crate) fn put_dot(out: &mut String, sheet: &Sheet<'_>, dot: &Dot) -> Result<(), AllocError> {
+pub(crate) fn put_dot(out: &mut String, sheet: &Sheet<'_>, dot: &Dot) -> Put {
     let (x, y) = (sheet.centre(dot.position), sheet.row(dot.worker));
     write!(out, "<circle r='3' cx='{x}' cy='{}'/>\n", y + 43)?;
     match dot.component {
         Some(component) => {
-            let at = Place {
-                x: x + 9,
-                y: y + 47,
-            };
+            let at = xy(x + 9, y + 47);
             put_component(out, at, component, dot.number)
         }
         None => Ok(()),
@@ -175,12 +148,7 @@ pub(crate) fn put_dot(out: &mut String, sheet: &Sheet<'_>, dot: &Dot) -> Result<
 }
 
 /// Puts the tie of a read or an await to the total that it returned.
-fn put_tie(
-    out: &mut String,
-    sheet: &Sheet<'_>,
-    from: Place,
-    call: &Call,
-) -> Result<(), AllocError> {
+fn put_tie(out: &mut String, sheet: &Sheet<'_>, from: Place, call: &Call) -> Put {
     let (Act::Read(event) | Act::Await(event, _)) = call.op else {
         return Ok(());
     };
@@ -192,15 +160,11 @@ fn put_tie(
     };
     let x = from.x;
     let y = sheet.scale(event.get(), curve).level(number);
-    put_line(out, "tie", from, Place { x, y })
+    put_line(out, "tie", from, xy(x, y))
 }
 
 /// Puts the mark of a call at its point, if that is shown, with its tie.
-pub(crate) fn put_mark(
-    out: &mut String,
-    sheet: &Sheet<'_>,
-    placed: &Placed,
-) -> Result<(), AllocError> {
+pub(crate) fn put_mark(out: &mut String, sheet: &Sheet<'_>, placed: &Placed) -> Put {
     let window = sheet.picture.window;
     if placed.point < window.from || window.to < placed.point {
         return Ok(());
@@ -211,7 +175,7 @@ pub(crate) fn put_mark(
         sheet.edge(placed.point)
     };
     let y = sheet.row(placed.call.worker) + 43;
-    put_tie(out, sheet, Place { x, y }, &placed.call)?;
+    put_tie(out, sheet, xy(x, y), &placed.call)?;
     write!(
         out,
         "<path class='mark' d='M {x} {y} m 0 -6 l 6 6 l -6 6 l -6 -6 z'/>\n"

@@ -3,8 +3,9 @@
 /// The beginning of a picture.
 pub(crate) const OPENING: &str = "<svg xmlns='http://www.w3.org/2000/svg'";
 
-/// How it looks. The colours are those of M. Okabe and K. Ito, which people who don't see all colours can tell apart; a pending call
-/// is dashed too, and each bar has its word. The words that an arrow may run across stand out from it.
+/// How it looks. The colours are those of M. Okabe and K. Ito, which people who don't see all
+/// colours can tell apart; a pending call is dashed too, and each bar has its word. The words that
+/// an arrow may run across stand out from it.
 pub(crate) const STYLE: &str = "<style>
 text { font-family: 'DejaVu Sans Mono', monospace; font-size: 10px; fill: #1f2933; }
 .paper { fill: #ffffff; }
@@ -50,6 +51,7 @@ text, circle, .tip { fill: #e4e7eb; }
 .fault, .struck { fill: #ff8a80; }
 }
 </style>
-<marker id='tip' markerUnits='userSpaceOnUse' markerWidth='10' markerHeight='10' refX='9' refY='4' orient='auto'><path class='tip' d='M 0 0 L 9 4 L 0 8 z'/></marker>
+<marker id='tip' markerUnits='userSpaceOnUse' markerWidth='10' markerHeight='10' refX='9' refY='4' \
+orient='auto'><path class='tip' d='M 0 0 L 9 4 L 0 8 z'/></marker>
 <path class='paper' d='M 0 0 H 100000 V 100000 H 0 z'/>
 ";

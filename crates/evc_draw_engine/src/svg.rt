@@ -1,6 +1,6 @@
 //! The picture as SVG.
 
-use crate::elements::{Place, put_line, put_number, put_row_name};
+use crate::elements::{Put, put_line, put_number, put_row_name, xy};
 use crate::findings::{put_arrow, put_shade};
 use crate::note::{Told, put_note};
 use crate::shapes::{put_bar, put_dot, put_mark, put_open_bar};
@@ -8,25 +8,25 @@ use crate::sheet::{LEFT, Scale, Sheet, greatest, least};
 use crate::style::{OPENING, STYLE};
 use ec_count::WorkerId;
 use ec_draw::{Curve, Dot, Plotted};
-use std::alloc::{AllocError, Global};
+use std::alloc::Global;
 
 /// Puts the beginning of a picture.
-fn put_header(out: &mut String, width: u64, height: u64) -> Result<(), AllocError> {
+fn put_header(out: &mut String, width: u64, height: u64) -> Put {
     write!(out, "{OPENING} width='{width}' height='{height}'")?;
     write!(out, " viewBox='0 0 {width} {height}'>\n{STYLE}")
 }
 
 /// Puts the row of a worker.
-fn put_row(out: &mut String, sheet: &Sheet<'_>, worker: WorkerId) -> Result<(), AllocError> {
+fn put_row(out: &mut String, sheet: &Sheet<'_>, worker: WorkerId) -> Put {
     let y = sheet.row(worker);
     let name = sheet.names.worker(worker);
-    put_row_name(out, Place { x: 124, y: y + 47 }, name)?;
-    let from = Place { x: LEFT, y: y + 43 };
+    put_row_name(out, xy(124, y + 47), name)?;
+    let from = xy(LEFT, y + 43);
     put_line(out, "zero", from, from.at(sheet.width()))
 }
 
 /// Puts the rows of the workers that are drawn.
-fn put_rows(out: &mut String, sheet: &Sheet<'_>) -> Result<(), AllocError> {
+fn put_rows(out: &mut String, sheet: &Sheet<'_>) -> Put {
     for number in 0..sheet.workers {
         if let Some(worker) = WorkerId::new(number) {
             if sheet.chosen.draws_worker(worker) {
@@ -38,16 +38,16 @@ fn put_rows(out: &mut String, sheet: &Sheet<'_>) -> Result<(), AllocError> {
 }
 
 /// Puts the column of an entry.
-fn put_column(out: &mut String, sheet: &Sheet<'_>, dot: &Dot) -> Result<(), AllocError> {
+fn put_column(out: &mut String, sheet: &Sheet<'_>, dot: &Dot) -> Put {
     let x = sheet.edge(dot.position);
     let y = sheet.below();
-    put_line(out, "grid", Place { x, y: 34 }, Place { x, y })?;
+    put_line(out, "grid", xy(x, 34), xy(x, y))?;
     let x = sheet.centre(dot.position);
-    put_number(out, "entry", Place { x, y: 30 }, dot.position as u64)
+    put_number(out, "entry", xy(x, 30), dot.position as u64)
 }
 
 /// Puts the line of a curve: at each moment's number up to the entry that comes then.
-fn put_path(out: &mut String, scale: &Scale, curve: &Curve) -> Result<(), AllocError> {
+fn put_path(out: &mut String, scale: &Scale, curve: &Curve) -> Put {
     let class = match curve.object {
         Plotted::Count(_) => "curve",
         Plotted::Balance(_) => "balance",
@@ -63,29 +63,20 @@ fn put_path(out: &mut String, scale: &Scale, curve: &Curve) -> Result<(), AllocE
 }
 
 /// Puts a curve, with its name and its least and its greatest number.
-fn put_curve(
-    out: &mut String,
-    sheet: &Sheet<'_>,
-    number: usize,
-    curve: &Curve,
-) -> Result<(), AllocError> {
+fn put_curve(out: &mut String, sheet: &Sheet<'_>, number: usize, curve: &Curve) -> Put {
     let y = sheet.base(number);
-    let from = Place { x: LEFT, y };
+    let from = xy(LEFT, y);
     put_line(out, "zero", from, from.at(sheet.width()))?;
-    put_row_name(
-        out,
-        Place { x: 124, y: y - 20 },
-        sheet.names.curve(&curve.object),
-    )?;
-    put_number(out, "count", Place { x: 124, y }, least(curve))?;
+    put_row_name(out, xy(124, y - 20), sheet.names.curve(&curve.object))?;
+    put_number(out, "count", xy(124, y), least(curve))?;
     if least(curve) != greatest(curve) {
-        put_number(out, "count", Place { x: 124, y: y - 44 }, greatest(curve))?;
+        put_number(out, "count", xy(124, y - 44), greatest(curve))?;
     }
     put_path(out, &sheet.scale(number, curve), curve)
 }
 
 /// Puts the curves that are drawn.
-fn put_curves(out: &mut String, sheet: &Sheet<'_>) -> Result<(), AllocError> {
+fn put_curves(out: &mut String, sheet: &Sheet<'_>) -> Put {
     for (number, curve) in sheet.picture.curves.iter().enumerate() {
         if sheet.chosen.draws_curve(&curve.object) {
             put_curve(out, sheet, number, curve)?;
@@ -95,7 +86,7 @@ fn put_curves(out: &mut String, sheet: &Sheet<'_>) -> Result<(), AllocError> {
 }
 
 /// Puts what stands behind the calls: the columns, the curves, and what the audits of groups find.
-fn put_back(out: &mut String, sheet: &Sheet<'_>) -> Result<(), AllocError> {
+fn put_back(out: &mut String, sheet: &Sheet<'_>) -> Put {
     put_rows(out, sheet)?;
     for dot in sheet.picture.dots.as_slice() {
         put_column(out, sheet, dot)?;
@@ -104,7 +95,7 @@ fn put_back(out: &mut String, sheet: &Sheet<'_>) -> Result<(), AllocError> {
 }
 
 /// Puts what the audits of groups find.
-fn put_findings(out: &mut String, sheet: &Sheet<'_>) -> Result<(), AllocError> {
+fn put_findings(out: &mut String, sheet: &Sheet<'_>) -> Put {
     for shade in sheet.picture.shades.as_slice() {
         if sheet.chosen.draws_shade(shade) {
             put_shade(out, sheet, shade)?;
@@ -119,7 +110,7 @@ fn put_findings(out: &mut String, sheet: &Sheet<'_>) -> Result<(), AllocError> {
 }
 
 /// Puts the bars of the calls.
-fn put_bars(out: &mut String, sheet: &Sheet<'_>) -> Result<(), AllocError> {
+fn put_bars(out: &mut String, sheet: &Sheet<'_>) -> Put {
     for placed in sheet.picture.calls.as_slice() {
         if sheet.chosen.draws(placed.call.worker, &placed.call.op) {
             put_bar(out, sheet, placed)?;
@@ -134,7 +125,7 @@ fn put_bars(out: &mut String, sheet: &Sheet<'_>) -> Result<(), AllocError> {
 }
 
 /// Puts the dots of the entries and the marks of the points.
-fn put_front(out: &mut String, sheet: &Sheet<'_>) -> Result<(), AllocError> {
+fn put_front(out: &mut String, sheet: &Sheet<'_>) -> Put {
     for dot in sheet.picture.dots.as_slice() {
         if sheet.chosen.draws(dot.worker, &dot.op) {
             put_dot(out, sheet, dot)?;
@@ -149,11 +140,7 @@ fn put_front(out: &mut String, sheet: &Sheet<'_>) -> Result<(), AllocError> {
 }
 
 /// Puts a picture as SVG.
-pub(crate) fn put_svg(
-    out: &mut String,
-    alloc: Global,
-    sheet: &Sheet<'_>,
-) -> Result<(), AllocError> {
+pub(crate) fn put_svg(out: &mut String, alloc: Global, sheet: &Sheet<'_>) -> Put {
     let told = Told::of(alloc, sheet)?;
     put_header(out, told.width(sheet), sheet.height() + told.height())?;
     put_back(out, sheet)?;

@@ -2,7 +2,9 @@
 ghost use Rattle.std.specs.Prelude.{◌≡◌};
 ghost use Rattle.std.specs.List.{flat_map, list_any};
 ghost use Rattle.ec_text.specs.Puts.{Puts, IsWrittenOut};
-ghost use Rattle.evc_draw_engine.specs.Unknown.{has_unknown, is_object, is_worker, lacks_object, lacks_worker, object_note, unknown_note, unknown_notes, worker_note};
+ghost use Rattle.evc_draw_engine.specs.Unknown.{has_unknown, is_object, is_worker, lacks_object};
+ghost use Rattle.evc_draw_engine.specs.Unknown.{lacks_worker, object_note, unknown_note, unknown_notes};
+ghost use Rattle.evc_draw_engine.specs.Unknown.{worker_note};
 
 use ec_count::{Target, Vocabulary};
 use ec_draw::Choice;
@@ -13,28 +15,14 @@ use std::io::Write;
 fn is_worker(target: Option<Target>) -> bool
     ensures { result ≡ is_worker target }
 {
-    match target {
-        Some(Target::Worker(_)) => true,
-        Some(Target::Event(_)) => false,
-        Some(Target::Sequencer(_)) => false,
-        Some(Target::Cells(_, _)) => false,
-        Some(Target::Group(_)) => false,
-        None => false,
-    }
+    matches!(target, Some(Target::Worker(_)))
 }
 
 /// Returns whether a name stands for an object.
 fn is_object(target: Option<Target>) -> bool
     ensures { result ≡ is_object target }
 {
-    match target {
-        Some(Target::Worker(_)) => false,
-        Some(Target::Event(_)) => true,
-        Some(Target::Sequencer(_)) => true,
-        Some(Target::Cells(_, _)) => true,
-        Some(Target::Group(_)) => true,
-        None => false,
-    }
+    !matches!(target, None | Some(Target::Worker(_)))
 }
 
 /// Returns whether a name that was chosen among the workers stands for none.

@@ -1,7 +1,8 @@
 //! Which entries are drawn.
 ghost use Rattle.std.specs.Prelude.{◌≡◌, ◌<◌, ◌≤◌, false};
 ghost use Rattle.ec_text.specs.Puts.{Puts, IsWrittenOut};
-ghost use Rattle.evc_draw_engine.specs.Windows.{empty_note, is_empty, is_whole, is_wide, last_of, last_words, range_words, window_for, window_on};
+ghost use Rattle.evc_draw_engine.specs.Windows.{empty_note, is_empty, is_whole, is_wide, last_of};
+ghost use Rattle.evc_draw_engine.specs.Windows.{last_words, range_words, window_for, window_on};
 
 use ec_draw::{COLUMNS_MAX, Window};
 use ec_text::Out;
@@ -26,12 +27,14 @@ pub(crate) fn is_wide(range: Range, entries: usize) -> bool
     window.to.saturating_sub(window.from) > COLUMNS_MAX
 }
 
-/// Returns what is drawn of so many columns: if a range has more than a picture has, the last of them.
+/// Returns what is drawn of so many columns: if a range has more than a picture has, the last of
+/// them.
 #[tactic(auto, using(crate::proofs::Columns::has_column, crate::proofs::Columns::is_narrow))]
 pub(crate) fn window_for(range: Range, columns: usize) -> Window
     ensures value { result ≡ window_for range columns }
     ensures narrow { is_wide result ≡ false }
-    ensures column { range.from < columns → columns ≤ range.to → (result.from < columns) × (result.to ≡ columns) }
+    ensures column { range.from < columns → columns ≤ range.to → (result.from < columns)
+        × (result.to ≡ columns) }
 {
     let window = window_on(range, columns);
     Window {
@@ -41,7 +44,7 @@ pub(crate) fn window_for(range: Range, columns: usize) -> Window
 }
 
 /// Returns whether no range is asked for.
-fn is_whole(range: Range) -> bool
+pub(crate) fn is_whole(range: Range) -> bool
     ensures { result ≡ is_whole range }
 {
     range.from == 0 && range.to == NO_END

@@ -1,20 +1,14 @@
 //! What is said of a shape: the title of its element, or its line in a text.
 
+use crate::elements::Put;
 use crate::names::{Asked, Names, Returned, kind};
 use ec_core::{Act, Reply};
 use ec_count::{EventId, WorkerId};
 use ec_draw::{Arrow, Open, Shade};
 use ec_order::Placed;
-use std::alloc::AllocError;
 
 /// Puts a call, as an entry of a trace would spell it.
-fn put_call(
-    out: &mut String,
-    names: &Names<'_>,
-    worker: WorkerId,
-    act: Act,
-    reply: Reply,
-) -> Result<(), AllocError> {
+fn put_call(out: &mut String, names: &Names<'_>, worker: WorkerId, act: Act, reply: Reply) -> Put {
     let asked = Asked { names, act };
     let returned = Returned(reply);
     write!(
@@ -26,11 +20,7 @@ fn put_call(
 }
 
 /// Puts a completed call, with its entries and its point.
-pub(crate) fn put_call_words(
-    out: &mut String,
-    names: &Names<'_>,
-    placed: &Placed,
-) -> Result<(), AllocError> {
+pub(crate) fn put_call_words(out: &mut String, names: &Names<'_>, placed: &Placed) -> Put {
     let call = &placed.call;
     put_call(out, names, call.worker, call.op, call.reply)?;
     let (first, last, point) = (call.first, call.last, placed.point);
@@ -38,11 +28,7 @@ pub(crate) fn put_call_words(
 }
 
 /// Puts a pending call, with its first entry.
-pub(crate) fn put_open_words(
-    out: &mut String,
-    names: &Names<'_>,
-    begun: &Open,
-) -> Result<(), AllocError> {
+pub(crate) fn put_open_words(out: &mut String, names: &Names<'_>, begun: &Open) -> Put {
     put_call(out, names, begun.worker, begun.op, Reply::Pending)?;
     write!(out, ", under way from entry {}", begun.first)
 }
@@ -54,16 +40,12 @@ fn put_finding(
     what: &str,
     event: EventId,
     number: u64,
-) -> Result<(), AllocError> {
+) -> Put {
     write!(out, "{what} {} {number}", names.group(event))
 }
 
 /// Puts a delivery, and where its item was put and got.
-pub(crate) fn put_delivery_words(
-    out: &mut String,
-    names: &Names<'_>,
-    arrow: &Arrow,
-) -> Result<(), AllocError> {
+pub(crate) fn put_delivery_words(out: &mut String, names: &Names<'_>, arrow: &Arrow) -> Put {
     let delivery = &arrow.delivery;
     put_finding(out, names, "delivery", arrow.count, delivery.number)?;
     let (producer, consumer) = (
@@ -78,11 +60,7 @@ pub(crate) fn put_delivery_words(
 }
 
 /// Puts an accepting try, with the values that it got and its entries.
-pub(crate) fn put_version_words(
-    out: &mut String,
-    names: &Names<'_>,
-    shade: &Shade,
-) -> Result<(), AllocError> {
+pub(crate) fn put_version_words(out: &mut String, names: &Names<'_>, shade: &Shade) -> Put {
     let accepted = &shade.accepted;
     put_finding(out, names, "version", shade.count, accepted.version)?;
     write!(out, " {}", names.worker(accepted.worker))?;

@@ -2,4 +2,4 @@ use Rattle.std.proofs.Common.{length}
 use Rattle.calls_draw.proofs.svg.put_note.Given as goal
 
 abbrev pub decreases-loop-line : goal.decreases-loop-line
-decreases-loop-line g l = length l.rest
+decreases-loop-line l = length l.rest

@@ -8,4 +8,5 @@ loop-line-init c = behind_none c.args.text.now
 
 pub loop-line-preserved : goal.loop-line-preserved
 loop-line-preserved c =
-    c.behind_line-rest.ensures ∙ ap behind_line c.loop-line.invariant ∙ behind_more c.loop-line._line c.args.text.now
+    c.behind_line-rest.ensures ∙ ap behind_line c.loop-line.invariant
+    ∙ behind_more c.loop-line._line c.args.text.now

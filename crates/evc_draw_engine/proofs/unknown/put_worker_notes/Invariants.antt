@@ -6,4 +6,5 @@ use Rattle.evc_draw_engine.proofs.unknown.put_worker_notes.Given as goal
 
 -- those so far
 abbrev pub invariant-loop-name : goal.invariant-loop-name
-invariant-loop-name g l = Puts l.initial.out l.out (flat_map (λ s. worker_note l.words s.now) (take l.name-index l.names))
+invariant-loop-name g l =
+    Puts l.initial.out l.out (flat_map (λ s. worker_note l.words s.now) (take l.name-index l.names))
