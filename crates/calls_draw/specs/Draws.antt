@@ -35,14 +35,14 @@ WritesOne text status old new =
     ⊎ ((status ≡ statuses.InputOutput) × AppendsPrefix old.out new.out picture
     × Puts old.notes new.notes (codes "write fault\n")))
 
--- nothing was written: what was chosen is not there, or memory ran out, or `check` has something to
--- say of the text
+-- nothing was written: what was chosen is not there, or memory ran out, or the text is not good, and
+-- what `check` says was said
 abbrev pub WritesNone : Type 0 → List ℕ → Status → Outlets → Outlets → Type 0
 WritesNone Chosen text status old new =
     Keeps old.out new.out
     × (((status ≡ statuses.Usage) × Chosen)
     ⊎ (((status ≡ statuses.Memory) × Puts old.notes new.notes (codes "no memory\n"))
-    ⊎ SaysAsCheck text status old.notes new.notes))
+    ⊎ ((status ≡ statuses.Done → ⊥) × SaysAsCheck text status old.notes new.notes)))
 
 -- how `draw_calls` ended, if this says that something is chosen
 abbrev pub Draws : Type 0 → List ℕ → Status → Outlets → Outlets → Type 0

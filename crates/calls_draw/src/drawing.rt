@@ -3,7 +3,7 @@ ghost use Rattle.std.specs.Prelude.{◌≡◌, ◌⊎◌, ◌<◌, List, [], ℕ
 ghost use Rattle.std.specs.Prelude.{false, IfOk, IsTrue, IsSome};
 ghost use Rattle.std.specs.List.{starts_with};
 ghost use Rattle.ec_text.specs.Puts.{IsWrittenOut, Puts};
-ghost use Rattle.calls_report.specs.declared.status.Status.TheVariants.{Memory};
+ghost use Rattle.calls_report.specs.declared.status.Status.TheVariants.{Done, Memory};
 ghost use Rattle.calls_draw.specs.Draws.{Draws, Chooses, IsNoteOn, SaysAsCheck, WritesOne};
 
 use crate::choice::{unknown_object, unknown_worker};
@@ -41,7 +41,8 @@ fn put_verdict<'a>(
     note: &mut Vec<u8>,
 ) -> Result<Status, AllocError>
     requires { note.old.items ≡ [] }
-    ensures { IfOk result (λ status. IsNoteOn text.now status note.new.items) }
+    ensures says { IfOk result (λ status. IsNoteOn text.now status note.new.items) }
+    ensures kept { IfOk result (λ status. status ≡ Done → IsSome last.new) }
 {
     let mut out = Out::new(note);
     let status = check_whole(alloc, text, last, &mut sink(), &mut out);
@@ -59,7 +60,8 @@ fn note_on<'a>(
     text: &'a [u8],
     last: &mut Option<LastJudged<'a>>,
 ) -> Result<Noted, AllocError>
-    ensures { IfOk result (λ n. IsNoteOn text.now n.status n.note.items) }
+    ensures says { IfOk result (λ n. IsNoteOn text.now n.status n.note.items) }
+    ensures kept { IfOk result (λ n. n.status ≡ Done → IsSome last.new) }
 {
     let mut note = Vec::new(alloc);
     let status = put_verdict(alloc, text, last, &mut note)?;
@@ -70,6 +72,7 @@ fn note_on<'a>(
 fn say_noted<N: Write>(noted: &Noted, notes: &mut Out<'_, N>) -> Status
     ensures says { (text : List ℕ) → IsNoteOn text noted.now.status noted.now.note.items
         → SaysAsCheck text result notes.old notes.new }
+    ensures status { result ≡ noted.now.status }
     ensures written { IsWrittenOut notes.new }
 {
     notes.say(noted.note.as_slice());

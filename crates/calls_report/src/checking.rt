@@ -1,6 +1,7 @@
 //! `check`: histories of calls in, an order of the calls of each out.
-ghost use Rattle.std.specs.Prelude.{◌≡◌, ◌≤◌, IfSome, IfOk, OnOk, OnErr, IfErr, length};
+ghost use Rattle.std.specs.Prelude.{◌≡◌, ◌≤◌, IfSome, IsSome, IfOk, OnOk, OnErr, IfErr, length};
 ghost use Rattle.ec_text.specs.Puts.{Puts, IsWrittenOut};
+ghost use Rattle.calls_report.specs.declared.status.Status.TheVariants.{Done};
 ghost use Rattle.calls_report.specs.Notes.{fault_note};
 ghost use Rattle.calls_report.specs.Remarks.{remarks_text};
 ghost use Rattle.calls_report.specs.Checks.{history_text, HasOrder, ChecksText, ChecksWhole};
@@ -111,6 +112,7 @@ fn judge<W: Write, N: Write>(
         (remarks_text read.now.number read.now.recording)) }
     ensures stop { IfErr result (StopsBy read.now.number read.now.recording notes.old notes.new) }
     ensures none { OnErr result (out.new ≡ out.old) }
+    ensures kept { OnOk result (IsSome kept.new) }
     ensures written { IsWrittenOut notes.old → IsWrittenOut notes.new }
 {
     let order = match find_order(alloc, read, kept, notes) {
@@ -132,6 +134,7 @@ fn judge<W: Write, N: Write>(
 /// Returns how a check ends that was stopped, and says that memory ran out.
 fn end_by<N: Write>(stop: Stop, notes: &mut Out<'_, N>) -> Status
     ensures status { result ≡ status_by stop }
+    ensures stops { result ≡ Done → ⊥ }
     ensures notes { EndsBy stop notes.old notes.new }
     ensures written { IsWrittenOut notes.old → IsWrittenOut notes.new }
 {
@@ -167,6 +170,7 @@ pub fn linearize<N: Write>(
 /// Says why a text is no history, and returns how a command ends then.
 pub fn note_unread<N: Write>(fault: TextFault, notes: &mut Out<'_, N>) -> Status
     ensures status { result ≡ fault_status fault }
+    ensures stops { result ≡ Done → ⊥ }
     ensures puts { Puts notes.old notes.new (fault_note fault) }
     ensures written { IsWrittenOut notes.new }
 {
@@ -183,7 +187,9 @@ fn judged<'a>(
     number: u64,
     read: OneRead<'a>,
     verdict: Option<Verdict>,
-) -> Option<LastJudged<'a>> {
+) -> Option<LastJudged<'a>>
+    ensures { IsSome verdict → IsSome result }
+{
     Some(LastJudged {
         text,
         number,
@@ -202,6 +208,7 @@ fn judge_all<'a, W: Write, N: Write>(
 ) -> Status
     requires { length text.now ≤ TEXT_MAX }
     ensures judges { Judges result text.now out.old out.new notes.old notes.new }
+    ensures kept { result ≡ Done → IsSome last.new }
     ensures written { IsWrittenOut notes.old → IsWrittenOut notes.new }
 {
     let mut number = 1;
@@ -237,6 +244,7 @@ fn check_text<'a, W: Write, N: Write>(
     ensures checks { ChecksText result text.now
         (record { out = W.contents out.old; notes = notes.old })
         (record { out = W.contents out.new; notes = notes.new }) }
+    ensures kept { result ≡ Done → IsSome last.new }
     ensures written { IsWrittenOut notes.old → IsWrittenOut notes.new }
 {
     let mut texts = Out::new(out);
@@ -253,7 +261,7 @@ fn check_text<'a, W: Write, N: Write>(
 }
 
 /// Checks a text that was read whole, or more of it than a text may have, and keeps the history at
-/// which that ended, if there is one.
+/// which that ended, if there is one: of a good text its last one.
 pub fn check_whole<'a, W: Write, N: Write>(
     alloc: Global,
     text: &'a [u8],
@@ -264,6 +272,7 @@ pub fn check_whole<'a, W: Write, N: Write>(
     ensures checks { ChecksWhole result text.now
         (record { out = W.contents out.old; notes = notes.old })
         (record { out = W.contents out.new; notes = notes.new }) }
+    ensures kept { result ≡ Done → IsSome last.new }
     ensures written { IsWrittenOut notes.old → IsWrittenOut notes.new }
 {
     if text.len() > TEXT_MAX {

@@ -23,7 +23,8 @@ fn is_so(is_right: bool) -> Result<(), Fail> {
     }
 }
 
-/// Returns a press signals, and a watcher observes; a list that names a worker twice is refused.
+/// Returns whether a watcher may observe what a press signals, and a list that names a worker twice
+/// is refused.
 fn repeated_signaller_is_refused(limit: Limit) -> Result<bool, Fail> {
     let mut setup = Setup::new(limit);
     let press = setup.add_worker()?;
@@ -39,7 +40,7 @@ fn a_setup_is_declared(_rt: HostRuntime) -> Result<(), Fail> {
     is_so(repeated_signaller_is_refused(hundred()?)?)
 }
 
-/// Returns a press that may not read is refused, and the total is what it was.
+/// Returns whether a press that may not read is refused, and the total stays what it was.
 fn refusal_keeps_the_total(limit: Limit) -> Result<bool, Fail> {
     let mut setup = Setup::new(limit);
     let press = setup.add_worker()?;
@@ -56,7 +57,7 @@ fn a_world_takes_steps(_rt: HostRuntime) -> Result<(), Fail> {
     is_so(refusal_keeps_the_total(hundred()?)?)
 }
 
-/// Returns two presses print a sheet each, while a watcher reads how many there are.
+/// Returns whether a watcher reads 1, if two presses print a sheet each during its read.
 fn watcher_is_told_one(alloc: Global, limit: Limit) -> Result<bool, Fail> {
     let mut setup = Setup::new(limit);
     let press1 = setup.add_worker()?;
@@ -78,7 +79,7 @@ fn a_read_is_put_between_two_advances(rt: HostRuntime) -> Result<(), Fail> {
     is_so(watcher_is_told_one(rt.alloc(), hundred()?)?)
 }
 
-/// Returns a small number and one that needs 64 bits.
+/// Returns whether a list keeps a small number and one that needs 64 bits.
 fn large_number_is_kept(alloc: Global) -> Result<bool, Fail> {
     let mut list = NumberList::new(alloc);
     list.push(7)?;

@@ -3,8 +3,8 @@ use Rattle.calls_draw.specs.Draws.{IsNoteOn}
 use Rattle.calls_draw.proofs.Notes.{finished}
 use Rattle.calls_draw.proofs.drawing.put_verdict.Goals as goal
 
-pub returns-in-Ok : goal.returns-in-Ok
-returns-in-Ok c =
+pub returns-in-Ok-clause-says : goal.returns-in-Ok-clause-says
+returns-in-Ok-clause-says c =
     let f =
     finished c.args.text.now c.check_whole-status.result _ _ _ c.args.note.now.items _
     c.new-out.result c.check_whole-status.new.notes c.finish-done.new.self c.finish-done.result
