@@ -1,5 +1,7 @@
 -- What `check` says, as one note.
-use Rattle.std.proofs.Common.{◌≡◌, ◌⊎◌, ℕ, Bool, true, false, List, [], ◌++◌, Option, Some, codes}
+use Rattle.std.proofs.Common.{◌≡◌, ◌⊎◌, ℕ, Bool, true, false, List, [], ◌++◌, Option, Some, None}
+use Rattle.std.proofs.Common.{codes, IsSome}
+use Rattle.std.specs.Io.KnownBytes.{Keeps}
 use Rattle.std.proofs.Common.{Result, Ok, IsOk, IsErr, refl}
 use Rattle.std.proofs.Common.{ap, sym, ◌∙◌, subst, append_assoc, append-nil, inl, inr}
 use Rattle.std.proofs.lemmas.Bool.{false≢true}
@@ -11,7 +13,7 @@ use Rattle.calls_report.specs.declared.status.Status.TheVariants.{Memory, NotDec
 use Rattle.calls_report.specs.Checks.{Outlets, ChecksText, ChecksWhole, Ends, IsJudged, Judged}
 use Rattle.calls_report.specs.Checks.{remarks_on, IsTooLarge}
 use Rattle.calls_report.specs.Notes.{refusal_note, scene_of, undecided_note}
-use Rattle.calls_draw.specs.Draws.{IsNoteOn}
+use Rattle.calls_draw.specs.Draws.{Draws, IsNoteOn, SaysAsCheck}
 
 -- some bytes were put
 abbrev pub PutsSome : Outgoing → Outgoing → Type 0
@@ -153,3 +155,13 @@ finished text status before after w items note old mid new done u is empty check
                 (ap (λ (o : Outgoing). o.failed) same ∙ e),
           )
     ] refl
+
+-- what was said of a text that has no history to draw, which is then not good
+pub nothing_drawn : {A : Type 0} (Chosen : Type 0) (text : List ℕ) (found status : Status)
+    (old new : Outlets) (last : Option A) → last ≡ None → (found ≡ Done → IsSome last)
+    → status ≡ found → Keeps old.out new.out → SaysAsCheck text status old.notes new.notes
+    → Draws Chosen text status old new
+nothing_drawn Chosen text found status old new None is kept as_found keeps says =
+    inr (keeps, inr (inr (λ done. false≢true (kept (sym as_found ∙ done)), says)))
+nothing_drawn Chosen text found status old new (Some x) is kept as_found keeps says =
+    absurd (let never : ⊥ = cc in never)
