@@ -1,9 +1,9 @@
-use Rattle.std.proofs.Common.{List, ℕ, subst, IfSome}
+use Rattle.std.proofs.Common.{List, ℕ, subst, IfSome, rules}
 use Rattle.ec_text.specs.Inputs.{IsInput}
 use Rattle.ec_text.specs.declared.input.Input.{Input}
 use Rattle.ec_trace.specs.declared.read.TheConstants.{TRACE_MAX}
 use Rattle.evc_draw_engine.specs.Draws.{DrawsText}
-use Rattle.evc_draw_engine.proofs.Whole.{whole_drawn}
+use Rattle.evc_draw_engine.proofs.Whole.{want_drawn, whole_drawn}
 use Rattle.evc_draw_engine.proofs.drawing.draw.Goals as goal
 
 pub returns-in-Ok-Whole-clause-ends : goal.returns-in-Ok-Whole-clause-ends
@@ -19,3 +19,11 @@ returns-in-Ok-Whole-clause-ends g c =
     (record { out = g.W.Write.contents c.args.out.now; notes = c.args.notes.now })
     (record { out = g.W.Write.contents c.draw_text.new.out; notes = c.draw_text.new.notes }))
     c.as_slice.ensures.value c.draw_text.ensures.ends)
+
+pub returns-in-Err-clause-ends : goal.returns-in-Err-clause-ends
+returns-in-Err-clause-ends g c =
+    want_drawn c.args.view.now (g.R.Read.remaining c.args.reader.now)
+    (g.R.Read.remaining c.read_up_to.new.reader) c.want.result
+    (record { out = g.W.Write.contents c.args.out.now; notes = c.args.notes.now })
+    (record { out = g.W.Write.contents c.args.out.now; notes = c.want.new.notes })
+    c.want.ensures.memory (search rules, (c.want.ensures.puts, c.want.ensures.written))
