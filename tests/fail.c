@@ -6,7 +6,7 @@
    FAILED_NOTE=N    write N to standard error fails.
    FAILED_PIECE=N   each other read and write of these moves N bytes at most.
 
-   tests/run-failures builds it. No header is included, so that it takes the toolchain's compiler alone. */
+   tests/trying/running.py builds it. No header is included, so that it takes the toolchain's compiler alone. */
 
 typedef unsigned long size_t;
 typedef long ssize_t;

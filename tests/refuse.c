@@ -5,7 +5,7 @@
    REFUSED_TELL=FD     where this file descriptor is told so, at that moment: a program may end by _exit,
                        and then nothing that would run at its end can tell.
 
-   tests/run-refusals builds it. No header is included, so that it takes the toolchain's compiler alone. */
+   tests/trying/running.py builds it. No header is included, so that it takes the toolchain's compiler alone. */
 
 typedef unsigned long size_t;
 

@@ -1,0 +1,16 @@
+"""The files of the repository, as tests read them."""
+
+from pathlib import Path
+
+TOP = Path(__file__).resolve().parent.parent.parent
+EXAMPLES = TOP / "examples"
+
+
+def example(name):
+    return (EXAMPLES / name).read_bytes()
+
+
+def examples(pattern):
+    """The name and the bytes of each example whose place in examples/ is like this."""
+    for path in sorted(EXAMPLES.glob(pattern)):
+        yield str(path.relative_to(EXAMPLES)), path.read_bytes()
