@@ -1,5 +1,6 @@
 """What the second reading says of a text of histories of calls, and what is wrong with what `check` says."""
 
+from trying.calls.claims import note_faults
 from trying.calls.orders import order_faults
 from trying.calls.reader import read
 from trying.calls.remarks import remarks

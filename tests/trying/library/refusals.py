@@ -16,8 +16,8 @@ def tells_no_memory(command, told, right):
 
 
 def fault_of_refusals(refuser, path, asked, is_right):
-    """What is wrong if each request for memory of the driver is refused in turn. `is_right(told, was_refused)` says whether
-    an answer is right."""
+    """What is wrong if each request for memory of the driver is refused in turn. `is_right(told, was_refused)` says
+    whether an answer is right."""
     refused = 0
     for number, ran in refuser.refusals([path], asked):
         try:

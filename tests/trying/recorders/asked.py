@@ -7,7 +7,7 @@ import signal
 
 from trying.counting import need
 from trying.recorders.texts import CALLS, NAMES, ONLY_IN_C, WHOLE, WRONG
-from trying.recorders.tools import calls_of, lines_of, ran, recovered
+from trying.recorders.tools import HANGING, calls_of, lines_of, ran, recovered
 
 CLOCKS = ["counter", "tsc", "monotonic"]
 BARE = ["tsc_bare", "monotonic_bare"]
@@ -89,8 +89,7 @@ def try_killed(program, tools, folder, clock, kind, judge):
 
 
 def try_hang(program, tools, folder, clock, judge):
-    more = {"env": {**os.environ, "TSAN_OPTIONS": "report_thread_leaks=0"}}
-    said = ran([program, "run", clock, "hang", "x.calls", "x.record"], folder, **more)
+    said = ran([program, "run", clock, "hang", "x.calls", "x.record"], folder, **HANGING)
     waits = r"line \d+: w2 calls await E 1000000 has not returned"
     note = f"hung: no call began or returned for 0.5 s\n{waits}\nthe history is in x.calls\n"
     need(said.returncode == 5 and re.fullmatch(note, said.stderr), said.stdout + said.stderr)
@@ -106,8 +105,7 @@ def try_hang(program, tools, folder, clock, judge):
 
 def try_hang_without_room(program, tools, folder, judge):
     """A hang where the text can't be written: it says so, and the file of the record has all."""
-    more = {"env": {**os.environ, "TSAN_OPTIONS": "report_thread_leaks=0"}}
-    said = ran([program, "run", "counter", "hang", "/dev/full", "x.record"], folder, **more)
+    said = ran([program, "run", "counter", "hang", "/dev/full", "x.record"], folder, **HANGING)
     note = "hung: no call began or returned for 0.5 s\nnot written: /dev/full\n"
     need((said.returncode, said.stderr) == (5, note), said.stdout + said.stderr)
     right = (3 * 4000 + 2001, {"w2": "await E 1000000"})

@@ -7,7 +7,7 @@ import subprocess
 from trying.counting import Fault, need
 from trying.files import TOP
 from trying.recorders.rounds import try_stress
-from trying.recorders.tools import WARNINGS, built, calls_of, compilers, ran
+from trying.recorders.tools import RUSTC, WARNINGS, built, calls_of, compilers, ran
 
 
 def try_example(words, folder, judge):
@@ -31,7 +31,7 @@ def try_examples(folder, count, judge):
             words = [name, "-std=c11", "-O2", *WARNINGS, "-pthread", f"{source}.c", "-o", out]
             count.tried(f"the example by {name}", try_example, words, folder, judge)
     if shutil.which("rustc"):
-        words = ["rustc", "--edition", "2021", "-D", "warnings", "-O", f"{source}.rs", "-o", out]
+        words = [*RUSTC, "-O", f"{source}.rs", "-o", out]
         count.tried("the example in Rust", try_example, words, folder, judge)
 
 
@@ -50,7 +50,7 @@ def try_example_of_rounds(folder, count, judge):
             count.tried("the example of rounds", try_stress, out, folder, judge, [], 0, "passed")
             count.tried("its bug", try_bug, [out, "bug"], folder, (1, 5))
     if shutil.which("rustc"):
-        words = ["rustc", "--edition", "2021", "-D", "warnings", "--test", "--cfg", "libevc"]
+        words = [*RUSTC, "--test", "--cfg", "libevc"]
         words += [os.path.join(here, "example_stress.rs"), "-L", libraries, "-l", "static=evc"]
         for more, right in (([], (0,)), (["--cfg", "bug"], (101,))):
             out = os.path.join(folder, "example-rust")

@@ -6,7 +6,7 @@ import shutil
 
 from trying.counting import need
 from trying.files import TOP
-from trying.recorders.tools import IS_X86, SANITIZERS, WARNINGS, built, calls_of, compilers, ran
+from trying.recorders.tools import IS_X86, RUSTC, SANITIZERS, WARNINGS, calls_of, compilers, is_built, ran, sanitized
 
 REFUSAL = r"line \d+: returned .*\n"
 PENDING = r"line \d+: w1 calls await E 1000000000 has not returned\n"
@@ -56,8 +56,7 @@ def monitors_by_library(library):
     name, language, words = compilers()[0]
     yield f"{language} by {name} with the library", [name, *words, "-O2", *WARNINGS, *linked]
     for sanitizer in SANITIZERS:
-        more = [f"-fsanitize={sanitizer}", "-fno-sanitize-recover=all", "-g", "-O0"]
-        yield f"the {sanitizer} sanitizer and the library", [name, *words, *more, *linked]
+        yield f"the {sanitizer} sanitizer and the library", [name, *words, *sanitized(sanitizer), *linked]
 
 
 def monitors_in_c():
@@ -68,23 +67,23 @@ def monitors_in_c():
         words = [name, *words, "-O2" if name == first[0] else "-O0", *WARNINGS, "-pthread", source]
         yield f"{language} by {name}", words, name == first[0]
     for sanitizer in SANITIZERS:
-        more = [f"-fsanitize={sanitizer}", "-fno-sanitize-recover=all", "-g", "-O0", "-pthread", source]
-        yield f"the {sanitizer} sanitizer", [first[0], *first[2], *more], True
+        words = [first[0], *first[2], *sanitized(sanitizer), "-pthread", source]
+        yield f"the {sanitizer} sanitizer", words, True
+
+
+def place_of(folder, name, number):
+    """Where a monitor is built: the place says of itself whether it has a sanitizer."""
+    return os.path.join(folder, f"{'sanitized' if 'sanitizer' in name else 'monitor'}-{number}")
 
 
 def try_monitors(folder, count, judge):
     clocks = ["tsc", "counter"] if IS_X86 else ["counter"]
     programs = list(monitors_in_c())
     if shutil.which("rustc"):
-        words = ["rustc", "--edition", "2021", "-D", "warnings"]
-        programs.append(("Rust", [*words, os.path.join(TOP, "tests", "monitor.rs")], True))
+        programs.append(("Rust", [*RUSTC, os.path.join(TOP, "tests", "monitor.rs")], True))
     for number, (name, words, is_whole) in enumerate(programs):
-        kind = "sanitized" if "sanitizer" in name else "monitor"
-        out = os.path.join(folder, f"{kind}-{number}")
-        words = [*words, "-o", out]
-        if kind == "sanitized" and ran(words, folder).returncode != 0:
-            continue
-        if not count.tried(f"a monitor, {name}, built", built, words, folder):
+        out = place_of(folder, name, number)
+        if not is_built(count, f"a monitor, {name}", [*words, "-o", out], folder):
             continue
         for asked, *right in MONITORED + (JUDGED if judge.program else []):
             for clock in clocks if is_whole and asked == "right-file" else clocks[:1]:
@@ -99,12 +98,8 @@ def try_monitors_by_library(folder, count, judge):
         print("monitors are not judged by the library: there is none of these sources, and no LIBEVC")
         return
     for number, (name, words) in enumerate(monitors_by_library(judge.library)):
-        kind = "sanitized" if "sanitizer" in name else "monitor"
-        out = os.path.join(folder, f"{kind}-library-{number}")
-        words = [*words, "-o", out]
-        if kind == "sanitized" and ran(words, folder).returncode != 0:
-            continue
-        if not count.tried(f"a monitor, {name}, built", built, words, folder):
+        out = place_of(folder, name, f"library-{number}")
+        if not is_built(count, f"a monitor, {name}", [*words, "-o", out], folder):
             continue
         for asked, *right in BY_LIBRARY:
             what = f"a monitor, {name}: {asked}"

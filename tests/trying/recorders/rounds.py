@@ -7,7 +7,18 @@ import signal
 
 from trying.counting import need
 from trying.files import TOP
-from trying.recorders.tools import IS_X86, SANITIZERS, WARNINGS, built, calls_of, compilers, lines_of, ran, recovered
+from trying.recorders.tools import (
+    IS_X86,
+    RUSTC,
+    SANITIZERS,
+    WARNINGS,
+    calls_of,
+    compilers,
+    is_built,
+    lines_of,
+    ran,
+    recovered,
+)
 
 
 def try_stress(program, folder, judge, words, status, said, note=""):
@@ -65,8 +76,13 @@ PANICKED = [("panics mixed counter 10", 6, "PANICKED", r"line \d+: w\d calls adv
 BY_PROGRAM = [RIGHT[0], FOUND[0], FOUND[1]]
 
 
-def with_clocks(stresses):
-    return [it for it in stresses if IS_X86 or "tsc" not in it[0]]
+def try_asked(what, program, tools, folder, count, judge, asked, is_whole):
+    """Asks a program for these rounds, and if that is all, for an abort and for a history that can't be kept."""
+    for words, *right in (it for it in asked if IS_X86 or "tsc" not in it[0]):
+        count.tried(f"{what}: {words}", try_stress, program, folder, judge, words.split(), *right)
+    if is_whole:
+        count.tried(f"{what}: an abort", try_abort, program, tools, folder, judge)
+        count.tried(f"{what}: no file", try_unkept, program, folder, judge)
 
 
 def try_abort(program, tools, folder, judge):
@@ -109,22 +125,14 @@ def try_rounds(tools, folder, count, judge):
     for number, (name, words, asked) in enumerate(programs):
         out, what = os.path.join(folder, f"stress-{number}"), f"rounds, {name}"
         words = [*words, "-pthread", *([source] if "judged" in name else linked), "-o", out]
-        if "sanitizer" in name and ran(words, folder).returncode != 0:
-            continue
-        if not count.tried(f"{what}, built", built, words, folder):
-            continue
-        for words, *right in with_clocks(asked):
-            count.tried(f"{what}: {words}", try_stress, out, folder, judge, words.split(), *right)
-        if number == 0:
-            count.tried(f"{what}: an abort", try_abort, out, tools, folder, judge)
-            count.tried(f"{what}: no file", try_unkept, out, folder, judge)
+        if is_built(count, what, words, folder):
+            try_asked(what, out, tools, folder, count, judge, asked, number == 0)
 
 
 def try_rounds_in_rust(tools, folder, count, judge):
     if shutil.which("rustc") is None:
         return
     source = os.path.join(TOP, "tests", "stress.rs")
-    words = ["rustc", "--edition", "2021", "-D", "warnings", source]
     programs = []
     if judge.library:
         linked = ["--cfg", "libevc", "-L", os.path.dirname(judge.library), "-l", "static=evc"]
@@ -133,10 +141,5 @@ def try_rounds_in_rust(tools, folder, count, judge):
         programs.append(("rounds in Rust, judged by the program", [], BY_PROGRAM))
     for number, (name, more, asked) in enumerate(programs):
         out = os.path.join(folder, f"stress-rust-{number}")
-        if not count.tried(f"{name}, built", built, [*words, *more, "-o", out], folder):
-            continue
-        for words_of, *right in with_clocks(asked):
-            count.tried(f"{name}: {words_of}", try_stress, out, folder, judge, words_of.split(), *right)
-        if more:
-            count.tried(f"{name}: an abort", try_abort, out, tools, folder, judge)
-            count.tried(f"{name}: no file", try_unkept, out, folder, judge)
+        if is_built(count, name, [*RUSTC, source, *more, "-o", out], folder):
+            try_asked(name, out, tools, folder, count, judge, asked, bool(more))

@@ -14,6 +14,9 @@ from trying.files import TOP
 SANITIZERS = ["thread", "address,undefined"]
 IS_X86 = platform.machine() == "x86_64"
 WARNINGS = ["-Wall", "-Wextra", "-Wpedantic", "-Werror"]
+RUSTC = ["rustc", "--edition", "2021", "-D", "warnings"]
+# How a program is run that hangs: its threads are left.
+HANGING = {"env": {**os.environ, "TSAN_OPTIONS": "report_thread_leaks=0"}}
 
 
 class Timed(Count):
@@ -126,6 +129,19 @@ def recovered(tools, folder, status=0):
 def built(words, folder):
     said = ran(words, folder)
     need(said.returncode == 0 and not said.stderr, f"{words}\n{said.stderr[:3000]}")
+
+
+def is_built(count, what, words, folder):
+    """Builds a program as a test, and returns whether it is there. If the compiler lacks a sanitizer, that is no
+    test."""
+    if "sanitizer" in what and ran(words, folder).returncode != 0:
+        return False
+    return count.tried(f"{what}, built", built, words, folder)
+
+
+def sanitized(sanitizer):
+    """The words by which a compiler builds with a sanitizer that stops at what it finds."""
+    return [f"-fsanitize={sanitizer}", "-fno-sanitize-recover=all", "-g", "-O0"]
 
 
 def compilers():
