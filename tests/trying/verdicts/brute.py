@@ -1,4 +1,8 @@
-"""Verdicts on histories of calls by trying every order: the sequential specification of each kind, and a search."""
+"""Verdicts on histories of calls by trying every order: the sequential specification of each kind, and a search.
+
+A history has the kinds of its objects, each a name with numbers, and its events: (worker, "calls", object, op) and
+(worker, "returns", reply), where an op is a name with numbers too.
+"""
 
 
 def first_state(kind):
