@@ -8,7 +8,6 @@ mod chosen;
 mod curve;
 mod dot;
 mod finding;
-mod finished;
 mod laws;
 mod open;
 mod picture;

@@ -6,13 +6,12 @@ ghost use Rattle.ec_draw.specs.Pictures.{kept, shapes};
 use crate::curve::curves;
 use crate::dot::dots;
 use crate::finding::findings_of;
-use crate::finished::bars;
 use crate::open::open_bars;
 use crate::replay::world_at;
 use crate::{Arrow, Curve, Dot, Open, Shade, Window};
 use ec_core::Run;
 use ec_heading::Group;
-use ec_order::Placed;
+use ec_order::{Placed, order_between};
 use std::alloc::{AllocError, Global};
 
 /// The shapes of a picture of a run, through a window.
@@ -61,7 +60,7 @@ pub fn picture_of(
     add_curves(&mut curves, found.curves)?;
     Ok(Picture {
         window,
-        calls: bars(alloc, run, window)?,
+        calls: order_between(alloc, run, window.from, window.to)?,
         begun: open_bars(alloc, run, window)?,
         dots: dots(alloc, run, world, window)?,
         curves,

@@ -1,6 +1,6 @@
 -- Points: the moment at which a call counts as made, and the order of the completed calls by their
 -- points.
-use Rattle.std.specs.Prelude.{◌≡◌, ◌≢◌, ℕ, ◌+◌, ◌-◌, ◌<◌, ◌≤◌, Bool, ◌==◌, ◌&&◌, nat_le, not, List, zero, suc, [], ◌∷◌, ◌++◌, length, map, if◌then◌else◌, MatchBool}
+use Rattle.std.specs.Prelude.{◌≡◌, ◌≢◌, ℕ, ◌+◌, ◌-◌, ◌<◌, ◌≤◌, Bool, ◌==◌, ◌&&◌, nat_le, nat_lt, not, List, zero, suc, [], ◌∷◌, ◌++◌, length, map, if◌then◌else◌, MatchBool}
 use Rattle.std.specs.List.{filter}
 use Rattle.ec_count.specs.Tables.{Tables}
 use Rattle.ec_core.specs.declared.act.Entry.{Entry}
@@ -42,6 +42,10 @@ point_of past c =
     if is_reading c.op
     then first_moment (λ k. total (event_or c.op) (first_entries k past) == number_of c.reply) c.round (c.last - c.round)
     else c.last
+
+-- whether a call began before position `to`, and did not end before position `from`
+abbrev pub is_between : ℕ → ℕ → Placed → Bool
+is_between from to p = nat_lt p.call.first to && nat_le from p.call.last
 
 -- THE ORDER BY POINTS
 

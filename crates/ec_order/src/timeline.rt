@@ -4,12 +4,11 @@ ghost use Rattle.ec_core.specs.declared.act.Entry.{Entry};
 ghost use Rattle.ec_core.specs.Acceptance.{IsAccepted};
 ghost use Rattle.ec_core.specs.Calls.{is_go};
 ghost use Rattle.ec_order.specs.Raised.{FollowsReading};
-ghost use Rattle.ec_order.specs.Walk.{IsDue};
+ghost use Rattle.ec_order.specs.Walk.{is_alone, IsDue};
 ghost use Rattle.ec_order.specs.Timeline.{call_entry, dated_by_points, dates, due_moment, read_comes, IsTimeline, PutsByPoint, TakesIn, TellsGood};
 
 use crate::advances::Advances;
 use crate::by_points::ByPoints;
-use crate::gather::is_alone;
 use crate::marks::{Marks, MarksLeft};
 use crate::scan::{go_on, is_last, take_in};
 use crate::{Call, Dated, OrderFault};
@@ -153,6 +152,18 @@ impl<'a> Audit for Timeline<'a> {
         if !self.lacks && self.gather(place, entry).is_err() {
             self.lacks = true;
         }
+    }
+}
+
+/// Returns whether each entry with this act is a whole call. One of a read or an await may not be:
+/// it may go on by `go` entries.
+#[inline(always)]
+fn is_alone(act: Act) -> bool
+    ensures { result ≡ is_alone act }
+{
+    match act {
+        Act::Read(_) | Act::Await(_, _) | Act::Go => false,
+        Act::Advance(_) | Act::Ticket(_) | Act::Put(_, _) | Act::Get(_) | Act::Hand(_, _) => true,
     }
 }
 

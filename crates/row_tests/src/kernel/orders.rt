@@ -4,7 +4,7 @@ use crate::kernel::ask::{Ask, act, reply, worker};
 use crate::kernel::writing::{pending, put_entry, tell_entry};
 use crate::line::tell;
 use ec_core::{Calls, Entry, Run, walk};
-use ec_order::{Call, Placed, Timeline, calls, in_order, order, verify};
+use ec_order::{Call, Placed, Timeline, calls, order, order_between, verify};
 use std::alloc::Global;
 
 /// Returns a call as one entry.
@@ -30,15 +30,19 @@ fn is_timed(alloc: Global, run: &Run, placed: &[Placed]) -> Result<bool, Fault> 
     Ok(dated.next().is_none())
 }
 
-/// Returns whether these calls come in order, one after another.
-fn comes_in_order(alloc: Global, run: &Run, placed: &[Placed]) -> Result<bool, Fault> {
-    let mut calls = in_order(alloc, run)?;
+/// Returns whether of these calls those are given of the middle of the run that began before it, and
+/// did not end before it.
+fn has_middle(alloc: Global, run: &Run, placed: &[Placed]) -> Result<bool, Fault> {
+    let middle = run.len() / 2;
+    let found = order_between(alloc, run, middle, middle + 1)?;
+    let mut left = found.iter();
     for right in placed {
-        if calls.next() != Some(*right) {
+        let is_there = right.call.first <= middle && middle <= right.call.last;
+        if is_there && left.next() != Some(right) {
             return Ok(false);
         }
     }
-    Ok(calls.next().is_none())
+    Ok(left.next().is_none())
 }
 
 /// Writes a call at its point.
@@ -74,8 +78,8 @@ fn part_of<'a, T>(list: &'a [T], ask: &mut Ask<'_>) -> Result<&'a [T], Fault> {
 fn answer_the_order(alloc: Global, run: &Run, ask: &mut Ask<'_>) -> Result<(), Fault> {
     let placed = order(alloc, run)?;
     let placed = placed.as_slice();
-    if !comes_in_order(alloc, run, placed)? || !is_timed(alloc, run, placed)? {
-        tell("another order, call by call or by the timeline", ask.out)?;
+    if !has_middle(alloc, run, placed)? || !is_timed(alloc, run, placed)? {
+        tell("another order, of the middle or by the timeline", ask.out)?;
     }
     for one in part_of(placed, ask)? {
         tell_placed(one, ask)?;
