@@ -67,11 +67,6 @@ pub each_from_both : {X : Type 0} (P Q R : ℕ → X → Type 0) → ((i : ℕ) 
 each_from_both P Q R f i [] h k = tt
 each_from_both P Q R f i (x ∷ xs) h k = (f i x h.0 k.0, each_from_both P Q R f (i + 1) xs h.1 k.1)
 
-pub each_from_map : {X Y : Type 0} (f : X → Y) (P : ℕ → Y → Type 0) (i : ℕ) (xs : List X)
-    → EachFrom P i (map f xs) → EachFrom (λ j x. P j (f x)) i xs
-each_from_map f P i [] h = tt
-each_from_map f P i (x ∷ xs) h = (h.0, each_from_map f P (i + 1) xs h.1)
-
 pub each_from_none : {X : Type 0} (P : ℕ → X → Type 0) (Q : X → Type 0)
     → ((i : ℕ) (x : X) → P i x → Q x) → (i : ℕ) (xs : List X) → EachFrom P i xs → Each Q xs
 each_from_none P Q f i [] h = tt

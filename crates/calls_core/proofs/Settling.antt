@@ -203,15 +203,3 @@ order_later kind past t h le l = (
   order_at kind past
       (clock past) t l.0 h (omega arith) le l.1,
 )
-
--- of many objects
-pub order_whole_at : (kinds : List Kind) (past : List Event) (u t : ℕ) (cs : List Call)
-    → IsHistory kinds past → clock past ≤ u → clock past ≤ t
-    → IsLinearOrder (IsRun (start kinds)) (completed_calls past) (pending_calls past) u cs
-    → IsLinearOrder (IsRun (start kinds)) (completed_calls past) (pending_calls past) t
-    (map (settled (clock past) t) cs)
-order_whole_at kinds past u t cs h le later l =
-    order_settled (IsRun (start kinds)) (clock past) u t (completed_calls past) (pending_calls past)
-    cs le later (before kinds (completed_calls past) (pending_calls past) (clock past)
-    (histories_have_calls kinds past h))
-    (settled_run (clock past) t (start kinds) cs) l

@@ -114,26 +114,6 @@ pushed_none reads k out j c = record {
   behind = c.behind;
 }
 
-pub pushed_more : (reads : List PlacedRead) (k : ℕ) (start out : List Call) (j : ℕ) (p : PlacedRead)
-    → j < length reads → p ≡ get_or reads j p → p.place ≡ k → IsPushed reads k start out j
-    → IsPushed reads k start (out ++ p.call ∷ []) (j + 1)
-pushed_more reads k start out j p lt read e h =
-    let rest = filter (λ (q : PlacedRead). q.place == k) (drop (j + 1) reads) in
-    record {
-      within = omega arith;
-      all = append_assoc out (p.call ∷ []) (placed_calls rest) ∙ ap (λ b.
-          out ++ placed_calls (cond b (p ∷ rest) rest)) (sym (eq-eqb p.place k e))
-          ∙ ap (λ zs. out ++ reads_at k zs) (sym (drop_more reads j p lt ∙ ap (λ z.
-          z ∷ drop (j + 1) reads) (sym read))) ∙ h.all;
-      before = λ i d low below. elim (cases_order i j) [
-        | inl same ↦ (let at = ap (λ (z : PlacedRead). z.place) (get_or_default reads j d p lt
-            ∙ sym read) in let own = ap (λ n. (get_or reads n d).place) same in omega arith)
-        | inr (inl less) ↦ h.before i d low less
-        | inr (inr gt) ↦ absurd (omega arith)
-      ];
-      behind = λ i d low below. h.behind i d (omega arith) below;
-    }
-
 pub pushed_stop : (reads : List PlacedRead) (k : ℕ) (start out : List Call) (j : ℕ) (p : PlacedRead)
     → IsNonDecreasingBy (λ (q : PlacedRead). q.place) reads → j < length reads
     → p ≡ get_or reads j p → p.place ≢ k → IsPushed reads k start out j
@@ -150,14 +130,6 @@ pushed_stop reads k start out j p up lt read ne h =
           ∙ h.all,
       record { within = h.within; before = h.before; behind = behind },
     )
-
-pub pushed_end : (reads : List PlacedRead) (k : ℕ) (start out : List Call) (j : ℕ)
-    → length reads ≤ j → IsPushed reads k start out j → (out ≡ start ++ reads_at k reads)
-    × IsCut reads (k + 1) j
-pushed_end reads k start out j le h = (
-  sym (append-nil out) ∙ ap (λ zs. out ++ reads_at k zs) (sym (drop_all j reads le)) ∙ h.all,
-  record { within = h.within; before = h.before; behind = λ i d low below. absurd (omega arith) },
-)
 
 -- ALL SLOTS
 

@@ -35,17 +35,6 @@ none_raised slots n m = record {
       absurd (omega arith);
 }
 
-pub one_raised : (old slots : List Slot) (n m : ℕ) → length slots < n → IsRaised old slots n m
-    → IsRaised old (slots ++ record { moment = m; taken = None } ∷ []) n m
-one_raised old slots n m lt r =
-    let new : List Slot = record { moment = m; taken = None } ∷ [] in
-    record {
-      more = r.more ++ new;
-      is = ap (λ zs. zs ++ new) r.is ∙ append_assoc old r.more new;
-      each = each_append (IsNew m) r.more new r.each (record { moment = refl; none = refl }, tt);
-      few = λ h. omega (arith, ap length r.is, length-append old r.more, length-append r.more new);
-    }
-
 -- TOO LITTLE
 
 abbrev pub NotFewer : List Slot → List PlacedRead → Call → ℕ → ℕ → Type 0
@@ -118,15 +107,6 @@ fewer_by slots firsts s call number n m invocations before is le count = (
   }),
   λ f. lt-ltb (number - n) m (omega (arith, f.fewer, invocations (s.last + 1))),
 )
-
-pub under_rated : (start : ℕ) (slots : List Slot) (reads : List PlacedRead) (begun noted : ℕ)
-    (call : Call) (number : ℕ) (f : Fault) → most call.op call.reply ≡ Some number
-    → number < start + noted
-    → ((n : ℕ) → number < n → IsReckoned start slots reads call.first n
-    → IsTooLittle start slots reads call number f) → IsRefused start begun noted call slots
-    reads f
-under_rated start slots reads begun noted call number f e lt h =
-    inr (record { number = number; says = e; less = lt; is = h (start + noted) lt })
 
 -- WHAT IS GIVEN
 

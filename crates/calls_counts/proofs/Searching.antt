@@ -74,11 +74,6 @@ is_not_none o b e f none = (let no : false ≡ true = ap is_some (sym none) ∙ 
 abbrev pub FreeAt : List Slot → ℕ → ℕ → Type 0
 FreeAt slots n k = (s : Slot) → slice_get slots k ≡ Some s → FreeBelow n k s
 
-pub not_free : (slots : List Slot) (n k : ℕ) (d : Slot) → ((get_or slots k d).taken ≡ None → ⊥)
-    → FreeAt slots n k
-not_free slots n k d h = λ s at none. absurd (h (ap (λ (z : Slot). z.taken)
-    (get_or_from_slice_get slots k s d at) ∙ none))
-
 pub first_from : (slots : List Slot) (n k : ℕ) (d : Slot) → k < length slots → n ≤ k
     → (get_or slots k d).taken ≡ None → ((j : ℕ) → j < k → FreeAt slots n j) → IsFirstFree slots n k
 first_from slots n k d lt low none h = record {

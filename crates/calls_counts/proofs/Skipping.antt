@@ -131,13 +131,6 @@ skips_same slots next later same k = record {
   none = λ i j s low high at free. k.none i j s low (omega (arith, same i)) at free;
 }
 
-pub skips_nothing : Skips [] []
-skips_nothing = record {
-  within = λ i. omega arith;
-  none = λ i j s low high at free.
-      absurd (omega arith);
-}
-
 -- a taken slot is skipped, and others with it
 pub passed_over : (slots : List Slot) (begin next later : List ℕ) (from i one far two further : ℕ)
     (d : Slot) → i < length slots → ((get_or slots i d).taken ≡ None → ⊥) → one ≡ get_or next i 0

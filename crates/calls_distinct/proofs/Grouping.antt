@@ -267,7 +267,3 @@ group_new seen call old new h e own =
           (elim (either (p x)) [ inr q ↦ q | inl q ↦ absurd (k.0 (f x q)) ]),
       nobody p f xs k.1,
     )
-
-pub group_small : (seen : List Call) (v : ℕ) (g : Group) (n : ℕ) → IsGroup seen v g
-    → length seen < n → g.puts < n
-group_small seen v g n h lt = omega (arith, h.puts, count_by-le-length (put_call v) seen)

@@ -154,19 +154,6 @@ linearizable_by_orders = λ kinds past h. (
 
 -- BEGINNINGS
 
--- the part of a longer history ends with that of its beginning
-pub part_append : (k : ℕ) (late past : List Event) → (ls : List Event)
-    × (part k (late ++ past) ≡ ls ++ part k past)
-part_append k [] past = ([], refl)
-part_append k (x ∷ late) past =
-    let r = part_append k late past in
-    elim (is_on k x.action (pending_of x.worker (pending_calls (late ++ past)))) as (λ b.
-    (ls : List Event) × (cond b (x ∷ part k (late ++ past)) (part k (late ++ past)) ≡ ls
-    ++ part k past)) [
-      | true ↦ (x ∷ r.0, ap (λ zs. x ∷ zs) r.1)
-      | false ↦ r
-    ]
-
 pub a_beginning_is_linearizable : ABeginningIsLinearizable
 a_beginning_is_linearizable = λ kinds late past h l.
     (let t = clock (late ++ past) in
@@ -178,15 +165,6 @@ a_beginning_is_linearizable = λ kinds late past h l.
     let r = answers_become_responses kinds past begun.0 (history_earlier kinds late past h)
     begun.1 in
     (r.0, r.1))
-
--- an order of the part of a longer history gives one of the part of its beginning
-pub order_of_part_before : (kinds : List Kind) (k : ℕ) (kind : Kind) (late past : List Event)
-    → IsHistory kinds (late ++ past) → slice_get kinds k ≡ Some kind
-    → HasOrderOf kind (part k (late ++ past)) → HasOrderOf kind (part k past)
-order_of_part_before kinds k kind late past h e l =
-    (let r = part_append k late past in
-    order_of_earlier kind r.0 (part k past) (subst (IsHistoryOf kind) r.1
-    (part_history_of kinds k kind (late ++ past) h e)) (subst (HasOrderOf kind) r.1 l))
 
 -- ONE OBJECT
 

@@ -204,15 +204,6 @@ so_far_more text n rest old mid new before among after r m more so reads put rem
 none_put : (now : Outgoing) → Puts now now []
 none_put now = λ first all h. rw append-nil h
 
-pub none_so_far : (text : List ℕ) (now notes : Outgoing)
-    → IsJudgedSoFar text 1 text now now notes notes
-none_so_far text now notes = record {
-  judged = [];
-  judged_are = (refl, refl);
-  texts = none_put now;
-  remarks = none_put notes;
-}
-
 -- THE END
 
 same_put : (a b c : Outgoing) (bs : List ℕ) → c ≡ b → Puts a b bs → Puts a c bs

@@ -71,11 +71,6 @@ take_front [] [] = refl
 take_front [] (x ∷ cur) = refl
 take_front (a ∷ front) cur = ap (λ zs. a ∷ zs) (take_front front cur)
 
-at_current : (front : List Held) (k h : Held)
-    → slice_get (front ++ k ∷ []) (length front) ≡ Some h → k ≡ h
-at_current [] k h e = same_Some k h e
-at_current (a ∷ front) k h e = at_current front k h e
-
 -- HOW MANY ARE COMPLETED
 
 module _ (end t : ℕ) (done : List Call) (pending : List PendingCall) (w at : ℕ)

@@ -148,24 +148,12 @@ helds_taken (x ∷ xs) zero i d lt le = absurd (omega arith)
 helds_taken (x ∷ xs) (suc n) zero d lt le = refl
 helds_taken (x ∷ xs) (suc n) (suc i) d lt le = helds_taken xs n i d (omega arith) (omega arith)
 
-pub taken_past : (xs : List Stage) (n : ℕ) → n ≤ length xs → drop n (take n (helds xs)) ≡ []
-taken_past [] zero le = refl
-taken_past [] (suc n) le = refl
-taken_past (x ∷ xs) zero le = refl
-taken_past (x ∷ xs) (suc n) le = taken_past xs n (omega arith)
-
 -- the first stage has no put to be passed
 pub begins_passed : (f x : ℕ) (hs : List Held) → Begins hs → Each (IsPassed f x) hs → ⊥
 begins_passed f x [] b h = b
 begins_passed f x (a ∷ hs) b h = h.0.over (subst (IsOver f) (sym b) tt)
 
 -- CHAINS
-
-pub gathered_here : (i : ℕ) (l : Link) (ls : List Link) → length ls ≡ i
-    → gathered (Some i) (l ∷ ls) ≡ l.get ∷ gathered l.because ls
-gathered_here i l ls e =
-    ap (λ b. cond b (l.get ∷ gathered l.because ls) (gathered (Some i) ls))
-    (eq-eqb i (length ls) (sym e))
 
 pub gathered_on : (next : Option ℕ) (i : ℕ) (l : Link) (ls : List Link) → length ls ≡ i
     → (next ≡ Some i → ⊥) → gathered next (l ∷ ls) ≡ gathered next ls

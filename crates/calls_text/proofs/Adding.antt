@@ -33,9 +33,6 @@ get_last xs x i is = ap (slice_get (xs ++ x ∷ [])) is ∙ get_end xs x
 
 -- MORE
 
-pub grows_none : {A : Type 0} (xs : List A) → Grows xs xs 0
-grows_none xs = record { longer = omega arith; same = λ i lt. refl }
-
 pub grows_push : {A : Type 0} (old new : List A) (n : ℕ) (x : A) → Grows old new n
     → Grows old (new ++ x ∷ []) (n + 1)
 grows_push old new n x grows =
@@ -56,9 +53,6 @@ grows_on xs ys zs m n one other =
     }
 
 -- ONE SORT
-
-pub from_none : (kinds : List Kind) (n : ℕ) (kind : ℕ → Kind) → HasFrom kinds n 0 kind
-from_none kinds n kind = λ i lt. absurd (omega arith)
 
 pub from_push : (kinds : List Kind) (n count : ℕ) (kind : ℕ → Kind) (one : Kind)
     → length kinds ≡ n + count → one ≡ kind count → HasFrom kinds n count kind
@@ -83,9 +77,6 @@ from_grows old new n count more kind long has grows = λ i lt.
 abbrev pub HasGroupsTo : List Kind → ℕ → List Group → ℕ → Type 0
 HasGroupsTo kinds n gs k = (i : ℕ) (g : Group) → i < k → slice_get gs i ≡ Some g
     → slice_get kinds (n + i) ≡ Some (Database (cells_of g))
-
-pub groups_none : (kinds : List Kind) (n : ℕ) (gs : List Group) → HasGroupsTo kinds n gs 0
-groups_none kinds n gs = λ i g lt is. absurd (omega arith)
 
 pub groups_push : (kinds : List Kind) (n k : ℕ) (gs : List Group) (h : Group)
     → length kinds ≡ n + k → slice_get gs k ≡ Some h → HasGroupsTo kinds n gs k

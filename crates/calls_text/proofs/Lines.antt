@@ -74,12 +74,6 @@ fails_line n s line more rest o fault going none whole is fails =
     told n line (step s line) (λ u. goes (n + 1) u (parts_of more)) o fault
     (sym (goes_line n s line more rest going none whole) ∙ is) fails
 
--- the same if its LF is missing
-pub fails_rest : (n : ℕ) (s : Stage) (line : List ℕ) (fault : LineFault) → (line ≡ [] → ⊥)
-    → StepFails fault (step s line) → TellsFault (ended n s line) (fault_at n line fault)
-fails_rest n s [] fault some fails = absurd (some refl)
-fails_rest n s (b ∷ bs) fault some fails = told n (b ∷ bs) (step s (b ∷ bs)) _ _ fault refl fails
-
 pub ends_rest : (n : ℕ) (s t : Stage) (line : List ℕ) → (line ≡ [] → ⊥) → step s line ≡ Ok t
     → TellsFault (ended n s line) (fault_at n line (faults.Of kinds.Unfinished))
 ends_rest n s t [] some steps = absurd (some refl)

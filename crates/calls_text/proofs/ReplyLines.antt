@@ -63,9 +63,6 @@ value_got h lists more ws k false after many =
 abbrev number_given : Headed → PendingCall → List (List ℕ) → List (List ℕ) → ℕ
 number_given h o lists ws = got (gives_list h o o.op) lists ws
 
-abbrev lists_given : Headed → PendingCall → List (List ℕ) → List (List ℕ) → List (List ℕ)
-lists_given h o lists ws = got_lists (gives_list h o o.op) lists ws
-
 -- the numbers of the reply are those of the words
 abbrev IsGiven : Headed → PendingCall → Op → List (List ℕ) → List (List ℕ) → List (List ℕ)
     → Type 0

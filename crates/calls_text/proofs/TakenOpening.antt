@@ -332,10 +332,6 @@ start_taken d p has small some is =
     or_right _ _ opens in
     rw other (rw from (rw (start_steps d p has small is) refl))
 
--- the draft with these counts
-abbrev pub with_starts : Draft → List (ℕ × ℕ) → Draft
-with_starts d ps = record { heading = d.heading; from = d.from ++ ps }
-
 pub starts_taken : (h : Headed) (from ps : List (ℕ × ℕ)) → HasOutline h
     → h.setup.limit < 1000000000000000000 → 0 < h.setup.workers → AreStarts h from ps
     → AreTaken (Declaring (record { heading = h; from = from })) (from_lines h ps)

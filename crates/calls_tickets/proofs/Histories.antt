@@ -103,9 +103,3 @@ response x r past o e found h = record {
       IsNextOf Sequencer a (pending_of x.worker (pending_calls past))) e h.1);
   later = h.0;
 }
-
-pub no_response : (x : Event) (r : Reply) (past : List Event) → x.action ≡ Respond r
-    → pending_of x.worker (pending_calls past) ≡ None → IsHistoryOf Sequencer (x ∷ past) → ⊥
-no_response x r past e none h =
-    subst (IsNextOf Sequencer (Respond r)) none (subst (λ a.
-    IsNextOf Sequencer a (pending_of x.worker (pending_calls past))) e h.1)

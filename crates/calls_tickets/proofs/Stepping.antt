@@ -35,23 +35,6 @@ use Rattle.calls_tickets.proofs.Numbering.{holes_start, holes_filled, holes_rais
 use Rattle.calls_tickets.proofs.Numbering.{tops_rise}
 use Rattle.calls_tickets.proofs.Judging.{each_unmap}
 
--- NO EVENTS
-
-pub watching_start : Watching [] 0 [] []
-watching_start = record {
-  follows = record {
-    pending_is = refl;
-    holes_are = holes_start;
-    top_is = record { above = tt; reached = inl refl };
-    noted = tt;
-    straight = λ a b f. absurd (nothing a f.first);
-  };
-  paired = tt;
-}
-  where
-    nothing : (a : Call) → Contains [] a → ⊥
-    nothing a (k, lt, e) = absurd (omega arith)
-
 -- TOPS
 
 -- what was returned before p was returned before q

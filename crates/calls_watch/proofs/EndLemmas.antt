@@ -37,10 +37,6 @@ pub fed_first : (o : Option (List ℕ)) (f : Feeder)
 fed_first None f fed = tt
 fed_first (Some bytes) f fed = fed bytes
 
-pub nothing_read : (o : Option (List ℕ)) (f : Feeder) → ReadsAll o (Err cuts.Read) f
-nothing_read None f = tt
-nothing_read (Some bytes) f = tt
-
 pub fed_stop : (o now : Option (List ℕ)) (stop : Stop) (f : Feeder) → FedBy (Err stop) o now f
     → ReadsAll o (Err (cuts.Stop stop)) f
 fed_stop None now stop f fed = tt
@@ -171,12 +167,6 @@ stop_known None f stop status old new same reads says = tt
 stop_known (Some bytes) f stop status old new same reads says =
     stopped bytes status old new same (says (parts_of bytes) reads)
 
-pub cut_known : (o : Option (List ℕ)) (old new : Outlets) → new.out ≡ old.out
-    → Puts old.notes new.notes (codes "read fault\n")
-    → IfSome o (λ bytes. Watches bytes InputOutput old new)
-cut_known None old new same puts = tt
-cut_known (Some bytes) old new same puts = inr (same, puts)
-
 -- NOTES
 
 pub unread_says : (ps : List (List ℕ)) (w : Watcher) (fault : TextFault) (old new : Outgoing)
@@ -206,27 +196,6 @@ unread_says ps w faults.Memory old new s puts = record {
   begun = s.begun;
   good = s.good;
   says = puts;
-}
-
-pub memory_says : (ps : List (List ℕ)) (w : Watcher) (old new : Outgoing)
-    → Stops stops.Memory ps w → Puts old new (codes "no memory\n") → SaysStop ps Memory old new
-memory_says ps w old new s puts = record {
-  reads = s.reads;
-  start = s.start;
-  begun = s.begun;
-  good = s.good;
-  says = puts;
-}
-
-pub unwatched_says : (ps : List (List ℕ)) (w : Watcher) (old new : Outgoing)
-    → Stops stops.NotWatched ps w → Puts old new (unwatched_note w.number)
-    → SaysStop ps NotDecided old new
-unwatched_says ps w old new s puts = record {
-  reads = s.reads;
-  start = s.start;
-  begun = s.begun;
-  good = s.good;
-  says = (w.number, s.stops, puts);
 }
 
 refused_by : (ps : List (List ℕ)) (w : Watcher) (x : Event) (report : Report) (status : Status)

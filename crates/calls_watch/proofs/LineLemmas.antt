@@ -422,16 +422,6 @@ fault_stops ps qs line old new w faults.Memory some faulty = record {
   );
 }
 
-pub memory_stops : (ps qs : List (List ℕ)) (old new : Watcher) → IsWatching ps qs old
-    → Stops stops.Memory ps new
-memory_stops ps qs old new w = record {
-  reads = w.reads;
-  start = w.start;
-  begun = w.begun;
-  good = w.good;
-  stops = tt;
-}
-
 -- THE END
 
 none_read : (ps : List (List ℕ)) (reads : List OneRead) (n : ℕ) (qs : List (List ℕ))

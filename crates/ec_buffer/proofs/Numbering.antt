@@ -112,39 +112,6 @@ put_turn b produces t x past shape d acc f put =
           ] refl k.1)
     ]
 
--- what was put with a ticket stays so
-pub produced_stays : (b : Buffer) (produces : ℕ → Bool) (t : Tables) (x : Entry) (past : List Entry) (i : ℕ) → IsShape b → IsDeclared t → IsAccepted t (x ∷ past) → Follow (role_rules b produces) (x ∷ past)
-    → i < puts b past → produced b produces i (x ∷ past) ≡ produced b produces i past
-produced_stays b produces t x past i shape d acc f lt =
-    elim (put_on b x.act) as (λ o. put_on b x.act ≡ o → produced b produces i (x ∷ past) ≡ produced b produces i past) [
-      | None ↦ λ e. produced_same b produces t x past (op_at x past) acc refl (sym (put_on_op b t x past acc) ∙ e) i
-      | Some v ↦ λ e.
-          (let turn = put_turn b produces t x past shape d acc f (ap is_some e) in
-          let other : (puts b past == i) ≡ false = ne_eqb (puts b past) i (λ q. omega arith) in
-          produced_now b produces x past (puts b past) v i e turn ∙ (rw other refl))
-    ] refl
-
-pub delivered_stays : (b : Buffer) (produces : ℕ → Bool) (t : Tables) (x : Entry) (past : List Entry) (i : ℕ) → IsShape b → IsDeclared t → IsAccepted t (x ∷ past) → Follow (role_rules b produces) (x ∷ past)
-    → i < gets b past → delivered b produces i (x ∷ past) ≡ delivered b produces i past
-delivered_stays b produces t x past i shape d acc f lt =
-    elim (is_get_on b x.act) as (λ o. is_get_on b x.act ≡ o → delivered b produces i (x ∷ past) ≡ delivered b produces i past) [
-      | false ↦ λ e. delivered_same b produces t x past (op_at x past) acc refl (sym (get_on_op b t x past acc) ∙ e) i
-      | true ↦ λ e.
-          (let turn = (next_get b produces t x past shape d acc f e).turn in
-          let other : (gets b past == i) ≡ false = ne_eqb (gets b past) i (λ q. omega arith) in
-          delivered_now b produces x past (gets b past) i e turn ∙ (rw other refl))
-    ] refl
-
-pub no_put_of_get : (b : Buffer) (act : Act) → is_get_on b act ≡ true → put_on b act ≡ None
-no_put_of_get b (Get y) h = refl
-no_put_of_get b (Put y v) h = cc
-no_put_of_get b (Advance e) h = cc
-no_put_of_get b (Read e) h = cc
-no_put_of_get b (Await e v) h = cc
-no_put_of_get b Go h = cc
-no_put_of_get b (Ticket q) h = cc
-no_put_of_get b (Hand e c) h = cc
-
 pub no_get_of_put : (b : Buffer) (act : Act) → is_some (put_on b act) ≡ true → is_get_on b act ≡ false
 no_get_of_put b (Put y v) h = refl
 no_get_of_put b (Get y) h = cc

@@ -68,8 +68,3 @@ pub kind_is : (t : Tables) (past : List Entry) (w : ℕ) (act : Act) (reply : Re
     → answer_of t past w act ≡ Ok reply → IsReply act reply
 kind_is t past w act reply d acc h =
     kind_told t past w act reply (told_small t past w act reply d acc h) (sym (allowed t past w act reply h).1)
-
--- what an entry was told that stands after these
-pub kind_after : (t : Tables) (h done others : List Entry) (x : Entry) → IsDeclared t → IsAccepted t (reverse h) → done ++ x ∷ others ≡ h → IsReply x.act x.reply
-kind_after t h done others x d acc is =
-    kind_is t (reverse done) x.worker x.act x.reply d (accepted_until t h done (x ∷ others) acc is) (answered_after t h done others x acc is)

@@ -18,10 +18,6 @@ range_same : {X : Type 0} (f g : ℕ → X) (a n : ℕ) → ((i : ℕ) → i < a
 range_same f g a zero h = refl
 range_same f g a (suc n) h = ap (λ y. y ∷ map f (range_with_len (a + 1) n)) (h a (omega arith)) ∙ ap (λ ys. g a ∷ ys) (range_same f g (a + 1) n (λ i lt. h i (omega arith)))
 
--- what a list begins with
-pub front_is : {X : Type 0} (xs ys : List X) → take (length xs) (xs ++ ys) ≡ xs
-front_is xs ys = take-append-le (length xs) xs ys (omega arith) ∙ take_all (length xs) xs (omega arith)
-
 end_is : {X : Type 0} (xs ys : List X) (n : ℕ) → n ≡ length xs → drop n (xs ++ ys) ≡ ys
 end_is [] ys zero h = refl
 end_is [] ys (suc n) h = absurd (omega arith)

@@ -52,13 +52,6 @@ pub indexed_start : (h : List Entry) (lists : List KeptNumbers) → length lists
 unfolding advanced
 indexed_start h lists long none = record { long = long; index = λ e lt. none e }
 
--- the moment after an act is noted
-pub noted_none : (lists : List KeptNumbers) (act : Act) (moment : ℕ) → None ≡ raised_by act → NotesAct lists act moment lists
-noted_none lists act moment none = record {
-  long = refl;
-  moments = λ e. sym (append-nil (moments_in lists e)) ∙ ap (λ b. moments_in lists e ++ cond b (moment ∷ []) []) (sym (raises_none act e (sym none)));
-}
-
 pub noted_one : (lists lists' : List KeptNumbers) (act : Act) (moment e : ℕ) (v : KeptNumbers) → Some e ≡ raised_by act → e < length lists
     → v.list ≡ moments_in lists e ++ moment ∷ [] → lists' ≡ set lists e v → NotesAct lists act moment lists'
 noted_one lists lists' act moment e v raised low items is = record {

@@ -249,9 +249,6 @@ set_again [] i x y = refl
 set_again (z ∷ zs) zero x y = refl
 set_again (z ∷ zs) (suc i) x y = ap (λ ys. z ∷ ys) (set_again zs i x y)
 
-pub set_gets : {X : Type 0} (xs : List X) (i : ℕ) (x : X) → i < length xs → slice_get (slice_set xs i x) i ≡ Some x
-set_gets xs i x within = get_set xs i i x within ∙ ap (λ b. cond b (Some x) (slice_get xs i)) (eq-eqb i i refl)
-
 -- ONE LINE
 
 abbrev waiter : ℕ → ℕ → Waiter

@@ -170,15 +170,6 @@ opened_fits os news cs n o is before some few deep room d =
       few = omega (arith, room);
     }
 
--- if there was no room for a repeat, the innermost block is lost
-pub lost_fits : (os : List Open) (cs : List Command) (n : ℕ) → IsDraft os cs n → IsDraft os [] n
-lost_fits os cs n d = record {
-  outer = d.outer;
-  current = record { sound = refl; nesting = omega (arith, d.current.nesting) };
-  enough = omega (arith, d.enough);
-  few = d.few;
-}
-
 regroup : (a f g e : List Order) (b : Order) → a ++ (f ++ b ∷ (g ++ e)) ≡ ((a ++ (f ++ b ∷ [])) ++ g) ++ e
 regroup a f g e b = sym (simp append_assoc)
 
@@ -249,10 +240,6 @@ no_begun : (os : List Open) → length os ≡ 0 → begun os ≡ []
 unfolding begun
 no_begun [] is = refl
 no_begun (o ∷ os) is = absurd (omega arith)
-
--- a draft without an open repeat is a program
-pub is_program : (os : List Open) (cs : List Command) (n : ℕ) → IsDraft os cs n → IsProgram cs
-is_program os cs n d = record { sound = d.current.sound; nesting = omega (arith, d.current.nesting); count = omega (arith, d.enough, d.few) }
 
 pub finished : (os : List Open) (cs : List Command) (n : ℕ) (d : Drafted) → view_of os cs n ≡ d → d.depth ≡ 0 → flat cs ≡ d.orders
 finished os cs n d is none =

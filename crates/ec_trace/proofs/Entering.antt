@@ -7,8 +7,3 @@ use Rattle.ec_core.specs.declared.act.Act.{Act}
 use Rattle.ec_core.specs.declared.run.StepFault.{StepFault}
 use Rattle.ec_core.specs.declared.run.StepFault.TheVariants.{Refused, Memory}
 use Rattle.ec_trace.specs.Histories.{Enters}
-
-pub enters_fault : (after : Recorded → Type 0) (h : Recorded) (w : ℕ) (a : Act) (fault : StepFault) → IsFaultOf fault (answer_of h.setup (reverse h.entries) w a) → after h
-    → Enters after h w a (Err fault)
-enters_fault after h w a (Refused r) is stands = (is, stands)
-enters_fault after h w a Memory is stands = (is, stands)

@@ -26,10 +26,6 @@ numbered_is m n _ _ e = cc
 same_fault : {X : Type 0} (f g : TraceFault) → ◌≡◌ {A = Result X TraceFault} (Err f) (Err g) → f ≡ g
 same_fault f g e = cc
 
--- no part of a text has an LF
-AreClean : List (List ℕ) → Type 0
-AreClean parts = AllByRecursion (λ part. All (λ b. b ≢ 10) part) parts
-
 onto_clean : (b : ℕ) (parts : List (List ℕ)) → b ≢ 10 → AllByRecursion (λ part. All (λ c. c ≢ 10) part) parts → AllByRecursion (λ part. All (λ c. c ≢ 10) part) (onto_first b parts)
 onto_clean b [] apart all = (All-cons (λ x. x ≢ 10) b [] apart (All-nil (λ x. x ≢ 10)), tt)
 onto_clean b (part ∷ parts) apart all = (All-cons (λ x. x ≢ 10) b part apart all.0, all.1)

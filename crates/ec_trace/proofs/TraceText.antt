@@ -11,10 +11,6 @@ use Rattle.ec_trace.proofs.shared.LineParts.{join_spaced, text_of-append}
 use Rattle.ec_heading.proofs.shared.OutlineNames.{workers_found}
 use Rattle.ec_heading.proofs.shared.OutlineFound.{declarations_found, name_of_worker, version_found, limit_found, worker_names_found}
 
--- the names of workers that an outline gives
-HasWorkers : List (List ℕ) → Named → Type 0
-HasWorkers ws names = (ids : List ℕ) → names_of names ids ≡ list_words ws ids
-
 second_same : (ws : List (List ℕ)) (names : Named) (o : Option (List ℕ)) (ids : List ℕ) → ((is : List ℕ) → names_of names is ≡ list_words ws is) → second_names names o ids ≡ second_words ws o ids
 second_same ws names None ids h = refl
 second_same ws names (Some word) [] h = refl

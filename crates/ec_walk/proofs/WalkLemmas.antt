@@ -138,8 +138,6 @@ on_put y v (groups.Database d) = refl
 on_put y v (groups.Semaphore s) = refl
 on_put y v (groups.Both s) = refl
 
--- THE AUDITS
-
 -- WHICH GROUPS ARE ASKED
 
 -- a group that an act names, and that is not wide
@@ -329,11 +327,6 @@ module _ {A : Type 0} (stands : A → A → List Entry
       (λ i on one other. on_is_asked gs op named wide i covers wides on one other)
 
 -- A WALK
-
--- before the first entry
-pub handed_first : {A : Type 0} (stands : A → A → List Entry
-    → Type 0) (gs : List Group) (starts : List A) → AreHanded stands gs starts starts []
-handed_first stands gs starts = (refl, λ i start at. (start, at, refl))
 
 -- without groups an entry goes nowhere
 goes_nowhere : (gs : List Group) (i : ℕ) (x : Entry) (past : List Entry) → length gs ≡ 0

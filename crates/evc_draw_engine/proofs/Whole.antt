@@ -30,13 +30,6 @@ whole_drawn v None left text status before after is told = tt
 whole_drawn v (Some bytes) left text status before after is told =
     inr (inl (subst (λ t. DrawsText v t status before after) is.0 told))
 
-pub cut_off_drawn : (v : View) (old left : Option (List ℕ)) (text : List ℕ) (status : Status)
-    (before after : Outlets) → IfSome old (λ bytes. IsCutOff TRACE_MAX bytes left text)
-    → DrawsCutOff text status before after
-    → IfSome old (λ bytes. Draws v bytes left status before after)
-cut_off_drawn v None left text status before after is told = tt
-cut_off_drawn v (Some bytes) left text status before after is told = inr (inr (text, is, told))
-
 pub want_drawn : (v : View) (old left : Option (List ℕ)) (status : Status) (before after : Outlets)
     → status ≡ Memory → Wants before after
     → IfSome old (λ bytes. Draws v bytes left status before after)

@@ -24,10 +24,6 @@ continues_more n a b c p q = (
   All-append (λ w. w < n) p.0 q.0 p.2 q.2,
 )
 
--- a turn more
-pub continues_turn : (n w : ℕ) (a : List ℕ) → w < n → Continues n a (a ++ w ∷ [])
-continues_turn n w a small = (w ∷ [], refl, one n w small)
-
 -- cut behind its first turns
 pub continues_cut : (n m : ℕ) (own old : List ℕ) → length own ≤ m → Continues n own old
     → Continues n own (take m old)

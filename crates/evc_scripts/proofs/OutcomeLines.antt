@@ -28,6 +28,3 @@ outcome_put a b c words os k o is before now =
     (sym (ap (λ l. text_of (outcome_lines words 0 l)) (take_next os k o is) ∙ ap text_of (lines_next words 0 (take k os) o)
     ∙ text_of-append (outcome_lines words 0 (take k os)) _ ∙ ap (λ n. text_of (outcome_lines words 0 (take k os)) ++ text_of (outcome_lines words n (o ∷ []))) at))
     (puts_then a b c _ _ before now)
-
-pub no_outcomes_put : (now : Outgoing) → Puts now now []
-no_outcomes_put now = λ first all e. rw append-nil e

@@ -85,12 +85,3 @@ sims bytes left Stopped old new r e = e.2
 pub text_sims : (known left : Option (List ℕ)) (text : List ℕ) (status : Status) (old new : Outlets) → IfSome known (λ bytes. (text ≡ looked_at SCRIPT_MAX bytes) × IsReadUp SCRIPT_MAX bytes left) → TextEnds text status old new → IfSome known (λ bytes. Sims bytes left status old new)
 text_sims None left text status old new is e = tt
 text_sims (Some bytes) left text status old new is e = sims bytes left status old new is.1 (subst (λ (t : List ℕ). TextEnds t status old new) is.0 e)
-
--- there are as few outcomes as workers
-pub few_outcomes : (plan : Plan) (report : Report) (os : List Outcome) → os ≡ report.outcomes.items → IsReport plan.heading.setup plan.programs.items plan.schedule.items report → report.run.setup.workers ≤ 16
-    → length os ≤ 16
-few_outcomes plan report os are r few =
-    let each : length report.outcomes.items ≡ plan.heading.setup.workers = r.outcomes.each in
-    let same : report.run.setup.workers ≡ plan.heading.setup.workers = ap (λ (t : Tables). t.workers) r.setup in
-    let long : length os ≡ length report.outcomes.items = ap length are in
-    omega (arith, long, each, same, few)

@@ -37,12 +37,6 @@ event_free t signal observe room p q some =
     (or_from (has_repeat signal) (has_repeat observe) s.different o.different)
     some
 
-pub sequencer_free : (t : Tables) (take : List ℕ) → length t.takers < 32 → is_faulty t.workers take ≡ false → (length take == 0) ≡ false → list_fault t (nat_le 32 (length t.takers)) take (length take == 0) ≡ None
-sequencer_free t take room p some =
-    let s = sound_of t take p in
-    none_holds _ _ _ _ (or_from (nat_le 32 (length t.takers)) (nat_lt 16 (length take)) (lt-leb 32 (length t.takers) room) s.few)
-    s.known s.different some
-
 -- if there is room for some cells, and the lists are sound and someone writes, they have no fault
 pub cells_free : (t : Tables) (n : ℕ) (write read : List ℕ) → length t.cells + n ≤ 256 → is_faulty t.workers write ≡ false → is_faulty t.workers read ≡ false → (length write == 0) ≡ false → (n == 0) ≡ false → cells_fault t n write read ≡ None
 cells_free t n write read room p q some more =

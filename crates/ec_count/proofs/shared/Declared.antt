@@ -142,13 +142,6 @@ some_signaller t e d lt =
       | Some r ↦ λ at. (rights_at t e r d at).1
     ] refl
 
-pub few_observers : (t : Tables) (e : ℕ) → IsDeclared t → length (observers t e) ≤ 16
-few_observers t e d =
-    elim (slice_get t.events e) as (λ o. slice_get t.events e ≡ o → length (option_map_or (λ (r : Rights). r.observe) o []) ≤ 16) [
-      | None ↦ λ at. omega arith
-      | Some r ↦ λ at. (rights_at t e r d at).2.few
-    ] refl
-
 pub one_signaller : OneSignaller
 one_signaller t d e c w =
     elim (slice_get t.events e) as (λ o. slice_get t.events e ≡ o → (place_of w (option_map_or (λ (r : Rights). r.signal) o []) ≡ Some c) ↔ (option_and_then (λ (r : Rights). slice_get r.signal c) o ≡ Some w)) [

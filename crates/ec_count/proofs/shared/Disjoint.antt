@@ -62,14 +62,6 @@ joined_sound n ws others few p q apart =
     (or_from (list_any (λ w. nat_le n w) (ws ++ others)) (has_repeat (ws ++ others)) known different)
     (le-ltb 16 (length (ws ++ others)) (omega arith))
 
--- of a list without a fault: there is room, nothing is missing, and the list is sound
-pub role_of : (t : Tables) (full : Bool) (ws : List ℕ) (none : Bool) → list_fault t full ws none ≡ None → (full ≡ false) × (none ≡ false) × (is_faulty t.workers ws ≡ false)
-role_of t full ws none h =
-    let tests = none_is ((full || nat_lt 16 (length ws), TooMany) ∷ (names_unknown t ws, UnknownWorker) ∷ (has_repeat ws, Repeated) ∷ (none, Empty) ∷ []) h in
-    let d : Bool × SetupFault = (true, Empty) in
-    let large = or_parts full (nat_lt 16 (length ws)) (tests 0 d (omega arith)) in
-    (large.0, tests 3 d (omega arith), or_from (names_unknown t ws || has_repeat ws) (nat_lt 16 (length ws)) (or_from (names_unknown t ws) (has_repeat ws) (tests 1 d (omega arith)) (tests 2 d (omega arith))) large.1)
-
 -- what is true of two lists of different roles that have no fault
 pub record AreRoles (t : Tables) (first second : List ℕ) : Type 0 where
   pub first_sound : is_faulty t.workers first ≡ false

@@ -21,9 +21,6 @@ keeps_then t u v p q = record {
   cells = λ x a h. q.cells x a (p.cells x a h);
 }
 
-pub keeps_worker : (t : Tables) (n : ℕ) → KeepsObjects t (record t { workers = n })
-keeps_worker t n = record { events = λ e r h. h; takers = λ q take h. h; cells = λ x a h. h }
-
 -- what is declared stays so if an eventcount is added
 pub keeps_event : (t : Tables) (signal observe : List ℕ) → KeepsObjects t (with_event t signal observe)
 keeps_event t signal observe = record { events = λ e r h. still_there t.events _ e r h; takers = λ q take h. h; cells = λ x a h. h }
