@@ -29,10 +29,7 @@ use Rattle.calls_kernel.proofs.Fitting.{IsFitting}
 use Rattle.calls_kernel.proofs.Playing.{numbers_of, advances_by, draws, HasRoom, IsClear, IsPlayed}
 use Rattle.calls_kernel.proofs.Playing.{allowed_first, played_once, agrees_same, one_next}
 use Rattle.calls_kernel.proofs.Playing.{same_place}
-
-place_is : (c : ℕ) (o : Option ℕ) → is_place c o ≡ true → o ≡ Some c
-place_is c None h = cc
-place_is c (Some d) h = ap Some (eqb-true d c h)
+use Rattle.ec_core.proofs.shared.Bounds.{place_is}
 
 put_next : (x y v : ℕ) (g : ℕ → ℕ)
     → put_at g x v y ≡ unwrap_or (cond (x == y) (Some v) None) (g y)

@@ -13,14 +13,9 @@ use Rattle.calls_core.specs.declared.history.Kind.{Kind}
 use Rattle.calls_core.specs.declared.history.Kind.TheVariants.{Eventcount, Sequencer, Cell}
 use Rattle.calls_core.specs.Histories.{Takes}
 use Rattle.calls_kernel.specs.Seen.{kinds_of, is_call, object_of, op_of}
+use Rattle.ec_core.proofs.shared.Joining.{get_front as get_left}
 
 -- THE OBJECTS
-
-get_left : {X : Type 0} (xs ys : List X) (i : ℕ) → i < length xs
-    → slice_get (xs ++ ys) i ≡ slice_get xs i
-get_left [] ys i h = absurd (omega arith)
-get_left (x ∷ xs) ys zero h = refl
-get_left (x ∷ xs) ys (suc i) h = get_left xs ys i (omega arith)
 
 get_right : {X : Type 0} (xs ys : List X) (i j : ℕ) → i ≡ length xs + j
     → slice_get (xs ++ ys) i ≡ slice_get ys j

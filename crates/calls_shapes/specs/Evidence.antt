@@ -20,6 +20,7 @@ use Rattle.calls_verdict.specs.declared.verdict.Fault.TheVariants as faults
 use Rattle.calls_shapes.specs.declared.tallies.Counted.TheVariants.{Advances, Taking, Adding}
 use Rattle.calls_shapes.specs.declared.stairs.Portion.TheVariants.{Called, Returned, Between}
 use Rattle.calls_shapes.specs.declared.stairs.Course.{Course}
+pub use Rattle.calls_report.specs.Certificates.{is_timeout}
 
 -- THE CALLS THAT A FAULT NAMES
 
@@ -70,10 +71,6 @@ many_course start k c = record {
   base = start;
   to = c.first;
 }
-
-abbrev pub is_timeout : Reply → Bool
-is_timeout Timeout = true
-is_timeout _ = false
 
 -- those between s and c, from what s says on; an await that gave up says nothing of a least count
 abbrev pub since_course : ℕ → ℕ → Call → Call → Course

@@ -55,7 +55,7 @@ held : (b : Bool) → not b ≡ false → b ≡ true
 held true is = refl
 held false is = cc
 
-none_of : {A : Type 0} (o : Option A) → is_some o ≡ false → o ≡ None
+pub none_of : {A : Type 0} (o : Option A) → is_some o ≡ false → o ≡ None
 none_of None is = refl
 none_of (Some x) is = cc
 

@@ -24,7 +24,7 @@ bound : {A B : Type 0} (f : A → Option B) (o : Option A) (y : B) → option_an
 bound f None y is = cc
 bound f (Some x) y is = (x, refl, is)
 
-mapped : {A B : Type 0} (f : A → B) (o : Option A) (y : B) → option_map f o ≡ Some y
+pub mapped : {A B : Type 0} (f : A → B) (o : Option A) (y : B) → option_map f o ≡ Some y
     → (x : A) × (o ≡ Some x) × (f x ≡ y)
 mapped f None y is = cc
 mapped f (Some x) y is = (x, refl, cc)

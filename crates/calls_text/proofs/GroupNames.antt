@@ -37,6 +37,7 @@ use Rattle.ec_heading.proofs.shared.SpelledWords.{found_word, find-append_none, 
 use Rattle.calls_text.specs.Recordings.{cells_of}
 use Rattle.calls_text.specs.Spelling.{group_word}
 use Rattle.calls_text.proofs.Groups.{group_back}
+use Rattle.ec_heading.proofs.shared.Phrases.{is_itself as bytes_same}
 
 -- A LONGER LIST
 
@@ -133,9 +134,6 @@ no_name_yet h name (Some t) s none is =
     let there : is_some (find_name name h.words) ≡ true =
     found_word (λ w. is_some (find_name w h.words) ≡ true) h.names name t s.known is in
     absurd (true≢false (sym there ∙ ap is_some none))
-
-bytes_same : (w : List ℕ) → bytes_eq w w ≡ true
-bytes_same w = (bytes_eq-Decides w w).1 refl
 
 name_added : (h : Headed) (d : Declaration) (i : ℕ) → IsSound h → IsDeclarable h d
     → has_name d.sort ≡ true → target_of d.sort (next_of h) d.number ≡ target.Group i

@@ -17,9 +17,7 @@ use Rattle.ec_heading.specs.Outlined.{HasOutline}
 use Rattle.ec_heading.proofs.shared.OutlineNames.{IsOld, AreOld, old_after, workers_old}
 use Rattle.ec_heading.proofs.shared.OutlineGrows.{name_of-append_none}
 use Rattle.calls_text.specs.Spelling.{group_word}
-
-abbrev Named : Type 0
-Named = List (List ℕ × Target)
+use Rattle.ec_heading.proofs.shared.Listed.{Named}
 
 -- NAMES IN A LONGER LIST
 

@@ -47,6 +47,7 @@ use Rattle.calls_text.proofs.PhraseWords.{SaysAnswer}
 use Rattle.calls_text.proofs.CallLines.{numbers_length, not_back}
 use Rattle.calls_text.proofs.TakenEvents.{one_given}
 use Rattle.calls_text.proofs.EventParts.{IsCall, IsReturn, suited}
+use Rattle.calls_text.proofs.Coming.{none_of as none_back}
 
 -- NUMBERS
 
@@ -178,10 +179,6 @@ six_passed false false false false true f t u v w x y none = cc
 six_passed false false false false false true t u v w x y none = cc
 six_passed false false false false false false t u v w x y none =
     (refl, refl, refl, refl, refl, refl)
-
-none_back : {A : Type 0} (o : Option A) → is_some o ≡ false → o ≡ None
-none_back None is = refl
-none_back (Some x) is = cc
 
 pub may_call : (r s : Recorded) (line : List ℕ) → HasOutline r.heading → (c : IsCall r line s)
     → MayCall r c.worker c.verb c.of (called_numbers c.verb c.tail)

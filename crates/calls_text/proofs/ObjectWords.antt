@@ -26,6 +26,7 @@ use Rattle.calls_text.specs.Spelling.{worker_word, event_word, sequencer_word, c
 use Rattle.calls_text.specs.Spelling.{group_word}
 use Rattle.calls_text.proofs.Groups.{group_back}
 use Rattle.calls_text.proofs.CellWords.{and_then_back, cell_spelled, IsCell, cell_is}
+pub use Rattle.calls_text.proofs.Fitting.{mapped as map_back}
 
 pub sound_of : (h : Headed) → HasOutline h → IsSound h
 sound_of h has = subst IsSound has.declares (sound has.outline has.is)
@@ -126,11 +127,6 @@ cell_again h w x has is =
     rw small (cell_spelled h.words w x s.apart is)
 
 -- GROUPS
-
-pub map_back : {A B : Type 0} (f : A → B) (o : Option A) (y : B) → option_map f o ≡ Some y
-    → (x : A) × (o ≡ Some x) × (f x ≡ y)
-map_back f None y is = cc
-map_back f (Some x) y is = (x, refl, cc)
 
 place_found : (o : Option Target) (i : ℕ) → option_and_then place_of o ≡ Some i
     → o ≡ Some (target.Group i)

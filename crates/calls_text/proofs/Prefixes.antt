@@ -27,7 +27,7 @@ use Rattle.calls_text.proofs.Histories.{lines_back}
 -- LINES THAT ARE READ
 
 -- a stage that takes a line is not over
-is_open : (s t : Stage) (line : List ℕ) → step s line ≡ Ok t → is_ended s ≡ false
+pub is_open : (s t : Stage) (line : List ℕ) → step s line ≡ Ok t → is_ended s ≡ false
 unfolding step is_ended
 is_open Opening t line is = refl
 is_open Limiting t line is = refl

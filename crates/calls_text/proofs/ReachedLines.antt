@@ -15,16 +15,9 @@ use Rattle.calls_text.specs.kept.Stages.{seen_with, IsFollowing}
 use Rattle.calls_core.specs.declared.history.Event.{Event}
 use Rattle.calls_text.specs.kept.Leading.{Leads}
 use Rattle.calls_text.proofs.TextParts.{by_line, by_rest}
+pub use Rattle.calls_text.proofs.Prefixes.{is_open as open_before}
 
 -- LINE BY LINE
-
-pub open_before : (s t : Stage) (line : List ℕ) → step s line ≡ Ok t → is_ended s ≡ false
-unfolding step is_ended
-open_before Opening t line is = refl
-open_before Limiting t line is = refl
-open_before (Declaring d) t line is = refl
-open_before (Running r) t line is = refl
-open_before (Ended r) t line is = cc
 
 record IsCons (ps : List (List ℕ)) : Type 0 where
   first : List ℕ

@@ -14,6 +14,7 @@ use Rattle.calls_text.specs.Reading.{Stage, Opening, Limiting, Declaring, Runnin
 use Rattle.calls_text.specs.Reading.{is_ended}
 use Rattle.calls_text.specs.Outcomes.{OneRead, Parsed, parts_of, goes, taken, ended, fault_in}
 use Rattle.calls_text.specs.kept.Leading.{Leads}
+use Rattle.ec_text.proofs.shared.WordLemmas.{onto_has}
 
 -- JOINING AND SPLITTING
 
@@ -182,11 +183,6 @@ pub record HasFirst (bytes : List ℕ) : Type 0 where
   pub first : List ℕ
   pub others : List (List ℕ)
   pub is : parts_of bytes ≡ first ∷ others
-
-onto_has : (b : ℕ) (parts : List (List ℕ))
-    → (first : List ℕ) × (others : List (List ℕ)) × (onto_first b parts ≡ first ∷ others)
-onto_has b [] = (b ∷ [], [], refl)
-onto_has b (part ∷ parts) = (b ∷ part, parts, refl)
 
 pub has_first : (bytes : List ℕ) → HasFirst bytes
 has_first [] = record { first = []; others = []; is = refl }

@@ -5,16 +5,8 @@ use Rattle.std.specs.List.{onto_first}
 use Rattle.ec_text.specs.Words.{words_of}
 use Rattle.calls_text.specs.Forms.{only_in}
 use Rattle.calls_text.specs.Reading.{limit_digits, from_words}
-
-pub record HasFirst (line : List ℕ) : Type 0 where
-  pub first : List ℕ
-  pub others : List (List ℕ)
-  pub is : words_of line ≡ first ∷ others
-
-onto_has : (b : ℕ) (parts : List (List ℕ))
-    → (first : List ℕ) × (others : List (List ℕ)) × (onto_first b parts ≡ first ∷ others)
-onto_has b [] = (b ∷ [], [], refl)
-onto_has b (part ∷ parts) = (b ∷ part, parts, refl)
+use Rattle.ec_text.proofs.shared.WordLemmas.{onto_has}
+pub use Rattle.ec_text.proofs.shared.WordLemmas.{HasFirst}
 
 pub has_first : (line : List ℕ) → HasFirst line
 has_first [] = record { first = []; others = []; is = refl }

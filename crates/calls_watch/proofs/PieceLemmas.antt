@@ -12,6 +12,7 @@ use Rattle.calls_watch.specs.declared.stop.Stop.{Stop}
 use Rattle.calls_watch.specs.declared.watcher.Watcher.{Watcher}
 use Rattle.calls_watch.specs.kept.Watching.{IsWatching, Stops, GoesOn, IsFed, Feeds}
 use Rattle.calls_watch.specs.kept.Watching.{GathersTo, FedFrom}
+use Rattle.ec_text.proofs.shared.WordLemmas.{onto_has}
 
 no_lf : (bytes : List ℕ) → All (λ b. b ≢ 10) bytes → All (λ b. eqb b 10 ≡ false) bytes
 no_lf bytes none = All-weaker (λ b. b ≢ 10) (λ b. eqb b 10
@@ -29,11 +30,6 @@ pub record HasFirst (bytes : List ℕ) : Type 0 where
   pub first : List ℕ
   pub others : List (List ℕ)
   pub is : parts_of bytes ≡ first ∷ others
-
-onto_has : (b : ℕ) (parts : List (List ℕ)) → (first : List ℕ) × (others : List (List ℕ))
-    × (onto_first b parts ≡ first ∷ others)
-onto_has b [] = (b ∷ [], [], refl)
-onto_has b (part ∷ parts) = (b ∷ part, parts, refl)
 
 pub has_first : (bytes : List ℕ) → HasFirst bytes
 has_first [] = record { first = []; others = []; is = refl }

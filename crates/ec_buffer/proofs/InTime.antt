@@ -26,6 +26,7 @@ use Rattle.ec_buffer.proofs.Moves.{puts, gets, Moved, moved_if, produced, delive
 use Rattle.ec_buffer.proofs.Handing.{standing_item}
 use Rattle.ec_buffer.proofs.Followed.{handing}
 use Rattle.ec_buffer.proofs.Numbering.{IsNextGet, next_get, put_turn, put_after_get}
+use Rattle.ec_core.proofs.shared.Counting.{turned_count}
 
 -- COUNTS
 
@@ -38,9 +39,6 @@ gets_of : (b : Buffer) (past : List Entry) → gets b past ≡ gets_made b past
 unfolding gets
 gets_of b [] = refl
 gets_of b (x ∷ past) = ap (λ n. cond (is_get_on b x.act) 1 0 + n) (gets_of b past) ∙ sym (sum_by-cons (λ (y : Entry). cond (is_get_on b y.act) 1 0) x past)
-
-turned_count : (p : Entry → Bool) (h : List Entry) → count_by p (reverse h) ≡ count_by p h
-turned_count p h = sum_by-IsPermutation (λ x. cond (p x) 1 0) h (reverse h) (IsPermutation-reverse h)
 
 pub puts_count : (b : Buffer) (h : List Entry) → puts b (reverse h) ≡ puts_made b h
 puts_count b h = puts_of b (reverse h) ∙ turned_count (λ x. is_some (put_on b x.act)) h

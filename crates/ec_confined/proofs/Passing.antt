@@ -36,11 +36,9 @@ use Rattle.ec_confined.specs.Passing.{IsFollowedTrace, IsNoRefusal, Passes, Foll
 use Rattle.ec_confined.proofs.AllGroups.{groups_follow}
 use Rattle.ec_confined.proofs.Played.{turns_accepted, turns_run}
 use Rattle.ec_confined.proofs.Reported.{reported_follow}
+use Rattle.ec_count.proofs.shared.Declared.{at_place as of_all}
 
 -- A FOLLOWED TRACE
-
-of_all : {X : Type 0} (P : X → Type 0) (xs : List X) (i : ℕ) (x : X) → All P xs → slice_get xs i ≡ Some x → P x
-of_all P xs i x all at = subst P (get_or_from_slice_get xs i x x at) (all i x (slice_get_within xs i x at))
 
 read_once : (text : List ℕ) (t u : Recounted) → outcome TRACE_MAX text ≡ Ok t → outcome TRACE_MAX text ≡ Ok u → t ≡ u
 read_once text t u one other = (let same : Ok t ≡ Ok u = sym one ∙ other in cc)

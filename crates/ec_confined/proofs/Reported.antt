@@ -10,12 +10,7 @@ use Rattle.ec_runner.specs.RunReports.{IsReportOf}
 use Rattle.ec_confined.specs.Reports.{ReportedGroupsAreFollowed}
 use Rattle.ec_confined.proofs.AllGroups.{groups_follow}
 use Rattle.ec_confined.proofs.TurnedRound.{own_turned}
-
--- what stands at a place within a list
-there_is : {X : Type 0} (xs : List X) (i : ℕ) → i < length xs → (x : X) × (slice_get xs i ≡ Some x)
-there_is [] i within = absurd (omega arith)
-there_is (x ∷ xs) zero within = (x, refl)
-there_is (x ∷ xs) (suc i) within = there_is xs i (omega arith)
+use Rattle.ec_runner.proofs.shared.Histories.{there_is}
 
 told_run : (t : Tables) (programs : List (List Command)) (turns w : ℕ) (report : Report) → IsReportOf t programs turns report → w < t.workers
     → IsRunOf (program_at programs w) (own w (reverse report.run.entries))

@@ -18,6 +18,7 @@ use Rattle.ec_confined.specs.Laws.{SemaphoresAreFollowed}
 use Rattle.ec_confined.proofs.Suiting.{Suits, suits_tracked, suits_apart, fitting, unconcerned, extended_on, extended_off, at_op}
 use Rattle.ec_confined.proofs.Tests.{or_first, or_second, other_way}
 use Rattle.ec_confined.proofs.Workers.{programs_follow}
+use Rattle.ec_semaphore.proofs.shared.Implying.{used as down_place}
 
 -- THE OBJECTS OF A SEMAPHORE
 
@@ -78,10 +79,6 @@ fits_here : (s : Semaphore) (b : List Told) (a op : Act) → Some a ≡ Some op 
 fits_here s b a op is fits = fitting (use_rule s) b op (at_op (λ x. (use_rule s).fits b x ≡ true) a op is fits)
 
 -- P AND V
-
-down_place : List Told → List Told
-down_place (t ∷ []) = t ∷ []
-down_place calls = []
 
 down_fits : (s : Semaphore) (calls : List Told) (op : Act) → down_call s calls ≡ Some op → is_fitting (use_rule s) (down_place calls) op ≡ true
 unfolding down_place

@@ -6,7 +6,7 @@ use Rattle.std.proofs.Math.Nat.{zero-add}
 use Rattle.std.proofs.Math.ListN.{get_or, length-set}
 use Rattle.std.proofs.lemmas.Option.{slice_get_within, get_or_from_slice_get}
 use Rattle.ec_count.specs.Members.{is_member, has_repeat, place_of}
-use Rattle.ec_count.proofs.shared.Distinct.{set_distinct}
+use Rattle.ec_count.proofs.shared.Distinct.{eq_sym as other, set_distinct}
 use Rattle.ec_core.specs.Counts.{replaced}
 use Rattle.ec_core.specs.Fields.{replaced_new}
 use Rattle.ec_core.specs.Signallers.{AreSignallers}
@@ -29,9 +29,6 @@ place_from w (v ∷ ws) low c h =
       | true ↦ λ e. (let k : low ≡ c = cc in omega arith)
       | false ↦ λ e. (let k : low + 1 ≤ c = place_from w ws (low + 1) c e in omega arith)
     ] h
-
-other : (a b : ℕ) → (a == b) ≡ false → (b == a) ≡ false
-other a b h = grind arith
 
 -- the place of w once b stands in the place of a, and nowhere before
 abbrev moved : ℕ → ℕ → ℕ → ℕ → Option ℕ → Option ℕ

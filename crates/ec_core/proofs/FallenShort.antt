@@ -23,6 +23,7 @@ use Rattle.ec_core.proofs.CallsCut.{calls_are_cut, moments_kept, moments_more, m
 use Rattle.ec_core.proofs.shared.Following.{reply_read}
 use Rattle.ec_core.proofs.shared.Moments.{beginnings}
 use Rattle.ec_core.proofs.shared.Pasts.{pending_is}
+use Rattle.ec_core.proofs.shared.Stepping.{entry}
 
 -- THE END OF A ROUND
 
@@ -216,9 +217,6 @@ round_within n k some whole =
 shown_back : (t : Tables) (o : Option CallSoFar) (p : Progress) → option_map (shown t) o ≡ Some p → (call : CallSoFar) × (o ≡ Some call) × (shown t call ≡ p)
 shown_back t None p is = cc
 shown_back t (Some call) p is = (call, refl, (cc))
-
-abbrev entry : ℕ → Act → Reply → Entry
-entry w act reply = record { worker = w; act = act; reply = reply }
 
 entry_is : (x : Entry) (w : ℕ) (act : Act) (reply : Reply) → x.worker ≡ w → x.act ≡ act → x.reply ≡ reply → x ≡ entry w act reply
 entry_is x w act reply a b c = (let same : entry x.worker x.act x.reply ≡ entry w act reply = cc in same)

@@ -25,6 +25,8 @@ use Rattle.ec_database.specs.Tries.{AcceptedTry, accepted_of, ended_by, ended_at
 use Rattle.ec_database.specs.Places.{kept_of}
 use Rattle.ec_database.specs.Auditing.{finished_call, got_so_far, rows_after, try_ended, HasRow, HoldsGot}
 use Rattle.ec_database.proofs.Trying.{whole_is}
+use Rattle.ec_core.proofs.shared.Reading.{never}
+use Rattle.ec_core.proofs.shared.Pasts.{pending_is}
 
 -- TRIES ARE SHORT
 
@@ -56,11 +58,6 @@ short d w (x ∷ past) =
     ]
 
 -- FINISHED CALLS
-
-pending_is : (r : Reply) → is_pending r ≡ true → r ≡ Pending
-pending_is Pending h = refl
-pending_is Done h = cc
-pending_is (Number n) h = cc
 
 -- what an entry that finishes no call of a reader leaves: it is a writer's, or its reader's calls stay
 stays : (d : Database) (x : Entry) (past : List Entry) → is_pending x.reply || not (is_on d (op_at x past)) ≡ true → block (try_rule d) x.worker (x ∷ past) ≡ block (try_rule d) x.worker past
@@ -102,10 +99,6 @@ held_off d writers rows x past off h w lt role =
     ] refl
 
 -- ROWS
-
-never : (b : Bool) → (b && false) ≡ false
-never true = refl
-never false = refl
 
 -- whether the call is a get of its try
 abbrev in_gets : ℕ → ReaderCall → Bool

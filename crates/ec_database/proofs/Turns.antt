@@ -17,6 +17,7 @@ use Rattle.ec_database.proofs.Written.{chosen_if, written}
 use Rattle.ec_database.proofs.Counting.{puts_at}
 use Rattle.ec_database.proofs.Writing.{seat_at, seat, rules_write, put_in_op, seat_is, is_cell_at}
 use Rattle.ec_database.proofs.Steady.{writing, is_some_put, put_is}
+pub use Rattle.ec_core.proofs.shared.Breaks.{follow_before}
 
 pub put_in_some : (y : ℕ) (op : Act) (v : ℕ) → put_in y op ≡ Some v → op ≡ Put y v
 put_in_some y (Put z u) v h =
@@ -56,10 +57,6 @@ puts_grow d j x past = omega arith
 pub puts_later : (d : Database) (j : ℕ) (since past : List Entry) → puts_at d j past ≤ puts_at d j (since ++ past)
 puts_later d j [] past = omega arith
 puts_later d j (x ∷ since) past = (let a = puts_grow d j x (since ++ past) in let b = puts_later d j since past in omega arith)
-
-pub follow_before : (rules : ℕ → Rule) (since early : List Entry) → Follow rules (since ++ early) → Follow rules early
-follow_before rules [] early h = h
-follow_before rules (x ∷ since) early h = follow_before rules since early h.1
 
 -- WHERE A VALUE WAS PUT
 

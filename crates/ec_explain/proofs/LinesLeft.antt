@@ -6,17 +6,13 @@ use Rattle.std.specs.List.{onto_first, All}
 use Rattle.std.proofs.lemmas.List.Splits.{slice_split_at, slice_split_none}
 use Rattle.std.proofs.lemmas.List.Elements.{All-weaker}
 use Rattle.ec_explain.specs.Looking.{last_in, last_before, lines_of}
+use Rattle.ec_text.proofs.shared.WordLemmas.{onto_has}
 
 -- a list of lines has a first
 record HasFirst (bytes : List ℕ) : Type 0 where
   first : List ℕ
   others : List (List ℕ)
   is : lines_of bytes ≡ first ∷ others
-
-onto_has : (b : ℕ) (parts : List (List ℕ)) → (first : List ℕ) × (others : List (List ℕ))
-    × (onto_first b parts ≡ first ∷ others)
-onto_has b [] = (b ∷ [], [], refl)
-onto_has b (part ∷ parts) = (b ∷ part, parts, refl)
 
 has_first : (bytes : List ℕ) → HasFirst bytes
 has_first [] = record { first = []; others = []; is = refl }

@@ -22,24 +22,13 @@ use Rattle.ec_explain.specs.declared.site.Site.TheVariants as sites
 use Rattle.ec_explain.specs.TextLines.{place_of}
 use Rattle.ec_explain.specs.Places.{word_at, behind_first, start_of, is_among, names_before}
 use Rattle.ec_explain.specs.Places.{listed_before, full_before}
+pub use Rattle.calls_text.specs.Causes.{last_byte, has_space as has_blank, has_tab}
 
 -- ANY LINE
 
 -- whether a line begins with these bytes
 abbrev pub begins_with : List ℕ → List ℕ → Bool
 begins_with bytes line = bytes_eq (take (length bytes) line) bytes
-
--- the last byte, if there is one
-abbrev pub last_byte : List ℕ → List ℕ
-last_byte line = drop (length line - 1) line
-
-abbrev pub has_tab : List ℕ → Bool
-has_tab line = list_any (λ b. b == 9) line
-
--- whether a word of the line is empty: two spaces stand in a row, or one at its beginning or its
--- end
-abbrev pub has_blank : List ℕ → Bool
-has_blank line = list_any (λ w. length w == 0) (words_of line)
 
 -- whether it begins as comments do elsewhere
 abbrev pub is_comment : List ℕ → Bool

@@ -13,9 +13,7 @@ use Rattle.ec_heading.specs.Spelled.{block_of, cell_at, cell_of}
 use Rattle.ec_heading.specs.declared.sort.Sort.{Sort}
 use Rattle.ec_heading.specs.declared.sort.Sort.TheVariants as sorts
 use Rattle.ec_heading.proofs.shared.Declarable.{has_room}
-
-abbrev Named : Type 0
-Named = List (List ℕ × Target)
+use Rattle.ec_heading.proofs.shared.Listed.{Named}
 
 abbrev end_of : Target → ℕ
 end_of (Cells first n) = first + n

@@ -17,6 +17,7 @@ use Rattle.ec_order.specs.Calls.{call_of_entries, ended_by, is_reading, number_o
 use Rattle.ec_order.specs.Sequential.{SequentialState, sequential_reply, sequential_after}
 use Rattle.ec_order.specs.Walk.{is_alone}
 use Rattle.ec_order.proofs.Chains.{IsChain, IsChained, call_chain}
+use Rattle.ec_core.proofs.shared.Stepping.{entry}
 
 -- the numbers are those of a past
 pub record Shows (o : SequentialState) (past : List Entry) : Type 0 where
@@ -100,9 +101,6 @@ pub record EndsActing (t : Tables) (x : Entry) (past : List Entry) (o : Option C
 
 abbrev pub Ends : Tables → Entry → List Entry → Option CallSoFar → Type 0
 Ends t x past o = EndsNothing t x past o ⊎ (EndsReading t x past o ⊎ EndsActing t x past o)
-
-abbrev entry : ℕ → Act → Reply → Entry
-entry w act reply = record { worker = w; act = act; reply = reply }
 
 reading_ends : (t : Tables) (past : List Entry) (w : ℕ) (act op : Act) (reply : Reply) (rest : List (List Entry)) (o : Option CallSoFar)
     → gone_on act past o ≡ Some (record { op = op; moments = past ∷ rest }) → IsQuiet act → is_alone act ≡ false → is_reading op ≡ true → event_or op < 32 → IsChain past rest

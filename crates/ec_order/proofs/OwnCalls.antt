@@ -18,6 +18,7 @@ use Rattle.ec_core.proofs.shared.FittingCalls.{finished_other, finished_same, fi
 use Rattle.ec_order.specs.declared.call.Call.{Call}
 use Rattle.ec_order.specs.Calls.{call_of_entries, ended_by, finished_calls}
 use Rattle.ec_order.specs.Laws.{told_of, told_by}
+use Rattle.ec_core.proofs.shared.Stepping.{entry}
 
 told_more : (w : ℕ) (xs ys : List Call) → told_by w (xs ++ ys) ≡ told_by w xs ++ told_by w ys
 told_more w xs ys =
@@ -53,9 +54,6 @@ ended_one t x op moments final =
     ap (λ b. told_by x.worker (cond b [] (c ∷ []))) final
     ∙ one_told x.worker c
     ∙ ap (λ b. cond b (told_of c ∷ []) []) (eq-eqb x.worker x.worker refl)
-
-abbrev entry : ℕ → Act → Reply → Entry
-entry w act reply = record { worker = w; act = act; reply = reply }
 
 -- what its worker ends
 ended_by_own : (t : Tables) (w : ℕ) (act : Act) (reply : Reply) (past : List Entry) (o : Option CallSoFar)

@@ -23,6 +23,7 @@ use Rattle.ec_order.proofs.Ends.{ends}
 use Rattle.ec_order.proofs.Inserting.{map_insert}
 use Rattle.ec_order.proofs.Gathering.{AddsReading, added, alone_whole, by_moments_none, put_among, readings_more, readings_none, whole_from, whole_leaves}
 use Rattle.ec_order.proofs.Wholes.{IsLongReading, long_read, others_long, placed_whole, whole_short}
+use Rattle.ec_core.proofs.shared.Reading.{never as neither_way}
 
 -- READS AND AWAITS BY THEIR POINTS
 
@@ -158,10 +159,6 @@ none_taken t calls calls' ks ks' marks marks' alone rs lacks old x place were d 
 
 go_part : (x : Entry) → is_go x.act ≡ true → stands_alone x ≡ false
 go_part x go = ap (λ a. not a && not (is_pending x.reply)) go
-
-neither_way : (b : Bool) → (b && false) ≡ false
-neither_way true = refl
-neither_way false = refl
 
 -- an entry after which its call goes on
 pub takes_pending : (t : Tables) (calls calls' : List (Option Ongoing)) (ks ks' : List Raised) (marks marks' : List Bool) (alone : List Entry) (rs : List Dated) (lacks b : Bool) (old : Timed) (x : Entry) (place : ℕ)

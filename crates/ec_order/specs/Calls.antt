@@ -15,6 +15,7 @@ use Rattle.ec_core.specs.Calls.{CallSoFar, under_way, gone_on, call_with, is_go,
 use Rattle.ec_core.specs.Ongoing.{AreCalls}
 use Rattle.ec_core.specs.Rounds.{event_or, position_of, round_start}
 use Rattle.ec_order.specs.declared.call.Call.{Call}
+pub use Rattle.ec_core.specs.CallLists.{number_of}
 
 -- whether an act is a read or an await
 abbrev pub is_reading : Act → Bool
@@ -25,11 +26,6 @@ is_reading _ = false
 -- whether an entry is a whole call: it begins one, and ends it
 abbrev pub stands_alone : Entry → Bool
 stands_alone x = not (is_go x.act) && not (is_pending x.reply)
-
--- the number that a reply tells; 0 if it tells none
-abbrev pub number_of : Reply → ℕ
-number_of (Number n) = n
-number_of _ = 0
 
 -- the call whose last entry is x, begun by op, if the pasts of its entries are these, the newest first. An entry
 -- stands at the position that is the length of its past

@@ -173,7 +173,7 @@ after_counts s verbs.Repeat o ws counts = ordered_counts s (Begin (size_in ws)) 
 after_counts s verbs.End o ws counts = ended_counts s s.block refl counts
 after_counts s v o ws counts = commanded_counts s (command_in v (is_giving v) o ws) counts (command_steps v (is_giving v) o ws)
 
-unfaulted : (o : Option Kind) (s t : Scripted) → fault_or o s ≡ Ok t → s ≡ t
+pub unfaulted : (o : Option Kind) (s t : Scripted) → fault_or o s ≡ Ok t → s ≡ t
 unfaulted None s t is = cc
 unfaulted (Some k) s t is = cc
 

@@ -20,9 +20,8 @@ use Rattle.ec_heading.specs.Kinds.{workers_fault, declaration_of, declaration_fa
 use Rattle.ec_heading.specs.Lists.{worker_of, worker_in, ids_in}
 use Rattle.ec_heading.specs.Heading.{head_step, words_step, workers_in, opened_by, declared_or, fault_or, is_no_line}
 use Rattle.ec_script.proofs.Apart.{KeepApart, none_apart, declared_apart}
-
-abbrev Named : Type 0
-Named = List (List ℕ × Target)
+use Rattle.ec_heading.proofs.shared.Listed.{Named}
+use Rattle.ec_heading.proofs.shared.Declarable.{keeps_workers as workers_stay}
 
 -- WORDS
 
@@ -83,15 +82,6 @@ pub record HeadKeeps (h : Headed) : Type 0 where
   pub words : AreBelow h.setup.workers h.words
   pub apart : KeepApart h.setup h.groups
 
-workers_stay : (s : Sort) (t : Tables) (n : ℕ) (first second : List ℕ) → (with_objects s t n first second).workers ≡ t.workers
-workers_stay sorts.EventCount t n first second = refl
-workers_stay sorts.Sequencer t n first second = refl
-workers_stay sorts.Cells t n first second = refl
-workers_stay sorts.Buffer t n first second = refl
-workers_stay sorts.Database t n first second = refl
-workers_stay sorts.Semaphore t n first second = refl
-workers_stay sorts.Both t n first second = refl
-
 pub opened_keeps : (version : Version) (limit : ℕ) (ws : List (List ℕ)) → 1 ≤ length ws → HeadKeeps (opened version limit ws)
 opened_keeps version limit ws some = record {
   some = some;
@@ -115,7 +105,7 @@ passes : (o : Option HeadFault) (h t : Headed) → fault_or o h ≡ Ok t → h �
 passes None h t is = cc
 passes (Some f) h t is = cc
 
-not_refused : (b : Bool) (f : HeadFault) (r : Result Headed HeadFault) (t : Headed) → cond b (Err f) r ≡ Ok t → r ≡ Ok t
+pub not_refused : (b : Bool) (f : HeadFault) (r : Result Headed HeadFault) (t : Headed) → cond b (Err f) r ≡ Ok t → r ≡ Ok t
 not_refused true f r t is = cc
 not_refused false f r t is = is
 

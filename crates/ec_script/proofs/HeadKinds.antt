@@ -23,7 +23,7 @@ use Rattle.ec_heading.specs.Kinds.{workers_fault, declaration_fault, declaration
 use Rattle.ec_heading.specs.Lists.{worker_in, ids_in, has_unknown, has_word_twice}
 use Rattle.ec_heading.specs.Outline.{Declaration, with_objects}
 use Rattle.ec_heading.specs.Sorts.{has_number, needs_disjoint_lists, is_called, is_in_range, least as least_number, greatest}
-use Rattle.ec_heading.proofs.shared.AddedObjects.{Bounds}
+use Rattle.ec_heading.proofs.shared.AddedObjects.{counted_cells as filled, counted_twice as pushed_twice, counted as pushed, Bounds}
 use Rattle.ec_script.specs.declared.fault.Kind.{Kind}
 use Rattle.ec_script.specs.declared.fault.Kind.TheVariants as kinds
 use Rattle.ec_script.specs.Faults.{kind_of_head}
@@ -142,15 +142,6 @@ roles_decided h p =
     (decides_any (λ w. is_member w second) (λ w. Contains second w) (λ w. decides_member w second) first))
 
 -- ROOM
-
-pushed : {X : Type 0} (xs : List X) (x : X) → length (xs ++ x ∷ []) ≡ length xs + 1
-pushed xs x = length-append xs (x ∷ [])
-
-pushed_twice : {X : Type 0} (xs : List X) (x y : X) → length ((xs ++ x ∷ []) ++ y ∷ []) ≡ length xs + 2
-pushed_twice xs x y = omega (arith, length-append (xs ++ x ∷ []) (y ∷ []), length-append xs (x ∷ []))
-
-filled : {X : Type 0} (xs : List X) (n : ℕ) (x : X) → length (xs ++ replicate n x) ≡ length xs + n
-filled xs n x = omega (arith, length-append xs (replicate n x), length-replicate n x)
 
 decides_over : (m n k : ℕ) → k ≡ n → Decides (nat_lt m n) (m < k)
 decides_over m n k is = ((λ e. (let lt = ltb-true m n e in omega (arith, is, lt))), λ lt. lt-ltb m n (omega (arith, is, lt)))

@@ -26,7 +26,7 @@ use Rattle.ec_heading.specs.declared.heading.HeadFault.TheVariants as faults
 use Rattle.ec_heading.proofs.shared.Declarable.{Heads, heads_opened, heads_all}
 use Rattle.ec_heading.proofs.shared.LeadLines.{outline_leads}
 use Rattle.ec_heading.proofs.shared.Listed.{AreBelow, finds_worker, ids_again, ids_known}
-use Rattle.ec_heading.proofs.shared.LineWords.{AreFit, letters, AreNamed, names_fit, names_letters, listed_named, listed_length}
+use Rattle.ec_heading.proofs.shared.LineWords.{none_empty, fit_words, join_length, AreFit, letters, AreNamed, names_fit, names_letters, listed_named, listed_length}
 use Rattle.ec_script.specs.declared.fault.Kind.TheVariants as kinds
 use Rattle.ec_script.specs.declared.verb.Verb.{Verb}
 use Rattle.ec_script.specs.declared.verb.Verb.TheVariants as verbs
@@ -47,7 +47,7 @@ use Rattle.ec_script.specs.Scripted.{Scripted, Planned}
 use Rattle.ec_script.specs.Reading.{view_of_block, seen, after_verb, commanded, ordered_in, headed_on, phrased, opens_outer, script_step, limit_digits, limit_or, limited, limit_step, script_of, named_on, read_on, step}
 use Rattle.ec_script.specs.Grammar.{Leads, IsScript, IsLine}
 use Rattle.ec_script.specs.Layout.{order_by, Says, Block, IsBlock, texts_of, orders_of, AreNested, commands_in, worker_line, block_lines, schedule_line, IsRow, joined, workers_of, layout_lines, program_of, IsLaidOut}
-use Rattle.ec_script.proofs.Declaring.{HeadKeeps, Grows, first_keeps, head_grows}
+use Rattle.ec_script.proofs.Declaring.{not_refused, HeadKeeps, Grows, first_keeps, head_grows}
 use Rattle.ec_script.specs.Phrased.{verb_word}
 use Rattle.ec_script.proofs.PhraseWords.{made, verb_back}
 use Rattle.ec_script.proofs.Passing.{Passes, taken_so}
@@ -56,19 +56,6 @@ use Rattle.ec_script.proofs.Blocks.{state, set_all, planned, joins}
 use Rattle.ec_script.proofs.Layouts.{programs_are}
 
 -- LINES OF FIT WORDS
-
-fit_words : (ws : List (List ℕ)) → AreFit ws → AreWords ws
-fit_words [] h = tt
-fit_words (w ∷ ws) h = (h.0.word, fit_words ws h.1)
-
-none_empty : (ws : List (List ℕ)) → AreFit ws → list_any (λ w. eqb (length w) 0) ws ≡ false
-none_empty [] h = refl
-none_empty (w ∷ ws) h = or_from _ _ h.0.some (none_empty ws h.1)
-
-join_length : (ws : List (List ℕ)) → length (join_with_byte 32 ws) ≤ letters ws
-join_length [] = zero-le
-join_length (w ∷ []) = omega arith
-join_length (w ∷ v ∷ ws) = omega (arith, length-append w (32 ∷ join_with_byte 32 (v ∷ ws)), join_length (v ∷ ws))
 
 pub fit_line : (w : List ℕ) (ws : List (List ℕ)) → AreFit (w ∷ ws) → length (join_with_byte 32 (w ∷ ws)) ≤ 8192 → (words_of (join_with_byte 32 (w ∷ ws)) ≡ w ∷ ws) × (is_no_line (join_with_byte 32 (w ∷ ws)) ≡ false)
 fit_line w ws fit short =
@@ -370,10 +357,6 @@ no_sort w ws is = elim is [ inl f ↦ ap (λ (x : List ℕ). parts_in (x ∷ ws)
 declaring_words : (h next : Headed) (words : List (List ℕ)) → eqb h.setup.workers 0 ≡ false → words_step h words ≡ Ok next → opens_outer words ≡ false
 declaring_words h next [] some is = refl
 declaring_words h next (w ∷ ws) some is = false_from_ne_true _ (λ outer. refused_words h next (w ∷ ws) ws some (no_sort w ws (outer_word w (verb_of w) refl outer)) is)
-
-not_refused : (b : Bool) (f : HeadFault) (r : Result Headed HeadFault) (t : Headed) → cond b (Err f) r ≡ Ok t → r ≡ Ok t
-not_refused true f r t is = cc
-not_refused false f r t is = is
 
 declaring_line : (h next : Headed) (line : List ℕ) → HeadKeeps h → head_step h line ≡ Ok next → opens_outer (words_of line) ≡ false
 unfolding head_step

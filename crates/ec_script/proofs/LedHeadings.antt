@@ -31,6 +31,8 @@ use Rattle.ec_script.specs.Scripted.{Scripted}
 use Rattle.ec_script.specs.Reading.{seen, began, ordered_in, commanded, ended_in, after_verb, after, fault_or, phrased, headed_on, is_declaring, opens_outer, script_step, limiting, limited, limit_digits, limit_or, limit_step, script_of, named_on, read_on, step}
 use Rattle.ec_script.specs.Grammar.{Leads}
 use Rattle.ec_script.specs.Pairs.{LinesLeadToHeadings}
+use Rattle.ec_script.proofs.Counting.{unfaulted}
+use Rattle.ec_script.proofs.shared.Keeping.{not_refused}
 
 -- LINES THAT DECLARE NOTHING
 
@@ -61,10 +63,6 @@ after_same s verbs.Repeat o ws = ordered_same s s.block _
 after_same s verbs.End o ws = ended_same s s.block
 after_same s v o ws = commanded_same s (command_in v (is_giving v) o ws)
 
-unfaulted : (o : Option Kind) (s t : Scripted) → fault_or o s ≡ Ok t → s ≡ t
-unfaulted None s t is = cc
-unfaulted (Some k) s t is = cc
-
 phrased_same : (s t : Scripted) (o : Option Phrase) → phrased s o ≡ Ok t → t.heading ≡ s.heading
 phrased_same s t None is = cc
 phrased_same s t (Some p) is =
@@ -78,10 +76,6 @@ headed_outlined s t (Ok h) has is =
     let same : record s { heading = h } ≡ t = cc in
     subst (λ (x : Scripted). HasOutline x.heading) same (has h refl)
 headed_outlined s t (Err f) has is = cc
-
-not_refused : {S : Type 0} (b : Bool) (k : Kind) (r : Result S Kind) (t : S) → cond b (Err k) r ≡ Ok t → r ≡ Ok t
-not_refused true k r t is = cc
-not_refused false k r t is = is
 
 line_outlined : (s t : Scripted) (line : List ℕ) → HasOutline s.heading → script_step s line ≡ Ok t → HasOutline t.heading
 unfolding script_step

@@ -6,16 +6,13 @@ use Rattle.std.proofs.lemmas.List.Elements.{All-weaker}
 use Rattle.ec_script.specs.declared.stage.Stage.{Stage}
 use Rattle.ec_script.specs.Reading.{step}
 use Rattle.ec_script.specs.Outcome.{parts_of, goes, taken, ended, first_of}
+use Rattle.ec_text.proofs.shared.WordLemmas.{onto_has}
 
 -- a list of parts has a first
 pub record HasFirst (bytes : List ℕ) : Type 0 where
   pub first : List ℕ
   pub others : List (List ℕ)
   pub is : parts_of bytes ≡ first ∷ others
-
-onto_has : (b : ℕ) (parts : List (List ℕ)) → (first : List ℕ) × (others : List (List ℕ)) × (onto_first b parts ≡ first ∷ others)
-onto_has b [] = (b ∷ [], [], refl)
-onto_has b (part ∷ parts) = (b ∷ part, parts, refl)
 
 pub has_first : (bytes : List ℕ) → HasFirst bytes
 has_first [] = record { first = []; others = []; is = refl }

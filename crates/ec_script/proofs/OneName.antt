@@ -21,9 +21,7 @@ use Rattle.ec_heading.specs.Outlined.{IsHeading}
 use Rattle.ec_heading.proofs.shared.OutlineGrows.{objects_grow}
 use Rattle.ec_heading.proofs.shared.Phrases.{same_word}
 use Rattle.ec_script.specs.Objects.{place_of, group_in, semaphore_of, semaphore_in}
-
-abbrev Named : Type 0
-Named = List (List ℕ × Target)
+use Rattle.ec_heading.proofs.shared.Listed.{Named}
 
 -- WORDS AND PLACES IN A LONGER LIST
 

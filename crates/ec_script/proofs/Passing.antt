@@ -16,6 +16,7 @@ use Rattle.ec_script.specs.Objects.{object_in, is_owned}
 use Rattle.ec_script.specs.Kinds.{Seen, phrase_fault, or_nothing, is_allowed, is_named_again, has_unknown_name, is_bad_tail, is_too_many, has_two_roles, lacks_right, is_badly_nested}
 use Rattle.ec_script.specs.Scripted.{Scripted}
 use Rattle.ec_script.specs.Reading.{seen, after, fault_or, phrased, headed_on, is_declaring, opens_outer, script_step, read_on}
+use Rattle.ec_script.proofs.shared.Keeping.{unfaulted as faultless}
 
 -- no test holds of the line
 pub record Passes (s : Seen) (p : Phrase) (o : Option Object) : Type 0 where
@@ -110,10 +111,6 @@ pub record IsTaken (s : Scripted) (line : List ℕ) (t : Scripted) : Type 0 wher
 -- the line is not read as a declaration
 abbrev pub IsBehind : Scripted → List ℕ → Type 0
 IsBehind s line = (is_declaring s && not (opens_outer (words_of line))) ≡ false
-
-faultless : (o : Option Kind) (s t : Scripted) → fault_or o s ≡ Ok t → (o ≡ None) × (s ≡ t)
-faultless None s t is = (refl, cc)
-faultless (Some k) s t is = cc
 
 phrased_back : (s t : Scripted) (line : List ℕ) (o : Option Phrase) → is_no_line line ≡ false → phrase_in (words_of line) ≡ o → phrased s o ≡ Ok t → IsTaken s line t
 phrased_back s t line None whole form is = cc

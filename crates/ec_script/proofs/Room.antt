@@ -21,6 +21,7 @@ use Rattle.ec_script.specs.Scripted.{Scripted}
 use Rattle.ec_script.specs.Reading.{view_of_block, seen}
 use Rattle.ec_script.specs.Rooms.{MayOrder, MayEnd, HasRoom}
 use Rattle.ec_script.proofs.Sizes.{count_range}
+use Rattle.ec_script.proofs.PhraseWords.{made}
 
 pub may_command : (b : Option Block) (o : Order) → HasRoom b → IsSound o → MayOrder b o
 may_command None o room sound = tt
@@ -92,7 +93,7 @@ no_fault s p o is =
 
 -- A BLOCK
 
-below : (m n : ℕ) → nat_le m n ≡ false → n < m
+pub below : (m n : ℕ) → nat_le m n ≡ false → n < m
 below m n h = leb-false m n h
 
 pub room_for : (v : Verb) (ws : List (List ℕ)) (b : Option Block) (n : ℕ) → is_counted v ≡ true → is_too_many v ws (option_map view_of_block b) n ≡ false → HasRoom b
@@ -110,7 +111,7 @@ may_repeat ws (Some b) n o number many nested =
     let r = count_range 1000000 (option_and_then number_of (only_in ws)) (not_false _ number) in
     (omega (arith, r.some), r.few, below 4 b.draft.depth nested, below 4096 b.draft.commands many)
 
-end_deep : (d : ℕ) (e : Bool) → (nat_lt 0 d && e) ≡ false → 0 < d → e ≡ false
+pub end_deep : (d : ℕ) (e : Bool) → (nat_lt 0 d && e) ≡ false → 0 < d → e ≡ false
 end_deep d false h deep = refl
 end_deep d true h deep = let l : nat_lt 0 d ≡ true = lt-ltb 0 d deep in let g : (nat_lt 0 d && true) ≡ true = rw l refl in cc
 
@@ -119,9 +120,6 @@ may_end None nested = tt
 may_end (Some b) nested = λ deep. end_deep b.draft.depth b.draft.is_empty nested deep
 
 -- BY ITS VERB
-
-abbrev made : Verb → List ℕ → List (List ℕ) → Phrase
-made v object ws = record { verb = v; object = object; rest = ws }
 
 -- a repeat without fault
 pub repeat_may : (s : Scripted) (v : Verb) (object : List ℕ) (ws : List (List ℕ)) (o : Option Object) → v ≡ verbs.Repeat → phrase_fault (seen s) (made v object ws) o ≡ None → MayOrder s.block (Begin (size_in ws))

@@ -24,6 +24,8 @@ use Rattle.ec_script.specs.Drafted.{Drafted, with_order}
 use Rattle.ec_script.specs.Layout.{order_by, Says, AreNested, commands_in}
 use Rattle.ec_script.proofs.PhraseWords.{made}
 use Rattle.ec_script.proofs.Passing.{Passes}
+pub use Rattle.ec_script.proofs.shared.Keeping.{with_order_adds as orders_more}
+pub use Rattle.ec_script.proofs.Room.{below, end_deep as end_inner}
 
 -- THE ORDER OF A COMMAND
 
@@ -156,16 +158,3 @@ room_more d (Do c) may few = omega (arith, may)
 room_more d (Write b vs) may few = omega (arith, may)
 room_more d (Begin k) may few = omega (arith, may.1)
 room_more d End may few = few
-
-pub orders_more : (d : Drafted) (o : Order) → (with_order d o).orders ≡ d.orders ++ o ∷ []
-orders_more d (Do c) = refl
-orders_more d (Write b vs) = refl
-orders_more d (Begin n) = refl
-orders_more d End = refl
-
-pub below : (m n : ℕ) → nat_le m n ≡ false → n < m
-below m n h = leb-false m n h
-
-pub end_inner : (d : ℕ) (e : Bool) → (nat_lt 0 d && e) ≡ false → 0 < d → e ≡ false
-end_inner d false h deep = refl
-end_inner d true h deep = let l : nat_lt 0 d ≡ true = lt-ltb 0 d deep in let g : (nat_lt 0 d && true) ≡ true = rw l refl in cc

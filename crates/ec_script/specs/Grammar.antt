@@ -11,13 +11,7 @@ use Rattle.ec_script.specs.declared.stage.Stage.TheVariants.{Opening}
 use Rattle.ec_script.specs.Scripted.{Planned}
 use Rattle.ec_script.specs.Reading.{step}
 use Rattle.ec_script.specs.Outcome.{outcome, parts_of, plan_in, first_of, long_kind}
-
--- each line with its LF
-abbrev pub ended_line : List ℕ → List ℕ
-ended_line line = line ++ 10 ∷ []
-
-abbrev pub text_of : List (List ℕ) → List ℕ
-text_of lines = flat_map ended_line lines
+pub use Rattle.ec_heading.specs.Spelling.{text_of, ended_line}
 
 -- a line holds no LF
 abbrev pub IsLine : List ℕ → Type 0

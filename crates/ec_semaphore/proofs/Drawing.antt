@@ -28,6 +28,7 @@ use Rattle.ec_semaphore.specs.Both.{line_of, is_begun, both_rule, both_rules}
 use Rattle.ec_semaphore.specs.Pairs.{pair_of, pair_with, pairs_in}
 use Rattle.ec_semaphore.specs.InOrder.{calls_at, ticket_entry, DrawsPair, ArePairs}
 use Rattle.ec_semaphore.proofs.TicketOrder.{seat_of, pairs_at, no_pair, outside, paired}
+use Rattle.ec_core.proofs.shared.Stepping.{entry as entry_of}
 
 -- ONE ENTRY
 
@@ -37,9 +38,6 @@ act_is t x past q acc is =
       | inl same ↦ same ∙ is
       | inr k ↦ (let P : Act → Type 0 = λ a. IsReading t a in absurd (subst P is k.0))
     ]
-
-abbrev entry_of : ℕ → Act → Reply → Entry
-entry_of w act reply = record { worker = w; act = act; reply = reply }
 
 ticket_is : (x : Entry) (q n : ℕ) → x.act ≡ Ticket q → x.reply ≡ Number n → x ≡ ticket_entry x.worker q n
 ticket_is x q n act reply =

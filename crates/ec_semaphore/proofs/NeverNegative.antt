@@ -12,11 +12,12 @@ use Rattle.ec_core.specs.Calls.{is_pending}
 use Rattle.ec_core.specs.Acceptance.{IsAccepted}
 use Rattle.ec_core.specs.Following.{Told, block, Follow}
 use Rattle.ec_core.specs.CallLists.{is_due, number_of}
-use Rattle.ec_core.proofs.shared.Totals.{one_more}
+use Rattle.ec_core.proofs.shared.Totals.{sum_same, one_more}
 use Rattle.ec_core.proofs.shared.Following.{other_block, IsTold, op_at, step_told, total_step, issued_step, step_due, is_act-true, after_told, after_pending, off_block}
 use Rattle.ec_semaphore.specs.Shapes.{Semaphore}
 use Rattle.ec_semaphore.specs.Uses.{down_call, up_call, is_on, use_rule, use_rules}
 use Rattle.ec_semaphore.specs.Balances.{is_await, is_down, downs}
+use Rattle.ec_core.proofs.shared.Reading.{never}
 
 -- the ticket of a list of calls that has drawn one
 abbrev pub turn_of : List Told → ℕ
@@ -61,14 +62,6 @@ sum_few f n (suc m) h =
       | true ↦ λ e. (let below : m < n = h m e in let rest : sum_to (λ k. one (f k)) m ≤ m = sum_at_most f m in omega arith)
       | false ↦ λ e. (let rest : sum_to (λ k. one (f k)) m ≤ n = sum_few f n m h in omega arith)
     ] refl
-
-sum_same : (n : ℕ) (f g : ℕ → ℕ) → ((c : ℕ) → c < n → f c ≡ g c) → sum_to f n ≡ sum_to g n
-unfolding sum_to
-sum_same zero f g h = refl
-sum_same (suc n) f g h =
-    (let here : f n ≡ g n = h n (omega arith) in
-    let rest : sum_to f n ≡ sum_to g n = sum_same n f g (λ c lt. h c (omega arith)) in
-    cc)
 
 one_plus : (b c : Bool) → (b ≡ true → c ≡ false) → one (b || c) ≡ cond b 1 0 + one c
 one_plus true true h = (let k : true ≡ false = h refl in cc)
@@ -119,10 +112,6 @@ still s x past drawn up none same b = record {
   held = λ w c at. (let k = b.held w c (same w c at) in let lt : number_of c.reply < issued s.line past = k.0 in (omega arith, finished_same s (number_of c.reply) x past none ∙ k.1));
   apart = λ v w c d p q e. b.apart v w c d (same v c p) (same w d q) e;
 }
-
-never : (b : Bool) → (b && false) ≡ false
-never true = refl
-never false = refl
 
 plus_one : (n : ℕ) → 1 + n ≡ suc n
 plus_one n = omega arith

@@ -24,6 +24,7 @@ use Rattle.ec_semaphore.specs.Shapes.{Semaphore}
 use Rattle.ec_semaphore.specs.Uses.{is_on}
 use Rattle.ec_semaphore.specs.Both.{line_of, is_begun, both_rule, both_rules}
 use Rattle.ec_semaphore.specs.Pairs.{pair_of, pair_with, pairs_in, IsBelow, IsEarlier}
+pub use Rattle.ec_semaphore.proofs.shared.Implying.{outside}
 
 abbrev pub lists : Semaphore → (ℕ → Bool) → List Entry → ℕ → List Told
 lists c lines past w = block (both_rule c lines) w past
@@ -270,10 +271,6 @@ off_quiet c (Ticket q) h = (h, refl)
 off_quiet c (Put y v) h = (refl, refl)
 off_quiet c (Get y) h = (refl, refl)
 off_quiet c (Hand e b) h = (refl, refl)
-
-pub outside : (calls : List Told) → is_begun calls ≡ false → calls ≡ []
-outside [] h = refl
-outside (t ∷ rest) h = cc
 
 paired_next : (c : Semaphore) (lines : ℕ → Bool) (t : Tables) (x : Entry) (past : List Entry) → lines c.line ≡ false → IsDeclared t → IsAccepted t (x ∷ past) → Follow (both_rules c lines) (x ∷ past)
     → IsPaired c lines past → IsPaired c lines (x ∷ past)

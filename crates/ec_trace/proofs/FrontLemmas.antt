@@ -37,7 +37,7 @@ words_behind [] ys = refl
 words_behind (b ∷ xs) ys =
     ap (λ (ws : List (List ℕ)). cond (eqb b 32) ([] ∷ ws) (onto_first b ws)) (words_behind xs ys) ∙ step_split (eqb b 32) b xs (words_of ys)
 
-bound : {A B : Type 0} (o : Option A) (f : A → Option B) (y : B) → (o >>= f) ≡ Some y → (x : A) × (o ≡ Some x) × (f x ≡ Some y)
+pub bound : {A B : Type 0} (o : Option A) (f : A → Option B) (y : B) → (o >>= f) ≡ Some y → (x : A) × (o ≡ Some x) × (f x ≡ Some y)
 bound None f y e = cc
 bound (Some x) f y e = (x, refl, e)
 
@@ -88,7 +88,7 @@ tells names line front e has h unvalued =
 
 -- VALUES
 
-either : {X : Type 0} (b : Bool) (x y : Option X) (m : X) → cond b x y ≡ Some m → ((b ≡ true) × (x ≡ Some m)) ⊎ (y ≡ Some m)
+pub either : {X : Type 0} (b : Bool) (x y : Option X) (m : X) → cond b x y ≡ Some m → ((b ≡ true) × (x ≡ Some m)) ⊎ (y ≡ Some m)
 either true x y m e = inl (refl, e)
 either false x y m e = inr e
 

@@ -9,6 +9,7 @@ use Rattle.ec_trace.specs.Outcome.{parts_of, goes, taken}
 use Rattle.ec_trace.specs.declared.fault.LineFault.TheVariants as line_fault
 use Rattle.std.proofs.lemmas.Bool.{cases_eq, cond-true, cond_both, or_right, and_from}
 use Rattle.ec_trace.specs.declared.fault.TraceFault.TheVariants.{BadLine}
+use Rattle.ec_text.proofs.shared.WordLemmas.{onto_has}
 
 goes_long_first : (n : ℕ) (s : Stage) (line : List ℕ) (others : List (List ℕ)) → ltb 8192 (length line) ≡ true → goes n s (line ∷ others) ≡ Err (BadLine n)
 unfolding goes
@@ -20,10 +21,6 @@ pub record HasFirst (bytes : List ℕ) : Type 0 where
   pub first : List ℕ
   pub others : List (List ℕ)
   pub is : parts_of bytes ≡ first ∷ others
-
-onto_has : (b : ℕ) (parts : List (List ℕ)) → (first : List ℕ) × (others : List (List ℕ)) × (onto_first b parts ≡ first ∷ others)
-onto_has b [] = (b ∷ [], [], refl)
-onto_has b (part ∷ parts) = (b ∷ part, parts, refl)
 
 pub has_first : (bytes : List ℕ) → HasFirst bytes
 has_first [] = record { first = []; others = []; is = refl }

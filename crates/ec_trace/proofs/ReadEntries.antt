@@ -29,6 +29,7 @@ use Rattle.ec_trace.specs.Entries.{◌>>=◌, act_alone, act_on, act_with, reply
 use Rattle.ec_trace.specs.Step.{limit_in}
 use Rattle.ec_heading.proofs.shared.ReadNames.{AreApart, HasName, is_celled, HasBlock, has_block, block_by, IsNamedBy, named_by, word_lacks, word_back, bracketed}
 use Rattle.ec_trace.proofs.ReadCells.{decimal_lacks, cell_again, cell_spelled}
+pub use Rattle.ec_trace.proofs.FrontLemmas.{either, bound as bind_back}
 
 pub too_many : (names : Named) (a b c d e f more : List ℕ) → entry_in names (a ∷ b ∷ c ∷ d ∷ e ∷ f ∷ words_of more) ≡ None
 unfolding entry_in
@@ -213,16 +214,8 @@ entry_again names e are may = line_again names e.worker e.act e.reply are may.wo
 
 -- WHAT IS READ IS SPELLED
 
-pub bind_back : {A B : Type 0} (o : Option A) (f : A → Option B) (y : B) → (o >>= f) ≡ Some y → (x : A) × (o ≡ Some x) × (f x ≡ Some y)
-bind_back None f y e = cc
-bind_back (Some x) f y e = (x, refl, e)
-
 same_word : (v w : List ℕ) → bytes_eq v w ≡ true → v ≡ w
 same_word v w h = (bytes_eq-Decides v w).0 h
-
-pub either : {X : Type 0} (b : Bool) (x y : Option X) (m : X) → cond b x y ≡ Some m → ((b ≡ true) × (x ≡ Some m)) ⊎ (y ≡ Some m)
-either true x y m e = inl (refl, e)
-either false x y m e = inr e
 
 pub event_found : (o : Option Target) (e : ℕ) → option_and_then event_of o ≡ Some e → o ≡ Some (Event e)
 event_found None e h = cc

@@ -5,6 +5,7 @@ use Rattle.std.proofs.Common.{◌∙◌, ne_eqb, lt-ltb, arith, length-append, a
 use Rattle.std.specs.Prelude.{unwrap_or}
 use Rattle.std.specs.List.{AllByRecursion, position_from, flat_map}
 use Rattle.ec_explain.specs.TextLines.{place_of, behind_line, behind, first_line, line_at, before_line}
+use Rattle.ec_heading.specs.Spelling.{ended_line as ended}
 
 -- a line without an LF
 abbrev pub IsPlain : List ℕ → Type 0
@@ -62,9 +63,6 @@ behind_first : (n : ℕ) (xs : List ℕ) → behind (suc n) xs ≡ behind n (beh
 unfolding behind
 behind_first zero xs = refl
 behind_first (suc n) xs = ap behind_line (behind_first n xs)
-
-abbrev ended : List ℕ → List ℕ
-ended line = line ++ 10 ∷ []
 
 -- behind some lines
 pub behind_lines : (before : List (List ℕ)) (rest : List ℕ) → AllByRecursion IsPlain before

@@ -12,6 +12,7 @@ use Rattle.ec_machine.specs.Written.{written, written_one, written_step, repeate
 use Rattle.ec_script.specs.declared.order.Order.{Order}
 use Rattle.ec_script.specs.declared.order.Order.TheVariants.{Do, Write, Begin, End}
 use Rattle.ec_script.specs.Flat.{flat, flat_one, flat_step, all_of}
+use Rattle.ec_script.proofs.shared.WrittenOut.{FlatIs}
 
 -- LINES, WRITTEN OUT
 
@@ -97,9 +98,6 @@ one d o c lines is same kept os blocks done =
     ap (λ l. spread (l ++ os) blocks done) lines
     ∙ kept os blocks done
     ∙ ap (λ l. spread os blocks (done ++ l)) (sym (ap flat is ∙ flat_single c ∙ ap flat_one (sym same) ∙ lines))
-
-abbrev FlatIs : Command-F Command → List Order → Type 0
-FlatIs d os = flat_one (roll-Command d) ≡ os
 
 abbrev WrittenIs : Command-F Command → List Command → Type 0
 WrittenIs d cs = written_one (roll-Command d) ≡ cs

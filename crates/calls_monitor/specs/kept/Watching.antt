@@ -21,6 +21,7 @@ use Rattle.calls_monitor.specs.declared.monitor.Monitor.{Monitor}
 use Rattle.calls_monitor.specs.declared.monitor.Rejection.{Rejection}
 use Rattle.calls_monitor.specs.declared.monitor.Rejection.TheVariants.{Refused, Full}
 use Rattle.calls_monitor.specs.Refusals.{Explains}
+pub use Rattle.calls_counts.specs.Monitors.{HasRoom}
 
 -- ONE OBJECT
 
@@ -38,11 +39,6 @@ WatchesOf (Semaphores units) past (Units m) =
 WatchesOf Cell past Nothing = Unit {0}
 WatchesOf (Database n) past Nothing = Unit {0}
 WatchesOf _ _ _ = ⊥
-
--- an invocation needs room for a pending call
-abbrev pub HasRoom : Action → ℕ → Type 0
-HasRoom (Invoke k op) n = n < WORKERS
-HasRoom (Respond r) n = Unit {0}
 
 abbrev pub RoomFor : Watch → Action → Type 0
 RoomFor (Count m) a =

@@ -24,7 +24,7 @@ grown : (b : Bool) (n limit : ℕ) → (b ≡ true → (n == limit) ≡ false) �
 grown true n limit h le = (let other : n ≢ limit = eqb-false n limit (h refl) in omega arith)
 grown false n limit h le = omega arith
 
-place_is : (c : ℕ) (o : Option ℕ) → is_place c o ≡ true → o ≡ Some c
+pub place_is : (c : ℕ) (o : Option ℕ) → is_place c o ≡ true → o ≡ Some c
 place_is c None h = cc
 place_is c (Some d) h = ap Some (eqb-true d c h)
 

@@ -24,7 +24,7 @@ issued_of q [] = refl
 issued_of q (x ∷ past) =
     ap (λ n. cond (is_ticket q x.act) 1 0 + n) (issued_of q past) ∙ sym (sum_by-cons (λ (y : Entry). cond (is_ticket q y.act) 1 0) x past)
 
-turned_count : (p : Entry → Bool) (h : List Entry) → count_by p (reverse h) ≡ count_by p h
+pub turned_count : (p : Entry → Bool) (h : List Entry) → count_by p (reverse h) ≡ count_by p h
 turned_count p h = sum_by-IsPermutation (λ x. cond (p x) 1 0) h (reverse h) (IsPermutation-reverse h)
 
 pub totals_count : TotalsCountAdvances

@@ -21,11 +21,11 @@ use Rattle.ec_core.proofs.shared.Following.{other_block, pending_after, opened_i
 
 -- COUNTS BY WORKER
 
-never : (b : Bool) → (b && false) ≡ false
+pub never : (b : Bool) → (b && false) ≡ false
 never true = refl
 never false = refl
 
-always : (b : Bool) → (b && true) ≡ b
+pub always : (b : Bool) → (b && true) ≡ b
 always true = refl
 always false = refl
 

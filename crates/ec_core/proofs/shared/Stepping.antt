@@ -228,7 +228,7 @@ same_place t past e p q w o h =
       | false ↦ λ k. refl
     ] refl
 
-abbrev entry : ℕ → Act → Reply → Entry
+abbrev pub entry : ℕ → Act → Reply → Entry
 entry w act reply = record { worker = w; act = act; reply = reply }
 
 advance_stands : (s : State) (past : List Entry) (w e c : ℕ) → Stands s past → answer_of s.setup past w (Advance e) ≡ Ok Done

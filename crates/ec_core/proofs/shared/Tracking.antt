@@ -20,6 +20,7 @@ use Rattle.ec_core.proofs.shared.Breaks.{break_at, follow_or_break}
 use Rattle.ec_core.proofs.shared.Following.{op_at, off_block, other_block, block_pending}
 use Rattle.ec_core.proofs.shared.Moments.{past_next}
 use Rattle.ec_core.proofs.shared.Scans.{lists_after}
+use Rattle.ec_core.proofs.shared.Stepping.{entry as entry_of}
 
 -- WHAT WAS FOUND
 
@@ -172,9 +173,6 @@ pending_is : (reply : Reply) → is_pending reply ≡ true → reply ≡ Pending
 pending_is Pending h = refl
 pending_is Done h = cc
 pending_is (Number n) h = cc
-
-abbrev entry_of : ℕ → Act → Reply → Entry
-entry_of w act reply = record { worker = w; act = act; reply = reply }
 
 -- the go of a worker that ends no call
 abbrev pub going : ℕ → Entry

@@ -100,13 +100,13 @@ below_grows h l (Group i) g more b = (let low = ltb-true _ _ b in lt-ltb _ _ (om
 
 -- WHAT THE TABLES HAVE AFTER A DECLARATION, SORT BY SORT
 
-counted : {X : Type 0} (xs : List X) (x : X) → length (xs ++ x ∷ []) ≡ length xs + 1
+pub counted : {X : Type 0} (xs : List X) (x : X) → length (xs ++ x ∷ []) ≡ length xs + 1
 counted xs x = length-append xs (x ∷ [])
 
-counted_twice : {X : Type 0} (xs : List X) (x y : X) → length ((xs ++ x ∷ []) ++ y ∷ []) ≡ length xs + 2
+pub counted_twice : {X : Type 0} (xs : List X) (x y : X) → length ((xs ++ x ∷ []) ++ y ∷ []) ≡ length xs + 2
 counted_twice xs x y = omega (arith, length-append (xs ++ x ∷ []) (y ∷ []), length-append xs (x ∷ []))
 
-counted_cells : {X : Type 0} (xs : List X) (n : ℕ) (x : X) → length (xs ++ replicate n x) ≡ length xs + n
+pub counted_cells : {X : Type 0} (xs : List X) (n : ℕ) (x : X) → length (xs ++ replicate n x) ≡ length xs + n
 counted_cells xs n x = omega (arith, length-append xs (replicate n x), length-replicate n x)
 
 -- the objects of a declaration are all that its tables have more

@@ -26,6 +26,7 @@ use Rattle.ec_heading.specs.declared.heading.HeadFault.TheVariants as faults
 use Rattle.ec_heading.specs.Phrased.{IsSpelled, SecondFits, NumberFits, HasWords}
 use Rattle.ec_heading.proofs.shared.SortFacts.{zero_in_range, number_small}
 use Rattle.ec_heading.proofs.shared.Listed.{Named, HasNoWorker, no_worker-append, with_others, AreBelow, known_below, below_known, ids_below, ids_some}
+pub use Rattle.ec_count.specs.Roles.{shares_worker as shares}
 
 -- A LIST OF TESTS
 
@@ -52,7 +53,7 @@ pub record Heads (ws : List (List ℕ)) (h : Headed) : Type 0 where
 pub heads_opened : (version : Version) (limit : ℕ) (ws : List (List ℕ)) → Heads ws (opened version limit ws)
 heads_opened version limit ws = record { count = refl; others = []; words = sym (append-nil (numbered 0 ws)); none = tt }
 
-keeps_workers : (s : Sort) (t : Tables) (n : ℕ) (first second : List ℕ) → (with_objects s t n first second).workers ≡ t.workers
+pub keeps_workers : (s : Sort) (t : Tables) (n : ℕ) (first second : List ℕ) → (with_objects s t n first second).workers ≡ t.workers
 keeps_workers sorts.EventCount t n first second = refl
 keeps_workers sorts.Sequencer t n first second = refl
 keeps_workers sorts.Cells t n first second = refl
@@ -92,10 +93,6 @@ heads_all ws h [] heads = heads
 heads_all ws h (d ∷ ds) heads = heads_all ws (declared_by h d) ds (heads_more ws h d heads)
 
 -- WHAT THE TABLES ASK
-
--- whether a worker stands in both lists
-abbrev pub shares : List ℕ → List ℕ → Bool
-shares first second = list_any (λ w. is_member w second) first
 
 -- the tests of a declaration's objects, all passed
 pub record HasRoom (s : Sort) (t : Tables) (n : ℕ) (first second : List ℕ) : Type 0 where

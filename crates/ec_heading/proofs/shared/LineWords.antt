@@ -24,11 +24,11 @@ pub fit-append : (vs ws : List (List ℕ)) → AreFit vs → AreFit ws → AreFi
 fit-append [] ws h k = k
 fit-append (v ∷ vs) ws h k = (h.0, fit-append vs ws h.1 k)
 
-fit_words : (ws : List (List ℕ)) → AreFit ws → AreWords ws
+pub fit_words : (ws : List (List ℕ)) → AreFit ws → AreWords ws
 fit_words [] h = tt
 fit_words (w ∷ ws) h = (h.0.word, fit_words ws h.1)
 
-none_empty : (ws : List (List ℕ)) → AreFit ws → list_any (λ w. eqb (length w) 0) ws ≡ false
+pub none_empty : (ws : List (List ℕ)) → AreFit ws → list_any (λ w. eqb (length w) 0) ws ≡ false
 none_empty [] h = refl
 none_empty (w ∷ ws) h = or_from _ _ h.0.some (none_empty ws h.1)
 
@@ -41,7 +41,7 @@ pub letters-append : (vs ws : List (List ℕ)) → letters (vs ++ ws) ≡ letter
 letters-append [] ws = omega arith
 letters-append (v ∷ vs) ws = omega (arith, letters-append vs ws)
 
-join_length : (ws : List (List ℕ)) → length (join_with_byte 32 ws) ≤ letters ws
+pub join_length : (ws : List (List ℕ)) → length (join_with_byte 32 ws) ≤ letters ws
 join_length [] = zero-le
 join_length (w ∷ []) = omega arith
 join_length (w ∷ v ∷ ws) = omega (arith, length-append w (32 ∷ join_with_byte 32 (v ∷ ws)), join_length (v ∷ ws))

@@ -9,6 +9,7 @@ use Rattle.ec_heading.specs.Form.{Phrase, TwoLists, split_words, on_first, both_
 use Rattle.ec_heading.specs.Phrased.{HasWords, NameFits, number_part, NumberFits, second_part, SecondFits, behind_name, HasNoStop, IsSpelled}
 use Rattle.ec_heading.specs.declared.sort.Sort.{Sort}
 use Rattle.ec_heading.specs.declared.sort.Sort.TheVariants as sorts
+pub use Rattle.ec_text.proofs.shared.NumberLemmas.{guarded}
 
 -- SMALL STEPS
 
@@ -19,10 +20,6 @@ same_word v w e = (bytes_eq-Decides v w).0 e
 -- a word has the same bytes as itself
 pub is_itself : (w : List ℕ) → bytes_eq w w ≡ true
 is_itself w = (bytes_eq-Decides w w).1 refl
-
-pub guarded : {X : Type 0} (b : Bool) (x : Option X) (m : X) → cond b x None ≡ Some m → (b ≡ true) × (x ≡ Some m)
-guarded true x m e = (refl, e)
-guarded false x m e = cc
 
 either : {X : Type 0} (b : Bool) (x y : X) (r : Option X) → cond b (Some x) r ≡ Some y → ((b ≡ true) × (x ≡ y)) ⊎ (r ≡ Some y)
 either true x y r e = inl (refl, cc)

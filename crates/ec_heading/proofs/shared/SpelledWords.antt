@@ -15,6 +15,7 @@ use Rattle.ec_heading.specs.declared.sort.Sort.{Sort}
 use Rattle.ec_heading.specs.declared.sort.Sort.TheVariants as sorts
 use Rattle.ec_heading.proofs.shared.Each.{each_append, each_weaker}
 use Rattle.ec_heading.proofs.shared.SortFacts.{is_letter, letter_byte, IsCalled}
+use Rattle.ec_heading.proofs.shared.Phrases.{same_word as same_bytes, is_itself as its_bytes}
 
 -- WORDS IN A TABLE
 
@@ -22,12 +23,6 @@ use Rattle.ec_heading.proofs.shared.SortFacts.{is_letter, letter_byte, IsCalled}
 abbrev pub AreDistinct : Named → Type 0
 AreDistinct [] = Unit {0}
 AreDistinct (e ∷ es) = AllByRecursion (λ (d : List ℕ × Target). bytes_eq e.0 d.0 ≡ false) es × AreDistinct es
-
-same_bytes : (v w : List ℕ) → bytes_eq v w ≡ true → v ≡ w
-same_bytes v w e = (bytes_eq-Decides v w).0 e
-
-its_bytes : (w : List ℕ) → bytes_eq w w ≡ true
-its_bytes w = (bytes_eq-Decides w w).1 refl
 
 turned : (v w : List ℕ) → bytes_eq v w ≡ false → bytes_eq w v ≡ false
 turned v w off = false_from_ne_true _ (λ e. true≢false (sym ((bytes_eq-Decides v w).1 (sym (same_bytes w v e))) ∙ off))

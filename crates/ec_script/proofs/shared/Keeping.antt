@@ -125,7 +125,7 @@ declared_keeps s t (Err f) keeps none grows is = cc
 
 -- A LINE OF A BLOCK
 
-with_order_adds : (d : Drafted) (o : Order) → (with_order d o).orders ≡ d.orders ++ o ∷ []
+pub with_order_adds : (d : Drafted) (o : Order) → (with_order d o).orders ≡ d.orders ++ o ∷ []
 with_order_adds d (Do c) = refl
 with_order_adds d (Write b vs) = refl
 with_order_adds d (Begin n) = refl
@@ -204,7 +204,7 @@ after_keeps s verbs.Repeat w ws keeps has free roles = ordered_keeps s (Begin (s
 after_keeps s verbs.End w ws keeps has free roles = ended_keeps s s.block refl keeps
 after_keeps s v w ws keeps has free roles = command_keeps s v w ws keeps has free roles
 
-unfaulted : (o : Option Kind) (s t : Scripted) → fault_or o s ≡ Ok t → (o ≡ None) × (s ≡ t)
+pub unfaulted : (o : Option Kind) (s t : Scripted) → fault_or o s ≡ Ok t → (o ≡ None) × (s ≡ t)
 unfaulted None s t is = (refl, cc)
 unfaulted (Some k) s t is = cc
 
@@ -217,7 +217,7 @@ phrased_keeps s t (Some p) keeps is =
 
 -- LINES
 
-not_refused : {S : Type 0} (b : Bool) (k : Kind) (r : Result S Kind) (t : S) → cond b (Err k) r ≡ Ok t → r ≡ Ok t
+pub not_refused : {S : Type 0} (b : Bool) (k : Kind) (r : Result S Kind) (t : S) → cond b (Err k) r ≡ Ok t → r ≡ Ok t
 not_refused true k r t is = cc
 not_refused false k r t is = is
 

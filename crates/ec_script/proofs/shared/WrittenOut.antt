@@ -78,7 +78,7 @@ block_comes P Q _ = tt
 one : (P : Command-F Command → Type 0) (Q : Order → Type 0) (d : Command-F Command) (o : Order) (c : Command) → flat_one (roll-Command d) ≡ o ∷ [] → written_one (roll-Command d) ≡ c ∷ [] → (Q o → P (out-Command c)) → Comes P Q (roll-Command d)
 one P Q d o c lines is holds = λ all. subst (AllByRecursion (Of P)) (sym is) (holds (subst (AllByRecursion Q) lines all).0, tt)
 
-abbrev FlatIs : Command-F Command → List Order → Type 0
+abbrev pub FlatIs : Command-F Command → List Order → Type 0
 FlatIs d os = flat_one (roll-Command d) ≡ os
 
 comes : (P : Command-F Command → Type 0) (Q : Order → Type 0) → Passes P Q → (d : Command-F Command) → BlockComes P Q d → Comes P Q (roll-Command d)

@@ -18,7 +18,7 @@ use Rattle.ec_semaphore.specs.Uses.{threshold, is_on, use_rule, use_rules}
 use Rattle.ec_semaphore.specs.Both.{line_of, is_begun, both_rule, both_rules}
 
 -- what a worker's calls of a guarded part are as calls of the common semaphore: the ticket is the beginning of a P
-abbrev used : List Told → List Told
+abbrev pub used : List Told → List Told
 used (t ∷ []) = t ∷ []
 used calls = []
 
@@ -147,7 +147,7 @@ on_step c lines t x past (u ∷ a ∷ r ∷ s ∷ []) one apart acc at held on d
     }
 on_step c lines t x past (u ∷ a ∷ r ∷ s ∷ v ∷ rest) one apart acc at held on due told = cc
 
-outside : (calls : List Told) → is_begun calls ≡ false → calls ≡ []
+pub outside : (calls : List Told) → is_begun calls ≡ false → calls ≡ []
 outside [] h = refl
 outside (t ∷ rest) h = cc
 

@@ -7,14 +7,11 @@ use Rattle.std.proofs.lemmas.List.Folds.{list_any-append}
 use Rattle.ec_core.proofs.shared.Places.{get_set}
 use Rattle.ec_semaphore.specs.Shapes.{Semaphore}
 use Rattle.ec_semaphore.specs.Both.{is_line}
+use Rattle.ec_core.proofs.shared.Reading.{always as and_true, never as and_false}
 
 -- the sequencer of the common semaphore is not among the lines, whichever semaphores are handed in
 pub not_common : (c : Semaphore) (shapes : List Semaphore) → is_line c shapes c.line ≡ false
 not_common c shapes = ap (λ b. not b && list_any (λ (s : Semaphore). s.line == c.line) shapes) (eq-eqb c.line c.line refl)
-
-and_false : (b : Bool) → (b && false) ≡ false
-and_false true = refl
-and_false false = refl
 
 or_none : (b : Bool) → (b || (false || false)) ≡ b
 or_none true = refl
@@ -23,10 +20,6 @@ or_none false = refl
 or_one : (b : Bool) → (b || (true || false)) ≡ true
 or_one true = refl
 or_one false = refl
-
-and_true : (b : Bool) → (b && true) ≡ b
-and_true true = refl
-and_true false = refl
 
 get_false : (bs : List Bool) → list_all not bs ≡ true → (q : ℕ) → q < length bs → slice_get bs q ≡ Some false
 get_false [] h q lt = absurd (omega arith)

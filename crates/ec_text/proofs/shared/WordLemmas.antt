@@ -52,7 +52,7 @@ pub record HasFirst (line : List ℕ) : Type 0 where
   pub others : List (List ℕ)
   pub is : words_of line ≡ first ∷ others
 
-onto_has : (b : ℕ) (parts : List (List ℕ)) → (first : List ℕ) × (others : List (List ℕ)) × (onto_first b parts ≡ first ∷ others)
+pub onto_has : (b : ℕ) (parts : List (List ℕ)) → (first : List ℕ) × (others : List (List ℕ)) × (onto_first b parts ≡ first ∷ others)
 onto_has b [] = (b ∷ [], [], refl)
 onto_has b (part ∷ parts) = (b ∷ part, parts, refl)
 
