@@ -9,16 +9,16 @@ use Rattle.ec_core.specs.declared.act.Entry.{Entry}
 use Rattle.ec_count.specs.declared.target.Target.TheVariants.{Worker}
 use Rattle.ec_heading.specs.Spelling.{Named, word_of}
 use Rattle.ec_heading.specs.declared.group.Group.{Group}
-use Rattle.calls_text.specs.Objects.{has_count, has_line, has_cell}
+use Rattle.calls_text.specs.Objects.{has_event, has_sequencer, has_cell}
 use Rattle.calls_extract.specs.declared.cause.Cause.{Cause}
 use Rattle.calls_extract.specs.declared.cause.Cause.TheVariants.{OfGroup, HandsOver}
 
 -- whether the object of an act belongs to a group
 abbrev pub is_on_group : List Group → Act → Bool
-is_on_group gs (acts.Advance e) = list_any (λ g. has_count g e) gs
-is_on_group gs (acts.Read e) = list_any (λ g. has_count g e) gs
-is_on_group gs (acts.Await e v) = list_any (λ g. has_count g e) gs
-is_on_group gs (acts.Ticket q) = list_any (λ g. has_line g q) gs
+is_on_group gs (acts.Advance e) = list_any (λ g. has_event g e) gs
+is_on_group gs (acts.Read e) = list_any (λ g. has_event g e) gs
+is_on_group gs (acts.Await e v) = list_any (λ g. has_event g e) gs
+is_on_group gs (acts.Ticket q) = list_any (λ g. has_sequencer g q) gs
 is_on_group gs (acts.Put x v) = list_any (λ g. has_cell g x) gs
 is_on_group gs (acts.Get x) = list_any (λ g. has_cell g x) gs
 is_on_group gs acts.Go = false

@@ -2,12 +2,11 @@
 ghost use Rattle.std.specs.Prelude.{◌≡◌, Some, None, if◌then◌else◌, length, IfSome};
 ghost use Rattle.std.specs.List.{list_any};
 ghost use Rattle.std.specs.Option.{IfNone};
-ghost use Rattle.calls_text.specs.Objects.{has_count, has_line, has_cell};
+ghost use Rattle.calls_text.specs.Objects.{has_event, has_sequencer, has_cell};
 ghost use Rattle.ec_text.specs.Puts.{Puts, IsWrittenOut};
 ghost use Rattle.calls_extract.specs.Causes.{cause_of, cause_at, IsFirstCause, HasNoneBefore};
 ghost use Rattle.calls_extract.specs.Causes.{cause_words, entry_words, cause_note, name_at};
 
-use calls_text::{has_cell, has_count, has_line};
 use ec_core::{Act, Run};
 use ec_count::{CellId, EventId, SeqId};
 use ec_heading::Group;
@@ -26,23 +25,23 @@ pub enum Cause {
 
 /// Returns whether an eventcount belongs to one of the groups.
 fn is_event_owned(groups: &[Group], event: EventId) -> bool
-    ensures { result ≡ list_any (λ g. has_count g event) groups.now }
+    ensures { result ≡ list_any (λ g. has_event g event) groups.now }
 {
-    groups.iter().any(|group| has_count(group, event))
+    groups.iter().any(|group| group.has_event(event))
 }
 
 /// Returns whether a sequencer belongs to one of the groups.
 fn is_sequencer_owned(groups: &[Group], sequencer: SeqId) -> bool
-    ensures { result ≡ list_any (λ g. has_line g sequencer) groups.now }
+    ensures { result ≡ list_any (λ g. has_sequencer g sequencer) groups.now }
 {
-    groups.iter().any(|group| has_line(group, sequencer))
+    groups.iter().any(|group| group.has_sequencer(sequencer))
 }
 
 /// Returns whether a cell belongs to one of the groups.
 fn is_cell_owned(groups: &[Group], cell: CellId) -> bool
     ensures { result ≡ list_any (λ g. has_cell g cell) groups.now }
 {
-    groups.iter().any(|group| has_cell(group, cell))
+    groups.iter().any(|group| group.has_cell(cell))
 }
 
 /// Returns the cause of an entry whose object may belong to a group.

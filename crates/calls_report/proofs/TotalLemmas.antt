@@ -20,7 +20,7 @@ use Rattle.ec_database.specs.Shapes.{Database}
 use Rattle.ec_text.specs.Puts.{Puts, Outgoing}
 use Rattle.ec_text.proofs.shared.PutLemmas.{puts_then}
 use Rattle.calls_core.specs.declared.history.Placed.{Placed}
-use Rattle.calls_text.specs.Objects.{has_count, has_line}
+use Rattle.calls_text.specs.Objects.{has_event, has_sequencer}
 use Rattle.calls_text.specs.Recordings.{Recorded, first_group}
 use Rattle.calls_text.specs.Spelling.{list_of}
 use Rattle.calls_report.specs.Totals.{effects, group_event, group_sequencer, event_total}
@@ -32,17 +32,17 @@ use Rattle.calls_report.specs.Totals.{totals_at, totals_text}
 
 -- an eventcount of a database
 pub database_event : (h : Headed) (order : List Placed) (e i : ℕ) (g : kinds.Group) (d : Database)
-    (n : ℕ) → g ≡ groups.Database d → has_count g e ≡ true → n ≡ effects order (first_group h + i)
+    (n : ℕ) → g ≡ groups.Database d → has_event g e ≡ true → n ≡ effects order (first_group h + i)
     → Some n ≡ group_event h order e i g
 database_event h order e i g d n is has count =
-    let has' : has_count (groups.Database d) e ≡ true = ap (λ k. has_count k e) (sym is) ∙ has in
+    let has' : has_event (groups.Database d) e ≡ true = ap (λ k. has_event k e) (sym is) ∙ has in
     rw is (rw (has', count) refl)
 
 pub database_sequencer : (h : Headed) (order : List Placed) (q i : ℕ) (g : kinds.Group)
-    (d : Database) (n : ℕ) → g ≡ groups.Database d → has_line g q ≡ true
+    (d : Database) (n : ℕ) → g ≡ groups.Database d → has_sequencer g q ≡ true
     → n ≡ effects order (first_group h + i) → Some n ≡ group_sequencer h order q i g
 database_sequencer h order q i g d n is has count =
-    let has' : has_line (groups.Database d) q ≡ true = ap (λ k. has_line k q) (sym is) ∙ has in
+    let has' : has_sequencer (groups.Database d) q ≡ true = ap (λ k. has_sequencer k q) (sym is) ∙ has in
     rw is (rw (has', count) refl)
 
 no_list : (lists : List (List ℕ)) (k : ℕ) → None ≡ slice_get lists k → get_or lists k [] ≡ []

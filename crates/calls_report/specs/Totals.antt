@@ -15,7 +15,7 @@ use Rattle.calls_core.specs.declared.history.Op.{Op}
 use Rattle.calls_core.specs.declared.history.Op.TheVariants as ops
 use Rattle.calls_core.specs.declared.history.Placed.{Placed}
 use Rattle.calls_semaphores.specs.Banks.{takes, is_done}
-use Rattle.calls_text.specs.Objects.{has_count, has_line, has_cell}
+use Rattle.calls_text.specs.Objects.{has_event, has_sequencer, has_cell}
 use Rattle.calls_text.specs.Recordings.{Recorded, first_sequencer, first_cell, first_group}
 use Rattle.calls_text.specs.Recordings.{start_of}
 use Rattle.calls_text.specs.Spelling.{list_of}
@@ -71,24 +71,24 @@ pairs order = count_by (λ (p : Placed). is_pair p.call.op && is_done p.call.rep
 
 -- what an eventcount has by the calls of the group at place i, if it belongs to that
 abbrev pub group_event : Headed → List Placed → ℕ → ℕ → kinds.Group → Option ℕ
-group_event h order e i (groups.Buffer b) = if has_count (groups.Buffer b) e then Some 0 else None
+group_event h order e i (groups.Buffer b) = if has_event (groups.Buffer b) e then Some 0 else None
 group_event h order e i (groups.Database d) =
-    if has_count (groups.Database d) e then Some (effects order (first_group h + i)) else None
+    if has_event (groups.Database d) e then Some (effects order (first_group h + i)) else None
 group_event h order e i (groups.Semaphore s) =
-    if has_count (groups.Semaphore s) e then Some (added order i) else None
+    if has_event (groups.Semaphore s) e then Some (added order i) else None
 group_event h order e i (groups.Both s) =
-    if has_count (groups.Both s) e then Some (pairs order) else None
+    if has_event (groups.Both s) e then Some (pairs order) else None
 
 -- and a sequencer
 abbrev pub group_sequencer : Headed → List Placed → ℕ → ℕ → kinds.Group → Option ℕ
-group_sequencer h order q i (groups.Buffer b) = if has_line (groups.Buffer b) q then Some 0 else
+group_sequencer h order q i (groups.Buffer b) = if has_sequencer (groups.Buffer b) q then Some 0 else
     None
 group_sequencer h order q i (groups.Database d) =
-    if has_line (groups.Database d) q then Some (effects order (first_group h + i)) else None
+    if has_sequencer (groups.Database d) q then Some (effects order (first_group h + i)) else None
 group_sequencer h order q i (groups.Semaphore s) =
-    if has_line (groups.Semaphore s) q then Some (taken order i) else None
+    if has_sequencer (groups.Semaphore s) q then Some (taken order i) else None
 group_sequencer h order q i (groups.Both s) =
-    if has_line (groups.Both s) q then Some (pairs order) else None
+    if has_sequencer (groups.Both s) q then Some (pairs order) else None
 
 -- the numbers of a database in the end
 abbrev pub stored : Recorded → List Placed → ℕ → ℕ → List ℕ

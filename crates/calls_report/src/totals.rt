@@ -13,9 +13,7 @@ ghost use Rattle.calls_report.specs.Totals.{totals_text, totals_at};
 ghost use Rattle.calls_report.specs.kept.Sums.{AreSums};
 
 use crate::sums::{Sums, number_at};
-use calls_text::{
-    Recording, first_cell, first_group, first_sequencer, has_cell, has_count, has_line,
-};
+use calls_text::{Recording, first_cell, first_group, first_sequencer};
 use ec_count::{CellId, EventId, SeqId, Target, Vocabulary};
 use ec_heading::Group;
 use ec_text::Out;
@@ -56,7 +54,7 @@ impl<'a> Totals<'a> {
         ensures { (order : List Placed) → AreSums order self.now.sums.now → result ≡ group_event
             self.now.recording.now.heading order event place group.now }
     {
-        if !has_count(group, event) {
+        if !group.has_event(event) {
             return None;
         }
         match *group {
@@ -73,7 +71,7 @@ impl<'a> Totals<'a> {
         ensures { (order : List Placed) → AreSums order self.now.sums.now → result ≡ group_sequencer
             self.now.recording.now.heading order sequencer place group.now }
     {
-        if !has_line(group, sequencer) {
+        if !group.has_sequencer(sequencer) {
             return None;
         }
         match *group {
@@ -109,7 +107,7 @@ impl<'a> Totals<'a> {
         ensures { (order : List Placed) → AreSums order self.now.sums.now → result ≡ group_cell
             self.now.recording.now order cell place group.now }
     {
-        if !has_cell(group, cell) {
+        if !group.has_cell(cell) {
             return None;
         }
         match *group {

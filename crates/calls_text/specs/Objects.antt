@@ -11,6 +11,7 @@ use Rattle.ec_database.specs.Shapes as databases
 use Rattle.ec_semaphore.specs.Shapes.{Semaphore}
 use Rattle.ec_heading.specs.declared.group.Group as kinds
 use Rattle.ec_heading.specs.declared.group.Group.TheVariants as groups
+pub use Rattle.ec_heading.specs.Groups.{database_of, semaphore_of, both_of, has_event, has_sequencer, has_cell}
 use Rattle.ec_heading.specs.Headed.{Headed}
 use Rattle.ec_heading.specs.Spelled.{event_in, sequencer_in, cell_in_word}
 use Rattle.calls_text.specs.declared.verb.Verb.{Verb}
@@ -32,14 +33,6 @@ group_at gs i = option_map (λ g. (i, g)) (slice_get gs i)
 abbrev pub group_in : Headed → List ℕ → Option (ℕ × kinds.Group)
 group_in h w = option_and_then (group_at h.groups) (option_and_then place_of (find_name w h.names))
 
-abbrev pub semaphore_of : kinds.Group → Option Semaphore
-semaphore_of (groups.Semaphore s) = Some s
-semaphore_of _ = None
-
-abbrev pub database_of : kinds.Group → Option databases.Database
-database_of (groups.Database d) = Some d
-database_of _ = None
-
 abbrev pub placed_semaphore : ℕ × kinds.Group → Option (ℕ × Semaphore)
 placed_semaphore p = option_map (λ s. (p.0, s)) (semaphore_of p.1)
 
@@ -52,12 +45,6 @@ semaphore_in h w = option_and_then placed_semaphore (group_in h w)
 
 abbrev pub database_in : Headed → List ℕ → Option (ℕ × databases.Database)
 database_in h w = option_and_then placed_database (group_in h w)
-
--- the common semaphore, if one is declared
-abbrev pub both_of : List kinds.Group → Option Semaphore
-both_of [] = None
-both_of (groups.Both s ∷ gs) = Some s
-both_of (g ∷ gs) = both_of gs
 
 -- THE OBJECT OF A CALL
 
@@ -91,28 +78,10 @@ object_in h verbs.Snapshot w other = option_map as_database (database_in h w)
 
 -- OBJECTS OF GROUPS
 
-abbrev pub has_count : kinds.Group → ℕ → Bool
-has_count (groups.Buffer b) e = b.in_count == e || b.out_count == e
-has_count (groups.Database d) e = d.start == e || d.done == e
-has_count (groups.Semaphore s) e = s.count == e
-has_count (groups.Both s) e = s.count == e
-
-abbrev pub has_line : kinds.Group → ℕ → Bool
-has_line (groups.Buffer b) q = b.put_seq == q || b.take_seq == q
-has_line (groups.Database d) q = d.turn == q
-has_line (groups.Semaphore s) q = s.line == q
-has_line (groups.Both s) q = s.line == q
-
-abbrev pub has_cell : kinds.Group → ℕ → Bool
-has_cell (groups.Buffer b) x = nat_le b.first_cell x && nat_lt x (b.first_cell + b.cells)
-has_cell (groups.Database d) x = nat_le d.first_cell x && nat_lt x (d.first_cell + d.cells)
-has_cell (groups.Semaphore s) x = false
-has_cell (groups.Both s) x = false
-
 -- whether an eventcount, a sequencer or a cell belongs to the group
 abbrev pub owns : Object → kinds.Group → Bool
-owns (objects.Event e) g = has_count g e
-owns (objects.Sequencer q) g = has_line g q
+owns (objects.Event e) g = has_event g e
+owns (objects.Sequencer q) g = has_sequencer g q
 owns (objects.Cell x) g = has_cell g x
 owns _ g = false
 

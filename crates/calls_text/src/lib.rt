@@ -21,6 +21,5 @@ pub use following::{Followed, Follower};
 pub use index::{first_cell, first_group, first_sequencer, numbers_of};
 pub use laws::{no_text_begins_another, prefix_is_refused, read_is_spelled, spelled_is_read};
 pub use lists::Lists;
-pub use object::{has_cell, has_count, has_line};
 pub use reading::{Read, read_history};
 pub use recording::Recording;

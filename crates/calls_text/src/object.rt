@@ -1,14 +1,14 @@
 //! What the word of an object stands for.
 ghost use Rattle.std.specs.Prelude.{◌≡◌, option_map};
 ghost use Rattle.std.specs.Option.{option_and_then};
-ghost use Rattle.calls_text.specs.Objects.{group_in, semaphore_of, database_of, semaphore_in};
-ghost use Rattle.calls_text.specs.Objects.{database_in, both_of, pair_of, object_in, has_count};
-ghost use Rattle.calls_text.specs.Objects.{has_line, has_cell, owns, is_owned, has_right};
+ghost use Rattle.ec_heading.specs.Groups.{both_of};
+ghost use Rattle.calls_text.specs.Objects.{group_in, semaphore_in, database_in, pair_of, object_in};
+ghost use Rattle.calls_text.specs.Objects.{owns, is_owned, has_right};
 
 use crate::verb::Verb;
 use ec_count::{CellId, EventId, SeqId, Setup, Target, WorkerId};
 use ec_database::DatabaseShape;
-use ec_heading::{Group, Heading};
+use ec_heading::{Group, Heading, both_of};
 use ec_semaphore::SemaphoreShape;
 
 /// What a call is of. Groups go by their places among the groups, too.
@@ -34,32 +34,12 @@ fn group_in(heading: &Heading, word: &[u8]) -> Option<(usize, Group)>
     Some((place, group))
 }
 
-/// Returns the semaphore that a group is.
-fn semaphore_of(group: Group) -> Option<SemaphoreShape>
-    ensures { result ≡ semaphore_of group }
-{
-    match group {
-        Group::Semaphore(shape) => Some(shape),
-        _ => None,
-    }
-}
-
-/// Returns the database that a group is.
-fn database_of(group: Group) -> Option<DatabaseShape>
-    ensures { result ≡ database_of group }
-{
-    match group {
-        Group::Database(shape) => Some(shape),
-        _ => None,
-    }
-}
-
 /// Returns the semaphore of a name, with its place.
 fn semaphore_in(heading: &Heading, word: &[u8]) -> Option<(usize, SemaphoreShape)>
     ensures { result ≡ semaphore_in heading.now word.now }
 {
     let (place, group) = group_in(heading, word)?;
-    let shape = semaphore_of(group)?;
+    let shape = group.semaphore()?;
     Some((place, shape))
 }
 
@@ -68,19 +48,8 @@ fn database_in(heading: &Heading, word: &[u8]) -> Option<(usize, DatabaseShape)>
     ensures { result ≡ database_in heading.now word.now }
 {
     let (place, group) = group_in(heading, word)?;
-    let shape = database_of(group)?;
+    let shape = group.database()?;
     Some((place, shape))
-}
-
-/// Returns the common semaphore, if one is declared.
-fn both_of(groups: &[Group]) -> Option<SemaphoreShape>
-    ensures { result ≡ both_of groups.now }
-{
-    match groups {
-        [] => None,
-        [Group::Both(shape), ..] => Some(*shape),
-        [_, rest @ ..] => both_of(rest),
-    }
 }
 
 /// Returns the two semaphores that a call names, and the common one.
@@ -120,50 +89,14 @@ pub(crate) fn object_in(
     }
 }
 
-/// Returns whether an eventcount belongs to the group.
-pub fn has_count(group: &Group, event: EventId) -> bool
-    ensures { result ≡ has_count group.now event }
-{
-    match *group {
-        Group::Buffer(shape) => shape.in_count() == event || shape.out_count() == event,
-        Group::Database(shape) => shape.start() == event || shape.done() == event,
-        Group::Semaphore(shape) => shape.count() == event,
-        Group::Both(shape) => shape.count() == event,
-    }
-}
-
-/// Returns whether a sequencer belongs to the group.
-pub fn has_line(group: &Group, sequencer: SeqId) -> bool
-    ensures { result ≡ has_line group.now sequencer }
-{
-    match *group {
-        Group::Buffer(shape) => shape.put_seq() == sequencer || shape.take_seq() == sequencer,
-        Group::Database(shape) => shape.turn() == sequencer,
-        Group::Semaphore(shape) => shape.line() == sequencer,
-        Group::Both(shape) => shape.line() == sequencer,
-    }
-}
-
-/// Returns whether a cell belongs to the group.
-pub fn has_cell(group: &Group, cell: CellId) -> bool
-    ensures { result ≡ has_cell group.now cell }
-{
-    let (first, cells) = match *group {
-        Group::Buffer(shape) => (shape.first_cell(), shape.cells()),
-        Group::Database(shape) => (shape.first_cell(), shape.cells()),
-        Group::Semaphore(_) | Group::Both(_) => return false,
-    };
-    first.get() <= cell.get() && cell.get() < first.get() + cells
-}
-
 /// Returns whether an eventcount, a sequencer or a cell belongs to the group.
 fn owns(object: &Object, group: &Group) -> bool
     ensures { result ≡ owns object.now group.now }
 {
     match *object {
-        Object::Event(event) => has_count(group, event),
-        Object::Sequencer(sequencer) => has_line(group, sequencer),
-        Object::Cell(cell) => has_cell(group, cell),
+        Object::Event(event) => group.has_event(event),
+        Object::Sequencer(sequencer) => group.has_sequencer(sequencer),
+        Object::Cell(cell) => group.has_cell(cell),
         _ => false,
     }
 }

@@ -12,7 +12,7 @@ use Rattle.ec_semaphore.specs.Shapes.{Semaphore}
 use Rattle.ec_semaphore.specs.Uses as semaphores
 use Rattle.ec_heading.specs.declared.group.Group.{Group}
 use Rattle.ec_heading.specs.declared.group.Group.TheVariants as groups
-use Rattle.ec_script.specs.Objects.{has_count, has_line, has_cell, both_of}
+use Rattle.ec_script.specs.Objects.{has_event, has_sequencer, has_cell, both_of}
 use Rattle.ec_heading.specs.Rules.{semaphores_of}
 use Rattle.ec_confined.proofs.Tests.{or_first, or_second, same_test}
 
@@ -38,14 +38,14 @@ none_there y c = absurd (omega (arith, c.1))
 
 -- whether an act names an object of the group
 abbrev pub acts_on : Group → Act → Bool
-acts_on g (Advance e) = has_count g e
-acts_on g (Read e) = has_count g e
-acts_on g (Await e v) = has_count g e
+acts_on g (Advance e) = has_event g e
+acts_on g (Read e) = has_event g e
+acts_on g (Await e v) = has_event g e
 acts_on g Go = false
-acts_on g (Ticket q) = has_line g q
+acts_on g (Ticket q) = has_sequencer g q
 acts_on g (Put x v) = has_cell g x
 acts_on g (Get x) = has_cell g x
-acts_on g (Hand e b) = has_count g e
+acts_on g (Hand e b) = has_event g e
 
 same_tests : (e m n : ℕ) → (e == m || e == n) ≡ (m == e || n == e)
 same_tests e m n = ap (λ b. b || e == n) (same_test e m) ∙ ap (λ b. m == e || b) (same_test e n)

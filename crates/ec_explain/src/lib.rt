@@ -22,7 +22,7 @@ pub use cause::Cause;
 pub use finding::{
     Finding, Spot, found_at, of_whole, refused_at, shown_at, unfinished, wrong_reply_at,
 };
-pub use lines::{before_line, line_at};
+pub use lines::{before_line, line_at, place_of};
 pub use placing::{cause_at, place_at};
 pub use rights::{Asked, asked_in, holders};
 pub use round::{Look, event_or, looks_with};

@@ -13,7 +13,7 @@ fn position_of(sign: u8, bytes: &[u8]) -> Option<usize>
 }
 
 /// Returns where a byte stands first; behind the last byte if it doesn't.
-pub(crate) fn place_of(sign: u8, bytes: &[u8]) -> usize
+pub fn place_of(sign: u8, bytes: &[u8]) -> usize
     ensures value { result ≡ place_of sign bytes.now }
     ensures within { result ≤ length bytes.now }
 {

@@ -12,7 +12,7 @@ mod sort;
 mod spelled;
 mod version;
 
-pub use group::{Group, semaphores_of};
+pub use group::{Group, both_of, semaphores_of};
 pub use heading::{HeadFault, Heading, LINE_MAX};
 pub use laws::{
     lines_have_an_outline, outline_lines_lead, read_declaration_is_spelled,

@@ -10,6 +10,7 @@ use Rattle.ec_database.specs.Shapes as databases
 use Rattle.ec_semaphore.specs.Shapes.{Semaphore}
 use Rattle.ec_heading.specs.declared.group.Group.{Group}
 use Rattle.ec_heading.specs.declared.group.Group.TheVariants as groups
+pub use Rattle.ec_heading.specs.Groups.{buffer_of, database_of, semaphore_of, both_of, has_event, has_sequencer, has_cell}
 use Rattle.ec_heading.specs.Headed.{Headed}
 use Rattle.ec_heading.specs.Lists.{worker_in}
 use Rattle.ec_heading.specs.Spelled.{event_in, sequencer_in, cell_in_word}
@@ -29,18 +30,6 @@ place_of _ = None
 abbrev pub group_in : Headed → List ℕ → Option Group
 group_in h w = option_and_then (λ i. slice_get h.groups i) (option_and_then place_of (find_name w h.names))
 
-abbrev pub buffer_of : Group → Option buffers.Buffer
-buffer_of (groups.Buffer b) = Some b
-buffer_of _ = None
-
-abbrev pub database_of : Group → Option databases.Database
-database_of (groups.Database d) = Some d
-database_of _ = None
-
-abbrev pub semaphore_of : Group → Option Semaphore
-semaphore_of (groups.Semaphore s) = Some s
-semaphore_of _ = None
-
 abbrev pub buffer_in : Headed → List ℕ → Option buffers.Buffer
 buffer_in h w = option_and_then buffer_of (group_in h w)
 
@@ -50,12 +39,6 @@ database_in h w = option_and_then database_of (group_in h w)
 -- a semaphore by its name: `both` has none
 abbrev pub semaphore_in : Headed → List ℕ → Option Semaphore
 semaphore_in h w = option_and_then semaphore_of (group_in h w)
-
--- the common semaphore, if one is declared
-abbrev pub both_of : List Group → Option Semaphore
-both_of [] = None
-both_of (groups.Both s ∷ gs) = Some s
-both_of (g ∷ gs) = both_of gs
 
 -- THE OBJECT OF A LINE
 
@@ -94,30 +77,12 @@ object_in h p = object_for h p.verb p.object p.rest
 
 -- OBJECTS OF GROUPS
 
-abbrev pub has_count : Group → ℕ → Bool
-has_count (groups.Buffer b) e = b.in_count == e || b.out_count == e
-has_count (groups.Database d) e = d.start == e || d.done == e
-has_count (groups.Semaphore s) e = s.count == e
-has_count (groups.Both s) e = s.count == e
-
-abbrev pub has_line : Group → ℕ → Bool
-has_line (groups.Buffer b) q = b.put_seq == q || b.take_seq == q
-has_line (groups.Database d) q = d.turn == q
-has_line (groups.Semaphore s) q = s.line == q
-has_line (groups.Both s) q = s.line == q
-
-abbrev pub has_cell : Group → ℕ → Bool
-has_cell (groups.Buffer b) x = nat_le b.first_cell x && nat_lt x (b.first_cell + b.cells)
-has_cell (groups.Database d) x = nat_le d.first_cell x && nat_lt x (d.first_cell + d.cells)
-has_cell (groups.Semaphore s) x = false
-has_cell (groups.Both s) x = false
-
 -- whether an eventcount, a sequencer or a cell belongs to the group; of a hand, its eventcount
 abbrev pub owns : Object → Group → Bool
-owns (Event e) g = has_count g e
-owns (Sequencer q) g = has_line g q
+owns (Event e) g = has_event g e
+owns (Sequencer q) g = has_sequencer g q
 owns (Cell x) g = has_cell g x
-owns (Handed e b) g = has_count g e
+owns (Handed e b) g = has_event g e
 owns _ g = false
 
 abbrev pub is_owned : List Group → Object → Bool

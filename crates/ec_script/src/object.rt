@@ -1,17 +1,18 @@
 //! What the word of an object stands for.
 ghost use Rattle.std.specs.Prelude.{◌≡◌};
 ghost use Rattle.std.specs.Option.{option_and_then};
+ghost use Rattle.ec_heading.specs.Groups.{both_of};
 ghost use Rattle.ec_heading.specs.Lists.{worker_in};
 ghost use Rattle.ec_heading.specs.Spelled.{event_in};
 ghost use Rattle.ec_script.specs.Forms.{only_in, rest_words, shown};
-ghost use Rattle.ec_script.specs.Objects.{group_in, buffer_of, database_of, semaphore_of, buffer_in, database_in, semaphore_in, both_of, pair_of, handed_of, object_in, has_count, has_line, has_cell, owns, is_owned};
+ghost use Rattle.ec_script.specs.Objects.{group_in, buffer_in, database_in, semaphore_in, pair_of, handed_of, object_in, owns, is_owned};
 
 use crate::form::{Parts, only_word};
 use crate::verb::Verb;
 use ec_buffer::BufferShape;
 use ec_count::{CellId, EventId, SeqId, Target, WorkerId};
 use ec_database::DatabaseShape;
-use ec_heading::{Group, Heading};
+use ec_heading::{Group, Heading, both_of};
 use ec_semaphore::SemaphoreShape;
 
 /// What a line is about.
@@ -41,63 +42,25 @@ fn group_in(heading: &Heading, word: &[u8]) -> Option<Group>
     heading.groups().get(place).copied()
 }
 
-fn buffer_of(group: Group) -> Option<BufferShape>
-    ensures { result ≡ buffer_of group }
-{
-    match group {
-        Group::Buffer(shape) => Some(shape),
-        _ => None,
-    }
-}
-
-fn database_of(group: Group) -> Option<DatabaseShape>
-    ensures { result ≡ database_of group }
-{
-    match group {
-        Group::Database(shape) => Some(shape),
-        _ => None,
-    }
-}
-
-fn semaphore_of(group: Group) -> Option<SemaphoreShape>
-    ensures { result ≡ semaphore_of group }
-{
-    match group {
-        Group::Semaphore(shape) => Some(shape),
-        _ => None,
-    }
-}
-
 /// Returns the buffer of a name.
 fn buffer_in(heading: &Heading, word: &[u8]) -> Option<BufferShape>
     ensures { result ≡ buffer_in heading.now word.now }
 {
-    buffer_of(group_in(heading, word)?)
+    group_in(heading, word)?.buffer()
 }
 
 /// Returns the database of a name.
 fn database_in(heading: &Heading, word: &[u8]) -> Option<DatabaseShape>
     ensures { result ≡ database_in heading.now word.now }
 {
-    database_of(group_in(heading, word)?)
+    group_in(heading, word)?.database()
 }
 
 /// Returns the semaphore of a name.
 fn semaphore_in(heading: &Heading, word: &[u8]) -> Option<SemaphoreShape>
     ensures { result ≡ semaphore_in heading.now word.now }
 {
-    semaphore_of(group_in(heading, word)?)
-}
-
-/// Returns the common semaphore, if one is declared.
-fn both_of(groups: &[Group]) -> Option<SemaphoreShape>
-    ensures { result ≡ both_of groups.now }
-{
-    match groups {
-        [] => None,
-        [Group::Both(shape), ..] => Some(*shape),
-        [_, rest @ ..] => both_of(rest),
-    }
+    group_in(heading, word)?.semaphore()
 }
 
 /// Returns the common semaphore and the two that a line names.
@@ -139,52 +102,16 @@ pub(crate) fn object_in(heading: &Heading, parts: &Parts<'_>) -> Option<Object>
     }
 }
 
-/// Returns whether an eventcount belongs to the group.
-fn has_count(group: &Group, event: EventId) -> bool
-    ensures { result ≡ has_count group.now event }
-{
-    match *group {
-        Group::Buffer(shape) => shape.in_count() == event || shape.out_count() == event,
-        Group::Database(shape) => shape.start() == event || shape.done() == event,
-        Group::Semaphore(shape) => shape.count() == event,
-        Group::Both(shape) => shape.count() == event,
-    }
-}
-
-/// Returns whether a sequencer belongs to the group.
-fn has_line(group: &Group, sequencer: SeqId) -> bool
-    ensures { result ≡ has_line group.now sequencer }
-{
-    match *group {
-        Group::Buffer(shape) => shape.put_seq() == sequencer || shape.take_seq() == sequencer,
-        Group::Database(shape) => shape.turn() == sequencer,
-        Group::Semaphore(shape) => shape.line() == sequencer,
-        Group::Both(shape) => shape.line() == sequencer,
-    }
-}
-
-/// Returns whether a cell belongs to the group.
-fn has_cell(group: &Group, cell: CellId) -> bool
-    ensures { result ≡ has_cell group.now cell }
-{
-    let (first, cells) = match *group {
-        Group::Buffer(shape) => (shape.first_cell(), shape.cells()),
-        Group::Database(shape) => (shape.first_cell(), shape.cells()),
-        Group::Semaphore(_) | Group::Both(_) => return false,
-    };
-    first.get() <= cell.get() && cell.get() < first.get() + cells
-}
-
 /// Returns whether an eventcount, a sequencer or a cell belongs to the group; of a hand, its
 /// eventcount.
 fn owns(object: &Object, group: &Group) -> bool
     ensures { result ≡ owns object.now group.now }
 {
     match *object {
-        Object::Event(event) => has_count(group, event),
-        Object::Sequencer(sequencer) => has_line(group, sequencer),
-        Object::Cell(cell) => has_cell(group, cell),
-        Object::Handed(event, _) => has_count(group, event),
+        Object::Event(event) => group.has_event(event),
+        Object::Sequencer(sequencer) => group.has_sequencer(sequencer),
+        Object::Cell(cell) => group.has_cell(cell),
+        Object::Handed(event, _) => group.has_event(event),
         _ => false,
     }
 }

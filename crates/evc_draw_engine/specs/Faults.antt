@@ -1,42 +1,14 @@
 -- What is drawn of a text that is refused for one of its lines: the trace of the lines before that
 -- line, and of the line itself with the right reply if its reply alone is wrong.
-use Rattle.std.specs.Prelude.{ℕ, ◌+◌, ◌-◌, zero, suc, ◌==◌, nat_lt, List, [], ◌++◌, length, take}
-use Rattle.std.specs.Prelude.{drop, Option, Some, None, unwrap_or, Result, Ok, Err, codes}
-use Rattle.std.specs.Prelude.{if◌then◌else◌}
-use Rattle.std.specs.List.{position_from}
+use Rattle.std.specs.Prelude.{ℕ, ◌-◌, List, [], ◌++◌, take, Option, Some, None, Result, Ok, Err, codes}
 use Rattle.ec_core.specs.declared.act.Reply.{Reply}
+use Rattle.ec_explain.specs.TextLines.{before_line, line_at, place_of}
 use Rattle.ec_heading.specs.Spelling.{reply_word}
 use Rattle.ec_trace.specs.Recounted.{Recounted}
 use Rattle.ec_trace.specs.Outcome.{outcome}
 use Rattle.ec_trace.specs.declared.fault.TraceFault.{TraceFault}
 use Rattle.ec_trace.specs.declared.fault.TraceFault.TheVariants.{BadLine, Refused, WrongReply}
 use Rattle.ec_trace.specs.declared.read.TheConstants.{TRACE_MAX}
-
--- THE LINES OF A TEXT
-
--- where a sign stands first; behind the last byte if it doesn't
-abbrev pub place_of : ℕ → List ℕ → ℕ
-place_of sign xs = unwrap_or (position_from (λ b. b == sign) 0 xs) (length xs)
-
--- what stands behind the first line, which ends with its LF
-abbrev pub behind_line : List ℕ → List ℕ
-behind_line xs = if nat_lt (place_of 10 xs) (length xs) then drop (place_of 10 xs + 1) xs else []
-
--- what stands behind the first n lines
-unfoldable pub behind : ℕ → List ℕ → List ℕ
-behind zero xs = xs
-behind (suc n) xs = behind_line (behind n xs)
-
--- the first line without its LF
-abbrev pub first_line : List ℕ → List ℕ
-first_line xs = take (place_of 10 xs) xs
-
--- line n of a text, counted from 1, and all that stands before it
-abbrev pub line_at : ℕ → List ℕ → List ℕ
-line_at n xs = first_line (behind (n - 1) xs)
-
-abbrev pub before_line : ℕ → List ℕ → List ℕ
-before_line n xs = take (length xs - length (behind (n - 1) xs)) xs
 
 -- WHAT IS READ
 

@@ -12,7 +12,7 @@ ghost use Rattle.evc_draw_engine.specs.Faults.{position_in, right_of};
 ghost use Rattle.evc_draw_engine.specs.Windows.{cut_note, is_wide, window_on};
 
 use crate::calls::draw_histories;
-use crate::fault::{fault_line, history, line_at, position_in, read_text, right_of};
+use crate::fault::{fault_line, history, position_in, read_text, right_of};
 use crate::html::put_html;
 use crate::names::Names;
 use crate::note::Note;
@@ -24,6 +24,7 @@ use crate::view::View;
 use crate::window::{is_empty, is_wide, say_empty, window_for};
 use calls_draw::is_calls;
 use ec_draw::{Chosen, Picture, picture_of};
+use ec_explain::line_at;
 use ec_text::{Input, Out, read_up_to, write_out};
 use ec_trace::{TRACE_MAX, TraceFault, Traced};
 use evc_draw_task::{Form, Range};

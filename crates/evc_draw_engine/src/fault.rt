@@ -1,81 +1,16 @@
 //! What is drawn of a text that is refused for one of its lines.
-ghost use Rattle.std.specs.Prelude.{◌≡◌, ◌≤◌, ◌<◌, ◌==◌, ◌++◌, IfSome, IfOk, IfErr, OnOk, length};
-ghost use Rattle.std.specs.List.{position_from};
+ghost use Rattle.std.specs.Prelude.{◌≡◌, ◌++◌, IfOk, IfErr, OnOk};
 ghost use Rattle.ec_heading.specs.Spelling.{reply_word};
 ghost use Rattle.evc_engine.specs.Checks.{ReadsAs};
-ghost use Rattle.evc_draw_engine.specs.Faults.{before_line, behind, behind_line, fault_line, first_line};
-ghost use Rattle.evc_draw_engine.specs.Faults.{history, line_at, mended, place_of, position_in, right_of};
+ghost use Rattle.evc_draw_engine.specs.Faults.{fault_line, history, mended, position_in, right_of};
 ghost use Rattle.evc_draw_engine.specs.Faults.{with_reply, with_right};
 ghost use Rattle.evc_draw_engine.specs.Draws.{RefusedOr};
 
 use ec_core::Reply;
+use ec_explain::{before_line, line_at, place_of};
 use ec_trace::{TraceFault, Traced, read_trace};
 use itoa::Buffer;
 use std::alloc::{AllocError, Global};
-
-/// Returns where a sign stands first.
-fn position_of(sign: u8, bytes: &[u8]) -> Option<usize>
-    ensures value { result ≡ position_from (λ b. b == sign) 0 bytes.now }
-    ensures within { IfSome result (λ place. place < length bytes.now) }
-{
-    bytes.iter().position(|b| *b == sign)
-}
-
-/// Returns where a sign stands first; behind the last byte if it doesn't.
-fn place_of(sign: u8, bytes: &[u8]) -> usize
-    ensures value { result ≡ place_of sign bytes.now }
-    ensures within { result ≤ length bytes.now }
-{
-    match position_of(sign, bytes) {
-        Some(place) => place,
-        None => bytes.len(),
-    }
-}
-
-/// Returns what stands behind the first line.
-fn behind_line(text: &[u8]) -> &[u8]
-    ensures { result.now ≡ behind_line text.now }
-{
-    let end = place_of(b'\n', text);
-    if end < text.len() {
-        &text[end + 1..]
-    } else {
-        &[]
-    }
-}
-
-/// Returns what stands behind so many lines.
-fn behind(lines: u64, text: &[u8]) -> &[u8]
-    ensures { result.now ≡ behind lines text.now }
-{
-    let mut rest = text;
-    for _line in 0..lines {
-        rest = behind_line(rest);
-    }
-    rest
-}
-
-/// Returns the first line, without its LF.
-fn first_line(text: &[u8]) -> &[u8]
-    ensures { result.now ≡ first_line text.now }
-{
-    &text[..place_of(b'\n', text)]
-}
-
-/// Returns a line of a text, counted from 1.
-pub(crate) fn line_at(number: u64, text: &[u8]) -> &[u8]
-    ensures { result.now ≡ line_at number text.now }
-{
-    first_line(behind(number.saturating_sub(1), text))
-}
-
-/// Returns all that stands before a line.
-fn before_line(number: u64, text: &[u8]) -> &[u8]
-    ensures { result.now ≡ before_line number text.now }
-{
-    let rest = behind(number.saturating_sub(1), text);
-    &text[..text.len().saturating_sub(rest.len())]
-}
 
 /// Adds the word of a reply.
 fn add_reply(text: &mut Vec<u8>, reply: &Reply) -> Result<(), AllocError>
