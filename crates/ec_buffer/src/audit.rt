@@ -1,7 +1,6 @@
 //! The deliveries of a run.
 ghost use Rattle.std.specs.Prelude.{◌≡◌, ◌<◌, false, List, [], length, replicate, reverse, IfOk, IfErr, IfSome, OnOk};
 ghost use Rattle.ec_core.specs.Audits.{IsAuditFault};
-ghost use Rattle.ec_core.specs.CallLists.{number_of};
 ghost use Rattle.ec_core.specs.Ending.{EndsAt};
 ghost use Rattle.ec_core.specs.declared.act.Entry.{Entry};
 ghost use Rattle.ec_buffer.specs.Auditing.{IsDelivering};
@@ -11,7 +10,7 @@ ghost use Rattle.ec_buffer.specs.Items.{AreDeliveries};
 
 use crate::lists::Lists;
 use crate::{BufferShape, Delivery};
-use ec_core::{Act, Audit, AuditFault, Entry, Reply, Run, Tracker, walk};
+use ec_core::{Act, Audit, AuditFault, Entry, Run, Tracker, walk};
 use ec_count::{CellId, Setup, WorkerId};
 use std::alloc::{AllocError, Global};
 use std::marker::Model;
@@ -48,15 +47,6 @@ fn get_place(shape: &BufferShape, act: Act) -> Option<usize>
     }
 }
 
-fn number_of(reply: Reply) -> u64
-    ensures { result ≡ number_of reply }
-{
-    match reply {
-        Reply::Number(number) => number,
-        _ => 0,
-    }
-}
-
 /// Notes who put what now stands in a cell.
 fn note_put(shape: &BufferShape, entry: &Entry, writers: &mut [WorkerId; 256])
     ensures { writers.new ≡ writers_after (put_place shape.now entry.now.act) entry.now.worker writers.old }
@@ -88,7 +78,7 @@ fn add_get(
             number: list.len() as u64,
             producer: writers[place],
             consumer: entry.worker,
-            item: number_of(entry.reply),
+            item: entry.reply.number(),
         })?;
     }
     Ok(())

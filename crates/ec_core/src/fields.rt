@@ -3,7 +3,7 @@ ghost use Rattle.std.specs.Prelude.{◌≡◌, ℕ, false, ◌<◌, ◌≤◌, l
 ghost use Rattle.ec_count.specs.Counted.{raised};
 ghost use Rattle.ec_count.specs.Tables.{signallers};
 ghost use Rattle.ec_core.specs.Acceptance.{is_too_large};
-ghost use Rattle.ec_core.specs.Rounds.{event_or, width};
+ghost use Rattle.ec_core.specs.Rounds.{width};
 ghost use Rattle.ec_core.specs.Counts.{sum_to};
 ghost use Rattle.ec_core.specs.Standing.{count_at};
 ghost use Rattle.ec_core.specs.Fields.{value_of, changed_at};
@@ -41,18 +41,6 @@ pub(crate) fn is_too_large(act: &Act) -> bool
         Act::Await(_, value) | Act::Put(_, value) => value > VALUE_MAX,
         Act::Advance(_) | Act::Read(_) | Act::Go | Act::Ticket(_) | Act::Get(_) | Act::Hand(_, _) =>
             false,
-    }
-}
-
-/// Returns the eventcount that an act names, and the first one for an act that names none.
-pub(crate) fn event_or(op: Act) -> EventId
-    ensures { result ≡ event_or op }
-{
-    match op {
-        Act::Advance(event) | Act::Read(event) | Act::Await(event, _) => event,
-        Act::Go | Act::Ticket(_) | Act::Put(_, _) | Act::Get(_) | Act::Hand(_, _) => {
-            EventId::new(0).unwrap()
-        }
     }
 }
 

@@ -6,7 +6,7 @@ ghost use Rattle.ec_core.specs.Acceptance.{IsAccepted};
 ghost use Rattle.ec_core.specs.Calls.{is_pending};
 ghost use Rattle.ec_core.specs.Ongoing.{next_read, went_on, left, AreCalls, Takes};
 
-use crate::fields::{all_alike, event_or, width};
+use crate::fields::{all_alike, width};
 use crate::{Act, Entry, Reply};
 use ec_count::Setup;
 use std::marker::Model;
@@ -29,7 +29,7 @@ pub struct Ongoing {
 fn read_on(setup: &Setup, call: &mut Ongoing, at: usize)
     ensures { call.new ≡ next_read setup.now call.old at }
 {
-    let width = width(setup, event_or(call.op));
+    let width = width(setup, call.op.event());
     if call.index < width && call.index + 1 < width {
         call.index += 1;
     } else {

@@ -7,7 +7,7 @@ ghost use Rattle.ec_core.specs.Following.{Told, Rule, opened, block};
 ghost use Rattle.ec_core.specs.Scanning.{IsFinding, IsTracked, Finds};
 
 use crate::fields::all_alike;
-use crate::{Act, AuditFault, Entry, Kept, Protocol, Reply};
+use crate::{Act, AuditFault, Entry, Kept, Protocol};
 use ec_count::WorkerId;
 use std::marker::Model;
 
@@ -68,19 +68,11 @@ impl Tracker {
     {
         let kept = self.kept(entry.worker);
         find(protocol, &mut self.fault, &kept, place, entry);
-        if is_pending(entry.reply) {
+        if entry.reply.is_pending() {
             return;
         }
         self.kept[entry.worker.get()] = protocol.after(entry.worker, &kept, op, entry.reply);
     }
-}
-
-/// Returns whether a call goes on.
-#[inline(always)]
-fn is_pending(reply: Reply) -> bool
-    ensures { result ≡ is_pending reply }
-{
-    matches!(reply, Reply::Pending)
 }
 
 /// Finds whether one more entry is the first that breaks the lists.

@@ -25,7 +25,7 @@ pub use finding::{
 pub use lines::{before_line, line_at, place_of};
 pub use placing::{cause_at, place_at};
 pub use rights::{Asked, asked_in, holders};
-pub use round::{Look, event_or, looks_with};
+pub use round::{Look, looks_with};
 pub use script::script_finding;
 pub use site::Site;
 pub use telling::{put_finding, put_line_seen};

@@ -1,10 +1,9 @@
 //! What a read or an await has read in its round.
-ghost use Rattle.std.specs.Prelude.{◌≡◌, ◌==◌, ◌++◌, ◌∷◌, [], List, IfOk, OnOk, Ok, length};
+ghost use Rattle.std.specs.Prelude.{◌≡◌, ◌++◌, ◌∷◌, [], List, IfOk, OnOk, Ok, length};
 ghost use Rattle.std.specs.Prelude.{option_to_list, reverse};
 ghost use Rattle.ec_core.specs.declared.act.Entry.{Entry};
 ghost use Rattle.ec_core.specs.Acceptance.{answer_of};
 ghost use Rattle.ec_core.specs.Calls.{is_go};
-ghost use Rattle.ec_core.specs.Rounds.{event_or};
 ghost use Rattle.ec_core.specs.Standing.{StandsFor};
 ghost use Rattle.ec_explain.specs.Rounds.{is_in_round, kept, kept_by, look_at, looks_so_far};
 ghost use Rattle.ec_explain.specs.Rounds.{looks_with, next_look};
@@ -26,18 +25,6 @@ pub struct Look {
     pub position: usize,
     /// The total of the eventcount.
     pub total: u64,
-}
-
-/// Returns the eventcount that an act names, and the first one for an act that names none.
-pub fn event_or(op: Act) -> EventId
-    ensures { result ≡ event_or op }
-{
-    match op {
-        Act::Advance(event) | Act::Read(event) | Act::Await(event, _) => event,
-        Act::Go | Act::Ticket(_) | Act::Put(_, _) | Act::Get(_) | Act::Hand(_, _) => {
-            EventId::new(0).unwrap()
-        }
-    }
 }
 
 /// Returns what an entry finds in a world that reads a component.
@@ -62,7 +49,7 @@ fn next_look(world: &World, worker: WorkerId, act: &Act, position: usize) -> Opt
     match *act {
         Act::Go => match world.under_way(worker) {
             Some(call) => {
-                let event = event_or(call.op());
+                let event = call.op().event();
                 Some(look_at(world, event, call.index(), position))
             }
             None => None,
@@ -73,7 +60,7 @@ fn next_look(world: &World, worker: WorkerId, act: &Act, position: usize) -> Opt
         | Act::Ticket(_)
         | Act::Put(_, _)
         | Act::Get(_)
-        | Act::Hand(_, _) => Some(look_at(world, event_or(*act), 0, position)),
+        | Act::Hand(_, _) => Some(look_at(world, act.event(), 0, position)),
     }
 }
 
@@ -131,13 +118,6 @@ fn keep(
     add_look(looks, look)
 }
 
-/// Returns whether an entry is one of a worker.
-fn is_of(entry: &Entry, worker: WorkerId) -> bool
-    ensures { result ≡ (entry.now.worker == worker) }
-{
-    entry.worker.get() == worker.get()
-}
-
 /// Makes the step of an entry.
 fn enter(world: &mut World, entry: &Entry)
     ensures stands { (h : List Entry) → StandsFor world.old h
@@ -167,7 +147,7 @@ fn take(
         → OnOk result (looks.new.items
         ≡ looks_so_far world.old.setup worker (entry.now ∷ reverse h)) }
 {
-    if !is_of(entry, worker) {
+    if !entry.is_of(worker) {
         enter(world, entry);
         return Ok(());
     }

@@ -19,12 +19,6 @@ fn is_same_act(act: &Act, other: &Act) -> bool
     act == other
 }
 
-fn is_own(entry: &Entry, worker: WorkerId) -> bool
-    ensures { result ≡ (entry.now.worker == worker) }
-{
-    entry.worker.get() == worker.get()
-}
-
 /// Takes a step, if it is what is asked for.
 fn goes_with(machine: &mut Machine<'_>, entry: &Entry) -> bool
     requires { IsReply entry.now.act entry.now.reply }
@@ -62,7 +56,7 @@ fn follows_one(run: &Run, programs: &[Program], worker: WorkerId) -> bool
     replies_fit_their_acts();
     let mut machine = machine_for(programs, worker.get());
     for entry in run.entries() {
-        if !is_own(&entry, worker) {
+        if !entry.is_of(worker) {
             continue;
         }
         if !goes_with(&mut machine, &entry) {

@@ -4,7 +4,7 @@ ghost use Rattle.ec_core.specs.Rounds.{read_of};
 ghost use Rattle.ec_order.specs.Raised.{AreRaised, FollowsReading, IsPointBy, NotesAlone, left_of};
 
 use crate::Call;
-use crate::index::{advanced, number_of};
+use crate::index::advanced;
 use crate::raised::Raised;
 use ec_core::Act;
 use std::alloc::{AllocError, Global};
@@ -79,7 +79,7 @@ impl Advances {
         ensures { IsPointBy self.now call.now result }
     {
         match read_by(call.op) {
-            Some(event) => self.events[event].point(call.round, number_of(call.reply)),
+            Some(event) => self.events[event].point(call.round, call.reply.number()),
             None => call.last,
         }
     }

@@ -1,23 +1,11 @@
 //! Points by an index of the advances.
 ghost use Rattle.std.specs.Prelude.{◌≡◌, ℕ, ◌<◌, ◌+◌, [], ◌∷◌, ◌++◌, length, reverse, slice_set, slice_index_or, IfOk, OnOk, IfSome};
-ghost use Rattle.ec_order.specs.Calls.{number_of};
 ghost use Rattle.ec_order.specs.Index.{moment_of, moments_in, IsIndex, NotesAct, point_in, raised_by};
 
 use crate::Call;
-use ec_core::{Act, Reply, Run};
+use ec_core::{Act, Run};
 use ec_numbers::NumberList;
 use std::alloc::{AllocError, Global};
-
-/// Returns the number that a reply tells; 0 if it tells none.
-#[inline(always)]
-pub(crate) fn number_of(reply: Reply) -> u64
-    ensures { result ≡ number_of reply }
-{
-    match reply {
-        Reply::Number(n) => n,
-        Reply::Done | Reply::Pending => 0,
-    }
-}
 
 /// Returns the eventcount that an act advances.
 #[inline(always)]
@@ -105,7 +93,7 @@ pub(crate) fn point(lists: &[NumberList], call: &Call) -> usize
     match call.op {
         Act::Read(event) | Act::Await(event, _) => {
             let moments = &lists[event.get()];
-            call.round.max(moment_of(moments, number_of(call.reply)))
+            call.round.max(moment_of(moments, call.reply.number()))
         }
         Act::Advance(_)
         | Act::Go

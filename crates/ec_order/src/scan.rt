@@ -14,10 +14,7 @@ use std::alloc::{AllocError, Global};
 pub(crate) fn is_last(reply: Reply) -> bool
     ensures { result ≡ not (is_pending reply) }
 {
-    match reply {
-        Reply::Pending => false,
-        Reply::Done | Reply::Number(_) => true,
-    }
+    !reply.is_pending()
 }
 
 /// Returns the call that the entry at position i ends, if it ends one, given its call up to it.

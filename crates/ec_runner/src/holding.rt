@@ -76,15 +76,6 @@ fn waiting(board: &Board, worker: WorkerId) -> [bool; 16]
     table
 }
 
-fn is_pending(reply: Reply) -> bool
-    ensures { result ≡ is_pending reply }
-{
-    match reply {
-        Reply::Pending => true,
-        _ => false,
-    }
-}
-
 /// Has the worker wait for what it has to wait for.
 fn park(board: &mut Board, worker: WorkerId)
     requires { board.old.stuck ≡ false }
@@ -100,7 +91,7 @@ fn step(board: &mut Board, worker: WorkerId, act: Act, may_park: bool) -> Next
 {
     match board.step(worker, act) {
         Ok(reply) => {
-            if may_park && is_pending(reply) {
+            if may_park && reply.is_pending() {
                 park(board, worker);
             }
             if board.is_asleep(worker) {

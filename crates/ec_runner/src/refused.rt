@@ -62,12 +62,6 @@ fn is_refused_by(
     }
 }
 
-fn is_own(entry: &Entry, worker: WorkerId) -> bool
-    ensures { result ≡ (entry.now.worker == worker) }
-{
-    entry.worker.get() == worker.get()
-}
-
 /// Returns whether the entry at a place is another worker's.
 fn is_of_another(run: &Run, place: usize, worker: WorkerId) -> bool
     requires { place < length run.now.entries }
@@ -77,7 +71,7 @@ fn is_of_another(run: &Run, place: usize, worker: WorkerId) -> bool
     let Some(entry) = run.entry(place) else {
         return false;
     };
-    !is_own(&entry, worker)
+    !entry.is_of(worker)
 }
 
 /// Returns whether a worker had made all its steps by a moment.

@@ -7,7 +7,6 @@ ghost use Rattle.ec_core.specs.Acceptance.{IsAccepted};
 ghost use Rattle.ec_core.specs.Audits.{IsAuditFault};
 ghost use Rattle.ec_core.specs.Ending.{EndsAt};
 ghost use Rattle.ec_core.specs.Following.{Told, block, Follow};
-ghost use Rattle.ec_core.specs.CallLists.{number_of};
 ghost use Rattle.ec_semaphore.specs.Auditing.{IsPairing};
 ghost use Rattle.ec_semaphore.specs.Both.{is_line, both_rule, both_rules};
 ghost use Rattle.ec_semaphore.specs.Completing.{IsDrawn, AreDrawn, drawn_after};
@@ -18,7 +17,7 @@ ghost use Rattle.ec_semaphore.specs.Shapes.{Semaphore};
 
 use crate::guarded::Guarded;
 use crate::{Pair, SemaphoreShape};
-use ec_core::{Act, Audit, AuditFault, Entry, Kept, Reply, Run, Tracker, walk};
+use ec_core::{Act, Audit, AuditFault, Entry, Kept, Run, Tracker, walk};
 use ec_count::SeqId;
 use std::alloc::{AllocError, Global};
 use std::marker::Model;
@@ -30,17 +29,6 @@ struct Drawn {
     number: u64,
 }
 
-/// Returns the number that is told; 0 if none is.
-fn number_of(reply: Reply) -> u64
-    ensures { result ≡ number_of reply }
-{
-    match reply {
-        Reply::Number(number) => number,
-        Reply::Done => 0,
-        Reply::Pending => 0,
-    }
-}
-
 /// Returns the latest ticket of an entry's worker after the entry.
 fn drawn_after(before: Drawn, entry: &Entry) -> Drawn
     ensures { result ≡ drawn_after before entry.now entry.now.act }
@@ -48,7 +36,7 @@ fn drawn_after(before: Drawn, entry: &Entry) -> Drawn
     match entry.act {
         Act::Ticket(line) => Drawn {
             line,
-            number: number_of(entry.reply),
+            number: entry.reply.number(),
         },
         _ => before,
     }
@@ -64,7 +52,7 @@ fn completed(kept: &Kept, latest: Drawn, entry: &Entry) -> Option<Pair>
             first: latest.line,
             first_ticket: latest.number,
             second: line,
-            second_ticket: number_of(entry.reply),
+            second_ticket: entry.reply.number(),
         }),
         _ => None,
     }

@@ -17,7 +17,7 @@ use crate::round::Round;
 use crate::told::whole;
 use ec_core::{Act, Refusal, Reply, Run};
 use ec_count::{EventId, Setup, WorkerId};
-use ec_explain::{Asked, asked_in, before_line, event_or, holders, line_at, looks_with};
+use ec_explain::{Asked, asked_in, before_line, holders, line_at, looks_with};
 use ec_heading::Heading;
 use ec_text::Out;
 use ec_trace::{Spellings, TraceFault, Traced, put_cell, read_trace};
@@ -163,8 +163,8 @@ fn event_at(traced: &Traced, asked: &Asked) -> EventId
 {
     match asked.act {
         Act::Go => match traced.run().world().under_way(asked.worker) {
-            Some(call) => event_or(call.op()),
-            None => event_or(Act::Go),
+            Some(call) => call.op().event(),
+            None => Act::Go.event(),
         },
         Act::Advance(_)
         | Act::Read(_)
@@ -172,7 +172,7 @@ fn event_at(traced: &Traced, asked: &Asked) -> EventId
         | Act::Ticket(_)
         | Act::Put(_, _)
         | Act::Get(_)
-        | Act::Hand(_, _) => event_or(asked.act),
+        | Act::Hand(_, _) => asked.act.event(),
     }
 }
 

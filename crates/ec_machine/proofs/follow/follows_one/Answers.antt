@@ -11,7 +11,7 @@ goes_with-requires c = c.replies_fit_their_acts.ensures c.args.run.now.setup c.a
 pub returns-then-not-goes_with : goal.returns-then-not-goes_with
 returns-then-not-goes_with c = (
   λ no. cc,
-  λ run. absurd (not_due _ _ _ _ _ _ _ c.loop-entry.invariant.order c.in-Some.ensures.steps (sym c.is_own.ensures ∙ c.if-not-is_own.false)
+  λ run. absurd (not_due _ _ _ _ _ _ _ c.loop-entry.invariant.order c.in-Some.ensures.steps (sym c.is_of.ensures ∙ c.if-not-is_of.false)
       (c.goes_with.ensures.no _ _ c.loop-entry.invariant.stands c.loop-entry.invariant.unset c.if-not-goes_with.true) run),
 )
 
@@ -20,6 +20,6 @@ loop-entry-preserved c =
     let yes = c.goes_with.ensures.yes _ _ c.loop-entry.invariant.stands c.loop-entry.invariant.unset c.if-not-goes_with.false in
     record {
       order = order_more _ _ _ _ _ c.loop-entry.invariant.order c.in-Some.ensures.steps;
-      stands = subst (StandsFor (program_at c.args.programs.now c.args.worker) c.goes_with.new.machine) (sym (own_more c.args.worker c.loop-entry.yielded c.in-Some.entry (sym c.is_own.ensures ∙ c.if-not-is_own.false))) yes.0;
+      stands = subst (StandsFor (program_at c.args.programs.now c.args.worker) c.goes_with.new.machine) (sym (own_more c.args.worker c.loop-entry.yielded c.in-Some.entry (sym c.is_of.ensures ∙ c.if-not-is_of.false))) yes.0;
       unset = yes.1;
     }
