@@ -16,21 +16,7 @@ use Rattle.calls_core.proofs.Counting.{one, count_cons, count_append}
 use Rattle.calls_distinct.specs.Cells.{put_call, put_pending, times, gets}
 use Rattle.calls_cells.specs.declared.outcome.Undecided.{Undecided}
 use Rattle.calls_cells.specs.Faults.{ShowsUndecided}
-
-count_without : (q : PendingCall → Bool) (w : ℕ) (os : List PendingCall) (o : PendingCall)
-    → pending_of w os ≡ Some o → count_by q os ≡ one (q o) + count_by q (without w os)
-count_without q w [] o e = absurd (none-some o e)
-count_without q w (y ∷ os) o e =
-    elim (y.worker == w) as (λ b. cond b (Some y) (pending_of w os) ≡ Some o
-    → count_by q (y ∷ os) ≡ one (q o) + count_by q (cond b os (y ∷ without w os))) [
-      | true ↦ λ is. count_cons q y os ∙ ap (λ z. one (q z) + count_by q os) (same_Some y o is)
-      | false ↦ λ is. omega (
-        arith,
-        count_cons q y os,
-        count_cons q y (without w os),
-        count_without q w os o is,
-      )
-    ] e
+use Rattle.calls_distinct.proofs.Earlier.{count_without}
 
 -- no event makes a value less often put
 times_more : (v : ℕ) (x : Event) (past : List Event) (a : Action) (o : Option PendingCall)

@@ -15,6 +15,8 @@ use Rattle.calls_core.proofs.Beginnings.{past_split}
 use Rattle.calls_core.proofs.Lists.{all_pairs_from_each}
 use Rattle.calls_serial.specs.Outcomes.{AreOverlapping}
 use Rattle.calls_cells.specs.Faults.{DoOverlap}
+use Rattle.calls_distinct.proofs.Earlier.{clock_earlier}
+pub use Rattle.calls_distinct.proofs.Earlier.{order_of_none as nothing_ordered}
 
 -- two puts that overlap at a moment of the events do so in their past
 pub overlap_shown : (events : List Event) (o p : PendingCall) → AreOverlapping events o p
@@ -25,15 +27,6 @@ overlap_shown events o p h = record {
   is = past_split h.moment events;
   both = h.both;
 }
-
--- a history ends no earlier than any beginning of it
-clock_earlier : (kind : Kind) (late past : List Event) → IsHistoryOf kind (late ++ past)
-    → clock past ≤ clock (late ++ past)
-clock_earlier kind [] past h = omega arith
-clock_earlier kind (x ∷ late) past h =
-    (let before : clock past ≤ clock (late ++ past) = clock_earlier kind late past h.2 in
-    let next : clock (late ++ past) ≤ x.at = h.0 in
-    omega arith)
 
 clock_at : (kind : Kind) (i : ℕ) (events : List Event) → IsHistoryOf kind (reverse events)
     → clock (past_at i events) ≤ clock (reverse events)
@@ -48,18 +41,6 @@ pub before_end : (kind : Kind) (i end : ℕ) (events : List Event) → IsHistory
 before_end kind i end events h late =
     (let le = clock_at kind i events h in
     omega arith)
-
--- no call is in order
-pub nothing_ordered : (kind : Kind) → HasOrderOf kind []
-nothing_ordered kind = (
-  [],
-  record {
-    answer = λ o. None;
-    each_once = IsPermutation-refl [];
-    in_order = all_pairs_from_each KeepsOrder [] tt;
-    run = tt;
-  },
-)
 
 taken_less : {X : Type 0} (n i : ℕ) (xs : List X) → i < length (take n xs) → i < length xs
 taken_less zero i xs lt = absurd (omega arith)

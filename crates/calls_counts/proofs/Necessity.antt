@@ -154,7 +154,7 @@ made_before start more done a c xs ys reading p =
           (lies_between a c.first) more done,
     )
 
-first_part : (b d : Bool) → (b && d) ≡ true → b ≡ true
+pub first_part : (b d : Bool) → (b && d) ≡ true → b ≡ true
 first_part true d h = refl
 first_part false d h = h
 

@@ -48,6 +48,7 @@ use Rattle.calls_counts.proofs.Raising.{state_raised}
 use Rattle.calls_counts.proofs.Searching.{parted}
 use Rattle.calls_counts.proofs.Skipping.{skips_longer}
 use Rattle.calls_counts.specs.declared.scan.Scan.{Scan}
+use Rattle.calls_counts.proofs.Necessity.{first_part as both_true}
 
 abbrev invoking : ℕ → ℕ → ℕ → Op → Event
 invoking at w j op = record { at = at; worker = w; action = Invoke j op }
@@ -296,10 +297,6 @@ module _ (start : ℕ) (calls : List Call) (t a : ℕ) (slots : List Slot) (pend
     ];
     counted = omega (arith, r.counted, made_taken r.from d);
   }
-
-both_true : (x y : Bool) → (x && y) ≡ true → x ≡ true
-both_true true y e = refl
-both_true false y e = e
 
 -- no more advances were invoked up to a position than in all
 invoked_less : (d : ℕ) (past : List Event) → invoked_upto d past ≤ advances_invoked past

@@ -34,7 +34,7 @@ use Rattle.calls_distinct.proofs.Steps.{past_more}
 
 -- THE CLASS
 
-count_without : (p : PendingCall → Bool) (w : ℕ) (os : List PendingCall) (o : PendingCall)
+pub count_without : (p : PendingCall → Bool) (w : ℕ) (os : List PendingCall) (o : PendingCall)
     → pending_of w os ≡ Some o → count_by p os ≡ one (p o) + count_by p (without w os)
 count_without p w [] o e = absurd (none-some o e)
 count_without p w (y ∷ os) o e =
@@ -96,7 +96,7 @@ store_at i events h = (h.0, h.1, history_at h.0 i events h.2)
 
 -- THE CLOCK
 
-clock_earlier : (kind : Kind) (late past : List Event) → IsHistoryOf kind (late ++ past)
+pub clock_earlier : (kind : Kind) (late past : List Event) → IsHistoryOf kind (late ++ past)
     → clock past ≤ clock (late ++ past)
 clock_earlier kind [] past h = omega arith
 clock_earlier kind (x ∷ late) past h = (let le = clock_earlier kind late past h.2 in

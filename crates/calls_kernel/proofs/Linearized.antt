@@ -37,21 +37,12 @@ use Rattle.calls_kernel.proofs.Objects.{event_kind, sequencer_kind, cell_kind}
 use Rattle.calls_kernel.proofs.Steps.{IsView, view_of}
 use Rattle.calls_kernel.proofs.Known.{IsKnown, all_known}
 use Rattle.calls_kernel.proofs.Runs.{Agrees, seen_runs}
+pub use Rattle.ec_order.proofs.Sorting.{AllPairs-map as pairs_map}
 
 -- no pending call takes effect
 answered_none : (n : ℕ) (os : List PendingCall) → answered_calls n (λ o. None) os ≡ []
 answered_none n [] = refl
 answered_none n (o ∷ os) = answered_none n os
-
-pub pairs_map : {X Y : Type 0} (R : Y → Y → Type 0) (f : X → Y) (xs : List X)
-    → AllPairs (λ a b. R (f a) (f b)) xs → AllPairs R (map f xs)
-pairs_map R f [] h = λ i j d lt le. absurd (omega arith)
-pairs_map R f (x ∷ xs) h =
-    let first : All (λ y. R (f x) (f y)) xs = λ k d lt. h zero (suc k) d (omega arith)
-    (omega arith) in
-    let rest : AllPairs (λ a b. R (f a) (f b)) xs = λ i j d lt le. h (suc i) (suc j) d
-    (omega arith) (omega arith) in
-    AllPairs-cons R (f x) (map f xs) (All-map (R (f x)) f xs first) (pairs_map R f xs rest)
 
 module _ (t : Tables) where
   pub at_first : Agrees t zero_state (start (kinds_of t))

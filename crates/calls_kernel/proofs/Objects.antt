@@ -13,15 +13,9 @@ use Rattle.calls_core.specs.declared.history.Kind.{Kind}
 use Rattle.calls_core.specs.declared.history.Kind.TheVariants.{Eventcount, Sequencer, Cell}
 use Rattle.calls_core.specs.Histories.{Takes}
 use Rattle.calls_kernel.specs.Seen.{kinds_of, is_call, object_of, op_of}
-use Rattle.ec_core.proofs.shared.Joining.{get_front as get_left}
+use Rattle.ec_core.proofs.shared.Joining.{get_back as get_right, get_front as get_left}
 
 -- THE OBJECTS
-
-get_right : {X : Type 0} (xs ys : List X) (i j : ℕ) → i ≡ length xs + j
-    → slice_get (xs ++ ys) i ≡ slice_get ys j
-get_right [] ys i j is = (let same : i ≡ j = omega arith in ap (slice_get ys) same)
-get_right (x ∷ xs) ys zero j is = absurd (omega arith)
-get_right (x ∷ xs) ys (suc i) j is = get_right xs ys i j (omega arith)
 
 get_all : {X : Type 0} (xs : List X) (k : Kind) (i : ℕ) → i < length xs
     → slice_get (map (λ (x : X). k) xs) i ≡ Some k

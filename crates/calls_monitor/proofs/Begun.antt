@@ -15,21 +15,12 @@ use Rattle.calls_core.specs.Histories.{IsNextOf, IsHistoryOf}
 use Rattle.calls_core.proofs.Counting.{count_cons}
 use Rattle.calls_counts.specs.Faults.{is_advance, invokes_advance, advances_invoked}
 use Rattle.calls_monitor.specs.kept.Watching.{begun}
+use Rattle.calls_tickets.proofs.Histories.{without_long as without_length}
 
 -- how many calls an event begins
 abbrev pub one : Action → ℕ
 one (Invoke k op) = 1
 one (Respond r) = 0
-
-without_length : (w : ℕ) (os : List PendingCall) (o : PendingCall) → pending_of w os ≡ Some o
-    → length (without w os) + 1 ≡ length os
-without_length w [] o e = absurd (none-some o e)
-without_length w (y ∷ os) o e =
-    elim (y.worker == w) as (λ b. cond b (Some y) (pending_of w os) ≡ Some o
-    → length (cond b os (y ∷ without w os)) + 1 ≡ length (y ∷ os)) [
-      | true ↦ λ is. omega arith
-      | false ↦ λ is. omega (arith, without_length w os o is)
-    ] e
 
 pending_step : (kind : Kind) (x : Event) (action : Action) (os : List PendingCall)
     (o : Option PendingCall) → pending_of x.worker os ≡ o → IsNextOf kind action o

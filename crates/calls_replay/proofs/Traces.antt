@@ -31,17 +31,7 @@ use Rattle.calls_replay.specs.Made.{made_of}
 use Rattle.calls_replay.specs.Replays.{IsTraceOfOrder, TracesOfOrdersAreRead, left_out, left_note}
 use Rattle.calls_replay.specs.kept.Going.{AreMadeIn}
 use Rattle.calls_replay.specs.kept.Ends.{WritesSteps}
-
--- version 2 has each act
-can_spell_any : (act : Act) → can_spell Two act ≡ true
-can_spell_any (acts.Advance e) = refl
-can_spell_any (acts.Read e) = refl
-can_spell_any (acts.Await e v) = refl
-can_spell_any acts.Go = refl
-can_spell_any (acts.Ticket q) = refl
-can_spell_any (acts.Put x v) = refl
-can_spell_any (acts.Get x) = refl
-can_spell_any (acts.Hand e b) = refl
+use Rattle.ec_heading.proofs.shared.VersionFacts.{two_spells as can_spell_any}
 
 can_spell_all : (v : Version) (entries : List Entry) → v ≡ Two → CanSpellAll v entries
 can_spell_all v entries is = λ i d lt.

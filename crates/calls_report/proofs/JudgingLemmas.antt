@@ -27,6 +27,7 @@ use Rattle.calls_report.specs.Checks.{Judged, HasOrder, AreJudged, texts_of, rem
 use Rattle.calls_report.specs.Checks.{history_text, IsNoEnd}
 use Rattle.calls_report.specs.kept.Judging.{PutsOrder, StopsBy, status_by, EndsBy, fault_status}
 use Rattle.calls_report.specs.kept.Judging.{Judges, IsJudgedSoFar}
+use Rattle.calls_text.proofs.TextParts.{by_rest, by_line}
 
 pub same_lines : (a b : Outgoing) (h k : Headed) (ls ms : List (List ℕ)) (n m : ℕ)
     (order : List Placed) → h ≡ k → ls ≡ ms → n ≡ m → Puts a b (order_lines h ls n order)
@@ -45,25 +46,6 @@ by_none n Limiting going = refl
 by_none n (Declaring d) going = refl
 by_none n (Running r) going = refl
 by_none n (Ended r) going = cc
-
-by_rest : (n : ℕ) (s : Stage) (rest : List ℕ) → is_ended s ≡ false
-    → goes n s (rest ∷ []) ≡ ended n s rest
-unfolding goes is_ended
-by_rest n Opening rest going = refl
-by_rest n Limiting rest going = refl
-by_rest n (Declaring d) rest going = refl
-by_rest n (Running r) rest going = refl
-by_rest n (Ended r) rest going = cc
-
-by_line : (n : ℕ) (s : Stage) (line next : List ℕ) (others : List (List ℕ)) → is_ended s ≡ false
-    → goes n s (line ∷ next ∷ others)
-    ≡ taken n line (step s line) (λ t. goes (n + 1) t (next ∷ others))
-unfolding goes is_ended
-by_line n Opening line next others going = refl
-by_line n Limiting line next others going = refl
-by_line n (Declaring d) line next others going = refl
-by_line n (Running r) line next others going = refl
-by_line n (Ended r) line next others going = cc
 
 one_read : (x y : OneRead) → ◌≡◌ {A = Parsed} (Ok x) (Ok y) → x ≡ y
 one_read x y same = cc

@@ -127,7 +127,7 @@ get_last : {X : Type 0} (xs : List X) (x : X) → slice_get (xs ++ x ∷ []) (le
 get_last [] x = refl
 get_last (y ∷ xs) x = get_last xs x
 
-get_other : {X : Type 0} (xs : List X) (k j : ℕ) (y : X) → (k ≡ j → ⊥)
+pub get_other : {X : Type 0} (xs : List X) (k j : ℕ) (y : X) → (k ≡ j → ⊥)
     → slice_get (set xs k y) j ≡ slice_get xs j
 get_other [] k j y h = refl
 get_other (x ∷ xs) zero zero y h = absurd (h refl)

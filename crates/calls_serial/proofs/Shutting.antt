@@ -35,7 +35,7 @@ use Rattle.calls_serial.proofs.Growing.{only_responded, leaves_grow, gathered_no
 get_is_no_put : (v : ℕ) → Get ≡ Put v → ⊥
 get_is_no_put v e = cc
 
-same_put : (v w : ℕ) → Put v ≡ Put w → v ≡ w
+pub same_put : (v w : ℕ) → Put v ≡ Put w → v ≡ w
 same_put v w e = cc
 
 -- what holds of the puts of stages and of all gets holds of their calls

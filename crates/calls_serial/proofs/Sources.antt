@@ -24,6 +24,7 @@ use Rattle.calls_core.proofs.Lists.{each_weaker, each_append, all_from_each}
 use Rattle.calls_core.proofs.Filters.{each_from_all}
 use Rattle.calls_serial.specs.Faults.{IsShut, IsGone, HasOnly, Binds}
 use Rattle.calls_serial.specs.Faults.{Leaves}
+use Rattle.calls_serial.proofs.Shutting.{same_put as put_is}
 
 abbrev pub Access : Call → Type 0
 Access c = Takes (Some Cell) c.op
@@ -44,9 +45,6 @@ record FromPut (v k : ℕ) (cs : List Call) (d : Call) : Type 0 where
 
 number_is : (m n : ℕ) → Number m ≡ Number n → m ≡ n
 number_is m n e = cc
-
-put_is : (m n : ℕ) → Put m ≡ Put n → m ≡ n
-put_is m n e = cc
 
 -- after a call there is its value, or what there was
 after_is : (m : ℕ → ℕ) (op : Op) (r : Reply) → Takes (Some Cell) op

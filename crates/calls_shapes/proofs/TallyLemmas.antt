@@ -2,16 +2,8 @@
 use Rattle.std.proofs.Common.{◌≡◌, ℕ, ◌+◌, ◌<◌, List, [], ◌∷◌, ◌++◌, length, Some, slice_get}
 use Rattle.calls_shapes.specs.declared.tallies.Tally.{Tally}
 use Rattle.std.proofs.Common.{zero, suc, refl, arith, ap, ◌∙◌, subst, below_more}
-
-get_left : {X : Type 0} (xs ys : List X) (i : ℕ) → i < length xs
-    → slice_get (xs ++ ys) i ≡ slice_get xs i
-get_left [] ys i lt = absurd (omega arith)
-get_left (x ∷ xs) ys zero lt = refl
-get_left (x ∷ xs) ys (suc i) lt = get_left xs ys i (omega arith)
-
-get_last : {X : Type 0} (xs : List X) (x : X) → slice_get (xs ++ x ∷ []) (length xs) ≡ Some x
-get_last [] x = refl
-get_last (y ∷ xs) x = get_last xs x
+use Rattle.ec_core.proofs.shared.Joining.{get_front as get_left}
+use Rattle.ec_heading.proofs.shared.AddedObjects.{at_end as get_last}
 
 -- each element is what it should be, and so is one more
 each_more : {X : Type 0} (P : ℕ → X) (xs : List X) (n : ℕ) (x : X) → length xs ≡ n

@@ -14,18 +14,10 @@ use Rattle.calls_text.specs.Recordings.{HasFrom, HasUnits, HasGroups, cells_of, 
 use Rattle.calls_text.specs.Recordings.{AreKinds, start_of, first_sequencer, first_cell}
 use Rattle.calls_text.specs.Recordings.{semaphores, first_group}
 use Rattle.calls_text.specs.kept.Adding.{Grows}
+pub use Rattle.ec_core.proofs.shared.Joining.{get_front}
+use Rattle.ec_heading.proofs.shared.AddedObjects.{at_end as get_end}
 
 -- ELEMENTS
-
-pub get_front : {A : Type 0} (xs ys : List A) (i : ℕ) → i < length xs
-    → slice_get (xs ++ ys) i ≡ slice_get xs i
-get_front [] ys i lt = absurd (omega arith)
-get_front (x ∷ xs) ys zero lt = refl
-get_front (x ∷ xs) ys (suc i) lt = get_front xs ys i (omega arith)
-
-get_end : {A : Type 0} (xs : List A) (x : A) → slice_get (xs ++ x ∷ []) (length xs) ≡ Some x
-get_end [] x = refl
-get_end (y ∷ xs) x = get_end xs x
 
 pub get_last : {A : Type 0} (xs : List A) (x : A) (i : ℕ) → i ≡ length xs
     → slice_get (xs ++ x ∷ []) i ≡ Some x

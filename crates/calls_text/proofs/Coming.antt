@@ -43,6 +43,7 @@ use Rattle.calls_text.specs.kept.Judging.{pending_by, spent_at, spent_by, fault_
 use Rattle.calls_text.specs.kept.Judging.{invocation, Happening}
 use Rattle.calls_text.specs.kept.Judging.{TallyAfter, IsTallied, Answers}
 use Rattle.calls_text.specs.kept.Runs.{Fits}
+pub use Rattle.ec_heading.proofs.shared.Declarable.{is_none_from as none_of}
 
 -- FAULTS
 
@@ -54,10 +55,6 @@ passes false k xs is = (refl, is)
 held : (b : Bool) → not b ≡ false → b ≡ true
 held true is = refl
 held false is = cc
-
-pub none_of : {A : Type 0} (o : Option A) → is_some o ≡ false → o ≡ None
-none_of None is = refl
-none_of (Some x) is = cc
 
 record NoFault (h : Headed) (w : ℕ) (v : Verb) (o : Object) (busy spent : Bool) : Type 0 where
   roles : has_two_roles o ≡ false

@@ -18,11 +18,7 @@ use Rattle.calls_text.specs.Objects.{place_of, group_at, group_in, placed_semaph
 use Rattle.calls_text.specs.Objects.{placed_database, semaphore_in, database_in, both_of}
 use Rattle.calls_text.specs.Objects.{pair_of, as_semaphore, as_database, object_in}
 use Rattle.calls_text.specs.kept.Runs.{Fits, IsPlaced}
-
-bound : {A B : Type 0} (f : A → Option B) (o : Option A) (y : B) → option_and_then f o ≡ Some y
-    → (x : A) × (o ≡ Some x) × (f x ≡ Some y)
-bound f None y is = cc
-bound f (Some x) y is = (x, refl, is)
+use Rattle.calls_text.proofs.CellWords.{and_then_back as bound}
 
 pub mapped : {A B : Type 0} (f : A → B) (o : Option A) (y : B) → option_map f o ≡ Some y
     → (x : A) × (o ≡ Some x) × (f x ≡ y)

@@ -7,7 +7,7 @@ use Rattle.calls_text.specs.declared.fault.Kind.TheVariants as kinds
 use Rattle.calls_text.specs.Recordings.{Recorded}
 use Rattle.calls_text.specs.Reading.{Stage, Running, Ended, step, is_ended, event_step, ran_on}
 use Rattle.calls_text.specs.Outcomes.{OneRead, Parsed, goes, taken, ended, fault_in}
-use Rattle.calls_text.proofs.TextParts.{by_line, by_rest}
+use Rattle.calls_text.proofs.TextParts.{not_at_end as rest_ends, by_line, by_rest}
 use Rattle.calls_text.proofs.FollowingLines.{IsGrown, event_grown}
 
 -- the same heading, and the events with perhaps more after them
@@ -41,15 +41,6 @@ one_further r q t one more = record {
   events = more.events ∙ ap (λ (es : List Event). es ++ more.late) one.events
       ∙ append_assoc r.events (one.event ∷ []) more.late;
 }
-
-rest_ends : (n : ℕ) (s : Stage) (rest : List ℕ) (o : OneRead) → ended n s rest ≡ Ok o → ⊥
-rest_ends n s [] o is = cc
-rest_ends n s (b ∷ bs) o is = by_step (step s (b ∷ bs)) is
-  where
-    by_step : (r : Result Stage Kind)
-        → taken n (b ∷ bs) r (λ t. fault_in n kinds.Unfinished (b ∷ bs)) ≡ Ok o → ⊥
-    by_step (Ok t) is = cc
-    by_step (Err kind) is = cc
 
 open_running : (r : Recorded) → is_ended (Running r) ≡ false
 unfolding is_ended

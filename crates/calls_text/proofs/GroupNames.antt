@@ -38,6 +38,7 @@ use Rattle.calls_text.specs.Recordings.{cells_of}
 use Rattle.calls_text.specs.Spelling.{group_word}
 use Rattle.calls_text.proofs.Groups.{group_back}
 use Rattle.ec_heading.proofs.shared.Phrases.{is_itself as bytes_same}
+use Rattle.ec_core.proofs.shared.Joining.{get_front as get_before}
 
 -- A LONGER LIST
 
@@ -50,12 +51,6 @@ find_kept w (e ∷ names) more t is =
       | true ↦ λ here. here
       | false ↦ λ later. find_kept w names more t later
     ] is
-
-get_before : {A : Type 0} (xs ys : List A) (i : ℕ) → i < length xs
-    → slice_get (xs ++ ys) i ≡ slice_get xs i
-get_before [] ys i lt = absurd (omega (arith, lt))
-get_before (x ∷ xs) ys zero lt = refl
-get_before (x ∷ xs) ys (suc i) lt = get_before xs ys i (omega (arith, lt))
 
 get_after : {A : Type 0} (xs : List A) (o : Option A)
     → slice_get (xs ++ cons_option o []) (length xs) ≡ o

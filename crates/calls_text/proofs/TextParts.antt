@@ -115,7 +115,7 @@ was_taken n line (Ok t) others read is = (t, refl, is)
 was_taken n line (Err kind) others read is = cc
 
 -- what stands after the last LF ends no history
-not_at_end : (n : ℕ) (s : Stage) (rest : List ℕ) (read : OneRead) → ended n s rest ≡ Ok read → ⊥
+pub not_at_end : (n : ℕ) (s : Stage) (rest : List ℕ) (read : OneRead) → ended n s rest ≡ Ok read → ⊥
 not_at_end n s [] read is = cc
 not_at_end n s (b ∷ bs) read is =
     let t = was_taken n (b ∷ bs) (step s (b ∷ bs)) (λ t. fault_in n kinds.Unfinished (b ∷ bs)) read

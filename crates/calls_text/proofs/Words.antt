@@ -6,19 +6,7 @@ use Rattle.ec_text.specs.Words.{words_of}
 use Rattle.calls_text.specs.Forms.{only_in}
 use Rattle.calls_text.specs.Reading.{limit_digits, from_words}
 use Rattle.ec_text.proofs.shared.WordLemmas.{onto_has}
-pub use Rattle.ec_text.proofs.shared.WordLemmas.{HasFirst}
-
-pub has_first : (line : List ℕ) → HasFirst line
-has_first [] = record { first = []; others = []; is = refl }
-has_first (b ∷ line) =
-    let P : Bool → Type 0 =
-    λ t. (first : List ℕ) × (others : List (List ℕ)) ×
-    (cond t ([] ∷ words_of line) (onto_first b (words_of line)) ≡ first ∷ others) in
-    let w : P (eqb b 32) = elim (eqb b 32) as P [
-      | true ↦ ([], words_of line, refl)
-      | false ↦ onto_has b (words_of line)
-    ] in
-    record { first = w.0; others = w.1; is = w.2 }
+pub use Rattle.ec_text.proofs.shared.WordLemmas.{has_first, HasFirst}
 
 pub some_words : (line : List ℕ) → 1 ≤ length (words_of line)
 some_words line = let r : HasFirst line = has_first line in rw r.is (omega arith)

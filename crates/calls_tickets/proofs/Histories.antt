@@ -43,7 +43,7 @@ history_next events i d lt h =
 
 -- NO MORE CALLS THAN POSITIONS
 
-without_long : (w : ℕ) (os : List PendingCall) (o : PendingCall) → pending_of w os ≡ Some o
+pub without_long : (w : ℕ) (os : List PendingCall) (o : PendingCall) → pending_of w os ≡ Some o
     → length (without w os) + 1 ≡ length os
 without_long w [] o e = absurd cc
 without_long w (p ∷ os) o e =

@@ -26,7 +26,7 @@ use Rattle.calls_verdict.specs.Faults.{ShowsUndecided}
 use Rattle.calls_cells.specs.Faults as undecided
 use Rattle.calls_verdict.specs.Verdicts.{AreDecided, IsNotDecided, IsFirstRefusal, IsCleanBefore}
 use Rattle.calls_verdict.proofs.Alternatives.{a_refusal_is_final}
-use Rattle.calls_verdict.proofs.OneFault.{the_first_fault_is_one}
+use Rattle.calls_verdict.proofs.OneFault.{until_past as until_end, ends_later, the_first_fault_is_one}
 use Rattle.calls_verdict.proofs.Untils.{until_all, until_out}
 use Rattle.calls_monitor.specs.declared.monitor.Refused.{Refused as Report}
 use Rattle.calls_text.specs.Recordings.{Recorded, AreKinds, IsRecording}
@@ -162,23 +162,6 @@ longer n ps m r kinds past x u o is =
       are = ap reverse f.events ∙ reverse-append r.events f.late
           ∙ ap (λ (es : List Event). reverse f.late ++ es) u.last;
     }
-
--- a history ends no earlier than a beginning of it
-ends_later : (ks : List Kind) (late past : List Event) → IsHistory ks (late ++ past)
-    → clock past ≤ clock (late ++ past)
-ends_later ks [] past h = omega arith
-ends_later ks (y ∷ late) past h =
-    let before : clock past ≤ clock (late ++ past) = ends_later ks late past h.2 in
-    let next : clock (late ++ past) ≤ y.at = h.0 in
-    omega arith
-
-until_end : (ks : List Kind) (late past : List Event) → IsHistory ks (late ++ past)
-    → until (clock past) (late ++ past) ≡ past
-until_end ks [] past h = until_all (clock past) past (omega arith)
-until_end ks (y ∷ late) past h =
-    let before : clock past ≤ clock (late ++ past) = ends_later ks late past h.2 in
-    let next : clock (late ++ past) ≤ y.at = h.0 in
-    until_out (clock past) y (late ++ past) (omega arith) ∙ until_end ks late past h.2
 
 module _ (n : ℕ) (ps : List (List ℕ)) (m : ℕ) (r : Recorded) (x : Event) (report : Report)
     (stop : IsStopped n ps m r x report) (o : OneRead) (is : goes n Opening ps ≡ Ok o)

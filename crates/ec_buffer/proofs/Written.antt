@@ -14,6 +14,7 @@ use Rattle.ec_buffer.specs.Shapes.{Buffer}
 use Rattle.ec_buffer.specs.CallLists.{produce_list, consume_list, turn_of}
 use Rattle.ec_buffer.specs.Follows.{is_on, produce_rule, consume_rule, buffer_rules}
 use Rattle.ec_buffer.specs.Joined.{IsBegun, IsWhole, IsNext, AreLists, FollowingMeansLists}
+use Rattle.ec_buffer.proofs.shared.LeftOut.{speaks}
 
 abbrev rule : (Act → Bool) → (ℕ → List Act) → Rule
 rule on list = rule_of on (λ calls. slice_get (list (turn_of calls)) (length calls))
@@ -114,10 +115,6 @@ role_lists : (b : Buffer) (p : Bool) (calls : List Told) (going : Option Act)
     → IsJoined (cond p (produce_rule b) (consume_rule b)) calls going ↔ AreLists (cond p (produce_list b 0) (consume_list b)) calls going
 role_lists b true calls going = (lists_of (is_on b) (produce_list b 0) calls going (produce_is b), joined_of (is_on b) (produce_list b 0) calls going (produce_is b))
 role_lists b false calls going = (lists_of (is_on b) (consume_list b) calls going (consume_is b), joined_of (is_on b) (consume_list b) calls going (consume_is b))
-
-speaks : (b : Buffer) (p : Bool) → SpeaksOf (cond p (produce_rule b) (consume_rule b)) (is_on b)
-speaks b true calls op = refl
-speaks b false calls op = refl
 
 pub following_means : FollowingMeansLists
 following_means t b h d acc =

@@ -15,11 +15,9 @@ use Rattle.ec_heading.specs.declared.group.Group.TheVariants as groups
 use Rattle.ec_script.specs.Objects.{has_event, has_sequencer, has_cell, both_of}
 use Rattle.ec_heading.specs.Rules.{semaphores_of}
 use Rattle.ec_confined.proofs.Tests.{or_first, or_second, same_test}
+pub use Rattle.ec_script.proofs.Commons.{both_there}
 
 -- MEMBERS OF A LIST
-
-pub first_there : {X : Type 0} (x : X) (xs : List X) → Contains (x ∷ xs) x
-first_there x xs = (0, omega arith, refl)
 
 pub later_there : {X : Type 0} (x y : X) (xs : List X) → Contains xs y → Contains (x ∷ xs) y
 later_there x y xs c = (suc c.0, omega (arith, c.1), c.2)
@@ -137,15 +135,6 @@ none_passes test (k ∷ gs) g none has =
     ]
 
 -- THE COMMON SEMAPHORE AND THE OTHERS
-
-pub both_there : (gs : List Group) (s : Semaphore) → both_of gs ≡ Some s → Contains gs (groups.Both s)
-both_there [] s is = cc
-both_there (groups.Buffer b ∷ gs) s is = later_there (groups.Buffer b) (groups.Both s) gs (both_there gs s is)
-both_there (groups.Database d ∷ gs) s is = later_there (groups.Database d) (groups.Both s) gs (both_there gs s is)
-both_there (groups.Semaphore u ∷ gs) s is = later_there (groups.Semaphore u) (groups.Both s) gs (both_there gs s is)
-both_there (groups.Both u ∷ gs) s is =
-    let same : u ≡ s = cc in
-    subst (λ v. Contains (groups.Both u ∷ gs) (groups.Both v)) same (first_there (groups.Both u) gs)
 
 pub semaphore_listed : (gs : List Group) (s : Semaphore) → Contains gs (groups.Semaphore s) → list_any (λ (u : Semaphore). u.line == s.line) (semaphores_of gs) ≡ true
 semaphore_listed [] s has = absurd (none_there (groups.Semaphore s) has)

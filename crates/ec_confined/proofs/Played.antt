@@ -13,17 +13,7 @@ use Rattle.ec_machine.specs.Steps.{IsRun, own}
 use Rattle.ec_runner.specs.Schedules.{Turn, with_answer, entries_of, AreTurns}
 use Rattle.ec_confined.specs.Reports.{PlayedGroupsAreFollowed}
 use Rattle.ec_confined.proofs.AllGroups.{groups_follow}
-
--- ACCEPTED
-
-accepted_more : (t : Tables) (w : ℕ) (act : Act) (answer : Result Reply Refusal) (past : List Entry) → answer_of t past w act ≡ answer → IsAccepted t past → IsAccepted t (with_answer w act answer past)
-accepted_more t w act (Ok reply) past is acc = (is, acc)
-accepted_more t w act (Err r) past is acc = acc
-
-pub turns_accepted : (t : Tables) (programs : List (List Command)) (turns : List Turn) → AreTurns t programs turns → IsAccepted t (entries_of turns)
-turns_accepted t programs [] are = tt
-turns_accepted t programs (x ∷ turns) are =
-    accepted_more t x.worker x.act x.answer (entries_of turns) are.0.answer (turns_accepted t programs turns are.1)
+pub use Rattle.evc_scripts.proofs.shared.ReadAgain.{accepted_turns as turns_accepted}
 
 -- RUNS
 

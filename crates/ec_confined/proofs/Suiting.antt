@@ -8,6 +8,7 @@ use Rattle.ec_core.specs.Procedures.{IsWritten}
 use Rattle.ec_core.proofs.shared.Joining.{get_back}
 use Rattle.ec_confined.proofs.Tests.{turned}
 use Rattle.ec_core.proofs.shared.FittingCalls.{is_fitting, list_after, AreFitting, after_more}
+pub use Rattle.ec_core.proofs.shared.JoinedLists.{fitting_off as fits_off, fitting_of as fits_on}
 
 -- ASKED AND ALLOWED CALLS
 
@@ -105,14 +106,6 @@ suits_tracked may r list place tracks = record {
   next = λ calls op asked allowed may_op is. ap (λ b. is_fitting r b op) (tracked r list place tracks calls asked) ∙ tracks.fits calls op asked is;
   ends = λ calls asked allowed is. tracked r list place tracks calls asked ∙ tracks.ends calls is;
 }
-
-pub fits_on : (c f : Bool) → f ≡ true → (not c || f) ≡ true
-fits_on true f is = is
-fits_on false f is = refl
-
-pub fits_off : (c f : Bool) → c ≡ false → (not c || f) ≡ true
-fits_off true f is = cc
-fits_off false f is = refl
 
 pub extended_off : (r : Rule) (b : List Told) (c : Told) → r.concerns b c.op ≡ false → extended r b c ≡ b
 extended_off r b c is = rw is refl

@@ -1,14 +1,11 @@
 -- Tests on numbers, and tests of tests.
 use Rattle.std.proofs.Common.{◌≡◌, ℕ, Bool, true, false, not, ◌||◌, ◌==◌, cond, refl, sym, ◌∙◌, eqb-true}
 use Rattle.std.proofs.lemmas.Bool.{eq-eqb, ne_eqb}
+pub use Rattle.ec_semaphore.proofs.shared.Implying.{fits_or as or_second}
 
 pub or_first : (a b : Bool) → a ≡ true → (a || b) ≡ true
 or_first true b is = refl
 or_first false b is = cc
-
-pub or_second : (a b : Bool) → b ≡ true → (a || b) ≡ true
-or_second true b is = refl
-or_second false b is = is
 
 pub turned : {X : Type 0} (b : Bool) (x y : X) → cond (not b) x y ≡ cond b y x
 turned true x y = refl

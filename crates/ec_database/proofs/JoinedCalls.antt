@@ -15,6 +15,7 @@ use Rattle.ec_database.specs.Calls.{first_number, turn_of, write_call, try_call,
 use Rattle.ec_database.specs.Following.{is_on, writes, write_rule, try_rule, database_rules}
 use Rattle.ec_database.specs.Joined.{list_of, IsBegun, IsWhole, IsNext, AreLists, FollowingMeansLists}
 use Rattle.ec_database.proofs.Spelled.{writing, a_try}
+use Rattle.ec_database.proofs.shared.LeftOut.{speaks}
 
 -- the call that comes next is that of the list, at whose places nothing changes once they were reached
 record IsList (call : List Told → Option Act) (list : List Told → List Act) : Type 0 where
@@ -142,10 +143,6 @@ try_is d = record { is = a_try d; kept = try_kept d; some = omega arith }
 role_lists : (d : Database) (p : Bool) (calls : List Told) (going : Option Act) → IsJoined (cond p (write_rule d) (try_rule d)) calls going ↔ AreLists (list_of d p) calls going
 role_lists d true calls going = (lists_of (is_on d) (write_call d []) (list_of d true) calls going (write_is d), joined_of (is_on d) (write_call d []) (list_of d true) calls going (write_is d))
 role_lists d false calls going = (lists_of (is_on d) (try_call d) (list_of d false) calls going (try_is d), joined_of (is_on d) (try_call d) (list_of d false) calls going (try_is d))
-
-speaks : (d : Database) (p : Bool) → SpeaksOf (cond p (write_rule d) (try_rule d)) (is_on d)
-speaks d true calls op = refl
-speaks d false calls op = refl
 
 pub following_means : FollowingMeansLists
 following_means t d h dec acc =

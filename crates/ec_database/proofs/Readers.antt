@@ -19,6 +19,7 @@ use Rattle.ec_database.specs.Calls.{try_call}
 use Rattle.ec_database.specs.Following.{is_on, write_rule, try_rule, rules}
 use Rattle.ec_database.specs.Tries.{is_put_on}
 use Rattle.ec_database.proofs.Steady.{on_of, lead_less, writing, no_put, off_put}
+pub use Rattle.ec_core.proofs.shared.Joining.{last_get}
 
 -- the first number read, and what is known once that many writings were done
 pub record IsSnapshot (d : Database) (past : List Entry) (version : ℕ) (gets : List Told) : Type 0 where
@@ -53,16 +54,6 @@ reader_later d writers t x past (r ∷ a ∷ gets) shape dec acc f h =
           let none = no_put d writers t x past shape dec acc f (omega arith) in
           h.same was i c at lt ∙ sym (cell_same d t x past i acc none lt));
     })
-
-pub last_get : {A : Type 0} (xs : List A) (y c : A) (i : ℕ) → slice_get (xs ++ y ∷ []) i ≡ Some c → ((slice_get xs i ≡ Some c) × (i < length xs)) ⊎ ((i ≡ length xs) × (y ≡ c))
-last_get [] y c zero h = inr (refl, cc)
-last_get [] y c (suc i) h = cc
-last_get (x ∷ xs) y c zero h = inl (h, omega arith)
-last_get (x ∷ xs) y c (suc i) h =
-    elim (last_get xs y c i h) [
-      | inl k ↦ (let lt : i < length xs = k.1 in inl (k.0, omega arith))
-      | inr k ↦ (let same : i ≡ length xs = k.0 in inr (omega arith, k.1))
-    ]
 
 chosen_some : (d : Database) (k : ℕ) → k ≤ d.cells → is_some (cond (nat_lt k d.cells) (Some (Get (d.first_cell + k))) (cond (k == d.cells) (Some (Read d.start)) None)) ≡ true
 chosen_some d k le =

@@ -28,7 +28,7 @@ not_set outcomes.Stopped is = cc
 not_set outcomes.OutOfTurns is = cc
 not_set outcomes.Memory is = cc
 
-running_is : (o : Outcome) → is_running o ≡ true → o ≡ outcomes.Running
+pub running_is : (o : Outcome) → is_running o ≡ true → o ≡ outcomes.Running
 running_is outcomes.Running is = refl
 running_is outcomes.Finished is = cc
 running_is outcomes.ValueTooLarge is = cc

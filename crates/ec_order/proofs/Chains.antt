@@ -8,6 +8,7 @@ use Rattle.ec_core.specs.Calls.{CallSoFar, under_way, gone_on, is_pending}
 use Rattle.ec_core.specs.Rounds.{sum_read, IsPastOf, IsPastOfEach, EachIsPastOf}
 use Rattle.ec_core.specs.Counts.{component_total}
 use Rattle.ec_core.proofs.shared.Pasts.{past_itself}
+pub use Rattle.ec_core.proofs.shared.CallRounds.{sum_taken as sum_take}
 
 pub past_trans : (a b c : List Entry) → IsPastOf a b → IsPastOf b c → IsPastOf a c
 past_trans a b c p q = record { since = q.since ++ p.since; is = q.is ∙ ap (λ z. q.since ++ z) p.is ∙ sym (append_assoc q.since p.since a) }
@@ -51,12 +52,6 @@ pub chain_of_each : (late : List Entry) (ps : List (List Entry)) (n : ℕ) → I
 chain_of_each late [] n c h = absurd (omega arith)
 chain_of_each late (p ∷ ps) zero c h = (past_itself p, tt)
 chain_of_each late (p ∷ ps) (suc n) c h = (chain_at p ps n c.1 (omega arith), chain_of_each p ps n c.1 (omega arith))
-
-pub sum_take : (t : Tables) (e n : ℕ) (ps : List (List Entry)) → sum_read t e n (take n ps) ≡ sum_read t e n ps
-unfolding sum_read
-sum_take t e zero ps = refl
-sum_take t e (suc n) [] = refl
-sum_take t e (suc n) (p ∷ ps) = ap (λ s. component_total t e n p + s) (sum_take t e n ps)
 
 -- what is known of a call under way after a past
 abbrev pub IsChained : List Entry → Option CallSoFar → Type 0

@@ -11,9 +11,10 @@ use Rattle.ec_core.specs.declared.act.Reply.TheVariants.{Done, Number, Pending}
 use Rattle.ec_core.specs.declared.act.Entry.{Entry}
 use Rattle.ec_core.specs.Calls.{CallSoFar, under_way, gone_on, is_go, is_pending}
 use Rattle.ec_core.specs.Rounds.{IsPastOf}
-use Rattle.ec_core.proofs.shared.Pasts.{past_itself}
+use Rattle.ec_core.proofs.shared.Pasts.{pending_is, past_itself}
 use Rattle.ec_order.proofs.Chains.{past_trans, past_before, past_next}
 use Rattle.ec_order.proofs.Positions.{entry_at, entry_here, entry_before, entry_since, entry_within, entry_in, find_entry, past_of_both, same_some}
+use Rattle.ec_core.proofs.shared.Scans.{call_other as other_now}
 
 -- a worker's entries
 
@@ -202,11 +203,6 @@ own_stays : (w : ℕ) (x : Entry) (late : List Entry) (o : Option CallSoFar) →
 own_stays w x late None other h = tt
 own_stays w x late (Some call) other h = (own_next w call.op x late call.moments other h.0, h.1)
 
-pending_is : (reply : Reply) → is_pending reply ≡ true → reply ≡ Pending
-pending_is Done h = cc
-pending_is (Number n) h = cc
-pending_is Pending h = refl
-
 pub own_under_way : (w : ℕ) (past : List Entry) → OwnCall w past (under_way w past)
 unfolding under_way
 own_under_way w [] = tt
@@ -236,10 +232,6 @@ unfolding under_way
 own_now w x past own told =
     ap (λ b. cond b (cond (is_pending x.reply) (gone_on x.act past (under_way w past)) None) (under_way w past)) (eq-eqb x.worker w own)
     ∙ ap (λ r. cond (is_pending r) (gone_on x.act past (under_way w past)) None) told
-
-other_now : (w : ℕ) (x : Entry) (past : List Entry) → (x.worker == w) ≡ false → under_way w (x ∷ past) ≡ under_way w past
-unfolding under_way
-other_now w x past other = ap (λ b. cond b (cond (is_pending x.reply) (gone_on x.act past (under_way w past)) None) (under_way w past)) other
 
 pub first_more : (p late : List Entry) (w : ℕ) (op : Act) (ps : List (List Entry)) → Own w op late ps → first_past (p ∷ ps) ≡ first_past ps
 first_more p late w op [] h = absurd h

@@ -18,7 +18,7 @@ get_last : {X : Type 0} (xs : List X) (x : X) → slice_get (xs ++ x ∷ []) (le
 get_last [] x = refl
 get_last (y ∷ xs) x = get_last xs x
 
-reverse_cons : (x : Entry) (p : List Entry) → reverse (x ∷ p) ≡ reverse p ++ x ∷ []
+pub reverse_cons : (x : Entry) (p : List Entry) → reverse (x ∷ p) ≡ reverse p ++ x ∷ []
 reverse_cons x p = reverse-append (x ∷ []) p
 
 pub entry_here : (x : Entry) (p : List Entry) → entry_at (x ∷ p) (length p) ≡ Some x

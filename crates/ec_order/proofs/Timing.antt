@@ -24,6 +24,7 @@ use Rattle.ec_order.proofs.Inserting.{map_insert}
 use Rattle.ec_order.proofs.Gathering.{AddsReading, added, alone_whole, by_moments_none, put_among, readings_more, readings_none, whole_from, whole_leaves}
 use Rattle.ec_order.proofs.Wholes.{IsLongReading, long_read, others_long, placed_whole, whole_short}
 use Rattle.ec_core.proofs.shared.Reading.{never as neither_way}
+use Rattle.ec_order.proofs.Positions.{reverse_cons as newest_last}
 
 -- READS AND AWAITS BY THEIR POINTS
 
@@ -42,9 +43,6 @@ place_told ps k at h = record {
 }
 
 -- WITH ONE MORE ENTRY
-
-newest_last : (x : Entry) (past : List Entry) → reverse (x ∷ past) ≡ reverse past ++ x ∷ []
-newest_last x past = reverse-append (x ∷ []) past
 
 abbrev pub kept : Tables → List (Option Ongoing) → List Raised → List Bool → List Entry → List Dated → Bool → Timed
 kept t calls ks marks alone rs lacks = record { setup = t; under_way = calls; advances = ks; marks = marks; alone = alone; readings = rs; lacks = lacks }

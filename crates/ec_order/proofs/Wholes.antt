@@ -21,6 +21,7 @@ use Rattle.ec_order.proofs.Cutting.{Own, first_at_end, first_more, first_past, g
 use Rattle.ec_order.proofs.Ends.{Ends}
 use Rattle.ec_order.proofs.Gathering.{placed, whole_from, whole_parts}
 use Rattle.ec_order.proofs.Inserting.{AllRead}
+use Rattle.ec_core.proofs.shared.Tracking.{go_is}
 
 -- A WHOLE CALL
 
@@ -85,10 +86,6 @@ rest_long t w x op past rest own =
     let one : suc (length rest) - 1 ≡ length rest = omega arith in
     let first : position_of (past ∷ rest) (suc (length rest) - 1) ≡ length (first_past rest) = ap (position_of (past ∷ rest)) one ∙ ap length (first_at_end past rest ∙ first_more past past w op rest own) in
     lt-ltb (position_of (past ∷ rest) (suc (length rest) - 1)) (length past) (omega (arith, first, past_shorter (f.entry ∷ first_past rest) past f.in_late))
-
-go_is : (act : Act) → is_go act ≡ true → act ≡ Go
-go_is Go is = refl
-go_is act is = cc
 
 one_of : (a b : Bool) → (not a && not b) ≡ false → b ≡ false → a ≡ true
 one_of true b h is = refl

@@ -24,7 +24,7 @@ use Rattle.ec_runner.specs.Seated.{is_live, is_running, seat_of, every_live_wait
 use Rattle.ec_runner.specs.Boarded.{Boarded, past_of, short_at, fallen_short, awaited, unmet, wait_of, AreWaiters, with_seat, after_entry}
 use Rattle.ec_runner.proofs.Lining.{moved_to}
 
-lt_of : (m n : ℕ) → nat_lt m n ≡ true → m < n
+pub lt_of : (m n : ℕ) → nat_lt m n ≡ true → m < n
 lt_of m n h = grind (arith, nat_tests)
 
 -- WHO IS LIVE

@@ -6,9 +6,7 @@ use Rattle.ec_core.specs.Recorded.{Recorded}
 use Rattle.ec_runner.specs.declared.wait.Wait.{Wait}
 use Rattle.ec_runner.specs.Boarded.{awaited, past_of, unmet}
 use Rattle.ec_runner.specs.RunReports.{IsCaught}
-
-is_below : (x y : ℕ) → nat_lt x y ≡ true → x < y
-is_below x y h = grind (arith, nat_tests)
+use Rattle.ec_runner.proofs.Boarding.{lt_of as is_below}
 
 below_is : (x y : ℕ) → x < y → nat_lt x y ≡ true
 below_is x y h = grind (arith, nat_tests)

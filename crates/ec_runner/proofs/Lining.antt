@@ -13,6 +13,7 @@ use Rattle.ec_runner.specs.declared.seat.Seat.{Seat}
 use Rattle.ec_runner.specs.declared.seat.Seat.TheVariants.{Gone, Running, Waiting}
 use Rattle.ec_runner.specs.Seated.{is_waiting, kept}
 use Rattle.ec_runner.specs.Lined.{comes_before, Each, Stands, AreInOrder, placed, place_in, without, first_reached, dropped_out, waits_on, number_on, IsLine, AreLines}
+use Rattle.ec_semaphore.proofs.shared.Implying.{fits_or as or_right}
 
 -- ORDER
 
@@ -536,10 +537,6 @@ none_waits e (Waiting f u ∷ seats) none =
       | true ↦ λ h. (let same : f ≡ e = eqb-true f e h in absurd (none 0 u (ap (λ k. Some (Waiting k u)) same)))
       | false ↦ λ h. none_waits e seats (λ w v at. none (suc w) v at)
     ] refl
-
-or_right : (b c : Bool) → c ≡ true → (b || c) ≡ true
-or_right true c h = refl
-or_right false c h = h
 
 one_waits : (e : ℕ) (seats : List Seat) (w v : ℕ) → slice_get seats w ≡ Some (Waiting e v) → list_any (waits_on e) seats ≡ true
 one_waits e [] w v at = cc

@@ -19,15 +19,7 @@ use Rattle.ec_machine.specs.Standing.{StandsFor, kept_outcome, is_refused}
 use Rattle.ec_machine.specs.Steps.{own}
 use Rattle.ec_runner.specs.Machines.{IsMachineOf, IsRunOf, HasTurn, MayTakeTurn}
 use Rattle.ec_runner.specs.Schedules.{Turn, entries_of, refusal_told, ended_by, outcome_after}
-
-running_is : (o : Outcome) → is_running o ≡ true → o ≡ outcomes.Running
-running_is outcomes.Running is = refl
-running_is outcomes.Finished is = cc
-running_is outcomes.ValueTooLarge is = cc
-running_is (outcomes.Refused r) is = cc
-running_is outcomes.Stopped is = cc
-running_is outcomes.OutOfTurns is = cc
-running_is outcomes.Memory is = cc
+use Rattle.ec_machine.proofs.Going.{running_is}
 
 pub not_set : (o : Outcome) → is_running o ≡ true → is_set o ≡ false
 not_set o is = ap is_set (running_is o is)

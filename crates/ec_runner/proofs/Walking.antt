@@ -13,9 +13,10 @@ use Rattle.ec_core.specs.Counts.{past_at}
 use Rattle.ec_core.specs.Laws.{AcceptedMeansAnswered}
 use Rattle.ec_core.proofs.shared.Answering.{allowed}
 use Rattle.ec_machine.specs.Steps.{own}
-use Rattle.ec_machine.proofs.shared.OwnSteps.{own_append}
+use Rattle.ec_machine.proofs.shared.OwnSteps.{slice_here as get_at, own_append}
 use Rattle.ec_runner.specs.declared.told.Told.{Told}
 use Rattle.ec_runner.specs.Walks.{AreWalked, AreLogsOf, IsUnfinished, IsUnlike}
+pub use Rattle.ec_machine.proofs.shared.OwnSteps.{entry_next as entry_there}
 
 pub append_none : (xs : List Entry) → xs ++ [] ≡ xs
 append_none [] = refl
@@ -100,15 +101,6 @@ pub all_walked : (tolds : List Told) (cursors : List ℕ) (done : List Entry) �
     → AreLogsOf tolds done
 all_walked tolds cursors done h ends w told is =
     h.walked w told is ∙ ap (λ n. take n told.log.items) (ends w told is) ∙ take-length told.log.items
-
-get_at : (ys zs : List Entry) (x : Entry) → slice_get (ys ++ x ∷ zs) (length ys) ≡ Some x
-get_at [] zs x = refl
-get_at (y ∷ ys) zs x = get_at ys zs x
-
--- the entry that a walk comes to next
-pub entry_there : (h done rest others : List Entry) (x : Entry) → done ++ rest ≡ h → rest ≡ x ∷ others → slice_get h (length done) ≡ Some x
-entry_there h done rest others x is first =
-    ap (λ (xs : List Entry). slice_get xs (length done)) (sym is ∙ ap (λ r. done ++ r) first) ∙ get_at done others x
 
 below : (n w : ℕ) → nat_le n w ≡ false → w < n
 below n w h = grind (arith, nat_tests)

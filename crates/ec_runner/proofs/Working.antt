@@ -11,15 +11,7 @@ use Rattle.ec_machine.specs.Runs.{outcome_of}
 use Rattle.ec_machine.specs.Standing.{StandsFor, kept_outcome}
 use Rattle.ec_runner.specs.declared.told.Asked.{Asked}
 use Rattle.ec_runner.specs.Works.{IsStop, Works, HasHad, IsAsked, EndsSo, is_out_of_turns}
-
-is_it : (o : Outcome) → is_running o ≡ true → o ≡ outcomes.Running
-is_it outcomes.Running h = refl
-is_it outcomes.Finished h = cc
-is_it (outcomes.Refused r) h = cc
-is_it outcomes.ValueTooLarge h = cc
-is_it outcomes.Stopped h = cc
-is_it outcomes.OutOfTurns h = cc
-is_it outcomes.Memory h = cc
+use Rattle.ec_machine.proofs.Going.{running_is as is_it}
 
 not_running : (o : Outcome) → is_set o ≡ true → is_running o ≡ false
 not_running outcomes.Running h = cc

@@ -73,7 +73,7 @@ heading_apart h (inr has) =
 later_there : (g k : Group) (gs : List Group) → Contains gs k → Contains (g ∷ gs) k
 later_there g k gs c = (suc c.0, omega (arith, c.1), c.2)
 
-both_there : (gs : List Group) (s : Semaphore) → both_of gs ≡ Some s → Contains gs (groups.Both s)
+pub both_there : (gs : List Group) (s : Semaphore) → both_of gs ≡ Some s → Contains gs (groups.Both s)
 both_there [] s is = cc
 both_there (groups.Buffer b ∷ gs) s is = later_there (groups.Buffer b) (groups.Both s) gs (both_there gs s is)
 both_there (groups.Database d ∷ gs) s is = later_there (groups.Database d) (groups.Both s) gs (both_there gs s is)

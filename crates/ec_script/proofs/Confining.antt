@@ -104,7 +104,7 @@ semaphore_fits gs v (Some s) found = found s refl
 
 -- TWO SEMAPHORES
 
-itself : (s : Semaphore) → is_same s s ≡ true
+pub itself : (s : Semaphore) → is_same s s ≡ true
 itself s = rw (eq-eqb s.count s.count refl, eq-eqb s.line s.line refl, eq-eqb s.initial s.initial refl) refl
 
 not_true : (t : Bool) → not t ≡ true → t ≡ false

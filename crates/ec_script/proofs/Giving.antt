@@ -73,7 +73,7 @@ either_ranged : (w : List ℕ) (o : Option (List ℕ)) (v : Value) → number_or
 either_ranged w None v is = number_ranged (number_of w) v (λ n e. (number_takes w n e).1) is
 either_ranged w (Some digits) v is = (let n = and_then_back last_plus (number_of digits) v is in plus_ranged n.0 v (number_takes digits n.0 n.1).1 n.2)
 
-value_ranged : (w : List ℕ) (v : Value) → value_of w ≡ Some v → is_value v ≡ true
+pub value_ranged : (w : List ℕ) (v : Value) → value_of w ≡ Some v → is_value v ≡ true
 unfolding value_of
 value_ranged w v is =
     (elim (bytes_eq w (codes "last")) as (λ b. cond b (Some Last) (number_or_more (more_in w) w) ≡ Some v → is_value v ≡ true) [

@@ -30,6 +30,7 @@ use Rattle.ec_script.specs.Faults.{kind_of_head}
 use Rattle.ec_script.specs.Holding.{LimitHas, WorkersHave, IsTaken, IsOver, PassesBounds, SharesWorker, DeclarationHas}
 use Rattle.ec_script.proofs.Deciding.{never, decides_none, decides_some, decides_not, decides_itself, decides_any, decides_member, decides_repeat, decides_word_twice, decides_number}
 use Rattle.ec_script.proofs.Least.{least}
+use Rattle.ec_heading.proofs.shared.SortFacts.{greatest_small as few_numbers}
 
 -- THE LIMIT
 
@@ -107,15 +108,6 @@ taken_decided h p =
 
 pub unknown_decided : (h : Headed) (ws : List (List ℕ)) → Decides (has_unknown h.words ws) (Any (λ w. worker_in h.words w ≡ None) ws)
 unknown_decided h ws = decides_any (λ w. is_none (worker_in h.words w)) (λ w. worker_in h.words w ≡ None) (λ w. decides_none (worker_in h.words w)) ws
-
-few_numbers : (s : Sort) → greatest s ≤ 1000000
-few_numbers sorts.EventCount = omega arith
-few_numbers sorts.Sequencer = omega arith
-few_numbers sorts.Cells = omega arith
-few_numbers sorts.Buffer = omega arith
-few_numbers sorts.Database = omega arith
-few_numbers sorts.Semaphore = omega arith
-few_numbers sorts.Both = omega arith
 
 small_number : (s : Sort) (n : ℕ) → is_in_range s n ≡ true → n < 1000000000000000000
 small_number s n on = (let high : n ≤ greatest s = leb-true n (greatest s) (and_parts (nat_le (least_number s) n) (nat_le n (greatest s)) on).1 in omega (arith, few_numbers s, high))

@@ -29,7 +29,7 @@ use Rattle.ec_heading.proofs.shared.Each.{each_append}
 use Rattle.ec_heading.proofs.shared.LineWords.{IsFit, AreNamed}
 use Rattle.ec_heading.proofs.shared.NameWords.{name_is_word, name_not_empty}
 use Rattle.ec_heading.proofs.shared.ReadNames.{bracketed, HasBlock, has_block, IsNamedBy, named_by, block_by, word_lacks}
-use Rattle.ec_heading.proofs.shared.ReadHeadings.{IsSound, sound, sound_all}
+use Rattle.ec_heading.proofs.shared.ReadHeadings.{new_name, IsSound, sound, sound_all}
 use Rattle.ec_heading.proofs.shared.SortFacts.{name_called}
 use Rattle.ec_heading.proofs.shared.SpelledWords.{IsPlainWord, found_word, find-append_none}
 use Rattle.ec_script.specs.declared.object.Object.{Object}
@@ -94,12 +94,6 @@ found_still w (x ∷ xs) ys t is =
 none_there : (o : Option Target) → ((t : Target) → o ≡ Some t → ⊥) → o ≡ None
 none_there None absent = refl
 none_there (Some t) absent = absurd (absent t refl)
-
-new_name : (h : Headed) (name : List ℕ) → IsSound h → find_name name h.words ≡ None → find_name name h.names ≡ None
-new_name h name is none =
-    none_there (find_name name h.names) (λ t found.
-    let there : is_some (find_name name h.words) ≡ true = found_word (λ w. is_some (find_name w h.words) ≡ true) h.names name t is.known found in
-    true≢false (sym there ∙ ap is_some none))
 
 -- a group that is declared with a name
 group_called : (s : Sort) (h : Headed) (n : ℕ) (name : List ℕ) (g : Group) → find_name name h.names ≡ None → group_of s h.setup n ≡ Some g → is_common g ≡ false → HasGroup (h.names ++ named_as s name (target_of s (next_of h) n)) (length h.groups)

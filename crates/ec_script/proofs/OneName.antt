@@ -22,6 +22,7 @@ use Rattle.ec_heading.proofs.shared.OutlineGrows.{objects_grow}
 use Rattle.ec_heading.proofs.shared.Phrases.{same_word}
 use Rattle.ec_script.specs.Objects.{place_of, group_in, semaphore_of, semaphore_in}
 use Rattle.ec_heading.proofs.shared.Listed.{Named}
+use Rattle.ec_core.proofs.shared.Joining.{get_front as still_at}
 
 -- WORDS AND PLACES IN A LONGER LIST
 
@@ -46,11 +47,6 @@ new_name s w name t u is =
       | true ↦ λ there. only_name w name t u there
       | false ↦ λ none. cc
     ] is
-
-still_at : {X : Type 0} (xs ys : List X) (i : ℕ) → i < length xs → slice_get (xs ++ ys) i ≡ slice_get xs i
-still_at [] ys i within = absurd (omega (arith, within))
-still_at (x ∷ xs) ys zero within = refl
-still_at (x ∷ xs) ys (suc i) within = still_at xs ys i (omega (arith, within))
 
 at_end : {X : Type 0} (xs : List X) (o : Option X) → slice_get (xs ++ cons_option o []) (length xs) ≡ o
 at_end [] None = refl

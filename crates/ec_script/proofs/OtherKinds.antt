@@ -39,6 +39,7 @@ use Rattle.ec_script.proofs.HeadKinds.{unknown_decided}
 use Rattle.ec_script.proofs.OrderLines.{value_back}
 use Rattle.ec_script.proofs.Sayings.{value_spelled}
 use Rattle.ec_script.proofs.TwoRoles.{two_roles, pair_verb, first_again}
+use Rattle.ec_script.proofs.Giving.{value_ranged as value_in_range}
 
 -- OBJECTS
 
@@ -62,30 +63,6 @@ schedule_decided h verbs.Schedule ws = Decides-like (has_unknown h.words ws) (λ
 schedule_decided h _ ws = never (λ t. (let e = t.0 in cc))
 
 -- VALUES AND COUNTS
-
--- a value that is read is in its range
-in_range_of : (o : Option (List ℕ)) (w : List ℕ) (v : Value) → number_or_more o w ≡ Some v → is_value v ≡ true
-in_range_of None w v is =
-    (elim (number_of w) as (λ n. number_of w ≡ n → option_map Number n ≡ Some v → is_value v ≡ true) [
-      | None ↦ λ e h. cc
-      | Some n ↦ λ e h. (let t = number_takes w n e in subst (λ x. is_value x ≡ true) (same_Some (Number n) v h) (le-leb n VALUE_MAX (omega (arith, t.1))))
-    ]) refl is
-in_range_of (Some digits) w v is =
-    (elim (number_of digits) as (λ n. number_of digits ≡ n → option_and_then last_plus n ≡ Some v → is_value v ≡ true) [
-      | None ↦ λ e h. cc
-      | Some n ↦ λ e h. (elim (nat_le 1 n) as (λ b. nat_le 1 n ≡ b → cond b (Some (LastPlus n)) None ≡ Some v → is_value v ≡ true) [
-        | true ↦ λ some k. (let t = number_takes digits n e in subst (λ x. is_value x ≡ true) (same_Some (LastPlus n) v k) (and_from (nat_le 1 n) (nat_le n VALUE_MAX) some (le-leb n VALUE_MAX (omega (arith, t.1)))))
-        | false ↦ λ some k. cc
-      ]) refl h
-    ]) refl is
-
-value_in_range : (w : List ℕ) (v : Value) → value_of w ≡ Some v → is_value v ≡ true
-unfolding value_of
-value_in_range w v is =
-    (elim (bytes_eq w (codes "last")) as (λ b. cond b (Some Last) (number_or_more (more_in w) w) ≡ Some v → is_value v ≡ true) [
-      | true ↦ λ h. subst (λ x. is_value x ≡ true) (same_Some Last v h) refl
-      | false ↦ λ h. in_range_of (more_in w) w v h
-    ]) is
 
 no_value_decided : (w : List ℕ) → Decides (is_no_value w) (IsNoValue w)
 no_value_decided w = (

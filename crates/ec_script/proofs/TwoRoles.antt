@@ -24,7 +24,7 @@ use Rattle.ec_script.specs.Objects.{buffer_in, database_in, semaphore_in, both_o
 use Rattle.ec_script.specs.Kinds.{Seen, is_allowed, is_named_again, is_too_many, has_two_roles, or_nothing, phrase_fault}
 use Rattle.ec_script.specs.Pairs.{TwoRolesAreOneName, NamesOneTwice, TwoRolesAreTold}
 use Rattle.ec_script.proofs.Commons.{common_starts, common_counts}
-use Rattle.ec_script.proofs.Confining.{found_semaphore}
+use Rattle.ec_script.proofs.Confining.{itself as same_itself, found_semaphore}
 use Rattle.ec_script.proofs.OneName.{one_name}
 
 -- THE THREE SEMAPHORES OF A LINE
@@ -46,11 +46,6 @@ second_word h (v ∷ w ∷ ws) z is = cc
 common_differs : (h : Headed) (common s : Semaphore) (w : List ℕ) → IsHeading h → both_of h.groups ≡ Some common → semaphore_in h w ≡ Some s → is_same common s ≡ false
 common_differs h common s w is both named =
     rw (common_counts h common s is both (found_semaphore h w s named)) refl
-
-same_itself : (s : Semaphore) → is_same s s ≡ true
-same_itself s =
-    and_from (s.count == s.count && s.line == s.line) (s.initial == s.initial)
-    (and_from (s.count == s.count) (s.line == s.line) (eq-eqb s.count s.count refl) (eq-eqb s.line s.line refl)) (eq-eqb s.initial s.initial refl)
 
 -- two named ones are one if their names are
 same_names : (h : Headed) (w v : List ℕ) (s u : Semaphore) → IsHeading h → semaphore_in h w ≡ Some s → semaphore_in h v ≡ Some u → is_same s u ≡ bytes_eq w v

@@ -16,7 +16,7 @@ use Rattle.ec_core.specs.Acceptance.{IsAccepted}
 use Rattle.ec_core.specs.Following.{Told, block, Follow}
 use Rattle.ec_core.specs.CallLists.{is_act, number_of}
 use Rattle.ec_core.proofs.shared.Answering.{IsReading}
-use Rattle.ec_core.proofs.shared.Joining.{get_back}
+use Rattle.ec_core.proofs.shared.Joining.{get_front as get_old, get_back}
 use Rattle.ec_core.proofs.shared.Breaks.{follow_of}
 use Rattle.ec_core.proofs.shared.Moments.{past_next, past_end, moment_before, beginnings}
 use Rattle.ec_core.proofs.shared.Queue.{Seat, turn_is}
@@ -222,11 +222,6 @@ get_push (x ∷ xs) y z (suc i) h =
       | inl k ↦ (let lt : i < length xs = k.0 in inl (omega arith, k.1))
       | inr k ↦ (let same : i ≡ length xs = k.0 in inr (omega arith, k.1))
     ]
-
-get_old : {X : Type 0} (xs ys : List X) (i : ℕ) → i < length xs → slice_get (xs ++ ys) i ≡ slice_get xs i
-get_old [] ys i lt = absurd (omega arith)
-get_old (x ∷ xs) ys zero lt = refl
-get_old (x ∷ xs) ys (suc i) lt = get_old xs ys i (omega arith)
 
 element : {X : Type 0} (xs : List X) (i : ℕ) → i < length xs → (x : X) × (slice_get xs i ≡ Some x)
 element xs i below =

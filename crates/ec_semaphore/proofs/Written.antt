@@ -14,6 +14,7 @@ use Rattle.ec_semaphore.specs.Shapes.{Semaphore}
 use Rattle.ec_semaphore.specs.Uses.{threshold, is_on, use_rule, use_rules}
 use Rattle.ec_semaphore.specs.Both.{line_of, is_line, down_both_call, both_rule, both_rules}
 use Rattle.ec_semaphore.specs.Joined.{IsDown, IsUp, IsGuarded, IsDownBoth, DownIsWritten, UpIsWritten, UsesAreDownsAndUps, FollowingMeansUses, WholePartsAreGuarded, FollowingBothMeansGuardedParts, DownBothIsWritten}
+use Rattle.ec_semaphore.proofs.shared.Implying.{fits_or as due_second}
 
 -- P AND V
 
@@ -46,10 +47,6 @@ uses_from s (t ∷ a ∷ c ∷ rest) w = (let third = w.each 2 c refl in let k =
 due_first : (a b : Bool) → a ≡ true → (a || b) ≡ true
 due_first true b h = refl
 due_first false b h = cc
-
-due_second : (a b : Bool) → b ≡ true → (a || b) ≡ true
-due_second true b h = refl
-due_second false b h = h
 
 down_whole : (s : Semaphore) (t a : Told) → t.op ≡ Ticket s.line → a.op ≡ Await s.count (threshold s (number_of t.reply)) → IsWholeList (use_rule s) (t ∷ a ∷ [])
 down_whole s t a draws waits = record {

@@ -25,6 +25,7 @@ use Rattle.ec_trace.specs.declared.fault.TraceFault.{TraceFault}
 use Rattle.ec_trace.specs.declared.read.TheConstants.{TRACE_MAX}
 use Rattle.ec_trace.proofs.Readings.{line_taken, line_refused}
 use Rattle.ec_trace.specs.declared.fault.LineFault.TheVariants.{Bad, Refused, WrongReply}
+pub use Rattle.ec_trace.proofs.ReadRuns.{same_is as is_same}
 
 pub spells_none : (t : Recounted) (line : List ℕ) → entry_of t.heading.words line ≡ None → entry_step t line ≡ Err Bad
 unfolding entry_step
@@ -58,18 +59,6 @@ module _ (t : Recounted) (line : List ℕ) (e : Entry) (spells : entry_of t.head
   pub entry_answered : can_spell t.heading.version e.act ≡ true → IsOk (answer_of t.heading.setup (reverse t.entries) e.worker e.act) → IsAnswered (entry_step t line)
   entry_answered may ok =
       subst (λ (r : Result Recounted LineFault). IsAnswered r) (sym (answers may)) (answered_is t e (answer_of t.heading.setup (reverse t.entries) e.worker e.act) ok)
-
--- the same reply is the same
-pub is_same : (a b : Reply) → same_reply a b ≡ true → a ≡ b
-is_same Done Done e = refl
-is_same Pending Pending e = refl
-is_same (Number m) (Number n) e = ap Number (grind (arith, nat_tests))
-is_same Done (Number n) e = cc
-is_same Done Pending e = cc
-is_same Pending Done e = cc
-is_same Pending (Number n) e = cc
-is_same (Number m) Done e = cc
-is_same (Number m) Pending e = cc
 
 -- LINES
 

@@ -14,6 +14,7 @@ use Rattle.ec_heading.specs.Spelling.{text_of, ended_line}
 use Rattle.ec_trace.specs.Step.{step, is_ended}
 use Rattle.ec_trace.specs.Outcome.{Place, parts_of, goes, goes_from, taken, is_bad_rest, start, outcome, bounded, ended_at, traced_in}
 use Rattle.ec_trace.proofs.Goes.{goes_line, goes_ended, HasFirst, has_first}
+use Rattle.ec_heading.proofs.shared.Declarable.{none_listed as no_rest}
 
 pub leads_append : (s t u : Stage) (xs ys : List (List ℕ)) → Leads s xs t → Leads t ys u → Leads s (xs ++ ys) u
 leads_append s t u [] ys a b = subst (λ (k : Stage). Leads k ys u) (sym a) b
@@ -132,10 +133,6 @@ ended_stage Opening t e = cc
 ended_stage (Limiting v) t e = cc
 ended_stage (Declaring h) t e = cc
 ended_stage (Running u) t e = cc
-
-no_rest : (part : List ℕ) → eqb (length part) 0 ≡ true → part ≡ []
-no_rest [] e = refl
-no_rest (b ∷ part) e = absurd (omega (arith, eqb-true (length (b ∷ part)) 0 e))
 
 chosen : {X : Type 0} (b : Bool) (r : Result X TraceFault) (f : TraceFault) (x : X) → cond b r (Err f) ≡ Ok x → (b ≡ true) × (r ≡ Ok x)
 chosen true r f x e = (refl, e)

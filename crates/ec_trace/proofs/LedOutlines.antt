@@ -39,7 +39,7 @@ run_outlined : (h : Headed) → IsBegun h → 0 < h.setup.workers → HasOutline
 run_outlined h (inl n) some = absurd (let none : h.setup.workers ≡ 0 = ap (λ (g : Headed). g.setup.workers) n.4 in omega arith)
 run_outlined h (inr has) some = has
 
-entry_heading : (t u : Recounted) (line : List ℕ) → entry_step t line ≡ Ok u → u.heading ≡ t.heading
+pub entry_heading : (t u : Recounted) (line : List ℕ) → entry_step t line ≡ Ok u → u.heading ≡ t.heading
 unfolding entry_step
 entry_heading t u line is =
     let o = entered_back t u (entry_of t.heading.words line) is in

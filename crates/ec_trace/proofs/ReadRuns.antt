@@ -32,15 +32,12 @@ use Rattle.ec_trace.specs.FirstFault.{Leads, IsLine}
 use Rattle.ec_trace.proofs.TraceLines.{entry_line_is}
 use Rattle.ec_heading.proofs.shared.ReadHeadings.{IsSound, is_declared}
 use Rattle.ec_trace.proofs.ReadEntries.{ActIsNamed, ReplyIsShort, IsSpellable, entry_again, entry_spelled}
+use Rattle.ec_core.proofs.shared.Moments.{accepted_before as accepted_end}
 
 -- PASTS THAT GROW
 
 reversed : (pre : List Entry) (e : Entry) → reverse (pre ++ e ∷ []) ≡ e ∷ reverse pre
 reversed pre e = reverse-append pre (e ∷ [])
-
-accepted_end : (t : Tables) (xs past : List Entry) → IsAccepted t (xs ++ past) → IsAccepted t past
-accepted_end t [] past h = h
-accepted_end t (x ∷ xs) past h = accepted_end t xs past h.1
 
 accepted_front : (t : Tables) (pre es : List Entry) (e : Entry) → IsAccepted t (reverse (pre ++ e ∷ es)) → IsAccepted t (e ∷ reverse pre)
 accepted_front t pre es e h =

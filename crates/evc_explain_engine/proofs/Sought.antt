@@ -39,6 +39,7 @@ use Rattle.evc_explain_engine.specs.Reasons.{ended_before, read_back, story}
 use Rattle.evc_explain_engine.specs.Seeking.{Heads, IsInHeading, Opens, follows_end, up_to}
 use Rattle.evc_explain_engine.proofs.Cuts.{IsPlain, before_here, first_here, first_long, line_here}
 use Rattle.evc_explain_engine.proofs.Stages.{Counted, EndsSo, IsUnder, leads_counted, lines_end, step_under}
+use Rattle.ec_trace.proofs.shared.ReadTraces.{run_leads as run_step}
 
 -- THE FIRST FAULTY LINE IN THE WHOLE TEXT
 
@@ -135,11 +136,6 @@ end_line = record {
 end_step : (t : Recounted) → step (Running t) (codes "end") ≡ Ok (Ended t)
 unfolding step
 end_step t = refl
-
-run_step : (h : Headed) → 0 < h.setup.workers → step (Declaring h) (codes "run")
-    ≡ Ok (Running (record { heading = h; entries = [] }))
-unfolding step
-run_step h some = (let l : nat_lt 0 h.setup.workers ≡ true = lt-ltb _ _ some in rw l refl)
 
 some_workers : (h : Headed) → HasOutline h → 0 < h.setup.workers
 some_workers h o =

@@ -20,6 +20,7 @@ use Rattle.ec_trace.specs.Recounted.{Recounted}
 use Rattle.ec_trace.specs.Step.{step, limit_of, declared, entry_step, ran_on}
 use Rattle.ec_trace.proofs.ReadRuns.{ran_back, entered_back, answered_back}
 use Rattle.ec_trace.proofs.shared.ReadTraces.{limit_back, limited_back, declared_back, first_back}
+use Rattle.ec_trace.proofs.LedOutlines.{entry_heading}
 
 -- a heading after its second line, with the third to come
 pub record IsEmpty (h : Headed) : Type 0 where
@@ -137,15 +138,6 @@ lines_end [] t leads = cc
 lines_end (line ∷ lines) t leads = last_end Opening line lines t leads
 
 -- THE HEADING STAYS BEHIND `run`
-
-entry_heading : (t u : Recounted) (line : List ℕ) → entry_step t line ≡ Ok u
-    → u.heading ≡ t.heading
-unfolding entry_step
-entry_heading t u line is =
-    let o = entered_back t u (entry_of t.heading.words line) is in
-    ap (λ (x : Recounted). x.heading)
-    (answered_back t u o.0
-    (answer_of t.heading.setup (reverse t.entries) o.0.worker o.0.act) o.2).1
 
 -- entries may come, or the last line came, under this heading
 abbrev pub IsUnder : Headed → Stage → Type 0

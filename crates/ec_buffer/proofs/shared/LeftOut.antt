@@ -46,7 +46,7 @@ collected_off : (b : Buffer) (x : Entry) (past : List Entry) → is_on b (op_at 
 unfolding collected
 collected_off b x past off = ap (λ o. list_after o x (writers_of b past) (collected b past)) (no_get b x.act (under_way x.worker past) off)
 
-speaks : (b : Buffer) (produces : Bool) → SpeaksOf (cond produces (produce_rule b) (consume_rule b)) (is_on b)
+pub speaks : (b : Buffer) (produces : Bool) → SpeaksOf (cond produces (produce_rule b) (consume_rule b)) (is_on b)
 speaks b true = λ calls op. refl
 speaks b false = λ calls op. refl
 

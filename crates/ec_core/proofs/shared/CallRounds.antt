@@ -68,7 +68,7 @@ each_taken ps zero late h = tt
 each_taken [] (suc n) late h = tt
 each_taken (p ∷ ps) (suc n) late h = (h.0, each_taken ps n late h.1)
 
-sum_taken : (t : Tables) (e n : ℕ) (ps : List (List Entry)) → sum_read t e n (take n ps) ≡ sum_read t e n ps
+pub sum_taken : (t : Tables) (e n : ℕ) (ps : List (List Entry)) → sum_read t e n (take n ps) ≡ sum_read t e n ps
 unfolding sum_read
 sum_taken t e zero ps = refl
 sum_taken t e (suc n) [] = refl

@@ -54,11 +54,11 @@ fits_of : (c f : Bool) → (not c || f) ≡ true → c ≡ true → f ≡ true
 fits_of true f h e = h
 fits_of false f h e = cc
 
-fitting_of : (c f : Bool) → f ≡ true → (not c || f) ≡ true
+pub fitting_of : (c f : Bool) → f ≡ true → (not c || f) ≡ true
 fitting_of true f h = h
 fitting_of false f h = refl
 
-fitting_off : (c f : Bool) → c ≡ false → (not c || f) ≡ true
+pub fitting_off : (c f : Bool) → c ≡ false → (not c || f) ≡ true
 fitting_off true f h = cc
 fitting_off false f h = refl
 

@@ -21,6 +21,7 @@ use Rattle.ec_core.proofs.shared.Following.{op_at, off_block, other_block, block
 use Rattle.ec_core.proofs.shared.Moments.{past_next}
 use Rattle.ec_core.proofs.shared.Scans.{lists_after}
 use Rattle.ec_core.proofs.shared.Stepping.{entry as entry_of}
+use Rattle.ec_core.proofs.shared.Pasts.{pending_is}
 
 -- WHAT WAS FOUND
 
@@ -159,7 +160,7 @@ tracked_off rules keeps is_on z x past speaks off s =
       finding = found_off rules z.fault x past (right_off (rules x.worker) (block (rules x.worker) x.worker past) x.act (under_way x.worker past) apart) s.finding;
     }
 
-go_is : (act : Act) → is_go act ≡ true → act ≡ Go
+pub go_is : (act : Act) → is_go act ≡ true → act ≡ Go
 go_is Go h = refl
 go_is (Advance e) h = cc
 go_is (Read e) h = cc
@@ -168,11 +169,6 @@ go_is (Ticket q) h = cc
 go_is (Put y v) h = cc
 go_is (Get y) h = cc
 go_is (Hand e f) h = cc
-
-pending_is : (reply : Reply) → is_pending reply ≡ true → reply ≡ Pending
-pending_is Pending h = refl
-pending_is Done h = cc
-pending_is (Number n) h = cc
 
 -- the go of a worker that ends no call
 abbrev pub going : ℕ → Entry

@@ -15,7 +15,7 @@ use Rattle.ec_database.specs.Shapes.{Database}
 use Rattle.ec_database.proofs.Getting.{held_off}
 use Rattle.ec_database.proofs.Listing.{tries_off}
 
-speaks : (d : Database) (is_writer : Bool) → SpeaksOf (cond is_writer (write_rule d) (try_rule d)) (is_on d)
+pub speaks : (d : Database) (is_writer : Bool) → SpeaksOf (cond is_writer (write_rule d) (try_rule d)) (is_on d)
 speaks d true = λ calls op. refl
 speaks d false = λ calls op. refl
 

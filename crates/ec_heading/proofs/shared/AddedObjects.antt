@@ -31,6 +31,7 @@ use Rattle.ec_heading.proofs.shared.Listed.{known_below}
 use Rattle.ec_heading.proofs.shared.OutlineFound.{found_at}
 use Rattle.ec_heading.proofs.shared.OutlineGrows.{TablesGrow}
 use Rattle.ec_heading.proofs.shared.ReadNames.{is_shared, AreApart, HasName, is_celled}
+pub use Rattle.ec_database.proofs.Declaring.{declares_next as database_there}
 
 -- TARGETS WITHIN THE TABLES
 
@@ -400,7 +401,7 @@ bounds_more sorts.Both t n ws vs r b = bounded_users t ws r.room b
 
 -- THE GROUPS
 
-at_end : {A : Type 0} (xs : List A) (x : A) → slice_get (xs ++ x ∷ []) (length xs) ≡ Some x
+pub at_end : {A : Type 0} (xs : List A) (x : A) → slice_get (xs ++ x ∷ []) (length xs) ≡ Some x
 at_end xs x = found_at xs x []
 
 at_second : {A : Type 0} (xs : List A) (x y : A) → slice_get ((xs ++ x ∷ []) ++ y ∷ []) (length xs + 1) ≡ Some y
@@ -430,23 +431,6 @@ buffer_there t n ws vs none =
       cells = λ k lt. behind t.cells (replicate n (record { write = ws; read = vs })) k ∙ replicated_at n k (record { write = ws; read = vs }) lt;
       apart = (roles_of t (lacks_room t n) ws vs (eqb n 0) none).2.apart;
     }
-
--- and so is a database
-pub database_there : (t : Tables) (n : ℕ) (ws vs : List ℕ) → database_fault t n ws vs ≡ None → DeclaresDatabase (next_database t n) (with_database t n ws vs) ws vs
-database_there t n ws vs none =
-    let roles = (roles_of t (databases.lacks_room t n) ws vs (eqb n 0) none).2 in
-    record {
-      start = at_first t.events (record { signal = ws; observe = vs; fixed = true }) (record { signal = ws; observe = ws ++ vs; fixed = true });
-      done = at_second t.events (record { signal = ws; observe = vs; fixed = true }) (record { signal = ws; observe = ws ++ vs; fixed = true });
-      turn = at_end t.takers ws;
-      cells = λ k lt. behind t.cells (replicate n (record { write = ws; read = vs })) k ∙ replicated_at n k (record { write = ws; read = vs }) lt;
-      readers = some_there vs roles.second_some;
-      apart = roles.apart;
-    }
-  where
-    some_there : (xs : List ℕ) → eqb (length xs) 0 ≡ false → 0 < length xs
-    some_there [] e = absurd (true≢false e)
-    some_there (x ∷ xs) e = omega arith
 
 -- and a semaphore
 pub semaphore_there : (t : Tables) (initial : ℕ) (ws : List ℕ) → DeclaresSemaphore (next_semaphore t initial) (with_semaphore t ws) ws

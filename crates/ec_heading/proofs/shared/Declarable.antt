@@ -239,7 +239,7 @@ objects_taken sorts.Database t n first second range h =
 objects_taken sorts.Semaphore t n first second range h = users_taken sorts.Semaphore t n n first second (number_small sorts.Semaphore n range) h.room h
 objects_taken sorts.Both t n first second range h = users_taken sorts.Both t n 1 first second (lit≤ tt) h.room h
 
-none_listed : (ids : List ℕ) → eqb (length ids) 0 ≡ true → ids ≡ []
+pub none_listed : (ids : List ℕ) → eqb (length ids) 0 ≡ true → ids ≡ []
 none_listed [] e = refl
 none_listed (i ∷ ids) e = absurd (omega (arith, eqb-true (length (i ∷ ids)) 0 e))
 
@@ -318,7 +318,7 @@ pub record IsClean (t : Tables) (words : Named) (p : Phrase) (d : Declaration) :
   pub room : is_full_for d.sort t d.number ≡ false
   pub apart : has_two_roles d ≡ false
 
-is_none_from : {A : Type 0} (o : Option A) → is_some o ≡ false → o ≡ None
+pub is_none_from : {A : Type 0} (o : Option A) → is_some o ≡ false → o ≡ None
 is_none_from None e = refl
 is_none_from (Some x) e = absurd (true≢false e)
 

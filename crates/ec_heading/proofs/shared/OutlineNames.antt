@@ -130,7 +130,7 @@ no_name_yet : (s : Sort) (k : Next) (n : ℕ) (names : Named) → AreOld k names
 no_name_yet s k n [] h = refl
 no_name_yet s k n (e ∷ es) h = ap (λ (b : Bool). cond b (Some e.0) (name_of (target_of s k n) es)) (not_same e.1 s k n h.0) ∙ no_name_yet s k n es h.1
 
-same_itself : (t : Target) → same_target t t ≡ true
+pub same_itself : (t : Target) → same_target t t ≡ true
 same_itself t = (targets_decide t t).1 refl
 
 -- the name of a declaration, whatever was declared after it

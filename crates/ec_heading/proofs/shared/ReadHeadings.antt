@@ -179,7 +179,7 @@ sound_opened version limit ws low high h = record {
 }
 
 -- a name is new if it is no word
-new_name : (h : Headed) (name : List ℕ) → IsSound h → find_name name h.words ≡ None → find_name name h.names ≡ None
+pub new_name : (h : Headed) (name : List ℕ) → IsSound h → find_name name h.words ≡ None → find_name name h.names ≡ None
 new_name h name is none =
     none_left (find_name name h.names) (λ t found.
     let there : is_some (find_name name h.words) ≡ true = found_word (λ w. is_some (find_name w h.words) ≡ true) h.names name t is.known found in

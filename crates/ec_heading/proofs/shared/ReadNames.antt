@@ -10,6 +10,7 @@ use Rattle.ec_count.specs.declared.target.Target.TheVariants.{Worker, Event, Seq
 use Rattle.ec_heading.specs.Spelling.{word_of, cell_word, cell_in, first_of}
 use Rattle.ec_heading.specs.Spelled.{Named}
 use Rattle.ec_heading.proofs.shared.SpelledWords.{is_plain, IsPlainWord, AreWords, entry_found, entry_word, given_word, named_found}
+pub use Rattle.ec_heading.proofs.shared.OutlineNames.{same_itself as same_self}
 
 -- EACH THING HAS ONE NAME
 
@@ -30,13 +31,6 @@ is_block _ = false
 plain_same : (s t : Target) → is_block t ≡ false → is_shared s t ≡ same_target s t
 plain_same (Cells x m) (Cells y n) h = absurd (true≢false h)
 plain_same _ _ h = refl
-
-pub same_self : (t : Target) → same_target t t ≡ true
-same_self (Worker w) = eq-eqb w w refl
-same_self (Event e) = eq-eqb e e refl
-same_self (Sequencer q) = eq-eqb q q refl
-same_self (Cells x n) = and_from _ _ (eq-eqb x x refl) (eq-eqb n n refl)
-same_self (Group i) = eq-eqb i i refl
 
 -- what holds of each target holds of one that is found
 pub found_all : (Q : Target → Type 0) (names : Named) (word : List ℕ) (t : Target) → AllByRecursion (λ (d : List ℕ × Target). Q d.1) names → find_name word names ≡ Some t → Q t

@@ -32,7 +32,7 @@ limit_from v n low high = and_from (nat_le 1 n) (nat_le n (greatest_limit v)) (l
 
 -- ACTS
 
-two_spells : (act : Act) → can_spell Two act ≡ true
+pub two_spells : (act : Act) → can_spell Two act ≡ true
 two_spells (Hand e b) = refl
 two_spells _ = refl
 

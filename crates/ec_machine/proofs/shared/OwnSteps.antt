@@ -32,7 +32,7 @@ pub own_more : (w : ℕ) (done : List Entry) (x : Entry) → (x.worker == w) ≡
 own_more w done x is =
     ap (own w) (reverse-append done (x ∷ [])) ∙ ap (λ b. cond b (x ∷ own w (reverse done)) (own w (reverse done))) is
 
-slice_here : (done others : List Entry) (x : Entry) → slice_get (done ++ x ∷ others) (length done) ≡ Some x
+pub slice_here : (done others : List Entry) (x : Entry) → slice_get (done ++ x ∷ others) (length done) ≡ Some x
 slice_here [] others x = refl
 slice_here (d ∷ done) others x = slice_here done others x
 

@@ -20,17 +20,10 @@ use Rattle.ec_runner.specs.Schedules.{Turn, IsTurn, AreTurns, Plays, HasEnded, w
 use Rattle.ec_runner.specs.ScheduleLaws.{made, unrefused, IsMarked, IsPlace, IsRefusedWith, IsHistoryOf}
 use Rattle.ec_runner.proofs.Starting.{get_push}
 use Rattle.ec_runner.proofs.Turning.{none_told}
+pub use Rattle.ec_core.proofs.shared.Joining.{get_front as get_early}
+use Rattle.ec_heading.proofs.shared.OutlineFound.{found_at as get_here}
 
 -- LISTS
-
-pub get_early : {X : Type 0} (xs ys : List X) (i : ℕ) → i < length xs → slice_get (xs ++ ys) i ≡ slice_get xs i
-get_early [] ys i within = absurd (omega arith)
-get_early (x ∷ xs) ys zero within = refl
-get_early (x ∷ xs) ys (suc i) within = get_early xs ys i (omega arith)
-
-get_here : {X : Type 0} (xs : List X) (y : X) (ys : List X) → slice_get (xs ++ y ∷ ys) (length xs) ≡ Some y
-get_here [] y ys = refl
-get_here (x ∷ xs) y ys = get_here xs y ys
 
 pub some_none : (r : Refusal) → Some r ≡ None → ⊥
 some_none r is = cc

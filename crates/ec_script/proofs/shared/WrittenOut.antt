@@ -18,13 +18,9 @@ use Rattle.ec_script.specs.declared.order.Order.TheVariants.{Do, Write, Begin, E
 use Rattle.ec_script.specs.Flat.{flat, flat_one, flat_step, all_of}
 use Rattle.ec_script.specs.Versioned.{has_command, HasOrder, HasOrders, HasPrograms}
 use Rattle.ec_script.specs.Confined.{UsesGroups, IsConfined, AreConfined, AreConfinedPrograms}
+pub use Rattle.ec_heading.proofs.shared.Each.{each_append as every_append}
 
 -- LISTS
-
--- what holds of each element of two lists holds of each of the two end to end
-pub every_append : {X : Type 0} (P : X → Type 0) (xs ys : List X) → AllByRecursion P xs → AllByRecursion P ys → AllByRecursion P (xs ++ ys)
-every_append P [] ys a b = b
-every_append P (x ∷ xs) ys a b = (a.0, every_append P xs ys a.1 b)
 
 every_front : {X : Type 0} (P : X → Type 0) (xs ys : List X) → AllByRecursion P (xs ++ ys) → AllByRecursion P xs
 every_front P [] ys all = tt

@@ -38,7 +38,7 @@ or_true : (b : Bool) → (b || true) ≡ true
 or_true true = refl
 or_true false = refl
 
-fits_or : (b f : Bool) → f ≡ true → (b || f) ≡ true
+pub fits_or : (b f : Bool) → f ≡ true → (b || f) ≡ true
 fits_or b f h = ap (λ x. b || x) h ∙ or_true b
 
 right_fit : (r : Rule) (b : List Told) (act : Act) → r.fits b act ≡ true → is_right r b act ≡ true

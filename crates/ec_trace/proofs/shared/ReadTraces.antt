@@ -114,7 +114,7 @@ heading_leads : (h end : Headed) (lines : List (List ℕ)) → LinesLead h lines
 heading_leads h end [] leads = ap Declaring leads
 heading_leads h end (line ∷ lines) leads = (Declaring leads.0, declares_so h leads.0 line leads.1, heading_leads leads.0 end lines leads.2)
 
-run_leads : (h : Headed) → 0 < h.setup.workers → step (Declaring h) (codes "run") ≡ Ok (Running (record { heading = h; entries = [] }))
+pub run_leads : (h : Headed) → 0 < h.setup.workers → step (Declaring h) (codes "run") ≡ Ok (Running (record { heading = h; entries = [] }))
 unfolding step
 run_leads h some = let l : nat_lt 0 h.setup.workers ≡ true = lt-ltb _ _ some in rw l refl
 
