@@ -1,6 +1,6 @@
 use Rattle.std.proofs.Common.{◌≡◌, ◌-◌, ◌^◌, drop, length}
 use Rattle.ec_text.specs.Words.{AreDigits}
-use Rattle.ec_text.proofs.at_end.by_digit.Given as goal
+use Rattle.ec_text.proofs.at_end.number_at_end.Given as goal
 
 abbrev pub invariant-loop-place : goal.invariant-loop-place
 invariant-loop-place l = record {

@@ -1,7 +1,7 @@
 use Rattle.std.proofs.Common.{rules, arith, ◌≡◌, ◌-◌, true, get_or}
 use Rattle.std.specs.Char.{is_ascii_digit}
 use Rattle.ec_text.proofs.EndLemmas.{IsRead, is_read, only_digits}
-use Rattle.ec_text.proofs.at_end.by_digit.Goals as goal
+use Rattle.ec_text.proofs.at_end.number_at_end.Goals as goal
 
 pub overflow_mul-number : goal.overflow_mul-number
 overflow_mul-number c =
