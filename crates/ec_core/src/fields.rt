@@ -103,13 +103,6 @@ pub(crate) fn sum_of(counts: &[[Count; 16]; 32], event: usize, width: usize) -> 
     sum
 }
 
-/// Returns an array with the same element everywhere.
-pub(crate) fn all_alike<T: Copy, const N: usize>(x: T) -> [T; N]
-    ensures { (i : ℕ) → i < N → slice_get result i ≡ Some x }
-{
-    [x; N]
-}
-
 /// Returns the same array again.
 pub(crate) fn same_again<T: Copy, const N: usize>(xs: &[T; N]) -> [T; N]
     ensures { result ≡ xs.now }

@@ -6,9 +6,9 @@ ghost use Rattle.ec_core.specs.Acceptance.{IsAccepted};
 ghost use Rattle.ec_core.specs.Calls.{is_pending};
 ghost use Rattle.ec_core.specs.Ongoing.{next_read, went_on, left, AreCalls, Takes};
 
-use crate::fields::{all_alike, width};
+use crate::fields::width;
 use crate::{Act, Entry, Reply};
-use ec_count::Setup;
+use ec_count::{Setup, filled};
 use std::marker::Model;
 
 /// A call up to one of its entries. Positions are those of a run's entries, counted from 0.
@@ -93,7 +93,7 @@ impl Calls {
         ensures { (t : Tables) → AreCalls t result [] }
     {
         Calls {
-            calls: all_alike(None),
+            calls: filled(None),
         }
     }
 

@@ -6,9 +6,8 @@ ghost use Rattle.ec_core.specs.Calls.{under_way, is_pending};
 ghost use Rattle.ec_core.specs.Following.{Told, Rule, opened, block};
 ghost use Rattle.ec_core.specs.Scanning.{IsFinding, IsTracked, Finds};
 
-use crate::fields::all_alike;
 use crate::{Act, AuditFault, Entry, Kept, Protocol};
-use ec_count::WorkerId;
+use ec_count::{WorkerId, filled};
 use std::marker::Model;
 
 /// How far each worker has come in the lists of calls on a group, and the first entry that breaks
@@ -33,7 +32,7 @@ impl Tracker {
         ensures { IsTracked (P.rules protocol.now) (P.keeps protocol.now) result [] }
     {
         Tracker {
-            kept: all_alike(protocol.start()),
+            kept: filled(protocol.start()),
             fault: None,
         }
     }

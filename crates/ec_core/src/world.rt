@@ -14,13 +14,12 @@ ghost use Rattle.ec_core.specs.Fields.{kept_call, component_in, right_in, alread
 
 use crate::effect::Effect;
 use crate::fields::{
-    all_alike, count_in, count_of, declared, is_too_large, raise_at, raise_in, same_again, sum_of,
-    width,
+    count_in, count_of, declared, is_too_large, raise_at, raise_in, same_again, sum_of, width,
 };
 use crate::signallers::Signallers;
 use crate::under_way::Round;
 use crate::{Act, Entry, Refusal, Reply, UnderWay, VALUE_MAX};
-use ec_count::{CellId, Count, EventId, SeqId, Setup, WorkerId};
+use ec_count::{CellId, Count, EventId, SeqId, Setup, WorkerId, filled};
 use std::marker::Model;
 
 /// Returns the refusal, if the test holds.
@@ -80,10 +79,10 @@ impl World {
         World {
             setup,
             signal,
-            counts: all_alike(all_alike(zero)),
-            issued: all_alike(zero),
-            cells: all_alike(0),
-            calls: all_alike(None),
+            counts: filled(filled(zero)),
+            issued: filled(zero),
+            cells: filled(0),
+            calls: filled(None),
         }
     }
 

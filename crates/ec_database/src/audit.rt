@@ -13,7 +13,7 @@ use crate::DatabaseShape;
 use crate::lists::{Lists, is_on};
 use crate::tries::{Accepted, AcceptedTries, TryView};
 use ec_core::{Act, Audit, AuditFault, Entry, Kept, Reply, Run, Tracker, walk};
-use ec_count::{Setup, WorkerId};
+use ec_count::{Setup, WorkerId, filled};
 use std::alloc::{AllocError, Global};
 use std::marker::Model;
 
@@ -50,14 +50,6 @@ fn finished_call(lists: &Lists, kept: &Kept, op: &Act, entry: &Entry) -> Option<
     })
 }
 
-/// Returns an array with the same element everywhere.
-fn all_alike<T: Copy, const N: usize>(x: T) -> [T; N]
-    ensures each { (i : ℕ) → i < N → slice_get result i ≡ Some x }
-    ensures long { length result ≡ N }
-{
-    [x; N]
-}
-
 /// What the readers got in the tries that they are in, by reader and place of the cell.
 #[derive(Drop)]
 struct Got {
@@ -69,7 +61,7 @@ impl Got {
         ensures { (w : ℕ) → w < 16 → HasRow result.rows w [] }
     {
         Got {
-            rows: all_alike(all_alike(0)),
+            rows: filled(filled(0)),
         }
     }
 

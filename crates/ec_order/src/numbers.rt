@@ -6,14 +6,7 @@ ghost use Rattle.ec_order.specs.Numbered.{AreFew, reply_in, after_in};
 
 use crate::Call;
 use ec_core::{Act, Reply};
-
-/// Returns an array with the same element everywhere.
-pub(crate) fn all_alike<T: Copy, const N: usize>(x: T) -> [T; N]
-    ensures at { (i : ℕ) → i < N → slice_get result i ≡ Some x }
-    ensures long { length result ≡ N }
-{
-    [x; N]
-}
+use ec_count::filled;
 
 /// The numbers of the sequential object.
 #[derive(Drop)]
@@ -33,9 +26,9 @@ impl Numbers {
             × (length result.sequencers ≡ 32) × (length result.cells ≡ 256) }
     {
         Numbers {
-            events: all_alike(0),
-            sequencers: all_alike(0),
-            cells: all_alike(0),
+            events: filled(0),
+            sequencers: filled(0),
+            cells: filled(0),
         }
     }
 

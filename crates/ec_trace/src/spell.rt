@@ -7,7 +7,7 @@ ghost use Rattle.std.specs.Option.{option_map_or};
 ghost use Rattle.ec_count.specs.declared.target.Target.TheVariants.{Worker, Event, Sequencer};
 
 use crate::short_words::ShortWords;
-use ec_count::{CellId, EventId, SeqId, Target, Vocabulary, WorkerId};
+use ec_count::{CellId, EventId, SeqId, Target, Vocabulary, WorkerId, filled};
 use ec_text::{Out, ShortText};
 use std::io::Write;
 use std::marker::Model;
@@ -35,10 +35,10 @@ impl<'a> Words<'a> {
     {
         let word = b"".as_slice();
         Words {
-            workers: all_alike(word),
-            events: all_alike(word),
-            sequencers: all_alike(word),
-            cells: all_alike(None),
+            workers: filled(word),
+            events: filled(word),
+            sequencers: filled(word),
+            cells: filled(None),
         }
     }
 
@@ -197,13 +197,6 @@ fn put_long<W: Write>(out: &mut Out<'_, W>, before: &[u8], word: &[u8])
 {
     out.put(before);
     out.put(word);
-}
-
-/// Returns an array with the same element everywhere.
-fn all_alike<T: Copy, const N: usize>(x: T) -> [T; N]
-    ensures { (i : ℕ) → i < N → slice_get result i ≡ Some x }
-{
-    [x; N]
 }
 
 /// Returns the word at a place.

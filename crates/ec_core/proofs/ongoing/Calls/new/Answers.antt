@@ -3,4 +3,4 @@ use Rattle.ec_core.proofs.ongoing.Calls.new.Goals as goal
 
 pub returns : goal.returns
 unfolding under_way
-returns c = λ t w lt. c.all_alike.ensures w lt
+returns c = λ t w lt. c.filled.ensures.at w lt
