@@ -16,7 +16,6 @@ use Rattle.calls_core.proofs.Lists.{all_pairs_from_each}
 use Rattle.calls_serial.specs.Outcomes.{AreOverlapping}
 use Rattle.calls_cells.specs.Faults.{DoOverlap}
 use Rattle.calls_distinct.proofs.Earlier.{clock_earlier}
-pub use Rattle.calls_distinct.proofs.Earlier.{order_of_none as nothing_ordered}
 
 -- two puts that overlap at a moment of the events do so in their past
 pub overlap_shown : (events : List Event) (o p : PendingCall) → AreOverlapping events o p

@@ -9,7 +9,7 @@ use Rattle.ec_core.specs.declared.act.Entry.{Entry}
 use Rattle.ec_count.specs.declared.target.Target.TheVariants.{Worker}
 use Rattle.ec_heading.specs.Spelling.{Named, word_of}
 use Rattle.ec_heading.specs.declared.group.Group.{Group}
-use Rattle.calls_text.specs.Objects.{has_event, has_sequencer, has_cell}
+use Rattle.ec_heading.specs.Groups.{has_event, has_sequencer, has_cell}
 use Rattle.calls_extract.specs.declared.cause.Cause.{Cause}
 use Rattle.calls_extract.specs.declared.cause.Cause.TheVariants.{OfGroup, HandsOver}
 

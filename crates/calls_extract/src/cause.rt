@@ -2,7 +2,7 @@
 ghost use Rattle.std.specs.Prelude.{◌≡◌, Some, None, if◌then◌else◌, length, IfSome};
 ghost use Rattle.std.specs.List.{list_any};
 ghost use Rattle.std.specs.Option.{IfNone};
-ghost use Rattle.calls_text.specs.Objects.{has_event, has_sequencer, has_cell};
+ghost use Rattle.ec_heading.specs.Groups.{has_event, has_sequencer, has_cell};
 ghost use Rattle.ec_text.specs.Puts.{Puts, IsWrittenOut};
 ghost use Rattle.calls_extract.specs.Causes.{cause_of, cause_at, IsFirstCause, HasNoneBefore};
 ghost use Rattle.calls_extract.specs.Causes.{cause_words, entry_words, cause_note, name_at};

@@ -37,7 +37,7 @@ use Rattle.calls_kernel.proofs.Objects.{event_kind, sequencer_kind, cell_kind}
 use Rattle.calls_kernel.proofs.Steps.{IsView, view_of}
 use Rattle.calls_kernel.proofs.Known.{IsKnown, all_known}
 use Rattle.calls_kernel.proofs.Runs.{Agrees, seen_runs}
-pub use Rattle.ec_order.proofs.Sorting.{AllPairs-map as pairs_map}
+use Rattle.ec_order.proofs.Sorting.{AllPairs-map as pairs_map}
 
 -- no pending call takes effect
 answered_none : (n : ℕ) (os : List PendingCall) → answered_calls n (λ o. None) os ≡ []

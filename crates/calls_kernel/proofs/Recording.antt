@@ -40,7 +40,8 @@ use Rattle.calls_kernel.specs.Recorded.{IsRecordedAs, AreRecordedAs, IsRecord}
 use Rattle.calls_kernel.specs.Laws.{RecordsAreLinearizable}
 use Rattle.calls_kernel.proofs.Runs.{Agrees, event_set, sequencer_set, cell_set, quiet_set}
 use Rattle.calls_kernel.proofs.Fitting.{IsFitting, fitting, FitsCall, calls_fit}
-use Rattle.calls_kernel.proofs.Linearized.{pairs_map, at_first, NotAfter, linearizable_by}
+use Rattle.calls_kernel.proofs.Linearized.{at_first, NotAfter, linearizable_by}
+use Rattle.ec_order.proofs.Sorting.{AllPairs-map as pairs_map}
 use Rattle.calls_kernel.proofs.Pairs.{Follows, follows, get_map}
 
 pairs_back : {X Y : Type 0} (R : Y → Y → Type 0) (f : X → Y) (xs : List X)

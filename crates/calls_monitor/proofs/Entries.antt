@@ -9,7 +9,6 @@ use Rattle.calls_core.specs.declared.history.PendingCall.{PendingCall}
 use Rattle.calls_core.specs.Histories.{pending_of, without}
 use Rattle.calls_monitor.specs.declared.monitor.Pending.{Pending}
 use Rattle.calls_monitor.specs.kept.Watching.{entry}
-pub use Rattle.calls_semaphores.proofs.Scanning.{get_other}
 
 -- A WORKER'S CALL
 

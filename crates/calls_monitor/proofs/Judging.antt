@@ -31,12 +31,14 @@ use Rattle.calls_monitor.specs.declared.monitor.Rejection.{Rejection}
 use Rattle.calls_monitor.specs.declared.monitor.Rejection.TheVariants.{Refused, Full}
 use Rattle.calls_monitor.specs.Refusals.{Explains}
 use Rattle.calls_monitor.specs.Monitors.{IsWatched, IsFine, Verdict}
-use Rattle.calls_monitor.specs.kept.Watching.{entry, HasRoom, WatchesOf, Watches, IsHandedTo}
+use Rattle.calls_monitor.specs.kept.Watching.{entry, WatchesOf, Watches, IsHandedTo}
+use Rattle.calls_counts.specs.Monitors.{HasRoom}
 use Rattle.calls_monitor.specs.kept.Watching.{IsHanded}
 use Rattle.calls_monitor.proofs.Begun.{begun_few}
 use Rattle.calls_monitor.proofs.Objects.{order_of_watch, none_of, roomy}
 use Rattle.calls_monitor.proofs.Entries.{is_his, IsAt, at_position, at_none}
-use Rattle.calls_monitor.proofs.Entries.{get_set, get_other}
+use Rattle.calls_monitor.proofs.Entries.{get_set}
+use Rattle.calls_semaphores.proofs.Scanning.{get_other}
 
 -- THE OBJECT OF AN EVENT
 

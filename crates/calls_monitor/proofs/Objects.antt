@@ -15,7 +15,7 @@ use Rattle.calls_core.proofs.Lists.{all_pairs_from_each}
 use Rattle.calls_core.specs.Linearizations.{KeepsOrder}
 use Rattle.calls_counts.specs.declared.state.Noted.{Noted}
 use Rattle.calls_counts.specs.declared.monitor.Monitor.{Monitor as CountMonitor}
-use Rattle.calls_counts.specs.Monitors.{IsTaken, Starts as CountStarts}
+use Rattle.calls_counts.specs.Monitors.{IsTaken, Starts as CountStarts, HasRoom}
 use Rattle.calls_counts.specs.Watching.{Watching}
 use Rattle.calls_counts.proofs.Watching.{taken_by}
 use Rattle.calls_tickets.specs.declared.pending.PendingTicket.{PendingTicket}
@@ -33,7 +33,7 @@ use Rattle.calls_monitor.specs.declared.object.Refusal.TheVariants.{Ticket as Ti
 use Rattle.calls_monitor.specs.declared.object.Refusal.TheVariants.{Units as UnitRefusal}
 use Rattle.calls_monitor.specs.Refusals.{Explains}
 use Rattle.calls_monitor.specs.Monitors.{IsWatched}
-use Rattle.calls_monitor.specs.kept.Watching.{begun, WatchesOf, HasRoom, RoomFor, VerdictOf}
+use Rattle.calls_monitor.specs.kept.Watching.{begun, WatchesOf, RoomFor, VerdictOf}
 use Rattle.calls_monitor.proofs.Begun.{one, begun_next, advances_few}
 
 -- NO EVENTS

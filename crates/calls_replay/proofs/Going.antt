@@ -14,7 +14,7 @@ use Rattle.ec_core.specs.Rounds.{position_of}
 use Rattle.ec_order.specs.Calls.{finished_calls, ended_by, call_of_entries}
 use Rattle.calls_kernel.specs.Seen.{is_call}
 use Rattle.calls_replay.specs.kept.Going.{IsFree, IsGoing, HasGone, Goes}
-pub use Rattle.ec_core.proofs.shared.Stepping.{entry}
+use Rattle.ec_core.proofs.shared.Stepping.{entry}
 
 -- the call of w after its entry
 abbrev left : ℕ → Act → Reply → List Entry → Option CallSoFar

@@ -9,7 +9,8 @@ use Rattle.ec_core.specs.declared.act.Reply.TheVariants as replies
 use Rattle.ec_core.specs.declared.act.Entry.{Entry}
 use Rattle.calls_kernel.specs.Seen.{is_call}
 use Rattle.calls_replay.specs.kept.Going.{IsFree, IsGoing, Goes}
-use Rattle.calls_replay.proofs.Going.{entry, first_step, next_step}
+use Rattle.calls_replay.proofs.Going.{first_step, next_step}
+use Rattle.ec_core.proofs.shared.Stepping.{entry}
 
 newest : (es : List Entry) (x : Entry) → reverse (es ++ x ∷ []) ≡ x ∷ reverse es
 newest es x = reverse-append es (x ∷ [])

@@ -20,7 +20,7 @@ use Rattle.ec_database.specs.Shapes.{Database}
 use Rattle.ec_text.specs.Puts.{Puts, Outgoing}
 use Rattle.ec_text.proofs.shared.PutLemmas.{puts_then}
 use Rattle.calls_core.specs.declared.history.Placed.{Placed}
-use Rattle.calls_text.specs.Objects.{has_event, has_sequencer}
+use Rattle.ec_heading.specs.Groups.{has_event, has_sequencer}
 use Rattle.calls_text.specs.Recordings.{Recorded, first_group}
 use Rattle.calls_text.specs.Spelling.{list_of}
 use Rattle.calls_report.specs.Totals.{effects, group_event, group_sequencer, event_total}

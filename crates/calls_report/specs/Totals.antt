@@ -15,7 +15,7 @@ use Rattle.calls_core.specs.declared.history.Op.{Op}
 use Rattle.calls_core.specs.declared.history.Op.TheVariants as ops
 use Rattle.calls_core.specs.declared.history.Placed.{Placed}
 use Rattle.calls_semaphores.specs.Banks.{takes, is_done}
-use Rattle.calls_text.specs.Objects.{has_event, has_sequencer, has_cell}
+use Rattle.ec_heading.specs.Groups.{has_event, has_sequencer, has_cell}
 use Rattle.calls_text.specs.Recordings.{Recorded, first_sequencer, first_cell, first_group}
 use Rattle.calls_text.specs.Recordings.{start_of}
 use Rattle.calls_text.specs.Spelling.{list_of}

@@ -20,7 +20,7 @@ use Rattle.calls_verdict.specs.declared.verdict.Fault.TheVariants as faults
 use Rattle.calls_shapes.specs.declared.tallies.Counted.TheVariants.{Advances, Taking, Adding}
 use Rattle.calls_shapes.specs.declared.stairs.Portion.TheVariants.{Called, Returned, Between}
 use Rattle.calls_shapes.specs.declared.stairs.Course.{Course}
-pub use Rattle.calls_report.specs.Certificates.{is_timeout}
+use Rattle.calls_report.specs.Certificates.{is_timeout}
 
 -- THE CALLS THAT A FAULT NAMES
 

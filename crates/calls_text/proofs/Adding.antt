@@ -14,7 +14,7 @@ use Rattle.calls_text.specs.Recordings.{HasFrom, HasUnits, HasGroups, cells_of, 
 use Rattle.calls_text.specs.Recordings.{AreKinds, start_of, first_sequencer, first_cell}
 use Rattle.calls_text.specs.Recordings.{semaphores, first_group}
 use Rattle.calls_text.specs.kept.Adding.{Grows}
-pub use Rattle.ec_core.proofs.shared.Joining.{get_front}
+use Rattle.ec_core.proofs.shared.Joining.{get_front}
 use Rattle.ec_heading.proofs.shared.AddedObjects.{at_end as get_end}
 
 -- ELEMENTS

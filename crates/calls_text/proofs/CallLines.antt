@@ -21,7 +21,8 @@ use Rattle.calls_text.specs.declared.object.Object.{Object}
 use Rattle.calls_text.specs.declared.object.Object.TheVariants as objects
 use Rattle.calls_text.specs.Verbs.{verb_word, tail_of}
 use Rattle.calls_text.specs.Forms.{is_tail, only_in}
-use Rattle.calls_text.specs.Objects.{object_in, as_semaphore, as_database, pair_of, both_of}
+use Rattle.calls_text.specs.Objects.{object_in, as_semaphore, as_database, pair_of}
+use Rattle.ec_heading.specs.Groups.{both_of}
 use Rattle.calls_text.specs.Objects.{semaphore_in, database_in}
 use Rattle.calls_text.specs.Lists.{list_number, lists_after}
 use Rattle.calls_text.specs.Recordings.{first_sequencer, first_cell, first_group}
@@ -31,7 +32,8 @@ use Rattle.calls_text.specs.Spelling.{event_word, sequencer_word, cell_name, gro
 use Rattle.calls_text.specs.Spelling.{list_of, value_of, spaced, put_word, get_word, call_text}
 use Rattle.calls_text.proofs.Values.{words_spaced, one_spaced, list_found}
 use Rattle.calls_text.proofs.ObjectWords.{event_spelled, sequencer_spelled, cell_below, cell_again}
-use Rattle.calls_text.proofs.ObjectWords.{map_back, IsSemaphoreAt, semaphore_named}
+use Rattle.calls_text.proofs.ObjectWords.{IsSemaphoreAt, semaphore_named}
+use Rattle.calls_text.proofs.Fitting.{mapped as map_back}
 use Rattle.calls_text.proofs.ObjectWords.{IsDatabaseAt, database_named}
 
 -- PIECES

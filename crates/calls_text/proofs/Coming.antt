@@ -43,7 +43,7 @@ use Rattle.calls_text.specs.kept.Judging.{pending_by, spent_at, spent_by, fault_
 use Rattle.calls_text.specs.kept.Judging.{invocation, Happening}
 use Rattle.calls_text.specs.kept.Judging.{TallyAfter, IsTallied, Answers}
 use Rattle.calls_text.specs.kept.Runs.{Fits}
-pub use Rattle.ec_heading.proofs.shared.Declarable.{is_none_from as none_of}
+use Rattle.ec_heading.proofs.shared.Declarable.{is_none_from as none_of}
 
 -- FAULTS
 

@@ -15,7 +15,8 @@ use Rattle.calls_text.specs.declared.verb.Verb.TheVariants as verbs
 use Rattle.calls_text.specs.declared.object.Object.{Object}
 use Rattle.calls_text.specs.declared.object.Object.TheVariants as objects
 use Rattle.calls_text.specs.Objects.{place_of, group_at, group_in, placed_semaphore}
-use Rattle.calls_text.specs.Objects.{placed_database, semaphore_in, database_in, both_of}
+use Rattle.calls_text.specs.Objects.{placed_database, semaphore_in, database_in}
+use Rattle.ec_heading.specs.Groups.{both_of}
 use Rattle.calls_text.specs.Objects.{pair_of, as_semaphore, as_database, object_in}
 use Rattle.calls_text.specs.kept.Runs.{Fits, IsPlaced}
 use Rattle.calls_text.proofs.CellWords.{and_then_back as bound}

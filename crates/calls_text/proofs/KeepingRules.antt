@@ -29,7 +29,8 @@ use Rattle.calls_text.specs.declared.object.Object.{Object}
 use Rattle.calls_text.specs.declared.object.Object.TheVariants as objects
 use Rattle.calls_text.specs.Verbs.{tail_of, is_giving}
 use Rattle.calls_text.specs.Forms.{only_in}
-use Rattle.calls_text.specs.Objects.{object_in, as_semaphore, as_database, pair_of, both_of}
+use Rattle.calls_text.specs.Objects.{object_in, as_semaphore, as_database, pair_of}
+use Rattle.ec_heading.specs.Groups.{both_of}
 use Rattle.calls_text.specs.Objects.{semaphore_in, database_in, is_owned, has_right}
 use Rattle.calls_text.specs.Lists.{list_number, lists_after}
 use Rattle.calls_text.specs.Recordings.{Recorded}
@@ -42,7 +43,8 @@ use Rattle.calls_text.specs.Rules.{AreSmall, only, IsDeclaredIn, TakesNumbers, M
 use Rattle.calls_text.specs.Rules.{SuitsCall, KeepsLimit, MayReturn, after_return}
 use Rattle.calls_text.proofs.CellWords.{and_then_back}
 use Rattle.calls_text.proofs.ObjectWords.{worker_below, event_below, sequencer_below, cell_below}
-use Rattle.calls_text.proofs.ObjectWords.{map_back, semaphore_named, database_named}
+use Rattle.calls_text.proofs.ObjectWords.{semaphore_named, database_named}
+use Rattle.calls_text.proofs.Fitting.{mapped as map_back}
 use Rattle.calls_text.proofs.PhraseWords.{SaysAnswer}
 use Rattle.calls_text.proofs.CallLines.{numbers_length, not_back}
 use Rattle.calls_text.proofs.TakenEvents.{one_given}

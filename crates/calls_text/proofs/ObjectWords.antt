@@ -26,7 +26,7 @@ use Rattle.calls_text.specs.Spelling.{worker_word, event_word, sequencer_word, c
 use Rattle.calls_text.specs.Spelling.{group_word}
 use Rattle.calls_text.proofs.Groups.{group_back}
 use Rattle.calls_text.proofs.CellWords.{and_then_back, cell_spelled, IsCell, cell_is}
-pub use Rattle.calls_text.proofs.Fitting.{mapped as map_back}
+use Rattle.calls_text.proofs.Fitting.{mapped as map_back}
 
 pub sound_of : (h : Headed) → HasOutline h → IsSound h
 sound_of h has = subst IsSound has.declares (sound has.outline has.is)

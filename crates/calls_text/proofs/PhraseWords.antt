@@ -15,7 +15,7 @@ use Rattle.calls_text.specs.Verbs.{verb_word, verb_of, tail_of, object_verb_of, 
 use Rattle.calls_text.specs.Verbs.{or_else}
 use Rattle.calls_text.specs.Forms.{Phrase, Calls, Returns, phrase_in, is_tail, called_in}
 use Rattle.calls_text.specs.Forms.{is_word, answer_of, return_in}
-use Rattle.calls_text.proofs.ObjectWords.{map_back}
+use Rattle.calls_text.proofs.Fitting.{mapped as map_back}
 
 same_word : (v w : List ℕ) → bytes_eq v w ≡ true → v ≡ w
 same_word v w same = (bytes_eq-Decides v w).0 same

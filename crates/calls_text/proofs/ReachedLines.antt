@@ -15,7 +15,7 @@ use Rattle.calls_text.specs.kept.Stages.{seen_with, IsFollowing}
 use Rattle.calls_core.specs.declared.history.Event.{Event}
 use Rattle.calls_text.specs.kept.Leading.{Leads}
 use Rattle.calls_text.proofs.TextParts.{by_line, by_rest}
-pub use Rattle.calls_text.proofs.Prefixes.{is_open as open_before}
+use Rattle.calls_text.proofs.Prefixes.{is_open as open_before}
 
 -- LINE BY LINE
 

@@ -5,8 +5,7 @@ use Rattle.std.specs.List.{onto_first}
 use Rattle.ec_text.specs.Words.{words_of}
 use Rattle.calls_text.specs.Forms.{only_in}
 use Rattle.calls_text.specs.Reading.{limit_digits, from_words}
-use Rattle.ec_text.proofs.shared.WordLemmas.{onto_has}
-pub use Rattle.ec_text.proofs.shared.WordLemmas.{has_first, HasFirst}
+use Rattle.ec_text.proofs.shared.WordLemmas.{onto_has, has_first, HasFirst}
 
 pub some_words : (line : List ℕ) → 1 ≤ length (words_of line)
 some_words line = let r : HasFirst line = has_first line in rw r.is (omega arith)

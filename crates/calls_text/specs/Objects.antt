@@ -11,7 +11,7 @@ use Rattle.ec_database.specs.Shapes as databases
 use Rattle.ec_semaphore.specs.Shapes.{Semaphore}
 use Rattle.ec_heading.specs.declared.group.Group as kinds
 use Rattle.ec_heading.specs.declared.group.Group.TheVariants as groups
-pub use Rattle.ec_heading.specs.Groups.{database_of, semaphore_of, both_of, has_event, has_sequencer, has_cell}
+use Rattle.ec_heading.specs.Groups.{database_of, semaphore_of, both_of, has_event, has_sequencer, has_cell}
 use Rattle.ec_heading.specs.Headed.{Headed}
 use Rattle.ec_heading.specs.Spelled.{event_in, sequencer_in, cell_in_word}
 use Rattle.calls_text.specs.declared.verb.Verb.{Verb}

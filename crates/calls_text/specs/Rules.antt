@@ -19,7 +19,8 @@ use Rattle.calls_text.specs.declared.form.Answer.TheVariants as answers
 use Rattle.calls_text.specs.declared.object.Object.{Object}
 use Rattle.calls_text.specs.declared.object.Object.TheVariants as objects
 use Rattle.calls_text.specs.Verbs.{is_giving}
-use Rattle.calls_text.specs.Objects.{both_of, is_owned, has_right}
+use Rattle.calls_text.specs.Objects.{is_owned, has_right}
+use Rattle.ec_heading.specs.Groups.{both_of}
 use Rattle.calls_text.specs.Lists.{list_number, lists_after}
 use Rattle.calls_text.specs.Recordings.{Recorded}
 use Rattle.calls_text.specs.Reading.{pending_in, has_two_roles, is_spent, index_of, op_of}

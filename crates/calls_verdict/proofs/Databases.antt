@@ -13,7 +13,6 @@ use Rattle.calls_verdict.specs.declared.verdict.Decision.{Decision}
 use Rattle.calls_verdict.specs.declared.verdict.Decision.TheVariants.{Ordered, Refused, Open}
 use Rattle.calls_verdict.specs.Verdicts.{IsDecision}
 use Rattle.calls_serial.proofs.Databases.{next as next_of_cell}
-pub use Rattle.calls_serial.proofs.Databases.{history as cell_history}
 
 first_fault : (Shows : List Event → Type 0) (n : ℕ) (events : List Event) (i : ℕ)
     → IsFirstFault Shows Cell events i → IsFirstFault Shows (Database n) events i

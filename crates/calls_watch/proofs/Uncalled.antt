@@ -15,7 +15,7 @@ use Rattle.calls_core.specs.Completions.{IsLinearizable}
 use Rattle.calls_core.specs.Outcomes.{HasOrderOf}
 use Rattle.calls_local.proofs.Parts.{a_part_is_a_history}
 use Rattle.calls_local.proofs.Wholes.{linearizable_by_orders}
-use Rattle.calls_cells.proofs.Trying.{nothing_ordered}
+use Rattle.calls_distinct.proofs.Earlier.{order_of_none as nothing_ordered}
 use Rattle.calls_monitor.specs.Monitors.{IsWatched, IsFine}
 use Rattle.calls_watch.specs.Watches.{invokes_cells, AreWatched}
 

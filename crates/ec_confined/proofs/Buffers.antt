@@ -20,7 +20,8 @@ use Rattle.ec_confined.proofs.Suiting.{Suits, suits_apart, blocked, at_op}
 use Rattle.ec_confined.proofs.Granted.{IsGranted}
 use Rattle.ec_confined.proofs.Rules.{IsFree, IsOn, suits_free}
 use Rattle.ec_confined.proofs.Roles.{one_role}
-use Rattle.ec_confined.proofs.Tests.{or_first, or_second}
+use Rattle.ec_confined.proofs.Tests.{or_first}
+use Rattle.ec_semaphore.proofs.shared.Implying.{fits_or as or_second}
 use Rattle.ec_confined.proofs.Workers.{programs_follow}
 
 -- THE OBJECTS OF A BUFFER

@@ -32,7 +32,8 @@ use Rattle.ec_confined.proofs.Semaphores.{on_line, on_wait, on_advance}
 use Rattle.ec_confined.proofs.Tests.{other_way}
 use Rattle.ec_confined.proofs.Buffers.{produce_on, consume_on}
 use Rattle.ec_confined.proofs.Databases.{write_on, try_on}
-use Rattle.ec_confined.proofs.Owned.{acts_on, AreApart, on_buffer, on_database, on_semaphore, on_both, same_or_not, not_on, none_passes, both_there, semaphore_listed}
+use Rattle.ec_confined.proofs.Owned.{acts_on, AreApart, on_buffer, on_database, on_semaphore, on_both, same_or_not, not_on, none_passes, semaphore_listed}
+use Rattle.ec_script.proofs.Commons.{both_there}
 
 -- THE COMMANDS OF A GROUP
 

@@ -23,7 +23,8 @@ use Rattle.ec_confined.proofs.Suiting.{Suits, Tracks, suits_tracked, suits_apart
 use Rattle.ec_confined.proofs.Granted.{IsGranted}
 use Rattle.ec_confined.proofs.Rules.{IsFree, IsOn, due_free, suits_free}
 use Rattle.ec_confined.proofs.Roles.{one_role, placed_is_member}
-use Rattle.ec_confined.proofs.Tests.{or_first, or_second, turned}
+use Rattle.ec_confined.proofs.Tests.{or_first, turned}
+use Rattle.ec_semaphore.proofs.shared.Implying.{fits_or as or_second}
 use Rattle.ec_confined.proofs.Workers.{programs_follow}
 
 -- THE OBJECTS OF A DATABASE

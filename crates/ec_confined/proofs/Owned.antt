@@ -12,10 +12,10 @@ use Rattle.ec_semaphore.specs.Shapes.{Semaphore}
 use Rattle.ec_semaphore.specs.Uses as semaphores
 use Rattle.ec_heading.specs.declared.group.Group.{Group}
 use Rattle.ec_heading.specs.declared.group.Group.TheVariants as groups
-use Rattle.ec_script.specs.Objects.{has_event, has_sequencer, has_cell, both_of}
+use Rattle.ec_heading.specs.Groups.{both_of, has_event, has_sequencer, has_cell}
 use Rattle.ec_heading.specs.Rules.{semaphores_of}
-use Rattle.ec_confined.proofs.Tests.{or_first, or_second, same_test}
-pub use Rattle.ec_script.proofs.Commons.{both_there}
+use Rattle.ec_confined.proofs.Tests.{or_first, same_test}
+use Rattle.ec_semaphore.proofs.shared.Implying.{fits_or as or_second}
 
 -- MEMBERS OF A LIST
 

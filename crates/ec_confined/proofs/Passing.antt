@@ -31,10 +31,10 @@ use Rattle.evc_engine.specs.Checks.{Outlets, Checks}
 use Rattle.ec_text.specs.Inputs.{looked_at}
 use Rattle.evc_scripts.specs.Runs.{HaveRun, IsTold, HasNoReport}
 use Rattle.evc_scripts.specs.Sims.{AreProgramsOf, IsTraceUnder, IsPlayed, SaysPlan}
-use Rattle.evc_scripts.proofs.shared.ReadAgain.{simulated_again, ran_again}
+use Rattle.evc_scripts.proofs.shared.ReadAgain.{simulated_again, ran_again, accepted_turns as turns_accepted}
 use Rattle.ec_confined.specs.Passing.{IsFollowedTrace, IsNoRefusal, Passes, FollowedTracesPass, HasWritten, SimulatedTracesPass, RanTracesPass}
 use Rattle.ec_confined.proofs.AllGroups.{groups_follow}
-use Rattle.ec_confined.proofs.Played.{turns_accepted, turns_run}
+use Rattle.ec_confined.proofs.Played.{turns_run}
 use Rattle.ec_confined.proofs.Reported.{reported_follow}
 use Rattle.ec_count.proofs.shared.Declared.{at_place as of_all}
 

@@ -13,7 +13,7 @@ use Rattle.ec_machine.specs.Steps.{IsRun, own}
 use Rattle.ec_runner.specs.Schedules.{Turn, with_answer, entries_of, AreTurns}
 use Rattle.ec_confined.specs.Reports.{PlayedGroupsAreFollowed}
 use Rattle.ec_confined.proofs.AllGroups.{groups_follow}
-pub use Rattle.evc_scripts.proofs.shared.ReadAgain.{accepted_turns as turns_accepted}
+use Rattle.evc_scripts.proofs.shared.ReadAgain.{accepted_turns as turns_accepted}
 
 -- RUNS
 

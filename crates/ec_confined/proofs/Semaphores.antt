@@ -16,9 +16,9 @@ use Rattle.ec_machine.specs.Runs.{command_call}
 use Rattle.ec_confined.specs.Uses.{AreSeparate, AreThree, IsOfSemaphore, UsesSemaphore}
 use Rattle.ec_confined.specs.Laws.{SemaphoresAreFollowed}
 use Rattle.ec_confined.proofs.Suiting.{Suits, suits_tracked, suits_apart, fitting, unconcerned, extended_on, extended_off, at_op}
-use Rattle.ec_confined.proofs.Tests.{or_first, or_second, other_way}
+use Rattle.ec_confined.proofs.Tests.{or_first, other_way}
 use Rattle.ec_confined.proofs.Workers.{programs_follow}
-use Rattle.ec_semaphore.proofs.shared.Implying.{used as down_place}
+use Rattle.ec_semaphore.proofs.shared.Implying.{used as down_place, fits_or as or_second}
 
 -- THE OBJECTS OF A SEMAPHORE
 

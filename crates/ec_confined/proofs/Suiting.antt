@@ -8,7 +8,7 @@ use Rattle.ec_core.specs.Procedures.{IsWritten}
 use Rattle.ec_core.proofs.shared.Joining.{get_back}
 use Rattle.ec_confined.proofs.Tests.{turned}
 use Rattle.ec_core.proofs.shared.FittingCalls.{is_fitting, list_after, AreFitting, after_more}
-pub use Rattle.ec_core.proofs.shared.JoinedLists.{fitting_off as fits_off, fitting_of as fits_on}
+use Rattle.ec_core.proofs.shared.JoinedLists.{fitting_off as fits_off, fitting_of as fits_on}
 
 -- ASKED AND ALLOWED CALLS
 

@@ -1,7 +1,6 @@
 -- Tests on numbers, and tests of tests.
 use Rattle.std.proofs.Common.{◌≡◌, ℕ, Bool, true, false, not, ◌||◌, ◌==◌, cond, refl, sym, ◌∙◌, eqb-true}
 use Rattle.std.proofs.lemmas.Bool.{eq-eqb, ne_eqb}
-pub use Rattle.ec_semaphore.proofs.shared.Implying.{fits_or as or_second}
 
 pub or_first : (a b : Bool) → a ≡ true → (a || b) ≡ true
 or_first true b is = refl

@@ -12,7 +12,7 @@ use Rattle.ec_database.specs.Shapes.{Database}
 use Rattle.ec_database.specs.Calls.{try_call}
 use Rattle.ec_database.specs.Snapshots.{is_whole, agrees, Trying, try_again, after_call, trying_after, end_of, IsDisturbed}
 use Rattle.ec_database.specs.Laws.{SnapshotsAreTries}
-use Rattle.ec_database.proofs.Readers.{last_get}
+use Rattle.ec_core.proofs.shared.Joining.{last_get}
 
 abbrev state : ℕ → List Told → Trying
 state left calls = record { left = left; calls = calls }

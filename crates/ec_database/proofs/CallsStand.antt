@@ -13,11 +13,10 @@ use Rattle.ec_core.specs.Calls.{is_pending}
 use Rattle.ec_core.specs.Rounds.{IsPastOf}
 use Rattle.ec_core.specs.Following.{Told, Rule, extended, block_after, block}
 use Rattle.ec_core.specs.JoinedLists.{SpeaksOf}
-use Rattle.ec_core.proofs.shared.Joining.{get_back}
+use Rattle.ec_core.proofs.shared.Joining.{get_back, last_get}
 use Rattle.ec_core.proofs.shared.CallRounds.{past_by_length}
 use Rattle.ec_core.proofs.shared.Following.{op_at, other_block, own_block}
 use Rattle.ec_database.proofs.CallNumbers.{number, number_other, number_pending, number_on, number_off}
-use Rattle.ec_database.proofs.Readers.{last_get}
 
 -- an entry of w ends the call, which comes after these in its list; early is the past of that entry
 pub record CallEnds (r : Rule) (w : ℕ) (past : List Entry) (before : List Told) (c : Told) (early : List Entry) : Type 0 where

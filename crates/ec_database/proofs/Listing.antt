@@ -9,13 +9,12 @@ use Rattle.ec_core.specs.Calls.{is_pending}
 use Rattle.ec_core.specs.Counts.{past_at}
 use Rattle.ec_core.specs.Following.{Told, block}
 use Rattle.ec_core.proofs.shared.Following.{op_at}
-use Rattle.ec_core.proofs.shared.Joining.{get_back}
+use Rattle.ec_core.proofs.shared.Joining.{get_back, last_get}
 use Rattle.ec_database.specs.Shapes.{Database}
 use Rattle.ec_database.specs.Following.{is_on, try_rule, writes}
 use Rattle.ec_database.specs.Tries.{AcceptedTry, accepted_of, ended_by, ended_at, accepted_tries, ListsTries, AreUndisturbed}
 use Rattle.ec_database.specs.Auditing.{finished_call}
 use Rattle.ec_database.specs.Laws.{IsFollowed, TriesAreListed}
-use Rattle.ec_database.proofs.Readers.{last_get}
 use Rattle.ec_database.proofs.CallsStand.{entry_at}
 use Rattle.ec_database.proofs.Undisturbed.{here, undisturbed}
 

@@ -19,7 +19,7 @@ use Rattle.ec_database.specs.Calls.{try_call}
 use Rattle.ec_database.specs.Following.{is_on, write_rule, try_rule, rules}
 use Rattle.ec_database.specs.Tries.{is_put_on}
 use Rattle.ec_database.proofs.Steady.{on_of, lead_less, writing, no_put, off_put}
-pub use Rattle.ec_core.proofs.shared.Joining.{last_get}
+use Rattle.ec_core.proofs.shared.Joining.{last_get}
 
 -- the first number read, and what is known once that many writings were done
 pub record IsSnapshot (d : Database) (past : List Entry) (version : ℕ) (gets : List Told) : Type 0 where

@@ -17,7 +17,6 @@ use Rattle.ec_database.proofs.Written.{chosen_if, written}
 use Rattle.ec_database.proofs.Counting.{puts_at}
 use Rattle.ec_database.proofs.Writing.{seat_at, seat, rules_write, put_in_op, seat_is, is_cell_at}
 use Rattle.ec_database.proofs.Steady.{writing, is_some_put, put_is}
-pub use Rattle.ec_core.proofs.shared.Breaks.{follow_before}
 
 pub put_in_some : (y : ℕ) (op : Act) (v : ℕ) → put_in y op ≡ Some v → op ≡ Put y v
 put_in_some y (Put z u) v h =

@@ -37,7 +37,8 @@ use Rattle.ec_database.proofs.Counting.{puts_at}
 use Rattle.ec_database.proofs.Written.{IsVersionIn}
 use Rattle.ec_database.proofs.Steady.{lead_less, drawn_less, on_of, writing, put_on_op, no_put}
 use Rattle.ec_database.proofs.Readers.{IsSnapshot, IsReader, readers}
-use Rattle.ec_database.proofs.Turns.{follow_before, put_stands, put_by_writer}
+use Rattle.ec_database.proofs.Turns.{put_stands, put_by_writer}
+use Rattle.ec_core.proofs.shared.Breaks.{follow_before}
 use Rattle.ec_database.proofs.CallsStand.{CallEnds, CallsStand, calls_stand, ends_before, entry_at}
 use Rattle.ec_database.proofs.CallNumbers.{number, number_began}
 

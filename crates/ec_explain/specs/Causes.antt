@@ -22,7 +22,7 @@ use Rattle.ec_explain.specs.declared.site.Site.TheVariants as sites
 use Rattle.ec_explain.specs.TextLines.{place_of}
 use Rattle.ec_explain.specs.Places.{word_at, behind_first, start_of, is_among, names_before}
 use Rattle.ec_explain.specs.Places.{listed_before, full_before}
-pub use Rattle.calls_text.specs.Causes.{last_byte, has_space as has_blank, has_tab}
+use Rattle.calls_text.specs.Causes.{last_byte, has_space as has_blank, has_tab}
 
 -- ANY LINE
 

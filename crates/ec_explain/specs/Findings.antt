@@ -10,7 +10,8 @@ use Rattle.ec_explain.specs.declared.finding.Finding.{Finding}
 use Rattle.ec_explain.specs.declared.site.Site.{Site}
 use Rattle.ec_explain.specs.declared.site.Site.TheVariants as sites
 use Rattle.ec_explain.specs.Advice.{sentence, remedy}
-use Rattle.ec_explain.specs.Causes.{cause_at, place_at, equals_place, last_byte, line_cause}
+use Rattle.ec_explain.specs.Causes.{cause_at, place_at, equals_place, line_cause}
+use Rattle.calls_text.specs.Causes.{last_byte}
 use Rattle.ec_explain.specs.Looking.{call_line, declaration_line, right_line}
 use Rattle.ec_explain.specs.Places.{start_of, word_at}
 use Rattle.ec_heading.specs.Spelling.{reply_word}

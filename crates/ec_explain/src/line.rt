@@ -1,6 +1,7 @@
 //! What is wrong with the bytes of a line.
 ghost use Rattle.std.specs.Prelude.{◌≡◌};
-ghost use Rattle.ec_explain.specs.Causes.{line_cause, is_comment, has_tab};
+ghost use Rattle.ec_explain.specs.Causes.{line_cause, is_comment};
+ghost use Rattle.calls_text.specs.Causes.{has_tab};
 
 use crate::cause::Cause;
 use ec_heading::LINE_MAX;

@@ -9,7 +9,7 @@ use Rattle.std.proofs.lemmas.List.Elements.{recursion_from_All}
 use Rattle.ec_count.specs.Reserved.{is_name, is_reserved}
 use Rattle.ec_text.specs.Words.{is_number_form, has_form, number_of}
 use Rattle.ec_text.proofs.shared.WordLemmas.{literal_word}
-use Rattle.ec_text.proofs.shared.NumberLemmas.{number_again, own}
+use Rattle.ec_text.proofs.shared.NumberLemmas.{number_again, own, guarded}
 use Rattle.ec_text.proofs.shared.DecimalLemmas.{at_most_20}
 use Rattle.ec_heading.specs.Sorts.{sort_word, has_name, has_number, opener, second_opener, needs_second, is_called, is_in_range}
 use Rattle.ec_heading.specs.declared.version.Version.{Version}
@@ -24,7 +24,7 @@ use Rattle.ec_heading.specs.HeadingLaws.{SpelledWorkersAreRead, SpelledDeclarati
 use Rattle.ec_heading.specs.declared.sort.Sort.{Sort}
 use Rattle.ec_heading.specs.declared.heading.HeadFault.{HeadFault}
 use Rattle.ec_heading.specs.Phrased.{HasWords, IsSpelled, NameFits, NumberFits, SecondFits, HasNoStop, number_part, second_part, behind_name}
-use Rattle.ec_heading.proofs.shared.Phrases.{guarded, spelled_parts}
+use Rattle.ec_heading.proofs.shared.Phrases.{spelled_parts}
 use Rattle.ec_heading.proofs.shared.SortFacts.{is_literal, IsLiteral, literal, literal_lacks, is_stop, other_stop, sort_literal, opener_literal, number_small, number_none, called_name, called_word}
 use Rattle.ec_heading.proofs.shared.Listed.{Named, AreBelow, ids_again, ids_known}
 use Rattle.ec_heading.proofs.shared.Declarable.{Heads, HasRoom, heads_all, heads_opened, has_room, is_clean, no_kind}

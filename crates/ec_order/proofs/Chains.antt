@@ -8,7 +8,6 @@ use Rattle.ec_core.specs.Calls.{CallSoFar, under_way, gone_on, is_pending}
 use Rattle.ec_core.specs.Rounds.{sum_read, IsPastOf, IsPastOfEach, EachIsPastOf}
 use Rattle.ec_core.specs.Counts.{component_total}
 use Rattle.ec_core.proofs.shared.Pasts.{past_itself}
-pub use Rattle.ec_core.proofs.shared.CallRounds.{sum_taken as sum_take}
 
 pub past_trans : (a b c : List Entry) → IsPastOf a b → IsPastOf b c → IsPastOf a c
 past_trans a b c p q = record { since = q.since ++ p.since; is = q.is ∙ ap (λ z. q.since ++ z) p.is ∙ sym (append_assoc q.since p.since a) }

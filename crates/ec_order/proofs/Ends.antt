@@ -13,7 +13,8 @@ use Rattle.ec_core.specs.Calls.{CallSoFar, under_way, gone_on, is_go, is_pending
 use Rattle.ec_core.specs.Rounds.{event_or, width, sum_read, round_reply, read_reply, go_reply}
 use Rattle.ec_core.specs.Acceptance.{reply_of, IsAccepted}
 use Rattle.ec_core.proofs.shared.Answering.{allowed, IsAllowed, IsReading, IsReadingCall, call_reads, reading_event, width_some}
-use Rattle.ec_order.specs.Calls.{call_of_entries, ended_by, is_reading, number_of}
+use Rattle.ec_order.specs.Calls.{call_of_entries, ended_by, is_reading}
+use Rattle.ec_core.specs.CallLists.{number_of}
 use Rattle.ec_order.specs.Sequential.{SequentialState, sequential_reply, sequential_after}
 use Rattle.ec_order.specs.Walk.{is_alone}
 use Rattle.ec_order.proofs.Chains.{IsChain, IsChained, call_chain}

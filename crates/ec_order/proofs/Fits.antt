@@ -15,11 +15,13 @@ use Rattle.ec_core.specs.Acceptance.{IsAccepted}
 use Rattle.ec_core.proofs.shared.Moments.{accepted_before}
 use Rattle.ec_core.proofs.shared.Totals.{round_between}
 use Rattle.ec_order.specs.declared.call.Call.{Call}
-use Rattle.ec_order.specs.Calls.{call_of_entries, ended_by, finished_calls, is_reading, number_of}
+use Rattle.ec_order.specs.Calls.{call_of_entries, ended_by, finished_calls, is_reading}
+use Rattle.ec_core.specs.CallLists.{number_of}
 use Rattle.ec_order.specs.Points.{first_entries, first_moment, point_of}
 use Rattle.ec_core.specs.Rounds.{position_of}
 use Rattle.ec_core.proofs.shared.Pasts.{past_itself}
-use Rattle.ec_order.proofs.Chains.{past_next, past_shorter, IsChain, chain_at, chain_between, chain_each, chain_of_each, sum_take}
+use Rattle.ec_order.proofs.Chains.{past_next, past_shorter, IsChain, chain_at, chain_between, chain_each, chain_of_each}
+use Rattle.ec_core.proofs.shared.CallRounds.{sum_taken as sum_take}
 use Rattle.ec_order.proofs.Points.{first_next, first_of_past, total_step, first_is}
 use Rattle.ec_order.proofs.Ends.{IsTold, EndsRound, Ends, ends}
 

@@ -14,7 +14,8 @@ use Rattle.ec_core.specs.Acceptance.{IsAccepted}
 use Rattle.ec_core.proofs.shared.Answering.{allowed}
 use Rattle.ec_order.specs.declared.call.Call.{Call}
 use Rattle.ec_order.specs.declared.placed.Placed.{Placed}
-use Rattle.ec_order.specs.Calls.{call_of_entries, ended_by, finished_calls, is_reading, number_of, stands_alone}
+use Rattle.ec_order.specs.Calls.{call_of_entries, ended_by, finished_calls, is_reading, stands_alone}
+use Rattle.ec_core.specs.CallLists.{number_of}
 use Rattle.ec_order.specs.Points.{first_entries, first_moment, point_of, with_point, by_moments}
 use Rattle.ec_order.specs.Walk.{is_alone, placed_point, reads, readings, IsPlaceFor}
 use Rattle.ec_order.proofs.Points.{first_next}

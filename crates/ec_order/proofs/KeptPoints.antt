@@ -15,7 +15,8 @@ use Rattle.ec_core.specs.Counts.{total}
 use Rattle.ec_core.specs.Rounds.{event_or, read_of, IsPastOf}
 use Rattle.ec_core.proofs.shared.Pasts.{past_itself}
 use Rattle.ec_order.specs.declared.call.Call.{Call}
-use Rattle.ec_order.specs.Calls.{ended_by, finished_calls, is_reading, number_of}
+use Rattle.ec_order.specs.Calls.{ended_by, finished_calls, is_reading}
+use Rattle.ec_core.specs.CallLists.{number_of}
 use Rattle.ec_order.specs.Index.{advanced, moment_of, point_by}
 use Rattle.ec_order.specs.Points.{first_entries, point_of}
 use Rattle.ec_order.specs.Raised.{Raised, moment_since, is_reading_of, opening_past, IsRaised, IsPointBy}

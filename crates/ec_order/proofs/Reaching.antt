@@ -8,7 +8,8 @@ use Rattle.ec_core.specs.Rounds.{event_or}
 use Rattle.ec_numbers.specs.Numbers.{KeptNumbers}
 use Rattle.ec_order.specs.declared.call.Call.{Call}
 use Rattle.ec_order.specs.declared.placed.Placed.{Placed}
-use Rattle.ec_order.specs.Calls.{is_reading, number_of}
+use Rattle.ec_order.specs.Calls.{is_reading}
+use Rattle.ec_core.specs.CallLists.{number_of}
 use Rattle.ec_order.specs.Points.{first_entries, first_moment, point_of, with_point}
 use Rattle.ec_order.specs.Index.{advanced, moment_of, moments_in, IsIndex, point_by, point_in, placed_in}
 use Rattle.ec_order.proofs.Points.{first_at, first_next}

@@ -17,7 +17,8 @@ use Rattle.ec_core.specs.Acceptance.{IsAccepted}
 use Rattle.ec_core.proofs.shared.Moments.{accepted_before}
 use Rattle.ec_order.specs.declared.call.Call.{Call}
 use Rattle.ec_order.specs.declared.placed.Placed.{Placed}
-use Rattle.ec_order.specs.Calls.{call_of_entries, ended_by, finished_calls, is_reading, number_of}
+use Rattle.ec_order.specs.Calls.{call_of_entries, ended_by, finished_calls, is_reading}
+use Rattle.ec_core.specs.CallLists.{number_of}
 use Rattle.ec_order.specs.Points.{point_of, first_entries}
 use Rattle.ec_order.specs.Sequential.{SequentialState, zero_state, put_at, sequential_reply, sequential_after, sequential_after_all, IsSequentialRun}
 use Rattle.ec_order.specs.Orders.{calls_in}

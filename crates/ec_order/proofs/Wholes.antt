@@ -12,7 +12,8 @@ use Rattle.ec_core.specs.Calls.{call_with, gone_on, is_go, is_pending, under_way
 use Rattle.ec_core.specs.Counts.{total}
 use Rattle.ec_core.specs.Rounds.{event_or, position_of, width}
 use Rattle.ec_order.specs.declared.call.Call.{Call}
-use Rattle.ec_order.specs.Calls.{call_of_entries, ended_by, is_reading, number_of, stands_alone}
+use Rattle.ec_order.specs.Calls.{call_of_entries, ended_by, is_reading, stands_alone}
+use Rattle.ec_core.specs.CallLists.{number_of}
 use Rattle.ec_order.specs.Points.{first_entries, first_moment, point_of, with_point}
 use Rattle.ec_order.specs.Timeline.{is_long, long_readings}
 use Rattle.ec_order.specs.Walk.{alone_at, is_alone, reads, readings}

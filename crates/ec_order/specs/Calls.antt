@@ -15,7 +15,6 @@ use Rattle.ec_core.specs.Calls.{CallSoFar, under_way, gone_on, call_with, is_go,
 use Rattle.ec_core.specs.Ongoing.{AreCalls}
 use Rattle.ec_core.specs.Rounds.{event_or, position_of, round_start}
 use Rattle.ec_order.specs.declared.call.Call.{Call}
-pub use Rattle.ec_core.specs.CallLists.{number_of}
 
 -- whether an act is a read or an await
 abbrev pub is_reading : Act → Bool

@@ -8,7 +8,8 @@ use Rattle.ec_core.specs.Rounds.{event_or}
 use Rattle.ec_numbers.specs.Numbers.{KeptNumbers}
 use Rattle.ec_order.specs.declared.call.Call.{Call}
 use Rattle.ec_order.specs.declared.placed.Placed.{Placed}
-use Rattle.ec_order.specs.Calls.{is_reading, number_of}
+use Rattle.ec_order.specs.Calls.{is_reading}
+use Rattle.ec_core.specs.CallLists.{number_of}
 
 -- the moments after the advances of e
 unfoldable pub advanced : ℕ → List Entry → List ℕ

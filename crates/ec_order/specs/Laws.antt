@@ -11,7 +11,8 @@ use Rattle.ec_core.specs.Following.{Told}
 use Rattle.ec_core.specs.JoinedLists.{finished_by}
 use Rattle.ec_order.specs.declared.call.Call.{Call}
 use Rattle.ec_order.specs.declared.placed.Placed.{Placed}
-use Rattle.ec_order.specs.Calls.{finished_calls, is_reading, number_of}
+use Rattle.ec_order.specs.Calls.{finished_calls, is_reading}
+use Rattle.ec_core.specs.CallLists.{number_of}
 use Rattle.ec_order.specs.Cuts.{IsFinishedCall}
 use Rattle.ec_order.specs.Orders.{IsLegalOrder, calls_in}
 use Rattle.ec_order.specs.Points.{IsPoint, point_of, ordered_by_points}

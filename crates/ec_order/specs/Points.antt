@@ -8,7 +8,8 @@ use Rattle.ec_core.specs.Counts.{total, past_at}
 use Rattle.ec_core.specs.Rounds.{event_or}
 use Rattle.ec_order.specs.declared.call.Call.{Call}
 use Rattle.ec_order.specs.declared.placed.Placed.{Placed}
-use Rattle.ec_order.specs.Calls.{finished_calls, is_reading, number_of}
+use Rattle.ec_order.specs.Calls.{finished_calls, is_reading}
+use Rattle.ec_core.specs.CallLists.{number_of}
 
 -- POINTS, as a relation over a history in its natural order
 

@@ -16,7 +16,6 @@ use Rattle.ec_machine.specs.Steps.{own}
 use Rattle.ec_machine.proofs.shared.OwnSteps.{slice_here as get_at, own_append}
 use Rattle.ec_runner.specs.declared.told.Told.{Told}
 use Rattle.ec_runner.specs.Walks.{AreWalked, AreLogsOf, IsUnfinished, IsUnlike}
-pub use Rattle.ec_machine.proofs.shared.OwnSteps.{entry_next as entry_there}
 
 pub append_none : (xs : List Entry) → xs ++ [] ≡ xs
 append_none [] = refl

@@ -35,7 +35,9 @@ use Rattle.ec_script.specs.Layout.{order_by, Says, Block, IsBlock, texts_of, ord
 use Rattle.ec_script.specs.Phrased.{Worded}
 use Rattle.ec_script.proofs.PhraseWords.{made, worded}
 use Rattle.ec_script.proofs.Passing.{Passes, IsTaken, IsBehind, taken_back, read_back}
-use Rattle.ec_script.proofs.Said.{IsCommand, Ordered, ordered_of, some_object, said, MayNest, step_may, nested_more, few_more, room_more, orders_more, below, end_inner}
+use Rattle.ec_script.proofs.Said.{IsCommand, Ordered, ordered_of, some_object, said, MayNest, step_may, nested_more, few_more, room_more}
+use Rattle.ec_script.proofs.Room.{below, end_deep as end_inner}
+use Rattle.ec_script.proofs.shared.Keeping.{with_order_adds as orders_more}
 
 abbrev pub state : Headed → List ℕ → List (List Order) → Option Open → List ℕ → Scripted
 state h named ps b sc = record { heading = h; named = named; programs = ps; block = b; schedule = sc }

@@ -14,7 +14,7 @@ use Rattle.ec_heading.specs.Headed.{Headed}
 use Rattle.ec_heading.specs.Outline.{Declaration, Outline, opened, declared_by, declared_all}
 use Rattle.ec_heading.specs.Outlined.{IsHeading}
 use Rattle.ec_script.specs.declared.object.Object.TheVariants.{Event}
-use Rattle.ec_script.specs.Objects.{both_of}
+use Rattle.ec_heading.specs.Groups.{both_of}
 use Rattle.ec_script.specs.Confined.{AreApart}
 use Rattle.ec_script.proofs.Apart.{KeepApart, none_apart, declared_apart}
 

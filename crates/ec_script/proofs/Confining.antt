@@ -30,7 +30,8 @@ use Rattle.ec_script.specs.declared.order.Order.TheVariants.{Do}
 use Rattle.ec_heading.specs.Versions.{has_hand}
 use Rattle.ec_script.specs.Verbs.{has_verb}
 use Rattle.ec_script.specs.Forms.{only_in}
-use Rattle.ec_script.specs.Objects.{place_of, group_in, buffer_of, database_of, semaphore_of, semaphore_in, both_of, pair_of, handed_of, object_for, is_owned}
+use Rattle.ec_script.specs.Objects.{place_of, group_in, semaphore_in, pair_of, handed_of, object_for, is_owned}
+use Rattle.ec_heading.specs.Groups.{buffer_of, database_of, semaphore_of, both_of}
 use Rattle.ec_script.specs.Kinds.{or_nothing, has_two_roles}
 use Rattle.ec_script.specs.Orders.{event_order, cell_order, buffer_order, database_order, semaphore_order, command_in, amount_in, size_in}
 use Rattle.ec_script.specs.Versioned.{has_command, HasOrder}

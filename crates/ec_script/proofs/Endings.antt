@@ -15,7 +15,8 @@ use Rattle.ec_script.specs.declared.script.Block.{Block}
 use Rattle.ec_script.specs.declared.stage.Stage.{Stage}
 use Rattle.ec_script.specs.declared.stage.Stage.TheVariants.{Opening, Limiting, Naming, Reading}
 use Rattle.ec_script.specs.Endings.{IsFaultless, IsInside, EndsEarly, UnfinishedIsTold}
-use Rattle.ec_script.specs.Grammar.{text_of, Leads, IsCutOff, IsFirstFault, IsLongFault, IsFault}
+use Rattle.ec_script.specs.Grammar.{Leads, IsCutOff, IsFirstFault, IsLongFault, IsFault}
+use Rattle.ec_heading.specs.Spelling.{text_of}
 use Rattle.ec_script.specs.Holding.{HasKind}
 use Rattle.ec_script.specs.Outcome.{plan_or, plan_in}
 use Rattle.ec_script.specs.Reading.{limited, limit_digits, limit_or, limit_step, limiting, script_of, named_on, read_on, script_step, step}

@@ -9,7 +9,8 @@ use Rattle.ec_script.specs.declared.stage.Stage.{Stage}
 use Rattle.ec_script.specs.declared.stage.Stage.TheVariants.{Opening}
 use Rattle.ec_script.specs.Reading.{step}
 use Rattle.ec_script.specs.Outcome.{parts_of, finished, taken, ended, goes, outcome, first_of, long_by, long_kind}
-use Rattle.ec_script.specs.Grammar.{text_of, IsLine, Leads, IsRefused, IsCutOff, IsFirstFault, IsLongFault, IsFault, FaultsAreTold}
+use Rattle.ec_script.specs.Grammar.{IsLine, Leads, IsRefused, IsCutOff, IsFirstFault, IsLongFault, IsFault, FaultsAreTold}
+use Rattle.ec_heading.specs.Spelling.{text_of}
 use Rattle.ec_script.proofs.Lines.{HasFirst, has_first, parts_line, parts_rest, goes_line, goes_rest}
 use Rattle.ec_heading.specs.Versions.{version_of}
 use Rattle.ec_script.specs.Headers.{script_header}

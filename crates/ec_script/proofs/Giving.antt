@@ -31,7 +31,8 @@ use Rattle.ec_script.specs.declared.order.Order.{Order}
 use Rattle.ec_script.specs.declared.order.Order.TheVariants.{Do, Write, Begin, End}
 use Rattle.ec_script.specs.Verbs.{has_verb, tail_of, is_giving, is_outer}
 use Rattle.ec_script.specs.Forms.{more_in, last_plus, number_or_more, value_of, only_in, is_tail}
-use Rattle.ec_script.specs.Objects.{object_for, group_in, buffer_in, database_in, semaphore_in, both_of, pair_of, handed_of, is_owned}
+use Rattle.ec_script.specs.Objects.{object_for, group_in, buffer_in, database_in, semaphore_in, pair_of, handed_of, is_owned}
+use Rattle.ec_heading.specs.Groups.{both_of}
 use Rattle.ec_script.specs.Kinds.{is_no_value, is_bad_tail, has_two_roles, has_right}
 use Rattle.ec_script.specs.Orders.{amount_of, amount_in, size_in}
 use Rattle.ec_script.specs.Versioned.{has_command}

@@ -16,7 +16,7 @@ use Rattle.ec_heading.specs.Headed.{Headed}
 use Rattle.ec_heading.specs.Outline.{Outline, IsOutline, opened, headed}
 use Rattle.ec_heading.specs.Heading.{head_step, is_no_line}
 use Rattle.ec_heading.specs.HeadingLaws.{LinesLead, Outlines, outline_lines}
-use Rattle.ec_heading.specs.Spelling.{limit_line, heading_lines}
+use Rattle.ec_heading.specs.Spelling.{limit_line, heading_lines, text_of}
 use Rattle.ec_heading.specs.declared.heading.HeadFault.{HeadFault}
 use Rattle.ec_heading.proofs.shared.Declarable.{Heads, heads_opened, heads_all}
 use Rattle.ec_heading.proofs.shared.LeadLines.{leads_outline}
@@ -28,7 +28,7 @@ use Rattle.ec_script.specs.Forms.{phrase_in}
 use Rattle.ec_script.specs.Scripted.{Scripted, Planned}
 use Rattle.ec_script.specs.Reading.{headed_on, phrased, opens_outer, script_step, limiting, limited, limit_digits, limit_or, limit_step, script_of, named_on, step}
 use Rattle.ec_script.specs.Outcome.{plan_in}
-use Rattle.ec_script.specs.Grammar.{Leads, text_of}
+use Rattle.ec_script.specs.Grammar.{Leads}
 use Rattle.ec_script.specs.Layout.{Block, orders_of, workers_of, joined, layout_lines, program_of, ScriptsAreLaidOut}
 use Rattle.ec_script.proofs.Declaring.{HeadKeeps, Grows, first_keeps, head_grows}
 use Rattle.ec_script.proofs.Passing.{read_back}

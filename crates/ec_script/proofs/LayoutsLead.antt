@@ -51,7 +51,8 @@ use Rattle.ec_script.proofs.Declaring.{not_refused, HeadKeeps, Grows, first_keep
 use Rattle.ec_script.specs.Phrased.{verb_word}
 use Rattle.ec_script.proofs.PhraseWords.{made, verb_back}
 use Rattle.ec_script.proofs.Passing.{Passes, taken_so}
-use Rattle.ec_script.proofs.Said.{IsCommand, IsStep, Ordered, ordered_of, MayNest, orders_more}
+use Rattle.ec_script.proofs.Said.{IsCommand, IsStep, Ordered, ordered_of, MayNest}
+use Rattle.ec_script.proofs.shared.Keeping.{with_order_adds as orders_more}
 use Rattle.ec_script.proofs.Blocks.{state, set_all, planned, joins}
 use Rattle.ec_script.proofs.Layouts.{programs_are}
 

@@ -35,7 +35,8 @@ use Rattle.ec_heading.proofs.shared.SpelledWords.{IsPlainWord, found_word, find-
 use Rattle.ec_script.specs.declared.object.Object.{Object}
 use Rattle.ec_script.specs.Objects.{place_of, group_in, owns}
 use Rattle.ec_script.specs.Spelling.{group_word}
-use Rattle.ec_script.proofs.Owners.{Named, Owning, group_spelled, get_push}
+use Rattle.ec_script.proofs.Owners.{Owning, group_spelled, get_push}
+use Rattle.ec_heading.proofs.shared.Listed.{Named}
 
 -- WORDS HAVE BYTES
 

@@ -20,7 +20,8 @@ use Rattle.ec_heading.specs.Outline.{Declaration, with_objects, named_as, next_o
 use Rattle.ec_heading.specs.Outlined.{IsHeading}
 use Rattle.ec_heading.proofs.shared.OutlineGrows.{objects_grow}
 use Rattle.ec_heading.proofs.shared.Phrases.{same_word}
-use Rattle.ec_script.specs.Objects.{place_of, group_in, semaphore_of, semaphore_in}
+use Rattle.ec_script.specs.Objects.{place_of, group_in, semaphore_in}
+use Rattle.ec_heading.specs.Groups.{semaphore_of}
 use Rattle.ec_heading.proofs.shared.Listed.{Named}
 use Rattle.ec_core.proofs.shared.Joining.{get_front as still_at}
 

@@ -25,7 +25,7 @@ use Rattle.ec_heading.specs.declared.group.Group.{Group}
 use Rattle.ec_heading.specs.declared.group.Group.TheVariants as groups
 use Rattle.ec_heading.specs.Headed.{Headed}
 use Rattle.ec_heading.specs.Outline.{Outline, IsOutline, headed}
-use Rattle.ec_heading.specs.Spelling.{word_of, heading_lines}
+use Rattle.ec_heading.specs.Spelling.{word_of, heading_lines, text_of}
 use Rattle.ec_heading.specs.Lists.{worker_of, worker_in}
 use Rattle.ec_heading.specs.Spelled.{Named, event_of, sequencer_of, event_in, sequencer_in, cell_in_word}
 use Rattle.ec_heading.proofs.shared.ReadNames.{AreApart, word_back}
@@ -38,10 +38,10 @@ use Rattle.ec_script.specs.declared.order.Order.{Order}
 use Rattle.ec_script.specs.declared.order.Order.TheVariants.{Do, Write, Begin, End}
 use Rattle.ec_script.specs.Verbs.{tail_of, has_object, is_outer}
 use Rattle.ec_script.specs.Forms.{more_in, last_plus, number_or_more, value_of, only_in, is_tail}
-use Rattle.ec_script.specs.Objects.{object_for, place_of, group_in, buffer_of, database_of, semaphore_of, buffer_in, database_in, semaphore_in, both_of, pair_of, handed_of, owns}
+use Rattle.ec_script.specs.Objects.{object_for, place_of, group_in, buffer_in, database_in, semaphore_in, pair_of, handed_of, owns}
+use Rattle.ec_heading.specs.Groups.{buffer_of, database_of, semaphore_of, both_of}
 use Rattle.ec_script.specs.Kinds.{is_no_value, cells_of, is_count, is_bad_tail}
 use Rattle.ec_script.specs.Orders.{amount_of, amount_in, size_in}
-use Rattle.ec_script.specs.Grammar.{text_of}
 use Rattle.ec_script.specs.Layout.{order_by, Says, Block, IsBlock, texts_of, orders_of, worker_line, block_lines, schedule_line, Layout, IsLayout, layout_lines}
 use Rattle.ec_script.specs.Spelling.{value_word, group_word, command_words, order_words, order_line, spelled_block, script_lines, ordered_blocks, LinesAreSpelled, LayoutsAreSpelled}
 use Rattle.ec_script.specs.Phrased.{verb_word, behind_verb, Worded}

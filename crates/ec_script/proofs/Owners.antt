@@ -21,7 +21,7 @@ use Rattle.ec_script.specs.declared.object.Object.{Object}
 use Rattle.ec_script.specs.Objects.{place_of, owns}
 use Rattle.ec_script.specs.Spelling.{is_owner, owner_word}
 use Rattle.ec_script.proofs.Apart.{IsOf, tables_grow, stays, IsNew, AreNew, group_new, Grow}
-pub use Rattle.ec_heading.proofs.shared.Listed.{Named}
+use Rattle.ec_heading.proofs.shared.Listed.{Named}
 
 -- NAMES OF GROUPS
 

@@ -17,15 +17,14 @@ use Rattle.ec_script.specs.declared.order.Order.TheVariants.{Do, Write, Begin, E
 use Rattle.ec_script.specs.declared.kinds.BlockView.{BlockView}
 use Rattle.ec_script.specs.Verbs.{is_giving, is_outer}
 use Rattle.ec_script.specs.Forms.{phrase_in}
-use Rattle.ec_script.specs.Objects.{object_for, buffer_in, database_in, semaphore_in, both_of, pair_of, handed_of}
+use Rattle.ec_script.specs.Objects.{object_for, buffer_in, database_in, semaphore_in, pair_of, handed_of}
+use Rattle.ec_heading.specs.Groups.{both_of}
 use Rattle.ec_script.specs.Kinds.{Seen, lacks_right}
 use Rattle.ec_script.specs.Orders.{command_in}
 use Rattle.ec_script.specs.Drafted.{Drafted, with_order}
 use Rattle.ec_script.specs.Layout.{order_by, Says, AreNested, commands_in}
 use Rattle.ec_script.proofs.PhraseWords.{made}
 use Rattle.ec_script.proofs.Passing.{Passes}
-pub use Rattle.ec_script.proofs.shared.Keeping.{with_order_adds as orders_more}
-pub use Rattle.ec_script.proofs.Room.{below, end_deep as end_inner}
 
 -- THE ORDER OF A COMMAND
 

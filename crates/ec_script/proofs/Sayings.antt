@@ -44,7 +44,8 @@ use Rattle.ec_script.specs.declared.order.Order.{Order}
 use Rattle.ec_script.specs.declared.order.Order.TheVariants.{Do, Write, Begin, End}
 use Rattle.ec_script.specs.Verbs.{has_verb, tail_of, has_object, is_giving, is_outer}
 use Rattle.ec_script.specs.Forms.{more_in, last_plus, number_or_more, value_of, is_value_form, is_tail, objected_in, tailed_in, verbed_in, phrase_in}
-use Rattle.ec_script.specs.Objects.{object_for, buffer_of, database_of, semaphore_of, buffer_in, database_in, semaphore_in, pair_of, handed_of, is_owned}
+use Rattle.ec_script.specs.Objects.{object_for, buffer_in, database_in, semaphore_in, pair_of, handed_of, is_owned}
+use Rattle.ec_heading.specs.Groups.{buffer_of, database_of, semaphore_of}
 use Rattle.ec_script.specs.Kinds.{is_no_value, is_count, is_bad_tail, has_two_roles, may_signal, are_declared, has_right}
 use Rattle.ec_script.specs.Orders.{amount_of}
 use Rattle.ec_script.specs.Versioned.{has_command}

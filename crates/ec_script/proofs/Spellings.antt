@@ -6,7 +6,8 @@ use Rattle.ec_heading.specs.Headed.{Headed}
 use Rattle.ec_heading.specs.Outline.{Outline, IsOutline, headed}
 use Rattle.ec_script.specs.declared.order.Order.{Order}
 use Rattle.ec_script.specs.Scripted.{Planned}
-use Rattle.ec_script.specs.Grammar.{IsScript, IsLine, text_of}
+use Rattle.ec_script.specs.Grammar.{IsScript, IsLine}
+use Rattle.ec_heading.specs.Spelling.{text_of}
 use Rattle.ec_script.specs.Layout.{Says, Block, IsBlock, orders_of, workers_of, joined, AreNested, commands_in, IsLayout, layout_lines, program_of, plan_of, IsLaidOut, LayoutsAreScripts, Layout}
 use Rattle.ec_script.specs.Spelling.{order_line, script_lines, ordered_blocks}
 use Rattle.ec_script.specs.Given.{MayGive}

@@ -20,7 +20,8 @@ use Rattle.ec_script.specs.declared.object.Object.{Object}
 use Rattle.ec_script.specs.declared.object.Object.TheVariants.{Worker, Event, Sequencer, Cell, OfBuffer, OfDatabase, OfSemaphore, SemaphorePair}
 use Rattle.ec_script.specs.Verbs.{has_verb}
 use Rattle.ec_script.specs.Forms.{Phrase, only_in}
-use Rattle.ec_script.specs.Objects.{buffer_in, database_in, semaphore_in, both_of, pair_of, handed_of, object_for, object_in, is_owned}
+use Rattle.ec_script.specs.Objects.{buffer_in, database_in, semaphore_in, pair_of, handed_of, object_for, object_in, is_owned}
+use Rattle.ec_heading.specs.Groups.{both_of}
 use Rattle.ec_script.specs.Kinds.{Seen, is_allowed, is_named_again, is_too_many, has_two_roles, or_nothing, phrase_fault}
 use Rattle.ec_script.specs.Pairs.{TwoRolesAreOneName, NamesOneTwice, TwoRolesAreTold}
 use Rattle.ec_script.proofs.Commons.{common_starts, common_counts}

@@ -4,8 +4,7 @@ use Rattle.std.specs.List.{onto_first}
 use Rattle.ec_text.specs.Words.{words_of}
 use Rattle.ec_script.specs.Forms.{only_in}
 use Rattle.ec_script.specs.Reading.{limit_digits}
-use Rattle.ec_text.proofs.shared.WordLemmas.{onto_has}
-pub use Rattle.ec_text.proofs.shared.WordLemmas.{has_first, HasFirst}
+use Rattle.ec_text.proofs.shared.WordLemmas.{onto_has, has_first, HasFirst}
 
 pub only_word : (a more : List ℕ) → only_in (a ∷ words_of more) ≡ None
 only_word a more = let r : HasFirst more = has_first more in rw r.is refl

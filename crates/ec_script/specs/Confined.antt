@@ -12,7 +12,8 @@ use Rattle.ec_script.specs.declared.object.Object.{Object}
 use Rattle.ec_script.specs.declared.object.Object.TheVariants.{Event, Sequencer, Cell}
 use Rattle.ec_script.specs.declared.order.Order.{Order}
 use Rattle.ec_script.specs.declared.order.Order.TheVariants.{Do, Write, Begin, End}
-use Rattle.ec_script.specs.Objects.{owns, is_owned, both_of}
+use Rattle.ec_script.specs.Objects.{owns, is_owned}
+use Rattle.ec_heading.specs.Groups.{both_of}
 use Rattle.ec_script.specs.Versioned.{HasOrders}
 use Rattle.ec_script.specs.Flat.{flat}
 use Rattle.ec_script.specs.Scripted.{Planned}

@@ -6,7 +6,8 @@ use Rattle.ec_script.specs.declared.fault.Kind.TheVariants as kinds
 use Rattle.ec_script.specs.declared.parsing.TheConstants.{SCRIPT_MAX}
 use Rattle.ec_script.specs.declared.stage.Stage.{Stage}
 use Rattle.ec_script.specs.declared.stage.Stage.TheVariants.{Opening, Reading}
-use Rattle.ec_script.specs.Grammar.{IsLine, Leads, text_of}
+use Rattle.ec_script.specs.Grammar.{IsLine, Leads}
+use Rattle.ec_heading.specs.Spelling.{text_of}
 use Rattle.ec_script.specs.Holding.{HasKind}
 use Rattle.ec_script.specs.Outcome.{outcome}
 use Rattle.ec_script.specs.Reading.{step}

@@ -11,7 +11,7 @@ use Rattle.ec_script.specs.declared.stage.Stage.TheVariants.{Opening}
 use Rattle.ec_script.specs.Scripted.{Planned}
 use Rattle.ec_script.specs.Reading.{step}
 use Rattle.ec_script.specs.Outcome.{outcome, parts_of, plan_in, first_of, long_kind}
-pub use Rattle.ec_heading.specs.Spelling.{text_of, ended_line}
+use Rattle.ec_heading.specs.Spelling.{text_of}
 
 -- a line holds no LF
 abbrev pub IsLine : List ℕ → Type 0

@@ -6,7 +6,7 @@ use Rattle.ec_text.specs.Words.{words_of}
 use Rattle.ec_heading.specs.Headed.{Headed}
 use Rattle.ec_heading.specs.Outline.{Outline, IsOutline, headed}
 use Rattle.ec_heading.specs.Heading.{is_no_line}
-use Rattle.ec_heading.specs.Spelling.{heading_lines, list_words}
+use Rattle.ec_heading.specs.Spelling.{heading_lines, list_words, text_of}
 use Rattle.ec_script.specs.Headers.{script_header}
 use Rattle.ec_script.specs.declared.verb.Verb.{Verb}
 use Rattle.ec_script.specs.declared.verb.Verb.TheVariants as verbs
@@ -20,7 +20,7 @@ use Rattle.ec_script.specs.Objects.{object_in, is_owned}
 use Rattle.ec_script.specs.Kinds.{is_bad_tail, has_two_roles, has_right}
 use Rattle.ec_script.specs.Orders.{size_in, command_in}
 use Rattle.ec_script.specs.Scripted.{Planned}
-use Rattle.ec_script.specs.Grammar.{IsScript, text_of}
+use Rattle.ec_script.specs.Grammar.{IsScript}
 
 -- A LINE OF A BLOCK
 

@@ -10,7 +10,7 @@ use Rattle.ec_database.specs.Shapes as databases
 use Rattle.ec_semaphore.specs.Shapes.{Semaphore}
 use Rattle.ec_heading.specs.declared.group.Group.{Group}
 use Rattle.ec_heading.specs.declared.group.Group.TheVariants as groups
-pub use Rattle.ec_heading.specs.Groups.{buffer_of, database_of, semaphore_of, both_of, has_event, has_sequencer, has_cell}
+use Rattle.ec_heading.specs.Groups.{buffer_of, database_of, semaphore_of, both_of, has_event, has_sequencer, has_cell}
 use Rattle.ec_heading.specs.Headed.{Headed}
 use Rattle.ec_heading.specs.Lists.{worker_in}
 use Rattle.ec_heading.specs.Spelled.{event_in, sequencer_in, cell_in_word}

@@ -13,14 +13,13 @@ use Rattle.ec_machine.specs.declared.command.Command.TheOpen as layer
 use Rattle.ec_heading.specs.declared.group.Group.{Group}
 use Rattle.ec_heading.specs.Headed.{Headed}
 use Rattle.ec_heading.specs.Outline.{Outline, IsOutline, headed}
-use Rattle.ec_heading.specs.Spelling.{Named, word_of, cell_word, heading_lines}
+use Rattle.ec_heading.specs.Spelling.{Named, word_of, cell_word, heading_lines, text_of}
 use Rattle.ec_script.specs.Headers.{script_header}
 use Rattle.ec_script.specs.declared.object.Object.{Object}
 use Rattle.ec_script.specs.declared.object.Object.TheVariants.{Event, Sequencer}
 use Rattle.ec_script.specs.declared.order.Order.{Order}
 use Rattle.ec_script.specs.declared.order.Order.TheVariants.{Do, Write, Begin, End}
 use Rattle.ec_script.specs.Objects.{owns}
-use Rattle.ec_script.specs.Grammar.{text_of}
 use Rattle.ec_script.specs.Layout.{Says, Block, orders_of, worker_line, schedule_line, Layout, IsLayout, layout_lines}
 
 -- VALUES

@@ -27,7 +27,8 @@ use Rattle.ec_semaphore.specs.Uses.{is_on}
 use Rattle.ec_semaphore.specs.Both.{line_of, is_begun, both_rule, both_rules}
 use Rattle.ec_semaphore.specs.Pairs.{pair_of, pair_with, pairs_in}
 use Rattle.ec_semaphore.specs.InOrder.{calls_at, ticket_entry, DrawsPair, ArePairs}
-use Rattle.ec_semaphore.proofs.TicketOrder.{seat_of, pairs_at, no_pair, outside, paired}
+use Rattle.ec_semaphore.proofs.TicketOrder.{seat_of, pairs_at, no_pair, paired}
+use Rattle.ec_semaphore.proofs.shared.Implying.{outside}
 use Rattle.ec_core.proofs.shared.Stepping.{entry as entry_of}
 
 -- ONE ENTRY

@@ -24,7 +24,7 @@ use Rattle.ec_semaphore.specs.Shapes.{Semaphore}
 use Rattle.ec_semaphore.specs.Uses.{is_on}
 use Rattle.ec_semaphore.specs.Both.{line_of, is_begun, both_rule, both_rules}
 use Rattle.ec_semaphore.specs.Pairs.{pair_of, pair_with, pairs_in, IsBelow, IsEarlier}
-pub use Rattle.ec_semaphore.proofs.shared.Implying.{outside}
+use Rattle.ec_semaphore.proofs.shared.Implying.{outside}
 
 abbrev pub lists : Semaphore → (ℕ → Bool) → List Entry → ℕ → List Told
 lists c lines past w = block (both_rule c lines) w past

@@ -34,7 +34,8 @@ use Rattle.ec_trace.specs.Recounted.{Recounted}
 use Rattle.ec_trace.specs.Step.{step, entry_step, entered, answered, ran_on, same_reply}
 use Rattle.ec_trace.proofs.LedOutlines.{lines_lead}
 use Rattle.ec_trace.proofs.ReadCells.{IsCell, cell_is}
-use Rattle.ec_trace.proofs.ReadEntries.{IsSpellable, bind_back, either, event_found, sequencer_found, worker_found, entry_again, entry_spelled}
+use Rattle.ec_trace.proofs.ReadEntries.{IsSpellable, event_found, sequencer_found, worker_found, entry_again, entry_spelled}
+use Rattle.ec_trace.proofs.FrontLemmas.{either, bound as bind_back}
 use Rattle.ec_trace.proofs.ReadRuns.{with_entry, act_named, reply_short, same_self, same_is, not_end}
 
 -- WHAT MAY BE WRITTEN HAS A SPELLING

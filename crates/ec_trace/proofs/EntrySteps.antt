@@ -25,7 +25,6 @@ use Rattle.ec_trace.specs.declared.fault.TraceFault.{TraceFault}
 use Rattle.ec_trace.specs.declared.read.TheConstants.{TRACE_MAX}
 use Rattle.ec_trace.proofs.Readings.{line_taken, line_refused}
 use Rattle.ec_trace.specs.declared.fault.LineFault.TheVariants.{Bad, Refused, WrongReply}
-pub use Rattle.ec_trace.proofs.ReadRuns.{same_is as is_same}
 
 pub spells_none : (t : Recounted) (line : List ℕ) → entry_of t.heading.words line ≡ None → entry_step t line ≡ Err Bad
 unfolding entry_step

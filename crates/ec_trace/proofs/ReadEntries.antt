@@ -29,7 +29,7 @@ use Rattle.ec_trace.specs.Entries.{◌>>=◌, act_alone, act_on, act_with, reply
 use Rattle.ec_trace.specs.Step.{limit_in}
 use Rattle.ec_heading.proofs.shared.ReadNames.{AreApart, HasName, is_celled, HasBlock, has_block, block_by, IsNamedBy, named_by, word_lacks, word_back, bracketed}
 use Rattle.ec_trace.proofs.ReadCells.{decimal_lacks, cell_again, cell_spelled}
-pub use Rattle.ec_trace.proofs.FrontLemmas.{either, bound as bind_back}
+use Rattle.ec_trace.proofs.FrontLemmas.{either, bound as bind_back}
 
 pub too_many : (names : Named) (a b c d e f more : List ℕ) → entry_in names (a ∷ b ∷ c ∷ d ∷ e ∷ f ∷ words_of more) ≡ None
 unfolding entry_in

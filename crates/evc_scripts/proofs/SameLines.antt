@@ -20,7 +20,7 @@ use Rattle.ec_machine.specs.Written.{written, written_one, written_step, repeate
 use Rattle.ec_script.specs.declared.order.Order.{Order}
 use Rattle.ec_script.specs.declared.order.Order.TheVariants.{Do, Write, Begin, End}
 use Rattle.ec_script.specs.Flat.{flat, flat_one, flat_step, all_of}
-use Rattle.ec_script.proofs.shared.WrittenOut.{every_append}
+use Rattle.ec_heading.proofs.shared.Each.{each_append as every_append}
 use Rattle.evc_scripts.proofs.WrittenLines.{same_written}
 
 -- WHAT A LINE SAYS OF ITS COMMAND

@@ -10,7 +10,7 @@ use Rattle.calls_core.specs.declared.history.Action.TheVariants.{Invoke, Respond
 use Rattle.calls_core.specs.declared.history.Event.{Event}
 use Rattle.calls_core.specs.declared.history.PendingCall.{PendingCall}
 use Rattle.calls_core.specs.Histories.{pending_calls, completed_calls, IsHistoryOf, part}
-use Rattle.calls_counts.specs.Monitors.{IsTaken}
+use Rattle.calls_counts.specs.Monitors.{IsTaken, HasRoom}
 use Rattle.calls_tickets.specs.Monitors.{IsAccepted as IsTicketed}
 use Rattle.calls_semaphores.specs.Monitors.{Represents, UpTo}
 use Rattle.calls_monitor.specs.declared.object.Watch.{Watch}
@@ -21,7 +21,6 @@ use Rattle.calls_monitor.specs.declared.monitor.Monitor.{Monitor}
 use Rattle.calls_monitor.specs.declared.monitor.Rejection.{Rejection}
 use Rattle.calls_monitor.specs.declared.monitor.Rejection.TheVariants.{Refused, Full}
 use Rattle.calls_monitor.specs.Refusals.{Explains}
-pub use Rattle.calls_counts.specs.Monitors.{HasRoom}
 
 -- ONE OBJECT
 

@@ -31,7 +31,6 @@ use Rattle.ec_heading.proofs.shared.Listed.{known_below}
 use Rattle.ec_heading.proofs.shared.OutlineFound.{found_at}
 use Rattle.ec_heading.proofs.shared.OutlineGrows.{TablesGrow}
 use Rattle.ec_heading.proofs.shared.ReadNames.{is_shared, AreApart, HasName, is_celled}
-pub use Rattle.ec_database.proofs.Declaring.{declares_next as database_there}
 
 -- TARGETS WITHIN THE TABLES
 

@@ -6,7 +6,7 @@ use Rattle.ec_count.specs.Tables.{Tables, first_that, names_unknown}
 use Rattle.ec_count.specs.Members.{has_repeat, is_member}
 use Rattle.std.specs.List.{list_any}
 use Rattle.ec_count.specs.Names.{find_name}
-use Rattle.ec_count.specs.Roles.{roles_fault}
+use Rattle.ec_count.specs.Roles.{roles_fault, shares_worker as shares}
 use Rattle.ec_semaphore.specs.Shapes.{semaphore_fault}
 use Rattle.ec_semaphore.specs.declared.shape.TheConstants.{INITIAL_MAX}
 use Rattle.ec_text.specs.Words.{number_of}
@@ -26,7 +26,6 @@ use Rattle.ec_heading.specs.declared.heading.HeadFault.TheVariants as faults
 use Rattle.ec_heading.specs.Phrased.{IsSpelled, SecondFits, NumberFits, HasWords}
 use Rattle.ec_heading.proofs.shared.SortFacts.{zero_in_range, number_small}
 use Rattle.ec_heading.proofs.shared.Listed.{Named, HasNoWorker, no_worker-append, with_others, AreBelow, known_below, below_known, ids_below, ids_some}
-pub use Rattle.ec_count.specs.Roles.{shares_worker as shares}
 
 -- A LIST OF TESTS
 

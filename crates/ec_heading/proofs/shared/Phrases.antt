@@ -9,7 +9,7 @@ use Rattle.ec_heading.specs.Form.{Phrase, TwoLists, split_words, on_first, both_
 use Rattle.ec_heading.specs.Phrased.{HasWords, NameFits, number_part, NumberFits, second_part, SecondFits, behind_name, HasNoStop, IsSpelled}
 use Rattle.ec_heading.specs.declared.sort.Sort.{Sort}
 use Rattle.ec_heading.specs.declared.sort.Sort.TheVariants as sorts
-pub use Rattle.ec_text.proofs.shared.NumberLemmas.{guarded}
+use Rattle.ec_text.proofs.shared.NumberLemmas.{guarded}
 
 -- SMALL STEPS
 

@@ -10,7 +10,7 @@ use Rattle.ec_count.specs.declared.target.Target.TheVariants.{Worker, Event, Seq
 use Rattle.ec_heading.specs.Spelling.{word_of, cell_word, cell_in, first_of}
 use Rattle.ec_heading.specs.Spelled.{Named}
 use Rattle.ec_heading.proofs.shared.SpelledWords.{is_plain, IsPlainWord, AreWords, entry_found, entry_word, given_word, named_found}
-pub use Rattle.ec_heading.proofs.shared.OutlineNames.{same_itself as same_self}
+use Rattle.ec_heading.proofs.shared.OutlineNames.{same_itself as same_self}
 
 -- EACH THING HAS ONE NAME
 

@@ -26,7 +26,8 @@ use Rattle.ec_heading.specs.Kinds.{workers_fault, declaration_fault, declaration
 use Rattle.ec_heading.specs.Phrased.{HasWords}
 use Rattle.ec_heading.proofs.shared.Phrases.{parts_spelled}
 use Rattle.ec_heading.proofs.shared.Declarable.{Heads, heads_all, heads_opened, may_declare}
-use Rattle.ec_heading.proofs.shared.AddedObjects.{buffer_there, database_there, semaphore_there}
+use Rattle.ec_heading.proofs.shared.AddedObjects.{buffer_there, semaphore_there}
+use Rattle.ec_database.proofs.Declaring.{declares_next as database_there}
 use Rattle.ec_heading.proofs.shared.Each.{each_append, each_weaker}
 use Rattle.ec_heading.proofs.shared.OutlineGrows.{objects_grow}
 use Rattle.ec_heading.proofs.shared.ReadHeadings.{sound}

@@ -18,7 +18,8 @@ use Rattle.ec_machine.specs.Runs.{next_act, outcome_of}
 use Rattle.ec_machine.specs.Steps.{own}
 use Rattle.ec_runner.specs.Schedules.{Turn, AreTurns, with_answer, entries_of, refusal_or, refusal_told, outcome_after}
 use Rattle.ec_runner.specs.ScheduleLaws.{made, unrefused, IsMarked, IsRefusedWith, IsHistoryOf, IsMadeByTurns, HistoriesAreOfTurns, SchedulesHaveOneHistory, EndedHasNoHistory, EndedIsAfterAHistory}
-use Rattle.ec_runner.proofs.shared.InOrder.{get_early, some_none, timely, timely_more, worker_of, mark_of, mark_at, made_append, told_is, told_none, outcome_told, played_in_order, one_run, ended_not_played}
+use Rattle.ec_runner.proofs.shared.InOrder.{some_none, timely, timely_more, worker_of, mark_of, mark_at, made_append, told_is, told_none, outcome_told, played_in_order, one_run, ended_not_played}
+use Rattle.ec_core.proofs.shared.Joining.{get_front as get_early}
 
 -- LISTS
 

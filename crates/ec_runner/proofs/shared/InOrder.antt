@@ -20,7 +20,7 @@ use Rattle.ec_runner.specs.Schedules.{Turn, IsTurn, AreTurns, Plays, HasEnded, w
 use Rattle.ec_runner.specs.ScheduleLaws.{made, unrefused, IsMarked, IsPlace, IsRefusedWith, IsHistoryOf}
 use Rattle.ec_runner.proofs.Starting.{get_push}
 use Rattle.ec_runner.proofs.Turning.{none_told}
-pub use Rattle.ec_core.proofs.shared.Joining.{get_front as get_early}
+use Rattle.ec_core.proofs.shared.Joining.{get_front as get_early}
 use Rattle.ec_heading.proofs.shared.OutlineFound.{found_at as get_here}
 
 -- LISTS

@@ -42,7 +42,8 @@ use Rattle.ec_script.specs.Versioned.{HasOrder, HasOrders, HasPrograms}
 use Rattle.ec_script.specs.Confined.{IsConfined, AreConfined, IsPlan, AreConfinedPrograms}
 use Rattle.ec_script.proofs.Room.{NoFault, no_fault}
 use Rattle.ec_script.proofs.shared.Texts.{read_is_script}
-use Rattle.ec_script.proofs.shared.WrittenOut.{every_append, confined_lines, had_lines}
+use Rattle.ec_script.proofs.shared.WrittenOut.{confined_lines, had_lines}
+use Rattle.ec_heading.proofs.shared.Each.{each_append as every_append}
 use Rattle.ec_script.proofs.Declaring.{HeadKeeps, Grows, first_keeps, head_grows, ids_below}
 use Rattle.ec_script.proofs.Confining.{object_fits, IsProper, command_proper}
 

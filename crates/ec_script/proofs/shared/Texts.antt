@@ -12,7 +12,8 @@ use Rattle.ec_script.specs.declared.stage.Stage.TheVariants.{Opening}
 use Rattle.ec_script.specs.Scripted.{Planned}
 use Rattle.ec_script.specs.Reading.{step}
 use Rattle.ec_script.specs.Outcome.{Parsed, parts_of, plan_in, finished, taken, goes, outcome, first_of, long_kind}
-use Rattle.ec_script.specs.Grammar.{text_of, IsLine, Leads, IsScript, IsRefused, IsCutOff, IsFirstFault}
+use Rattle.ec_script.specs.Grammar.{IsLine, Leads, IsScript, IsRefused, IsCutOff, IsFirstFault}
+use Rattle.ec_heading.specs.Spelling.{text_of}
 use Rattle.ec_script.proofs.Lines.{has_first, goes_line, goes_rest}
 
 -- A SCRIPT IS READ

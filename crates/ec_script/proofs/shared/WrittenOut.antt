@@ -18,7 +18,7 @@ use Rattle.ec_script.specs.declared.order.Order.TheVariants.{Do, Write, Begin, E
 use Rattle.ec_script.specs.Flat.{flat, flat_one, flat_step, all_of}
 use Rattle.ec_script.specs.Versioned.{has_command, HasOrder, HasOrders, HasPrograms}
 use Rattle.ec_script.specs.Confined.{UsesGroups, IsConfined, AreConfined, AreConfinedPrograms}
-pub use Rattle.ec_heading.proofs.shared.Each.{each_append as every_append}
+use Rattle.ec_heading.proofs.shared.Each.{each_append as every_append}
 
 -- LISTS
 

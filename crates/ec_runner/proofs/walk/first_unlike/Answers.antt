@@ -1,8 +1,8 @@
 use Rattle.std.proofs.Common.{◌≡◌, ◌<◌, List, length, sym, ◌∙◌, ap, ◌++◌, subst, arith}
 use Rattle.ec_core.specs.declared.act.Entry.{Entry}
-use Rattle.ec_machine.proofs.shared.OwnSteps.{order_more}
+use Rattle.ec_machine.proofs.shared.OwnSteps.{order_more, entry_next as entry_there}
 use Rattle.ec_runner.specs.Walks.{AreLogsOf, IsUnlike}
-use Rattle.ec_runner.proofs.Walking.{all_walked, append_none, entry_there, is_declared, then_match, unfinished, unlike_there}
+use Rattle.ec_runner.proofs.Walking.{all_walked, append_none, is_declared, then_match, unfinished, unlike_there}
 use Rattle.ec_runner.proofs.walk.first_unlike.Goals as goal
 
 pub goes_on-requires : goal.goes_on-requires

@@ -5,7 +5,8 @@ use Rattle.ec_trace.specs.declared.fault.LineFault.TheVariants as line_faults
 use Rattle.ec_trace.specs.Histories.{Enters, history_of}
 use Rattle.ec_trace.specs.Recounted.{Recounted}
 use Rattle.ec_trace.specs.Step.{same_reply}
-use Rattle.ec_trace.proofs.EntrySteps.{other_version, entry_refused, reply_wrong, entry_right, entry_answered, is_same}
+use Rattle.ec_trace.proofs.EntrySteps.{other_version, entry_refused, reply_wrong, entry_right, entry_answered}
+use Rattle.ec_trace.proofs.ReadRuns.{same_is as is_same}
 use Rattle.ec_trace.proofs.read.enter.Goals as goal
 
 pub returns-then-not-can_spell : goal.returns-then-not-can_spell
