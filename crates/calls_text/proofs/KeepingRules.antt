@@ -49,7 +49,7 @@ use Rattle.calls_text.proofs.PhraseWords.{SaysAnswer}
 use Rattle.calls_text.proofs.CallLines.{numbers_length, not_back}
 use Rattle.calls_text.proofs.TakenEvents.{one_given}
 use Rattle.calls_text.proofs.EventParts.{IsCall, IsReturn, suited}
-use Rattle.calls_text.proofs.Coming.{none_of as none_back}
+use Rattle.ec_heading.proofs.shared.Declarable.{is_none_from as none_back}
 
 -- NUMBERS
 
