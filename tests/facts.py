@@ -39,7 +39,7 @@ LIMITS = {
     ],
     "commands of a worker; its steps in `run`; names in a schedule": [
         ("ec_machine/src/limits.rt", r"COMMANDS_MAX: usize = ([\d_]+)"),
-        ("evc_task/src/line.rt", r"range\(1\.\.=([\d_]+)\)"),
+        ("evc_cli/src/line.rt", r"range\(1\.\.=([\d_]+)\)"),
         ("ec_script/src/kinds.rt", r"SCHEDULE_MAX: usize = ([\d_]+)"),
     ],
     "bytes of a name; of a line without LF; of a script": [
@@ -75,7 +75,7 @@ STATUSES = {
     "NOT_DECIDED": "NotDecided",
 }
 # The completions of a program, beside the source of its help.
-COMPLETED = {"evc": "evc_task", "evc-calls": "evc_calls_task"}
+COMPLETED = {"evc": "evc_cli", "evc-calls": "evc_calls_cli"}
 
 
 def read(*path):
@@ -235,7 +235,7 @@ def faults_of_summaries():
 
 def faults_of_options():
     """Looks for the options of evc-draw, by its help, in REFERENCE and in its completions."""
-    options = re.findall(r'"([a-z]+)", help::', read("crates/evc_draw_task/src/line.rt"))
+    options = re.findall(r'"([a-z]+)", help::', read("crates/evc_draw_cli/src/line.rt"))
     page = section("REFERENCE.md", "## Pictures")
     for name in options:
         if f"`--{name}" not in page and name not in ("help", "version"):

@@ -11,7 +11,7 @@ const ROUND: u64 = 6;
 pub(crate) struct Sums {
     pub(crate) total: u64,
     pub(crate) issued: u64,
-    pub(crate) told: u64,
+    pub(crate) returned: u64,
 }
 
 /// What steps are made on.
@@ -54,10 +54,10 @@ fn round<S: Steps>(steps: &mut S, objects: &Objects, worker: WorkerId) -> Option
 /// Makes at least so many steps, in whole rounds by each worker in turn, and returns the sum of the
 /// numbers that they return.
 pub(crate) fn many<S: Steps>(steps: &mut S, objects: &Objects, count: u64) -> Option<u64> {
-    let mut told = 0u64;
+    let mut returned = 0u64;
     for i in 0..count.div_ceil(ROUND) {
         let worker = objects.workers[(i % 4) as usize];
-        told = told.wrapping_add(round(steps, objects, worker)?);
+        returned = returned.wrapping_add(round(steps, objects, worker)?);
     }
-    Some(told)
+    Some(returned)
 }

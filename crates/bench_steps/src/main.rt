@@ -15,23 +15,23 @@ use std::{env, io};
 /// Returns the steps of a world.
 fn on_world(objects: Objects, steps: u64) -> Option<Sums> {
     let mut world = World::open(objects.setup.copy());
-    let told = many(&mut world, &objects, steps)?;
+    let returned = many(&mut world, &objects, steps)?;
     Some(Sums {
         total: world.total(objects.event)?,
         issued: world.issued(objects.sequencer)?,
-        told,
+        returned,
     })
 }
 
 /// Returns the steps of a recorded run.
 fn on_run(alloc: Global, objects: Objects, steps: u64) -> Option<Sums> {
     let mut run = Run::open(alloc, objects.setup.copy()).ok()?;
-    let told = many(&mut run, &objects, steps)?;
+    let returned = many(&mut run, &objects, steps)?;
     let world = run.world();
     Some(Sums {
         total: world.total(objects.event)?,
         issued: world.issued(objects.sequencer)?,
-        told,
+        returned,
     })
 }
 
@@ -55,12 +55,12 @@ fn main(rt: HostRuntime) -> io::Result<ExitCode> {
         Sums {
             total,
             issued,
-            told,
+            returned,
         },
     ) = sums(rt.alloc(), words?.as_slice())
     else {
         return Ok(ExitCode::from(2));
     };
-    println!(rt; "{total} {issued} {told}")?;
+    println!(rt; "{total} {issued} {returned}")?;
     Ok(ExitCode::from(0))
 }

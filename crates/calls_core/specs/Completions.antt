@@ -70,5 +70,5 @@ abbrev pub settled_last : ℕ → ℕ → ℕ → ℕ
 settled_last m t n = if nat_lt n m then n else t
 
 -- the call; if its response is at position m or later, that counts as one at t
-abbrev pub settled : ℕ → ℕ → Call → Call
-settled m t c = with_last c (settled_last m t c.last)
+abbrev pub settle_call : ℕ → ℕ → Call → Call
+settle_call m t c = with_last c (settled_last m t c.last)

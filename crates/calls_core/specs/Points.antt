@@ -10,11 +10,11 @@ use Rattle.calls_core.specs.Linearizations.{set_at, IsLinearOrder}
 
 -- the point of a call is right after the latest invocation among those of its object's calls up to
 -- it. s has the point of the last call of each object
-abbrev pub placed : (ℕ → ℕ) → List Call → List Placed
-placed s [] = []
-placed s (c ∷ cs) =
+abbrev pub with_points : (ℕ → ℕ) → List Call → List Placed
+with_points s [] = []
+with_points s (c ∷ cs) =
     record { point = max (s c.object) (c.first + 1); call = c } ∷
-    placed (set_at c.object (max (s c.object) (c.first + 1)) s) cs
+    with_points (set_at c.object (max (s c.object) (c.first + 1)) s) cs
 
 -- the same of the calls of one object, if n is the point of the last one
 abbrev pub placed_one : ℕ → List Call → List Placed
@@ -53,8 +53,8 @@ pub record ArePlacedOne (latest : ℕ) (ps : List Placed) : Type 0 where
   pub last : latest ≡ last_point 0 (calls_of ps)
 
 -- a list of the calls of many objects that is in order for each, in an order for all
-abbrev pub merged : List Call → List Call
-merged cs = calls_of (by_points (placed (λ k. 0) cs))
+abbrev pub merge_calls : List Call → List Call
+merge_calls cs = calls_of (by_points (with_points (λ k. 0) cs))
 
 -- a linear order in which each call has a point of its own time, and the points ascend
 pub record IsPlacedOrder (Run : List Call → Type 0) (done : List Call) (pending : List PendingCall)

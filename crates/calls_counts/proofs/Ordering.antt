@@ -16,7 +16,7 @@ use Rattle.calls_core.specs.declared.history.Op.TheVariants.{Advance}
 use Rattle.calls_core.specs.declared.history.Reply.TheVariants.{Done}
 use Rattle.calls_core.specs.declared.history.Call.{Call}
 use Rattle.calls_counts.specs.declared.state.Slot.{Slot}
-use Rattle.calls_counts.specs.declared.state.Noted.{Noted}
+use Rattle.calls_counts.specs.declared.state.NotedCall.{NotedCall}
 use Rattle.calls_counts.specs.declared.state.PlacedRead.{PlacedRead}
 use Rattle.calls_counts.specs.CountRuns.{CountGives, count_after, IsCountRun, IsCountOrder}
 use Rattle.calls_counts.specs.Faults.{is_advance}
@@ -332,7 +332,7 @@ all_taken f n i (s ∷ slots) e h = (
     go (Some c) some = refl
 
 pub legal_order : (start : ℕ) (calls : List Call) (t a : ℕ) (slots : List Slot)
-    (pending : List Noted) (reads : List PlacedRead) (cs : List Call)
+    (pending : List NotedCall) (reads : List PlacedRead) (cs : List Call)
     → IsState start calls t a slots pending reads → Each (λ (s : Slot). free s.taken ≡ false) slots
     → IsOrdering slots reads cs
     → IsCountOrder start calls cs

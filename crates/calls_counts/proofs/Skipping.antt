@@ -7,7 +7,7 @@ use Rattle.std.proofs.lemmas.List.{get_or-set_same, get_or-set_other, set_past, 
 use Rattle.std.proofs.lemmas.Option.{get_or_from_slice_get, same_Some}
 use Rattle.calls_core.specs.declared.history.Call.{Call}
 use Rattle.calls_counts.specs.declared.state.Slot.{Slot}
-use Rattle.calls_counts.specs.Scanning.{filled, IsFilled, Skips}
+use Rattle.calls_counts.specs.Scanning.{slot_of_call, IsFilled, Skips}
 use Rattle.calls_counts.proofs.Searching.{FreeAt}
 
 -- no slot is free from a place up to another
@@ -89,25 +89,25 @@ skips_filled old new next n c f k = record {
     k.within i,
     ap length f.was,
     ap length f.is,
-    length-append f.front
+    length-append f.prefix
         (f.slot ∷ f.back),
-    length-append f.front (filled f.slot.moment c ∷ f.back),
+    length-append f.prefix (slot_of_call f.slot.moment c ∷ f.back),
   );
   none = λ i j s low high at free.
-      (let r = was_free f.front f.slot f.slot.moment c f.back j s
+      (let r = was_free f.prefix f.slot f.slot.moment c f.back j s
       (ap (λ zs. slice_get zs j) (sym f.is) ∙ at) free in
       k.none i j s low high (ap (λ zs. slice_get zs j) f.was ∙ r) free);
 }
   where
-    was_free : (front : List Slot) (x : Slot) (m : ℕ) (c : Call) (back : List Slot) (j : ℕ)
-        (s : Slot) → slice_get (front ++ filled m c ∷ back) j ≡ Some s → s.taken ≡ None
-        → slice_get (front ++ x ∷ back) j ≡ Some s
-    was_free [] x m c back zero s at free = (let same : filled m c ≡ s =
-        same_Some (filled m c) s at in let none : Some c ≡ None =
+    was_free : (prefix : List Slot) (x : Slot) (m : ℕ) (c : Call) (back : List Slot) (j : ℕ)
+        (s : Slot) → slice_get (prefix ++ slot_of_call m c ∷ back) j ≡ Some s → s.taken ≡ None
+        → slice_get (prefix ++ x ∷ back) j ≡ Some s
+    was_free [] x m c back zero s at free = (let same : slot_of_call m c ≡ s =
+        same_Some (slot_of_call m c) s at in let none : Some c ≡ None =
         ap (λ (z : Slot). z.taken) same ∙ free in absurd (cc))
     was_free [] x m c back (suc j) s at free = at
-    was_free (y ∷ front) x m c back zero s at free = at
-    was_free (y ∷ front) x m c back (suc j) s at free = was_free front x m c back j s at free
+    was_free (y ∷ prefix) x m c back zero s at free = at
+    was_free (y ∷ prefix) x m c back (suc j) s at free = was_free prefix x m c back j s at free
 
 pub skips_longer : (old new more : List Slot) (next : List ℕ) → new ≡ old ++ more → Skips old next
     → Skips new next

@@ -7,7 +7,7 @@ use Rattle.calls_core.specs.declared.history.Kind.TheVariants.{Eventcount}
 use Rattle.calls_core.specs.declared.history.Event.{Event}
 use Rattle.calls_core.specs.declared.history.Call.{Call}
 use Rattle.calls_counts.specs.declared.state.Slot.{Slot}
-use Rattle.calls_counts.specs.declared.state.Noted.{Noted}
+use Rattle.calls_counts.specs.declared.state.NotedCall.{NotedCall}
 use Rattle.calls_counts.specs.declared.state.PlacedRead.{PlacedRead}
 use Rattle.calls_counts.specs.declared.fault.Fault.{Fault}
 use Rattle.calls_counts.specs.declared.fault.Fault.TheVariants.{Below, Few, Many, Since}
@@ -26,8 +26,8 @@ use Rattle.calls_core.specs.Lists.{Each, EachFrom, EachPair}
 use Rattle.calls_counts.specs.ScanStates.{noted_calls, taken_calls, placed_calls, moments, IsState}
 
 -- the pending call of a worker is at index i
-pub record IsCallAt (pending : List Noted) (w i : ℕ) : Type 0 where
-  pub call : Noted
+pub record IsCallAt (pending : List NotedCall) (w i : ℕ) : Type 0 where
+  pub call : NotedCall
   pub at : slice_get pending i ≡ Some call
   pub first : pending_of w (noted_calls pending) ≡ Some call.call
   pub others : without w (noted_calls pending) ≡ noted_calls (remove pending i)
@@ -56,19 +56,19 @@ pub record Skips (slots : List Slot) (next : List ℕ) : Type 0 where
   pub none : (i j : ℕ) (s : Slot) → i ≤ j → j < slice_index next i → slice_get slots j ≡ Some s
       → s.taken ≡ None → ⊥
 
-abbrev pub filled : ℕ → Call → Slot
-filled m c = record { moment = m; taken = Some c }
+abbrev pub slot_of_call : ℕ → Call → Slot
+slot_of_call m c = record { moment = m; taken = Some c }
 
 -- the first slot that was free from place n on is taken by c, and the others are as they were
 pub record IsFilled (old new : List Slot) (n : ℕ) (c : Call) : Type 0 where
-  pub front : List Slot
+  pub prefix : List Slot
   pub slot : Slot
   pub back : List Slot
-  pub was : old ≡ front ++ slot ∷ back
-  pub is : new ≡ front ++ filled slot.moment c ∷ back
+  pub was : old ≡ prefix ++ slot ∷ back
+  pub is : new ≡ prefix ++ slot_of_call slot.moment c ∷ back
   pub none : slot.taken ≡ None
-  pub low : n ≤ length front
-  pub below : NoneFree front n
+  pub low : n ≤ length prefix
+  pub below : NoneFree prefix n
 
 -- the invocation of a slot's advance, if its response is before position d
 abbrev pub invoked_before : ℕ → Option Call → Option ℕ
@@ -163,7 +163,7 @@ IsRefused start begun noted call slots reads f = IsWrong start begun call f
 -- THE SCAN
 
 pub record Holds (start : ℕ) (past : List Event) (begun : ℕ) (slots : List Slot)
-    (pending : List Noted) (reads : List PlacedRead) : Type 0 where
+    (pending : List NotedCall) (reads : List PlacedRead) : Type 0 where
   pub state : IsState start (completed_calls past) (clock past) begun slots pending reads
   pub begun_is : begun ≡ advances_invoked past
   pub pending_is : noted_calls pending ≡ pending_calls past
@@ -179,23 +179,23 @@ TakesIn start old new x fault = (past : List Event) → IsHistoryOf (Eventcount 
     (Shows start (x ∷ past))
 
 -- no slot is free from place u.noted on, if the call is an advance
-abbrev pub IsIdle : List Slot → Noted → Type 0
+abbrev pub IsIdle : List Slot → NotedCall → Type 0
 IsIdle slots u = is_advance u.call.op ≡ true → NoneFree slots u.noted
 
 -- of the pending calls in front some are answered and the others kept, and those in back are still
 -- to come
 pub record IsCompleting (start end : ℕ) (calls : List Call) (begun : ℕ) (slots : List Slot)
-    (reads : List PlacedRead) (front back : List Noted) : Type 0 where
+    (reads : List PlacedRead) (prefix back : List NotedCall) : Type 0 where
   pub answer : PendingCall → Option Reply
   pub answered : List Call
-  pub kept : List Noted
-  pub moved : IsPermutation (answered_calls end answer (noted_calls front)) answered
+  pub kept : List NotedCall
+  pub moved : IsPermutation (answered_calls end answer (noted_calls prefix)) answered
   pub state : IsState start (answered ++ calls) (end + 1) begun slots (kept ++ back) reads
   pub early : Each (λ m. m ≤ end) (moments slots)
   pub idle : Each (IsIdle slots) kept
 
 -- pending advances take the free slots as if they had their responses at end
-abbrev pub Completes : List Slot → List Slot → List ℕ → List Noted → ℕ → Type 0
+abbrev pub Completes : List Slot → List Slot → List ℕ → List NotedCall → ℕ → Type 0
 Completes slots later next pending end =
     Skips slots next → (start : ℕ) (calls : List Call) (t begun : ℕ) (reads : List PlacedRead)
     → t ≤ end → EachPair Earlier (noted_calls pending) → IsState start calls t begun slots pending

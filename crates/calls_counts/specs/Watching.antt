@@ -6,7 +6,7 @@ use Rattle.calls_core.specs.declared.history.TheConstants.{WORKERS}
 use Rattle.calls_core.specs.declared.history.Event.{Event}
 use Rattle.calls_core.specs.declared.history.Call.{Call}
 use Rattle.calls_counts.specs.declared.state.Slot.{Slot}
-use Rattle.calls_counts.specs.declared.state.Noted.{Noted}
+use Rattle.calls_counts.specs.declared.state.NotedCall.{NotedCall}
 use Rattle.calls_counts.specs.declared.state.PlacedRead.{PlacedRead}
 use Rattle.calls_counts.specs.declared.monitor.Refusal.{Refusal}
 use Rattle.calls_counts.specs.declared.monitor.Refusal.TheVariants.{Below, Few, Many}
@@ -40,7 +40,7 @@ free_places i (s ∷ slots) = own_place i s.taken (free_places (i + 1) slots)
 -- some slots and reads that the scan would keep, of which only the number of slots and the places
 -- of the free ones are kept
 pub record Watching (start : ℕ) (past : List Event) (begun total : ℕ) (free : List ℕ)
-    (pending : List Noted) : Type 0 where
+    (pending : List NotedCall) : Type 0 where
   pub slots : List Slot
   pub reads : List PlacedRead
   pub holds : Holds start past begun slots pending reads

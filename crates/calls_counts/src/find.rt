@@ -6,12 +6,12 @@ ghost use Rattle.calls_counts.specs.ScanStates.{noted_calls};
 ghost use Rattle.calls_counts.specs.Scanning.{IsCallAt, NoneFree, IsFirstFree, IsFilled, Skips};
 ghost use Rattle.calls_counts.specs.Faults.{is_advance, least, most, Contradicts};
 
-use crate::{Noted, Slot};
+use crate::{NotedCall, Slot};
 use calls_core::{Call, Op, Reply};
 use std::alloc::AllocError;
 
 /// Finds the pending call of a worker.
-pub fn find(pending: &[Noted], worker: usize) -> Option<usize>
+pub fn find(pending: &[NotedCall], worker: usize) -> Option<usize>
     ensures { MatchOption result (pending_of worker (noted_calls pending.now) ≡ None)
         (IsCallAt pending.now worker) }
 {

@@ -6,7 +6,7 @@ ghost use Rattle.calls_core.specs.declared.history.Action.TheVariants.{Invoke, R
 ghost use Rattle.calls_counts.specs.Monitors.{Starts, HasRoom, Judges};
 ghost use Rattle.calls_counts.specs.Watching.{places, AllBelow, IsFirstPlace, IsJudged};
 
-use crate::Noted;
+use crate::NotedCall;
 use crate::find::{contradicts, find, is_advance, least, most};
 use arrayvec::ArrayVec;
 use calls_core::{Action, Call, Event, Op, PendingCall, Reply, WORKERS};
@@ -23,7 +23,7 @@ pub struct Monitor {
     /// The places of those advances that no response accounts for yet, in ascending order.
     pub free: ArrayVec<usize, WORKERS>,
     /// The pending calls.
-    pub pending: ArrayVec<Noted, WORKERS>,
+    pub pending: ArrayVec<NotedCall, WORKERS>,
 }
 
 /// Why a history has no linearization: a read or an await with this response is impossible.
@@ -48,7 +48,7 @@ pub enum Refusal {
 }
 
 /// Adds a pending call.
-fn begin(pending: &mut ArrayVec<Noted, WORKERS>, call: Noted)
+fn begin(pending: &mut ArrayVec<NotedCall, WORKERS>, call: NotedCall)
     requires { array_vec_len pending.old < WORKERS }
     ensures { pending.new.items ≡ pending.old.items ++ call ∷ [] }
 {
@@ -127,7 +127,7 @@ impl Monitor {
             first: event.at,
         };
         let noted = self.total;
-        begin(&mut self.pending, Noted { call, noted });
+        begin(&mut self.pending, NotedCall { call, noted });
         if is_advance(op) {
             self.begun += 1;
         }

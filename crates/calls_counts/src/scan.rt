@@ -9,7 +9,7 @@ ghost use Rattle.calls_counts.specs.Outcomes.{IsOutcome};
 use crate::find::{fill, find, grow, is_advance};
 use crate::observe::observe;
 use crate::untaken::{complete, order};
-use crate::{Fault, Noted, Outcome, PlacedRead, Slot};
+use crate::{Fault, NotedCall, Outcome, PlacedRead, Slot};
 use calls_core::{Action, Call, Event, Op, Part, PendingCall, Reply};
 use std::alloc::{AllocError, Global};
 
@@ -23,7 +23,7 @@ pub struct Scan {
     /// For each slot a place up to which none is free.
     pub next: Vec<usize>,
     /// The pending calls.
-    pub pending: Vec<Noted>,
+    pub pending: Vec<NotedCall>,
     /// The completed reads and awaits.
     pub reads: Vec<PlacedRead>,
 }
@@ -41,7 +41,7 @@ fn invoke(scan: &mut Scan, event: Event, object: usize, op: Op) -> Result<(), Al
         first: event.at,
     };
     let noted = scan.slots.len();
-    scan.pending.push(Noted { call, noted })?;
+    scan.pending.push(NotedCall { call, noted })?;
     if is_advance(op) {
         scan.begun += 1;
     }

@@ -13,7 +13,7 @@ pub struct Slot {
 
 /// A pending call, with what was known at its invocation.
 #[derive(Clone, Copy, Debug, Default, PartialEq, Eq)]
-pub struct Noted {
+pub struct NotedCall {
     /// The call.
     pub call: PendingCall,
     /// How many slots there were at its invocation.

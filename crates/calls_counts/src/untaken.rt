@@ -6,12 +6,12 @@ ghost use Rattle.calls_counts.specs.Orders.{reads_at, order_from, IsOrdering, Is
 ghost use Rattle.calls_counts.specs.Scanning.{Completes};
 
 use crate::find::{fill, is_advance};
-use crate::{Noted, PlacedRead, Slot};
+use crate::{NotedCall, PlacedRead, Slot};
 use calls_core::{Call, PlacedCalls, Reply};
 use std::alloc::{AllocError, Global};
 
 /// Lets pending advances take the free slots, as if they had their responses at `end`.
-pub fn complete(slots: &mut Vec<Slot>, next: &mut Vec<usize>, pending: &[Noted], end: usize)
+pub fn complete(slots: &mut Vec<Slot>, next: &mut Vec<usize>, pending: &[NotedCall], end: usize)
     ensures { Completes slots.old.items slots.new.items next.old.items pending.now end }
 {
     for u in pending {

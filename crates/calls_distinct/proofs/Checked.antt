@@ -22,7 +22,7 @@ use Rattle.calls_core.proofs.Lists.{all_from_each, each_pair_map, all_pairs_from
 use Rattle.calls_core.proofs.Counting.{count_append}
 use Rattle.calls_distinct.specs.declared.zone.Zone.{Zone}
 use Rattle.calls_distinct.specs.declared.cell.Fault.TheVariants.{Stale, Alternate}
-use Rattle.calls_distinct.specs.Cells.{is_put, value_of, value, put_call, put_pending, times}
+use Rattle.calls_distinct.specs.Cells.{is_put, value_put_or_returned, value, put_call, put_pending, times}
 use Rattle.calls_distinct.specs.Cells.{AreDistinct, put_by, put_pending_by}
 use Rattle.calls_distinct.specs.Cells.{IsBegun, ShowsOf, gets, is_got}
 use Rattle.calls_distinct.specs.Zones.{store_answer, all_of, IsZone, zone_calls}
@@ -99,10 +99,11 @@ into_answered t answer (p ∷ os) o r (suc k, lt, e) returned =
     ) returned)
 
 store_answer_is : (done : List Call) (o : PendingCall) (r : Reply) → store_answer done o ≡ Some r
-    → (is_put o.op ≡ true) × (is_got done (value_of o.op Done) ≡ true) × (r ≡ Done)
+    → (is_put o.op ≡ true) × (is_got done (value_put_or_returned o.op Done) ≡ true) × (r ≡ Done)
 store_answer_is done o r e =
-    elim (either (is_put o.op && is_got done (value_of o.op Done))) [
-      | inl b ↦ (let p = and_parts (is_put o.op) (is_got done (value_of o.op Done)) b in
+    elim (either (is_put o.op && is_got done (value_put_or_returned o.op Done))) [
+      | inl b ↦ (let p =
+          and_parts (is_put o.op) (is_got done (value_put_or_returned o.op Done)) b in
           let s : Some Done ≡ Some r = sym (ap (λ y. cond y (Some Done) None) b) ∙ e in
           (p.0, p.1, cc))
       | inr b ↦ (let s : None ≡ Some r = sym (ap (λ y. cond y (Some Done) None) b) ∙ e in cc)
@@ -325,7 +326,7 @@ module _ (done : List Call) (pending : List PendingCall) (t : ℕ)
                 r.2).0 in
                 let a : store_answer done o ≡ Some Done =
                 ap (λ y. cond y (Some Done) None) (and_from (is_put o.op)
-                (is_got done (value_of o.op Done)) p.0
+                (is_got done (value_put_or_returned o.op Done)) p.0
                 (ap (is_got done) p.1 ∙ got_one g kd get)) in (
                   completion t Done o,
                   Contains-append_left

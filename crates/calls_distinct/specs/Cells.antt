@@ -39,17 +39,17 @@ returned_value (Number n) = n
 returned_value _ = 0
 
 -- what is put, or returned
-abbrev pub value_of : Op → Reply → ℕ
-value_of (Put v) r = v
-value_of Get r = returned_value r
-value_of _ r = 0
+abbrev pub value_put_or_returned : Op → Reply → ℕ
+value_put_or_returned (Put v) r = v
+value_put_or_returned Get r = returned_value r
+value_put_or_returned _ r = 0
 
 abbrev pub value : Call → ℕ
-value c = value_of c.op c.reply
+value c = value_put_or_returned c.op c.reply
 
 -- whether an operation is a put of v
 abbrev pub puts : ℕ → Op → Bool
-puts v op = is_put op && (value_of op Done == v)
+puts v op = is_put op && (value_put_or_returned op Done == v)
 
 abbrev pub put_call : ℕ → Call → Bool
 put_call v c = puts v c.op

@@ -11,7 +11,7 @@ pub record Group : Type 0 where
   pub late : Call
 
 -- a call, and what is known of the calls of its value
-pub record Grouped : Type 0 where
+pub record GroupedCall : Type 0 where
   pub call : Call
   pub group : Group
 

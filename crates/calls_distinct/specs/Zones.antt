@@ -16,7 +16,7 @@ use Rattle.calls_core.specs.Linearizations.{answered_calls, Precedes, KeepsOrder
 use Rattle.calls_distinct.specs.declared.zone.Zone.{Zone}
 use Rattle.calls_distinct.specs.declared.cell.Fault.{Fault}
 use Rattle.calls_distinct.specs.declared.cell.Fault.TheVariants.{Stale, Alternate}
-use Rattle.calls_distinct.specs.Cells.{is_put, value_of, value, gets, is_got}
+use Rattle.calls_distinct.specs.Cells.{is_put, value_put_or_returned, value, gets, is_got}
 
 -- WHICH CALLS TAKE EFFECT
 
@@ -30,7 +30,8 @@ begun_calls done pending t = reverse done ++ answered_calls t put_answer pending
 
 -- a pending put of a value that was got takes effect, and no other pending call
 abbrev pub store_answer : List Call → PendingCall → Option Reply
-store_answer done o = if is_put o.op && is_got done (value_of o.op Done) then Some Done else None
+store_answer done o =
+    if is_put o.op && is_got done (value_put_or_returned o.op Done) then Some Done else None
 
 abbrev pub all_of : List Call → List PendingCall → ℕ → List Call
 all_of done pending t = answered_calls t (store_answer done) pending ++ done
@@ -95,11 +96,11 @@ abbrev pub crossing_fault : Zone → Zone → Fault
 crossing_fault x z =
     if gets 0 x.call then Stale z.call x.call else Alternate x.early z.late z.call x.call
 
-abbrev pub KeptZones : Zone → Zone → Type 0
-KeptZones x z = KeepsOrder x.call z.call
+abbrev pub KeepZoneOrder : Zone → Zone → Type 0
+KeepZoneOrder x z = KeepsOrder x.call z.call
 
 abbrev pub IsCrossing : List Zone → Option (Zone × Zone) → Type 0
-IsCrossing zs None = EachPair KeptZones zs
+IsCrossing zs None = EachPair KeepZoneOrder zs
 IsCrossing zs (Some p) = AreCrossed zs p.0 p.1
 
 -- one of these whose invocation is latest

@@ -8,12 +8,12 @@ ghost use Rattle.calls_distinct.specs.Cells.{IsStore, IsStoreHistory, IsDistinct
 ghost use Rattle.calls_distinct.specs.Outcomes.{IsOutcome};
 ghost use Rattle.calls_distinct.specs.Verdicts.{AreGroupedOf, IsVerdict};
 
-use crate::groups::{grouped, groups_of};
+use crate::groups::{group_calls, groups_of};
 use crate::history::calls_in;
 use crate::reading::value;
 use crate::testing::first_repeated;
 use crate::verdict::{Verdict, judge};
-use crate::zone::Grouped;
+use crate::zone::GroupedCall;
 use crate::{Fault, Outcome};
 use calls_core::Part;
 use std::alloc::{AllocError, Global};
@@ -31,7 +31,7 @@ fn judge_beginning(alloc: Global, events: &Part<'_, '_>, n: usize) -> Result<Ver
     let beginning = events.first(n);
     let calls = calls_in(alloc, &beginning, end)?;
     let groups = groups_of(alloc, &calls)?;
-    let zs = grouped(alloc, &calls, &groups)?;
+    let zs = group_calls(alloc, &calls, &groups)?;
     judge(alloc, &zs, end)
 }
 
@@ -68,7 +68,7 @@ fn first_fault(
 fn decide_grouped(
     alloc: Global,
     events: &Part<'_, '_>,
-    zs: &[Grouped<'_, '_>],
+    zs: &[GroupedCall<'_, '_>],
     end: usize,
 ) -> Result<Outcome, AllocError>
     requires history { IsStoreHistory (reverse events.now) }
@@ -100,6 +100,6 @@ pub fn decide(alloc: Global, events: &Part<'_, '_>, end: usize) -> Result<Outcom
 {
     let calls = calls_in(alloc, events, end)?;
     let groups = groups_of(alloc, &calls)?;
-    let zs = grouped(alloc, &calls, &groups)?;
+    let zs = group_calls(alloc, &calls, &groups)?;
     decide_grouped(alloc, events, &zs, end)
 }

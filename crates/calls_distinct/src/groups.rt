@@ -9,7 +9,7 @@ ghost use Rattle.calls_distinct.specs.Groups.{earlier, later, with_call, IsGroup
 ghost use Rattle.calls_distinct.specs.Groups.{AreGroups, AreGrouped};
 
 use crate::reading::{is_put, value};
-use crate::zone::{Group, Grouped};
+use crate::zone::{Group, GroupedCall};
 use calls_core::Call;
 use std::alloc::{AllocError, Global};
 use std::collections::HashMap;
@@ -98,18 +98,18 @@ pub(crate) fn groups_of(
 }
 
 /// Finds the group of each call.
-pub(crate) fn grouped<'g, 'a>(
+pub(crate) fn group_calls<'g, 'a>(
     alloc: Global,
     calls: &'a [Call],
     groups: &'g HashMap<usize, Group<'a>>,
-) -> Result<Vec<Grouped<'g, 'a>>, AllocError>
+) -> Result<Vec<GroupedCall<'g, 'a>>, AllocError>
     requires { AreGroups calls.now (get nat_eq groups.now) }
     ensures { IfOk result (λ v. AreGrouped calls.now calls.now v.items) }
 {
     let mut out = Vec::new(alloc);
     for call in calls {
         if let Some(group) = groups.get(&value(call)) {
-            out.push(Grouped { call, group })?;
+            out.push(GroupedCall { call, group })?;
         }
     }
     Ok(out)

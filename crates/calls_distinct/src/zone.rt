@@ -33,17 +33,17 @@ impl<'a> Model for Group<'a> {
 
 /// A call, and what is known of the calls of its value.
 #[derive(Debug, Drop)]
-pub(crate) struct Grouped<'g, 'a> {
+pub(crate) struct GroupedCall<'g, 'a> {
     /// The call.
     pub call: &'a Call,
     /// The calls of its value.
     pub group: &'g Group<'a>,
 }
 
-impl<'g, 'a> Model for Grouped<'g, 'a> {
+impl<'g, 'a> Model for GroupedCall<'g, 'a> {
     ghost use Rattle.calls_distinct.specs.Records as records;
 
-    ghost Value = { records.Grouped };
+    ghost Value = { records.GroupedCall };
 
     ghost view = { λ z. record { call = z.call.now; group = z.group.now } };
 }

@@ -6,7 +6,7 @@ ghost use Rattle.calls_distinct.specs.Zones.{key, rank, zone_cmp, NotAfter};
 ghost use Rattle.calls_distinct.specs.Groups.{takes_effect, zone_of, zones_of};
 
 use crate::reading::{gets, is_put, value};
-use crate::zone::{Grouped, Zone};
+use crate::zone::{GroupedCall, Zone};
 use calls_core::Call;
 use std::alloc::{AllocError, Global};
 use std::cmp::Ordering;
@@ -43,7 +43,7 @@ fn compare(x: &Zone, y: &Zone) -> Ordering
 }
 
 /// Returns whether this is a completed call, or a pending put of a value that was got.
-fn takes_effect(end: usize, z: &Grouped) -> bool
+fn takes_effect(end: usize, z: &GroupedCall) -> bool
     ensures { result ≡ takes_effect end z.now }
 {
     let group = z.group;
@@ -51,7 +51,7 @@ fn takes_effect(end: usize, z: &Grouped) -> bool
 }
 
 /// Returns the zone of a call.
-fn zone_of<'a>(z: &Grouped<'_, 'a>) -> Zone<'a>
+fn zone_of<'a>(z: &GroupedCall<'_, 'a>) -> Zone<'a>
     ensures { result ≡ zone_of z.now }
 {
     let group = z.group;
@@ -71,7 +71,11 @@ fn zone_of<'a>(z: &Grouped<'_, 'a>) -> Zone<'a>
 }
 
 /// Lists the calls that take effect, with their zones.
-fn zones<'a>(alloc: Global, zs: &[Grouped<'_, 'a>], end: usize) -> Result<Vec<Zone<'a>>, AllocError>
+fn zones<'a>(
+    alloc: Global,
+    zs: &[GroupedCall<'_, 'a>],
+    end: usize,
+) -> Result<Vec<Zone<'a>>, AllocError>
     ensures { IfOk result (λ v. v.items ≡ zones_of end zs.now) }
 {
     let mut out = Vec::new(alloc);
@@ -84,9 +88,9 @@ fn zones<'a>(alloc: Global, zs: &[Grouped<'_, 'a>], end: usize) -> Result<Vec<Zo
 }
 
 /// Lists the calls that take effect, in the order of their zones.
-pub(crate) fn sorted<'a>(
+pub(crate) fn sort_zones<'a>(
     alloc: Global,
-    zs: &[Grouped<'_, 'a>],
+    zs: &[GroupedCall<'_, 'a>],
     end: usize,
 ) -> Result<Vec<Zone<'a>>, AllocError>
     ensures moved { IfOk result (λ v. IsPermutation (zones_of end zs.now) v.items) }

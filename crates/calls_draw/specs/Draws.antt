@@ -1,7 +1,7 @@
 -- What `draw_calls` answered, said and wrote.
 use Rattle.std.specs.Prelude.{◌≡◌, ◌⊎◌, ◌<◌, List, [], ℕ, Option, Some, length, IsSome, codes}
 use Rattle.std.specs.Io.KnownBytes.{Appends, Keeps}
-use Rattle.ec_text.specs.Puts.{Outgoing, Puts, AppendsPrefix, at_first}
+use Rattle.ec_text.specs.Puts.{OutputModel, Puts, AppendsPrefix, at_first}
 use Rattle.calls_report.specs.declared.status.Status.{Status}
 use Rattle.calls_report.specs.declared.status.Status.TheVariants as statuses
 use Rattle.calls_report.specs.Checks.{Outlets, ChecksWhole}
@@ -22,7 +22,7 @@ IsNoteOn text status note =
     (record { out = after; notes = at_first writer (Some note) })
 
 -- the note and the status are those of `check` for this text
-abbrev pub SaysAsCheck : List ℕ → Status → Outgoing → Outgoing → Type 0
+abbrev pub SaysAsCheck : List ℕ → Status → OutputModel → OutputModel → Type 0
 SaysAsCheck text status old new =
     (note : List ℕ) × IsNoteOn text status note × Puts old new note
 

@@ -1,8 +1,8 @@
 //! The panels of cells and databases: values as blocks.
 use crate::grid::LEFT;
-use crate::panels::{Panel, Spot};
+use crate::panels::{CurveStep, Panel};
 use crate::picture::{Evidence, Picture};
-use crate::sink::{Pen, Place, end_text, put_line, put_rect, start_text, xy};
+use crate::sink::{Pen, Pixel, end_text, put_line, put_rect, start_text, xy};
 use crate::words::put_value;
 use calls_core::{Call, Op, Reply};
 
@@ -16,7 +16,7 @@ fn put_block(
     class: &[u8],
     object: usize,
     value: usize,
-    at: Place,
+    at: Pixel,
     width: u64,
 ) {
     put_rect(out, class, at, width, BLOCK - 4);
@@ -27,7 +27,7 @@ fn put_block(
 }
 
 /// Returns where the block ends that begins with this spot: at the next put.
-fn end_of(picture: &Picture<'_>, spots: &[Spot]) -> u64 {
+fn end_of(picture: &Picture<'_>, spots: &[CurveStep]) -> u64 {
     let next = spots.iter().find(|spot| matches!(spot.op, Op::Put(_)));
     next.map_or(picture.grid.right(), |spot| spot.x)
 }

@@ -5,10 +5,10 @@ use crate::panels::{Panel, Subject, said_by};
 use crate::picture::{Evidence, Picture};
 use crate::scale::{Range, Scale};
 use crate::sink::{
-    Pen, Place, end_path, end_text, go_across, go_along, put_line, start_path, start_text, xy,
+    Pen, Pixel, end_path, end_text, go_across, go_along, put_line, start_path, start_text, xy,
 };
 use calls_core::{Call, Op, Reply};
-use calls_shapes::{Counted, Portion, Stair};
+use calls_shapes::{CountFilter, Portion, Stair};
 
 /// Returns what shows that a history is refused, if this is the panel of its object.
 pub(crate) fn evidence_in<'a, 'b>(
@@ -43,13 +43,13 @@ pub(crate) fn evidence_range(
     let mut range = stairs_range(picture, range, evidence.stairs.as_slice());
     for call in &evidence.faulty {
         range = said_by(call.op, call.reply).map_or(range, |n| range.with(n));
-        range = missed(call).map_or(range, |n| range.with(n));
+        range = missed_threshold(call).map_or(range, |n| range.with(n));
     }
     range
 }
 
 /// Returns the threshold of an await that returned a number below it.
-fn missed(call: &Call) -> Option<usize> {
+fn missed_threshold(call: &Call) -> Option<usize> {
     match (call.op, call.reply) {
         (Op::Await(threshold), Reply::Number(n)) if n < threshold => Some(threshold),
         _ => None,
@@ -69,7 +69,7 @@ fn stairs_range(picture: &Picture<'_>, range: Range, stairs: &[Stair]) -> Range 
 /// Returns how a stair is drawn.
 fn stair_class(stair: &Stair) -> &'static [u8] {
     match stair.course.counted {
-        Counted::Adding(_) => b"given",
+        CountFilter::Adding(_) => b"given",
         _ => b"stair",
     }
 }
@@ -77,15 +77,15 @@ fn stair_class(stair: &Stair) -> &'static [u8] {
 /// Returns the words before the number at the end of a stair.
 fn stair_words(stair: &Stair) -> &'static [u8] {
     match (stair.course.counted, stair.course.portion) {
-        (Counted::Adding(_), _) => b"given: ",
-        (Counted::Taking(_), _) => b"taken: ",
+        (CountFilter::Adding(_), _) => b"given: ",
+        (CountFilter::Taking(_), _) => b"taken: ",
         (_, Portion::Called) => b"at most ",
         _ => b"at least ",
     }
 }
 
 /// Puts the number at the end of a stair.
-fn put_stair_end(out: &mut Pen<'_>, at: Place, stair: &Stair) {
+fn put_stair_end(out: &mut Pen<'_>, at: Pixel, stair: &Stair) {
     let place = xy(at.x.saturating_sub(5), at.y.saturating_sub(5));
     start_text(out, b"why end", place);
     out.put(stair_words(stair));
@@ -195,7 +195,7 @@ fn put_missed(out: &mut Pen<'_>, picture: &Picture<'_>, scale: &Scale, calls: &[
     let Some(call) = calls.first() else {
         return;
     };
-    let Some(threshold) = missed(call) else {
+    let Some(threshold) = missed_threshold(call) else {
         return;
     };
     let y = scale.y(threshold);

@@ -11,7 +11,7 @@ use crate::words::{put_subject, put_worker};
 use calls_core::Op;
 
 /// Returns the threshold of a pending await.
-fn awaited(bar: &Bar) -> Option<usize> {
+fn awaited_threshold(bar: &Bar) -> Option<usize> {
     match (bar.op, bar.end) {
         (Op::Await(n), None) => Some(n),
         _ => None,
@@ -37,7 +37,7 @@ pub(crate) fn range_of(picture: &Picture<'_>, panel: &Panel) -> Range {
     let most = range.high.saturating_add(40);
     for bar in &picture.shown {
         if panel.subject.shows(bar.object, bar.op) {
-            let waited = awaited(bar).filter(|n| *n <= most);
+            let waited = awaited_threshold(bar).filter(|n| *n <= most);
             range = waited.map_or(range, |n| range.with(n));
         }
     }
@@ -147,7 +147,7 @@ fn put_waiting(
 pub(crate) fn put_awaited(out: &mut Pen<'_>, picture: &Picture<'_>, scale: &Scale, panel: &Panel) {
     for bar in &picture.shown {
         if panel.subject.shows(bar.object, bar.op) {
-            if let Some(threshold) = awaited(bar).filter(|n| *n <= scale.range.high) {
+            if let Some(threshold) = awaited_threshold(bar).filter(|n| *n <= scale.range.high) {
                 put_waiting(out, picture, scale, bar, threshold);
             }
         }

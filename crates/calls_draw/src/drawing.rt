@@ -7,14 +7,14 @@ ghost use Rattle.calls_report.specs.declared.status.Status.TheVariants.{Done, Me
 ghost use Rattle.calls_draw.specs.Draws.{Draws, Chooses, IsNoteOn, SaysAsCheck, WritesOne};
 
 use crate::choice::{unknown_object, unknown_worker};
-use crate::history::Found;
+use crate::history::FoundHistory;
 use crate::picture::Picture;
-use crate::sink::{Pen, Put};
+use crate::sink::{Pen, PutResult};
 use crate::svg::put_svg;
 use crate::text::put_plain;
 use crate::view::{CallsView, Form};
-use calls_report::{LastJudged, Status, check_whole};
-use ec_text::{Out, write_out};
+use calls_report::{LastHistory, Status, check_whole};
+use ec_text::{Output, write_out};
 use std::alloc::{AllocError, Global};
 use std::io::{Write, sink};
 
@@ -27,7 +27,7 @@ pub fn is_calls(text: &[u8]) -> bool
 
 /// What `check` says of a text.
 #[derive(Drop)]
-struct Noted {
+struct CheckReport {
     status: Status,
     note: Vec<u8>,
 }
@@ -37,14 +37,14 @@ struct Noted {
 fn put_verdict<'a>(
     alloc: Global,
     text: &'a [u8],
-    last: &mut Option<LastJudged<'a>>,
+    last: &mut Option<LastHistory<'a>>,
     note: &mut Vec<u8>,
 ) -> Result<Status, AllocError>
     requires { note.old.items ≡ [] }
     ensures says { IfOk result (λ status. IsNoteOn text.now status note.new.items) }
     ensures kept { IfOk result (λ status. status ≡ Done → IsSome last.new) }
 {
-    let mut out = Out::new(note);
+    let mut out = Output::new(note);
     let status = check_whole(alloc, text, last, &mut sink(), &mut out);
     let done = out.finish();
     out.into_writer();
@@ -58,18 +58,18 @@ fn put_verdict<'a>(
 fn note_on<'a>(
     alloc: Global,
     text: &'a [u8],
-    last: &mut Option<LastJudged<'a>>,
-) -> Result<Noted, AllocError>
+    last: &mut Option<LastHistory<'a>>,
+) -> Result<CheckReport, AllocError>
     ensures says { IfOk result (λ n. IsNoteOn text.now n.status n.note.items) }
     ensures kept { IfOk result (λ n. n.status ≡ Done → IsSome last.new) }
 {
     let mut note = Vec::new(alloc);
     let status = put_verdict(alloc, text, last, &mut note)?;
-    Ok(Noted { status, note })
+    Ok(CheckReport { status, note })
 }
 
 /// Says of a text what `check` says.
-fn say_noted<N: Write>(noted: &Noted, notes: &mut Out<'_, N>) -> Status
+fn report_as_check<N: Write>(noted: &CheckReport, notes: &mut Output<'_, N>) -> Status
     ensures says { (text : List ℕ) → IsNoteOn text noted.now.status noted.now.note.items
         → SaysAsCheck text result notes.old notes.new }
     ensures status { result ≡ noted.now.status }
@@ -80,7 +80,7 @@ fn say_noted<N: Write>(noted: &Noted, notes: &mut Out<'_, N>) -> Status
 }
 
 /// Says that memory ran out.
-fn want<N: Write>(notes: &mut Out<'_, N>) -> Status
+fn report_no_memory<N: Write>(notes: &mut Output<'_, N>) -> Status
     ensures status { result ≡ Memory }
     ensures puts { Puts notes.old notes.new (codes "no memory\n") }
     ensures written { IsWrittenOut notes.new }
@@ -90,7 +90,7 @@ fn want<N: Write>(notes: &mut Out<'_, N>) -> Status
 }
 
 /// Says a name of the sort of this word that is not declared.
-fn say_unknown<N: Write>(sort: &[u8], name: &str, notes: &mut Out<'_, N>)
+fn report_unknown<N: Write>(sort: &[u8], name: &str, notes: &mut Output<'_, N>)
     ensures { IsWrittenOut notes.new }
 {
     notes.put(b"no ");
@@ -111,7 +111,7 @@ fn is_empty(view: &CallsView<'_>, count: usize) -> bool
 }
 
 /// Says that no event is chosen.
-fn say_empty<N: Write>(view: &CallsView<'_>, count: usize, notes: &mut Out<'_, N>)
+fn report_empty<N: Write>(view: &CallsView<'_>, count: usize, notes: &mut Output<'_, N>)
     ensures { IsWrittenOut notes.new }
 {
     notes.put(b"no event from ");
@@ -129,10 +129,10 @@ fn say_empty<N: Write>(view: &CallsView<'_>, count: usize, notes: &mut Out<'_, N
 }
 
 /// Says what is wrong with what was chosen, and returns whether something is.
-fn say_wrong_choice<N: Write>(
+fn report_wrong_choice<N: Write>(
     view: &CallsView<'_>,
-    found: &Found<'_>,
-    notes: &mut Out<'_, N>,
+    found: &FoundHistory<'_>,
+    notes: &mut Output<'_, N>,
 ) -> bool
     ensures chosen { IsTrue result → Chooses view.now }
     ensures quiet { result ≡ false → notes.new ≡ notes.old }
@@ -140,16 +140,16 @@ fn say_wrong_choice<N: Write>(
 {
     let heading = found.judged.read.recording.heading();
     if let Some(name) = unknown_worker(heading, view.workers) {
-        say_unknown(b"worker", name, notes);
+        report_unknown(b"worker", name, notes);
         return true;
     }
     if let Some(name) = unknown_object(heading, view.objects) {
-        say_unknown(b"object", name, notes);
+        report_unknown(b"object", name, notes);
         return true;
     }
     let count = found.events().len();
     if is_empty(view, count) {
-        say_empty(view, count, notes);
+        report_empty(view, count, notes);
         return true;
     }
     false
@@ -161,7 +161,7 @@ fn put_picture(
     view: &CallsView<'_>,
     out: &mut Pen<'_>,
     picture: &Picture<'_>,
-) -> Put {
+) -> PutResult {
     out.put(view.before.as_bytes());
     match view.form {
         Form::Svg => put_svg(alloc, out, picture)?,
@@ -172,15 +172,15 @@ fn put_picture(
 }
 
 /// Returns the picture of a history, with what is said of the text.
-fn drawn(
+fn draw_picture(
     alloc: Global,
     view: &CallsView<'_>,
     note: &[u8],
-    found: &Found<'_>,
+    found: &FoundHistory<'_>,
 ) -> Result<Vec<u8>, AllocError> {
     let picture = Picture::of(alloc, view, found, note)?;
     let mut bytes = Vec::new(alloc);
-    let mut out = Out::new(&mut bytes);
+    let mut out = Output::new(&mut bytes);
     let put = put_picture(alloc, view, &mut out, &picture);
     let done = out.finish();
     out.into_writer();
@@ -193,10 +193,10 @@ fn drawn(
 
 /// Writes a picture, and says of its text what `check` says.
 fn write_picture<W: Write, N: Write>(
-    noted: &Noted,
+    noted: &CheckReport,
     picture: &[u8],
     out: &mut W,
-    notes: &mut Out<'_, N>,
+    notes: &mut Output<'_, N>,
 ) -> Status
     ensures ends { (text : List ℕ) → IsNoteOn text noted.now.status noted.now.note.items
         → WritesOne text result
@@ -205,7 +205,7 @@ fn write_picture<W: Write, N: Write>(
     ensures written { IsWrittenOut notes.new }
 {
     match write_out(out, picture) {
-        Ok(()) => say_noted(noted, notes),
+        Ok(()) => report_as_check(noted, notes),
         Err(_) => {
             notes.say(b"write fault\n");
             Status::InputOutput
@@ -217,10 +217,10 @@ fn write_picture<W: Write, N: Write>(
 fn draw_found<W: Write, N: Write>(
     alloc: Global,
     view: &CallsView<'_>,
-    noted: &Noted,
-    found: &Found<'_>,
+    noted: &CheckReport,
+    found: &FoundHistory<'_>,
     out: &mut W,
-    notes: &mut Out<'_, N>,
+    notes: &mut Output<'_, N>,
 ) -> Status
     ensures ends { (text : List ℕ) → IsNoteOn text noted.now.status noted.now.note.items
         → Draws (Chooses view.now) text result
@@ -228,12 +228,12 @@ fn draw_found<W: Write, N: Write>(
         (record { out = W.contents out.new; notes = notes.new }) }
     ensures written { IsWrittenOut notes.old → IsWrittenOut notes.new }
 {
-    if say_wrong_choice(view, found, notes) {
+    if report_wrong_choice(view, found, notes) {
         return Status::Usage;
     }
-    match drawn(alloc, view, &noted.note, found) {
+    match draw_picture(alloc, view, &noted.note, found) {
         Ok(picture) => write_picture(noted, &picture, out, notes),
-        Err(_) => want(notes),
+        Err(_) => report_no_memory(notes),
     }
 }
 
@@ -246,7 +246,7 @@ pub fn draw_calls<W: Write, N: Write>(
     view: &CallsView<'_>,
     text: &[u8],
     out: &mut W,
-    notes: &mut Out<'_, N>,
+    notes: &mut Output<'_, N>,
 ) -> Status
     ensures ends { Draws (Chooses view.now) text.now result
         (record { out = W.contents out.old; notes = notes.old })
@@ -255,10 +255,10 @@ pub fn draw_calls<W: Write, N: Write>(
 {
     let mut last = None;
     let Ok(noted) = note_on(alloc, text, &mut last) else {
-        return want(notes);
+        return report_no_memory(notes);
     };
     match last {
-        Some(judged) => draw_found(alloc, view, &noted, &Found { judged }, out, notes),
-        None => say_noted(&noted, notes),
+        Some(judged) => draw_found(alloc, view, &noted, &FoundHistory { judged }, out, notes),
+        None => report_as_check(&noted, notes),
     }
 }

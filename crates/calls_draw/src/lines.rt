@@ -46,7 +46,7 @@ impl<'a> EventLines<'a> {
 
     /// Returns what the call asks for that is invoked at a position, as `await E 2`; or what is
     /// returned there.
-    pub(crate) fn said(&self, position: usize) -> &'a [u8] {
+    pub(crate) fn event_text(&self, position: usize) -> &'a [u8] {
         match self.lines.get(position) {
             Some(line) => without_word(without_word(line)),
             None => &[],

@@ -1,9 +1,9 @@
 //! The panels below the rows: the numbers and the values of the objects.
 use crate::choice::uses_semaphore;
 use crate::picture::Picture;
-use crate::sink::Put;
+use crate::sink::PutResult;
 use calls_core::{Kind, Op, Placed, Reply};
-use calls_shapes::{Counted, Step, Tally, Track, start_of, steps_of, tallies_of};
+use calls_shapes::{CountFilter, Step, Tally, Track, start_of, steps_of, tallies_of};
 use std::alloc::{AllocError, Global};
 
 /// What a panel shows.
@@ -28,7 +28,7 @@ pub(crate) struct Bounds {
 
 /// What a number is from the point of a call on that is shown.
 #[derive(Clone, Copy, Debug, PartialEq, Eq)]
-pub(crate) struct Spot {
+pub(crate) struct CurveStep {
     pub(crate) point: usize,
     pub(crate) x: u64,
     pub(crate) value: usize,
@@ -42,7 +42,7 @@ pub(crate) struct Panel {
     /// The number at the first column.
     pub(crate) before: usize,
     /// What it is from the point of each call of the object on.
-    pub(crate) spots: Vec<Spot>,
+    pub(crate) spots: Vec<CurveStep>,
     /// Its bounds at each moment that is shown, none of a cell.
     pub(crate) bounds: Vec<Bounds>,
 }
@@ -78,7 +78,7 @@ impl Subject {
             Subject::Units(_, place) => {
                 courses
                     .iter()
-                    .any(|stair| stair.course.counted == Counted::Adding(place))
+                    .any(|stair| stair.course.counted == CountFilter::Adding(place))
             }
             _ => object == self.object(),
         }
@@ -108,7 +108,7 @@ fn count_bounds(
     alloc: Global,
     picture: &Picture<'_>,
     start: usize,
-    counted: Counted,
+    counted: CountFilter,
 ) -> Result<Vec<Bounds>, AllocError> {
     let window = picture.window();
     let tallies = tallies_of(alloc, picture.events, counted)?;
@@ -129,8 +129,8 @@ fn bounds_of_units(
     place: usize,
 ) -> Result<Vec<Bounds>, AllocError> {
     let window = picture.window();
-    let given = tallies_of(alloc, picture.events, Counted::Adding(place))?;
-    let taken = tallies_of(alloc, picture.events, Counted::Taking(place))?;
+    let given = tallies_of(alloc, picture.events, CountFilter::Adding(place))?;
+    let taken = tallies_of(alloc, picture.events, CountFilter::Taking(place))?;
     let mut bounds = Vec::new(alloc);
     for position in window.from..=window.to {
         if let (Some(given), Some(taken)) = (given.get(position), taken.get(position)) {
@@ -148,8 +148,8 @@ fn bounds_of(
     start: usize,
 ) -> Result<Vec<Bounds>, AllocError> {
     match subject {
-        Subject::Count(k) => count_bounds(alloc, picture, start, Counted::Advances(k)),
-        Subject::Numbers(k) => count_bounds(alloc, picture, start, Counted::Tickets(k)),
+        Subject::Count(k) => count_bounds(alloc, picture, start, CountFilter::Advances(k)),
+        Subject::Numbers(k) => count_bounds(alloc, picture, start, CountFilter::Tickets(k)),
         Subject::Units(_, place) => bounds_of_units(alloc, picture, start, place),
         Subject::Values(_) => Ok(Vec::new(alloc)),
     }
@@ -178,14 +178,14 @@ fn spots_of(
     picture: &Picture<'_>,
     subject: Subject,
     steps: &[Step],
-) -> Result<Vec<Spot>, AllocError> {
+) -> Result<Vec<CurveStep>, AllocError> {
     let mut spots = Vec::new(alloc);
     let indices = indices_of(alloc, picture.order, subject.object())?;
     for (i, step) in indices.iter().zip(steps) {
         if let Some(placed) = picture.order.get(*i) {
             let op = placed.call.op;
             if picture.window().has_point(step.point) && subject.shows(placed.call.object, op) {
-                spots.push(Spot {
+                spots.push(CurveStep {
                     point: step.point,
                     x: picture.x_of(*i),
                     value: step.value,
@@ -224,7 +224,7 @@ fn add_panel(
     panels: &mut Vec<Panel>,
     picture: &Picture<'_>,
     subject: Subject,
-) -> Put {
+) -> PutResult {
     if is_shown(picture, subject) {
         panels.push(panel_of(alloc, picture, subject)?)?;
     }
@@ -238,7 +238,7 @@ fn add_semaphores(
     picture: &Picture<'_>,
     object: usize,
     count: usize,
-) -> Put {
+) -> PutResult {
     for place in 0..count {
         if picture.choice.has_semaphore(place) {
             add_panel(alloc, panels, picture, Subject::Units(object, place))?;

@@ -1,7 +1,7 @@
 //! What a picture of a history has.
 use crate::choice::Choice;
 use crate::grid::{Grid, LEFT};
-use crate::history::Found;
+use crate::history::FoundHistory;
 use crate::lines::EventLines;
 use crate::view::{CallsView, Window, window_of};
 use calls_core::{Action, Call, Event, Kind, Op, PendingCall, Placed, Reply};
@@ -23,7 +23,7 @@ pub(crate) struct Bar {
 
 /// The outline of a bar that a certificate names or counts.
 #[derive(Clone, Copy, Debug, PartialEq, Eq)]
-pub(crate) enum Outline {
+pub(crate) enum BarOutline {
     /// It is named.
     Hot,
     /// It is counted.
@@ -136,13 +136,13 @@ fn evidence_of<'a>(
 
 impl<'a> Evidence<'a> {
     /// Returns the outline of a bar.
-    pub(crate) fn outline(&self, bar: &Bar) -> Option<Outline> {
+    pub(crate) fn outline(&self, bar: &Bar) -> Option<BarOutline> {
         if self.faulty.iter().any(|call| call.first == bar.first) {
-            return Some(Outline::Hot);
+            return Some(BarOutline::Hot);
         }
         let is_counted = self.stairs.iter().any(|stair| counts(&stair.course, bar));
         if is_counted || self.may_have_drawn(bar) {
-            return Some(Outline::Warm);
+            return Some(BarOutline::Warm);
         }
         None
     }
@@ -266,7 +266,7 @@ fn points_of(alloc: Global, events: &[Event], order: &[Placed]) -> Result<Vec<us
 }
 
 /// Returns the object of an invocation.
-fn invoked(event: &Event) -> Option<usize> {
+fn invoked_object(event: &Event) -> Option<usize> {
     match event.action {
         Action::Invoke(object, _) => Some(object),
         Action::Respond(_) => None,
@@ -275,14 +275,14 @@ fn invoked(event: &Event) -> Option<usize> {
 
 /// Returns whether all calls are of one object, which needs no name then.
 fn has_one_object(events: &[Event], kinds: &[Kind]) -> bool {
-    let Some(first) = events.iter().find_map(|event| invoked(event)) else {
+    let Some(first) = events.iter().find_map(|event| invoked_object(event)) else {
         return true;
     };
     let is_one = !matches!(kinds.get(first), Some(Kind::Semaphores(_)));
     is_one
         && events
             .iter()
-            .all(|event| invoked(event).is_none_or(|k| k == first))
+            .all(|event| invoked_object(event).is_none_or(|k| k == first))
 }
 
 /// Returns the bars that are drawn: the completed ones, and then the pending ones.
@@ -313,7 +313,7 @@ impl<'a> Picture<'a> {
     pub(crate) fn of(
         alloc: Global,
         view: &CallsView<'_>,
-        found: &'a Found<'_>,
+        found: &'a FoundHistory<'_>,
         note: &'a [u8],
     ) -> Result<Picture<'a>, AllocError> {
         let recording = &found.judged.read.recording;

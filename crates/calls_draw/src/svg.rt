@@ -9,7 +9,7 @@ use crate::panels::{Panel, Subject, panels_of};
 use crate::picture::{Evidence, Picture};
 use crate::rows::{put_column_names, put_columns, put_faulty_column, put_marks, put_rows};
 use crate::scale::{Range, Scale};
-use crate::sink::{Pen, Put, put_attribute, put_text, xy};
+use crate::sink::{Pen, PutResult, put_attribute, put_text, xy};
 use crate::style::{OPENING, STYLE};
 use ec_text::cut_line;
 use std::alloc::Global;
@@ -53,7 +53,7 @@ fn panels_end(picture: &Picture<'_>, rows: usize, panels: &[Panel]) -> u64 {
 }
 
 /// Returns how many lines a note has, and how many letters the longest.
-fn measured(note: &[u8]) -> (u64, u64) {
+fn measure_note(note: &[u8]) -> (u64, u64) {
     let mut lines = 0u64;
     let mut longest = 0u64;
     let mut rest = note;
@@ -170,11 +170,11 @@ fn put_note(out: &mut Pen<'_>, picture: &Picture<'_>, top: u64) {
 }
 
 /// Puts a picture as SVG.
-pub(crate) fn put_svg(alloc: Global, out: &mut Pen<'_>, picture: &Picture<'_>) -> Put {
+pub(crate) fn put_svg(alloc: Global, out: &mut Pen<'_>, picture: &Picture<'_>) -> PutResult {
     let panels = panels_of(alloc, picture)?;
     let rows = picture.rows_before(picture.workers());
     let end = panels_end(picture, rows, panels.as_slice());
-    let (lines, longest) = measured(picture.note);
+    let (lines, longest) = measure_note(picture.note);
     let right = picture.grid.right().saturating_add(MARGIN);
     let width = longest.saturating_mul(8).max(right);
     let height = end.saturating_add(lines.saturating_mul(NOTE));

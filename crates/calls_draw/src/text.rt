@@ -1,11 +1,11 @@
 //! The whole picture, as a text for a terminal.
-use crate::panels::{Panel, Spot, Subject, panels_of};
+use crate::panels::{CurveStep, Panel, Subject, panels_of};
 use crate::picture::{Bar, Evidence, Picture};
-use crate::sink::{Pen, Put};
+use crate::sink::{Pen, PutResult};
 use crate::words::{put_subject, put_value, put_whole, put_worker, worker_letters};
 use calls_core::Op;
 use calls_shapes::Stair;
-use ec_text::Decimal;
+use ec_text::CachedDecimal;
 use std::alloc::Global;
 
 /// How many places a name has.
@@ -39,7 +39,7 @@ fn put_times(out: &mut Pen<'_>, byte: u8, count: usize) {
 
 /// Puts a number at the end of so many places.
 fn put_padded(out: &mut Pen<'_>, n: u64, places: usize) {
-    let digits = Decimal::new(n).digits();
+    let digits = CachedDecimal::new(n).digits();
     put_times(out, b' ', places.saturating_sub(digits.bytes().len()));
     out.put_number(n);
 }
@@ -107,7 +107,7 @@ fn put_row(
     picture: &Picture<'_>,
     worker: usize,
     places: Places,
-) -> Put {
+) -> PutResult {
     let bars = picture.bars_of(alloc, worker)?;
     let window = picture.window();
     put_worker(out, picture, worker);
@@ -125,7 +125,7 @@ fn put_row(
 }
 
 /// Puts the rows of the workers.
-fn put_rows(alloc: Global, out: &mut Pen<'_>, picture: &Picture<'_>, places: Places) -> Put {
+fn put_rows(alloc: Global, out: &mut Pen<'_>, picture: &Picture<'_>, places: Places) -> PutResult {
     for worker in 0..picture.workers() {
         if picture.choice.has_worker(worker) {
             put_row(alloc, out, picture, worker, places)?;
@@ -170,7 +170,7 @@ fn put_panel_rows(
     picture: &Picture<'_>,
     panel: &Panel,
     places: Places,
-) -> Put {
+) -> PutResult {
     let least: Vec<usize> = panel.bounds.iter().map(|it| it.least).collect(alloc)?;
     let most: Vec<usize> = panel.bounds.iter().map(|it| it.most).collect(alloc)?;
     put_subject(out, picture, panel.subject);
@@ -185,7 +185,7 @@ fn put_panel_rows(
 }
 
 /// Puts a value of a cell or a database, and from which point on it has it.
-fn put_later(out: &mut Pen<'_>, picture: &Picture<'_>, panel: &Panel, spot: &Spot) {
+fn put_later(out: &mut Pen<'_>, picture: &Picture<'_>, panel: &Panel, spot: &CurveStep) {
     let object = panel.subject.object();
     put_subject(out, picture, panel.subject);
     out.put(b" ");
@@ -210,7 +210,12 @@ fn put_values(out: &mut Pen<'_>, picture: &Picture<'_>, panel: &Panel) {
 }
 
 /// Puts the panels.
-fn put_panels(alloc: Global, out: &mut Pen<'_>, picture: &Picture<'_>, places: Places) -> Put {
+fn put_panels(
+    alloc: Global,
+    out: &mut Pen<'_>,
+    picture: &Picture<'_>,
+    places: Places,
+) -> PutResult {
     let panels = panels_of(alloc, picture)?;
     for panel in &panels {
         if !matches!(panel.subject, Subject::Values(_)) {
@@ -267,7 +272,7 @@ fn put_stairs(out: &mut Pen<'_>, evidence: &Evidence<'_>) {
 }
 
 /// Puts a picture as a text.
-pub(crate) fn put_plain(alloc: Global, out: &mut Pen<'_>, picture: &Picture<'_>) -> Put {
+pub(crate) fn put_plain(alloc: Global, out: &mut Pen<'_>, picture: &Picture<'_>) -> PutResult {
     let places = places_of(picture);
     put_heads(out, b"event", picture, 0, places);
     put_heads(out, b"line", picture, picture.first_line, places);

@@ -57,7 +57,7 @@ pub(crate) fn put_subject(out: &mut Pen<'_>, picture: &Picture<'_>, subject: Sub
         .iter()
         .find(|bar| subject.shows(bar.object, bar.op));
     if let Some(bar) = shown {
-        out.put(name_by(picture.lines.said(bar.first), bar.op, subject));
+        out.put(name_by(picture.lines.event_text(bar.first), bar.op, subject));
     }
 }
 
@@ -123,10 +123,10 @@ fn put_span(out: &mut Pen<'_>, bar: &Bar) {
 pub(crate) fn put_whole(out: &mut Pen<'_>, picture: &Picture<'_>, bar: &Bar) {
     put_worker(out, picture, bar.worker);
     out.put(b" ");
-    out.put(picture.lines.said(bar.first));
+    out.put(picture.lines.event_text(bar.first));
     out.put(b" = ");
     match bar.end {
-        Some((last, _)) => out.put(picture.lines.said(last)),
+        Some((last, _)) => out.put(picture.lines.event_text(last)),
         None => out.put(b"pending"),
     }
     put_span(out, bar);

@@ -7,7 +7,7 @@ use Rattle.ec_core.specs.declared.act.Act.{Act}
 use Rattle.ec_core.specs.declared.act.Act.TheVariants as acts
 use Rattle.ec_core.specs.declared.act.Entry.{Entry}
 use Rattle.ec_count.specs.declared.target.Target.TheVariants.{Worker}
-use Rattle.ec_heading.specs.Spelling.{Named, word_of}
+use Rattle.ec_heading.specs.Spelling.{NameTable, target_name}
 use Rattle.ec_heading.specs.declared.group.Group.{Group}
 use Rattle.ec_heading.specs.Groups.{has_event, has_sequencer, has_cell}
 use Rattle.calls_extract.specs.declared.cause.Cause.{Cause}
@@ -46,9 +46,9 @@ cause_words OfGroup = codes ": the object belongs to a group\n"
 cause_words HandsOver = codes ": a component is handed over\n"
 
 -- the name of the worker of the entry at a position
-abbrev pub name_at : Named → List Entry → ℕ → List ℕ
+abbrev pub name_at : NameTable → List Entry → ℕ → List ℕ
 name_at names entries i =
-    option_map_or (λ (x : Entry). word_of names (Worker x.worker)) (slice_get entries i) []
+    option_map_or (λ (x : Entry). target_name names (Worker x.worker)) (slice_get entries i) []
 
 -- the entry, by the name of its worker and its position
 abbrev pub entry_words : List ℕ → ℕ → List ℕ

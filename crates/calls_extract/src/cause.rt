@@ -10,7 +10,7 @@ ghost use Rattle.calls_extract.specs.Causes.{cause_words, entry_words, cause_not
 use ec_core::{Act, Run};
 use ec_count::{CellId, EventId, SeqId};
 use ec_heading::Group;
-use ec_text::Out;
+use ec_text::Output;
 use ec_trace::Spellings;
 use std::io::Write;
 
@@ -100,7 +100,7 @@ fn cause_words(cause: Cause) -> &'static [u8]
 }
 
 /// Puts which entry keeps a trace from having a history of calls.
-fn put_entry<N: Write>(notes: &mut Out<'_, N>, worker: &[u8], place: u64)
+fn put_entry<N: Write>(notes: &mut Output<'_, N>, worker: &[u8], place: u64)
     ensures { Puts notes.old notes.new (entry_words worker.now place) }
 {
     notes.put(b"no history of calls: worker ");
@@ -110,7 +110,7 @@ fn put_entry<N: Write>(notes: &mut Out<'_, N>, worker: &[u8], place: u64)
 }
 
 /// Puts why a trace has no history of calls.
-fn put_cause<N: Write>(notes: &mut Out<'_, N>, worker: &[u8], place: u64, cause: Cause)
+fn put_cause<N: Write>(notes: &mut Output<'_, N>, worker: &[u8], place: u64, cause: Cause)
     ensures { Puts notes.old notes.new (cause_note worker.now place cause) }
 {
     put_entry(notes, worker, place);
@@ -118,8 +118,8 @@ fn put_cause<N: Write>(notes: &mut Out<'_, N>, worker: &[u8], place: u64, cause:
 }
 
 /// Says why a trace has no history of calls: the entry, with its worker, and what is wrong with it.
-pub(crate) fn say_cause<N: Write>(
-    notes: &mut Out<'_, N>,
+pub(crate) fn report_cause<N: Write>(
+    notes: &mut Output<'_, N>,
     spellings: &Spellings<'_>,
     run: &Run,
     place: usize,

@@ -28,8 +28,8 @@ use Rattle.calls_local.specs.Laws.{AnswersBecomeResponses, ResponsesBecomeAnswer
 use Rattle.calls_core.proofs.Lists.{each_append, each_left, each_right, all_from_each}
 use Rattle.calls_core.proofs.Filters.{permutation_filter, each_from_all}
 use Rattle.calls_core.proofs.Counting.{count_append, count_moved}
-use Rattle.calls_kernel.specs.Seen.{kinds_of}
-use Rattle.calls_kernel.specs.Made.{act_of, IsGranted, KeepsLimit}
+use Rattle.calls_kernel.specs.Outside.{kinds_of}
+use Rattle.calls_kernel.specs.Made.{act_of_call, IsGranted, KeepsLimit}
 use Rattle.calls_kernel.specs.Recorded.{IsWithin, all_calls}
 use Rattle.calls_kernel.specs.Laws.{RecordsAreExactlyTheLinearizable}
 use Rattle.calls_kernel.proofs.Steps.{set_same}
@@ -227,13 +227,13 @@ module _ (t : Tables) where
       advances = λ e w. omega (
         arith,
         within.limit.advances e w,
-        calls_fewer (λ (c : Call). is_advance e (act_of t c) && (c.worker == w))
+        calls_fewer (λ (c : Call). is_advance e (act_of_call t c) && (c.worker == w))
             (λ n o r. refl) past (λ o. kept_reply (l.answer o)) left moves_left,
       );
       tickets = λ q. omega (
         arith,
         within.limit.tickets q,
-        calls_fewer (λ (c : Call). is_ticket q (act_of t c)) (λ n o r. refl) past
+        calls_fewer (λ (c : Call). is_ticket q (act_of_call t c)) (λ n o r. refl) past
             (λ o. kept_reply (l.answer o)) left moves_left,
       );
     }

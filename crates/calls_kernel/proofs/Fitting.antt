@@ -27,7 +27,7 @@ use Rattle.calls_core.specs.Histories.{IsHistory}
 use Rattle.calls_core.specs.Linearizations.{answered_calls, answered_one, IsAnsweredLinearization}
 use Rattle.calls_core.specs.Calls.{Fitting}
 use Rattle.calls_core.proofs.Lists.{each_append, all_from_each}
-use Rattle.calls_kernel.specs.Seen.{kinds_of, is_call, object_of}
+use Rattle.calls_kernel.specs.Outside.{kinds_of, is_call, outside_object}
 use Rattle.calls_kernel.specs.Made.{act_on}
 use Rattle.calls_kernel.proofs.Objects.{event_kind, sequencer_kind, cell_kind, length_all}
 
@@ -45,7 +45,7 @@ length_joined (x ∷ xs) ys = omega (arith, length_joined xs ys)
 module _ (t : Tables) where
   -- the act that begins a call of op on object k is one, on a declared object, which is k
   pub record IsFitting (k : ℕ) (op : Op) : Type 0 where
-    pub object : object_of t (act_on t k op) ≡ k
+    pub object : outside_object t (act_on t k op) ≡ k
     pub known : names_unknown_object t (act_on t k op) ≡ false
     pub call : is_call (act_on t k op) ≡ true
 

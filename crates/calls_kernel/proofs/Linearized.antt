@@ -29,8 +29,8 @@ use Rattle.calls_core.specs.declared.history.Call.{Call}
 use Rattle.calls_core.specs.Completions.{IsLinearizable}
 use Rattle.calls_local.specs.Laws.{AnswersBecomeResponses}
 use Rattle.calls_core.proofs.Filters.{permutation_filter}
-use Rattle.calls_kernel.specs.Seen.{kinds_of, is_call, events_of, call_seen, calls_seen}
-use Rattle.calls_kernel.specs.Seen.{pending_seen}
+use Rattle.calls_kernel.specs.Outside.{kinds_of, is_call, events_of, outside_call, outside_calls}
+use Rattle.calls_kernel.specs.Outside.{outside_pending}
 use Rattle.calls_kernel.specs.Laws.{CallsOfAcceptedHistoriesAreLinearizable}
 use Rattle.calls_kernel.proofs.Events.{events_past, events_turned}
 use Rattle.calls_kernel.proofs.Objects.{event_kind, sequencer_kind, cell_kind}
@@ -55,27 +55,27 @@ module _ (t : Tables) where
   abbrev pub NotAfter : FinishedCall → FinishedCall → Type 0
   NotAfter a b = FinishedBefore b a → ⊥
 
-  kept_seen : (a b : FinishedCall) → NotAfter a b → KeepsOrder (call_seen t a) (call_seen t b)
+  kept_seen : (a b : FinishedCall) → NotAfter a b → KeepsOrder (outside_call t a) (outside_call t b)
   kept_seen a b h before =
       h (let lt : 2 * b.last + 1 < 2 * a.first = before in
       let is : b.last < a.first = omega arith in is)
 
   seen_in_order : (cs : List FinishedCall) → AllPairs NotAfter cs
-      → AllPairs KeepsOrder (calls_seen t cs)
+      → AllPairs KeepsOrder (outside_calls t cs)
   seen_in_order cs h =
       let kept = filter (λ (c : FinishedCall). is_call c.op) cs in
       let in_order : AllPairs NotAfter kept =
       AllPairs-filter NotAfter (λ (c : FinishedCall). is_call c.op) cs h in
-      pairs_map KeepsOrder (call_seen t) kept
+      pairs_map KeepsOrder (outside_call t) kept
       (λ i j d lt le. kept_seen (get_or kept i d) (get_or kept j d) (in_order i j d lt le))
 
   seen_moves : (cs ds : List FinishedCall) → IsPermutation cs ds
-      → IsPermutation (reverse (calls_seen t cs)) (calls_seen t ds)
+      → IsPermutation (reverse (outside_calls t cs)) (outside_calls t ds)
   seen_moves cs ds h =
-      IsPermutation-trans (reverse (calls_seen t cs)) (calls_seen t cs) (calls_seen t ds)
-      (IsPermutation-sym (calls_seen t cs) (reverse (calls_seen t cs))
-      (IsPermutation-reverse (calls_seen t cs)))
-      (IsPermutation-map (call_seen t) (filter (λ (c : FinishedCall). is_call c.op) cs)
+      IsPermutation-trans (reverse (outside_calls t cs)) (outside_calls t cs) (outside_calls t ds)
+      (IsPermutation-sym (outside_calls t cs) (reverse (outside_calls t cs))
+      (IsPermutation-reverse (outside_calls t cs)))
+      (IsPermutation-map (outside_call t) (filter (λ (c : FinishedCall). is_call c.op) cs)
       (filter (λ (c : FinishedCall). is_call c.op) ds)
       (permutation_filter (λ (c : FinishedCall). is_call c.op) cs ds h))
 
@@ -84,12 +84,12 @@ module _ (t : Tables) where
 
   linearized : (past : List Entry) (es : List Event) → IsAccepted t past
       → IsGood t past (ordered_by_points t past)
-      → IsPermutation (completed_calls es) (calls_seen t (ordered past))
-      → IsAnsweredLinearization (kinds_of t) es (calls_seen t (ordered past))
+      → IsPermutation (completed_calls es) (outside_calls t (ordered past))
+      → IsAnsweredLinearization (kinds_of t) es (outside_calls t (ordered past))
   linearized past es acc good moves = record {
     answer = λ o. None;
     each_once = subst (λ zs. IsPermutation (zs ++ completed_calls es)
-        (calls_seen t (ordered past))) (sym (answered_none (clock es) (pending_calls es))) moves;
+        (outside_calls t (ordered past))) (sym (answered_none (clock es) (pending_calls es))) moves;
     in_order = seen_in_order (ordered past) good.legal.in_order;
     run = seen_runs t (ordered past) zero_state (start (kinds_of t)) at_first
         (All-permutation (IsKnown t) (finished_calls t past) (ordered past) good.legal.each_once
@@ -100,16 +100,17 @@ module _ (t : Tables) where
   seen_of : (h : List Entry) (es : List Event) → es ≡ events_past t (reverse h)
       → IsAccepted t (reverse h) → IsGood t (reverse h) (ordered_by_points t (reverse h))
       → IsHistory (kinds_of t) es × (completed_calls es
-      ≡ reverse (calls_seen t (finished_calls t (reverse h)))) × ((w : ℕ)
-      → pending_of w (pending_calls es) ≡ option_map (pending_seen t w) (under_way w (reverse h)))
-      × IsPermutation (completed_calls es) (calls_seen t (ordered (reverse h)))
+      ≡ reverse (outside_calls t (finished_calls t (reverse h)))) × ((w : ℕ)
+      → pending_of w (pending_calls es)
+      ≡ option_map (outside_pending t w) (under_way w (reverse h)))
+      × IsPermutation (completed_calls es) (outside_calls t (ordered (reverse h)))
   seen_of h es is acc good =
       let view : IsView t (reverse h) es =
       subst (IsView t (reverse h)) (sym is) (view_of t (reverse h) acc) in (
         view.keeps.history,
         view.keeps.done_is,
         view.keeps.pending_is,
-        subst (λ zs. IsPermutation zs (calls_seen t (ordered (reverse h))))
+        subst (λ zs. IsPermutation zs (outside_calls t (ordered (reverse h))))
             (sym view.keeps.done_is)
             (seen_moves (finished_calls t (reverse h)) (ordered (reverse h))
             good.legal.each_once),
@@ -133,6 +134,6 @@ accepted_are_linearizable orders answered t h d acc =
       pending = s.2;
       linearization = l;
       linearizable = linearizable_by answered (kinds_of t) (reverse (events_of t h))
-          (calls_seen t (calls_in (ordered_by_points t (reverse h)))) s.0 l;
+          (outside_calls t (calls_in (ordered_by_points t (reverse h)))) s.0 l;
       completed_alone = s.3;
     }

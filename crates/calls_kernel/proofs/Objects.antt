@@ -12,7 +12,7 @@ use Rattle.ec_core.specs.Acceptance.{names_unknown_object}
 use Rattle.calls_core.specs.declared.history.Kind.{Kind}
 use Rattle.calls_core.specs.declared.history.Kind.TheVariants.{Eventcount, Sequencer, Cell}
 use Rattle.calls_core.specs.Histories.{Takes}
-use Rattle.calls_kernel.specs.Seen.{kinds_of, is_call, object_of, op_of}
+use Rattle.calls_kernel.specs.Outside.{kinds_of, is_call, outside_object, outside_op}
 use Rattle.ec_core.proofs.shared.Joining.{get_back as get_right, get_front as get_left}
 
 -- THE OBJECTS
@@ -61,7 +61,7 @@ module _ (t : Tables) where
 
   -- each object takes the calls on it
   pub object_takes : (act : Act) → is_call act ≡ true → names_unknown_object t act ≡ false
-      → Takes (slice_get (kinds_of t) (object_of t act)) (op_of act)
+      → Takes (slice_get (kinds_of t) (outside_object t act)) (outside_op act)
   object_takes (acts.Advance e) c h = rw (event_kind e (leb-false (length t.events) e h)) tt
   object_takes (acts.Read e) c h = rw (event_kind e (leb-false (length t.events) e h)) tt
   object_takes (acts.Await e v) c h = rw (event_kind e (leb-false (length t.events) e h)) tt

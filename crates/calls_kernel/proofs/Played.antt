@@ -18,7 +18,7 @@ use Rattle.calls_core.specs.declared.history.Reply.{Reply}
 use Rattle.calls_core.specs.declared.history.Call.{Call}
 use Rattle.calls_core.specs.Lists.{Each}
 use Rattle.calls_core.specs.Linearizations.{set_at, after, Gives, IsRun, start, initial}
-use Rattle.calls_kernel.specs.Seen.{kinds_of}
+use Rattle.calls_kernel.specs.Outside.{kinds_of}
 use Rattle.calls_kernel.specs.Made.{IsGranted, KeepsLimit, AreMadeAs, AreInARow}
 use Rattle.calls_kernel.specs.Laws.{LinearizationsAreAcceptedHistories}
 use Rattle.calls_kernel.proofs.Objects.{event_kind, sequencer_kind, cell_kind}

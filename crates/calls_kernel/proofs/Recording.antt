@@ -34,7 +34,7 @@ use Rattle.calls_core.specs.Linearizations.{answered_calls}
 use Rattle.calls_local.specs.Laws.{AnswersBecomeResponses}
 use Rattle.calls_core.proofs.Filters.{permutation_filter}
 use Rattle.calls_core.specs.Linearizations.{IsAnsweredLinearization}
-use Rattle.calls_kernel.specs.Seen.{kinds_of, is_call}
+use Rattle.calls_kernel.specs.Outside.{kinds_of, is_call}
 use Rattle.calls_kernel.specs.Made.{act_on, IsReplyOf}
 use Rattle.calls_kernel.specs.Recorded.{IsRecordedAs, AreRecordedAs, IsRecord}
 use Rattle.calls_kernel.specs.Laws.{RecordsAreLinearizable}

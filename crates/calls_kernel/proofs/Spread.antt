@@ -24,7 +24,7 @@ use Rattle.calls_core.specs.Histories.{completed_calls, ended_call, IsHistory}
 use Rattle.calls_core.specs.Linearizations.{answered_calls, answered_one, KeepsOrder}
 use Rattle.calls_core.specs.Linearizations.{IsAnsweredLinearization}
 use Rattle.calls_core.proofs.Lists.{each_append, each_weaker, all_from_each}
-use Rattle.calls_kernel.specs.Seen.{kinds_of, is_call}
+use Rattle.calls_kernel.specs.Outside.{kinds_of, is_call}
 use Rattle.calls_kernel.specs.Made.{AreMadeAs, AreInARow}
 use Rattle.calls_kernel.specs.Recorded.{AreRecordedAs}
 use Rattle.calls_kernel.specs.Laws.{LinearizableHistoriesAreRecords}

@@ -15,7 +15,7 @@ use Rattle.calls_core.specs.declared.history.Call.{Call}
 use Rattle.calls_core.specs.Lists.{Each}
 use Rattle.calls_core.specs.Histories.{clock, completed_calls, pending_calls}
 use Rattle.calls_core.specs.Linearizations.{answered_calls}
-use Rattle.calls_kernel.specs.Seen.{is_call}
+use Rattle.calls_kernel.specs.Outside.{is_call}
 use Rattle.calls_kernel.specs.Made.{IsMadeAs, IsGranted, KeepsLimit}
 
 -- the call c was recorded of the kernel's call d, if the entry at position i happened at the

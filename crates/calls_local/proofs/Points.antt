@@ -15,7 +15,7 @@ use Rattle.calls_core.specs.Histories.{clock, pending_calls, completed_calls}
 use Rattle.calls_core.specs.Linearizations.{IsSequentialRun, set_at, start, KeepsOrder}
 use Rattle.calls_core.specs.Linearizations.{answered_one, answered_calls, IsLinearOrder, calls_on}
 use Rattle.calls_core.specs.Linearizations.{pending_on}
-use Rattle.calls_core.specs.Points.{placed, placed_one, Within, NoLater, calls_of}
+use Rattle.calls_core.specs.Points.{with_points, placed_one, Within, NoLater, calls_of}
 use Rattle.calls_core.specs.Points.{IsPlacedOrder, placed_on}
 use Rattle.calls_core.specs.Calls.{Early, Apart, IsCompletedCall, AreCalls, IsCallOf}
 use Rattle.calls_core.specs.Calls.{AreCallsOf}
@@ -257,13 +257,13 @@ placed_parts_make_whole = λ kinds done pending t ps h. order_of_placed (start k
 -- MANY OBJECTS
 
 -- the points of the calls of object k are those that they have alone
-pub placed_part : (k : ℕ) (s : ℕ → ℕ) (cs : List Call) → placed_on k (placed s cs) ≡ placed_one
+pub placed_part : (k : ℕ) (s : ℕ → ℕ) (cs : List Call) → placed_on k (with_points s cs) ≡ placed_one
     (s k) (calls_on k cs)
 placed_part k s [] = refl
 placed_part k s (c ∷ cs) =
     let o = c.object in
     let q = max (s o) (c.first + 1) in
-    let rest = placed_on k (placed (set_at o q s) cs) in
+    let rest = placed_on k (with_points (set_at o q s) cs) in
     elim (o == k) as (λ b. (o == k) ≡ b → rest ≡ placed_one (cond b q (s k)) (calls_on k cs)
     → cond b (record { point = q; call = c } ∷ rest) rest ≡ placed_one (s k)
     (cond b (c ∷ calls_on k cs) (calls_on k cs))) [
@@ -281,7 +281,7 @@ pub parts_make_whole : PartsMakeWhole
 parts_make_whole = λ kinds past cs h l.
     (let done = completed_calls past in
     let pending = pending_calls past in
-    let ps = placed (λ j. 0) cs in
+    let ps = with_points (λ j. 0) cs in
     let each : (k : ℕ) → IsPlacedOrder (IsSequentialRun (start kinds k)) (calls_on k done)
     (pending_on k pending) (clock past) (placed_on k ps) =
     λ k. subst (IsPlacedOrder (IsSequentialRun (start kinds k)) (calls_on k done)

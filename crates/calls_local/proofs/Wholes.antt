@@ -17,7 +17,7 @@ use Rattle.calls_core.specs.Linearizations.{IsSequentialRun, initial, start, IsL
 use Rattle.calls_core.specs.Linearizations.{calls_on, pending_on}
 use Rattle.calls_core.specs.Points.{calls_of, placed_one, IsPlacedOrder}
 use Rattle.calls_core.specs.Completions.{IsLinearization, IsLinearizationOn, IsLinearizable}
-use Rattle.calls_core.specs.Completions.{IsLinearizableOn, known_at, settled}
+use Rattle.calls_core.specs.Completions.{IsLinearizableOn, known_at, settle_call}
 use Rattle.calls_core.specs.Calls.{Fitting}
 use Rattle.calls_core.specs.Outcomes.{IsOrderOf, HasOrderOf}
 use Rattle.calls_core.proofs.Lists.{each_weaker}
@@ -59,10 +59,10 @@ module _ (kinds : List Kind) (past : List Event) (h : IsHistory kinds past) wher
   part_placed : (k : ℕ) (ds : List Call) → IsLinearizationOn kinds k past ds
       → IsPlacedOrder (IsSequentialRun (start kinds k)) (calls_on k (completed_calls past))
       (pending_on k (pending_calls past)) (clock past) (placed_one 0
-      (map (settled (clock (part k past)) (clock past)) ds))
+      (map (settle_call (clock (part k past)) (clock past)) ds))
   part_placed k ds l =
       let m = clock (part k past) in
-      let cs = map (settled m (clock past)) ds in
+      let cs = map (settle_call m (clock past)) ds in
       let order = order_from_responses (IsSequentialRun (start kinds k)) kinds (part k past)
       (clock past) ds (part_clock kinds k past h) (part_history kinds k past h)
       (settled_one_run m (clock past) (start kinds k) ds) l in
@@ -75,7 +75,7 @@ module _ (kinds : List Kind) (past : List Event) (h : IsHistory kinds past) wher
       let r = whole_placed kinds (completed_calls past) (pending_calls past) (clock past)
       (histories_have_calls kinds past h)
       (λ k. (
-        placed_one 0 (map (settled (clock (part k past)) (clock past)) (l k).0),
+        placed_one 0 (map (settle_call (clock (part k past)) (clock past)) (l k).0),
         part_placed k
             (l k).0 (l k).1,
       )) in

@@ -16,7 +16,7 @@ use Rattle.calls_core.specs.Completions.{IsLinearization, IsLinearizable, IsLine
 use Rattle.calls_core.specs.Completions.{known_at}
 use Rattle.calls_core.specs.Calls.{AreCalls, AreCallsOf}
 use Rattle.calls_core.specs.Outcomes.{HasOrderOf}
-use Rattle.calls_core.specs.Points.{placed_one, by_points, merged, IsPlacedOrder, placed_on}
+use Rattle.calls_core.specs.Points.{placed_one, by_points, merge_calls, IsPlacedOrder, placed_on}
 use Rattle.calls_core.specs.Points.{Within, NoLater, calls_of}
 
 -- the completed and pending calls of a history are as every history has them
@@ -44,8 +44,8 @@ PartsAreLinearized = (kinds : List Kind) (past : List Event) (cs : List Call)
 abbrev pub PartsMakeWhole : Type 0
 PartsMakeWhole = (kinds : List Kind) (past : List Event) (cs : List Call) → IsHistory kinds past
     → ((k : ℕ) → IsAnsweredLinearizationOn kinds k past (calls_on k cs))
-    → IsAnsweredLinearization kinds past (merged cs) × ((k : ℕ)
-    → calls_on k (merged cs) ≡ calls_on k cs)
+    → IsAnsweredLinearization kinds past (merge_calls cs) × ((k : ℕ)
+    → calls_on k (merge_calls cs) ≡ calls_on k cs)
 
 -- a linearization by later responses is one by answers
 abbrev pub ResponsesBecomeAnswers : Type 0

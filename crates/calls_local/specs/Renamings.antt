@@ -33,20 +33,20 @@ renamed_action f (Respond r) None = Respond r
 renamed_action f (Respond r) (Some o) = Respond (renamed_reply (f o.object) o.op r)
 
 -- the same history, in which each value that is put or got has its new number
-abbrev pub renamed : (ℕ → ℕ → ℕ) → List Event → List Event
-renamed f [] = []
-renamed f (x ∷ past) =
+abbrev pub rename_values : (ℕ → ℕ → ℕ) → List Event → List Event
+rename_values f [] = []
+rename_values f (x ∷ past) =
     record {
       at = x.at;
       worker = x.worker;
       action = renamed_action f x.action
           (pending_of x.worker (pending_calls past));
-    } ∷ renamed f past
+    } ∷ rename_values f past
 
 -- whether a history is linearizable does not depend on the numbers that the values of its cells and
 -- databases have
 abbrev pub NumbersAreNames : Type 0
 NumbersAreNames = (kinds : List Kind) (f : ℕ → ℕ → ℕ) (past : List Event) → IsNaming f
     → IsHistory kinds past
-    → IsHistory kinds (renamed f past) × (IsLinearizable kinds past
-    ↔ IsLinearizable kinds (renamed f past))
+    → IsHistory kinds (rename_values f past) × (IsLinearizable kinds past
+    ↔ IsLinearizable kinds (rename_values f past))

@@ -14,7 +14,7 @@ use Rattle.calls_core.specs.Histories.{pending_calls, ended_call, completed_call
 use Rattle.calls_core.specs.Histories.{IsNextOf, IsHistoryOf}
 use Rattle.calls_core.proofs.Counting.{count_cons}
 use Rattle.calls_counts.specs.Faults.{is_advance, invokes_advance, advances_invoked}
-use Rattle.calls_monitor.specs.kept.Watching.{begun}
+use Rattle.calls_monitor.specs.kept.Watching.{call_count}
 use Rattle.calls_tickets.proofs.Histories.{without_long as without_length}
 
 -- how many calls an event begins
@@ -39,7 +39,7 @@ ended_one kind x (Respond r) None h = absurd h
 ended_one kind x (Respond r) (Some o) h = refl
 
 pub begun_next : (kind : Kind) (x : Event) (past : List Event) → IsHistoryOf kind (x ∷ past)
-    → begun (x ∷ past) ≡ begun past + one x.action
+    → call_count (x ∷ past) ≡ call_count past + one x.action
 begun_next kind x past h =
     let os = pending_calls past in
     let o = pending_of x.worker os in
@@ -51,7 +51,7 @@ begun_next kind x past h =
 
 -- two events of each completed call and one of each pending call
 events_made : (kind : Kind) (past : List Event) → IsHistoryOf kind past
-    → length (completed_calls past) + begun past ≡ length past
+    → length (completed_calls past) + call_count past ≡ length past
 events_made kind [] h = refl
 events_made kind (x ∷ past) h =
     let o = pending_of x.worker (pending_calls past) in
@@ -68,7 +68,7 @@ within_clock kind [] h = omega arith
 within_clock kind (x ∷ past) h = omega (arith, h.0, within_clock kind past h.2)
 
 pub begun_few : (kind : Kind) (x : Event) (past : List Event) → IsHistoryOf kind (x ∷ past)
-    → x.at < 2 ^ 64 → length (pending_calls past) ≤ WORKERS → begun past ≤ 2 ^ 64 - 2
+    → x.at < 2 ^ 64 → length (pending_calls past) ≤ WORKERS → call_count past ≤ 2 ^ 64 - 2
 begun_few kind x past h fits few =
     omega (arith, h.0, within_clock kind past h.2, events_made kind past h.2, fits, few)
 
@@ -82,7 +82,7 @@ invokes_one (Respond r) = omega arith
 
 -- no more advances were invoked
 pub advances_few : (kind : Kind) (past : List Event) → IsHistoryOf kind past
-    → advances_invoked past ≤ begun past
+    → advances_invoked past ≤ call_count past
 advances_few kind [] h = omega arith
 advances_few kind (x ∷ past) h =
     omega (

@@ -2,14 +2,14 @@
 use Rattle.std.proofs.Common.{◌≡◌, ◌≤◌, inl, inr, ℕ, List, length, Option, Some, None, Ok, IfSome}
 use Rattle.std.proofs.Common.{refl, ap, subst}
 use Rattle.std.specs.Io.KnownBytes.{Keeps}
-use Rattle.ec_text.specs.Puts.{Outgoing, Puts}
+use Rattle.ec_text.specs.Puts.{OutputModel, Puts}
 use Rattle.ec_text.specs.Inputs.{looked_at, IsReadUp}
 use Rattle.calls_core.specs.declared.history.Placed.{Placed}
 use Rattle.calls_text.specs.declared.fault.TextFault.{TextFault}
 use Rattle.calls_text.specs.declared.fault.TextFault.TheVariants as faults
-use Rattle.calls_text.specs.Recordings.{Recorded}
+use Rattle.calls_text.specs.Recordings.{RecordingModel}
 use Rattle.calls_text.specs.Reading.{Opening}
-use Rattle.calls_text.specs.Outcomes.{OneRead, goes, parts_of, TellsFault}
+use Rattle.calls_text.specs.Outcomes.{OneRead, goes, lines_of_text, ReturnsFault}
 use Rattle.calls_text.specs.Laws.{IsSpelled, ReadIsSpelled}
 use Rattle.calls_report.specs.declared.checking.TheConstants.{TEXT_MAX}
 use Rattle.calls_report.specs.declared.status.Status.{Status}
@@ -34,23 +34,23 @@ stays (Some xs) = refl
 -- A HISTORY THAT WAS READ
 
 -- it has no trace
-pub is_hindered : (n : ℕ) (r : Recorded) (rest : List ℕ) (out : Option (List ℕ))
-    (old new : Outgoing) (why : Obstacle) → IsObstacle r n rest why
+pub is_hindered : (n : ℕ) (r : RecordingModel) (rest : List ℕ) (out : Option (List ℕ))
+    (old new : OutputModel) (why : Obstacle) → IsObstacle r n rest why
     → Puts old new (obstacle_note r n why)
     → ReplaysRead n r rest Usage (record { out = out; notes = old })
     (record { out = out; notes = new })
 is_hindered n r rest out old new why is puts = inr (inr (why, is, stays out, puts))
 
 -- it has no linearization
-pub found_none : (n : ℕ) (r : Recorded) (rest : List ℕ) (out : Option (List ℕ))
-    (old new : Outgoing) (status : Status) → StopsAs n r old new status
+pub found_none : (n : ℕ) (r : RecordingModel) (rest : List ℕ) (out : Option (List ℕ))
+    (old new : OutputModel) (status : Status) → StopsAs n r old new status
     → ReplaysRead n r rest status (record { out = out; notes = old })
     (record { out = out; notes = new })
 found_none n r rest out old new status why = inr (inl (stays out, why))
 
 -- the trace of a linearization was written, or not
-pub order_written : (n : ℕ) (r : Recorded) (rest : List ℕ) (order : List Placed)
-    (out : Option (List ℕ)) (old among : Outgoing) (status : Status) (new : Outlets)
+pub order_written : (n : ℕ) (r : RecordingModel) (rest : List ℕ) (order : List Placed)
+    (out : Option (List ℕ)) (old among : OutputModel) (status : Status) (new : Outlets)
     → IsPlain r rest → HasOrder r order → among ≡ old
     → WritesSteps r order status (record { out = out; notes = among }) new
     → ReplaysRead n r rest status (record { out = out; notes = old }) new
@@ -58,7 +58,7 @@ order_written n r rest order out old among status new plain has same writes = in
   plain,
   order,
   has,
-  subst (λ (k : Outgoing). WritesSteps r order status (record { out = out; notes = k }) new) same
+  subst (λ (k : OutputModel). WritesSteps r order status (record { out = out; notes = k }) new) same
       writes,
 )
 
@@ -132,20 +132,21 @@ module _ (text : List ℕ) (read : OneRead) (rest : List ℕ) (b : Begins text r
   by_part status old new (inr (inl f)) = none status old new f
   by_part status old new (inr (inr h)) = hindered status old new h
 
-pub text_replayed : ReadIsSpelled → (text : List ℕ) (r : Recorded) (number : ℕ) (rest : List ℕ)
+pub text_replayed : ReadIsSpelled
+    → (text : List ℕ) (r : RecordingModel) (number : ℕ) (rest : List ℕ)
     (status : Status) (old new : Outlets)
-    → goes 1 Opening (parts_of text)
-    ≡ Ok (record { recorded = r; number = number; rest = parts_of rest })
+    → goes 1 Opening (lines_of_text text)
+    ≡ Ok (record { recorded = r; number = number; rest = lines_of_text rest })
     → ReplaysRead number r rest status old new → ReplaysText status text old new
 text_replayed spelled text r number rest status old new reads ends =
-    let read : OneRead = record { recorded = r; number = number; rest = parts_of rest } in
+    let read : OneRead = record { recorded = r; number = number; rest = lines_of_text rest } in
     let is : IsSpelled text 1 read = spelled text 1 read reads in
     by_part text read rest (record { reads = reads; spelled = is }) (is.same rest refl) status old
     new ends
 
 -- no history was read
-pub text_unread : (text : List ℕ) (out : Option (List ℕ)) (old new : Outgoing) (fault : TextFault)
-    → TellsFault (goes 1 Opening (parts_of text)) fault → Puts old new (fault_note fault)
+pub text_unread : (text : List ℕ) (out : Option (List ℕ)) (old new : OutputModel) (fault : TextFault)
+    → ReturnsFault (goes 1 Opening (lines_of_text text)) fault → Puts old new (fault_note fault)
     → ReplaysText (fault_status fault) text (record { out = out; notes = old })
     (record { out = out; notes = new })
 text_unread text out old new (faults.At n kind cause) why puts = (

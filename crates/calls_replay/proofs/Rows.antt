@@ -18,7 +18,7 @@ use Rattle.calls_core.specs.declared.history.Op.TheVariants as ops
 use Rattle.calls_core.specs.declared.history.Reply as answers
 use Rattle.calls_core.specs.declared.history.Reply.TheVariants as given
 use Rattle.calls_core.specs.declared.history.Call.{Call}
-use Rattle.calls_kernel.specs.Made.{act_of, IsReplyOf, IsMadeAs, AreMadeAs, AreInARow}
+use Rattle.calls_kernel.specs.Made.{act_of_call, IsReplyOf, IsMadeAs, AreMadeAs, AreInARow}
 use Rattle.calls_replay.specs.Made.{is_made, made_of}
 use Rattle.calls_replay.specs.kept.Going.{HasGone, Goes, AreMadeIn}
 
@@ -39,7 +39,7 @@ module _ (t : Tables) where
 
   -- a call that has gone is one more that was made
   one_more_call : (past late : List Entry) (cs : List Call) (c : Call) (reply : Reply)
-      → AreMadeIn t cs past → HasGone t past c.worker (act_of t c) late reply
+      → AreMadeIn t cs past → HasGone t past c.worker (act_of_call t c) late reply
       → IsReplyOf c.op c.reply reply
       → AreMadeIn t (cs ++ c ∷ []) late
   one_more_call past late cs c reply made g is =
@@ -88,7 +88,7 @@ module _ (t : Tables) where
 
   -- a call that goes and whose last reply is that of a call that returned has gone
   pub call_made : (past late : List Entry) (cs : List Call) (c : Call) (reply : Reply)
-      → AreMadeIn t cs past → Goes t past c.worker (act_of t c) late reply
+      → AreMadeIn t cs past → Goes t past c.worker (act_of_call t c) late reply
       → IsReplyOf c.op c.reply reply
       → AreMadeIn t (cs ++ c ∷ []) late
   call_made past late cs c replies.Pending made g is = absurd (no_reply c.op c.reply is)

@@ -7,7 +7,7 @@ use Rattle.ec_core.specs.declared.act.Act.TheVariants as acts
 use Rattle.ec_core.specs.declared.act.Reply.{Reply}
 use Rattle.ec_core.specs.declared.act.Reply.TheVariants as replies
 use Rattle.ec_core.specs.declared.act.Entry.{Entry}
-use Rattle.calls_kernel.specs.Seen.{is_call}
+use Rattle.calls_kernel.specs.Outside.{is_call}
 use Rattle.calls_replay.specs.kept.Going.{IsFree, IsGoing, Goes}
 use Rattle.calls_replay.proofs.Going.{first_step, next_step}
 use Rattle.ec_core.proofs.shared.Stepping.{entry}

@@ -3,7 +3,7 @@ use Rattle.std.specs.Prelude.{◌≡◌, ◌⊎◌, ℕ, ◌-◌, ◌≤◌, ◌
 use Rattle.std.specs.Prelude.{count_by, Option, Ok, codes, decimal, if◌then◌else◌}
 use Rattle.std.specs.Io.KnownBytes.{Appends, Keeps}
 use Rattle.ec_text.specs.Puts.{Puts, AppendsPrefix}
-use Rattle.ec_heading.specs.Outline.{Outline, IsOutline, headed}
+use Rattle.ec_heading.specs.HeaderTree.{HeaderTree, IsHeaderTree, heading_of_tree}
 use Rattle.ec_heading.specs.Spelling.{trace_text}
 use Rattle.ec_trace.specs.Outcome.{outcome}
 use Rattle.ec_trace.specs.declared.read.TheConstants.{TRACE_MAX}
@@ -12,9 +12,9 @@ use Rattle.calls_core.specs.declared.history.Action.TheVariants.{Invoke, Respond
 use Rattle.calls_core.specs.declared.history.Event as events
 use Rattle.calls_core.specs.declared.history.Placed.{Placed}
 use Rattle.calls_kernel.specs.Made.{AreMade}
-use Rattle.calls_text.specs.Recordings.{Recorded}
+use Rattle.calls_text.specs.Recordings.{RecordingModel}
 use Rattle.calls_text.specs.Reading.{Opening}
-use Rattle.calls_text.specs.Outcomes.{OneRead, goes, parts_of}
+use Rattle.calls_text.specs.Outcomes.{OneRead, goes, lines_of_text}
 use Rattle.calls_text.specs.Laws.{IsSpelled}
 use Rattle.calls_report.specs.declared.checking.TheConstants.{TEXT_MAX}
 use Rattle.calls_report.specs.declared.status.Status.{Status}
@@ -33,7 +33,7 @@ is_invocation (Invoke k op) = true
 is_invocation (Respond reply) = false
 
 -- how many calls of a history are not made: they gave up, or are pending and took no effect
-abbrev pub left_out : Recorded → List Placed → ℕ
+abbrev pub left_out : RecordingModel → List Placed → ℕ
 left_out r order =
     count_by (λ (e : events.Event). is_invocation e.action) r.events
     - count_by (λ (p : Placed). is_made r.heading.setup.limit p.call) order
@@ -54,16 +54,16 @@ differs_note n =
 -- the trace of an accepted history of steps under the heading of r: its completed calls are the
 -- calls of the order that are made, in this order, each with its steps next to each other, and there
 -- is no other step
-pub record IsTraceOfOrder (r : Recorded) (order : List Placed) (text : List ℕ) : Type 0 where
-  pub outline : Outline
-  pub is : IsOutline outline
-  pub declares : headed outline ≡ r.heading
+pub record IsTraceOfOrder (r : RecordingModel) (order : List Placed) (text : List ℕ) : Type 0 where
+  pub outline : HeaderTree
+  pub is : IsHeaderTree outline
+  pub declares : heading_of_tree outline ≡ r.heading
   pub made : AreMade r.heading.setup (made_of r.heading.setup.limit order)
   pub spells : text ≡ trace_text outline made.steps
 
 -- a text that begins with this history
 pub record Begins (text : List ℕ) (read : OneRead) : Type 0 where
-  pub reads : goes 1 Opening (parts_of text) ≡ Ok read
+  pub reads : goes 1 Opening (lines_of_text text) ≡ Ok read
   pub spelled : IsSpelled text 1 read
 
 -- the text is one history, and this is the trace of a linearization of it
@@ -106,10 +106,10 @@ ReplaysText Usage text old new =
     × Puts old.notes new.notes (obstacle_note read.recorded read.number why)
 ReplaysText Refused text old new =
     Keeps old.out new.out
-    × (((note : List ℕ) × IsUnread 1 (parts_of text) note × Puts old.notes new.notes note)
-    ⊎ (SaysRefused 1 (parts_of text) old.notes new.notes ⊎ SaysDiffers text old new))
+    × (((note : List ℕ) × IsUnread 1 (lines_of_text text) note × Puts old.notes new.notes note)
+    ⊎ (SaysRefused 1 (lines_of_text text) old.notes new.notes ⊎ SaysDiffers text old new))
 ReplaysText NotDecided text old new =
-    Keeps old.out new.out × SaysOpen 1 (parts_of text) old.notes new.notes
+    Keeps old.out new.out × SaysOpen 1 (lines_of_text text) old.notes new.notes
 ReplaysText Memory text old new =
     Keeps old.out new.out × Puts old.notes new.notes (codes "no memory\n")
 

@@ -3,7 +3,7 @@ ghost use Rattle.std.specs.Prelude.{◌≡◌, ◌++◌, ◌∷◌, [], List, re
 ghost use Rattle.std.specs.List.{filter};
 ghost use Rattle.calls_core.specs.declared.history.Call.{Call};
 ghost use Rattle.calls_core.specs.declared.history.Reply.TheVariants as answers;
-ghost use Rattle.calls_kernel.specs.Seen.{is_call};
+ghost use Rattle.calls_kernel.specs.Outside.{is_call};
 ghost use Rattle.calls_kernel.specs.Made.{IsReplyOf};
 ghost use Rattle.calls_kernel.specs.Made as made;
 ghost use Rattle.calls_replay.specs.Made.{made_of, is_made};
@@ -29,8 +29,8 @@ pub enum Stop {
 }
 
 /// Returns the act that begins a call, if its object is an eventcount, a sequencer or a cell.
-fn act_of(heading: &Heading, call: &Call) -> Option<Act>
-    ensures act { IfSome result (λ act. act ≡ made.act_of heading.now.setup call.now) }
+fn opening_act(heading: &Heading, call: &Call) -> Option<Act>
+    ensures act { IfSome result (λ act. act ≡ made.act_of_call heading.now.setup call.now) }
     ensures begins { IfSome result (λ act. is_call act ≡ true) }
 {
     let object = call.object;
@@ -143,7 +143,7 @@ fn make_call(run: &mut Run, heading: &Heading, call: &Call, index: usize) -> Res
         → AreMadeIn run.old.setup cs (reverse run.old.entries)
         → AreMadeIn run.old.setup (cs ++ call.now ∷ []) (reverse run.new.entries)) }
 {
-    let Some(act) = act_of(heading, call) else {
+    let Some(act) = opening_act(heading, call) else {
         return Err(Stop::Differs(index));
     };
     let Some(worker) = WorkerId::new(call.worker) else {

@@ -5,31 +5,31 @@ use Rattle.std.proofs.Common.{codes}
 use Rattle.std.proofs.Common.{append-nil, length}
 use Rattle.std.specs.List.{onto_first}
 use Rattle.std.proofs.lemmas.List.Concat.{flat_map-append}
-use Rattle.ec_text.specs.Puts.{Outgoing, Puts}
+use Rattle.ec_text.specs.Puts.{OutputModel, Puts}
 use Rattle.ec_text.proofs.shared.PutLemmas.{puts_then}
-use Rattle.ec_heading.specs.Headed.{Headed}
+use Rattle.ec_heading.specs.HeadingModel.{HeadingModel}
 use Rattle.calls_core.specs.declared.history.Placed.{Placed}
 use Rattle.calls_text.specs.declared.fault.Kind.{Kind}
 use Rattle.calls_text.specs.declared.fault.TextFault.{TextFault}
 use Rattle.calls_text.specs.declared.fault.TextFault.TheVariants as faults
-use Rattle.calls_text.specs.Recordings.{Recorded}
+use Rattle.calls_text.specs.Recordings.{RecordingModel}
 use Rattle.calls_text.specs.Reading.{Stage, Opening, Limiting, Declaring, Running, Ended, step}
 use Rattle.calls_text.specs.Reading.{is_ended}
-use Rattle.calls_text.specs.Outcomes.{OneRead, Parsed, LineAt, parts_of, goes, taken, ended}
-use Rattle.calls_text.specs.Outcomes.{TellsFault}
+use Rattle.calls_text.specs.Outcomes.{OneRead, ParseResult, LineAt, lines_of_text, goes, after_line, parse_end}
+use Rattle.calls_text.specs.Outcomes.{ReturnsFault}
 use Rattle.calls_report.specs.declared.checking.Stop.{Stop}
 use Rattle.calls_report.specs.declared.checking.Stop.TheVariants as stops
 use Rattle.calls_report.specs.declared.status.Status.TheVariants as statuses
 use Rattle.calls_report.specs.Notes.{fault_note}
 use Rattle.calls_report.specs.Orders.{order_lines}
 use Rattle.calls_report.specs.Remarks.{remarks_text}
-use Rattle.calls_report.specs.Checks.{Judged, HasOrder, AreJudged, texts_of, remarks_on}
+use Rattle.calls_report.specs.Checks.{JudgedHistory, HasOrder, AreJudged, texts_of, remarks_on}
 use Rattle.calls_report.specs.Checks.{history_text, IsNoEnd}
 use Rattle.calls_report.specs.kept.Judging.{PutsOrder, StopsBy, status_by, EndsBy, fault_status}
 use Rattle.calls_report.specs.kept.Judging.{Judges, IsJudgedSoFar}
 use Rattle.calls_text.proofs.TextParts.{by_rest, by_line}
 
-pub same_lines : (a b : Outgoing) (h k : Headed) (ls ms : List (List ℕ)) (n m : ℕ)
+pub same_lines : (a b : OutputModel) (h k : HeadingModel) (ls ms : List (List ℕ)) (n m : ℕ)
     (order : List Placed) → h ≡ k → ls ≡ ms → n ≡ m → Puts a b (order_lines h ls n order)
     → Puts a b (order_lines k ms m order)
 same_lines a b h k ls ms n m order e f q put =
@@ -39,7 +39,7 @@ same_lines a b h k ls ms n m order e f q put =
 
 -- NUMBERS OF LINES
 
-by_none : (n : ℕ) (s : Stage) → is_ended s ≡ false → goes n s [] ≡ ended n s []
+by_none : (n : ℕ) (s : Stage) → is_ended s ≡ false → goes n s [] ≡ parse_end n s []
 unfolding goes is_ended
 by_none n Opening going = refl
 by_none n Limiting going = refl
@@ -47,10 +47,10 @@ by_none n (Declaring d) going = refl
 by_none n (Running r) going = refl
 by_none n (Ended r) going = cc
 
-one_read : (x y : OneRead) → ◌≡◌ {A = Parsed} (Ok x) (Ok y) → x ≡ y
+one_read : (x y : OneRead) → ◌≡◌ {A = ParseResult} (Ok x) (Ok y) → x ≡ y
 one_read x y same = cc
 
-no_read : {P : Type 0} (f : LineAt) (y : OneRead) → ◌≡◌ {A = Parsed} (Err f) (Ok y) → P
+no_read : {P : Type 0} (f : LineAt) (y : OneRead) → ◌≡◌ {A = ParseResult} (Err f) (Ok y) → P
 no_read f y same = absurd (let never : ⊥ = cc in never)
 
 at_end : (n : ℕ) (s : Stage) (ps : List (List ℕ)) (o : OneRead) → is_ended s ≡ true
@@ -65,13 +65,14 @@ at_end n (Ended r) ps o over is =
     (one_read (record { recorded = r; number = n; rest = ps }) o is) in
     omega arith
 
-takes_on : (n : ℕ) (line : List ℕ) (r : Result Stage Kind) (others : Stage → Parsed) (o : OneRead)
-    → ((t : Stage) → others t ≡ Ok o → n + 1 ≤ o.number) → taken n line r others ≡ Ok o
+takes_on : (n : ℕ) (line : List ℕ) (r : Result Stage Kind) (others : Stage
+    → ParseResult) (o : OneRead)
+    → ((t : Stage) → others t ≡ Ok o → n + 1 ≤ o.number) → after_line n line r others ≡ Ok o
     → n + 1 ≤ o.number
 takes_on n line (Ok t) others o more is = more t is
 takes_on n line (Err kind) others o more is = no_read _ o is
 
-ended_on : (n : ℕ) (s : Stage) (rest : List ℕ) (o : OneRead) → ended n s rest ≡ Ok o
+ended_on : (n : ℕ) (s : Stage) (rest : List ℕ) (o : OneRead) → parse_end n s rest ≡ Ok o
     → n + 1 ≤ o.number
 ended_on n s [] o is = no_read _ o is
 ended_on n s (b ∷ bs) o is =
@@ -104,14 +105,14 @@ no_parts : (b : ℕ) (ps : List (List ℕ)) → onto_first b ps ≡ [] → ⊥
 no_parts b [] none = cc
 no_parts b (p ∷ ps) none = cc
 
-some_parts : (bytes : List ℕ) → parts_of bytes ≡ [] → ⊥
+some_parts : (bytes : List ℕ) → lines_of_text bytes ≡ [] → ⊥
 some_parts [] none = cc
 some_parts (b ∷ bytes) none =
     let P : Bool → Type 0 =
-    λ t. cond t ([] ∷ parts_of bytes) (onto_first b (parts_of bytes)) ≡ [] → ⊥ in
+    λ t. cond t ([] ∷ lines_of_text bytes) (onto_first b (lines_of_text bytes)) ≡ [] → ⊥ in
     let w : P (eqb b 10) = elim (eqb b 10) as P [
       | true ↦ λ e. (let never : ⊥ = cc in never)
-      | false ↦ λ e. no_parts b (parts_of bytes) e
+      | false ↦ λ e. no_parts b (lines_of_text bytes) e
     ] in
     w none
 
@@ -122,28 +123,28 @@ long_parts b (p ∷ ps) one = cc
 tail_none : (p : List ℕ) (ps : List (List ℕ)) → p ∷ ps ≡ [] ∷ [] → ps ≡ []
 tail_none p ps one = cc
 
-more_parts : (b : ℕ) (bytes : List ℕ) → parts_of (b ∷ bytes) ≡ [] ∷ [] → ⊥
+more_parts : (b : ℕ) (bytes : List ℕ) → lines_of_text (b ∷ bytes) ≡ [] ∷ [] → ⊥
 more_parts b bytes one =
     let P : Bool → Type 0 =
-    λ t. cond t ([] ∷ parts_of bytes) (onto_first b (parts_of bytes)) ≡ [] ∷ [] → ⊥ in
+    λ t. cond t ([] ∷ lines_of_text bytes) (onto_first b (lines_of_text bytes)) ≡ [] ∷ [] → ⊥ in
     let w : P (eqb b 10) = elim (eqb b 10) as P [
-      | true ↦ λ e. some_parts bytes (tail_none [] (parts_of bytes) e)
-      | false ↦ λ e. long_parts b (parts_of bytes) e
+      | true ↦ λ e. some_parts bytes (tail_none [] (lines_of_text bytes) e)
+      | false ↦ λ e. long_parts b (lines_of_text bytes) e
     ] in
     w one
 
-by_bytes : (rest : List ℕ) → 0 < length rest → parts_of rest ≡ [] ∷ [] → ⊥
+by_bytes : (rest : List ℕ) → 0 < length rest → lines_of_text rest ≡ [] ∷ [] → ⊥
 by_bytes [] some none = omega (arith, some)
 by_bytes (b ∷ bytes) some none = more_parts b bytes none
 
 -- where bytes are left after a history
-pub no_end : (n : ℕ) (rest : List ℕ) → (1 < n → 0 < length rest) → IsNoEnd n (parts_of rest)
+pub no_end : (n : ℕ) (rest : List ℕ) → (1 < n → 0 < length rest) → IsNoEnd n (lines_of_text rest)
 no_end n rest left = λ past none. by_bytes rest (left past) none
 
 -- ONE HISTORY MORE
 
-judged_more : (n : ℕ) (ps : List (List ℕ)) (js : List Judged) (m : ℕ) (qs : List (List ℕ))
-    (j : Judged) → AreJudged n ps js m qs → goes m Opening qs ≡ Ok j.read
+judged_more : (n : ℕ) (ps : List (List ℕ)) (js : List JudgedHistory) (m : ℕ) (qs : List (List ℕ))
+    (j : JudgedHistory) → AreJudged n ps js m qs → goes m Opening qs ≡ Ok j.read
     → HasOrder j.read.recorded j.order
     → AreJudged n ps (js ++ j ∷ []) j.read.number j.read.rest
 judged_more n ps [] m qs j are reads has =
@@ -151,31 +152,32 @@ judged_more n ps [] m qs j are reads has =
 judged_more n ps (k ∷ js) m qs j are reads has =
     (are.0, are.1, judged_more k.read.number k.read.rest js m qs j are.2 reads has)
 
-texts_more : (js : List Judged) (j : Judged) → texts_of (js ++ j ∷ [])
+texts_more : (js : List JudgedHistory) (j : JudgedHistory) → texts_of (js ++ j ∷ [])
     ≡ texts_of js ++ history_text j.read.recorded j.order
 texts_more js j =
-    flat_map-append (λ (k : Judged). history_text k.read.recorded k.order) js (j ∷ [])
+    flat_map-append (λ (k : JudgedHistory). history_text k.read.recorded k.order) js (j ∷ [])
     ∙ ap (λ t. texts_of js ++ t) (append-nil (history_text j.read.recorded j.order))
 
-remarks_more : (js : List Judged) (j : Judged) → remarks_on (js ++ j ∷ [])
+remarks_more : (js : List JudgedHistory) (j : JudgedHistory) → remarks_on (js ++ j ∷ [])
     ≡ remarks_on js ++ remarks_text j.read.number j.read.recorded
 remarks_more js j =
-    flat_map-append (λ (k : Judged). remarks_text k.read.number k.read.recorded) js (j ∷ [])
+    flat_map-append (λ (k : JudgedHistory). remarks_text k.read.number k.read.recorded) js (j ∷ [])
     ∙ ap (λ t. remarks_on js ++ t) (append-nil (remarks_text j.read.number j.read.recorded))
 
-pub so_far_more : (text : List ℕ) (n : ℕ) (rest : List ℕ) (old mid new before among after : Outgoing)
-    (r : Recorded) (m : ℕ) (more : List ℕ) → IsJudgedSoFar text n rest old mid before among
-    → goes n Opening (parts_of rest)
-    ≡ Ok (record { recorded = r; number = m; rest = parts_of more })
+pub so_far_more : (text : List ℕ) (n : ℕ) (rest : List ℕ) (old mid new before among after : OutputModel)
+    (r : RecordingModel) (m : ℕ) (more : List ℕ) → IsJudgedSoFar text n rest old mid before among
+    → goes n Opening (lines_of_text rest)
+    ≡ Ok (record { recorded = r; number = m; rest = lines_of_text more })
     → PutsOrder r mid new → Puts among after (remarks_text m r)
     → IsJudgedSoFar text m more old new before after
 so_far_more text n rest old mid new before among after r m more so reads put remarked =
-    let j : Judged = record {
-      read = record { recorded = r; number = m; rest = parts_of more };
+    let j : JudgedHistory = record {
+      read = record { recorded = r; number = m; rest = lines_of_text more };
       order = put.0;
     } in record {
       judged = so.judged ++ j ∷ [];
-      judged_are = judged_more 1 (parts_of text) so.judged n (parts_of rest) j so.judged_are reads
+      judged_are =
+          judged_more 1 (lines_of_text text) so.judged n (lines_of_text rest) j so.judged_are reads
           put.1;
       texts = subst (Puts old new) (sym (texts_more so.judged j))
           (puts_then old mid new _ _ so.texts put.2);
@@ -183,24 +185,24 @@ so_far_more text n rest old mid new before among after r m more so reads put rem
           (puts_then before among after _ _ so.remarks remarked);
     }
 
-none_put : (now : Outgoing) → Puts now now []
+none_put : (now : OutputModel) → Puts now now []
 none_put now = λ first all h. rw append-nil h
 
 -- THE END
 
-same_put : (a b c : Outgoing) (bs : List ℕ) → c ≡ b → Puts a b bs → Puts a c bs
+same_put : (a b c : OutputModel) (bs : List ℕ) → c ≡ b → Puts a b bs → Puts a c bs
 same_put a b c bs same put = subst (λ k. Puts a k bs) (sym same) put
 
-pub judges_unread : (text : List ℕ) (n : ℕ) (rest : List ℕ) (old new before among after : Outgoing)
+pub judges_unread : (text : List ℕ) (n : ℕ) (rest : List ℕ) (old new before among after : OutputModel)
     (fault : TextFault) → IsJudgedSoFar text n rest old new before among
-    → IsNoEnd n (parts_of rest) → TellsFault (goes n Opening (parts_of rest)) fault
+    → IsNoEnd n (lines_of_text rest) → ReturnsFault (goes n Opening (lines_of_text rest)) fault
     → Puts among after (fault_note fault)
     → Judges (fault_status fault) text old new before after
 judges_unread text n rest old new before among after (faults.At m kind cause) so goes_on tells says = (
   so.judged,
   record {
     number = n;
-    rest = parts_of rest;
+    rest = lines_of_text rest;
     judged_are = so.judged_are;
     remarked = among;
     remarks = so.remarks;
@@ -217,7 +219,7 @@ judges_unread text n rest old new before among after faults.Memory so goes_on te
   so.judged,
   record {
     number = n;
-    rest = parts_of rest;
+    rest = lines_of_text rest;
     judged_are = so.judged_are;
     remarked = among;
     remarks = so.remarks;
@@ -227,15 +229,15 @@ judges_unread text n rest old new before among after faults.Memory so goes_on te
 )
 
 pub judges_stopped : (text : List ℕ) (n : ℕ) (rest : List ℕ)
-    (old new before among mid after : Outgoing) (o : OneRead) (stop : Stop)
-    → IsJudgedSoFar text n rest old new before among → goes n Opening (parts_of rest) ≡ Ok o
+    (old new before among mid after : OutputModel) (o : OneRead) (stop : Stop)
+    → IsJudgedSoFar text n rest old new before among → goes n Opening (lines_of_text rest) ≡ Ok o
     → StopsBy o.number o.recorded among mid stop → EndsBy stop mid after
     → Judges (status_by stop) text old new before after
 judges_stopped text n rest old new before among mid after o stops.Refused so reads stop same = (
   so.judged,
   record {
     number = n;
-    rest = parts_of rest;
+    rest = lines_of_text rest;
     judged_are = so.judged_are;
     remarked = among;
     remarks = so.remarks;
@@ -257,7 +259,7 @@ judges_stopped text n rest old new before among mid after o stops.NotDecided so 
   so.judged,
   record {
     number = n;
-    rest = parts_of rest;
+    rest = lines_of_text rest;
     judged_are = so.judged_are;
     remarked = among;
     remarks = so.remarks;
@@ -269,7 +271,7 @@ judges_stopped text n rest old new before among mid after o stops.Memory so read
   so.judged,
   record {
     number = n;
-    rest = parts_of rest;
+    rest = lines_of_text rest;
     judged_are = so.judged_are;
     remarked = among;
     remarks = so.remarks;
@@ -278,18 +280,18 @@ judges_stopped text n rest old new before among mid after o stops.Memory so read
   so.texts,
 )
 
-pub judges_all : (text : List ℕ) (n : ℕ) (rest : List ℕ) (old new before after : Outgoing)
+pub judges_all : (text : List ℕ) (n : ℕ) (rest : List ℕ) (old new before after : OutputModel)
     → IsJudgedSoFar text n rest old new before after → 1 < n → rest ≡ []
     → Judges statuses.Done text old new before after
 judges_all text n rest old new before after so past none = (
   so.judged,
   record {
     number = n;
-    rest = parts_of rest;
+    rest = lines_of_text rest;
     judged_are = so.judged_are;
     remarked = after;
     remarks = so.remarks;
-    ends = (past, ap parts_of none, refl);
+    ends = (past, ap lines_of_text none, refl);
   },
   so.texts,
 )

@@ -22,7 +22,7 @@ use Rattle.calls_core.proofs.Counting.{one, one_no, count_cons, count_append}
 use Rattle.calls_counts.specs.Faults.{is_advance, least}
 use Rattle.calls_counts.proofs.Events.{count_without}
 use Rattle.calls_report.specs.Counting.{invokes_advance_of, is_advance_of}
-use Rattle.calls_report.specs.Remarks.{returned, returned_after, shown_count, greatest_shown}
+use Rattle.calls_report.specs.Remarks.{returned_advances, returned_after, shown_count, greatest_shown}
 use Rattle.calls_report.specs.kept.Sure.{is_open, is_open_after, left_after, raised_by}
 
 -- ADVANCES, BY A TEST OF THEIR INVOCATIONS' POSITIONS
@@ -186,7 +186,7 @@ returned_is kinds k events i d lt h =
     )
 
 -- and of all
-pub all_returned : (k : ℕ) (events : List Event) → returned k events
+pub all_returned : (k : ℕ) (events : List Event) → returned_advances k events
     ≡ count_by (is_advance_of k) events - count_by (is_open k) (pending_calls (reverse events))
 all_returned k events =
     omega (arith, count_reversed (is_advance_of k) events, called_are (λ p. true) k (reverse events))

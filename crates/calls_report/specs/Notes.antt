@@ -1,6 +1,6 @@
 -- The notes.
 use Rattle.std.specs.Prelude.{ℕ, ◌-◌, List, ◌++◌, length, codes, decimal, if◌then◌else◌}
-use Rattle.ec_text.specs.Puts.{Outgoing, Puts}
+use Rattle.ec_text.specs.Puts.{OutputModel, Puts}
 use Rattle.calls_text.specs.declared.fault.Kind.{Kind}
 use Rattle.calls_text.specs.declared.fault.Kind.TheVariants as kinds
 use Rattle.calls_text.specs.declared.fault.Cause.{Cause}
@@ -8,13 +8,13 @@ use Rattle.calls_text.specs.declared.fault.Cause.TheVariants as causes
 use Rattle.calls_text.specs.declared.fault.TextFault.{TextFault}
 use Rattle.calls_text.specs.declared.fault.TextFault.TheVariants as faults
 use Rattle.calls_text.specs.Faults.{kind_number, kind_name}
-use Rattle.calls_text.specs.Recordings.{Recorded}
-use Rattle.calls_text.specs.Spelling.{store_word, value_of, spaced}
+use Rattle.calls_text.specs.Recordings.{RecordingModel}
+use Rattle.calls_text.specs.Spelling.{store_word, numbers_of_value, numbers_after_spaces}
 use Rattle.calls_cells.specs.declared.outcome.Undecided as cells
 use Rattle.calls_verdict.specs.declared.verdict.Refusal.{Refusal}
 use Rattle.calls_report.specs.declared.certificate.Certificate.{Certificate}
 use Rattle.calls_report.specs.Certificates.{IsCertificate}
-use Rattle.calls_report.specs.Refusals.{Scene, line_of, is_cell, certificate_text}
+use Rattle.calls_report.specs.Refusals.{SiteModel, line_of, is_cell, certificate_text}
 
 -- FAULTS OF TEXTS
 
@@ -64,10 +64,10 @@ fault_note faults.Memory = codes "no memory\n"
 -- HISTORIES WITHOUT A LINEARIZATION
 
 -- the number of the line of the event at position 0, if n is that of the line after `end`
-abbrev pub first_line : ℕ → Recorded → ℕ
+abbrev pub first_line : ℕ → RecordingModel → ℕ
 first_line n r = n - 1 - length r.events
 
-abbrev pub scene_of : ℕ → Recorded → ℕ → ℕ → Scene
+abbrev pub scene_of : ℕ → RecordingModel → ℕ → ℕ → SiteModel
 scene_of n r object at = record {
   heading = r.heading;
   lists = r.lists;
@@ -77,7 +77,7 @@ scene_of n r object at = record {
 }
 
 -- the same, if n is the number of the line of the event at position 0
-abbrev pub scene_at : Recorded → ℕ → ℕ → ℕ → Scene
+abbrev pub scene_at : RecordingModel → ℕ → ℕ → ℕ → SiteModel
 scene_at r object n at = record {
   heading = r.heading;
   lists = r.lists;
@@ -87,34 +87,35 @@ scene_at r object n at = record {
 }
 
 -- the note of a certificate
-abbrev pub refusal_note : Scene → Certificate → List ℕ
+abbrev pub refusal_note : SiteModel → Certificate → List ℕ
 refusal_note s shown =
     (codes "line " ++ line_of s s.at ++ codes ": ") ++ certificate_text s shown ++ codes "\n"
 
 -- a note is put of what the calls of the object show, up to the first faulty event
-abbrev pub SaysRefusal : ℕ → Recorded → Refusal → Outgoing → Outgoing → Type 0
+abbrev pub SaysRefusal : ℕ → RecordingModel → Refusal → OutputModel → OutputModel → Type 0
 SaysRefusal n r refusal old new =
     (shown : Certificate) × IsCertificate r refusal shown
     × Puts old new (refusal_note (scene_of n r refusal.object refusal.at) shown)
 
 -- HISTORIES THAT ARE NOT DECIDED
 
-unfoldable pub repeated_words : Scene → List ℕ
+unfoldable pub repeated_words : SiteModel → List ℕ
 repeated_words s =
     if is_cell s then codes " was put more than once, and the puts of lines "
     else codes " was written more than once, and the writes of lines "
 
-abbrev pub undecided_text : Scene → ℕ → List ℕ
+abbrev pub undecided_text : SiteModel → ℕ → List ℕ
 undecided_text s value =
-    codes " is not decided:" ++ spaced (value_of s.heading s.lists s.object value)
+    codes " is not decided:"
+    ++ numbers_after_spaces (numbers_of_value s.heading s.lists s.object value)
 
-abbrev pub repeated_text : Scene → ℕ → List ℕ
+abbrev pub repeated_text : SiteModel → ℕ → List ℕ
 repeated_text s value = store_word s.heading s.object ++ undecided_text s value ++ repeated_words s
 
-abbrev pub overlap_text : Scene → cells.Undecided → List ℕ
+abbrev pub overlap_text : SiteModel → cells.Undecided → List ℕ
 overlap_text s u =
     line_of s u.first.first ++ codes " and " ++ line_of s u.second.first ++ codes " overlap\n"
 
 -- the note on a cell or a database that is not decided
-abbrev pub undecided_note : Scene → cells.Undecided → List ℕ
+abbrev pub undecided_note : SiteModel → cells.Undecided → List ℕ
 undecided_note s u = repeated_text s u.value ++ overlap_text s u

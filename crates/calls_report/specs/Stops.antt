@@ -1,9 +1,9 @@
 -- Why a history has no linearization, and how a command ends then.
 use Rattle.std.specs.Prelude.{ℕ, codes}
-use Rattle.ec_text.specs.Puts.{Outgoing, Puts}
+use Rattle.ec_text.specs.Puts.{OutputModel, Puts}
 use Rattle.calls_verdict.specs.declared.verdict.Refusal.{Refusal}
 use Rattle.calls_verdict.specs.declared.verdict.Undecided.{Undecided}
-use Rattle.calls_text.specs.Recordings.{Recorded}
+use Rattle.calls_text.specs.Recordings.{RecordingModel}
 use Rattle.calls_report.specs.declared.status.Status.{Status}
 use Rattle.calls_report.specs.declared.status.Status.TheVariants.{Refused, NotDecided, Memory}
 use Rattle.calls_report.specs.Notes.{scene_of, SaysRefusal, undecided_note}
@@ -11,7 +11,7 @@ use Rattle.calls_report.specs.Checks.{IsRefused, IsOpen}
 
 -- a command ends with this status, since the history has no linearization, is not decided, or memory
 -- ran out, and a note says so; n is the line after the `end` of the history
-abbrev pub StopsAs : ℕ → Recorded → Outgoing → Outgoing → Status → Type 0
+abbrev pub StopsAs : ℕ → RecordingModel → OutputModel → OutputModel → Status → Type 0
 StopsAs n r old new Refused = (x : Refusal) × IsRefused r x × SaysRefusal n r x old new
 StopsAs n r old new NotDecided =
     (u : Undecided) × IsOpen r u × Puts old new (undecided_note (scene_of n r u.object 0) u.cause)

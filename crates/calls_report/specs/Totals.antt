@@ -8,7 +8,7 @@ use Rattle.std.specs.List.{flat_map}
 use Rattle.ec_count.specs.declared.target.Target.{Target}
 use Rattle.ec_count.specs.declared.target.Target.TheVariants.{Worker, Event, Sequencer, Cells}
 use Rattle.ec_count.specs.declared.target.Target.TheVariants.{Group}
-use Rattle.ec_heading.specs.Headed.{Headed}
+use Rattle.ec_heading.specs.HeadingModel.{HeadingModel}
 use Rattle.ec_heading.specs.declared.group.Group as kinds
 use Rattle.ec_heading.specs.declared.group.Group.TheVariants as groups
 use Rattle.calls_core.specs.declared.history.Op.{Op}
@@ -16,9 +16,9 @@ use Rattle.calls_core.specs.declared.history.Op.TheVariants as ops
 use Rattle.calls_core.specs.declared.history.Placed.{Placed}
 use Rattle.calls_semaphores.specs.Banks.{takes, is_done}
 use Rattle.ec_heading.specs.Groups.{has_event, has_sequencer, has_cell}
-use Rattle.calls_text.specs.Recordings.{Recorded, first_sequencer, first_cell, first_group}
-use Rattle.calls_text.specs.Recordings.{start_of}
-use Rattle.calls_text.specs.Spelling.{list_of}
+use Rattle.calls_text.specs.Recordings.{RecordingModel, first_sequencer, first_cell, first_group}
+use Rattle.calls_text.specs.Recordings.{start_count}
+use Rattle.calls_text.specs.Spelling.{numbers_of_list}
 
 -- COUNTS OVER THE ORDER
 
@@ -52,12 +52,12 @@ abbrev pub adds_to : ℕ → Op → Bool
 adds_to i (ops.V j) = j == i
 adds_to i _ = false
 
-abbrev pub added : List Placed → ℕ → ℕ
-added order i = count_by (λ (p : Placed). adds_to i p.call.op) order
+abbrev pub added_units : List Placed → ℕ → ℕ
+added_units order i = count_by (λ (p : Placed). adds_to i p.call.op) order
 
 -- how many units of the semaphore at place i were taken
-abbrev pub taken : List Placed → ℕ → ℕ
-taken order i = count_by (λ (p : Placed). takes i p.call.op && is_done p.call.reply) order
+abbrev pub taken_units : List Placed → ℕ → ℕ
+taken_units order i = count_by (λ (p : Placed). takes i p.call.op && is_done p.call.reply) order
 
 abbrev pub is_pair : Op → Bool
 is_pair (ops.PBoth i j) = true
@@ -70,35 +70,36 @@ pairs order = count_by (λ (p : Placed). is_pair p.call.op && is_done p.call.rep
 -- THE OBJECTS OF GROUPS
 
 -- what an eventcount has by the calls of the group at place i, if it belongs to that
-abbrev pub group_event : Headed → List Placed → ℕ → ℕ → kinds.Group → Option ℕ
+abbrev pub group_event : HeadingModel → List Placed → ℕ → ℕ → kinds.Group → Option ℕ
 group_event h order e i (groups.Buffer b) = if has_event (groups.Buffer b) e then Some 0 else None
 group_event h order e i (groups.Database d) =
     if has_event (groups.Database d) e then Some (effects order (first_group h + i)) else None
 group_event h order e i (groups.Semaphore s) =
-    if has_event (groups.Semaphore s) e then Some (added order i) else None
+    if has_event (groups.Semaphore s) e then Some (added_units order i) else None
 group_event h order e i (groups.Both s) =
     if has_event (groups.Both s) e then Some (pairs order) else None
 
 -- and a sequencer
-abbrev pub group_sequencer : Headed → List Placed → ℕ → ℕ → kinds.Group → Option ℕ
+abbrev pub group_sequencer : HeadingModel → List Placed → ℕ → ℕ → kinds.Group → Option ℕ
 group_sequencer h order q i (groups.Buffer b) = if has_sequencer (groups.Buffer b) q then Some 0 else
     None
 group_sequencer h order q i (groups.Database d) =
     if has_sequencer (groups.Database d) q then Some (effects order (first_group h + i)) else None
 group_sequencer h order q i (groups.Semaphore s) =
-    if has_sequencer (groups.Semaphore s) q then Some (taken order i) else None
+    if has_sequencer (groups.Semaphore s) q then Some (taken_units order i) else None
 group_sequencer h order q i (groups.Both s) =
     if has_sequencer (groups.Both s) q then Some (pairs order) else None
 
 -- the numbers of a database in the end
-abbrev pub stored : Recorded → List Placed → ℕ → ℕ → List ℕ
-stored r order i cells = list_of r.lists cells (value_after (first_group r.heading + i) 0 order)
+abbrev pub final_numbers : RecordingModel → List Placed → ℕ → ℕ → List ℕ
+final_numbers r order i cells =
+    numbers_of_list r.lists cells (value_after (first_group r.heading + i) 0 order)
 
 -- and a cell
-abbrev pub group_cell : Recorded → List Placed → ℕ → ℕ → kinds.Group → Option ℕ
+abbrev pub group_cell : RecordingModel → List Placed → ℕ → ℕ → kinds.Group → Option ℕ
 group_cell r order x i (groups.Buffer b) = if has_cell (groups.Buffer b) x then Some 0 else None
 group_cell r order x i (groups.Database d) =
-    if has_cell (groups.Database d) x then Some (slice_index_or (stored r order i d.cells)
+    if has_cell (groups.Database d) x then Some (slice_index_or (final_numbers r order i d.cells)
     (x - d.first_cell) 0)
     else None
 group_cell r order x i (groups.Semaphore s) = None
@@ -116,17 +117,17 @@ by_groups f i (g ∷ gs) = or_else (f i g) (by_groups f (i + 1) gs)
 -- TOTALS: what each object has by the calls
 
 -- a count does not go past the greatest number of 64 bits
-abbrev pub event_total : Recorded → List Placed → ℕ → ℕ
+abbrev pub event_total : RecordingModel → List Placed → ℕ → ℕ
 event_total r order e =
     unwrap_or (by_groups (group_event r.heading order e) 0 r.heading.groups)
-    (min (start_of r.from e + effects order e) (2 ^ 64 - 1))
+    (min (start_count r.from e + effects order e) (2 ^ 64 - 1))
 
-abbrev pub sequencer_total : Recorded → List Placed → ℕ → ℕ
+abbrev pub sequencer_total : RecordingModel → List Placed → ℕ → ℕ
 sequencer_total r order q =
     unwrap_or (by_groups (group_sequencer r.heading order q) 0 r.heading.groups)
     (effects order (first_sequencer r.heading + q))
 
-abbrev pub cell_total : Recorded → List Placed → ℕ → ℕ
+abbrev pub cell_total : RecordingModel → List Placed → ℕ → ℕ
 cell_total r order x =
     unwrap_or (by_groups (group_cell r order x) 0 r.heading.groups)
     (value_after (first_cell r.heading + x) 0 order)
@@ -142,14 +143,14 @@ cell_line word i n =
 
 -- the lines of n cells of a block, from its i-th on, of which the block begins at cell first; there
 -- are 256 cells
-unfoldable pub cell_lines : Recorded → List Placed → List ℕ → ℕ → ℕ → ℕ → List ℕ
+unfoldable pub cell_lines : RecordingModel → List Placed → List ℕ → ℕ → ℕ → ℕ → List ℕ
 cell_lines r order word first i zero = []
 cell_lines r order word first i (suc n) =
     (if nat_lt (first + i) 256 then cell_line word i (cell_total r order (first + i)) else [])
     ++ cell_lines r order word first (i + 1) n
 
 -- the lines of what a word spells
-abbrev pub word_totals : Recorded → List Placed → List ℕ → Target → List ℕ
+abbrev pub word_totals : RecordingModel → List Placed → List ℕ → Target → List ℕ
 word_totals r order word (Event e) = count_line (codes "eventcount ") word (event_total r order e)
 word_totals r order word (Sequencer q) = count_line (codes "sequencer ") word
     (sequencer_total r order q)
@@ -158,11 +159,11 @@ word_totals r order word (Worker w) = []
 word_totals r order word (Group g) = []
 
 -- the same of the word at a place, if there is one
-abbrev pub totals_at : Recorded → List Placed → Option (List ℕ × Target) → List ℕ
+abbrev pub totals_at : RecordingModel → List Placed → Option (List ℕ × Target) → List ℕ
 totals_at r order None = []
 totals_at r order (Some e) = word_totals r order e.0 e.1
 
 -- the totals, in the order of the declarations and of the objects of each
-abbrev pub totals_text : Recorded → List Placed → List ℕ
+abbrev pub totals_text : RecordingModel → List Placed → List ℕ
 totals_text r order =
     flat_map (λ (e : List ℕ × Target). word_totals r order e.0 e.1) r.heading.words

@@ -5,7 +5,9 @@ ghost use Rattle.calls_report.specs.Certificates.{advances_between, start_at, co
 ghost use Rattle.calls_report.specs.Certificates.{ticket_certificate, units_of, unit_certificate};
 ghost use Rattle.calls_report.specs.Certificates.{IsValueCertificate, IsCertificate};
 
-use crate::counting::{Counted, count_advances, count_completed, count_pending_tickets, count_ups};
+use crate::counting::{
+    CountFilter, count_advances, count_completed, count_pending_tickets, count_ups,
+};
 use calls_core::{Call, Event, Reply};
 use calls_text::Recording;
 use calls_verdict::{Fault, Refusal};
@@ -69,7 +71,7 @@ fn advances_between(
 ) -> Result<usize, AllocError>
     ensures { IfOk result (λ n. n ≡ advances_between object from before events.now) }
 {
-    count_completed(alloc, events, Counted::Advances(object, from, before))
+    count_completed(alloc, events, CountFilter::Advances(object, from, before))
 }
 
 /// Returns the count of an eventcount at the beginning.
@@ -125,7 +127,7 @@ fn of_count<'a>(
 }
 
 /// Returns the number that a ticket returned.
-pub(crate) fn number_of(call: &Call) -> usize
+pub(crate) fn ticket_number(call: &Call) -> usize
     ensures { result ≡ number call.now }
 {
     match call.reply {
@@ -147,7 +149,7 @@ fn of_ticket<'a>(
         calls_tickets::Fault::Twice(one, other) => Ok(Certificate::Twice(one, other)),
         calls_tickets::Fault::Turned(one, other) => Ok(Certificate::Turned(one, other)),
         calls_tickets::Fault::Drawn(call) => {
-            let counted = Counted::Tickets(object, number_of(&call));
+            let counted = CountFilter::Tickets(object, ticket_number(&call));
             let drawn = count_completed(alloc, events, counted)?;
             let pending = count_pending_tickets(alloc, events, object, call.last)?;
             let Some(tickets) = drawn.checked_add(pending) else {
@@ -180,7 +182,7 @@ fn of_units<'a>(
     let place = fault.index;
     Ok(Certificate::Units {
         place,
-        taken: count_completed(alloc, events, Counted::Taken(place))?,
+        taken: count_completed(alloc, events, CountFilter::Taken(place))?,
         units: units_of(heading, place),
         added: count_ups(events, place),
     })

@@ -11,9 +11,9 @@ ghost use Rattle.calls_report.specs.kept.Sums.{AreSums};
 ghost use Rattle.calls_report.specs.kept.Judging.{PutsOrder, StopsBy, status_by, EndsBy};
 ghost use Rattle.calls_report.specs.kept.Judging.{fault_status, Judges};
 
-use crate::notes::{say_fault, say_refusal, say_undecided};
+use crate::notes::{report_fault, report_refusal, report_undecided};
 use crate::order::put_order;
-use crate::remarks::{remarks_of, say_remarks};
+use crate::remarks::{remarks_of, report_remarks};
 use crate::status::Status;
 use crate::sums::Sums;
 use crate::totals::Totals;
@@ -21,7 +21,7 @@ use crate::words::Speaker;
 use calls_core::Placed;
 use calls_text::{Read as OneRead, Recording, TextFault, read_history};
 use calls_verdict::{Verdict, decide};
-use ec_text::{Input, Out, read_up_to};
+use ec_text::{Input, Output, read_up_to};
 use std::alloc::Global;
 use std::io::{Read, Write};
 
@@ -31,7 +31,7 @@ pub const TEXT_MAX: usize = 67_108_864;
 /// A history at which a check ended: the first that has no linearization or is not decided, or else
 /// the last one of the text.
 #[derive(Drop)]
-pub struct LastJudged<'a> {
+pub struct LastHistory<'a> {
     /// The text from the history's first line on.
     pub text: &'a [u8],
     /// The number of that line.
@@ -52,7 +52,7 @@ pub(crate) enum Stop {
 }
 
 /// Puts the text of a linearizable history.
-fn put_text<W: Write>(out: &mut Out<'_, W>, recording: &Recording, order: &[Placed], sums: &Sums)
+fn put_text<W: Write>(out: &mut Output<'_, W>, recording: &Recording, order: &[Placed], sums: &Sums)
     requires { AreSums order.now sums.now }
     ensures { Puts out.old out.new (history_text recording.now order.now) }
 {
@@ -70,7 +70,7 @@ fn find_order<N: Write>(
     alloc: Global,
     read: &OneRead<'_>,
     kept: &mut Option<Verdict>,
-    notes: &mut Out<'_, N>,
+    notes: &mut Output<'_, N>,
 ) -> Result<Vec<Placed>, Stop>
     ensures ok { IfOk result (λ order. HasOrder read.now.recording order.items) }
     ensures quiet { OnOk result (notes.new ≡ notes.old) }
@@ -83,7 +83,7 @@ fn find_order<N: Write>(
     };
     match verdict {
         Verdict::Linearizable(order) => Ok(order),
-        Verdict::Refused(refusal) => match say_refusal(alloc, notes, read, &refusal) {
+        Verdict::Refused(refusal) => match report_refusal(alloc, notes, read, &refusal) {
             Ok(()) => {
                 *kept = Some(Verdict::Refused(refusal));
                 Err(Stop::Refused)
@@ -91,7 +91,7 @@ fn find_order<N: Write>(
             Err(_) => Err(Stop::Memory),
         },
         Verdict::NotDecided(undecided) => {
-            say_undecided(notes, read, &undecided);
+            report_undecided(notes, read, &undecided);
             *kept = Some(Verdict::NotDecided(undecided));
             Err(Stop::NotDecided)
         }
@@ -104,8 +104,8 @@ fn judge<W: Write, N: Write>(
     alloc: Global,
     read: &OneRead<'_>,
     kept: &mut Option<Verdict>,
-    out: &mut Out<'_, W>,
-    notes: &mut Out<'_, N>,
+    out: &mut Output<'_, W>,
+    notes: &mut Output<'_, N>,
 ) -> Result<(), Stop>
     ensures ok { OnOk result (PutsOrder read.now.recording out.old out.new) }
     ensures remarks { OnOk result (Puts notes.old notes.new
@@ -126,13 +126,13 @@ fn judge<W: Write, N: Write>(
         return Err(Stop::Memory);
     };
     put_text(out, &read.recording, &order, &sums);
-    say_remarks(notes, read, &remarks);
+    report_remarks(notes, read, &remarks);
     *kept = Some(Verdict::Linearizable(order));
     Ok(())
 }
 
 /// Returns how a check ends that was stopped, and says that memory ran out.
-fn end_by<N: Write>(stop: Stop, notes: &mut Out<'_, N>) -> Status
+fn end_by<N: Write>(stop: Stop, notes: &mut Output<'_, N>) -> Status
     ensures status { result ≡ status_by stop }
     ensures stops { result ≡ Done → ⊥ }
     ensures notes { EndsBy stop notes.old notes.new }
@@ -153,7 +153,7 @@ fn end_by<N: Write>(stop: Stop, notes: &mut Out<'_, N>) -> Status
 pub fn linearize<N: Write>(
     alloc: Global,
     read: &OneRead<'_>,
-    notes: &mut Out<'_, N>,
+    notes: &mut Output<'_, N>,
 ) -> Result<Vec<Placed>, Status>
     ensures ok { IfOk result (λ order. HasOrder read.now.recording order.items) }
     ensures quiet { OnOk result (notes.new ≡ notes.old) }
@@ -168,13 +168,13 @@ pub fn linearize<N: Write>(
 }
 
 /// Says why a text is no history, and returns how a command ends then.
-pub fn note_unread<N: Write>(fault: TextFault, notes: &mut Out<'_, N>) -> Status
+pub fn note_unread<N: Write>(fault: TextFault, notes: &mut Output<'_, N>) -> Status
     ensures status { result ≡ fault_status fault }
     ensures stops { result ≡ Done → ⊥ }
     ensures puts { Puts notes.old notes.new (fault_note fault) }
     ensures written { IsWrittenOut notes.new }
 {
-    say_fault(notes, fault);
+    report_fault(notes, fault);
     match fault {
         TextFault::At { .. } => Status::Refused,
         TextFault::Memory => Status::Memory,
@@ -187,10 +187,10 @@ fn judged<'a>(
     number: u64,
     read: OneRead<'a>,
     verdict: Option<Verdict>,
-) -> Option<LastJudged<'a>>
+) -> Option<LastHistory<'a>>
     ensures { IsSome verdict → IsSome result }
 {
-    Some(LastJudged {
+    Some(LastHistory {
         text,
         number,
         read,
@@ -202,9 +202,9 @@ fn judged<'a>(
 fn judge_all<'a, W: Write, N: Write>(
     alloc: Global,
     text: &'a [u8],
-    last: &mut Option<LastJudged<'a>>,
-    out: &mut Out<'_, W>,
-    notes: &mut Out<'_, N>,
+    last: &mut Option<LastHistory<'a>>,
+    out: &mut Output<'_, W>,
+    notes: &mut Output<'_, N>,
 ) -> Status
     requires { length text.now ≤ TEXT_MAX }
     ensures judges { Judges result text.now out.old out.new notes.old notes.new }
@@ -236,9 +236,9 @@ fn judge_all<'a, W: Write, N: Write>(
 fn check_text<'a, W: Write, N: Write>(
     alloc: Global,
     text: &'a [u8],
-    last: &mut Option<LastJudged<'a>>,
+    last: &mut Option<LastHistory<'a>>,
     out: &mut W,
-    notes: &mut Out<'_, N>,
+    notes: &mut Output<'_, N>,
 ) -> Status
     requires { length text.now ≤ TEXT_MAX }
     ensures checks { ChecksText result text.now
@@ -247,7 +247,7 @@ fn check_text<'a, W: Write, N: Write>(
     ensures kept { result ≡ Done → IsSome last.new }
     ensures written { IsWrittenOut notes.old → IsWrittenOut notes.new }
 {
-    let mut texts = Out::new(out);
+    let mut texts = Output::new(out);
     let status = judge_all(alloc, text, last, &mut texts, notes);
     let done = texts.finish();
     texts.into_writer();
@@ -265,9 +265,9 @@ fn check_text<'a, W: Write, N: Write>(
 pub fn check_whole<'a, W: Write, N: Write>(
     alloc: Global,
     text: &'a [u8],
-    last: &mut Option<LastJudged<'a>>,
+    last: &mut Option<LastHistory<'a>>,
     out: &mut W,
-    notes: &mut Out<'_, N>,
+    notes: &mut Output<'_, N>,
 ) -> Status
     ensures checks { ChecksWhole result text.now
         (record { out = W.contents out.old; notes = notes.old })
@@ -294,7 +294,7 @@ pub fn check<R: Read, W: Write, N: Write>(
     alloc: Global,
     reader: &mut R,
     out: &mut W,
-    notes: &mut Out<'_, N>,
+    notes: &mut Output<'_, N>,
 ) -> Status
     ensures ends { IfSome (R.remaining reader.old) (λ bytes. Checks bytes (R.remaining reader.new)
         result

@@ -12,7 +12,7 @@ use std::alloc::{AllocError, Global};
 
 /// Which completed calls are counted.
 #[derive(Clone, Copy, Debug, PartialEq, Eq)]
-pub(crate) enum Counted {
+pub(crate) enum CountFilter {
     /// The advances of this object that were invoked at the first position or later and have their
     /// responses before the second.
     Advances(usize, usize, usize),
@@ -23,24 +23,24 @@ pub(crate) enum Counted {
 }
 
 /// Returns whether a completed call is counted.
-fn is_counted(counted: Counted, call: &Call) -> bool
+fn is_counted(counted: CountFilter, call: &Call) -> bool
     ensures { result ≡ is_counted counted call.now }
 {
     match counted {
-        Counted::Advances(object, from, before) => {
+        CountFilter::Advances(object, from, before) => {
             call.object == object
                 && matches!(call.op, Op::Advance)
                 && from <= call.first
                 && call.last < before
         }
-        Counted::Tickets(object, most) => {
+        CountFilter::Tickets(object, most) => {
             call.object == object
                 && match call.reply {
                     Reply::Number(n) => n <= most,
                     _ => false,
                 }
         }
-        Counted::Taken(place) => {
+        CountFilter::Taken(place) => {
             matches!(call.reply, Reply::Done)
                 && match call.op {
                     Op::P(i) => i == place,
@@ -52,7 +52,7 @@ fn is_counted(counted: Counted, call: &Call) -> bool
 }
 
 /// Returns the call that an event completes, if it completes one of these.
-pub fn completed(pending: &[PendingCall], event: &Event) -> Option<Call>
+pub fn completed_call(pending: &[PendingCall], event: &Event) -> Option<Call>
     ensures call { cons_option result [] ≡ ended_call event.now event.now.action
         (pending_of event.now.worker pending.now) }
     ensures at { IfSome result (λ c. c.last ≡ event.now.at) }
@@ -75,7 +75,7 @@ pub fn completed(pending: &[PendingCall], event: &Event) -> Option<Call>
 }
 
 /// Returns how many of one call or none are counted.
-fn count_one(counted: Counted, call: Option<Call>) -> usize
+fn count_one(counted: CountFilter, call: Option<Call>) -> usize
     ensures count { result ≡ count_by (is_counted counted) (cons_option call []) }
     ensures few { result ≤ 1 }
 {
@@ -89,7 +89,7 @@ fn count_one(counted: Counted, call: Option<Call>) -> usize
 pub(crate) fn count_completed(
     alloc: Global,
     events: &[Event],
-    counted: Counted,
+    counted: CountFilter,
 ) -> Result<usize, AllocError>
     ensures { IfOk result (λ n. n ≡ count_by (is_counted counted)
         (completed_calls (reverse events.now))) }
@@ -97,7 +97,7 @@ pub(crate) fn count_completed(
     let mut pending = Vec::new(alloc);
     let mut count = 0;
     for event in events {
-        count += count_one(counted, completed(&pending, event));
+        count += count_one(counted, completed_call(&pending, event));
         let _object = follow(&mut pending, event)?;
     }
     Ok(count)

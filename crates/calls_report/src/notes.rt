@@ -13,7 +13,7 @@ use crate::refusal::Site;
 use crate::words::Speaker;
 use calls_text::{Cause, Kind, Read, Recording, TextFault};
 use calls_verdict::{Refusal, Undecided};
-use ec_text::Out;
+use ec_text::Output;
 use std::alloc::{AllocError, Global};
 use std::io::Write;
 
@@ -59,7 +59,7 @@ fn cause_text(kind: Kind, cause: Cause) -> &'static [u8]
 }
 
 /// Puts the beginning of a note on a line.
-fn put_line<W: Write>(out: &mut Out<'_, W>, line: u64)
+fn put_line<W: Write>(out: &mut Output<'_, W>, line: u64)
     ensures { Puts out.old out.new (line_words line) }
 {
     out.put(b"line ");
@@ -68,7 +68,7 @@ fn put_line<W: Write>(out: &mut Out<'_, W>, line: u64)
 }
 
 /// Puts the number and the name of a kind.
-fn put_kind<W: Write>(out: &mut Out<'_, W>, kind: Kind)
+fn put_kind<W: Write>(out: &mut Output<'_, W>, kind: Kind)
     ensures { Puts out.old out.new (kind_words kind) }
 {
     out.put_number(kind.number());
@@ -77,7 +77,7 @@ fn put_kind<W: Write>(out: &mut Out<'_, W>, kind: Kind)
 }
 
 /// Puts what is wrong with a line.
-fn put_cause<W: Write>(out: &mut Out<'_, W>, kind: Kind, cause: Cause)
+fn put_cause<W: Write>(out: &mut Output<'_, W>, kind: Kind, cause: Cause)
     ensures { Puts out.old out.new (codes ": " ++ cause_text kind cause ++ codes "\n") }
 {
     out.put(b": ");
@@ -86,7 +86,7 @@ fn put_cause<W: Write>(out: &mut Out<'_, W>, kind: Kind, cause: Cause)
 }
 
 /// Puts why a text is no history.
-fn put_fault<W: Write>(out: &mut Out<'_, W>, fault: TextFault)
+fn put_fault<W: Write>(out: &mut Output<'_, W>, fault: TextFault)
     ensures { Puts out.old out.new (fault_note fault) }
 {
     match fault {
@@ -100,7 +100,7 @@ fn put_fault<W: Write>(out: &mut Out<'_, W>, fault: TextFault)
 }
 
 /// Says why a text is no history.
-pub fn say_fault<N: Write>(notes: &mut Out<'_, N>, fault: TextFault)
+pub fn report_fault<N: Write>(notes: &mut Output<'_, N>, fault: TextFault)
     ensures puts { Puts notes.old notes.new (fault_note fault) }
     ensures written { IsWrittenOut notes.new }
 {
@@ -129,7 +129,7 @@ pub(crate) fn site_of<'a>(read: &'a Read<'_>, object: usize, at: usize) -> Site<
 }
 
 /// Puts the line of the first faulty event.
-fn put_site<W: Write>(out: &mut Out<'_, W>, site: &Site<'_>)
+fn put_site<W: Write>(out: &mut Output<'_, W>, site: &Site<'_>)
     ensures { Puts out.old out.new (codes "line " ++ line_of site.now site.now.at ++ codes ": ") }
 {
     out.put(b"line ");
@@ -138,7 +138,7 @@ fn put_site<W: Write>(out: &mut Out<'_, W>, site: &Site<'_>)
 }
 
 /// Puts the note of a certificate.
-fn put_refusal<W: Write>(out: &mut Out<'_, W>, site: &Site<'_>, shown: Certificate<'_>)
+fn put_refusal<W: Write>(out: &mut Output<'_, W>, site: &Site<'_>, shown: Certificate<'_>)
     ensures { Puts out.old out.new (refusal_note site.now shown.entry) }
 {
     put_site(out, site);
@@ -147,9 +147,9 @@ fn put_refusal<W: Write>(out: &mut Out<'_, W>, site: &Site<'_>, shown: Certifica
 }
 
 /// Says why a history has no linearization.
-pub fn say_refusal<N: Write>(
+pub fn report_refusal<N: Write>(
     alloc: Global,
-    notes: &mut Out<'_, N>,
+    notes: &mut Output<'_, N>,
     read: &Read<'_>,
     refusal: &Refusal,
 ) -> Result<(), AllocError>
@@ -179,8 +179,8 @@ fn site_at(recording: &Recording, object: usize, first: u64, at: usize) -> Site<
 
 /// Says why the calls of an object have no linearization from the event at a position on, by the
 /// number of the line of the event at position 0.
-pub fn say_certificate<N: Write>(
-    notes: &mut Out<'_, N>,
+pub fn report_certificate<N: Write>(
+    notes: &mut Output<'_, N>,
     recording: &Recording,
     object: usize,
     first: u64,
@@ -197,7 +197,7 @@ pub fn say_certificate<N: Write>(
 
 /// Puts that something was put more than once.
 #[tactic(auto, unfolding(crate::specs::Notes::repeated_words))]
-fn put_repeated_words<W: Write>(out: &mut Out<'_, W>, site: &Site<'_>)
+fn put_repeated_words<W: Write>(out: &mut Output<'_, W>, site: &Site<'_>)
     ensures { Puts out.old out.new (repeated_words site.now) }
 {
     if site.speaker.is_cell(site.object) {
@@ -208,14 +208,14 @@ fn put_repeated_words<W: Write>(out: &mut Out<'_, W>, site: &Site<'_>)
 }
 
 /// Puts which value is not decided.
-fn put_undecided<W: Write>(out: &mut Out<'_, W>, site: &Site<'_>, value: usize)
+fn put_undecided<W: Write>(out: &mut Output<'_, W>, site: &Site<'_>, value: usize)
     ensures { Puts out.old out.new (undecided_text site.now value) }
 {
     site.put_with(out, b" is not decided:", value);
 }
 
 /// Puts what was put more than once.
-fn put_repeated<W: Write>(out: &mut Out<'_, W>, site: &Site<'_>, value: usize)
+fn put_repeated<W: Write>(out: &mut Output<'_, W>, site: &Site<'_>, value: usize)
     ensures { Puts out.old out.new (repeated_text site.now value) }
 {
     site.speaker.put_store(out, site.object);
@@ -224,7 +224,7 @@ fn put_repeated<W: Write>(out: &mut Out<'_, W>, site: &Site<'_>, value: usize)
 }
 
 /// Puts which puts overlap.
-fn put_overlap<W: Write>(out: &mut Out<'_, W>, site: &Site<'_>, cause: &calls_cells::Undecided)
+fn put_overlap<W: Write>(out: &mut Output<'_, W>, site: &Site<'_>, cause: &calls_cells::Undecided)
     ensures { Puts out.old out.new (overlap_text site.now cause.now) }
 {
     site.put_line(out, cause.first.first);
@@ -234,7 +234,7 @@ fn put_overlap<W: Write>(out: &mut Out<'_, W>, site: &Site<'_>, cause: &calls_ce
 }
 
 /// Says why a history is not decided.
-pub fn say_undecided<N: Write>(notes: &mut Out<'_, N>, read: &Read<'_>, undecided: &Undecided)
+pub fn report_undecided<N: Write>(notes: &mut Output<'_, N>, read: &Read<'_>, undecided: &Undecided)
     ensures puts { Puts notes.old notes.new (undecided_note (scene_of read.now.number
         read.now.recording undecided.now.object 0) undecided.now.cause) }
     ensures written { IsWrittenOut notes.new }

@@ -4,11 +4,11 @@ ghost use Rattle.calls_core.specs.Histories.{pending_calls, completed_calls};
 ghost use Rattle.calls_counts.specs.Faults.{least};
 ghost use Rattle.calls_report.specs.Certificates.{start_at};
 ghost use Rattle.calls_report.specs.Counting.{is_advance_of};
-ghost use Rattle.calls_report.specs.Remarks.{returned, greatest_shown, sure_count};
+ghost use Rattle.calls_report.specs.Remarks.{returned_advances, greatest_shown, sure_count};
 ghost use Rattle.calls_report.specs.kept.Sure.{is_open, is_open_after, left_after, raised_by};
 
 use crate::certificate::start_at;
-use crate::counting::{completed, count_advances, is_advance_of};
+use crate::counting::{completed_call, count_advances, is_advance_of};
 use calls_core::{Call, Event, Op, PendingCall, Reply};
 use calls_text::Recording;
 use calls_verdict::follow;
@@ -63,7 +63,7 @@ fn left_after(left: usize, event: &Event, object: usize) -> usize
 ///
 /// So many advances were invoked after its response, of which those among `pending` have not
 /// returned.
-fn raised(
+fn max_with_call(
     greatest: usize,
     call: Option<Call>,
     object: usize,
@@ -105,17 +105,27 @@ fn greatest_shown(
     let mut greatest = first;
     for event in events {
         left = left_after(left, event, object);
-        greatest = raised(greatest, completed(&calls, event), object, left, pending)?;
+        greatest = max_with_call(
+            greatest,
+            completed_call(&calls, event),
+            object,
+            left,
+            pending,
+        )?;
         let _object = follow(&mut calls, event)?;
     }
     Ok(greatest)
 }
 
 /// Returns the count at the beginning and the advances that have returned.
-fn made(recording: &Recording, pending: &[PendingCall], object: usize) -> Result<usize, AllocError>
+fn returned_count(
+    recording: &Recording,
+    pending: &[PendingCall],
+    object: usize,
+) -> Result<usize, AllocError>
     requires { pending.now ≡ pending_calls (reverse recording.now.events) }
     ensures { IfOk result (λ n. n ≡ start_at recording.now object
-        + returned object recording.now.events) }
+        + returned_advances object recording.now.events) }
 {
     let called = count_advances(recording.events(), object);
     let returned = called.saturating_sub(count_open(pending, object));
@@ -136,6 +146,6 @@ pub(crate) fn sure_count(
     requires { pending.now ≡ pending_calls (reverse recording.now.events) }
     ensures { IfOk result (λ n. n ≡ sure_count recording.now object) }
 {
-    let first = made(recording, pending, object)?;
+    let first = returned_count(recording, pending, object)?;
     greatest_shown(alloc, recording, pending, object, first)
 }

@@ -6,7 +6,8 @@ ghost use Rattle.ec_text.specs.Puts.{Puts};
 ghost use Rattle.calls_core.specs.declared.history.Placed.{Placed};
 ghost use Rattle.calls_text.specs.Recordings.{first_group};
 ghost use Rattle.calls_report.specs.Totals.{effects};
-ghost use Rattle.calls_report.specs.Totals.{group_event, group_sequencer, group_cell, stored};
+ghost use Rattle.calls_report.specs.Totals.{group_event, group_sequencer, group_cell};
+ghost use Rattle.calls_report.specs.Totals.{final_numbers};
 ghost use Rattle.calls_report.specs.Totals.{event_total, sequencer_total, cell_total};
 ghost use Rattle.calls_report.specs.Totals.{count_line, cell_line, cell_lines, word_totals};
 ghost use Rattle.calls_report.specs.Totals.{totals_text, totals_at};
@@ -14,9 +15,9 @@ ghost use Rattle.calls_report.specs.kept.Sums.{AreSums};
 
 use crate::sums::{Sums, number_at};
 use calls_text::{Recording, first_cell, first_group, first_sequencer};
-use ec_count::{CellId, EventId, SeqId, Target, Vocabulary};
+use ec_count::{CellId, EventId, SeqId, SymbolTable, Target};
 use ec_heading::Group;
-use ec_text::Out;
+use ec_text::Output;
 use std::io::Write;
 
 /// A history, and the sums over an order of its calls.
@@ -86,7 +87,7 @@ impl<'a> Totals<'a> {
     fn of_database_cell(&self, place: usize, cells: usize, i: usize) -> u64
         requires { place < length self.now.recording.now.heading.groups }
         ensures { (order : List Placed) → AreSums order self.now.sums.now → result ≡ slice_index_or
-            (stored self.now.recording.now order place cells) i 0 }
+            (final_numbers self.now.recording.now order place cells) i 0 }
     {
         // there is a kind for each group, so the sum fits
         let _kinds = self.recording.kinds().len();
@@ -144,7 +145,7 @@ impl<'a> Totals<'a> {
                 return n as u64;
             }
         }
-        heading.setup().known();
+        heading.setup().invariant();
         number_at(
             &self.sums.effects,
             first_sequencer(heading) + sequencer.get(),
@@ -162,12 +163,12 @@ impl<'a> Totals<'a> {
                 return n;
             }
         }
-        heading.setup().known();
+        heading.setup().invariant();
         number_at(&self.sums.values, first_cell(heading) + cell.get()) as u64
     }
 
     /// Puts the line of a cell.
-    fn put_cell<W: Write>(&self, out: &mut Out<'_, W>, word: &[u8], i: usize, cell: CellId)
+    fn put_cell<W: Write>(&self, out: &mut Output<'_, W>, word: &[u8], i: usize, cell: CellId)
         ensures { (order : List Placed) → AreSums order self.now.sums.now → Puts out.old out.new
             (cell_line word.now i (cell_total self.now.recording.now order cell)) }
     {
@@ -181,7 +182,13 @@ impl<'a> Totals<'a> {
     }
 
     /// Puts the line of a cell, if there is one.
-    fn put_spot<W: Write>(&self, out: &mut Out<'_, W>, word: &[u8], i: usize, cell: Option<CellId>)
+    fn put_spot<W: Write>(
+        &self,
+        out: &mut Output<'_, W>,
+        word: &[u8],
+        i: usize,
+        cell: Option<CellId>,
+    )
         ensures { (order : List Placed) → AreSums order self.now.sums.now → Puts out.old out.new
             (option_map_or (λ x. cell_line word.now i (cell_total self.now.recording.now order x))
             cell []) }
@@ -192,7 +199,7 @@ impl<'a> Totals<'a> {
     }
 
     /// Puts the lines of a block of cells.
-    fn put_cells<W: Write>(&self, out: &mut Out<'_, W>, word: &[u8], first: CellId, n: usize)
+    fn put_cells<W: Write>(&self, out: &mut Output<'_, W>, word: &[u8], first: CellId, n: usize)
         ensures { (order : List Placed) → AreSums order self.now.sums.now → Puts out.old out.new
             (cell_lines self.now.recording.now order word.now first 0 n) }
     {
@@ -202,7 +209,7 @@ impl<'a> Totals<'a> {
     }
 
     /// Puts the line of a count.
-    fn put_count<W: Write>(&self, out: &mut Out<'_, W>, sort: &[u8], word: &[u8], n: u64)
+    fn put_count<W: Write>(&self, out: &mut Output<'_, W>, sort: &[u8], word: &[u8], n: u64)
         ensures { Puts out.old out.new (count_line sort.now word.now n) }
     {
         out.put(sort);
@@ -213,7 +220,7 @@ impl<'a> Totals<'a> {
     }
 
     /// Puts the lines of what a word spells.
-    fn put_word<W: Write>(&self, out: &mut Out<'_, W>, word: &[u8], target: Target)
+    fn put_word<W: Write>(&self, out: &mut Output<'_, W>, word: &[u8], target: Target)
         ensures { (order : List Placed) → AreSums order self.now.sums.now → Puts out.old out.new
             (word_totals self.now.recording.now order word.now target) }
     {
@@ -230,7 +237,7 @@ impl<'a> Totals<'a> {
     }
 
     /// Puts the lines of what the word at a place spells, if there is one.
-    fn put_place<W: Write>(&self, out: &mut Out<'_, W>, words: &Vocabulary, place: usize)
+    fn put_place<W: Write>(&self, out: &mut Output<'_, W>, words: &SymbolTable, place: usize)
         ensures { (order : List Placed) → AreSums order self.now.sums.now → Puts out.old out.new
             (totals_at self.now.recording.now order (slice_get words.now place)) }
     {
@@ -240,7 +247,7 @@ impl<'a> Totals<'a> {
     }
 
     /// Puts the totals.
-    pub(crate) fn put<W: Write>(&self, out: &mut Out<'_, W>)
+    pub(crate) fn put<W: Write>(&self, out: &mut Output<'_, W>)
         ensures { (order : List Placed) → AreSums order self.now.sums.now → Puts out.old out.new
             (totals_text self.now.recording.now order) }
     {

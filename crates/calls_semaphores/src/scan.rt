@@ -4,7 +4,7 @@ ghost use Rattle.std.specs.List.{position};
 ghost use Rattle.calls_core.specs.declared.history.Kind.TheVariants.{Semaphores};
 ghost use Rattle.calls_core.specs.declared.history.Action.TheVariants.{Invoke, Respond};
 ghost use Rattle.calls_core.specs.Histories.{IsHistoryOf, clock, completion, invoked_by};
-ghost use Rattle.calls_semaphores.specs.declared.scan.Open.{Open};
+ghost use Rattle.calls_semaphores.specs.declared.scan.PendingUnits.{PendingUnits};
 ghost use Rattle.calls_semaphores.specs.Monitors.{UpTo, GrowsByOne};
 ghost use Rattle.calls_semaphores.specs.Keeping.{is_v, IsOpened, Steps};
 ghost use Rattle.calls_semaphores.specs.Outcomes.{IsOutcome};
@@ -15,7 +15,7 @@ use std::alloc::{AllocError, Global};
 
 /// A pending call.
 #[derive(Clone, Copy)]
-pub(crate) struct Open {
+pub(crate) struct PendingUnits {
     /// The call.
     pub(crate) call: PendingCall,
     /// Its index in the linearization, if it is a v.
@@ -28,7 +28,7 @@ pub(crate) struct Scan {
     /// The units that are left.
     pub(crate) bank: Bank,
     /// The pending calls.
-    pub(crate) pending: Vec<Open>,
+    pub(crate) pending: Vec<PendingUnits>,
     /// A linearization, in which a pending v has its response at `end`.
     pub(crate) order: Vec<Call>,
     /// The first position after all events.
@@ -69,8 +69,8 @@ pub(crate) fn completion(last: usize, reply: Reply, pending: PendingCall) -> Cal
 }
 
 /// Returns the index of the pending call of a worker.
-fn find(pending: &[Open], worker: usize) -> Option<usize>
-    ensures { result ≡ position (λ (o : Open). o.call.worker == worker) pending.now }
+fn find(pending: &[PendingUnits], worker: usize) -> Option<usize>
+    ensures { result ≡ position (λ (o : PendingUnits). o.call.worker == worker) pending.now }
 {
     pending.iter().position(|o| o.call.worker == worker)
 }
@@ -99,7 +99,7 @@ impl Scan {
     {
         let call = invoked_by(event, object, op);
         let place = self.order.len();
-        self.pending.push(Open { call, place })?;
+        self.pending.push(PendingUnits { call, place })?;
         self.bank.add(op);
         if !is_v(op) {
             return Ok(());
@@ -149,7 +149,7 @@ impl Scan {
 }
 
 /// Returns calls with their points.
-fn placed(alloc: Global, calls: &[Call]) -> Result<PlacedCalls, AllocError>
+fn place_calls(alloc: Global, calls: &[Call]) -> Result<PlacedCalls, AllocError>
     ensures { IfOk result (λ order. order ≡ calls.now) }
 {
     let mut order = PlacedCalls::new(alloc);
@@ -179,5 +179,5 @@ pub fn decide(
             return Ok(Outcome::Refused(i, fault));
         }
     }
-    Ok(Outcome::Ordered(placed(alloc, &scan.order)?))
+    Ok(Outcome::Ordered(place_calls(alloc, &scan.order)?))
 }

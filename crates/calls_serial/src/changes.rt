@@ -1,6 +1,6 @@
 //! How stages change.
 ghost use Rattle.std.specs.Prelude.{◌≡◌, ◌<◌, ◌++◌, [], ◌∷◌, length, IfOk};
-ghost use Rattle.calls_serial.specs.kept.Stages.{held, helds, opened, with_response};
+ghost use Rattle.calls_serial.specs.kept.Stages.{stage_view, helds, open_stage, with_response};
 ghost use Rattle.calls_serial.specs.kept.Passing.{AddsGet, Responds, IsLate, AddsLate};
 
 use crate::stage::{Link, Stage};
@@ -16,7 +16,7 @@ pub fn open_stage(
     end: usize,
 ) -> Result<(), AllocError>
     ensures { IfOk result (λ _. helds stages.new.items ≡ helds stages.old.items
-        ++ opened end value call ∷ []) }
+        ++ open_stage end value call ∷ []) }
 {
     let put = Call {
         worker: call.worker,
@@ -48,7 +48,8 @@ pub fn add_get(stages: &mut Vec<Stage>, i: usize, get: Call) -> Result<(), Alloc
 /// Puts a get after those that return the value of a pending put, if there are `n` links. Says
 /// whether it is the first of them, by which the put took effect.
 fn add_to_pending(stage: &mut Stage, get: Call, n: usize) -> Result<bool, AllocError>
-    ensures { IfOk result (λ first. IsLate (held stage.old) (held stage.new) get n first) }
+    ensures { IfOk result
+        (λ first. IsLate (stage_view stage.old) (stage_view stage.new) get n first) }
 {
     stage.gets.push(get)?;
     if stage.link.is_some() {
@@ -79,7 +80,7 @@ pub fn add_late(
 
 /// Notes the response of a pending put.
 fn complete(stage: &mut Stage, put: Call)
-    ensures { held stage.new ≡ with_response put (held stage.old) }
+    ensures { stage_view stage.new ≡ with_response put (stage_view stage.old) }
 {
     stage.put = Some(put);
     if stage.link.is_none() {

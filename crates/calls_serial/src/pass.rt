@@ -2,7 +2,8 @@
 ghost use Rattle.std.specs.Prelude.{◌≡◌, ◌≤◌, ◌++◌, [], ◌∷◌, reverse, IfOk};
 ghost use Rattle.calls_core.specs.declared.history.Kind.TheVariants.{Cell};
 ghost use Rattle.calls_core.specs.Histories.{IsHistoryOf, clock};
-ghost use Rattle.calls_serial.specs.kept.Stages.{held, helds, held_calls, all_calls, first_stage};
+ghost use Rattle.calls_serial.specs.kept.Stages.{stage_view, helds, held_calls, all_calls};
+ghost use Rattle.calls_serial.specs.kept.Stages.{first_stage};
 ghost use Rattle.calls_serial.specs.kept.Passing.{Invokes, TakesIn, outcome_of};
 ghost use Rattle.calls_serial.specs.Outcomes.{IsOutcome};
 
@@ -98,7 +99,7 @@ fn begin(alloc: Global) -> Result<Pass, AllocError>
 
 /// Puts the calls of a stage after others.
 fn add_calls(calls: &mut PlacedCalls, stage: &Stage) -> Result<(), AllocError>
-    ensures { IfOk result (λ _. calls.new ≡ calls.old ++ held_calls (held stage.now)) }
+    ensures { IfOk result (λ _. calls.new ≡ calls.old ++ held_calls (stage_view stage.now)) }
 {
     if let Some(put) = stage.put {
         calls.push(put)?;

@@ -1,11 +1,11 @@
 //! Responses.
 ghost use Rattle.std.specs.Prelude.{◌≡◌, ◌∷◌, reverse, IfOk};
-ghost use Rattle.calls_serial.specs.kept.Stages.{pending_puts, gathered};
+ghost use Rattle.calls_serial.specs.kept.Stages.{pending_puts, gets_of_link};
 ghost use Rattle.calls_serial.specs.kept.Passing.{first_of, completed_of, EndsGet, EndsCall};
 
 use crate::changes::{add_get, add_late, end_put};
 use crate::outcome::Fault;
-use crate::search::{Found, pending_put, search};
+use crate::search::{PutChoice, pending_put, search};
 use crate::stage::{Link, Pass};
 use calls_core::{Call, PendingCall, Reply};
 use std::alloc::{AllocError, Global};
@@ -17,7 +17,7 @@ fn chain(
     get: Call,
     because: Option<usize>,
 ) -> Result<Vec<Call>, AllocError>
-    ensures { IfOk result (λ v. v.items ≡ get ∷ gathered because (reverse links.now)) }
+    ensures { IfOk result (λ v. v.items ≡ get ∷ gets_of_link because (reverse links.now)) }
 {
     let mut gets = Vec::new(alloc);
     gets.push(get)?;
@@ -34,7 +34,7 @@ fn chain(
 }
 
 /// Gives how many of `n` stages have a completed put, or none.
-fn completed(pending: &[PendingCall], n: usize) -> usize
+fn completed_stages(pending: &[PendingCall], n: usize) -> usize
     ensures { result ≡ completed_of (first_of (pending_puts pending.now)) n }
 {
     match pending_put(pending) {
@@ -53,13 +53,13 @@ fn end_get(
     ensures { IfOk result (EndsGet pass.old pass.new get value) }
 {
     let n = pass.stages.len();
-    let m = completed(&pass.pending, n);
+    let m = completed_stages(&pass.pending, n);
     match search(&pass.stages, m, get.first, value) {
-        Found::At(i) => {
+        PutChoice::At(i) => {
             add_get(&mut pass.stages, i, get)?;
             Ok(None)
         }
-        Found::Shut(because) => {
+        PutChoice::Shut(because) => {
             if m < n && pass.stages[m].value == value {
                 add_late(&mut pass.stages, &mut pass.links, Link { get, because })?;
                 return Ok(None);

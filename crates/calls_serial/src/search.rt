@@ -10,7 +10,7 @@ use calls_core::{Call, Op, PendingCall};
 
 /// What the completed puts leave to a get.
 #[derive(Clone, Copy, Debug)]
-pub enum Found {
+pub enum PutChoice {
     /// The get may return the value of the stage at this index.
     At(usize),
     /// It can return no value of a completed put. The link shows it, if one is needed.
@@ -71,22 +71,22 @@ fn is_over(put: Option<Call>, at: usize) -> bool
 
 /// Says whether a get that was invoked at `first` may return the value that was there then, which
 /// is the one at index `i`.
-fn early(stages: &[Stage], i: usize, first: usize, value: usize) -> Found
+fn early(stages: &[Stage], i: usize, first: usize, value: usize) -> PutChoice
     requires { i < length stages.now }
     ensures within { IsWithin (length stages.now) result }
     ensures found { IsEarly (helds stages.now) first value i result }
 {
     if stages[i].value != value {
-        return Found::Shut(None);
+        return PutChoice::Shut(None);
     }
     if i + 1 < stages.len() && stages[i + 1].moment < first {
-        return Found::Shut(stages[i + 1].link);
+        return PutChoice::Shut(stages[i + 1].link);
     }
-    Found::At(i)
+    PutChoice::At(i)
 }
 
 /// Seeks the value that a get invoked at `first` returns, among the first `completed` stages.
-pub fn search(stages: &[Stage], completed: usize, first: usize, value: usize) -> Found
+pub fn search(stages: &[Stage], completed: usize, first: usize, value: usize) -> PutChoice
     requires { completed ≤ length stages.now }
     ensures within { IsWithin (length stages.now) result }
     ensures found { Begins (take completed (helds stages.now))
@@ -99,8 +99,8 @@ pub fn search(stages: &[Stage], completed: usize, first: usize, value: usize) ->
             return early(stages, i, first, value);
         }
         if stages[i].value == value {
-            return Found::At(i);
+            return PutChoice::At(i);
         }
     }
-    Found::Shut(None)
+    PutChoice::Shut(None)
 }

@@ -17,7 +17,7 @@ use Rattle.calls_distinct.specs.declared.cell.Fault as distincts
 use Rattle.calls_distinct.specs.declared.cell.Fault.TheVariants as distinct
 use Rattle.calls_verdict.specs.declared.verdict.Fault.{Fault}
 use Rattle.calls_verdict.specs.declared.verdict.Fault.TheVariants as faults
-use Rattle.calls_shapes.specs.declared.tallies.Counted.TheVariants.{Advances, Taking, Adding}
+use Rattle.calls_shapes.specs.declared.tallies.CountFilter.TheVariants.{Advances, Taking, Adding}
 use Rattle.calls_shapes.specs.declared.stairs.Portion.TheVariants.{Called, Returned, Between}
 use Rattle.calls_shapes.specs.declared.stairs.Course.{Course}
 use Rattle.calls_report.specs.Certificates.{is_timeout}

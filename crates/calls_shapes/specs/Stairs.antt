@@ -5,7 +5,7 @@ use Rattle.calls_core.specs.declared.history.Event.{Event}
 use Rattle.calls_core.specs.declared.history.Call.{Call}
 use Rattle.calls_core.specs.declared.history.PendingCall.{PendingCall}
 use Rattle.calls_core.specs.Histories.{completed_calls}
-use Rattle.calls_shapes.specs.declared.tallies.Counted.{Counted}
+use Rattle.calls_shapes.specs.declared.tallies.CountFilter.{CountFilter}
 use Rattle.calls_shapes.specs.declared.stairs.Portion.{Portion}
 use Rattle.calls_shapes.specs.declared.stairs.Portion.TheVariants.{Called, Returned, Between}
 use Rattle.calls_shapes.specs.declared.stairs.Course.{Course}
@@ -19,23 +19,23 @@ lies_in Returned c = true
 lies_in (Between from before) c = nat_le from c.first && nat_lt c.last before
 
 -- whether a stair rises with a completed call
-abbrev pub has_completed : Counted → Portion → Call → Bool
+abbrev pub has_completed : CountFilter → Portion → Call → Bool
 has_completed counted portion c = is_counted counted c && lies_in portion c
 
 -- and with a pending one
-abbrev pub has_pending : Counted → Portion → PendingCall → Bool
+abbrev pub has_pending : CountFilter → Portion → PendingCall → Bool
 has_pending counted Called o = counts counted o.object o.op
 has_pending counted Returned o = false
 has_pending counted (Between from before) o = false
 
 -- the positions of the responses of these calls, in order
-abbrev pub responses_in : Counted → Portion → List Event → List ℕ
+abbrev pub responses_in : CountFilter → Portion → List Event → List ℕ
 responses_in counted portion events =
     map (λ (c : Call). c.last) (filter (has_completed counted portion)
     (reverse (completed_calls (reverse events))))
 
 -- the positions at which it rises, in order
-abbrev pub rises_of : Counted → Portion → List Event → List ℕ
+abbrev pub rises_of : CountFilter → Portion → List Event → List ℕ
 rises_of counted Called events =
     map (λ (x : Event). x.at) (filter (calls_counted counted) events)
 rises_of counted Returned events = responses_in counted Returned events

@@ -7,7 +7,7 @@ ghost use Rattle.calls_shapes.specs.Evidence.{few_course, many_course, since_cou
 
 use crate::stairs::{Course, Portion};
 use crate::steps::{Track, start_of};
-use crate::tallies::Counted;
+use crate::tallies::CountFilter;
 use calls_core::{Call, Kind, Op, Reply};
 use calls_verdict::Fault;
 use std::alloc::{AllocError, Global};
@@ -25,7 +25,7 @@ fn least(op: Op, reply: Reply) -> usize
 }
 
 /// Returns a list of these calls.
-fn listed(alloc: Global, calls: &[Call]) -> Result<Vec<Call>, AllocError>
+fn list_calls(alloc: Global, calls: &[Call]) -> Result<Vec<Call>, AllocError>
     ensures { IfOk result (λ v. v.items ≡ calls.now) }
 {
     calls.iter().copied().collect(alloc)
@@ -37,23 +37,23 @@ pub fn faulty_calls(alloc: Global, fault: &Fault) -> Result<Vec<Call>, AllocErro
 {
     match fault {
         Fault::Count(fault) => match *fault {
-            calls_counts::Fault::Below(c) => listed(alloc, &[c]),
-            calls_counts::Fault::Few(c) => listed(alloc, &[c]),
-            calls_counts::Fault::Many(c) => listed(alloc, &[c]),
-            calls_counts::Fault::Since(c, earlier) => listed(alloc, &[c, earlier]),
+            calls_counts::Fault::Below(c) => list_calls(alloc, &[c]),
+            calls_counts::Fault::Few(c) => list_calls(alloc, &[c]),
+            calls_counts::Fault::Many(c) => list_calls(alloc, &[c]),
+            calls_counts::Fault::Since(c, earlier) => list_calls(alloc, &[c, earlier]),
         },
         Fault::Ticket(fault) => match *fault {
-            calls_tickets::Fault::Twice(c, d) => listed(alloc, &[c, d]),
-            calls_tickets::Fault::Turned(c, d) => listed(alloc, &[c, d]),
-            calls_tickets::Fault::Drawn(c) => listed(alloc, &[c]),
+            calls_tickets::Fault::Twice(c, d) => list_calls(alloc, &[c, d]),
+            calls_tickets::Fault::Turned(c, d) => list_calls(alloc, &[c, d]),
+            calls_tickets::Fault::Drawn(c) => list_calls(alloc, &[c]),
         },
-        Fault::Units(fault) => listed(alloc, &[fault.call]),
+        Fault::Units(fault) => list_calls(alloc, &[fault.call]),
         Fault::Value(fault) => match fault {
-            calls_cells::Fault::Serial(fault) => listed(alloc, &fault.gets),
+            calls_cells::Fault::Serial(fault) => list_calls(alloc, &fault.gets),
             calls_cells::Fault::Distinct(fault) => match *fault {
-                calls_distinct::Fault::Nowhere(c) => listed(alloc, &[c]),
-                calls_distinct::Fault::Stale(c, d) => listed(alloc, &[c, d]),
-                calls_distinct::Fault::Alternate(a, b, c, d) => listed(alloc, &[a, b, c, d]),
+                calls_distinct::Fault::Nowhere(c) => list_calls(alloc, &[c]),
+                calls_distinct::Fault::Stale(c, d) => list_calls(alloc, &[c, d]),
+                calls_distinct::Fault::Alternate(a, b, c, d) => list_calls(alloc, &[a, b, c, d]),
             },
         },
     }
@@ -64,7 +64,7 @@ fn of_many(start: usize, object: usize, call: &Call) -> Course
     ensures { result ≡ many_course start object call.now }
 {
     Course {
-        counted: Counted::Advances(object),
+        counted: CountFilter::Advances(object),
         portion: Portion::Between(0, call.first),
         from: 0,
         base: start,
@@ -77,7 +77,7 @@ fn of_few(start: usize, object: usize, call: &Call) -> Course
     ensures { result ≡ few_course start object call.now }
 {
     Course {
-        counted: Counted::Advances(object),
+        counted: CountFilter::Advances(object),
         portion: Portion::Called,
         from: 0,
         base: start,
@@ -94,7 +94,7 @@ fn of_since(start: usize, object: usize, call: &Call, earlier: &Call) -> Course
         return of_many(start, object, call);
     }
     Course {
-        counted: Counted::Advances(object),
+        counted: CountFilter::Advances(object),
         portion: Portion::Between(earlier.last, call.first),
         from: earlier.last,
         base: least(earlier.op, earlier.reply),
@@ -132,14 +132,14 @@ fn unit_courses(
 {
     let mut courses = Vec::new(alloc);
     courses.push(Course {
-        counted: Counted::Adding(fault.index),
+        counted: CountFilter::Adding(fault.index),
         portion: Portion::Called,
         from: 0,
         base: units,
         to: fault.call.last,
     })?;
     courses.push(Course {
-        counted: Counted::Taking(fault.index),
+        counted: CountFilter::Taking(fault.index),
         portion: Portion::Returned,
         from: 0,
         base: 0,

@@ -11,4 +11,4 @@ pub use bars::{Bars, bars_of};
 pub use evidence::{courses_of, faulty_calls};
 pub use stairs::{Course, Portion, Stair, stair_of};
 pub use steps::{Step, Track, start_of, steps_of};
-pub use tallies::{Counted, Tally, is_counted, tallies_of};
+pub use tallies::{CountFilter, Tally, is_counted, tallies_of};

@@ -4,9 +4,9 @@ ghost use Rattle.calls_shapes.specs.declared.stairs.Portion.TheVariants.{Called}
 ghost use Rattle.calls_shapes.specs.Stairs.{has_completed, has_pending, rises_of, responses_in};
 ghost use Rattle.calls_shapes.specs.Stairs.{IsStair};
 
-use crate::tallies::{Counted, calls_counted, counts, is_counted};
+use crate::tallies::{CountFilter, calls_counted, counts, is_counted};
 use calls_core::{Call, Event, PendingCall};
-use calls_report::completed;
+use calls_report::completed_call;
 use calls_verdict::follow;
 use std::alloc::{AllocError, Global};
 
@@ -26,7 +26,7 @@ pub enum Portion {
 #[derive(Clone, Copy, Debug, PartialEq, Eq)]
 pub struct Course {
     /// Which calls are counted.
-    pub counted: Counted,
+    pub counted: CountFilter,
     /// With which of them it rises.
     pub portion: Portion,
     /// The position where it begins.
@@ -72,7 +72,7 @@ impl Course {
 fn invocations_of(
     alloc: Global,
     events: &[Event],
-    counted: Counted,
+    counted: CountFilter,
 ) -> Result<Vec<usize>, AllocError>
     ensures { IfOk result (λ v. v.items ≡ rises_of counted Called events.now) }
 {
@@ -93,7 +93,7 @@ fn responses_of(alloc: Global, events: &[Event], course: Course) -> Result<Vec<u
     let mut pending = Vec::new(alloc);
     let mut positions = Vec::new(alloc);
     for event in events {
-        if let Some(call) = completed(&pending, event) {
+        if let Some(call) = completed_call(&pending, event) {
             if course.has_completed(&call) {
                 positions.push(call.last)?;
             }

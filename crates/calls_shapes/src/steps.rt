@@ -39,7 +39,7 @@ pub fn start_of(kinds: &[Kind], track: Track) -> usize
 }
 
 /// Returns a number that is raised by one.
-fn raised(value: usize) -> Result<usize, AllocError>
+fn succ(value: usize) -> Result<usize, AllocError>
     ensures { IfOk result (λ n. n ≡ value + 1) }
 {
     match value.checked_add(1) {
@@ -53,8 +53,8 @@ fn next(value: usize, index: usize, op: Op, reply: Reply) -> Result<usize, Alloc
     ensures { IfOk result (λ n. (m : ℕ → ℕ) → m index ≡ value → n ≡ after m op reply index) }
 {
     match (op, reply) {
-        (Op::Advance | Op::Ticket, _) => { if index == 0 { raised(value) } else { Ok(value) } }
-        (Op::V(i), _) => { if index == i { raised(value) } else { Ok(value) } }
+        (Op::Advance | Op::Ticket, _) => { if index == 0 { succ(value) } else { Ok(value) } }
+        (Op::V(i), _) => { if index == i { succ(value) } else { Ok(value) } }
         (Op::P(i), Reply::Done) => {
             if index == i {
                 Ok(value.saturating_sub(1))

@@ -5,13 +5,13 @@ ghost use Rattle.std.specs.Prelude.{[], ◌∷◌, count_by};
 ghost use Rattle.calls_shapes.specs.Tallies.{counts, calls_counted, is_counted, tally_at};
 
 use calls_core::{Action, Call, Event, Op, Reply};
-use calls_report::completed;
+use calls_report::completed_call;
 use calls_verdict::follow;
 use std::alloc::{AllocError, Global};
 
 /// Which calls are counted.
 #[derive(Clone, Copy, Debug, PartialEq, Eq)]
-pub enum Counted {
+pub enum CountFilter {
     /// The advances of the eventcount with this index.
     Advances(usize),
     /// The tickets of the sequencer with this index.
@@ -32,18 +32,18 @@ pub struct Tally {
 }
 
 /// Returns whether calls of this object with this operation are counted.
-pub(crate) fn counts(counted: Counted, object: usize, op: Op) -> bool
+pub(crate) fn counts(counted: CountFilter, object: usize, op: Op) -> bool
     ensures { result ≡ counts counted object op }
 {
     match counted {
-        Counted::Advances(k) => object == k && matches!(op, Op::Advance),
-        Counted::Tickets(k) => object == k && matches!(op, Op::Ticket),
-        Counted::Taking(i) => match op {
+        CountFilter::Advances(k) => object == k && matches!(op, Op::Advance),
+        CountFilter::Tickets(k) => object == k && matches!(op, Op::Ticket),
+        CountFilter::Taking(i) => match op {
             Op::P(j) => j == i,
             Op::PBoth(j, l) => j == i || l == i,
             _ => false,
         },
-        Counted::Adding(i) => match op {
+        CountFilter::Adding(i) => match op {
             Op::V(j) => j == i,
             _ => false,
         },
@@ -51,14 +51,14 @@ pub(crate) fn counts(counted: Counted, object: usize, op: Op) -> bool
 }
 
 /// Returns whether a completed call is counted.
-pub fn is_counted(counted: Counted, call: &Call) -> bool
+pub fn is_counted(counted: CountFilter, call: &Call) -> bool
     ensures { result ≡ is_counted counted call.now }
 {
     counts(counted, call.object, call.op) && !matches!(call.reply, Reply::Timeout)
 }
 
 /// Returns whether an event is the invocation of a call that is counted.
-pub(crate) fn calls_counted(counted: Counted, event: &Event) -> bool
+pub(crate) fn calls_counted(counted: CountFilter, event: &Event) -> bool
     ensures { result ≡ calls_counted counted event.now }
 {
     match event.action {
@@ -68,7 +68,7 @@ pub(crate) fn calls_counted(counted: Counted, event: &Event) -> bool
 }
 
 /// Returns how many of one call or none are counted.
-fn count_one(counted: Counted, call: Option<Call>) -> usize
+fn count_one(counted: CountFilter, call: Option<Call>) -> usize
     ensures count { result ≡ count_by (is_counted counted) (cons_option call []) }
     ensures few { result ≤ 1 }
 {
@@ -79,7 +79,7 @@ fn count_one(counted: Counted, call: Option<Call>) -> usize
 }
 
 /// Returns 1 if an event is the invocation of a call that is counted, else 0.
-fn count_call(counted: Counted, event: &Event) -> usize
+fn count_call(counted: CountFilter, event: &Event) -> usize
     ensures count { result ≡ count_by (calls_counted counted) (event.now ∷ []) }
     ensures few { result ≤ 1 }
 {
@@ -90,7 +90,7 @@ fn count_call(counted: Counted, event: &Event) -> usize
 pub fn tallies_of(
     alloc: Global,
     events: &[Event],
-    counted: Counted,
+    counted: CountFilter,
 ) -> Result<Vec<Tally>, AllocError>
     ensures count { IfOk result (λ v. length v.items ≡ length events.now + 1) }
     ensures each { IfOk result (λ v. (p : ℕ) → p ≤ length events.now
@@ -105,7 +105,7 @@ pub fn tallies_of(
     for event in events {
         tallies.push(tally)?;
         tally.called += count_call(counted, event);
-        tally.returned += count_one(counted, completed(&pending, event));
+        tally.returned += count_one(counted, completed_call(&pending, event));
         let _object = follow(&mut pending, event)?;
     }
     tallies.push(tally)?;

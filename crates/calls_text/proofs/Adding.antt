@@ -9,9 +9,9 @@ use Rattle.ec_heading.specs.declared.group.Group.{Group}
 use Rattle.calls_core.specs.declared.history.Kind.{Kind}
 use Rattle.calls_core.specs.declared.history.Kind.TheVariants.{Eventcount, Sequencer, Cell}
 use Rattle.calls_core.specs.declared.history.Kind.TheVariants.{Database, Semaphores}
-use Rattle.ec_heading.specs.Headed.{Headed}
+use Rattle.ec_heading.specs.HeadingModel.{HeadingModel}
 use Rattle.calls_text.specs.Recordings.{HasFrom, HasUnits, HasGroups, cells_of, initial_of}
-use Rattle.calls_text.specs.Recordings.{AreKinds, start_of, first_sequencer, first_cell}
+use Rattle.calls_text.specs.Recordings.{AreKinds, start_count, first_sequencer, first_cell}
 use Rattle.calls_text.specs.Recordings.{semaphores, first_group}
 use Rattle.calls_text.specs.kept.Adding.{Grows}
 use Rattle.ec_core.proofs.shared.Joining.{get_front}
@@ -105,10 +105,10 @@ from_is : (kinds : List Kind) (m n c d : ℕ) (kind : ℕ → Kind) → m ≡ n 
 from_is kinds m n c d kind start count has = λ i lt.
     ap (λ (k : ℕ). slice_get kinds (k + i)) (sym start) ∙ has i (omega arith)
 
-pub are_kinds : (h : Headed) (from : List (ℕ × ℕ)) (k0 k1 k2 k3 k4 k5 : List Kind) (e q x : ℕ)
+pub are_kinds : (h : HeadingModel) (from : List (ℕ × ℕ)) (k0 k1 k2 k3 k4 k5 : List Kind) (e q x : ℕ)
     (gs hs : List Group) → length k0 ≡ 0 → e ≡ length h.setup.events → q ≡ length h.setup.takers
     → x ≡ length h.setup.cells → gs ≡ h.groups → hs ≡ h.groups
-    → Grows k0 k1 e → HasFrom k1 (length k0) e (λ k. Eventcount (start_of from k))
+    → Grows k0 k1 e → HasFrom k1 (length k0) e (λ k. Eventcount (start_count from k))
     → Grows k1 k2 q → HasFrom k2 (length k1) q (λ k. Sequencer)
     → Grows k2 k3 x → HasFrom k3 (length k2) x (λ k. Cell)
     → Grows k3 k4 1 → HasUnits k4 (length k3) gs
@@ -129,8 +129,8 @@ are_kinds h from k0 k1 k2 k3 k4 k5 e q x gs hs empty ie iq ix ig ih g1 a1 g2 a2 
     record {
       count = omega arith;
       events = from_is k5 (length k0) 0 e (length h.setup.events)
-          (λ k. Eventcount (start_of from k))
-          empty ie (from_grows k1 k5 (length k0) e _ (λ k. Eventcount (start_of from k))
+          (λ k. Eventcount (start_count from k))
+          empty ie (from_grows k1 k5 (length k0) e _ (λ k. Eventcount (start_count from k))
           (omega arith) a1 g25);
       sequencers = from_is k5 (length k1) (first_sequencer h) q (length h.setup.takers)
           (λ k. Sequencer)

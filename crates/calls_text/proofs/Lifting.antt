@@ -9,7 +9,7 @@ use Rattle.std.proofs.lemmas.Bool.{eqb-true}
 use Rattle.std.proofs.lemmas.List.{reverse-append}
 use Rattle.calls_core.proofs.Counting.{count_append, count_cons}
 use Rattle.ec_count.specs.Tables.{IsDeclared, first_that}
-use Rattle.ec_count.specs.Members.{AreTwoLists, place_of}
+use Rattle.ec_count.specs.Members.{AreTwoLists, index_of}
 use Rattle.ec_count.specs.declared.setup.Rights.{Rights}
 use Rattle.ec_text.specs.Words.{words_of}
 use Rattle.ec_heading.specs.Heading.{is_no_line}
@@ -19,22 +19,22 @@ use Rattle.calls_core.specs.declared.history.PendingCall.{PendingCall}
 use Rattle.calls_core.specs.Histories.{pending_of, pending_after, pending_calls, IsNext}
 use Rattle.calls_text.specs.declared.fault.Kind.{Kind}
 use Rattle.calls_text.specs.declared.fault.Kind.TheVariants as faults
-use Rattle.calls_text.specs.declared.form.Answer.{Answer}
-use Rattle.calls_text.specs.declared.form.Answer.TheVariants as answers
+use Rattle.calls_text.specs.declared.form.ReplyWord.{ReplyWord}
+use Rattle.calls_text.specs.declared.form.ReplyWord.TheVariants as answers
 use Rattle.calls_text.specs.declared.object.Object.{Object}
 use Rattle.calls_text.specs.declared.object.Object.TheVariants as objects
 use Rattle.calls_text.specs.declared.running.Running.{Running}
 use Rattle.calls_text.specs.declared.tally.Tally.{Tally}
-use Rattle.calls_text.specs.declared.verb.Verb.{Verb}
-use Rattle.calls_text.specs.declared.verb.Verb.TheVariants as verbs
+use Rattle.calls_text.specs.declared.verb.CallWord.{CallWord}
+use Rattle.calls_text.specs.declared.verb.CallWord.TheVariants as verbs
 use Rattle.calls_text.specs.Forms.{Phrase, Calls, Returns, phrase_in}
 use Rattle.calls_text.specs.Objects.{object_in, has_right, is_owned}
-use Rattle.calls_text.specs.Recordings.{Recorded, AreKinds}
+use Rattle.calls_text.specs.Recordings.{RecordingModel, AreKinds}
 use Rattle.calls_text.specs.Tallies.{IsCounted, tally_at, advances_by, is_advance_by}
 use Rattle.calls_text.specs.Verbs.{is_giving, tail_of}
 use Rattle.calls_text.specs.Reading.{call_fault_by, call_fault, is_spent, pending_in, is_bad_tail}
 use Rattle.calls_text.specs.Reading.{has_two_roles, fault_or, with_call, with_event, with_events}
-use Rattle.calls_text.specs.Reading.{called, answered, returned, phrased, event_step, event_of}
+use Rattle.calls_text.specs.Reading.{after_invocation, after_reply, after_response, after_phrase, event_step, next_event}
 use Rattle.calls_text.specs.Reading.{is_bad_answer, other_word, suit_fault, with_reply}
 use Rattle.calls_text.specs.kept.Judging.{pending_by, spent_by, fault_by, Happening, invocation}
 use Rattle.calls_text.specs.kept.Judging.{called_by, response, answered_by, returned_by, phrased_by}
@@ -46,7 +46,7 @@ use Rattle.calls_text.specs.declared.stage.Stage as held
 use Rattle.calls_text.specs.declared.stage.Stage.TheVariants as holds
 use Rattle.calls_text.specs.Reading as reading
 use Rattle.calls_text.specs.Reading.{Stage, StepFails, step, ran_on}
-use Rattle.calls_text.specs.kept.Stages.{seen, IsSound, kept_events, IsNextIn, Keeps, seen_with}
+use Rattle.calls_text.specs.kept.Stages.{stage_with_all, IsSound, kept_events, IsNextIn, Keeps, seen_with}
 use Rattle.calls_text.specs.kept.Stages.{IsFollowing, Adds}
 use Rattle.calls_text.proofs.Coming.{signs}
 
@@ -64,7 +64,7 @@ member_below n w i (v ∷ vs) all is =
 
 signer_below : (n w : ℕ) (rows : List Rights) (e : ℕ)
     → All (λ (r : Rights). AreTwoLists n r.signal r.observe) rows
-    → is_some (place_of w (option_map_or (λ (r : Rights). r.signal) (slice_get rows e) [])) ≡ true
+    → is_some (index_of w (option_map_or (λ (r : Rights). r.signal) (slice_get rows e) [])) ≡ true
     → w < n
 signer_below n w [] e all is = cc
 signer_below n w (x ∷ xs) zero all is =
@@ -74,7 +74,7 @@ signer_below n w (x ∷ xs) (suc e) all is =
 
 -- FAULTS
 
-spent_agrees : (events : List Event) (run : Running) (w : ℕ) (v : Verb) (o : Object)
+spent_agrees : (events : List Event) (run : Running) (w : ℕ) (v : CallWord) (o : Object)
     → IsRunning events run → has_right run.recording.heading.setup w (is_giving v) o ≡ true
     → is_spent (with_events run.recording events) w v o ≡ spent_by run w v o
 spent_agrees events run w verbs.Advance (objects.Event e) is right =
@@ -114,7 +114,7 @@ by_right a b c true busy s t same =
     ∷ (busy, faults.Busy) ∷ (x, faults.AtLimit) ∷ [])) (same refl)
 by_right a b c false busy s t same = refl
 
-fault_agrees : (events : List Event) (run : Running) (w : ℕ) (v : Verb) (o : Object)
+fault_agrees : (events : List Event) (run : Running) (w : ℕ) (v : CallWord) (o : Object)
     (ws : List (List ℕ)) → IsRunning events run
     → call_fault (with_events run.recording events) w v o ws ≡ fault_by run w v o ws
 fault_agrees events run w v o ws is =
@@ -129,27 +129,27 @@ fault_agrees events run w v o ws is =
 -- EVENTS
 
 -- the history with what happened
-abbrev pub lifted : Recorded → Result Happening Kind → Result Recorded Kind
+abbrev pub lifted : RecordingModel → Result Happening Kind → Result RecordingModel Kind
 lifted r (Ok x) = Ok (with_event r x.worker x.action x.lists)
 lifted r (Err kind) = Err kind
 
-on_fault : (r : Recorded) (f : Option Kind) (x : Happening)
+on_fault : (r : RecordingModel) (f : Option Kind) (x : Happening)
     → fault_or f (with_event r x.worker x.action x.lists) ≡ lifted r (fault_or f x)
 on_fault r None x = refl
 on_fault r (Some kind) x = refl
 
-called_agrees : (events : List Event) (run : Running) (w : Option ℕ) (v : Verb) (o : Option Object)
+called_agrees : (events : List Event) (run : Running) (w : Option ℕ) (v : CallWord) (o : Option Object)
     (ws : List (List ℕ)) → IsRunning events run
-    → called (with_events run.recording events) w v o ws
+    → after_invocation (with_events run.recording events) w v o ws
     ≡ lifted (with_events run.recording events) (called_by run w v o ws)
 called_agrees events run None v o ws is = refl
 called_agrees events run (Some w) v None ws is = refl
 called_agrees events run (Some w) v (Some o) ws is =
-    let r : Recorded = with_events run.recording events in
+    let r : RecordingModel = with_events run.recording events in
     ap (λ (f : Option Kind). fault_or f (with_call r w v o ws)) (fault_agrees events run w v o ws is)
     ∙ on_fault r (fault_by run w v o ws) (invocation run w v o ws)
 
-reply_agrees : (events : List Event) (run : Running) (w : ℕ) (o : PendingCall) (a : Answer)
+reply_agrees : (events : List Event) (run : Running) (w : ℕ) (o : PendingCall) (a : ReplyWord)
     (ws : List (List ℕ)) → fault_or (suit_fault run.recording.heading o a ws)
     (with_reply (with_events run.recording events) w o a ws)
     ≡ lifted (with_events run.recording events) (fault_or (suit_fault run.recording.heading o a ws)
@@ -161,29 +161,29 @@ reply_agrees events run w o answers.Timeout ws =
 reply_agrees events run w o answers.Numbers ws =
     on_fault (with_events run.recording events) _ (response run w o answers.Numbers ws)
 
-answer_agrees : (events : List Event) (run : Running) (w : ℕ) (p : Option PendingCall) (a : Answer)
-    (ws : List (List ℕ)) → answered (with_events run.recording events) w p a ws
+answer_agrees : (events : List Event) (run : Running) (w : ℕ) (p : Option PendingCall) (a : ReplyWord)
+    (ws : List (List ℕ)) → after_reply (with_events run.recording events) w p a ws
     ≡ lifted (with_events run.recording events) (answered_by run w p a ws)
 answer_agrees events run w None a ws = refl
 answer_agrees events run w (Some o) a ws = reply_agrees events run w o a ws
 
-returned_agrees : (events : List Event) (run : Running) (w : Option ℕ) (a : Answer)
+returned_agrees : (events : List Event) (run : Running) (w : Option ℕ) (a : ReplyWord)
     (ws : List (List ℕ)) → IsRunning events run
-    → returned (with_events run.recording events) w a ws
+    → after_response (with_events run.recording events) w a ws
     ≡ lifted (with_events run.recording events) (returned_by run w a ws)
 returned_agrees events run None a ws is = refl
 returned_agrees events run (Some w) a ws is =
-    let r : Recorded = with_events run.recording events in
+    let r : RecordingModel = with_events run.recording events in
     elim (is_bad_answer a ws) as (λ b. cond b (Err faults.BadNumber)
-    (answered r w (pending_in events w) a ws)
+    (after_reply r w (pending_in events w) a ws)
     ≡ lifted r (cond b (Err faults.BadNumber) (answered_by run w (pending_by run w) a ws))) [
       | true ↦ refl
-      | false ↦ ap (λ (os : List PendingCall). answered r w (pending_of w os) a ws) (sym is.pending)
+      | false ↦ ap (λ (os : List PendingCall). after_reply r w (pending_of w os) a ws) (sym is.pending)
           ∙ answer_agrees events run w (pending_by run w) a ws
     ]
 
 phrase_agrees : (events : List Event) (run : Running) (p : Option Phrase) → IsRunning events run
-    → phrased (with_events run.recording events) p
+    → after_phrase (with_events run.recording events) p
     ≡ lifted (with_events run.recording events) (phrased_by run p)
 phrase_agrees events run None is = refl
 phrase_agrees events run (Some (Calls w v o ws)) is =
@@ -197,8 +197,8 @@ pub event_agrees : (events : List Event) (run : Running) (line : List ℕ) → I
     ≡ lifted (with_events run.recording events) (event_by run line)
 unfolding event_step event_by
 event_agrees events run line is =
-    let r : Recorded = with_events run.recording events in
-    elim (is_no_line line) as (λ b. cond b (Err faults.BadLine) (phrased r (phrase_in (words_of line)))
+    let r : RecordingModel = with_events run.recording events in
+    elim (is_no_line line) as (λ b. cond b (Err faults.BadLine) (after_phrase r (phrase_in (words_of line)))
     ≡ lifted r (cond b (Err faults.BadLine) (phrased_by run (phrase_in (words_of line))))) [
       | true ↦ refl
       | false ↦ phrase_agrees events run (phrase_in (words_of line)) is
@@ -226,7 +226,7 @@ counted_then events old new x is then = λ w e few some.
     ∙ sym (count_append (is_advance_by w e) events (x ∷ []))
 
 -- the event is the next of these
-pub record IsAdded (events : List Event) (new : Running) (line : List ℕ) (x : Event) (r : Recorded)
+pub record IsAdded (events : List Event) (new : Running) (line : List ℕ) (x : Event) (r : RecordingModel)
     : Type 0 where
   pub stepped : event_step r line ≡ Ok (with_events new.recording (events ++ x ∷ []))
   pub next : IsNextOf (with_events new.recording events) x
@@ -236,10 +236,10 @@ pub event_added : (events : List Event) (old new : Running) (line : List ℕ) (x
     → IsRunning events old → Answers old new (Ok x) (event_by old line)
     → IsAdded events new line x (with_events old.recording events)
 event_added events old new line x is given =
-    let r : Recorded = with_events old.recording events in
+    let r : RecordingModel = with_events old.recording events in
     let on : GoesOn old new x = given.1 in
     let moment : length events ≡ x.at = sym (on.at ∙ is.count) in
-    let event : event_of events x.worker x.action ≡ x =
+    let event : next_event events x.worker x.action ≡ x =
     ap (λ (n : ℕ). (let y : Event = record { at = n; worker = x.worker; action = x.action } in y))
     moment in
     let kept : with_event r x.worker x.action new.recording.lists
@@ -248,26 +248,26 @@ event_added events old new line x is given =
     (events ++ y ∷ [])) event in
     record {
       stepped = event_agrees events old line is ∙ ap (lifted r) given.0
-          ∙ ap Ok (kept ∙ ap (λ (s : Recorded). with_events s (events ++ x ∷ [])) (sym on.recording));
+          ∙ ap Ok (kept ∙ ap (λ (s : RecordingModel). with_events s (events ++ x ∷ [])) (sym on.recording));
       next = (
         sym moment,
         λ ks are.
             subst (λ (os : List PendingCall). IsNext ks x.action (pending_of x.worker os)) is.pending
-            (on.next ks (subst (λ (s : Recorded). AreKinds s.heading s.from ks) on.recording are)),
+            (on.next ks (subst (λ (s : RecordingModel). AreKinds s.heading s.from ks) on.recording are)),
       );
       run = record {
         pending = on.pending ∙ ap (pending_after x x.action) is.pending
             ∙ sym (pending_then events x);
         counted = counted_then events old.tally new.tally x is.counted on.tally;
         count = on.count ∙ ap (λ n. n + 1) is.count ∙ sym (length-append events (x ∷ []));
-        declared = subst (λ (s : Recorded). IsDeclared s.heading.setup) (sym on.recording)
+        declared = subst (λ (s : RecordingModel). IsDeclared s.heading.setup) (sym on.recording)
             is.declared;
       };
     }
 
 -- STAGES
 
-by_event : (r : Recorded) (line : List ℕ) → bytes_eq line (codes "end") ≡ false
+by_event : (r : RecordingModel) (line : List ℕ) → bytes_eq line (codes "end") ≡ false
     → step (reading.Running r) line ≡ ran_on (event_step r line)
 unfolding step
 by_event r line other =
@@ -280,7 +280,7 @@ pub event_failed : (events : List Event) (run : Running) (line : List ℕ) (faul
     → StepFails fault (step (reading.Running (with_events run.recording events)) line)
 event_failed events run line lines.Memory other is failed = tt
 event_failed events run line (lines.Of kind) other is failed =
-    let r : Recorded = with_events run.recording events in
+    let r : RecordingModel = with_events run.recording events in
     by_event r line other
     ∙ ap ran_on (event_agrees events run line is ∙ ap (lifted r) failed)
 
@@ -291,13 +291,13 @@ pub event_follows : (events : List Event) (old new : Running) (line : List ℕ) 
     → Adds x (step (reading.Running (with_events old.recording events)) line) events
     (holds.Running new)
 event_follows events old new line x other is given =
-    let r : Recorded = with_events old.recording events in
+    let r : RecordingModel = with_events old.recording events in
     let added : IsAdded events new line x r = event_added events old new line x is given in
     (by_event r line other ∙ ap ran_on added.stepped, added.next, added.run)
 
 -- WITH THE EVENTS THAT ARE KEPT
 
-pub seen_kept : (s : held.Stage) → seen_with (kept_events s) s ≡ seen s
+pub seen_kept : (s : held.Stage) → seen_with (kept_events s) s ≡ stage_with_all s
 seen_kept holds.Opening = refl
 seen_kept holds.Limiting = refl
 seen_kept (holds.Declaring d) = refl
@@ -322,7 +322,7 @@ sound (holds.Ended r) is = tt
 pub kept_none : (old new : held.Stage) (stepped : Result Stage Kind)
     → kept_events new ≡ kept_events old
     → (stepped ≡ Ok (seen_with (kept_events old) new)) × IsFollowing (kept_events old) new
-    → (stepped ≡ Ok (seen new)) × IsSound new
+    → (stepped ≡ Ok (stage_with_all new)) × IsSound new
 kept_none old new stepped same is =
     let P : List Event → Type 0 =
     λ es. (stepped ≡ Ok (seen_with es new)) × IsFollowing es new in
@@ -342,14 +342,14 @@ kept_next old (holds.Ended r) stepped x same adds = absurd adds
 -- and is kept
 pub kept_then : (old mid new : held.Stage) (stepped : Result Stage Kind) (x : Event)
     → kept_events mid ≡ kept_events old → Adds x stepped (kept_events old) mid → Keeps mid new x
-    → (stepped ≡ Ok (seen new)) × IsSound new
+    → (stepped ≡ Ok (stage_with_all new)) × IsSound new
 kept_then old (holds.Running r) new stepped x same adds keeps =
     let P : List Event → Type 0 = λ es.
     (stepped ≡ Ok (reading.Running (with_events r.recording (es ++ x ∷ []))))
     × IsNextOf (with_events r.recording es) x × IsRunning (es ++ x ∷ []) r in
     let now : P r.recording.events = subst P (sym same) adds in
     let run : IsRunning (r.recording.events ++ x ∷ []) r = now.2 in
-    subst (λ (s : held.Stage). (stepped ≡ Ok (seen s)) × IsSound s) (sym keeps) (
+    subst (λ (s : held.Stage). (stepped ≡ Ok (stage_with_all s)) × IsSound s) (sym keeps) (
       now.0,
       record {
         pending = run.pending;

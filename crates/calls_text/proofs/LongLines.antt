@@ -6,7 +6,7 @@ use Rattle.std.specs.List.{list_any}
 use Rattle.std.proofs.lemmas.Bool.{lt-ltb}
 use Rattle.std.proofs.lemmas.Slice.Eq.{bytes_eq-Decides}
 use Rattle.ec_heading.specs.Heading.{head_step, is_no_line, words_step}
-use Rattle.ec_heading.specs.Headed.{Headed}
+use Rattle.ec_heading.specs.HeadingModel.{HeadingModel}
 use Rattle.ec_heading.specs.declared.heading.HeadFault.TheVariants as heads
 use Rattle.ec_text.specs.Words.{words_of}
 use Rattle.calls_core.specs.declared.history.Event.{Event}
@@ -17,11 +17,11 @@ use Rattle.calls_text.specs.declared.stage.Stage as held
 use Rattle.calls_text.specs.declared.stage.Stage.TheVariants as holds
 use Rattle.calls_text.specs.Causes.{line_cause, header_cause}
 use Rattle.calls_text.specs.Forms.{phrase_in}
-use Rattle.calls_text.specs.Recordings.{Recorded}
+use Rattle.calls_text.specs.Recordings.{RecordingModel}
 use Rattle.calls_text.specs.Reading.{Opening, Limiting, Declaring, Running, Ended, step, is_ended}
 use Rattle.calls_text.specs.Reading.{Draft, limit_step, limit_or, limit_digits, draft_step, is_from}
 use Rattle.calls_text.specs.Reading.{from_step, from_or, from_words, headed_on, event_step, ran_on, drafted_on}
-use Rattle.calls_text.specs.Reading.{phrased, recorded_of, with_events}
+use Rattle.calls_text.specs.Reading.{after_phrase, recorded_of, with_events}
 use Rattle.calls_text.specs.kept.Stages.{seen_with}
 use Rattle.calls_text.specs.Following.{IsFaulty, long_kind}
 
@@ -66,7 +66,7 @@ module _ (line : List ℕ) (long : 8192 < length line) where
   unfolding from_step
   from_long d = ap (λ b. cond b (Err kinds.BadLine) (from_or d (from_words (words_of line)))) no_line
 
-  head_long : (h : Headed) → head_step h line ≡ Err heads.BadLine
+  head_long : (h : HeadingModel) → head_step h line ≡ Err heads.BadLine
   unfolding head_step
   head_long h = ap (λ b. cond b (Err heads.BadLine) (words_step h (words_of line))) no_line
 
@@ -85,12 +85,12 @@ module _ (line : List ℕ) (long : 8192 < length line) where
       (drafted_on (draft_step d line))) (other (codes "run") (lit< tt))
       ∙ ap drafted_on (drafted d)
 
-  event_long : (r : Recorded) → event_step r line ≡ Err kinds.BadLine
+  event_long : (r : RecordingModel) → event_step r line ≡ Err kinds.BadLine
   unfolding event_step
   event_long r =
-      ap (λ b. cond b (Err kinds.BadLine) (phrased r (phrase_in (words_of line)))) no_line
+      ap (λ b. cond b (Err kinds.BadLine) (after_phrase r (phrase_in (words_of line)))) no_line
 
-  at_events : (r : Recorded) → step (Running r) line ≡ Err kinds.BadLine
+  at_events : (r : RecordingModel) → step (Running r) line ≡ Err kinds.BadLine
   unfolding step
   at_events r =
       ap (λ b. cond b (Ok (Ended r)) (ran_on (event_step r line))) (other (codes "end") (lit< tt))

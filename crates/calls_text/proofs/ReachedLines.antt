@@ -3,11 +3,11 @@ use Rattle.std.proofs.Common.{◌≡◌, ℕ, ◌+◌, true, false, List, [], �
 use Rattle.std.proofs.Common.{refl, ap, sym, ◌∙◌, subst, arith, append_assoc, length-append, bytes_eq, codes, cond}
 use Rattle.calls_text.specs.declared.fault.Kind.{Kind}
 use Rattle.calls_text.specs.declared.fault.Kind.TheVariants as kinds
-use Rattle.calls_text.specs.Recordings.{Recorded}
+use Rattle.calls_text.specs.Recordings.{RecordingModel}
 use Rattle.calls_text.specs.Reading.{Stage, Opening, Limiting, Declaring, Running, Ended, step, is_ended}
 use Rattle.calls_text.specs.Reading.{Draft, limit_step, draft_step, is_run, event_step, ran_on, drafted_on}
 use Rattle.calls_text.specs.Reading.{recorded_of}
-use Rattle.calls_text.specs.Outcomes.{goes, taken, ended, fault_in}
+use Rattle.calls_text.specs.Outcomes.{goes, after_line, parse_end, fault_in}
 use Rattle.calls_text.specs.Following.{IsReached}
 use Rattle.calls_text.specs.declared.stage.Stage as held
 use Rattle.calls_text.specs.declared.stage.Stage.TheVariants as holds
@@ -33,7 +33,7 @@ line_goes : (n : ℕ) (s t : Stage) (line : List ℕ) (ps : List (List ℕ)) →
 line_goes n s t line ps c steps =
     ap (λ (x : List (List ℕ)). goes n s (line ∷ x)) c.is
     ∙ by_line n s line c.first c.others (open_before s t line steps)
-    ∙ ap (λ r. taken n line r (λ u. goes (n + 1) u (c.first ∷ c.others))) steps
+    ∙ ap (λ r. after_line n line r (λ u. goes (n + 1) u (c.first ∷ c.others))) steps
     ∙ ap (goes (n + 1) t) (sym c.is)
 
 lines_go : (n : ℕ) (s t : Stage) (lines : List (List ℕ)) (q : List ℕ) (qs : List (List ℕ))
@@ -87,7 +87,7 @@ reached_more n ps s t m line qs at steps =
 -- WHAT A TEXT COMES TO
 
 -- the end of a history
-pub reached_end : (n : ℕ) (ps : List (List ℕ)) (r : Recorded) (m : ℕ) (q : List ℕ)
+pub reached_end : (n : ℕ) (ps : List (List ℕ)) (r : RecordingModel) (m : ℕ) (q : List ℕ)
     (qs : List (List ℕ)) → IsReached n ps (Ended r) m (q ∷ qs)
     → goes n Opening ps ≡ Ok (record { recorded = r; number = m; rest = q ∷ qs })
 unfolding goes
@@ -95,18 +95,18 @@ reached_end n ps r m q qs at = reached_goes n ps (Ended r) m q qs at
 
 -- the end of the text
 pub reached_cut : (n : ℕ) (ps : List (List ℕ)) (s : Stage) (m : ℕ) (rest : List ℕ)
-    → IsReached n ps s m (rest ∷ []) → is_ended s ≡ false → goes n Opening ps ≡ ended m s rest
+    → IsReached n ps s m (rest ∷ []) → is_ended s ≡ false → goes n Opening ps ≡ parse_end m s rest
 reached_cut n ps s m rest at going = reached_goes n ps s m rest [] at ∙ by_rest m s rest going
 
 fault_goes : (m : ℕ) (s : Stage) (line : List ℕ) (qs : List (List ℕ)) (kind : Kind)
     → (line ≡ [] → qs ≡ [] → ⊥) → is_ended s ≡ false → step s line ≡ Err kind
     → goes m s (line ∷ qs) ≡ fault_in m kind line
 fault_goes m s line (q ∷ qs) kind some going fails =
-    by_line m s line q qs going ∙ ap (λ r. taken m line r (λ t. goes (m + 1) t (q ∷ qs))) fails
+    by_line m s line q qs going ∙ ap (λ r. after_line m line r (λ t. goes (m + 1) t (q ∷ qs))) fails
 fault_goes m s [] [] kind some going fails = absurd (some refl refl)
 fault_goes m s (b ∷ bs) [] kind some going fails =
     by_rest m s (b ∷ bs) going
-    ∙ ap (λ r. taken m (b ∷ bs) r (λ t. fault_in m kinds.Unfinished (b ∷ bs))) fails
+    ∙ ap (λ r. after_line m (b ∷ bs) r (λ t. fault_in m kinds.Unfinished (b ∷ bs))) fails
 
 -- a line at fault
 pub reached_fault : (n : ℕ) (ps : List (List ℕ)) (s : Stage) (m : ℕ) (line : List ℕ)
@@ -122,7 +122,7 @@ no_opening : {P : Type 0} (x : Result Draft Kind) → drafted_on x ≡ Ok Openin
 no_opening (Ok d) is = absurd (let never : ⊥ = cc in never)
 no_opening (Err kind) is = absurd (let never : ⊥ = cc in never)
 
-ran_no_opening : {P : Type 0} (x : Result Recorded Kind) → ran_on x ≡ Ok Opening → P
+ran_no_opening : {P : Type 0} (x : Result RecordingModel Kind) → ran_on x ≡ Ok Opening → P
 ran_no_opening (Ok d) is = absurd (let never : ⊥ = cc in never)
 ran_no_opening (Err kind) is = absurd (let never : ⊥ = cc in never)
 

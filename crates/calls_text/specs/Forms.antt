@@ -5,20 +5,20 @@ use Rattle.std.specs.Option.{option_map_or}
 use Rattle.std.specs.List.{list_all}
 use Rattle.std.specs.Borrow.{Bor}
 use Rattle.ec_text.specs.Words.{words_of, is_number_form}
-use Rattle.calls_text.specs.Verbs.{verb_of, tail_of}
-use Rattle.calls_text.specs.declared.verb.Verb.{Verb}
+use Rattle.calls_text.specs.Verbs.{parse_verb, tail_of}
+use Rattle.calls_text.specs.declared.verb.CallWord.{CallWord}
 use Rattle.calls_text.specs.declared.verb.Tail.{Tail}
 use Rattle.calls_text.specs.declared.verb.Tail.TheVariants as tails
-use Rattle.calls_text.specs.declared.form.Answer.{Answer}
-use Rattle.calls_text.specs.declared.form.Answer.TheVariants as answers
+use Rattle.calls_text.specs.declared.form.ReplyWord.{ReplyWord}
+use Rattle.calls_text.specs.declared.form.ReplyWord.TheVariants as answers
 use Rattle.calls_text.specs.declared.form.Parts.{Parts}
 use Rattle.calls_text.specs.declared.form.Parts.TheVariants as parts
 
 -- the words of an event: an invocation by its worker, what it does, its object and what stands
 -- after that; a response by its worker, what it says, and its words
 pub data Phrase : Type 0 where
-  Calls : List ℕ → Verb → List ℕ → List (List ℕ) → Phrase
-  Returns : List ℕ → Answer → List (List ℕ) → Phrase
+  Calls : List ℕ → CallWord → List ℕ → List (List ℕ) → Phrase
+  Returns : List ℕ → ReplyWord → List (List ℕ) → Phrase
 
 -- the only word, if there is exactly one
 abbrev pub only_in : List (List ℕ) → Option (List ℕ)
@@ -34,21 +34,21 @@ is_tail tails.ManyDigits ws = nat_le 1 (length ws) && list_all is_number_form ws
 is_tail tails.Word ws = length ws == 1
 
 -- an invocation, from the word of the call on
-abbrev pub called_in : List ℕ → Option Verb → List (List ℕ) → Option Phrase
+abbrev pub called_in : List ℕ → Option CallWord → List (List ℕ) → Option Phrase
 called_in w None ws = None
 called_in w (Some v) [] = None
 called_in w (Some v) (o ∷ ws) = if is_tail (tail_of v) ws then Some (Calls w v o ws) else None
 
 abbrev pub call_in : List ℕ → List (List ℕ) → Option Phrase
 call_in w [] = None
-call_in w (v ∷ ws) = called_in w (verb_of v) ws
+call_in w (v ∷ ws) = called_in w (parse_verb v) ws
 
 -- whether the one word of a response is this one
 abbrev pub is_word : List ℕ → List (List ℕ) → Bool
 is_word word ws = option_map_or (λ w. bytes_eq w word) (only_in ws) false
 
 -- what a response says
-abbrev pub answer_of : List (List ℕ) → Option Answer
+abbrev pub answer_of : List (List ℕ) → Option ReplyWord
 answer_of ws =
     if is_word (codes "done") ws then Some answers.Done
     else (if is_word (codes "timeout") ws then Some answers.Timeout
@@ -76,6 +76,6 @@ abbrev pub rest_words : Option (Bor (List ℕ)) → List (List ℕ)
 rest_words None = []
 rest_words (Some r) = words_of r.now
 
-abbrev pub shown : Parts → Phrase
-shown (parts.Calls w v o rest) = Calls w.now v o.now (rest_words rest)
-shown (parts.Returns w a list) = Returns w.now a (words_of list.now)
+abbrev pub phrase_of_parts : Parts → Phrase
+phrase_of_parts (parts.Calls w v o rest) = Calls w.now v o.now (rest_words rest)
+phrase_of_parts (parts.Returns w a list) = Returns w.now a (words_of list.now)

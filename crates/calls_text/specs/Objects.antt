@@ -12,26 +12,27 @@ use Rattle.ec_semaphore.specs.Shapes.{Semaphore}
 use Rattle.ec_heading.specs.declared.group.Group as kinds
 use Rattle.ec_heading.specs.declared.group.Group.TheVariants as groups
 use Rattle.ec_heading.specs.Groups.{database_of, semaphore_of, both_of, has_event, has_sequencer, has_cell}
-use Rattle.ec_heading.specs.Headed.{Headed}
-use Rattle.ec_heading.specs.Spelled.{event_in, sequencer_in, cell_in_word}
-use Rattle.calls_text.specs.declared.verb.Verb.{Verb}
-use Rattle.calls_text.specs.declared.verb.Verb.TheVariants as verbs
+use Rattle.ec_heading.specs.HeadingModel.{HeadingModel}
+use Rattle.ec_heading.specs.EntryWords.{event_in, sequencer_in, cell_in_word}
+use Rattle.calls_text.specs.declared.verb.CallWord.{CallWord}
+use Rattle.calls_text.specs.declared.verb.CallWord.TheVariants as verbs
 use Rattle.calls_text.specs.declared.object.Object.{Object}
 use Rattle.calls_text.specs.declared.object.Object.TheVariants as objects
 
 -- GROUPS BY NAME
 
-abbrev pub place_of : targets.Target → Option ℕ
-place_of (target.Group i) = Some i
-place_of _ = None
+abbrev pub group_place : targets.Target → Option ℕ
+group_place (target.Group i) = Some i
+group_place _ = None
 
 -- the group at a place, with the place
 abbrev pub group_at : List kinds.Group → ℕ → Option (ℕ × kinds.Group)
 group_at gs i = option_map (λ g. (i, g)) (slice_get gs i)
 
 -- the group of this name, with its place among the groups
-abbrev pub group_in : Headed → List ℕ → Option (ℕ × kinds.Group)
-group_in h w = option_and_then (group_at h.groups) (option_and_then place_of (find_name w h.names))
+abbrev pub group_in : HeadingModel → List ℕ → Option (ℕ × kinds.Group)
+group_in h w =
+    option_and_then (group_at h.groups) (option_and_then group_place (find_name w h.names))
 
 abbrev pub placed_semaphore : ℕ × kinds.Group → Option (ℕ × Semaphore)
 placed_semaphore p = option_map (λ s. (p.0, s)) (semaphore_of p.1)
@@ -40,19 +41,19 @@ abbrev pub placed_database : ℕ × kinds.Group → Option (ℕ × databases.Dat
 placed_database p = option_map (λ d. (p.0, d)) (database_of p.1)
 
 -- a semaphore by its name, with its place: `both` has none
-abbrev pub semaphore_in : Headed → List ℕ → Option (ℕ × Semaphore)
+abbrev pub semaphore_in : HeadingModel → List ℕ → Option (ℕ × Semaphore)
 semaphore_in h w = option_and_then placed_semaphore (group_in h w)
 
-abbrev pub database_in : Headed → List ℕ → Option (ℕ × databases.Database)
+abbrev pub database_in : HeadingModel → List ℕ → Option (ℕ × databases.Database)
 database_in h w = option_and_then placed_database (group_in h w)
 
 -- THE OBJECT OF A CALL
 
-abbrev pub pair_of : Option Semaphore → Option (ℕ × Semaphore) → Option (ℕ × Semaphore)
+abbrev pub semaphore_pair : Option Semaphore → Option (ℕ × Semaphore) → Option (ℕ × Semaphore)
     → Option Object
-pair_of (Some common) (Some one) (Some other) =
+semaphore_pair (Some common) (Some one) (Some other) =
     Some (objects.Pair one.0 one.1 other.0 other.1 common)
-pair_of _ _ _ = None
+semaphore_pair _ _ _ = None
 
 abbrev pub as_semaphore : ℕ × Semaphore → Object
 as_semaphore s = objects.Semaphore s.0 s.1
@@ -62,7 +63,7 @@ as_database d = objects.Database d.0 d.1
 
 -- what a call is of: the declared object, of the sort that the call asks for, that the word spells;
 -- the other word is that of the second semaphore of a pair
-abbrev pub object_in : Headed → Verb → List ℕ → Option (List ℕ) → Option Object
+abbrev pub object_in : HeadingModel → CallWord → List ℕ → Option (List ℕ) → Option Object
 object_in h verbs.Advance w other = option_map objects.Event (event_in h.words w)
 object_in h verbs.Read w other = option_map objects.Event (event_in h.words w)
 object_in h verbs.Await w other = option_map objects.Event (event_in h.words w)
@@ -71,7 +72,7 @@ object_in h verbs.Put w other = option_map objects.Cell (cell_in_word h.words w)
 object_in h verbs.Get w other = option_map objects.Cell (cell_in_word h.words w)
 object_in h verbs.P w other = option_map as_semaphore (semaphore_in h w)
 object_in h verbs.V w other = option_map as_semaphore (semaphore_in h w)
-object_in h verbs.PBoth w other = pair_of (both_of h.groups) (semaphore_in h w)
+object_in h verbs.PBoth w other = semaphore_pair (both_of h.groups) (semaphore_in h w)
     (option_and_then (semaphore_in h) other)
 object_in h verbs.Write w other = option_map as_database (database_in h w)
 object_in h verbs.Snapshot w other = option_map as_database (database_in h w)

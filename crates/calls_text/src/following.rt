@@ -2,11 +2,11 @@
 ghost use Rattle.std.specs.Prelude.{◌≡◌, ◌↔◌, [], List, IsTrue, length, reverse, false};
 ghost use Rattle.calls_core.specs.declared.history.Event.{Event};
 ghost use Rattle.calls_core.specs.Histories.{pending_calls};
-ghost use Rattle.calls_text.specs.Outcomes.{TellsFault, ended};
-ghost use Rattle.calls_text.specs.Recordings.{Recorded};
+ghost use Rattle.calls_text.specs.Outcomes.{ReturnsFault, parse_end};
+ghost use Rattle.calls_text.specs.Recordings.{RecordingModel};
 ghost use Rattle.calls_text.specs.Reading.{is_ended};
 ghost use Rattle.calls_text.specs.Reading as reading;
-ghost use Rattle.calls_text.specs.Following.{built, HasSeen, Passes, followed_in, Records, IsLong, long_kind};
+ghost use Rattle.calls_text.specs.Following.{stage_with_events, HasEvents, Passes, followed_in, Records, IsLong, long_kind};
 
 use crate::fault::{Cause, Kind, LineFault, TextFault};
 use crate::reading::fault_at;
@@ -17,7 +17,7 @@ use std::alloc::Global;
 
 /// What a line of a history is.
 #[derive(Clone, Copy, Debug, PartialEq, Eq)]
-pub enum Followed {
+pub enum HistoryLine {
     /// A line before the events.
     Heading,
     /// The line `run`: events may follow.
@@ -35,13 +35,13 @@ pub struct Follower {
 }
 
 /// Returns what a line was that led to this stage and was no event.
-fn what_led_to(stage: &Stage) -> Followed
+fn what_led_to(stage: &Stage) -> HistoryLine
     ensures { result ≡ followed_in stage.now }
 {
     match stage {
-        Stage::Running(_) => Followed::Run,
-        Stage::Ended(_) => Followed::End,
-        Stage::Opening | Stage::Limiting | Stage::Declaring(_) => Followed::Heading,
+        Stage::Running(_) => HistoryLine::Run,
+        Stage::Ended(_) => HistoryLine::End,
+        Stage::Opening | Stage::Limiting | Stage::Declaring(_) => HistoryLine::Heading,
     }
 }
 
@@ -58,8 +58,8 @@ fn long_kind(stage: &Stage) -> Kind
 impl Follower {
     /// Returns a history of which no line came yet.
     pub fn new() -> Follower
-        ensures opening { built [] result ≡ reading.Opening }
-        ensures seen { HasSeen [] result }
+        ensures opening { stage_with_events [] result ≡ reading.Opening }
+        ensures seen { HasEvents [] result }
     {
         Follower {
             stage: Stage::Opening,
@@ -67,12 +67,17 @@ impl Follower {
     }
 
     /// Takes the line of this number, given without its LF. After a fault the history has no use.
-    pub fn line(&mut self, alloc: Global, number: u64, line: &[u8]) -> Result<Followed, TextFault>
-        ensures { (events : List Event) → HasSeen events self.old
+    pub fn line(
+        &mut self,
+        alloc: Global,
+        number: u64,
+        line: &[u8],
+    ) -> Result<HistoryLine, TextFault>
+        ensures { (events : List Event) → HasEvents events self.old
             → Passes result number line.now events self.old self.new }
     {
         match self.stage.follow(alloc, line) {
-            Ok(Some(event)) => Ok(Followed::Event(event)),
+            Ok(Some(event)) => Ok(HistoryLine::Event(event)),
             Ok(None) => Ok(what_led_to(&self.stage)),
             Err(fault) => Err(fault_at(number, line, fault)),
         }
@@ -91,9 +96,9 @@ impl Follower {
 
     /// Returns what a text comes to that ends here, with these bytes after its last LF.
     pub fn cut_off(&mut self, alloc: Global, number: u64, rest: &[u8]) -> TextFault
-        ensures { (events : List Event) → HasSeen events self.old
-            → is_ended (built events self.old) ≡ false
-            → TellsFault (ended number (built events self.old) rest.now) result }
+        ensures { (events : List Event) → HasEvents events self.old
+            → is_ended (stage_with_events events self.old) ≡ false
+            → ReturnsFault (parse_end number (stage_with_events events self.old) rest.now) result }
     {
         if rest.is_empty() {
             return fault_at(number, rest, LineFault::Of(Kind::Unfinished));
@@ -106,7 +111,7 @@ impl Follower {
 
     /// Returns whether no line came yet.
     pub fn is_opening(&self) -> bool
-        ensures { (events : List Event) → IsTrue result ↔ (built events self.now ≡ reading.Opening) }
+        ensures { (events : List Event) → IsTrue result ↔ (stage_with_events events self.now ≡ reading.Opening) }
     {
         matches!(self.stage, Stage::Opening)
     }
@@ -123,8 +128,8 @@ impl Follower {
 
     /// Returns how many calls are pending, while events may come.
     pub fn pending(&self) -> usize
-        ensures { (events : List Event) (r : Recorded) → HasSeen events self.now
-            → built events self.now ≡ reading.Running r
+        ensures { (events : List Event) (r : RecordingModel) → HasEvents events self.now
+            → stage_with_events events self.now ≡ reading.Running r
             → result ≡ length (pending_calls (reverse events)) }
     {
         match &self.stage {

@@ -3,14 +3,14 @@ ghost use Rattle.std.specs.Prelude.{◌≡◌, option_map};
 ghost use Rattle.std.specs.List.{list_all};
 ghost use Rattle.ec_text.specs.Words.{words_of, is_number_form};
 ghost use Rattle.calls_text.specs.Forms.{is_tail, is_word, rest_words, call_in, return_in};
-ghost use Rattle.calls_text.specs.Forms.{answer_of, phrase_in, shown};
+ghost use Rattle.calls_text.specs.Forms.{answer_of, phrase_in, phrase_of_parts};
 
-use crate::verb::{Tail, Verb, verb_of};
+use crate::verb::{CallWord, Tail, parse_verb};
 use ec_text::{cut_word, is_number_form};
 
 /// What a response says.
 #[derive(Clone, Copy, Debug, PartialEq, Eq)]
-pub(crate) enum Answer {
+pub(crate) enum ReplyWord {
     Done,
     Timeout,
     /// One number or more.
@@ -22,13 +22,13 @@ pub(crate) enum Answer {
 pub(crate) enum Parts<'a> {
     Calls {
         worker: &'a [u8],
-        verb: Verb,
+        verb: CallWord,
         object: &'a [u8],
         rest: Option<&'a [u8]>,
     },
     Returns {
         worker: &'a [u8],
-        answer: Answer,
+        answer: ReplyWord,
         list: &'a [u8],
     },
 }
@@ -81,12 +81,12 @@ fn is_tail(tail: Tail, rest: Option<&[u8]>) -> bool
 
 /// Returns the parts of an invocation, from the word of the call on.
 fn call_of<'a>(worker: &'a [u8], line: &'a [u8]) -> Option<Parts<'a>>
-    ensures { option_map shown result ≡ call_in worker.now (words_of line.now) }
+    ensures { option_map phrase_of_parts result ≡ call_in worker.now (words_of line.now) }
 {
     let (word, Some(line)) = cut_word(line) else {
         return None;
     };
-    let verb = verb_of(word)?;
+    let verb = parse_verb(word)?;
     let (object, rest) = cut_word(line);
     if !is_tail(verb.tail(), rest) {
         return None;
@@ -110,24 +110,24 @@ fn is_word(word: &[u8], list: &[u8]) -> bool
 
 /// Returns what a response says.
 #[tactic(auto, using(crate::proofs::Words::some_words))]
-fn answer_of(list: &[u8]) -> Option<Answer>
+fn answer_of(list: &[u8]) -> Option<ReplyWord>
     ensures { result ≡ answer_of (words_of list.now) }
 {
     if is_word(b"done".as_slice(), list) {
-        return Some(Answer::Done);
+        return Some(ReplyWord::Done);
     }
     if is_word(b"timeout".as_slice(), list) {
-        return Some(Answer::Timeout);
+        return Some(ReplyWord::Timeout);
     }
     if are_number_forms(list) {
-        return Some(Answer::Numbers);
+        return Some(ReplyWord::Numbers);
     }
     None
 }
 
 /// Returns the parts of a response, from what it says on.
 fn return_of<'a>(worker: &'a [u8], list: &'a [u8]) -> Option<Parts<'a>>
-    ensures { option_map shown result ≡ return_in worker.now (words_of list.now) }
+    ensures { option_map phrase_of_parts result ≡ return_in worker.now (words_of list.now) }
 {
     let answer = answer_of(list)?;
     Some(Parts::Returns {
@@ -139,8 +139,8 @@ fn return_of<'a>(worker: &'a [u8], list: &'a [u8]) -> Option<Parts<'a>>
 
 /// Returns the parts of a line of one of the forms.
 #[tactic(auto, unfolding(crate::specs::Forms::phrase_in))]
-pub(crate) fn parts_of(line: &[u8]) -> Option<Parts<'_>>
-    ensures { option_map shown result ≡ phrase_in (words_of line.now) }
+pub(crate) fn split_event(line: &[u8]) -> Option<Parts<'_>>
+    ensures { option_map phrase_of_parts result ≡ phrase_in (words_of line.now) }
 {
     let (worker, Some(line)) = cut_word(line) else {
         return None;

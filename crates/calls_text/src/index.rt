@@ -18,7 +18,7 @@ pub fn first_cell(heading: &Heading) -> usize
     ensures { result ≡ first_cell heading.now }
 {
     let setup = heading.setup();
-    setup.known();
+    setup.invariant();
     setup.events() + setup.sequencers()
 }
 
@@ -27,7 +27,7 @@ pub fn first_group(heading: &Heading) -> usize
     ensures { result ≡ first_group heading.now }
 {
     let setup = heading.setup();
-    setup.known();
+    setup.invariant();
     first_cell(heading) + setup.cells() + 1
 }
 

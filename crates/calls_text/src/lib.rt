@@ -17,7 +17,7 @@ mod tally;
 mod verb;
 
 pub use fault::{Cause, Kind, TextFault};
-pub use following::{Followed, Follower};
+pub use following::{Follower, HistoryLine};
 pub use index::{first_cell, first_group, first_sequencer, numbers_of};
 pub use laws::{no_text_begins_another, prefix_is_refused, read_is_spelled, spelled_is_read};
 pub use lists::Lists;

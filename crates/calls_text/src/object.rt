@@ -2,10 +2,11 @@
 ghost use Rattle.std.specs.Prelude.{◌≡◌, option_map};
 ghost use Rattle.std.specs.Option.{option_and_then};
 ghost use Rattle.ec_heading.specs.Groups.{both_of};
-ghost use Rattle.calls_text.specs.Objects.{group_in, semaphore_in, database_in, pair_of, object_in};
+ghost use Rattle.calls_text.specs.Objects.{group_in, semaphore_in, database_in, semaphore_pair};
+ghost use Rattle.calls_text.specs.Objects.{object_in};
 ghost use Rattle.calls_text.specs.Objects.{owns, is_owned, has_right};
 
-use crate::verb::Verb;
+use crate::verb::CallWord;
 use ec_count::{CellId, EventId, SeqId, Setup, Target, WorkerId};
 use ec_database::DatabaseShape;
 use ec_heading::{Group, Heading, both_of};
@@ -54,7 +55,8 @@ fn database_in(heading: &Heading, word: &[u8]) -> Option<(usize, DatabaseShape)>
 
 /// Returns the two semaphores that a call names, and the common one.
 fn pair_in(heading: &Heading, word: &[u8], other: Option<&[u8]>) -> Option<Object>
-    ensures { result ≡ pair_of (both_of heading.now.groups) (semaphore_in heading.now word.now)
+    ensures { result ≡ semaphore_pair (both_of heading.now.groups)
+        (semaphore_in heading.now word.now)
         (option_and_then (semaphore_in heading.now) (option_map (λ w. w.now) other.entry)) }
 {
     let common = both_of(heading.groups())?;
@@ -67,22 +69,24 @@ fn pair_in(heading: &Heading, word: &[u8], other: Option<&[u8]>) -> Option<Objec
 /// word spells. The second word is that of a pair's second semaphore.
 pub(crate) fn object_in(
     heading: &Heading,
-    verb: Verb,
+    verb: CallWord,
     word: &[u8],
     other: Option<&[u8]>,
 ) -> Option<Object>
     ensures { result ≡ object_in heading.now verb word.now (option_map (λ w. w.now) other.entry) }
 {
     match verb {
-        Verb::Advance | Verb::Read | Verb::Await => Some(Object::Event(heading.event(word)?)),
-        Verb::Ticket => Some(Object::Sequencer(heading.sequencer(word)?)),
-        Verb::Put | Verb::Get => Some(Object::Cell(heading.cell(word)?)),
-        Verb::P | Verb::V => {
+        CallWord::Advance | CallWord::Read | CallWord::Await => Some(Object::Event(heading.event(
+            word,
+        )?)),
+        CallWord::Ticket => Some(Object::Sequencer(heading.sequencer(word)?)),
+        CallWord::Put | CallWord::Get => Some(Object::Cell(heading.cell(word)?)),
+        CallWord::P | CallWord::V => {
             let (place, shape) = semaphore_in(heading, word)?;
             Some(Object::Semaphore(place, shape))
         }
-        Verb::PBoth => pair_in(heading, word, other),
-        Verb::Write | Verb::Snapshot => {
+        CallWord::PBoth => pair_in(heading, word, other),
+        CallWord::Write | CallWord::Snapshot => {
             let (place, shape) = database_in(heading, word)?;
             Some(Object::Database(place, shape))
         }

@@ -1,11 +1,11 @@
 //! What the lines of a history declare, up to its line `run`.
 ghost use Rattle.std.specs.Prelude.{◌≡◌, ◌≤◌, [], IfOk, option_map, Some};
 ghost use Rattle.ec_heading.specs.Heading.{head_step};
-ghost use Rattle.ec_heading.specs.Outline.{opened};
+ghost use Rattle.ec_heading.specs.HeaderTree.{empty_heading};
 ghost use Rattle.ec_heading.specs.Versions.{greatest_limit};
-ghost use Rattle.ec_text.specs.Words.{words_of, number_of};
+ghost use Rattle.ec_text.specs.Words.{words_of, number_in_word};
 ghost use Rattle.calls_text.specs.Reading.{Steps, limit_digits, limit_step, from_words, is_later};
-ghost use Rattle.calls_text.specs.Reading.{from_step, started, start_in, opens_from, is_from};
+ghost use Rattle.calls_text.specs.Reading.{from_step, after_start, start_in, opens_from, is_from};
 ghost use Rattle.calls_text.specs.Reading.{headed_on, draft_step, is_run};
 ghost use Rattle.calls_text.specs.kept.Results.{IsLimit, Opens};
 
@@ -53,7 +53,7 @@ fn limit_digits(line: &[u8]) -> Option<&[u8]>
 
 /// Returns the limit that a line gives.
 #[tactic(auto, unfolding(crate::specs::Reading::limit_step))]
-fn limit_of(line: &[u8]) -> Result<Limit, Kind>
+fn parse_limit(line: &[u8]) -> Result<Limit, Kind>
     ensures { IsLimit result (limit_step line.now) }
 {
     if line.len() > LINE_MAX {
@@ -115,7 +115,7 @@ fn is_later(from: &[(EventId, u64)], event: EventId) -> bool
 #[inline(never)]
 fn no_declarations(alloc: Global, limit: Limit) -> Result<Box<Heading>, AllocError>
     requires { limit ≤ greatest_limit Version.Two }
-    ensures { IfOk result (λ heading. heading.value ≡ opened Version.Two limit []) }
+    ensures { IfOk result (λ heading. heading.value ≡ empty_heading Version.Two limit []) }
 {
     Ok(Box::new(alloc, Heading::new(alloc, Version::Two, limit)?)?)
 }
@@ -125,7 +125,7 @@ impl Draft {
     pub(crate) fn open(alloc: Global, line: &[u8]) -> Result<Draft, LineFault>
         ensures { Opens result (limit_step line.now) }
     {
-        let limit = match limit_of(line) {
+        let limit = match parse_limit(line) {
             Ok(limit) => limit,
             Err(kind) => return Err(LineFault::Of(kind)),
         };
@@ -140,7 +140,7 @@ impl Draft {
 
     /// Returns the count that digits give, if it may be one at the beginning.
     fn start(&self, digits: &[u8]) -> Option<u64>
-        ensures { result ≡ start_in self.now.heading (number_of digits.now) }
+        ensures { result ≡ start_in self.now.heading (number_in_word digits.now) }
     {
         let n = number(digits)?;
         if 1 <= n && n <= self.heading.setup().limit().get() {
@@ -152,7 +152,7 @@ impl Draft {
 
     /// Takes the count of an eventcount at the beginning.
     fn take_start(&mut self, event: EventId, digits: &[u8]) -> Result<(), LineFault>
-        ensures { Steps result (started self.old (Some event) digits.now) self.new }
+        ensures { Steps result (after_start self.old (Some event) digits.now) self.new }
     {
         let Some(n) = self.start(digits) else {
             return Err(LineFault::Of(Kind::BadNumber));

@@ -1,9 +1,10 @@
 //! The first history of a text.
 ghost use Rattle.std.specs.Prelude.{◌≡◌, ◌≢◌, ◌<◌, ◌≤◌, ◌+◌, ◌^◌, All, IfOk, true, false, length};
-ghost use Rattle.calls_text.specs.Outcomes.{Tells, TellsFault, goes, ended, parts_of, fault_at};
+ghost use Rattle.calls_text.specs.Outcomes.{Returns, ReturnsFault, goes, parse_end, lines_of_text};
+ghost use Rattle.calls_text.specs.Outcomes.{fault_at};
 ghost use Rattle.calls_text.specs.Reading.{is_ended};
 ghost use Rattle.calls_text.specs.Reading as reading;
-ghost use Rattle.calls_text.specs.kept.Stages.{seen, IsSound};
+ghost use Rattle.calls_text.specs.kept.Stages.{stage_with_all, IsSound};
 
 use crate::fault::{Kind, LineFault, TextFault, cause_of};
 use crate::recording::Recording;
@@ -38,8 +39,8 @@ pub(crate) fn fault_at(line: u64, text: &[u8], fault: LineFault) -> TextFault
 /// Returns what a text comes to whose last line, of number n, lacks its LF.
 fn cut_off(alloc: Global, stage: &mut Stage, line: u64, rest: &[u8]) -> TextFault
     requires sound { IsSound stage.old }
-    requires going { is_ended (seen stage.old) ≡ false }
-    ensures { TellsFault (ended line (seen stage.old) rest.now) result }
+    requires going { is_ended (stage_with_all stage.old) ≡ false }
+    ensures { ReturnsFault (parse_end line (stage_with_all stage.old) rest.now) result }
 {
     if rest.is_empty() {
         return fault_at(line, rest, LineFault::Of(Kind::Unfinished));
@@ -58,9 +59,9 @@ fn finish<'a>(
     rest: &'a [u8],
 ) -> Result<Read<'a>, TextFault>
     requires sound { IsSound stage }
-    requires last { is_ended (seen stage) ≡ false → All (λ b. b ≢ 10) rest.now }
-    ensures tells { Tells (goes number (seen stage) (parts_of rest.now)) result }
-    ensures over { IfOk result (λ read. is_ended (seen stage) ≡ true) }
+    requires last { is_ended (stage_with_all stage) ≡ false → All (λ b. b ≢ 10) rest.now }
+    ensures tells { Returns (goes number (stage_with_all stage) (lines_of_text rest.now)) result }
+    ensures over { IfOk result (λ read. is_ended (stage_with_all stage) ≡ true) }
     ensures number { IfOk result (λ read. read.number ≡ number) }
     ensures rest { IfOk result (λ read. read.rest.now ≡ rest.now) }
 {
@@ -79,7 +80,7 @@ fn finish<'a>(
 /// What stands after the last LF is judged like every line, and then the text is unfinished.
 pub fn read_history(alloc: Global, text: &[u8], number: u64) -> Result<Read<'_>, TextFault>
     requires { number + length text.now < 2 ^ 64 }
-    ensures tells { Tells (goes number reading.Opening (parts_of text.now)) result }
+    ensures tells { Returns (goes number reading.Opening (lines_of_text text.now)) result }
     ensures shorter { IfOk result (λ read. length read.rest.now < length text.now) }
     ensures numbers { IfOk result
         (λ read. read.number + length read.rest.now ≤ number + length text.now) }

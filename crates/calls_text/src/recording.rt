@@ -5,7 +5,7 @@ ghost use Rattle.std.specs.Prelude.{OnOk, Some};
 ghost use Rattle.calls_core.specs.declared.history.Kind.TheVariants.{Eventcount, Sequencer, Cell};
 ghost use Rattle.calls_core.specs.declared.history.Kind.TheVariants.{Database, Semaphores};
 ghost use Rattle.calls_text.specs.Recordings.{AreKinds, IsRecording, HasFrom, HasUnits, HasGroups};
-ghost use Rattle.calls_text.specs.Recordings.{start_of, initial_of, cells_of};
+ghost use Rattle.calls_text.specs.Recordings.{start_count, initial_of, cells_of};
 ghost use Rattle.calls_text.specs.kept.Adding.{Grows};
 ghost use Rattle.calls_text.specs.kept.Runs.{IsNextOf};
 ghost use Rattle.calls_text.specs.Reading.{with_events, recorded_of};
@@ -30,9 +30,9 @@ pub struct Recording {
 }
 
 impl Model for Recording {
-    ghost use Rattle.calls_text.specs.Recordings.{Recorded, IsRecording};
+    ghost use Rattle.calls_text.specs.Recordings.{RecordingModel, IsRecording};
 
-    ghost Value = { Recorded };
+    ghost Value = { RecordingModel };
 
     ghost view = { λ r. record {
       heading = r.heading.value;
@@ -50,8 +50,8 @@ impl Model for Recording {
 }
 
 /// Returns the count of an eventcount at the beginning.
-fn start_of(from: &[(EventId, u64)], event: usize) -> u64
-    ensures { result ≡ start_of from.now event }
+fn start_count(from: &[(EventId, u64)], event: usize) -> u64
+    ensures { result ≡ start_count from.now event }
 {
     match from {
         [] => 0,
@@ -59,7 +59,7 @@ fn start_of(from: &[(EventId, u64)], event: usize) -> u64
             if other.get() == event {
                 *n
             } else {
-                start_of(rest, event)
+                start_count(rest, event)
             }
         }
     }
@@ -73,10 +73,10 @@ fn add_events(
 ) -> Result<(), AllocError>
     ensures grows { OnOk result (Grows kinds.old.items kinds.new.items count) }
     ensures are { OnOk result (HasFrom kinds.new.items (length kinds.old.items) count
-        (λ e. Eventcount (start_of from.now e))) }
+        (λ e. Eventcount (start_count from.now e))) }
 {
     for event in 0..count {
-        kinds.push(Kind::Eventcount(start_of(from, event) as usize))?;
+        kinds.push(Kind::Eventcount(start_count(from, event) as usize))?;
     }
     Ok(())
 }
@@ -115,7 +115,7 @@ fn initial_of(group: &Group) -> usize
 }
 
 /// Returns the units of the semaphores at first, by the places of their groups.
-fn units_of(alloc: Global, groups: &[Group]) -> Result<Vec<usize>, AllocError>
+fn start_units(alloc: Global, groups: &[Group]) -> Result<Vec<usize>, AllocError>
     ensures { IfOk result (λ units. units.items ≡ map initial_of groups.now) }
 {
     groups.iter().map(|group| initial_of(group)).collect(alloc)
@@ -126,7 +126,7 @@ fn add_semaphores(alloc: Global, kinds: &mut Vec<Kind>, groups: &[Group]) -> Res
     ensures grows { OnOk result (Grows kinds.old.items kinds.new.items 1) }
     ensures are { OnOk result (HasUnits kinds.new.items (length kinds.old.items) groups.now) }
 {
-    let units = units_of(alloc, groups)?;
+    let units = start_units(alloc, groups)?;
     kinds.push(Kind::Semaphores(units))?;
     Ok(())
 }
@@ -199,9 +199,9 @@ impl Recording {
 
     /// Returns the count of an eventcount at the beginning.
     pub fn start(&self, event: EventId) -> u64
-        ensures { result ≡ start_of self.now.from event }
+        ensures { result ≡ start_count self.now.from event }
     {
-        start_of(&self.from, event.get())
+        start_count(&self.from, event.get())
     }
 
     /// Returns the objects: the eventcounts, the sequencers, the cells, the semaphores as one, and

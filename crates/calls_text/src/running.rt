@@ -4,15 +4,17 @@ ghost use Rattle.std.specs.Prelude.{Ok, IfOk, OnOk, option_map};
 ghost use Rattle.std.specs.List.{list_any};
 ghost use Rattle.ec_text.specs.Words.{words_of};
 ghost use Rattle.calls_core.specs.Histories.{pending_after};
-ghost use Rattle.calls_text.specs.Forms.{only_in, rest_words, shown};
+ghost use Rattle.calls_text.specs.Forms.{only_in, rest_words, phrase_of_parts};
 ghost use Rattle.calls_text.specs.Lists.{list_number, lists_after};
 ghost use Rattle.calls_text.specs.Objects.{object_in};
 ghost use Rattle.calls_text.specs.Recordings.{first_group};
 ghost use Rattle.calls_text.specs.Reading.{is_no_number, number_or_0, only_number, numbers_in};
 ghost use Rattle.calls_text.specs.Reading.{cells_in, is_bad_tail, has_two_roles, call_fault_by};
-ghost use Rattle.calls_text.specs.Reading.{index_of, place_in, second_place_in, op_of, number_in};
+ghost use Rattle.calls_text.specs.Reading.{index_of, place_in, second_place_in, op_of_word};
+ghost use Rattle.calls_text.specs.Reading.{number_in};
 ghost use Rattle.calls_text.specs.Reading.{lists_of, takes_done, takes_timeout, takes_numbers};
-ghost use Rattle.calls_text.specs.Reading.{is_suited, is_over, suit_fault, gives_list, reply_of};
+ghost use Rattle.calls_text.specs.Reading.{is_suited, is_over, suit_fault, gives_list};
+ghost use Rattle.calls_text.specs.Reading.{reply_of_word};
 ghost use Rattle.calls_text.specs.Reading.{lists_with, other_word};
 ghost use Rattle.calls_text.specs.kept.Judging.{pending_by, spent_by, fault_by, invocation};
 ghost use Rattle.calls_text.specs.kept.Judging.{called_by, response, returned_by, event_by, Answers};
@@ -21,13 +23,13 @@ ghost use Rattle.calls_text.specs.kept.Runs.{IsRunning, IsPlaced, Fits};
 ghost use Rattle.calls_text.specs.Verbs.{tail_of};
 
 use crate::fault::{Kind, LineFault};
-use crate::form::{Answer, Parts, parts_of};
+use crate::form::{Parts, ReplyWord, split_event};
 use crate::index::{first_group, numbers_of};
 use crate::lists::Lists;
 use crate::object::{Object, has_right, is_owned, object_in};
 use crate::recording::Recording;
 use crate::tally::Tally;
-use crate::verb::{Tail, Verb};
+use crate::verb::{CallWord, Tail};
 use calls_core::{Action, Event, Op, PendingCall, Reply};
 use calls_verdict::{find, follow};
 use ec_count::WorkerId;
@@ -162,7 +164,7 @@ fn index_of(recording: &Recording, object: &Object) -> usize
     ensures { result ≡ index_of recording.now.heading object.now }
 {
     let setup = recording.heading().setup();
-    setup.known();
+    setup.invariant();
     // there is a kind for each index, so the sums fit
     let _kinds = recording.kinds().len();
     let first_cell = setup.events() + setup.sequencers();
@@ -189,20 +191,20 @@ fn places_in(object: &Object) -> (usize, usize)
 }
 
 /// Returns what is asked for, with the number that is given, or that of the list.
-fn op_of(verb: Verb, object: &Object, n: usize) -> Op
-    ensures { result ≡ op_of verb object.now n }
+fn op_of_word(verb: CallWord, object: &Object, n: usize) -> Op
+    ensures { result ≡ op_of_word verb object.now n }
 {
     let (i, j) = places_in(object);
     match verb {
-        Verb::Advance => Op::Advance,
-        Verb::Read => Op::Read,
-        Verb::Await => Op::Await(n),
-        Verb::Ticket => Op::Ticket,
-        Verb::Put | Verb::Write => Op::Put(n),
-        Verb::Get | Verb::Snapshot => Op::Get,
-        Verb::P => Op::P(i),
-        Verb::V => Op::V(i),
-        Verb::PBoth => Op::PBoth(i, j),
+        CallWord::Advance => Op::Advance,
+        CallWord::Read => Op::Read,
+        CallWord::Await => Op::Await(n),
+        CallWord::Ticket => Op::Ticket,
+        CallWord::Put | CallWord::Write => Op::Put(n),
+        CallWord::Get | CallWord::Snapshot => Op::Get,
+        CallWord::P => Op::P(i),
+        CallWord::V => Op::V(i),
+        CallWord::PBoth => Op::PBoth(i, j),
     }
 }
 
@@ -210,7 +212,7 @@ fn op_of(verb: Verb, object: &Object, n: usize) -> Op
 fn number_in(
     alloc: Global,
     recording: &mut Recording,
-    verb: Verb,
+    verb: CallWord,
     rest: Option<&[u8]>,
 ) -> Result<usize, AllocError>
     ensures number { IfOk result
@@ -219,8 +221,8 @@ fn number_in(
         { lists = lists_of recording.old.lists verb (rest_words rest.entry) }) }
 {
     match (verb, rest) {
-        (Verb::Write, Some(list)) => list_number(alloc, &mut recording.lists, list),
-        (Verb::Write, None) => recording.lists.number(Vec::new(alloc)),
+        (CallWord::Write, Some(list)) => list_number(alloc, &mut recording.lists, list),
+        (CallWord::Write, None) => recording.lists.number(Vec::new(alloc)),
         _ => Ok(only_number(rest) as usize),
     }
 }
@@ -251,28 +253,28 @@ fn takes_numbers(heading: &Heading, call: &PendingCall, n: usize) -> bool
 }
 
 /// Returns whether a reply suits a call.
-fn is_suited(heading: &Heading, call: &PendingCall, answer: Answer, list: &[u8]) -> bool
+fn is_suited(heading: &Heading, call: &PendingCall, answer: ReplyWord, list: &[u8]) -> bool
     ensures { result ≡ is_suited heading.now call.now answer (words_of list.now) }
 {
     match answer {
-        Answer::Done => takes_done(call.op),
-        Answer::Timeout => takes_timeout(call.op),
-        Answer::Numbers => takes_numbers(heading, call, count_words(list)),
+        ReplyWord::Done => takes_done(call.op),
+        ReplyWord::Timeout => takes_timeout(call.op),
+        ReplyWord::Numbers => takes_numbers(heading, call, count_words(list)),
     }
 }
 
 /// Returns whether a ticket returns the limit or more.
-fn is_over(limit: u64, op: Op, answer: Answer, list: &[u8]) -> bool
+fn is_over(limit: u64, op: Op, answer: ReplyWord, list: &[u8]) -> bool
     ensures { result ≡ is_over limit op answer (words_of list.now) }
 {
     match (op, answer) {
-        (Op::Ticket, Answer::Numbers) => limit <= only_number(Some(list)),
+        (Op::Ticket, ReplyWord::Numbers) => limit <= only_number(Some(list)),
         _ => false,
     }
 }
 
 /// Returns the least fault of a reply to a call.
-fn suit_fault(heading: &Heading, call: &PendingCall, answer: Answer, list: &[u8]) -> Option<Kind>
+fn suit_fault(heading: &Heading, call: &PendingCall, answer: ReplyWord, list: &[u8]) -> Option<Kind>
     ensures { result ≡ suit_fault heading.now call.now answer (words_of list.now) }
 {
     if !is_suited(heading, call, answer, list) {
@@ -295,22 +297,22 @@ fn gives_list(heading: &Heading, call: &PendingCall) -> bool
 }
 
 /// Returns the reply to a call.
-fn reply_of(
+fn reply_of_word(
     alloc: Global,
     recording: &mut Recording,
     call: &PendingCall,
-    answer: Answer,
+    answer: ReplyWord,
     list: &[u8],
 ) -> Result<Reply, AllocError>
     ensures reply { IfOk result
-        (λ reply. reply ≡ reply_of recording.old call.now answer (words_of list.now)) }
+        (λ reply. reply ≡ reply_of_word recording.old call.now answer (words_of list.now)) }
     ensures after { OnOk result (recording.new ≡ record recording.old
         { lists = lists_with recording.old call.now answer (words_of list.now) }) }
 {
     match answer {
-        Answer::Done => Ok(Reply::Done),
-        Answer::Timeout => Ok(Reply::Timeout),
-        Answer::Numbers => {
+        ReplyWord::Done => Ok(Reply::Done),
+        ReplyWord::Timeout => Ok(Reply::Timeout),
+        ReplyWord::Numbers => {
             if gives_list(recording.heading(), call) {
                 Ok(Reply::Number(list_number(alloc, &mut recording.lists, list)?))
             } else {
@@ -325,7 +327,7 @@ fn reply_of(
 fn call_fault(
     heading: &Heading,
     worker: WorkerId,
-    verb: Verb,
+    verb: CallWord,
     object: &Object,
     rest: Option<&[u8]>,
     is_busy: bool,
@@ -362,7 +364,7 @@ impl Running {
         ensures recording { result.recording ≡ recording }
         ensures run { IsRunning [] result }
     {
-        recording.heading().setup().known();
+        recording.heading().setup().invariant();
         Running {
             recording,
             pending: Vec::new(alloc),
@@ -389,11 +391,11 @@ impl Running {
     }
 
     /// Returns whether the worker has called as many advances of it as the limit allows.
-    fn is_spent(&self, worker: WorkerId, verb: Verb, object: &Object) -> bool
+    fn is_spent(&self, worker: WorkerId, verb: CallWord, object: &Object) -> bool
         ensures { result ≡ spent_by self.now worker verb object.now }
     {
         match (verb, *object) {
-            (Verb::Advance, Object::Event(event)) => {
+            (CallWord::Advance, Object::Event(event)) => {
                 self.recording.heading.setup().limit().get() <= self.tally.at(worker, event)
             }
             _ => false,
@@ -425,15 +427,15 @@ impl Running {
     }
 
     /// Counts the call, if it is an advance.
-    fn count(&mut self, worker: WorkerId, verb: Verb, object: &Object)
+    fn count(&mut self, worker: WorkerId, verb: CallWord, object: &Object)
         requires { spent_by self.old worker verb object.now ≡ false }
         ensures tally { TallyAfter self.old.tally self.new.tally worker verb object.now }
         ensures pending { self.new.pending ≡ self.old.pending }
         ensures count { self.new.count ≡ self.old.count }
         ensures recording { self.new.recording ≡ self.old.recording }
     {
-        self.recording.heading().setup().known();
-        if let (Verb::Advance, Object::Event(event)) = (verb, *object) {
+        self.recording.heading().setup().invariant();
+        if let (CallWord::Advance, Object::Event(event)) = (verb, *object) {
             self.tally.add(worker, event);
         }
     }
@@ -443,7 +445,7 @@ impl Running {
         &mut self,
         alloc: Global,
         worker: WorkerId,
-        verb: Verb,
+        verb: CallWord,
         object: &Object,
         rest: Option<&[u8]>,
     ) -> Result<Event, AllocError>
@@ -454,7 +456,7 @@ impl Running {
     {
         let n = number_in(alloc, &mut self.recording, verb, rest)?;
         let index = index_of(&self.recording, object);
-        let action = Action::Invoke(index, op_of(verb, object, n));
+        let action = Action::Invoke(index, op_of_word(verb, object, n));
         let event = self.event(worker, action)?;
         self.count(worker, verb, object);
         Ok(event)
@@ -465,7 +467,7 @@ impl Running {
         &mut self,
         alloc: Global,
         worker: Option<WorkerId>,
-        verb: Verb,
+        verb: CallWord,
         word: &[u8],
         rest: Option<&[u8]>,
     ) -> Result<Event, LineFault>
@@ -474,7 +476,7 @@ impl Running {
             (other_word verb (rest_words rest.entry))) (rest_words rest.entry)) }
     {
         let other = match verb {
-            Verb::PBoth => only_word(rest),
+            CallWord::PBoth => only_word(rest),
             _ => None,
         };
         let heading = self.recording.heading();
@@ -499,7 +501,7 @@ impl Running {
         alloc: Global,
         worker: WorkerId,
         call: &PendingCall,
-        answer: Answer,
+        answer: ReplyWord,
         list: &[u8],
     ) -> Result<Event, AllocError>
         requires pending { pending_by self.old worker ≡ Some call.now }
@@ -508,7 +510,7 @@ impl Running {
         ensures { IfOk result (λ x. Answers self.old self.new (Ok x)
             (Ok (response self.old worker call.now answer (words_of list.now)))) }
     {
-        let reply = reply_of(alloc, &mut self.recording, call, answer, list)?;
+        let reply = reply_of_word(alloc, &mut self.recording, call, answer, list)?;
         self.event(worker, Action::Respond(reply))
     }
 
@@ -517,7 +519,7 @@ impl Running {
         &mut self,
         alloc: Global,
         worker: Option<WorkerId>,
-        answer: Answer,
+        answer: ReplyWord,
         list: &[u8],
     ) -> Result<Event, LineFault>
         ensures { Answers self.old self.new result
@@ -526,7 +528,7 @@ impl Running {
         let Some(worker) = worker else {
             return Err(LineFault::Of(Kind::UnknownName));
         };
-        if matches!(answer, Answer::Numbers) && has_no_number(list) {
+        if matches!(answer, ReplyWord::Numbers) && has_no_number(list) {
             return Err(LineFault::Of(Kind::BadNumber));
         }
         let Some(call) = self.pending_call(worker) else {
@@ -549,7 +551,7 @@ impl Running {
         if line.len() > LINE_MAX || has_blank(line) {
             return Err(LineFault::Of(Kind::BadLine));
         }
-        let Some(parts) = parts_of(line) else {
+        let Some(parts) = split_event(line) else {
             return Err(LineFault::Of(Kind::BadLine));
         };
         match parts {

@@ -3,7 +3,8 @@ ghost use Rattle.std.specs.Prelude.{◌≡◌, [], List, Ok, IfOk, OnOk, true};
 ghost use Rattle.calls_core.specs.declared.history.Event.{Event};
 ghost use Rattle.calls_text.specs.Reading.{step, recorded_of, is_ended};
 ghost use Rattle.calls_text.specs.Reading as reading;
-ghost use Rattle.calls_text.specs.kept.Stages.{seen, IsSound, Takes, kept_events, IsNextIn, Keeps};
+ghost use Rattle.calls_text.specs.kept.Stages.{stage_with_all, IsSound, Takes, kept_events};
+ghost use Rattle.calls_text.specs.kept.Stages.{IsNextIn, Keeps};
 ghost use Rattle.calls_text.specs.kept.Stages.{seen_with, IsFollowing, Follows, turns, GoesTo};
 ghost use Rattle.calls_text.specs.kept.Stages.{TurnsTo};
 
@@ -111,7 +112,7 @@ impl Stage {
     /// Takes a line, given without its LF, and keeps the event if it is one.
     pub(crate) fn take(&mut self, alloc: Global, line: &[u8]) -> Result<(), LineFault>
         requires { IsSound self.old }
-        ensures { Takes result (step (seen self.old) line.now) self.new }
+        ensures { Takes result (step (stage_with_all self.old) line.now) self.new }
     {
         match self.follow(alloc, line) {
             Err(fault) => Err(fault),
@@ -145,7 +146,7 @@ impl Stage {
         ensures kept { OnOk result (kept_events self.new ≡ kept_events self.old) }
     {
         let before = mem::replace(self, Stage::Opening);
-        match before.turned(alloc, line) {
+        match before.next_stage(alloc, line) {
             Ok(next) => {
                 *self = next;
                 Ok(())
@@ -156,7 +157,7 @@ impl Stage {
 
     /// Returns the next stage, after the line that ends this one.
     #[tactic(auto, unfolding(crate::specs::Reading::step))]
-    fn turned(self, alloc: Global, line: &[u8]) -> Result<Stage, LineFault>
+    fn next_stage(self, alloc: Global, line: &[u8]) -> Result<Stage, LineFault>
         requires { turns self line.now ≡ true }
         ensures goes { (events : List Event) → IsFollowing events self
             → GoesTo result (step (seen_with events self) line.now) events }
@@ -174,7 +175,7 @@ impl Stage {
     /// Returns whether the line `end` came.
     #[tactic(auto, unfolding(crate::specs::Reading::is_ended))]
     pub(crate) fn is_ended(&self) -> bool
-        ensures { result ≡ is_ended (seen self.now) }
+        ensures { result ≡ is_ended (stage_with_all self.now) }
     {
         matches!(self, Stage::Ended(_))
     }

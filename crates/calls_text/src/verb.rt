@@ -1,11 +1,11 @@
 //! The words for calls.
 ghost use Rattle.std.specs.Prelude.{◌≡◌};
-ghost use Rattle.calls_text.specs.Verbs.{object_verb_of, group_verb_of, verb_of, tail_of};
+ghost use Rattle.calls_text.specs.Verbs.{object_verb_of, group_verb_of, parse_verb, tail_of};
 ghost use Rattle.calls_text.specs.Verbs.{is_giving};
 
 /// What a call does.
 #[derive(Clone, Copy, Debug, PartialEq, Eq)]
-pub(crate) enum Verb {
+pub(crate) enum CallWord {
     Advance,
     Read,
     Await,
@@ -32,55 +32,55 @@ pub(crate) enum Tail {
 }
 
 /// Returns the call of an object of no group that a word stands for.
-fn object_verb_of(word: &[u8]) -> Option<Verb>
+fn object_verb_of(word: &[u8]) -> Option<CallWord>
     ensures { result ≡ object_verb_of word.now }
 {
     if word == b"advance".as_slice() {
-        return Some(Verb::Advance);
+        return Some(CallWord::Advance);
     }
     if word == b"read".as_slice() {
-        return Some(Verb::Read);
+        return Some(CallWord::Read);
     }
     if word == b"await".as_slice() {
-        return Some(Verb::Await);
+        return Some(CallWord::Await);
     }
     if word == b"ticket".as_slice() {
-        return Some(Verb::Ticket);
+        return Some(CallWord::Ticket);
     }
     if word == b"put".as_slice() {
-        return Some(Verb::Put);
+        return Some(CallWord::Put);
     }
     if word == b"get".as_slice() {
-        return Some(Verb::Get);
+        return Some(CallWord::Get);
     }
     None
 }
 
 /// Returns the call of a group that a word stands for.
-fn group_verb_of(word: &[u8]) -> Option<Verb>
+fn group_verb_of(word: &[u8]) -> Option<CallWord>
     ensures { result ≡ group_verb_of word.now }
 {
     if word == b"p".as_slice() {
-        return Some(Verb::P);
+        return Some(CallWord::P);
     }
     if word == b"v".as_slice() {
-        return Some(Verb::V);
+        return Some(CallWord::V);
     }
     if word == b"pboth".as_slice() {
-        return Some(Verb::PBoth);
+        return Some(CallWord::PBoth);
     }
     if word == b"write".as_slice() {
-        return Some(Verb::Write);
+        return Some(CallWord::Write);
     }
     if word == b"snapshot".as_slice() {
-        return Some(Verb::Snapshot);
+        return Some(CallWord::Snapshot);
     }
     None
 }
 
 /// Returns the call that a word stands for.
-pub(crate) fn verb_of(word: &[u8]) -> Option<Verb>
-    ensures { result ≡ verb_of word.now }
+pub(crate) fn parse_verb(word: &[u8]) -> Option<CallWord>
+    ensures { result ≡ parse_verb word.now }
 {
     match object_verb_of(word) {
         Some(verb) => Some(verb),
@@ -88,15 +88,15 @@ pub(crate) fn verb_of(word: &[u8]) -> Option<Verb>
     }
 }
 
-impl Verb {
+impl CallWord {
     /// Returns what stands after the object.
     pub(crate) fn tail(self) -> Tail
         ensures { result ≡ tail_of self }
     {
         match self {
-            Verb::Await | Verb::Put => Tail::Digits,
-            Verb::Write => Tail::ManyDigits,
-            Verb::PBoth => Tail::Word,
+            CallWord::Await | CallWord::Put => Tail::Digits,
+            CallWord::Write => Tail::ManyDigits,
+            CallWord::PBoth => Tail::Word,
             _ => Tail::Nothing,
         }
     }
@@ -105,6 +105,6 @@ impl Verb {
     pub(crate) fn is_giving(self) -> bool
         ensures { result ≡ is_giving self }
     {
-        matches!(self, Verb::Advance | Verb::Put | Verb::Write)
+        matches!(self, CallWord::Advance | CallWord::Put | CallWord::Write)
     }
 }

@@ -76,7 +76,7 @@ count_contains p xs x h e =
     omega (
       arith,
       ap (count_by p) s.is,
-      count_append p s.front (x ∷ s.back),
+      count_append p s.prefix (x ∷ s.back),
       count_cons p x s.back,
       one_yes (p x) e,
     )
@@ -85,16 +85,16 @@ pub count_two : {X : Type 0} (p : X → Bool) (xs : List X) (x y : X) → Contai
     → p x ≡ true → p y ≡ true → (x ≡ y → ⊥) → 2 ≤ count_by p xs
 count_two p xs x y h k e f other =
     let s = split_at xs x h in
-    let whole : count_by p xs ≡ count_by p s.front + (one (p x) + count_by p s.back) =
-    ap (count_by p) s.is ∙ count_append p s.front (x ∷ s.back) ∙ ap (λ n. count_by p s.front + n)
+    let whole : count_by p xs ≡ count_by p s.prefix + (one (p x) + count_by p s.back) =
+    ap (count_by p) s.is ∙ count_append p s.prefix (x ∷ s.back) ∙ ap (λ n. count_by p s.prefix + n)
     (count_cons p x s.back) in
-    elim (in_either s.front x s.back y (subst (λ zs. Contains zs y) s.is k)) [
+    elim (in_either s.prefix x s.back y (subst (λ zs. Contains zs y) s.is k)) [
       | inl r ↦ omega (
         arith,
         whole,
         one_yes (p x) e,
         ap (count_by p) r.is,
-        count_append p r.front
+        count_append p r.prefix
             (y ∷ r.back),
         count_cons p y r.back,
         one_yes (p y) f,
@@ -106,7 +106,7 @@ count_two p xs x y h k e f other =
         one_yes (p x) e,
         ap (count_by p) r.is,
         count_append p
-            r.front (y ∷ r.back),
+            r.prefix (y ∷ r.back),
         count_cons p y r.back,
         one_yes (p y) f,
       )

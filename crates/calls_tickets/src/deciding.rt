@@ -5,7 +5,7 @@ ghost use Rattle.calls_core.specs.Histories.{IsHistoryOf, clock};
 ghost use Rattle.calls_tickets.specs.Outcomes.{IsOutcome};
 
 use crate::Fault;
-use crate::recorded::Recorded;
+use crate::recorded::RecordedTickets;
 use crate::table::Decision;
 use calls_core::{Part, PlacedCalls};
 use std::alloc::{AllocError, Global};
@@ -27,7 +27,7 @@ pub fn decide(alloc: Global, events: &Part<'_, '_>, end: usize) -> Result<Outcom
     requires ends { clock (reverse events.now) ≤ end }
     ensures { IfOk result (IsOutcome events.now end) }
 {
-    let mut calls = Recorded::new(alloc);
+    let mut calls = RecordedTickets::new(alloc);
     for i in 0..events.len() {
         let event = events.at(i);
         if !calls.event(*event)? {

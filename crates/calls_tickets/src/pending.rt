@@ -1,7 +1,7 @@
 //! Pending tickets, and searches among them and among the numbers that are missing.
 ghost use Rattle.std.specs.Prelude.{◌≡◌, None, MatchOption};
 ghost use Rattle.calls_core.specs.Histories.{completion, pending_of};
-ghost use Rattle.calls_tickets.specs.Faults.{number_of};
+ghost use Rattle.calls_tickets.specs.Faults.{ticket_number};
 ghost use Rattle.calls_tickets.specs.kept.Watching.{calls_in, IsPendingAt, IsHoleAt, NoHole};
 ghost use Rattle.calls_tickets.specs.kept.Watching.{IsPaired};
 
@@ -18,7 +18,7 @@ pub struct PendingTicket {
 
 /// Returns the number of a reply.
 pub fn number(reply: Reply) -> usize
-    ensures { result ≡ number_of reply }
+    ensures { result ≡ ticket_number reply }
 {
     match reply {
         Reply::Done => 0,
@@ -28,7 +28,7 @@ pub fn number(reply: Reply) -> usize
 }
 
 /// Completes a pending call with a reply at a position.
-pub fn completed(pending: PendingCall, reply: Reply, at: usize) -> Call
+pub fn complete_call(pending: PendingCall, reply: Reply, at: usize) -> Call
     ensures { result ≡ completion at reply pending }
 {
     Call {

@@ -5,14 +5,14 @@ ghost use Rattle.calls_tickets.specs.kept.Tables.{AreTickets, IsDecided};
 ghost use Rattle.calls_tickets.specs.kept.Watching.{calls_in, places, IsTaken};
 ghost use Rattle.calls_tickets.specs.kept.Recording.{Records, TakesIn};
 
-use crate::pending::{PendingTicket, are_paired, completed, hole_index, number, pending_index};
+use crate::pending::{PendingTicket, are_paired, complete_call, hole_index, number, pending_index};
 use crate::table::{Decision, Tickets};
 use calls_core::{Action, Call, Event, PendingCall, Reply};
 use std::alloc::{AllocError, Global};
 
 /// The calls so far, and what a monitor of any number of workers keeps of them.
 #[derive(Drop)]
-pub struct Recorded {
+pub struct RecordedTickets {
     /// The completed tickets, in the order of their responses.
     pub done: Vec<Call>,
     /// One more than the greatest number returned, 0 at first.
@@ -33,12 +33,12 @@ fn raise(holes: &mut Vec<usize>, from: usize, upto: usize) -> Result<(), AllocEr
     Ok(())
 }
 
-impl Recorded {
+impl RecordedTickets {
     /// Begins with no events.
     pub fn new(alloc: Global) -> Self
         ensures { Records [] result }
     {
-        Recorded {
+        RecordedTickets {
             done: Vec::new(alloc),
             top: 0,
             holes: Vec::new(alloc),
@@ -67,7 +67,7 @@ impl Recorded {
                     return Ok(true);
                 };
                 let ticket = self.pending.remove(i);
-                self.done.push(completed(ticket.call, reply, event.at))?;
+                self.done.push(complete_call(ticket.call, reply, event.at))?;
                 if !self.take(number(reply), ticket.noted)? {
                     return Ok(false);
                 }

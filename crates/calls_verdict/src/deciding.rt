@@ -3,7 +3,7 @@ ghost use Rattle.std.specs.Prelude.{◌≡◌, ◌<◌, ◌^◌, ◌↔◌, reve
 ghost use Rattle.calls_core.specs.Histories.{IsHistory, clock};
 ghost use Rattle.calls_verdict.specs.Verdicts.{IsVerdict};
 
-use crate::findings::{Found, add, conclude};
+use crate::findings::{Findings, add, conclude};
 use crate::objects::decide_object;
 use crate::splitting::split;
 use crate::verdict::Verdict;
@@ -40,7 +40,7 @@ pub fn decide(alloc: Global, kinds: &[Kind], events: &[Event]) -> Result<Verdict
 {
     let end = end_of(events);
     let parts = split(alloc, kinds, events)?;
-    let mut found = Found {
+    let mut found = Findings {
         placed: Vec::new(alloc),
         refusal: None,
         undecided: None,

@@ -9,7 +9,7 @@ use std::alloc::AllocError;
 
 /// What is found of the objects that were decided.
 #[derive(Debug, Drop)]
-pub struct Found {
+pub struct Findings {
     /// The ordered calls of each, with their points.
     pub placed: Vec<Placed>,
     /// The refusal with the least position, if any was refused.
@@ -30,7 +30,7 @@ fn earlier(kept: Option<Refusal>, next: Refusal) -> Refusal
 
 /// Adds what is decided of an object, whose events these are.
 pub fn add(
-    found: &mut Found,
+    found: &mut Findings,
     object: usize,
     own: &Part<'_, '_>,
     decision: Decision,
@@ -59,10 +59,10 @@ pub fn add(
 }
 
 /// Gives the verdict from what is found of all objects.
-pub fn conclude(found: Found) -> Result<Verdict, AllocError>
+pub fn conclude(found: Findings) -> Result<Verdict, AllocError>
     ensures { IfOk result (Gives found) }
 {
-    let Found {
+    let Findings {
         mut placed,
         refusal,
         undecided,

@@ -1,16 +1,16 @@
 -- What `watch` and `check` find of one text.
 use Rattle.std.specs.Prelude.{◌≡◌, ℕ, List, Ok}
-use Rattle.ec_text.specs.Puts.{Outgoing}
+use Rattle.ec_text.specs.Puts.{OutputModel}
 use Rattle.calls_core.specs.declared.history.Event.{Event}
 use Rattle.calls_verdict.specs.declared.verdict.Refusal.{Refusal}
 use Rattle.calls_monitor.specs.declared.monitor.Refused.{Refused as Report}
-use Rattle.calls_text.specs.Recordings.{Recorded}
+use Rattle.calls_text.specs.Recordings.{RecordingModel}
 use Rattle.calls_text.specs.Reading.{Opening}
-use Rattle.calls_text.specs.Outcomes.{OneRead, goes, parts_of}
+use Rattle.calls_text.specs.Outcomes.{OneRead, goes, lines_of_text}
 use Rattle.calls_report.specs.declared.status.Status.{Status}
 use Rattle.calls_report.specs.declared.status.Status.TheVariants.{Done, Refused}
 use Rattle.calls_report.specs.declared.status.Status.TheVariants.{InputOutput, Memory, NotDecided}
-use Rattle.calls_report.specs.Checks.{Outlets, Judged, AreJudged, IsJudged, IsRefused}
+use Rattle.calls_report.specs.Checks.{Outlets, JudgedHistory, AreJudged, IsJudged, IsRefused}
 use Rattle.calls_watch.specs.Watches.{AreGood, IsStopped, IsWatchedTo}
 
 -- what the two may answer to one text, that of `watch` first: where it came to the end, `check` finds
@@ -29,16 +29,16 @@ Agree _ _ = ⊥
 
 abbrev pub WatchAgreesWithCheck : Type 0
 WatchAgreesWithCheck =
-    (text : List ℕ) (watched checked : Status) (old new : Outlets) (judged : List Judged)
-    (before after : Outgoing) → IsWatchedTo watched text old new
+    (text : List ℕ) (watched checked : Status) (old new : Outlets) (judged : List JudgedHistory)
+    (before after : OutputModel) → IsWatchedTo watched text old new
     → IsJudged checked text judged before after → Agree watched checked
 
 -- if both refuse an event, it is the same one of the same history
 abbrev pub BothRefuseOneEvent : Type 0
 BothRefuseOneEvent =
-    (text : List ℕ) (reads : List OneRead) (n : ℕ) (ps : List (List ℕ)) (m : ℕ) (r : Recorded)
-    (x : Event) (report : Report) (judged : List Judged) (k : ℕ) (qs : List (List ℕ))
-    (read : OneRead) (refusal : Refusal) → AreGood 1 (parts_of text) reads n ps
-    → IsStopped n ps m r x report → AreJudged 1 (parts_of text) judged k qs
+    (text : List ℕ) (reads : List OneRead) (n : ℕ) (ps : List (List ℕ)) (m : ℕ) (r : RecordingModel)
+    (x : Event) (report : Report) (judged : List JudgedHistory) (k : ℕ) (qs : List (List ℕ))
+    (read : OneRead) (refusal : Refusal) → AreGood 1 (lines_of_text text) reads n ps
+    → IsStopped n ps m r x report → AreJudged 1 (lines_of_text text) judged k qs
     → goes k Opening qs ≡ Ok read → IsRefused read.recorded refusal
     → (n ≡ k) × (x.at ≡ refusal.at)

@@ -12,9 +12,9 @@ use Rattle.calls_watch.specs.declared.load.Load.{Load}
 -- COUNTING
 
 -- how many calls an event invokes
-abbrev pub invoked : Action → ℕ
-invoked (Invoke k op) = 1
-invoked (Respond r) = 0
+abbrev pub invocation_count : Action → ℕ
+invocation_count (Invoke k op) = 1
+invocation_count (Respond r) = 0
 
 -- how many other calls are pending after an invocation
 abbrev pub others_at : Action → ℕ → ℕ
@@ -24,7 +24,7 @@ others_at (Respond r) n = 0
 -- the calls that were invoked
 abbrev pub calls_of : List Event → ℕ
 calls_of [] = 0
-calls_of (x ∷ past) = calls_of past + invoked x.action
+calls_of (x ∷ past) = calls_of past + invocation_count x.action
 
 -- the others, added up over all invocations
 abbrev pub others_of : List Event → ℕ

@@ -1,6 +1,6 @@
 //! The lines of a text that comes in pieces.
 ghost use Rattle.std.specs.Prelude.{◌≡◌, ◌≢◌, ◌∷◌, ◌++◌, [], All, List, ℕ, OnOk};
-ghost use Rattle.calls_text.specs.Outcomes.{parts_of};
+ghost use Rattle.calls_text.specs.Outcomes.{lines_of_text};
 ghost use Rattle.calls_watch.specs.kept.Watching.{IsFed, Feeds, EndsAs, GathersTo};
 
 use crate::stop::Stop;
@@ -19,7 +19,7 @@ pub(crate) struct Feeder {
 impl Feeder {
     /// Returns a text before its first byte.
     pub(crate) fn new() -> Feeder
-        ensures { (bytes : List ℕ) → IsFed (parts_of bytes) bytes result }
+        ensures { (bytes : List ℕ) → IsFed (lines_of_text bytes) bytes result }
     {
         Feeder {
             watcher: Watcher::new(),

@@ -13,4 +13,4 @@ pub use laws::{both_refuse_one_event, watch_agrees_with_check};
 pub use load::Load;
 pub use stop::Stop;
 pub use watcher::Watcher;
-pub use watching::{say_stop, watch};
+pub use watching::{report_stop, watch};

@@ -2,11 +2,12 @@
 ghost use Rattle.std.specs.Prelude.{◌≡◌, ◌+◌, ◌*◌, ◌%◌, ◌≤◌, ◌++◌, codes, OnOk, IfErr};
 ghost use Rattle.ec_text.specs.Puts.{Puts};
 ghost use Rattle.calls_watch.specs.declared.stop.Stop.TheVariants.{Memory};
-ghost use Rattle.calls_watch.specs.Loads.{invoked, others_at, digit_text, overlap_text, load_text};
+ghost use Rattle.calls_watch.specs.Loads.{invocation_count, others_at, digit_text, overlap_text};
+ghost use Rattle.calls_watch.specs.Loads.{load_text};
 
 use crate::stop::Stop;
 use calls_core::Action;
-use ec_text::Out;
+use ec_text::Output;
 use std::io::Write;
 
 /// The most calls that are counted.
@@ -25,8 +26,8 @@ pub struct Load {
 }
 
 /// Returns how many calls an event invokes.
-fn invoked(action: Action) -> u64
-    ensures { result ≡ invoked action }
+fn invocation_count(action: Action) -> u64
+    ensures { result ≡ invocation_count action }
 {
     match action {
         Action::Invoke(_, _) => 1,
@@ -45,7 +46,7 @@ fn others_at(action: Action, pending: usize) -> u64
 }
 
 /// Puts a digit of a fraction, and returns what is left of it. The rest is less than the whole.
-fn put_digit<W: Write>(out: &mut Out<'_, W>, rest: u64, whole: u64) -> u64
+fn put_digit<W: Write>(out: &mut Output<'_, W>, rest: u64, whole: u64) -> u64
     requires some { 1 ≤ whole }
     requires less { rest + 1 ≤ whole }
     requires small { whole ≤ CALLS_MAX }
@@ -58,7 +59,7 @@ fn put_digit<W: Write>(out: &mut Out<'_, W>, rest: u64, whole: u64) -> u64
 }
 
 /// Puts how many others are pending on average, with two decimals, cut off.
-fn put_overlap<W: Write>(out: &mut Out<'_, W>, calls: u64, others: u64)
+fn put_overlap<W: Write>(out: &mut Output<'_, W>, calls: u64, others: u64)
     ensures { Puts out.old out.new (overlap_text calls others) }
 {
     if calls == 0 || calls > CALLS_MAX {
@@ -87,12 +88,15 @@ impl Load {
 
     /// Adds an event, after which so many calls are pending.
     pub(crate) fn add_event(&mut self, action: Action, pending: usize) -> Result<(), Stop>
-        ensures calls { OnOk result (self.new.calls ≡ self.old.calls + invoked action) }
+        ensures calls { OnOk result (self.new.calls ≡ self.old.calls + invocation_count action) }
         ensures others { OnOk result (self.new.others ≡ self.old.others + others_at action pending) }
         ensures histories { self.new.histories ≡ self.old.histories }
         ensures err { IfErr result (λ stop. stop ≡ Memory) }
     {
-        let calls = self.calls.checked_add(invoked(action)).ok_or(Stop::Memory)?;
+        let calls = self
+            .calls
+            .checked_add(invocation_count(action))
+            .ok_or(Stop::Memory)?;
         let others = self
             .others
             .checked_add(others_at(action, pending))
@@ -114,7 +118,7 @@ impl Load {
     }
 
     /// Puts it as a line.
-    pub(crate) fn put<W: Write>(&self, out: &mut Out<'_, W>)
+    pub(crate) fn put<W: Write>(&self, out: &mut Output<'_, W>)
         ensures { Puts out.old out.new (load_text self.now.histories self.now.calls self.now.others) }
     {
         out.put_number(self.histories);
@@ -124,7 +128,7 @@ impl Load {
     }
 
     /// Puts what stands after the number of calls.
-    fn put_rest<W: Write>(&self, out: &mut Out<'_, W>)
+    fn put_rest<W: Write>(&self, out: &mut Output<'_, W>)
         ensures { Puts out.old out.new (codes " calls, overlap "
             ++ overlap_text self.now.calls self.now.others ++ codes "\n") }
     {

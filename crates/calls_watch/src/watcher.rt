@@ -3,10 +3,10 @@ ghost use Rattle.std.specs.Prelude.{◌≡◌, ◌<◌, ◌∷◌, [], List, ℕ
 ghost use Rattle.calls_core.specs.declared.history.Event.{Event};
 ghost use Rattle.calls_core.specs.Histories.{pending_calls};
 ghost use Rattle.calls_monitor.specs.declared.monitor.Monitor.{Monitor};
-ghost use Rattle.calls_text.specs.Outcomes.{parts_of};
+ghost use Rattle.calls_text.specs.Outcomes.{lines_of_text};
 ghost use Rattle.calls_text.specs.Reading.{Running};
-ghost use Rattle.calls_text.specs.Recordings.{Recorded};
-ghost use Rattle.calls_text.specs.Following.{built, HasSeen};
+ghost use Rattle.calls_text.specs.Recordings.{RecordingModel};
+ghost use Rattle.calls_text.specs.Following.{stage_with_events, HasEvents};
 ghost use Rattle.calls_watch.specs.Watches.{invokes_cells};
 ghost use Rattle.calls_watch.specs.kept.Watching.{IsWatching, GoesOn, EndsAs, Stops, Opens, IsJudged};
 ghost use Rattle.calls_watch.specs.kept.Watching.{Begins, IsEventJudged, IsBegunAgain, GoesOnBy};
@@ -16,7 +16,7 @@ use crate::load::Load;
 use crate::stop::Stop;
 use calls_core::{Action, Event, Op};
 use calls_monitor::{Monitor, Rejection};
-use calls_text::{Followed, Follower, Recording};
+use calls_text::{Follower, HistoryLine, Recording};
 use std::alloc::Global;
 
 /// What is kept of a text: its histories so far are linearizable, and so is the beginning of the
@@ -83,7 +83,7 @@ impl Watcher {
 
     /// Opens the monitor of a history.
     fn begin(&mut self, alloc: Global) -> Result<(), Stop>
-        ensures { (r : Recorded) → built [] self.old.follower ≡ Running r
+        ensures { (r : RecordingModel) → stage_with_events [] self.old.follower ≡ Running r
             → Begins r self.old self.new result }
     {
         let Some(recording) = self.follower.recording() else {
@@ -116,14 +116,14 @@ impl Watcher {
     }
 
     /// Goes on by what the line was.
-    fn go_on(&mut self, alloc: Global, followed: Followed) -> Result<(), Stop>
+    fn go_on(&mut self, alloc: Global, followed: HistoryLine) -> Result<(), Stop>
         ensures { GoesOnBy followed self.old self.new result }
     {
         match followed {
-            Followed::Heading => Ok(()),
-            Followed::Run => self.begin(alloc),
-            Followed::Event(event) => self.event(event),
-            Followed::End => self.end_history(),
+            HistoryLine::Heading => Ok(()),
+            HistoryLine::Run => self.begin(alloc),
+            HistoryLine::Event(event) => self.event(event),
+            HistoryLine::End => self.end_history(),
         }
     }
 

@@ -1,16 +1,16 @@
 -- What the audit of a buffer keeps, entry by entry.
 use Rattle.std.proofs.Common.{◌≡◌, ℕ, Bool, false, List, [], ◌∷◌, ap, ◌∙◌, replicate}
 use Rattle.ec_core.specs.declared.act.Entry.{Entry}
-use Rattle.ec_core.specs.Scanning.{IsTracked}
+use Rattle.ec_core.specs.Scanning.{IsTrackerModel}
 use Rattle.ec_buffer.specs.declared.delivery.Delivery.{Delivery}
-use Rattle.ec_buffer.specs.Auditing.{Delivering, IsDelivering}
+use Rattle.ec_buffer.specs.Auditing.{DeliveryAuditModel, IsDelivering}
 use Rattle.ec_buffer.specs.Collecting.{put_place, get_place, writers_after, list_after, writers_of, collected}
 use Rattle.ec_buffer.specs.Follows.{buffer_rules}
-use Rattle.ec_buffer.specs.Keeping.{kept_of}
+use Rattle.ec_buffer.specs.Keeping.{list_progress}
 use Rattle.ec_buffer.specs.Shapes.{Buffer}
 
 -- before the first entry
-pub delivering_first : (a : Delivering) → a.writers ≡ replicate 256 0 → a.list ≡ [] → IsTracked (buffer_rules a.setup a.shape) kept_of a.tracked [] → IsDelivering a []
+pub delivering_first : (a : DeliveryAuditModel) → a.writers ≡ replicate 256 0 → a.list ≡ [] → IsTrackerModel (buffer_rules a.setup a.shape) list_progress a.tracked [] → IsDelivering a []
 unfolding writers_of collected
 delivering_first a writers list tracked = record { tracked = tracked; writers = writers; list = λ ok. list }
 

@@ -5,7 +5,7 @@ use Rattle.ec_core.specs.declared.act.Act.{Act}
 use Rattle.ec_core.specs.declared.act.Entry.{Entry}
 use Rattle.ec_core.specs.Counts.{total, issued}
 use Rattle.ec_core.specs.Acceptance.{IsAccepted}
-use Rattle.ec_core.specs.Following.{Told, block, Follow}
+use Rattle.ec_core.specs.Following.{CompletedCall, block, Follow}
 use Rattle.ec_core.proofs.shared.Following.{op_at, step_told, step_due, off_block}
 use Rattle.ec_core.proofs.shared.Queue.{Seat, IsQueue}
 use Rattle.ec_buffer.specs.Shapes.{Buffer}
@@ -49,7 +49,7 @@ at_first b produces = record {
   stock = record { room = omega arith; order = omega arith; held = λ i lt. absurd (omega arith); taken = λ i lt. absurd (omega arith) };
 }
 
-pub on_of : (b : Buffer) (p : Bool) (calls : List Told) (op : Act) (a : Bool) → (cond p (produce_rule b) (consume_rule b)).concerns calls op ≡ a → is_on b op ≡ a
+pub on_of : (b : Buffer) (p : Bool) (calls : List CompletedCall) (op : Act) (a : Bool) → (cond p (produce_rule b) (consume_rule b)).concerns calls op ≡ a → is_on b op ≡ a
 on_of b true calls op a h = h
 on_of b false calls op a h = h
 
@@ -59,7 +59,7 @@ step b produces t x past shape d acc f before =
     let w = x.worker in
     let op = op_at x past in
     let s : IsStep b produces t x past = record { shape = shape; accepted = acc; before = before } in
-    let told = step_told t x past d acc in
+    let returned = step_told t x past d acc in
     elim (step_due t (role_rules b produces) x past d acc f) [
       | inl off ↦
           (let no : is_on b op ≡ false = on_of b (produces w) (block (role_rules b produces w) w past) op false off in
@@ -67,8 +67,8 @@ step b produces t x past shape d acc f before =
       | inr k ↦
           (let on : is_on b op ≡ true = on_of b (produces w) (block (role_rules b produces w) w past) op true k.0 in
           elim (produces w) as (λ p. produces w ≡ p → (cond p (produce_rule b) (consume_rule b)).fits (block (cond p (produce_rule b) (consume_rule b)) w past) op ≡ true → IsHanding b produces (x ∷ past)) [
-            | true ↦ λ role due. produce_step b produces t x past (block (produce_rule b) w past) s d role refl on due told
-            | false ↦ λ role due. consume_step b produces t x past (block (consume_rule b) w past) s d role refl on due told
+            | true ↦ λ role due. produce_step b produces t x past (block (produce_rule b) w past) s d role refl on due returned
+            | false ↦ λ role due. consume_step b produces t x past (block (consume_rule b) w past) s d role refl on due returned
           ] refl k.1)
     ]
 

@@ -9,12 +9,12 @@ use Rattle.ec_core.specs.declared.act.Act.TheVariants.{Advance, Read, Await, Go,
 use Rattle.ec_core.specs.declared.act.Entry.{Entry}
 use Rattle.ec_core.specs.Counts.{total, issued, cell_value, is_advance, is_ticket, put_in}
 use Rattle.ec_core.specs.Acceptance.{IsAccepted}
-use Rattle.ec_core.specs.Following.{Told, block}
-use Rattle.ec_core.specs.CallLists.{number_of}
+use Rattle.ec_core.specs.Following.{CompletedCall, block}
+use Rattle.ec_core.specs.CallLists.{reply_number}
 use Rattle.ec_core.proofs.shared.Following.{other_block, same_test, op_at, step_opened, total_step, issued_step}
 use Rattle.ec_core.proofs.shared.Queue.{Seat, IsQueue, IsElsewhereSame, each, still}
 use Rattle.ec_buffer.specs.Shapes.{Buffer}
-use Rattle.ec_buffer.specs.CallLists.{turn_of}
+use Rattle.ec_buffer.specs.CallLists.{drawn_ticket}
 use Rattle.ec_buffer.specs.Follows.{is_cell, is_on, produce_rule, consume_rule, role_rules}
 use Rattle.ec_buffer.specs.Items.{put_on, is_get_on}
 use Rattle.ec_buffer.proofs.Moves.{puts, gets, Moved, moved_if, produced, delivered, standing}
@@ -23,8 +23,8 @@ use Rattle.ec_buffer.proofs.Stock.{IsStocked, stock_same}
 
 -- SEATS
 
-abbrev pub seat_of : List Told → Seat
-seat_of calls = record { stage = length calls; turn = turn_of calls }
+abbrev pub seat_of : List CompletedCall → Seat
+seat_of calls = record { stage = length calls; turn = drawn_ticket calls }
 
 abbrev pub nobody : Seat
 nobody = record { stage = 0; turn = 0 }
@@ -113,13 +113,13 @@ pub produced_same : (b : Buffer) (produces : ℕ → Bool) (t : Tables) (x : Ent
     → put_on b op ≡ None → (i : ℕ) → produced b produces i (x ∷ past) ≡ produced b produces i past
 unfolding produced
 produced_same b produces t x past op acc is none i =
-    ap (λ o. moved_if (turn_of (block (role_rules b produces x.worker) x.worker past) == i) x.worker o (produced b produces i past)) (put_on_op b t x past acc ∙ ap (put_on b) is ∙ none)
+    ap (λ o. moved_if (drawn_ticket (block (role_rules b produces x.worker) x.worker past) == i) x.worker o (produced b produces i past)) (put_on_op b t x past acc ∙ ap (put_on b) is ∙ none)
 
 pub delivered_same : (b : Buffer) (produces : ℕ → Bool) (t : Tables) (x : Entry) (past : List Entry) (op : Act) → IsAccepted t (x ∷ past) → op_at x past ≡ op
     → is_get_on b op ≡ false → (i : ℕ) → delivered b produces i (x ∷ past) ≡ delivered b produces i past
 unfolding delivered
 delivered_same b produces t x past op acc is none i =
-    ap (λ g. moved_if (turn_of (block (role_rules b produces x.worker) x.worker past) == i) x.worker (cond g (Some (number_of x.reply)) None) (delivered b produces i past)) (get_on_op b t x past acc ∙ ap (is_get_on b) is ∙ none)
+    ap (λ g. moved_if (drawn_ticket (block (role_rules b produces x.worker) x.worker past) == i) x.worker (cond g (Some (reply_number x.reply)) None) (delivered b produces i past)) (get_on_op b t x past acc ∙ ap (is_get_on b) is ∙ none)
 
 -- what stands in a cell after one more entry, by the act that began its call
 pub standing_step : (t : Tables) (y : ℕ) (x : Entry) (past : List Entry) → IsAccepted t (x ∷ past)
@@ -258,10 +258,10 @@ quiet_same b produces t x past op s is q same same' =
     (put_ready_still b produces t x past _ s same (omega arith)) (get_ready_still b produces t x past _ s same' (omega arith))
 
 -- the seat of a producer, and of a consumer
-pub put_seat_is : (b : Buffer) (produces : ℕ → Bool) (past : List Entry) (w : ℕ) (calls : List Told) → produces w ≡ true → block (produce_rule b) w past ≡ calls → put_seat b produces past w ≡ seat_of calls
+pub put_seat_is : (b : Buffer) (produces : ℕ → Bool) (past : List Entry) (w : ℕ) (calls : List CompletedCall) → produces w ≡ true → block (produce_rule b) w past ≡ calls → put_seat b produces past w ≡ seat_of calls
 put_seat_is b produces past w calls role is = rw role (ap seat_of is)
 
-pub get_seat_is : (b : Buffer) (produces : ℕ → Bool) (past : List Entry) (w : ℕ) (calls : List Told) → produces w ≡ false → block (consume_rule b) w past ≡ calls → get_seat b produces past w ≡ seat_of calls
+pub get_seat_is : (b : Buffer) (produces : ℕ → Bool) (past : List Entry) (w : ℕ) (calls : List CompletedCall) → produces w ≡ false → block (consume_rule b) w past ≡ calls → get_seat b produces past w ≡ seat_of calls
 get_seat_is b produces past w calls role is = rw role (ap seat_of is)
 
 pub no_put_seat : (b : Buffer) (produces : ℕ → Bool) (past : List Entry) (w : ℕ) → produces w ≡ false → put_seat b produces past w ≡ nobody

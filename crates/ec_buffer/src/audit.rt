@@ -4,7 +4,7 @@ ghost use Rattle.ec_core.specs.Audits.{IsAuditFault};
 ghost use Rattle.ec_core.specs.Ending.{EndsAt};
 ghost use Rattle.ec_core.specs.declared.act.Entry.{Entry};
 ghost use Rattle.ec_buffer.specs.Auditing.{IsDelivering};
-ghost use Rattle.ec_buffer.specs.Collecting.{place_of, put_place, get_place, writers_after, list_after};
+ghost use Rattle.ec_buffer.specs.Collecting.{cell_index, put_place, get_place, writers_after, list_after};
 ghost use Rattle.ec_buffer.specs.Follows.{FollowsBuffer, buffer_rules};
 ghost use Rattle.ec_buffer.specs.Items.{AreDeliveries};
 
@@ -16,8 +16,8 @@ use std::alloc::{AllocError, Global};
 use std::marker::Model;
 
 /// Returns the place of a cell in the buffer, counted from 0.
-fn place_of(shape: &BufferShape, cell: CellId) -> Option<usize>
-    ensures value { result ≡ place_of shape.now cell }
+fn cell_index(shape: &BufferShape, cell: CellId) -> Option<usize>
+    ensures value { result ≡ cell_index shape.now cell }
     ensures few { IfSome result (λ place. place < 256) }
 {
     if shape.is_cell(cell) {
@@ -32,7 +32,7 @@ fn put_place(shape: &BufferShape, act: Act) -> Option<usize>
     ensures few { IfSome result (λ place. place < 256) }
 {
     match act {
-        Act::Put(cell, _) => place_of(shape, cell),
+        Act::Put(cell, _) => cell_index(shape, cell),
         _ => None,
     }
 }
@@ -42,7 +42,7 @@ fn get_place(shape: &BufferShape, act: Act) -> Option<usize>
     ensures few { IfSome result (λ place. place < 256) }
 {
     match act {
-        Act::Get(cell) => place_of(shape, cell),
+        Act::Get(cell) => cell_index(shape, cell),
         _ => None,
     }
 }
@@ -111,9 +111,9 @@ pub struct DeliveryAudit<'a> {
 }
 
 impl<'a> Model for DeliveryAudit<'a> {
-    ghost use Rattle.ec_buffer.specs.Auditing.{Delivering};
+    ghost use Rattle.ec_buffer.specs.Auditing.{DeliveryAuditModel};
 
-    ghost Value = { Delivering };
+    ghost Value = { DeliveryAuditModel };
 
     ghost view = { λ s. record { shape = s.lists.shape.now; setup = s.lists.setup.now; tracked = s.tracker; writers = s.writers; list = s.list.items; lacks = s.lacks } };
 }
@@ -121,7 +121,7 @@ impl<'a> Model for DeliveryAudit<'a> {
 impl<'a> Audit for DeliveryAudit<'a> {
     ghost use Rattle.ec_buffer.specs.Auditing.{DeliversOn};
 
-    ghost stands = { DeliversOn };
+    ghost represents = { DeliversOn };
 
     #[inline(never)]
     fn take(&mut self, place: usize, op: &Act, entry: &Entry) {
@@ -163,8 +163,8 @@ impl<'a> DeliveryAudit<'a> {
             lacks,
             ..
         } = self;
-        lists.shape.known();
-        if let Err(fault) = tracker.followed() {
+        lists.shape.invariant();
+        if let Err(fault) = tracker.finding() {
             return Err(fault);
         }
         if lacks {
@@ -176,12 +176,12 @@ impl<'a> DeliveryAudit<'a> {
     /// Returns the deliveries after all entries of a run, as `deliveries` lists them.
     pub fn deliveries(self, run: &Run) -> Result<Vec<Delivery>, AuditFault>
         requires setup { self.setup ≡ run.now.setup }
-        requires stands { IsDelivering self (reverse run.now.entries) }
+        requires represents { IsDelivering self (reverse run.now.entries) }
         ensures followed { OnOk result (FollowsBuffer run.now.setup self.entry.shape (reverse run.now.entries)) }
         ensures list { IfOk result (λ list. AreDeliveries run.now.setup self.entry.shape run.now.entries list.items) }
         ensures err { IfErr result (IsAuditFault (buffer_rules run.now.setup self.entry.shape) run.now.entries) }
     {
-        run.known();
+        run.invariant();
         self.finish()
     }
 }

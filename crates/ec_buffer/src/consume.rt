@@ -1,12 +1,12 @@
 //! Consuming one item.
 ghost use Rattle.std.specs.Prelude.{◌≡◌, ℕ, ◌≤◌, false, List, slice_get};
 ghost use Rattle.ec_core.specs.declared.act.TheConstants.{VALUE_MAX};
-ghost use Rattle.ec_core.specs.Following.{Told};
+ghost use Rattle.ec_core.specs.Following.{CompletedCall};
 ghost use Rattle.ec_buffer.specs.CallLists.{consume_call, consume_list};
 ghost use Rattle.ec_buffer.specs.Keeping.{rest_of};
 
 use crate::BufferShape;
-use crate::place::Place;
+use crate::place::ListPhase;
 use ec_core::{Act, Procedure, Reply, VALUE_MAX};
 
 /// Gets one item from a buffer: draws a ticket, waits for its turn and for the item, gets it and
@@ -14,18 +14,18 @@ use ec_core::{Act, Procedure, Reply, VALUE_MAX};
 #[derive(Clone, Copy, Debug, PartialEq, Eq)]
 pub struct Consume {
     shape: BufferShape,
-    place: Place,
+    place: ListPhase,
 }
 
 impl Consume {
     /// Returns the whole list.
     pub fn new(shape: BufferShape) -> Self
-        ensures whole { (calls : List Told) → ⟦<Consume as Procedure>⟧.rest result calls ≡ consume_call shape calls }
+        ensures whole { (calls : List CompletedCall) → ⟦<Consume as Procedure>⟧.rest result calls ≡ consume_call shape calls }
         ensures fresh { ⟦<Consume as Procedure>⟧.is_going result ≡ false }
     {
         Consume {
             shape,
-            place: Place::start(),
+            place: ListPhase::start(),
         }
     }
 }

@@ -2,7 +2,7 @@
 ghost use Rattle.std.specs.Prelude.{◌≡◌, ◌≤◌, ◌+◌, true, false};
 ghost use Rattle.ec_core.specs.declared.act.TheConstants.{VALUE_MAX};
 ghost use Rattle.ec_core.specs.Calls.{is_pending};
-ghost use Rattle.ec_core.specs.CallLists.{number_of};
+ghost use Rattle.ec_core.specs.CallLists.{reply_number};
 ghost use Rattle.ec_buffer.specs.Keeping.{place_after, turn_after};
 
 use ec_core::{Reply, VALUE_MAX};
@@ -10,7 +10,7 @@ use ec_core::{Reply, VALUE_MAX};
 /// How many calls of a list of five are finished, the ticket that the first one drew (0 before),
 /// and whether a call is pending.
 #[derive(Clone, Copy, Debug, PartialEq, Eq)]
-pub(crate) struct Place {
+pub(crate) struct ListPhase {
     pub(crate) at: usize,
     pub(crate) turn: u64,
     pub(crate) going: bool,
@@ -19,13 +19,13 @@ pub(crate) struct Place {
     ghost busy: { going ≡ true → at ≤ 4 },
 }
 
-impl Place {
+impl ListPhase {
     pub(crate) fn start() -> Self
         ensures at { result.at ≡ 0 }
         ensures turn { result.turn ≡ 0 }
         ensures going { result.going ≡ false }
     {
-        Place {
+        ListPhase {
             at: 0,
             turn: 0,
             going: false,
@@ -35,7 +35,7 @@ impl Place {
     /// Takes the reply to the act that is due.
     pub(crate) fn take(&mut self, reply: Reply)
         requires more { self.old.at ≤ 4 }
-        requires small { number_of reply ≤ VALUE_MAX }
+        requires small { reply_number reply ≤ VALUE_MAX }
         ensures at { self.new.at ≡ place_after self.old.at reply }
         ensures turn { self.new.turn ≡ turn_after self.old.at self.old.turn reply }
         ensures going { self.new.going ≡ is_pending reply }

@@ -1,12 +1,12 @@
 //! Producing one item.
 ghost use Rattle.std.specs.Prelude.{◌≡◌, ℕ, ◌≤◌, false, List, slice_get};
 ghost use Rattle.ec_core.specs.declared.act.TheConstants.{VALUE_MAX};
-ghost use Rattle.ec_core.specs.Following.{Told};
+ghost use Rattle.ec_core.specs.Following.{CompletedCall};
 ghost use Rattle.ec_buffer.specs.CallLists.{produce_call, produce_list};
 ghost use Rattle.ec_buffer.specs.Keeping.{rest_of};
 
 use crate::BufferShape;
-use crate::place::Place;
+use crate::place::ListPhase;
 use ec_core::{Act, Procedure, Reply, VALUE_MAX};
 
 /// Puts one item into a buffer: draws a ticket, waits for its turn and for a free cell, puts the
@@ -15,20 +15,20 @@ use ec_core::{Act, Procedure, Reply, VALUE_MAX};
 pub struct Produce {
     shape: BufferShape,
     item: u64,
-    place: Place,
+    place: ListPhase,
 }
 
 impl Produce {
     /// Returns the whole list, for this item.
     pub fn new(shape: BufferShape, item: u64) -> Self
         requires { item ≤ VALUE_MAX }
-        ensures whole { (calls : List Told) → ⟦<Produce as Procedure>⟧.rest result calls ≡ produce_call shape item calls }
+        ensures whole { (calls : List CompletedCall) → ⟦<Produce as Procedure>⟧.rest result calls ≡ produce_call shape item calls }
         ensures fresh { ⟦<Produce as Procedure>⟧.is_going result ≡ false }
     {
         Produce {
             shape,
             item,
-            place: Place::start(),
+            place: ListPhase::start(),
         }
     }
 }

@@ -9,7 +9,7 @@ use Rattle.ec_core.specs.declared.act.Entry.{Entry}
 use Rattle.ec_core.specs.declared.act.TheConstants.{VALUE_MAX}
 use Rattle.ec_core.specs.Counts.{issued, cell_value}
 use Rattle.ec_core.specs.Calls.{CallSoFar, under_way}
-use Rattle.ec_core.specs.Rounds.{event_or, width, sum_read, next_component, round_reply, read_reply, go_reply}
+use Rattle.ec_core.specs.Rounds.{event_or, component_count, sum_read, next_component, round_reply, read_reply, go_reply}
 use Rattle.ec_core.specs.Acceptance.{reply_of, answer_of, IsAccepted}
 use Rattle.ec_core.specs.Values.{TellsAtMost}
 use Rattle.ec_core.specs.Procedures.{IsNumber, IsReply}
@@ -47,7 +47,7 @@ unfolding read_reply
 read_told t op past moments reply small is =
     let e = event_or op in
     let c = next_component t e moments in
-    last_told (nat_le (width t e) (c + 1)) op (sum_read t e (suc c) (past ∷ moments)) reply small is
+    last_told (nat_le (component_count t e) (c + 1)) op (sum_read t e (suc c) (past ∷ moments)) reply small is
 
 go_told : (t : Tables) (past : List Entry) (o : Option CallSoFar) (reply : Reply) → TellsAtMost VALUE_MAX reply → reply ≡ go_reply t past o → IsReadingReply reply
 go_told t past None reply small is = inl is

@@ -8,16 +8,16 @@ use Rattle.std.proofs.lemmas.List.{length-map, length-reverse, reverse-append, r
 use Rattle.std.proofs.lemmas.List.Elements.{filter-append}
 use Rattle.std.specs.List.{list_any, position_from}
 use Rattle.ec_count.specs.Tables.{Tables, may_take, may_write, is_silent}
-use Rattle.ec_count.specs.Members.{is_member, place_of}
+use Rattle.ec_count.specs.Members.{is_member, index_of}
 use Rattle.ec_count.proofs.shared.Quiet.{silent_has_none, silent_from_none}
 use Rattle.ec_core.specs.declared.act.Act.{Act}
 use Rattle.ec_core.specs.declared.act.Act.TheVariants.{Advance, Read, Await, Go, Ticket, Put, Get, Hand}
 use Rattle.ec_core.specs.declared.act.Reply.{Reply}
 use Rattle.ec_core.specs.declared.act.Reply.TheVariants.{Number, Pending}
 use Rattle.ec_core.specs.declared.act.Entry.{Entry}
-use Rattle.ec_core.specs.Counts.{past_at, component_total, issued, cell_value, is_advance, is_ticket, is_place, put_in, replaced, handed, signallers_at, component_at}
-use Rattle.ec_core.specs.Calls.{CallSoFar, under_way, gone_on, is_pending}
-use Rattle.ec_core.specs.Rounds.{event_or, width, sum_read, next_component, round_reply, read_reply, go_reply, IsPastOf, EachIsPastOf}
+use Rattle.ec_core.specs.Counts.{past_at, component_total, issued, cell_value, is_advance, is_ticket, is_place, put_in, replace_at, signallers_after, signallers_at, component_at}
+use Rattle.ec_core.specs.Calls.{CallSoFar, under_way, call_with_act, is_pending}
+use Rattle.ec_core.specs.Rounds.{event_or, component_count, sum_read, next_component, round_reply, read_reply, go_reply, IsPastOf, EachIsPastOf}
 use Rattle.ec_core.specs.Acceptance.{reply_of, answer_of, refusal_of, refusal_in, refused_or, has_right, is_at_limit, signals_already, IsAccepted}
 use Rattle.ec_core.specs.Silence.{IsSilent, hands_to, without}
 use Rattle.ec_core.specs.Laws.{OthersStand}
@@ -53,13 +53,13 @@ signallers_without : (t : Tables) (s : ℕ → Bool) (e : ℕ) (past : List Entr
 unfolding signallers_at
 signallers_without t s e [] silent = refl
 signallers_without t s e (x ∷ past) silent =
-    elim (s x.worker) as (λ b. s x.worker ≡ b → signallers_at t e (cond (not b) (x ∷ without s past) (without s past)) ≡ handed e x.worker x.act (signallers_at t e past)) [
+    elim (s x.worker) as (λ b. s x.worker ≡ b → signallers_at t e (cond (not b) (x ∷ without s past) (without s past)) ≡ signallers_after e x.worker x.act (signallers_at t e past)) [
       | true ↦ λ h. signallers_without t s e past (quiet_before t s x past silent) ∙ sym (handed_by_none e x.worker x.act (signallers_at t e past) (none_now t s x past e silent h))
-      | false ↦ λ h. ap (handed e x.worker x.act) (signallers_without t s e past (quiet_before t s x past silent))
+      | false ↦ λ h. ap (signallers_after e x.worker x.act) (signallers_without t s e past (quiet_before t s x past silent))
     ] refl
 
 component_without : (t : Tables) (s : ℕ → Bool) (e : ℕ) (past : List Entry) (w : ℕ) → AreQuiet t s past → component_at t e (without s past) w ≡ component_at t e past w
-component_without t s e past w silent = ap (place_of w) (signallers_without t s e past silent)
+component_without t s e past w silent = ap (index_of w) (signallers_without t s e past silent)
 
 comp_without : (t : Tables) (s : ℕ → Bool) (e c : ℕ) (past : List Entry) → AreQuiet t s past → component_total t e c (without s past) ≡ component_total t e c past
 unfolding component_total
@@ -120,7 +120,7 @@ cell_without t s y (x ∷ past) acc silent =
 abbrev call_without : (ℕ → Bool) → CallSoFar → CallSoFar
 call_without s call = record { op = call.op; moments = map (without s) call.moments }
 
-gone_without : (s : ℕ → Bool) (act : Act) (past : List Entry) (o : Option CallSoFar) → gone_on act (without s past) (option_map (call_without s) o) ≡ option_map (call_without s) (gone_on act past o)
+gone_without : (s : ℕ → Bool) (act : Act) (past : List Entry) (o : Option CallSoFar) → call_with_act act (without s past) (option_map (call_without s) o) ≡ option_map (call_without s) (call_with_act act past o)
 gone_without s Go past None = refl
 gone_without s Go past (Some call) = refl
 gone_without s (Advance e) past o = refl
@@ -140,16 +140,16 @@ unfolding under_way
 under_way_without s w [] h = refl
 under_way_without s w (x ∷ past) h =
     elim (s x.worker) as (λ b. s x.worker ≡ b → under_way w (cond (not b) (x ∷ without s past) (without s past))
-    ≡ option_map (call_without s) (cond (x.worker == w) (cond (is_pending x.reply) (gone_on x.act past (under_way w past)) None) (under_way w past))) [
+    ≡ option_map (call_without s) (cond (x.worker == w) (cond (is_pending x.reply) (call_with_act x.act past (under_way w past)) None) (under_way w past))) [
       | true ↦ λ k.
-          (elim (x.worker == w) as (λ b. (x.worker == w) ≡ b → under_way w (without s past) ≡ option_map (call_without s) (cond b (cond (is_pending x.reply) (gone_on x.act past (under_way w past)) None) (under_way w past))) [
+          (elim (x.worker == w) as (λ b. (x.worker == w) ≡ b → under_way w (without s past) ≡ option_map (call_without s) (cond b (cond (is_pending x.reply) (call_with_act x.act past (under_way w past)) None) (under_way w past))) [
             | true ↦ λ e. (let same : x.worker ≡ w = eqb-true x.worker w e in let yes : s w ≡ true = ap s (sym same) ∙ k in cc)
             | false ↦ λ e. under_way_without s w past h
           ] refl)
       | false ↦ λ k.
-          (elim (x.worker == w) as (λ b. cond b (cond (is_pending x.reply) (gone_on x.act (without s past) (under_way w (without s past))) None) (under_way w (without s past)) ≡ option_map (call_without s) (cond b (cond (is_pending x.reply) (gone_on x.act past (under_way w past)) None) (under_way w past))) [
-            | true ↦ ap (λ o. cond (is_pending x.reply) (gone_on x.act (without s past) o) None) (under_way_without s w past h)
-                ∙ ap (λ o. cond (is_pending x.reply) o None) (gone_without s x.act past (under_way w past)) ∙ if_without s (is_pending x.reply) (gone_on x.act past (under_way w past))
+          (elim (x.worker == w) as (λ b. cond b (cond (is_pending x.reply) (call_with_act x.act (without s past) (under_way w (without s past))) None) (under_way w (without s past)) ≡ option_map (call_without s) (cond b (cond (is_pending x.reply) (call_with_act x.act past (under_way w past)) None) (under_way w past))) [
+            | true ↦ ap (λ o. cond (is_pending x.reply) (call_with_act x.act (without s past) o) None) (under_way_without s w past h)
+                ∙ ap (λ o. cond (is_pending x.reply) o None) (gone_without s x.act past (under_way w past)) ∙ if_without s (is_pending x.reply) (call_with_act x.act past (under_way w past))
             | false ↦ under_way_without s w past h
           ])
     ] refl
@@ -173,8 +173,8 @@ unfolding read_reply
 read_without t s op past moments each silent =
     let e = event_or op in
     let same : length (map (without s) moments) ≡ length moments = length-map moments (without s) in
-    ap (λ n. cond (nat_le (width t e) (n % width t e + 1)) (round_reply op (sum_read t e (suc (n % width t e)) (without s past ∷ map (without s) moments))) Pending) same
-    ∙ ap (λ r. cond (nat_le (width t e) (next_component t e moments + 1)) (round_reply op r) Pending) (sum_without t s e (suc (next_component t e moments)) past (past ∷ moments) (past_itself past, each) silent)
+    ap (λ n. cond (nat_le (component_count t e) (n % component_count t e + 1)) (round_reply op (sum_read t e (suc (n % component_count t e)) (without s past ∷ map (without s) moments))) Pending) same
+    ∙ ap (λ r. cond (nat_le (component_count t e) (next_component t e moments + 1)) (round_reply op r) Pending) (sum_without t s e (suc (next_component t e moments)) past (past ∷ moments) (past_itself past, each) silent)
 
 go_without : (t : Tables) (s : ℕ → Bool) (past : List Entry) (o : Option CallSoFar) → IsCallBefore o past → AreQuiet t s past
     → go_reply t (without s past) (option_map (call_without s) o) ≡ go_reply t past o
@@ -300,12 +300,12 @@ set_some w (v ∷ ws) low (suc c) lt h =
       | false ↦ λ g. set_some w ws (low + 1) c (omega arith) g
     ] h
 
-none_replaced : (w b : ℕ) (ws : List ℕ) (o : Option ℕ) → (b == w) ≡ false → place_of w ws ≡ None → place_of w (replaced o b ws) ≡ None
+none_replaced : (w b : ℕ) (ws : List ℕ) (o : Option ℕ) → (b == w) ≡ false → index_of w ws ≡ None → index_of w (replace_at o b ws) ≡ None
 none_replaced w b ws None other h = h
 none_replaced w b ws (Some c) other h = set_none w b ws 0 c other h
 
 -- an act that hands nothing to a worker leaves it no signaller
-not_handed : (e v w : ℕ) (act : Act) (ws : List ℕ) → hands_to w act ≡ false → place_of w ws ≡ None → place_of w (handed e v act ws) ≡ None
+not_handed : (e v w : ℕ) (act : Act) (ws : List ℕ) → hands_to w act ≡ false → index_of w ws ≡ None → index_of w (signallers_after e v act ws) ≡ None
 not_handed e v w (Advance f) ws other h = h
 not_handed e v w (Read f) ws other h = h
 not_handed e v w (Await f u) ws other h = h
@@ -314,21 +314,21 @@ not_handed e v w (Ticket q) ws other h = h
 not_handed e v w (Put x u) ws other h = h
 not_handed e v w (Get x) ws other h = h
 not_handed e v w (Hand f b) ws other h =
-    elim (f == e) as (λ is. place_of w (cond is (replaced (place_of v ws) b ws) ws) ≡ None) [
-      | true ↦ none_replaced w b ws (place_of v ws) other h
+    elim (f == e) as (λ is. index_of w (cond is (replace_at (index_of v ws) b ws) ws) ≡ None) [
+      | true ↦ none_replaced w b ws (index_of v ws) other h
       | false ↦ h
     ]
 
 -- an answered hand makes its receiver a signaller
 received : (t : Tables) (past : List Entry) (v w : ℕ) (act : Act) (reply : Reply) → answer_of t past v act ≡ Ok reply → hands_to w act ≡ true
-    → (e : ℕ) × (place_of w (handed e v act (signallers_at t e past)) ≡ None → ⊥)
+    → (e : ℕ) × (index_of w (signallers_after e v act (signallers_at t e past)) ≡ None → ⊥)
 received t past v w (Hand e b) reply answered is =
     let ws = signallers_at t e past in
     let k = some_of (component_at t e past v) (allowed t past v (Hand e b) reply answered).0.right in
     let within : k.0 < 0 + length ws = place_within v ws 0 k.0 k.1 in
-    let after : place_of w (cond (e == e) (replaced (place_of v ws) b ws) ws) ≡ place_of w (slice_set ws k.0 w) =
-    ap (λ same. place_of w (cond same (replaced (place_of v ws) b ws) ws)) (eq-eqb e e refl)
-    ∙ ap (λ o. place_of w (replaced o b ws)) k.1 ∙ ap (λ u. place_of w (slice_set ws k.0 u)) (eqb-true b w is) in
+    let after : index_of w (cond (e == e) (replace_at (index_of v ws) b ws) ws) ≡ index_of w (slice_set ws k.0 w) =
+    ap (λ same. index_of w (cond same (replace_at (index_of v ws) b ws) ws)) (eq-eqb e e refl)
+    ∙ ap (λ o. index_of w (replace_at o b ws)) k.1 ∙ ap (λ u. index_of w (slice_set ws k.0 u)) (eqb-true b w is) in
     (e, λ none. set_some w ws 0 k.0 (omega arith) (sym after ∙ none))
 received t past v w (Advance f) reply answered is = cc
 received t past v w (Read f) reply answered is = cc

@@ -8,4 +8,4 @@ use Rattle.ec_core.specs.Acceptance.{IsAccepted}
 pub record EndsAt (t : Tables) (P : List Entry → Type 0) (h : List Entry) : Type 0 where
   pub declared : IsDeclared t
   pub accepted : IsAccepted t (reverse h)
-  pub stands : P (reverse h)
+  pub represents : P (reverse h)

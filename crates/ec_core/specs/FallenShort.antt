@@ -6,7 +6,7 @@ use Rattle.ec_core.specs.declared.act.Reply.TheVariants.{Pending}
 use Rattle.ec_core.specs.declared.act.Entry.{Entry}
 use Rattle.ec_core.specs.Counts.{past_at}
 use Rattle.ec_core.specs.CallsInOrder.{is_own_at, own_moments}
-use Rattle.ec_core.specs.Rounds.{width, round_sum}
+use Rattle.ec_core.specs.Rounds.{component_count, round_sum}
 use Rattle.ec_core.specs.Acceptance.{IsAccepted}
 use Rattle.ec_core.specs.Progress.{Progress}
 use Rattle.ec_core.specs.Standing.{progress_of}
@@ -23,8 +23,8 @@ pub record HasJustFallenShort (t : Tables) (w : ℕ) (h : List Entry) (k e v : �
   pub own : is_own_at w h round ≡ true
   pub from_first : first ≤ round
   pub before : round < k
-  pub whole : length (own_moments w h first round) % width t e ≡ 0
-  pub one : length (own_moments w h round k) ≡ width t e
+  pub whole : length (own_moments w h first round) % component_count t e ≡ 0
+  pub one : length (own_moments w h round k) ≡ component_count t e
   pub short : round_sum t e (own_moments w h round k) < v
 
 -- an await is pending whose next component is the first again exactly if it has just ended a round that fell short;

@@ -10,40 +10,41 @@ use Rattle.ec_core.specs.Counts.{past_at}
 use Rattle.ec_core.specs.Calls.{CallSoFar, under_way}
 
 -- a completed call: the act that began it and its last reply
-pub record Told : Type 0 where
+pub record CompletedCall : Type 0 where
   pub op : Act
   pub reply : Reply
 
 -- a list of calls that a worker goes through again and again. Each test is given the completed calls of
 -- the list that the worker is in
 pub record Rule : Type 0 where
-  pub concerns : List Told → Act → Bool  -- whether a call that the act begins is one of the list's at all
-  pub fits : List Told → Act → Bool  -- whether it is the call that the list has next
-  pub ends : List Told → Bool  -- whether the calls are the whole list
+  pub concerns : List CompletedCall → Act → Bool  -- whether a call that the act begins is one of the list's at all
+  pub fits : List CompletedCall → Act → Bool  -- whether it is the call that the list has next
+  pub ends : List CompletedCall → Bool  -- whether the calls are the whole list
 
 -- the act that began the call that an act is part of, if this call of its worker is pending
-abbrev pub opened : Act → Option CallSoFar → Act
-opened Go None = Go
-opened Go (Some call) = call.op
-opened act o = act
+abbrev pub opening_act : Act → Option CallSoFar → Act
+opening_act Go None = Go
+opening_act Go (Some call) = call.op
+opening_act act o = act
 
-abbrev pub extended : Rule → List Told → Told → List Told
-extended r b c = if r.concerns b c.op then (if r.ends (b ++ c ∷ []) then [] else b ++ c ∷ []) else b
+abbrev pub extend_list : Rule → List CompletedCall → CompletedCall → List CompletedCall
+extend_list r b c =
+    if r.concerns b c.op then (if r.ends (b ++ c ∷ []) then [] else b ++ c ∷ []) else b
 
-abbrev pub block_after : Rule → List Told → Act → Reply → List Told
+abbrev pub block_after : Rule → List CompletedCall → Act → Reply → List CompletedCall
 block_after r b op Pending = b
-block_after r b op reply = extended r b (record { op = op; reply = reply })
+block_after r b op reply = extend_list r b (record { op = op; reply = reply })
 
 -- the completed calls of the list that w is in after a past, the first of them first
-unfoldable pub block : Rule → ℕ → List Entry → List Told
+unfoldable pub block : Rule → ℕ → List Entry → List CompletedCall
 block r w [] = []
 block r w (x ∷ past) =
     if x.worker == w
-    then block_after r (block r w past) (opened x.act (under_way w past)) x.reply
+    then block_after r (block r w past) (opening_act x.act (under_way w past)) x.reply
     else block r w past
 
 -- whether an act is right there: it goes on with a call, or does not concern the list, or is next in it
-abbrev pub is_right : Rule → List Told → Act → Bool
+abbrev pub is_right : Rule → List CompletedCall → Act → Bool
 is_right r b Go = true
 is_right r b act = not (r.concerns b act) || r.fits b act
 

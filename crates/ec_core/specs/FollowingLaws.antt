@@ -7,7 +7,7 @@ use Rattle.ec_core.specs.declared.act.Entry.{Entry}
 use Rattle.ec_core.specs.Counts.{past_at}
 use Rattle.ec_core.specs.Calls.{under_way}
 use Rattle.ec_core.specs.Acceptance.{IsAccepted}
-use Rattle.ec_core.specs.Following.{Told, Rule, Follow, BreaksAt}
+use Rattle.ec_core.specs.Following.{CompletedCall, Rule, Follow, BreaksAt}
 use Rattle.ec_core.specs.JoinedLists.{finished_by, calls_on, going_on, op_of, SpeaksOf, IsUnbroken, IsJoined, IsSideBySide}
 use Rattle.ec_core.specs.Procedures.{IsWritten, IsRestAfter}
 
@@ -45,7 +45,8 @@ FollowingMeansUnbrokenLists = (t : Tables) (rules : ℕ → Rule) (is_on : ℕ �
 -- the calls that were asked for and answered so far are a beginning of the written list, and what is still asked for
 -- is the rest; so it is with one more call and its reply, after which the rest is that after this call
 abbrev pub AnsweredCallsAreWritten : Type 0
-AnsweredCallsAreWritten = (list rest after : List Told → Option Act) (done : List Told) (op : Act) (reply : Reply)
+AnsweredCallsAreWritten = (list rest after : List CompletedCall → Option Act) (done : List CompletedCall) (op : Act) (reply : Reply)
     → IsWritten list done → IsRestAfter list done rest → rest [] ≡ Some op
-    → ((calls : List Told) → after calls ≡ rest (record { op = op; reply = reply } ∷ calls))
+    → ((calls : List CompletedCall)
+    → after calls ≡ rest (record { op = op; reply = reply } ∷ calls))
     → IsWritten list (done ++ record { op = op; reply = reply } ∷ []) × IsRestAfter list (done ++ record { op = op; reply = reply } ∷ []) after

@@ -8,7 +8,7 @@ use Rattle.ec_core.specs.Counts.{past_at, hand_of, signallers_at, signaller_at, 
 use Rattle.ec_core.specs.InOrder.{advances_at, IsLastPut, IsUntouched, IsLastHand, IsUnhanded}
 use Rattle.ec_core.specs.Calls.{CallSoFar, call_with, under_way}
 use Rattle.ec_core.specs.CallsInOrder.{IsUnderWay}
-use Rattle.ec_core.specs.Rounds.{width, sum_read, round_sum, round_start, read_of, IsPastOfEach, EachIsPastOf}
+use Rattle.ec_core.specs.Rounds.{component_count, sum_read, round_sum, round_start, read_of, IsPastOfEach, EachIsPastOf}
 use Rattle.ec_core.specs.Acceptance.{answer_of, IsAccepted}
 use Rattle.ec_core.specs.Silence.{IsSilent, without}
 use Rattle.ec_core.specs.Values.{TellsAtMost}
@@ -47,7 +47,7 @@ RoundsAddTheirComponents = (t : Tables) (e n : ℕ) (moments : List (List Entry)
 
 -- the components of an eventcount add up to its total
 abbrev pub ComponentsAddUp : Type 0
-ComponentsAddUp = (t : Tables) (e k : ℕ) (h : List Entry) → IsAccepted t (reverse h) → sum_to (λ c. component_total t e c (past_at k h)) (width t e) ≡ total e (past_at k h)
+ComponentsAddUp = (t : Tables) (e k : ℕ) (h : List Entry) → IsAccepted t (reverse h) → sum_to (λ c. component_total t e c (past_at k h)) (component_count t e) ≡ total e (past_at k h)
 
 -- from one moment to the next a total never falls and rises by at most one
 abbrev pub TotalsRiseByOne : Type 0
@@ -62,14 +62,14 @@ CountsKeepTheLimit = (t : Tables) (k : ℕ) (h : List Entry) → IsAccepted t (r
 -- components is at least the total at early and at most the total at late
 abbrev pub RoundsLieBetween : Type 0
 RoundsLieBetween = (t : Tables) (e : ℕ) (early late : List Entry) (moments : List (List Entry)) → IsAccepted t early → IsAccepted t late
-    → length moments ≡ width t e → IsPastOfEach early moments → EachIsPastOf moments late
-    → (total e early ≤ sum_read t e (width t e) moments) × (sum_read t e (width t e) moments ≤ total e late)
+    → length moments ≡ component_count t e → IsPastOfEach early moments → EachIsPastOf moments late
+    → (total e early ≤ sum_read t e (component_count t e) moments) × (sum_read t e (component_count t e) moments ≤ total e late)
 
 -- if entry k ends a round of a call that reads e, the round's sum is at least the total at the moment of the round's
 -- first entry and at most the total at moment k
 abbrev pub RoundsOfCallsLieBetween : Type 0
 RoundsOfCallsLieBetween = (t : Tables) (h : List Entry) (k e : ℕ) (x : Entry) (call : CallSoFar) → IsDeclared t → IsAccepted t (reverse h)
-    → slice_get h k ≡ Some x → call_with x (past_at k h) ≡ Some call → read_of call.op ≡ Some e → length call.moments % width t e ≡ 0
+    → slice_get h k ≡ Some x → call_with x (past_at k h) ≡ Some call → read_of call.op ≡ Some e → length call.moments % component_count t e ≡ 0
     → (total e (past_at (round_start t e call.moments) h) ≤ round_sum t e call.moments) × (round_sum t e call.moments ≤ total e (past_at k h))
 
 -- every beginning of an accepted history is accepted
@@ -94,7 +94,7 @@ RepliesFitTheirActs = (t : Tables) (h : List Entry) (k : ℕ) (x : Entry) → Is
 -- in an accepted history the signallers of an eventcount at each moment are different workers, as many as it has components
 abbrev pub SignallersAreDifferent : Type 0
 SignallersAreDifferent = (t : Tables) (e k : ℕ) (h : List Entry) → IsDeclared t → IsAccepted t (reverse h)
-    → (has_repeat (signallers_at t e (past_at k h)) ≡ false) × (length (signallers_at t e (past_at k h)) ≡ width t e)
+    → (has_repeat (signallers_at t e (past_at k h)) ≡ false) × (length (signallers_at t e (past_at k h)) ≡ component_count t e)
 
 -- in an accepted history a fixed eventcount keeps its signallers at every moment
 abbrev pub FixedEventsKeepTheirSignallers : Type 0

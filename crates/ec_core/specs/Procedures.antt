@@ -5,7 +5,7 @@ use Rattle.ec_core.specs.declared.act.Act.TheVariants.{Advance, Read, Await, Go,
 use Rattle.ec_core.specs.declared.act.Reply.{Reply}
 use Rattle.ec_core.specs.declared.act.Reply.TheVariants.{Done, Number, Pending}
 use Rattle.ec_core.specs.declared.act.TheConstants.{VALUE_MAX}
-use Rattle.ec_core.specs.Following.{Told}
+use Rattle.ec_core.specs.Following.{CompletedCall}
 
 abbrev pub next_of : Bool → Option Act → Option Act
 next_of true due = Some Go
@@ -36,9 +36,10 @@ IsReplyTo (Some act) reply = IsReply act reply
 -- WRITTEN LISTS, each given as the call that it has next after these calls, or none
 
 -- the calls are a beginning of the written list: each is the one that it has next after those before it
-abbrev pub IsWritten : (List Told → Option Act) → List Told → Type 0
-IsWritten list calls = (k : ℕ) (c : Told) → slice_get calls k ≡ Some c → list (take k calls) ≡ Some c.op
+abbrev pub IsWritten : (List CompletedCall → Option Act) → List CompletedCall → Type 0
+IsWritten list calls = (k : ℕ) (c : CompletedCall) → slice_get calls k ≡ Some c → list (take k calls) ≡ Some c.op
 
 -- what is still to be asked for is the rest of the list after these calls
-abbrev pub IsRestAfter : (List Told → Option Act) → List Told → (List Told → Option Act) → Type 0
-IsRestAfter list done rest = (calls : List Told) → rest calls ≡ list (done ++ calls)
+abbrev pub IsRestAfter : (List CompletedCall → Option Act) → List CompletedCall
+    → (List CompletedCall → Option Act) → Type 0
+IsRestAfter list done rest = (calls : List CompletedCall) → rest calls ≡ list (done ++ calls)

@@ -27,12 +27,12 @@ read_of (Await e v) = Some e
 read_of _ = None
 
 -- how many components e has: one for each declared signaller
-abbrev pub width : Tables → ℕ → ℕ
-width t e = length (signallers t e)
+abbrev pub component_count : Tables → ℕ → ℕ
+component_count t e = length (signallers t e)
 
 -- the component that comes next after these entries of a call
 abbrev pub next_component : Tables → ℕ → List (List Entry) → ℕ
-next_component t e moments = length moments % width t e
+next_component t e moments = length moments % component_count t e
 
 -- the sum of components 0 to i - 1 of e, of which the last was read at the first of the moments, and so on back
 unfoldable pub sum_read : Tables → ℕ → ℕ → List (List Entry) → ℕ
@@ -42,7 +42,7 @@ sum_read t e (suc i) (past ∷ moments) = component_total t e i past + sum_read 
 
 -- the sum of a whole round, whose moments come the newest first
 abbrev pub round_sum : Tables → ℕ → List (List Entry) → ℕ
-round_sum t e moments = sum_read t e (width t e) moments
+round_sum t e moments = sum_read t e (component_count t e) moments
 
 -- the position of the entry at the i-th of a call's moments, the newest of which is the 0-th
 abbrev pub position_of : List (List Entry) → ℕ → ℕ
@@ -50,7 +50,7 @@ position_of moments i = length (slice_index_or moments i [])
 
 -- the position at which a call's last round began
 abbrev pub round_start : Tables → ℕ → List (List Entry) → ℕ
-round_start t e moments = position_of moments ((length moments - 1) % width t e)
+round_start t e moments = position_of moments ((length moments - 1) % component_count t e)
 
 -- what the end of a round of sum s tells: an await that falls short is told Pending
 abbrev pub round_reply : Act → ℕ → Reply
@@ -62,7 +62,7 @@ unfoldable pub read_reply : Tables → Act → List Entry → List (List Entry) 
 read_reply t op past moments =
     let e = event_or op in
     let c = next_component t e moments in
-    if nat_le (width t e) (c + 1) then round_reply op (sum_read t e (suc c) (past ∷ moments)) else Pending
+    if nat_le (component_count t e) (c + 1) then round_reply op (sum_read t e (suc c) (past ∷ moments)) else Pending
 
 -- the reply to a go
 abbrev pub go_reply : Tables → List Entry → Option CallSoFar → Reply

@@ -1,6 +1,6 @@
 //! What a right step comes to.
 ghost use Rattle.std.specs.Prelude.{◌≡◌};
-ghost use Rattle.ec_core.specs.Fields.{told, as_first};
+ghost use Rattle.ec_core.specs.Fields.{reply_of_effect, as_first};
 
 use crate::under_way::Round;
 use crate::{Reply, UnderWay};
@@ -31,7 +31,7 @@ impl Effect {
     /// Returns what the worker is told.
     #[inline(always)]
     pub(crate) fn reply(self) -> Reply
-        ensures { result ≡ told self }
+        ensures { result ≡ reply_of_effect self }
     {
         match self {
             Effect::Raise(_, _) | Effect::Put(_, _) | Effect::Hand(_, _) => Reply::Done,

@@ -2,10 +2,10 @@
 ghost use Rattle.std.specs.Prelude.{◌≡◌, ◌+◌, ◌^◌, ◌<◌, ◌∷◌, ◌++◌, [], None, Some, drop, slice_get, IfSome};
 ghost use Rattle.std.specs.List.{flat_map};
 ghost use Rattle.std.specs.Option.{IfNone};
-ghost use Rattle.ec_core.specs.Segmented.{joined};
+ghost use Rattle.ec_core.specs.Segments.{concat_segments};
 
 use crate::Entry;
-use crate::segment::{Kept, Segment};
+use crate::segment::{EntryIter, Segment};
 use std::marker::Model;
 
 /// An iterator over the entries of a run or of another list, in order. A contract sees it as the list of those that
@@ -15,7 +15,7 @@ pub struct Entries<'a> {
     full: &'a [Segment],
     last: &'a Segment,
     begun: usize,
-    left: Kept<'a>,
+    left: EntryIter<'a>,
 }
 
 impl<'a> Model for Entries<'a> {
@@ -31,13 +31,13 @@ impl<'a> Model for Entries<'a> {
 impl<'a> Entries<'a> {
     /// Returns all entries of some segments.
     pub(crate) fn of(full: &'a [Segment], last: &'a Segment) -> Self
-        ensures { result ≡ joined full.now last.now }
+        ensures { result ≡ concat_segments full.now last.now }
     {
         Entries {
             full,
             last,
             begun: 0,
-            left: Kept::none(),
+            left: EntryIter::none(),
         }
     }
 
@@ -54,7 +54,7 @@ impl<'a> Entries<'a> {
 /// stand in registers if they are gone on with.)
 #[cold]
 #[inline(never)]
-fn first_entry(full: &[Segment], last: &Segment, begun: usize, left: Kept<'_>) -> Option<Entry>
+fn first_entry(full: &[Segment], last: &Segment, begun: usize, left: EntryIter<'_>) -> Option<Entry>
     ensures { result ≡ slice_get (left.entry ++ flat_map (λ xs. xs) (drop begun (full.now ++ last.now ∷ []))) 0 }
 {
     let mut entries = Entries {

@@ -3,7 +3,7 @@ ghost use Rattle.std.specs.Prelude.{◌≡◌, ℕ, Bool, true, false, List, [],
 ghost use Rattle.ec_core.specs.declared.act.Act.{Act};
 ghost use Rattle.ec_core.specs.declared.act.Act.TheVariants.{Go};
 ghost use Rattle.ec_core.specs.Calls.{is_pending};
-ghost use Rattle.ec_core.specs.Following.{Told};
+ghost use Rattle.ec_core.specs.Following.{CompletedCall};
 ghost use Rattle.ec_core.specs.Procedures.{IsReplyTo, next_of};
 
 use crate::{Act, Reply};
@@ -13,7 +13,7 @@ use crate::{Act, Reply};
 /// over, until no act is due.
 pub trait Procedure {
     // The call that comes after these further calls, or none if the list is then done.
-    ghost rest: { Self → List Told → Option Act };
+    ghost rest: { Self → List CompletedCall → Option Act };
 
     // The last reply was Pending.
     ghost is_going: { Self → Bool };
@@ -28,7 +28,7 @@ pub trait Procedure {
     fn take(&mut self, reply: Reply)
         requires { IsReplyTo (next_of (is_going self.old) (rest self.old [])) reply }
         ensures going { is_going self.new ≡ is_pending reply }
-        ensures pending { is_pending reply ≡ true → (calls : List Told) → rest self.new calls ≡ rest self.old calls }
-        ensures told { is_pending reply ≡ false → (op : Act) → rest self.old [] ≡ Some op → (calls : List Told)
+        ensures pending { is_pending reply ≡ true → (calls : List CompletedCall) → rest self.new calls ≡ rest self.old calls }
+        ensures returned { is_pending reply ≡ false → (op : Act) → rest self.old [] ≡ Some op → (calls : List CompletedCall)
             → rest self.new calls ≡ rest self.old (record { op = op; reply = reply } ∷ calls) };
 }

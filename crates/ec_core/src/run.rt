@@ -45,9 +45,9 @@ pub struct Run {
 }
 
 impl Model for Run {
-    ghost use Rattle.ec_core.specs.Recorded.{Recorded};
+    ghost use Rattle.ec_core.specs.RunModel.{RunModel};
 
-    ghost Value = { Recorded };
+    ghost Value = { RunModel };
 
     ghost use Rattle.ec_core.specs.Standing.{StandsFor};
 
@@ -72,7 +72,7 @@ impl Run {
     }
 
     /// States what is true of a run: it is on sound declarations, and its history is accepted.
-    pub fn known(&self)
+    pub fn invariant(&self)
         ensures declared { IsDeclared self.now.setup }
         ensures accepted { IsAccepted self.now.setup (reverse self.now.entries) }
     {
@@ -88,7 +88,7 @@ impl Run {
 
     /// Returns the state after its entries.
     pub fn world(&self) -> &World
-        ensures stands { StandsFor result.now self.now.entries }
+        ensures represents { StandsFor result.now self.now.entries }
         ensures setup { result.now.setup ≡ self.now.setup }
     {
         &self.world
@@ -123,7 +123,7 @@ impl Run {
     pub fn is_silent(&self, worker: WorkerId) -> bool
         ensures { IsTrue result ↔ IsSilent self.now.setup self.now.entries worker }
     {
-        self.known();
+        self.invariant();
         if !self.setup().is_silent(worker) {
             return false;
         }

@@ -1,6 +1,6 @@
 //! Lists of entries in segments.
 ghost use Rattle.std.specs.Prelude.{◌≡◌, ◌+◌, ◌^◌, ◌<◌, [], ◌∷◌, ◌++◌, length, slice_get, IfOk, IfSome, OnOk, OnErr};
-ghost use Rattle.ec_core.specs.Segmented.{joined, IsSegmented};
+ghost use Rattle.ec_core.specs.Segments.{concat_segments, IsSegmented};
 
 use crate::segment::{SEGMENT, Segment};
 use crate::{Entries, Entry};
@@ -26,9 +26,9 @@ impl Model for Segments {
 
     ghost Value = { List Entry };
 
-    ghost use Rattle.ec_core.specs.Segmented.{joined, IsSegmented};
+    ghost use Rattle.ec_core.specs.Segments.{concat_segments, IsSegmented};
 
-    ghost view = { λ s. joined s.full.items s.last };
+    ghost view = { λ s. concat_segments s.full.items s.last };
 
     ghost invariant = { λ s. IsSegmented s.full.items s.last };
 }
@@ -120,7 +120,7 @@ fn begin_segment(full: &mut Vec<Segment>, last: &mut Segment) -> Result<(), Allo
 #[inline(always)]
 fn entry_at(full: &Vec<Segment>, last: &Segment, i: usize) -> Option<Entry>
     requires { IsSegmented full.now.items last.now }
-    ensures value { result ≡ slice_get (joined full.now.items last.now) i }
+    ensures value { result ≡ slice_get (concat_segments full.now.items last.now) i }
     ensures within { IfSome result (λ _. i + 1 < 2 ^ 64) }
 {
     let place = i / SEGMENT;

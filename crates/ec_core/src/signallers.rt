@@ -1,7 +1,7 @@
 //! Who signals an eventcount.
 ghost use Rattle.std.specs.Prelude.{◌≡◌, ℕ, ◌<◌, ◌≤◌, false, [], length, slice_get, IfSome};
-ghost use Rattle.ec_count.specs.Members.{place_of, has_repeat};
-ghost use Rattle.ec_core.specs.Fields.{replaced_new};
+ghost use Rattle.ec_count.specs.Members.{index_of, has_repeat};
+ghost use Rattle.ec_core.specs.Fields.{replace_unless_member};
 
 use ec_count::{Members, WorkerId};
 use std::marker::Model;
@@ -28,7 +28,7 @@ impl Model for Signallers {
 
 /// Returns the place of a worker among others, in one byte.
 fn place_in(members: &Members, worker: WorkerId) -> Option<u8>
-    ensures { result ≡ place_of worker members.now }
+    ensures { result ≡ index_of worker members.now }
 {
     match members.place(worker) {
         Some(place) => Some(place as u8),
@@ -38,7 +38,7 @@ fn place_in(members: &Members, worker: WorkerId) -> Option<u8>
 
 /// Returns the place of each worker among these.
 fn places_in(members: &Members) -> [Option<u8>; 16]
-    ensures { (w : ℕ) → w < 16 → slice_get result w ≡ Some (place_of w members.now) }
+    ensures { (w : ℕ) → w < 16 → slice_get result w ≡ Some (index_of w members.now) }
 {
     let mut places: [Option<u8>; 16] = [None; 16];
     for w in 0..16 {
@@ -74,7 +74,7 @@ impl Signallers {
     /// Returns the component that the worker signals.
     #[inline(always)]
     pub(crate) fn component(&self, worker: WorkerId) -> Option<usize>
-        ensures value { result ≡ place_of worker self.now }
+        ensures value { result ≡ index_of worker self.now }
         ensures few { IfSome result (λ c. c < 16) }
     {
         match self.components[worker.get()] {
@@ -85,7 +85,7 @@ impl Signallers {
 
     /// Hands the one worker's component to the other, unless that one signals one too.
     pub(crate) fn hand(&mut self, from: WorkerId, to: WorkerId)
-        ensures { self.new ≡ replaced_new (place_of from self.old) to self.old }
+        ensures { self.new ≡ replace_unless_member (index_of from self.old) to self.old }
     {
         if self.component(to).is_some() {
             return;

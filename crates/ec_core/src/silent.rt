@@ -27,7 +27,7 @@ pub fn without(run: &Run, silent: &[WorkerId]) -> Result<Run, AllocError>
     ensures { IfOk result (λ rest. rest ≡ record run.now { entries = without (λ w. is_member w silent.now) run.now.entries }) }
 {
     let mut rest = Run::open(run.allocator(), run.setup().copy())?;
-    run.known();
+    run.invariant();
     for entry in run.entries() {
         if !silent.contains(&entry.worker) {
             repeat(&mut rest, entry)?;

@@ -1,7 +1,7 @@
 //! Pending calls, as a world keeps them.
 ghost use Rattle.std.specs.Prelude.{◌≡◌, ◌+◌, ◌*◌, ◌^◌, ◌<◌, ◌≤◌, IsSome, slice_get};
 ghost use Rattle.ec_core.specs.Rounds.{event_or, read_of};
-ghost use Rattle.ec_core.specs.Fields.{begun, gone_to, one_read, value_of};
+ghost use Rattle.ec_core.specs.Fields.{new_progress, with_round, read_component, count_value};
 
 use crate::Act;
 use crate::effect::Effect;
@@ -54,9 +54,9 @@ impl Model for UnderWay {
 
 impl UnderWay {
     /// Makes a call whose first component is yet to be read.
-    pub(crate) fn begun(op: Act) -> Self
+    pub(crate) fn new(op: Act) -> Self
         requires { IsSome (read_of op) }
-        ensures { result ≡ begun op }
+        ensures { result ≡ new_progress op }
     {
         UnderWay {
             op,
@@ -68,7 +68,7 @@ impl UnderWay {
     /// Returns the same call, whose round has come so far.
     #[inline(always)]
     pub(crate) fn at(&self, round: Round) -> Self
-        ensures { result ≡ gone_to round self.now }
+        ensures { result ≡ with_round round self.now }
     {
         UnderWay {
             op: self.op,
@@ -80,7 +80,7 @@ impl UnderWay {
     /// Goes on: its round has come so far.
     #[inline(always)]
     pub(crate) fn go_on(&mut self, round: Round)
-        ensures { self.new ≡ gone_to round self.old }
+        ensures { self.new ≡ with_round round self.old }
     {
         (self.index, self.sum) = (round.index, round.sum);
     }
@@ -128,7 +128,7 @@ impl UnderWay {
     #[inline(always)]
     pub(crate) fn read(&self, width: usize, counts: &[Count; 16]) -> Effect
         requires { width ≤ 16 }
-        ensures { result ≡ one_read self.now.op width self.now.index (value_of (slice_get counts.now self.now.index) + self.now.sum) }
+        ensures { result ≡ read_component self.now.op width self.now.index (count_value (slice_get counts.now self.now.index) + self.now.sum) }
     {
         let index = self.index + 1;
         let sum = counts[self.index].value() + self.sum;

@@ -4,17 +4,18 @@ ghost use Rattle.ec_core.specs.declared.act.Entry.{Entry};
 ghost use Rattle.ec_core.specs.Acceptance.{answer_of, refused_or, refusal_in};
 ghost use Rattle.std.specs.Option.{option_map};
 ghost use Rattle.ec_core.specs.Calls.{is_go, under_way};
-ghost use Rattle.ec_core.specs.Following.{opened};
-ghost use Rattle.ec_core.specs.Rounds.{width};
+ghost use Rattle.ec_core.specs.Following.{opening_act};
+ghost use Rattle.ec_core.specs.Rounds.{component_count};
 ghost use Rattle.ec_core.specs.Counts.{total, signaller_at, component_at, component_total, issued, cell_value};
 ghost use Rattle.ec_core.specs.Standing.{StandsFor, progress_of};
 ghost use Rattle.ec_core.specs.Values.{TellsAtMost};
 ghost use Rattle.ec_core.specs.Procedures.{IsReply};
-ghost use Rattle.ec_core.specs.Fields.{kept_call, component_in, right_in, already_in, is_full_for, next_read, effect_in, planned, changed, gone_to, op_in, still_there, IsNamed, IsRightStep};
+ghost use Rattle.ec_core.specs.Fields.{stored_progress, component_in, right_in, already_in, is_full_for, read_effect, effect_in, effect_or_refusal, apply_effect, with_round, op_in, still_there, IsNamed, IsRightStep};
 
 use crate::effect::Effect;
 use crate::fields::{
-    count_in, count_of, declared, is_too_large, raise_at, raise_in, same_again, sum_of, width,
+    component_count, component_sum, count_in, declared_signallers, is_too_large, raise_at,
+    raise_in, same_again, ticket_count,
 };
 use crate::signallers::Signallers;
 use crate::under_way::Round;
@@ -33,7 +34,7 @@ fn refuse_if(test: bool, refusal: Refusal) -> Result<(), Refusal>
 /// Goes on with the call, if there is one, whose round has come so far.
 #[inline(always)]
 fn go_on(call: &mut Option<UnderWay>, round: Round)
-    ensures { call.new ≡ option_map (gone_to round) call.old }
+    ensures { call.new ≡ option_map (with_round round) call.old }
 {
     if let Some(call) = call {
         call.go_on(round);
@@ -73,8 +74,8 @@ impl World {
         ensures history { StandsFor result [] }
         ensures setup { result.setup ≡ setup }
     {
-        setup.known();
-        let signal = declared(&setup);
+        setup.invariant();
+        let signal = declared_signallers(&setup);
         let zero = Count::zero(setup.limit());
         World {
             setup,
@@ -142,8 +143,8 @@ impl World {
         if event.get() >= self.setup.events() {
             return None;
         }
-        let width = width(&self.setup, event);
-        Some(sum_of(&self.counts, event.get(), width))
+        let width = component_count(&self.setup, event);
+        Some(component_sum(&self.counts, event.get(), width))
     }
 
     /// Returns a component of an eventcount: how many advances were made by who signalled it at
@@ -151,9 +152,9 @@ impl World {
     /// declared.
     pub fn component(&self, event: EventId, component: usize) -> Option<u64>
         ensures { (h : List Entry) → StandsFor self.now h
-            → result ≡ (if nat_lt component (width self.now.setup event) then Some (component_total self.now.setup event component (reverse h)) else None) }
+            → result ≡ (if nat_lt component (component_count self.now.setup event) then Some (component_total self.now.setup event component (reverse h)) else None) }
     {
-        if component >= width(&self.setup, event) {
+        if component >= component_count(&self.setup, event) {
             return None;
         }
         Some(count_in(&self.counts, event.get(), component).value())
@@ -168,7 +169,7 @@ impl World {
         if sequencer.get() >= self.setup.sequencers() {
             return None;
         }
-        let count = count_of(&self.issued, sequencer.get());
+        let count = ticket_count(&self.issued, sequencer.get());
         Some(count.value())
     }
 
@@ -194,17 +195,17 @@ impl World {
     /// Returns what a call comes to that reads its next component.
     #[inline(always)]
     fn read(&self, call: &UnderWay) -> Effect
-        ensures { result ≡ next_read self.now call.now }
+        ensures { result ≡ read_effect self.now call.now }
     {
         let event = call.event();
-        let width = width(&self.setup, event);
+        let width = component_count(&self.setup, event);
         let counts = &self.counts[event.get()];
         call.read(width, counts)
     }
 
     /// Returns the refusal, if the eventcount is not declared.
     #[inline(always)]
-    fn known_event(&self, event: EventId) -> Result<(), Refusal>
+    fn require_event(&self, event: EventId) -> Result<(), Refusal>
         ensures { MatchResult result (λ x. nat_le (length self.now.setup.events) event ≡ false) (λ r. (nat_le (length self.now.setup.events) event ≡ true) × (r ≡ Refusal.UnknownObject)) }
     {
         refuse_if(event.get() >= self.setup.events(), Refusal::UnknownObject)
@@ -212,7 +213,7 @@ impl World {
 
     /// Returns the refusal, if the cell is not declared.
     #[inline(always)]
-    fn known_cell(&self, cell: CellId) -> Result<(), Refusal>
+    fn require_cell(&self, cell: CellId) -> Result<(), Refusal>
         ensures { MatchResult result (λ x. nat_le (length self.now.setup.cells) cell ≡ false) (λ r. (nat_le (length self.now.setup.cells) cell ≡ true) × (r ≡ Refusal.UnknownObject)) }
     {
         refuse_if(cell.get() >= self.setup.cells(), Refusal::UnknownObject)
@@ -228,7 +229,7 @@ impl World {
     {
         match *act {
             Act::Advance(event) => {
-                self.known_event(event)?;
+                self.require_event(event)?;
                 let own = self.own_component(event, worker);
                 let component = own.ok_or(Refusal::NoRight)?;
                 let count = count_in(&self.counts, event.get(), component);
@@ -236,10 +237,10 @@ impl World {
                 Ok(Effect::Raise(event, component))
             }
             Act::Read(event) | Act::Await(event, _) => {
-                self.known_event(event)?;
+                self.require_event(event)?;
                 refuse_if(!self.setup.may_observe(event, worker), Refusal::NoRight)?;
                 refuse_if(is_too_large(act), Refusal::ValueTooLarge)?;
-                let call = UnderWay::begun(*act);
+                let call = UnderWay::new(*act);
                 let effect = self.read(&call);
                 Ok(effect.as_first(&call))
             }
@@ -250,23 +251,23 @@ impl World {
                     Refusal::UnknownObject,
                 )?;
                 refuse_if(!self.setup.may_take(sequencer, worker), Refusal::NoRight)?;
-                let count = count_of(&self.issued, sequencer.get());
+                let count = ticket_count(&self.issued, sequencer.get());
                 refuse_if(count.is_full(), Refusal::AtLimit)?;
                 Ok(Effect::Draw(sequencer, count.value()))
             }
             Act::Put(cell, value) => {
-                self.known_cell(cell)?;
+                self.require_cell(cell)?;
                 refuse_if(!self.setup.may_write(cell, worker), Refusal::NoRight)?;
                 refuse_if(is_too_large(act), Refusal::ValueTooLarge)?;
                 Ok(Effect::Put(cell, value))
             }
             Act::Get(cell) => {
-                self.known_cell(cell)?;
+                self.require_cell(cell)?;
                 refuse_if(!self.setup.may_read(cell, worker), Refusal::NoRight)?;
                 Ok(Effect::Get(self.cells[cell.get()]))
             }
             Act::Hand(event, to) => {
-                self.known_event(event)?;
+                self.require_event(event)?;
                 refuse_if(to.get() >= self.setup.workers(), Refusal::UnknownObject)?;
                 let own = self.own_component(event, worker);
                 refuse_if(own.is_none(), Refusal::NoRight)?;
@@ -282,7 +283,7 @@ impl World {
     #[inline(always)]
     fn effect(&self, worker: WorkerId, act: Act) -> Result<Effect, Refusal>
         ensures named { IsNamed act }
-        ensures is { (past : List Entry) → result ≡ planned self.now past worker act }
+        ensures is { (past : List Entry) → result ≡ effect_or_refusal self.now past worker act }
     {
         refuse_if(worker.get() >= self.setup.workers(), Refusal::UnknownWorker)?;
         match (&self.calls[worker.get()], act) {
@@ -306,7 +307,7 @@ impl World {
     /// Makes the change that a step of the worker comes to.
     #[inline(always)]
     pub(crate) fn apply(&mut self, worker: WorkerId, effect: &Effect)
-        ensures { self.new ≡ changed self.old worker effect.now }
+        ensures { self.new ≡ apply_effect self.old worker effect.now }
     {
         match *effect {
             Effect::Raise(event, component) => {
@@ -344,7 +345,7 @@ impl World {
     /// what began it, so whoever has no use for it has it read in vain nowhere.
     #[inline(always)]
     fn make(&mut self, worker: WorkerId, act: &Act, effect: &Effect) -> Act
-        ensures change { self.new ≡ changed self.old worker effect.now }
+        ensures change { self.new ≡ apply_effect self.old worker effect.now }
         ensures op { result ≡ op_in (still_there self.old worker effect.now) worker act.now }
     {
         match *effect {
@@ -396,7 +397,7 @@ impl World {
     pub fn step_of_call(&mut self, worker: WorkerId, act: Act) -> Result<Step, Refusal>
         ensures answer { (h : List Entry) → StandsFor self.old h
             → MatchResult result (λ s. answer_of self.old.setup (reverse h) worker act ≡ Ok s.reply) (λ r. answer_of self.old.setup (reverse h) worker act ≡ Err r) }
-        ensures op { (h : List Entry) → StandsFor self.old h → IfOk result (λ s. s.op ≡ opened act (under_way worker (reverse h))) }
+        ensures op { (h : List Entry) → StandsFor self.old h → IfOk result (λ s. s.op ≡ opening_act act (under_way worker (reverse h))) }
         ensures after { (h : List Entry) → StandsFor self.old h
             → IfOk result (λ s. StandsFor self.new (h ++ record { worker = worker; act = act; reply = s.reply } ∷ [])) }
         ensures small { (h : List Entry) → StandsFor self.old h → IfOk result (λ s. TellsAtMost VALUE_MAX s.reply) }

@@ -7,7 +7,7 @@ use Rattle.std.proofs.lemmas.List.Elements.{All-head, All-tail}
 use Rattle.std.proofs.lemmas.Option.{slice_get_within}
 use Rattle.ec_count.specs.declared.setup.Rights.{Rights}
 use Rattle.ec_count.specs.declared.setup.Access.{Access}
-use Rattle.ec_count.specs.Members.{AreWorkers, AreTwoLists, is_member, place_of}
+use Rattle.ec_count.specs.Members.{AreWorkers, AreTwoLists, is_member, index_of}
 use Rattle.ec_count.specs.Tables.{Tables, IsDeclared, component_of}
 use Rattle.ec_count.specs.Laws.{RightsAreDeclared}
 use Rattle.ec_count.proofs.shared.Declared.{at_place, found_there, rights_at}
@@ -31,7 +31,7 @@ listed {X} list n w i rows each h =
 
 signals_declared : (t : Tables) → IsDeclared t → (i w c : ℕ) → component_of t i w ≡ Some c → (i < length t.events) × (w < t.workers)
 signals_declared t d i w c h =
-    elim (slice_get t.events i) as (λ o. slice_get t.events i ≡ o → place_of w (option_map_or (λ (r : Rights). r.signal) o []) ≡ Some c → (i < length t.events) × (w < t.workers)) [
+    elim (slice_get t.events i) as (λ o. slice_get t.events i ≡ o → index_of w (option_map_or (λ (r : Rights). r.signal) o []) ≡ Some c → (i < length t.events) × (w < t.workers)) [
       | None ↦ λ at g. (cc)
       | Some r ↦ λ at g.
           (let place = found_there w 0 c r.signal g in

@@ -8,9 +8,9 @@ use Rattle.std.proofs.lemmas.Slice.Eq.{bytes_eq-Decides}
 use Rattle.std.proofs.lemmas.List.{take-map}
 use Rattle.std.proofs.lemmas.List.Elements.{All-push, All-take, recursion_from_All}
 use Rattle.ec_count.specs.Names.{find_name}
-use Rattle.ec_count.specs.Vocabulary.{AreShort, by_word}
+use Rattle.ec_count.specs.SymbolTable.{AreShort, by_word}
 use Rattle.ec_count.specs.declared.target.Target.{Target}
-use Rattle.ec_count.specs.declared.vocabulary.Word.{Word}
+use Rattle.ec_count.specs.declared.symbol_table.Word.{Word}
 
 pub find_word : (word : List ℕ) (es : List (Word × Target)) → find_name word (by_word es) ≡ lookup (λ k. bytes_eq word k.bytes.items) es
 find_word word [] = refl

@@ -25,8 +25,8 @@ name_of target [] = None
 name_of target (e ∷ es) = if same_target e.1 target then Some e.0 else name_of target es
 
 -- the place of that name
-abbrev pub place_of : Target → List (List ℕ × Target) → Option ℕ
-place_of target names = position_from (λ e. same_target e.1 target) 0 names
+abbrev pub name_index : Target → List (List ℕ × Target) → Option ℕ
+name_index target names = position_from (λ e. same_target e.1 target) 0 names
 
 -- the place of t's first name once a name for u stands at a new place
 abbrev pub with_first : Target → ℕ → Target → Option ℕ → Option ℕ
@@ -48,4 +48,4 @@ pub record AreNames (names : List (List ℕ × Target)) : Type 0 where
 -- what the table of names and the table of first places keep
 pub record KeepsNames (names : List (List ℕ × Target)) (firsts : List (Target × ℕ)) : Type 0 where
   pub hold : AreNames names
-  pub places : (t : Target) → lookup (same_target t) firsts ≡ place_of t names
+  pub places : (t : Target) → lookup (same_target t) firsts ≡ name_index t names

@@ -1,5 +1,5 @@
 //! Names, in the order in which they were added.
-ghost use Rattle.ec_count.specs.Names.{AreNames, find_name, name_fault, name_of, place_of, same_target, with_first};
+ghost use Rattle.ec_count.specs.Names.{AreNames, find_name, name_fault, name_of, name_index, same_target, with_first};
 ghost use Rattle.ec_count.specs.declared.target.Target.{Target};
 ghost use Rattle.indexmap.specs.IndexMap.{spare};
 ghost use Rattle.std.specs.Map.{lookup};
@@ -61,7 +61,7 @@ impl Names {
     }
 
     /// States what is true of the names.
-    pub fn known(&self)
+    pub fn invariant(&self)
         ensures { AreNames self.now }
     {
         let _table = &self.table;
@@ -148,13 +148,13 @@ impl Names {
     {
         match self.entry(place) {
             None => None,
-            Some((name, target)) => Some((text_of(name), target)),
+            Some((name, target)) => Some((name_text(name), target)),
         }
     }
 
     /// Returns the place of the first name that was added for the target.
-    fn place_of(&self, target: &Target) -> Option<usize>
-        ensures { result ≡ place_of target.now self.now }
+    fn name_index(&self, target: &Target) -> Option<usize>
+        ensures { result ≡ name_index target.now self.now }
     {
         self.firsts.get(target).copied()
     }
@@ -163,7 +163,7 @@ impl Names {
     pub fn name_of(&self, target: Target) -> Option<&str>
         ensures { option_map (λ name. name.now) result ≡ name_of target self.now }
     {
-        let place = self.place_of(&target)?;
+        let place = self.name_index(&target)?;
         match self.at(place) {
             None => None,
             Some((name, _)) => Some(name),
@@ -185,7 +185,7 @@ fn note_first(firsts: &mut IndexMap<Target, usize>, target: &Target, place: usiz
 }
 
 /// Returns the text of a name.
-fn text_of(name: &[u8]) -> &str
+fn name_text(name: &[u8]) -> &str
     requires { is_name name.now ≡ true }
     ensures { result.now ≡ name.now }
 {

@@ -15,7 +15,7 @@ pub fn shares_worker(first: &[WorkerId], second: &[WorkerId]) -> bool
 }
 
 /// Returns the workers of the first list, then those of the second.
-pub fn joined(first: &[WorkerId], second: &[WorkerId]) -> ArrayVec<WorkerId, 32>
+pub fn concat(first: &[WorkerId], second: &[WorkerId]) -> ArrayVec<WorkerId, 32>
     requires few_first { length first.now ≤ 16 }
     requires few_second { length second.now ≤ 16 }
     ensures { result.items ≡ first.now ++ second.now }

@@ -6,7 +6,7 @@ use Rattle.std.proofs.lemmas.List.Elements.{filter-append}
 use Rattle.ec_core.specs.declared.act.Act.{Act}
 use Rattle.ec_core.specs.declared.act.Entry.{Entry}
 use Rattle.ec_core.specs.Calls.{is_pending}
-use Rattle.ec_core.specs.Following.{Told, Rule, block}
+use Rattle.ec_core.specs.Following.{CompletedCall, Rule, block}
 use Rattle.ec_core.specs.JoinedLists.{finished_by, calls_on}
 use Rattle.ec_core.proofs.shared.FittingCalls.{list_after, told_at, block_is, finished_other, finished_same, finished_more}
 use Rattle.ec_core.proofs.shared.Following.{op_at}
@@ -26,7 +26,7 @@ number_more : (on : Act → Bool) (x : Entry) (past : List Entry) → is_pending
 number_more on x past h =
     let before = finished_by x.worker past in
     let new = told_at x past ∷ [] in
-    ap (λ cs. length (calls_on on cs)) (finished_more x past h) ∙ ap length (filter-append (λ (c : Told). on c.op) before new) ∙ length-append (calls_on on before) (calls_on on new)
+    ap (λ cs. length (calls_on on cs)) (finished_more x past h) ∙ ap length (filter-append (λ (c : CompletedCall). on c.op) before new) ∙ length-append (calls_on on before) (calls_on on new)
 
 pub number_on : (on : Act → Bool) (x : Entry) (past : List Entry) → is_pending x.reply ≡ false → on (op_at x past) ≡ true → number on x.worker (x ∷ past) ≡ number on x.worker past + 1
 number_on on x past h is = number_more on x past h ∙ ap (λ b. number on x.worker past + length (cond b (told_at x past ∷ []) [])) is
@@ -53,7 +53,7 @@ number_rises on w x past =
 abbrev all_calls : Rule
 all_calls = record { concerns = λ b op. true; fits = λ b op. true; ends = λ b. false }
 
-after_all : (b calls : List Told) → list_after all_calls b calls ≡ b ++ calls
+after_all : (b calls : List CompletedCall) → list_after all_calls b calls ≡ b ++ calls
 after_all b [] = sym (append-nil b)
 after_all b (c ∷ calls) = after_all (b ++ c ∷ []) calls ∙ append_assoc b (c ∷ []) calls
 

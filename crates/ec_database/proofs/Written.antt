@@ -4,7 +4,7 @@ use Rattle.ec_core.specs.declared.act.Entry.{Entry}
 use Rattle.ec_core.specs.Counts.{put_in}
 use Rattle.ec_core.specs.Following.{block}
 use Rattle.ec_database.specs.Shapes.{Database}
-use Rattle.ec_database.specs.Calls.{turn_of}
+use Rattle.ec_database.specs.Calls.{drawn_turn}
 use Rattle.ec_database.specs.Following.{rules}
 
 abbrev pub chosen_if : Bool → Option ℕ → Option ℕ → Option ℕ
@@ -15,7 +15,7 @@ chosen_if mine (Some v) others = cond mine (Some v) others
 unfoldable pub written : Database → (ℕ → Bool) → ℕ → ℕ → List Entry → Option ℕ
 written d writers j turn [] = None
 written d writers j turn (x ∷ past) =
-    chosen_if (turn_of (block (rules d writers x.worker) x.worker past) == turn) (put_in (d.first_cell + j) x.act) (written d writers j turn past)
+    chosen_if (drawn_turn (block (rules d writers x.worker) x.worker past) == turn) (put_in (d.first_cell + j) x.act) (written d writers j turn past)
 
 -- value j of a version is v
 abbrev pub IsVersionIn : Database → (ℕ → Bool) → ℕ → ℕ → ℕ → List Entry → Type 0

@@ -4,10 +4,10 @@ use Rattle.ec_count.specs.Declares.{KeepsObjects}
 use Rattle.ec_count.specs.Tables.{Tables, IsDeclared}
 use Rattle.ec_core.specs.declared.act.Entry.{Entry}
 use Rattle.ec_core.specs.Acceptance.{IsAccepted}
-use Rattle.ec_core.specs.Following.{Told}
+use Rattle.ec_core.specs.Following.{CompletedCall}
 use Rattle.ec_core.specs.Procedures.{IsWritten}
 use Rattle.ec_database.specs.Shapes.{Database, IsShape, Fits}
-use Rattle.ec_database.specs.Calls.{first_number, turn_of, write_call, try_call, write_list, try_list}
+use Rattle.ec_database.specs.Calls.{first_number, drawn_turn, write_call, try_call, write_list, try_list}
 use Rattle.ec_database.specs.Snapshots.{snapshot_call, AreTries}
 use Rattle.ec_database.specs.Following.{writes, FollowsDatabase}
 use Rattle.ec_database.specs.Versions.{PutsValue}
@@ -48,12 +48,12 @@ TriesAreDetermined = (t : Tables) (d : Database) (h : List Entry) (xs ys : List 
 
 -- the call lists are those written out, whatever turn or version a list's calls answered
 pub record CallsAreListed (d : Database) : Type 0 where
-  pub writings : (values : List ℕ) (calls : List Told) → length values ≡ d.cells → write_call d values calls ≡ slice_get (write_list d values (turn_of calls)) (length calls)
-  pub tries : (calls : List Told) → try_call d calls ≡ slice_get (try_list d (first_number calls)) (length calls)
+  pub writings : (values : List ℕ) (calls : List CompletedCall) → length values ≡ d.cells → write_call d values calls ≡ slice_get (write_list d values (drawn_turn calls)) (length calls)
+  pub tries : (calls : List CompletedCall) → try_call d calls ≡ slice_get (try_list d (first_number calls)) (length calls)
 
 abbrev pub CallListsAreWritten : Type 0
 CallListsAreWritten = (d : Database) → CallsAreListed d
 
 -- what a snapshot asks for are tries, up to the first whose reads agree, and at most as many as it may make
 abbrev pub SnapshotsAreTries : Type 0
-SnapshotsAreTries = (d : Database) (tries : ℕ) (calls : List Told) → 1 ≤ tries → IsWritten (snapshot_call d tries) calls → AreTries d tries calls
+SnapshotsAreTries = (d : Database) (tries : ℕ) (calls : List CompletedCall) → 1 ≤ tries → IsWritten (snapshot_call d tries) calls → AreTries d tries calls

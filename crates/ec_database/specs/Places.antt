@@ -2,13 +2,13 @@
 use Rattle.std.specs.Prelude.{ℕ, ◌+◌, ◌-◌, Bool, ◌==◌, ◌&&◌, not, nat_lt, List, [], ◌∷◌, ◌++◌, length, Option, Some, None, if◌then◌else◌, get_or}
 use Rattle.ec_core.specs.declared.act.Act.{Act}
 use Rattle.ec_core.specs.declared.act.Act.TheVariants.{Advance, Read, Await, Ticket, Put, Get}
-use Rattle.ec_core.specs.declared.protocol.Kept.{Kept}
-use Rattle.ec_core.specs.Following.{Told}
-use Rattle.ec_core.specs.CallLists.{number_of}
+use Rattle.ec_core.specs.declared.protocol.ListProgress.{ListProgress}
+use Rattle.ec_core.specs.Following.{CompletedCall}
+use Rattle.ec_core.specs.CallLists.{reply_number}
 use Rattle.ec_database.specs.Shapes.{Database}
 use Rattle.ec_database.specs.declared.ending.SnapshotEnd.{SnapshotEnd}
 use Rattle.ec_database.specs.declared.ending.SnapshotEnd.TheVariants.{Accepted, Disturbed}
-use Rattle.ec_database.specs.Calls.{first_number, turn_of}
+use Rattle.ec_database.specs.Calls.{first_number, drawn_turn}
 
 -- of a writing, from its turn
 abbrev pub write_at : Database → List ℕ → ℕ → ℕ → Option Act
@@ -21,11 +21,11 @@ write_at d values at turn =
     else None))))
 
 -- the turn after further calls
-abbrev pub turn_after : ℕ → ℕ → List Told → ℕ
-turn_after at turn calls = if at == 0 then turn_of calls else (if at == 1 then first_number calls else turn)
+abbrev pub turn_after : ℕ → ℕ → List CompletedCall → ℕ
+turn_after at turn calls = if at == 0 then drawn_turn calls else (if at == 1 then first_number calls else turn)
 
 -- what is left of a writing at a place
-abbrev pub write_rest : Database → List ℕ → ℕ → ℕ → List Told → Option Act
+abbrev pub write_rest : Database → List ℕ → ℕ → ℕ → List CompletedCall → Option Act
 write_rest d values at turn calls = write_at d values (at + length calls) (turn_after at turn calls)
 
 -- of a try, from the version that it read first
@@ -39,7 +39,7 @@ try_at d at version =
 
 -- where a snapshot stands: the tries left, this one among them; the place in this try; what it read so far; and at its
 -- end, whether its two reads agree
-pub record Place : Type 0 where
+pub record SnapshotPhase : Type 0 where
   pub left : ℕ
   pub at : ℕ
   pub version : ℕ
@@ -47,14 +47,14 @@ pub record Place : Type 0 where
   pub agreed : Bool
 
 -- once the try has read its last number: it ends there, or the next try begins
-abbrev pub place_at_end : Place → Bool → Place
+abbrev pub place_at_end : SnapshotPhase → Bool → SnapshotPhase
 place_at_end p agreed =
     if not agreed && nat_lt 1 p.left
     then record p { left = p.left - 1; at = 0; values = [] }
     else record p { at = p.at + 1; agreed = agreed }
 
 -- once a call has answered n
-abbrev pub next_place : Database → Place → ℕ → Place
+abbrev pub next_place : Database → SnapshotPhase → ℕ → SnapshotPhase
 next_place d p n =
     if p.at == 0 then record p { at = 1; version = n }
     else (if p.at == 1 then record p { at = 2 }
@@ -62,17 +62,18 @@ next_place d p n =
     else (if p.at == d.cells + 2 then place_at_end p (n == p.version)
     else p)))
 
-abbrev pub place_after : Database → Place → List Told → Place
+abbrev pub place_after : Database → SnapshotPhase → List CompletedCall → SnapshotPhase
 place_after d p [] = p
-place_after d p (c ∷ calls) = place_after d (next_place d p (number_of c.reply)) calls
+place_after d p (c ∷ calls) = place_after d (next_place d p (reply_number c.reply)) calls
 
 -- what is left of a snapshot at a place
-abbrev pub snapshot_rest : Database → Place → List Told → Option Act
+abbrev pub snapshot_rest : Database → SnapshotPhase → List CompletedCall → Option Act
 snapshot_rest d p calls = (let q = place_after d p calls in try_at d q.at q.version)
 
-abbrev pub end_at : Database → Place → Option SnapshotEnd
+abbrev pub end_at : Database → SnapshotPhase → Option SnapshotEnd
 end_at d p = if p.at == d.cells + 3 then Some (if p.agreed then Accepted p.version (record { items = p.values }) else Disturbed) else None
 
 -- what a scan keeps of a list of either kind: a writing's turn is the second number, a try's version the first
-abbrev pub kept_of : List Told → Kept
-kept_of calls = record { at = length calls; first = first_number calls; second = turn_of calls }
+abbrev pub list_progress : List CompletedCall → ListProgress
+list_progress calls =
+    record { at = length calls; first = first_number calls; second = drawn_turn calls }

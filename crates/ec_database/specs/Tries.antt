@@ -9,7 +9,7 @@ use Rattle.ec_core.specs.declared.act.Reply.TheVariants.{Number}
 use Rattle.ec_core.specs.declared.act.Entry.{Entry}
 use Rattle.ec_core.specs.Counts.{past_at}
 use Rattle.ec_core.specs.Calls.{is_pending, under_way}
-use Rattle.ec_core.specs.Following.{Told, opened, block}
+use Rattle.ec_core.specs.Following.{CompletedCall, opening_act, block}
 use Rattle.ec_core.specs.JoinedLists.{finished_by, calls_on}
 use Rattle.ec_database.specs.Shapes.{Database}
 use Rattle.ec_database.specs.Following.{is_cell, is_on, writes, try_rule}
@@ -28,12 +28,12 @@ pub record TryTable : Type 0 where
   pub list : List AcceptedTry
 
 -- the accepting try whose calls these are, if they are those of a whole one whose reads agree
-abbrev pub accepted_of : Database → ℕ → List Told → Option AcceptedTry
+abbrev pub accepted_of : Database → ℕ → List CompletedCall → Option AcceptedTry
 accepted_of d w calls =
     if is_whole d calls && agrees d calls then Some (record { worker = w; version = version_read calls; values = values_got d calls }) else None
 
 -- the one that a call ends, after these of its reader's try
-abbrev pub ended_by : Database → ℕ → List Told → Told → Option AcceptedTry
+abbrev pub ended_by : Database → ℕ → List CompletedCall → CompletedCall → Option AcceptedTry
 ended_by d w calls c = if is_on d c.op then accepted_of d w (calls ++ c ∷ []) else None
 
 -- the one that an entry ends: it finishes a call, and its worker is no writer
@@ -41,7 +41,7 @@ abbrev pub ended_at : Database → (ℕ → Bool) → Entry → List Entry → O
 ended_at d writers x past =
     if writers x.worker || is_pending x.reply
     then None
-    else ended_by d x.worker (block (try_rule d) x.worker past) (record { op = opened x.act (under_way x.worker past); reply = x.reply })
+    else ended_by d x.worker (block (try_rule d) x.worker past) (record { op = opening_act x.act (under_way x.worker past); reply = x.reply })
 
 -- the accepting tries, in the order of their last steps
 unfoldable pub accepted_tries : Database → (ℕ → Bool) → List Entry → List AcceptedTry
@@ -75,8 +75,8 @@ pub record EndsCall (h : List Entry) (k w : ℕ) (op : Act) (reply : Reply) : Ty
   pub entry : Entry
   pub is : slice_get h k ≡ Some entry
   pub by : entry.worker ≡ w
-  pub began : opened entry.act (under_way w (past_at k h)) ≡ op
-  pub told : entry.reply ≡ reply
+  pub began : opening_act entry.act (under_way w (past_at k h)) ≡ op
+  pub returned : entry.reply ≡ reply
 
 -- how many calls on the database w has finished before entry k
 abbrev pub calls_before : Database → List Entry → ℕ → ℕ → ℕ

@@ -6,7 +6,7 @@ use Rattle.ec_core.specs.declared.act.Entry.{Entry}
 use Rattle.ec_core.specs.Counts.{past_at, put_in}
 use Rattle.ec_core.specs.Following.{block}
 use Rattle.ec_database.specs.Shapes.{Database}
-use Rattle.ec_database.specs.Calls.{turn_of}
+use Rattle.ec_database.specs.Calls.{drawn_turn}
 use Rattle.ec_database.specs.Following.{writes, write_rule}
 
 -- entry k puts v into cell j, in a writing of this turn; in a history that follows the database, if each writing has
@@ -16,7 +16,7 @@ pub record PutsValue (t : Tables) (d : Database) (h : List Entry) (k turn j v : 
   pub is : slice_get h k ≡ Some entry
   pub writer : writes t d entry.worker ≡ true
   pub puts : put_in (d.first_cell + j) entry.act ≡ Some v
-  pub drawn : turn_of (block (write_rule d) entry.worker (past_at k h)) ≡ turn
+  pub drawn : drawn_turn (block (write_rule d) entry.worker (past_at k h)) ≡ turn
 
 -- value j of the version is v
 abbrev pub IsOfVersion : Tables → Database → List Entry → ℕ → ℕ → ℕ → Type 0

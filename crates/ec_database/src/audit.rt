@@ -7,12 +7,12 @@ ghost use Rattle.ec_core.specs.Ending.{EndsAt};
 ghost use Rattle.ec_core.specs.Following.{block};
 ghost use Rattle.ec_database.specs.Following.{writes, database_rules, FollowsDatabase};
 ghost use Rattle.ec_database.specs.Tries.{ended_at, accepted_tries, ListsTries, AreUndisturbed};
-ghost use Rattle.ec_database.specs.Auditing.{shown, finished_call, found_in, rows_after, try_ended, HasRow, HoldsGot, ReadsOn, IsVersioning};
+ghost use Rattle.ec_database.specs.Auditing.{accepted_try, finished_call, found_in, rows_after, try_ended, HasRow, HoldsGot, ReadsOn, IsVersioning};
 
 use crate::DatabaseShape;
 use crate::lists::{Lists, is_on};
 use crate::tries::{Accepted, AcceptedTries, TryView};
-use ec_core::{Act, Audit, AuditFault, Entry, Kept, Reply, Run, Tracker, walk};
+use ec_core::{Act, Audit, AuditFault, Entry, ListProgress, Reply, Run, Tracker, walk};
 use ec_count::{Setup, WorkerId, filled};
 use std::alloc::{AllocError, Global};
 use std::marker::Model;
@@ -28,7 +28,7 @@ struct ReaderCall {
 }
 
 /// Returns the call of a reader on the database that an entry finishes, if it finishes one.
-fn finished_call(lists: &Lists, kept: &Kept, op: &Act, entry: &Entry) -> Option<ReaderCall>
+fn finished_call(lists: &Lists, kept: &ListProgress, op: &Act, entry: &Entry) -> Option<ReaderCall>
     ensures { result ≡ finished_call lists.now.shape.now (writes lists.now.setup.now lists.now.shape.now entry.now.worker) kept.now op.now entry.now }
 {
     if lists.writes(entry.worker) {
@@ -99,7 +99,7 @@ impl Got {
     fn take(
         &mut self,
         lists: &Lists,
-        kept: &Kept,
+        kept: &ListProgress,
         op: &Act,
         entry: &Entry,
         tries: &mut AcceptedTries,
@@ -137,9 +137,9 @@ pub struct VersionAudit<'a> {
 
 impl<'a> Model for VersionAudit<'a> {
     ghost use Rattle.std.specs.Prelude.{◌≡◌};
-    ghost use Rattle.ec_database.specs.Auditing.{Versioning};
+    ghost use Rattle.ec_database.specs.Auditing.{VersionAuditModel};
 
-    ghost Value = { Versioning };
+    ghost Value = { VersionAuditModel };
 
     ghost view = { λ s. record { shape = s.lists.shape.now; setup = s.lists.setup.now; tracked = s.tracker; rows = s.got.rows; list = s.tries.list; lacks = s.lacks } };
 
@@ -151,7 +151,7 @@ impl<'a> Model for VersionAudit<'a> {
 fn lacks_after(
     lacks: bool,
     lists: &Lists,
-    kept: &Kept,
+    kept: &ListProgress,
     op: &Act,
     entry: &Entry,
     got: &mut Got,
@@ -174,7 +174,7 @@ fn lacks_after(
 impl<'a> Audit for VersionAudit<'a> {
     ghost use Rattle.ec_database.specs.Auditing.{VersionsOn};
 
-    ghost stands = { VersionsOn };
+    ghost represents = { VersionsOn };
 
     #[inline(never)]
     fn take(&mut self, place: usize, op: &Act, entry: &Entry) {
@@ -185,7 +185,7 @@ impl<'a> Audit for VersionAudit<'a> {
             tries,
             lacks,
         } = self;
-        let kept = tracker.kept(entry.worker);
+        let kept = tracker.list_progress(entry.worker);
         *lacks = lacks_after(*lacks, lists, &kept, op, entry, got, tries);
         tracker.take(lists, place, op, entry);
     }
@@ -211,15 +211,15 @@ impl<'a> VersionAudit<'a> {
 
     /// Returns how many calls of the list that it is in a worker has finished, after the entries so
     /// far.
-    pub fn finished(&self, worker: WorkerId) -> usize
+    pub fn completed_count(&self, worker: WorkerId) -> usize
         ensures { (past : List Entry) → IsVersioning self.now past → result ≡ length (block (database_rules self.now.setup self.now.shape worker) worker past) }
     {
-        let kept = self.tracker.kept(worker);
+        let kept = self.tracker.list_progress(worker);
         kept.at
     }
 
     /// Returns how many accepting tries there are so far; `None` if memory was refused for one.
-    pub fn found(&self) -> Option<usize>
+    pub fn accepted_count(&self) -> Option<usize>
         ensures { result ≡ found_in self.now }
     {
         if self.lacks {
@@ -230,7 +230,7 @@ impl<'a> VersionAudit<'a> {
     }
 
     /// Returns the accepting try with this place among those so far, if there are so many.
-    pub fn accepted(&self, place: usize) -> Option<TryView<'_>>
+    pub fn accepted_at(&self, place: usize) -> Option<TryView<'_>>
         ensures { result ≡ slice_get self.now.list place }
     {
         self.tries.get(place)
@@ -250,8 +250,8 @@ impl<'a> VersionAudit<'a> {
             lacks,
             ..
         } = self;
-        lists.shape.known();
-        if let Err(fault) = tracker.followed() {
+        lists.shape.invariant();
+        if let Err(fault) = tracker.finding() {
             return Err(fault);
         }
         if lacks {
@@ -263,13 +263,13 @@ impl<'a> VersionAudit<'a> {
     /// Returns the accepting tries after all entries of a run, as `versions` lists them.
     pub fn versions(self, run: &Run) -> Result<AcceptedTries, AuditFault>
         requires setup { self.setup ≡ run.now.setup }
-        requires stands { IsVersioning self (reverse run.now.entries) }
+        requires represents { IsVersioning self (reverse run.now.entries) }
         ensures followed { OnOk result (FollowsDatabase run.now.setup self.entry.shape (reverse run.now.entries)) }
         ensures tries { IfOk result (λ tries. ListsTries run.now.setup self.entry.shape run.now.entries tries.list) }
         ensures undisturbed { IfOk result (λ tries. AreUndisturbed run.now.setup self.entry.shape run.now.entries tries.list) }
         ensures err { IfErr result (IsAuditFault (database_rules run.now.setup self.entry.shape) run.now.entries) }
     {
-        run.known();
+        run.invariant();
         self.finish()
     }
 }
@@ -283,8 +283,8 @@ pub fn versions(
     shape: &DatabaseShape,
 ) -> Result<Vec<Accepted>, AuditFault>
     ensures followed { OnOk result (FollowsDatabase run.now.setup shape.now (reverse run.now.entries)) }
-    ensures tries { IfOk result (λ list. ListsTries run.now.setup shape.now run.now.entries (map shown list.items)) }
-    ensures undisturbed { IfOk result (λ list. AreUndisturbed run.now.setup shape.now run.now.entries (map shown list.items)) }
+    ensures tries { IfOk result (λ list. ListsTries run.now.setup shape.now run.now.entries (map accepted_try list.items)) }
+    ensures undisturbed { IfOk result (λ list. AreUndisturbed run.now.setup shape.now run.now.entries (map accepted_try list.items)) }
     ensures err { IfErr result (IsAuditFault (database_rules run.now.setup shape.now) run.now.entries) }
 {
     let mut audit = VersionAudit::new(alloc, shape, run.setup());

@@ -4,7 +4,7 @@ ghost use Rattle.std.specs.Result.{result_err};
 ghost use Rattle.ec_count.specs.Tables.{IsDeclared};
 ghost use Rattle.ec_database.specs.Shapes.{DeclaresDatabase, Fits, IsShape, lacks_room, database_fault, with_database, next_database};
 
-use ec_count::{CellId, EventId, SeqId, Setup, SetupFault, WorkerId, joined, shares_worker};
+use ec_count::{CellId, EventId, SeqId, Setup, SetupFault, WorkerId, concat, shares_worker};
 use std::marker::Model;
 
 /// The objects of a database: they are declared together, by `declare_database`.
@@ -70,7 +70,7 @@ impl DatabaseShape {
     }
 
     /// States what is true of a shape.
-    pub fn known(&self)
+    pub fn invariant(&self)
         ensures { IsShape self.now }
     {
         let _cells = self.cells;
@@ -89,7 +89,7 @@ impl DatabaseShape {
         requires few_read { length read.now ≤ 16 }
         ensures { IsTrue result ↔ DeclaresDatabase self.now setup.now write.now read.now }
     {
-        let both = joined(write, read);
+        let both = concat(write, read);
         setup.declares_fixed_event(self.start, write, read)
             && setup.declares_fixed_event(self.done, write, both.as_slice())
             && setup.declares_sequencer(self.turn, write)
@@ -103,7 +103,7 @@ impl DatabaseShape {
     pub fn fits(&self, setup: &Setup) -> bool
         ensures { IsTrue result ↔ Fits self.now setup.now }
     {
-        setup.known();
+        setup.invariant();
         let write = setup.signallers(self.start);
         let read = setup.observers(self.start);
         self.declares(setup, write, read)
@@ -126,7 +126,7 @@ pub fn declare_database(
     ensures fits { IfOk result (λ d. DeclaresDatabase d setup.new write.now read.now) }
     ensures err { OnErr result (setup.new ≡ setup.old) }
 {
-    setup.known();
+    setup.invariant();
     let full = lacks_room(setup, n);
     if let Some(fault) = setup.roles_fault(full, write, read, n == 0) {
         return Err(fault);
@@ -138,7 +138,7 @@ pub fn declare_database(
 fn lacks_room(setup: &Setup, n: usize) -> bool
     ensures { result ≡ lacks_room setup.now n }
 {
-    setup.known();
+    setup.invariant();
     setup.events() + 2 > 32 || setup.sequencers() + 1 > 32 || n > 256 - setup.cells()
 }
 
@@ -148,7 +148,7 @@ fn add_database(setup: &mut Setup, n: usize, write: &[WorkerId], read: &[WorkerI
     ensures shape { result ≡ next_database setup.old n }
     ensures after { setup.new ≡ with_database setup.old n write.now read.now }
 {
-    let both = joined(write, read);
+    let both = concat(write, read);
     let start = setup.add_fixed_event(write, read).unwrap();
     let done = setup.add_fixed_event(write, both.as_slice()).unwrap();
     let turn = setup.add_sequencer(write).unwrap();

@@ -1,6 +1,6 @@
 //! Accepting tries, as they are kept.
 ghost use Rattle.std.specs.Prelude.{◌≡◌, ◌≤◌, [], ◌∷◌, ◌++◌, length, map, take, slice_get, IfOk, OnOk, OnErr};
-ghost use Rattle.ec_database.specs.Auditing.{shown};
+ghost use Rattle.ec_database.specs.Auditing.{accepted_try};
 
 use ec_count::WorkerId;
 use ec_numbers::NumberList;
@@ -90,7 +90,7 @@ impl<'a> TryView<'a> {
 
     /// Returns the try by itself.
     pub fn to_accepted(&self, alloc: Global) -> Result<Accepted, AllocError>
-        ensures { IfOk result (λ accepted. shown accepted ≡ self.now) }
+        ensures { IfOk result (λ accepted. accepted_try accepted ≡ self.now) }
     {
         Ok(Accepted {
             worker: self.worker(),
@@ -121,14 +121,14 @@ impl Model for AcceptedTries {
 }
 
 /// Adds the numbers of a row, or of a front of it.
-fn add_front(
+fn add_prefix(
     numbers: &mut NumberList,
     reader: u64,
     version: u64,
     values: &[u64],
 ) -> Result<(), AllocError>
     ensures ok { OnOk result (numbers.new.list ≡ numbers.old.list ++ reader ∷ version ∷ values.now) }
-    ensures front { take (length numbers.old.list) numbers.new.list ≡ numbers.old.list }
+    ensures prefix { take (length numbers.old.list) numbers.new.list ≡ numbers.old.list }
 {
     numbers.push(reader)?;
     numbers.push(version)?;
@@ -149,7 +149,7 @@ fn add_row(
     ensures err { OnErr result (numbers.new.list ≡ numbers.old.list) }
 {
     let before = numbers.len();
-    if add_front(numbers, reader, version, values).is_err() {
+    if add_prefix(numbers, reader, version, values).is_err() {
         numbers.truncate(before);
         return Err(AllocError);
     }
@@ -215,7 +215,7 @@ impl AcceptedTries {
 
     /// Returns each of them by itself.
     pub fn to_list(&self, alloc: Global) -> Result<Vec<Accepted>, AllocError>
-        ensures { IfOk result (λ list. map shown list.items ≡ self.now.list) }
+        ensures { IfOk result (λ list. map accepted_try list.items ≡ self.now.list) }
     {
         let mut list = Vec::with_capacity(alloc, self.len())?;
         for place in 0..self.len() {

@@ -2,7 +2,7 @@
 ghost use Rattle.std.specs.Prelude.{◌≡◌, ◌+◌, ◌-◌, ◌≤◌, true, false, ◌==◌, if◌then◌else◌, List, get_or};
 ghost use Rattle.std.specs.List.{All};
 ghost use Rattle.arrayvec.specs.ArrayVec.{array_vec_len};
-ghost use Rattle.ec_core.specs.Following.{Told};
+ghost use Rattle.ec_core.specs.Following.{CompletedCall};
 ghost use Rattle.ec_database.specs.Calls.{write_call};
 ghost use Rattle.ec_database.specs.Places.{write_rest};
 
@@ -30,7 +30,7 @@ impl WriteAll {
     pub fn new(shape: DatabaseShape, values: ArrayVec<u64, 256>) -> Self
         requires many { array_vec_len values ≡ shape.cells }
         requires small { All (λ v. v ≤ VALUE_MAX) values.items }
-        ensures whole { (calls : List Told) → ⟦<WriteAll as Procedure>⟧.rest result calls ≡ write_call shape values.items calls }
+        ensures whole { (calls : List CompletedCall) → ⟦<WriteAll as Procedure>⟧.rest result calls ≡ write_call shape values.items calls }
         ensures fresh { ⟦<WriteAll as Procedure>⟧.is_going result ≡ false }
     {
         WriteAll {
@@ -51,7 +51,7 @@ impl WriteAll {
     }
 
     /// Takes in what the call at its place answered.
-    fn told(&mut self, number: u64)
+    fn take_reply(&mut self, number: u64)
         requires { self.old.at ≤ self.old.shape.cells + 3 }
         ensures place { self.new.at ≡ self.old.at + 1 }
         ensures turn { self.new.turn ≡ (if self.old.at == 1 then number else self.old.turn) }
@@ -90,6 +90,6 @@ impl Procedure for WriteAll {
             Reply::Done => 0,
             Reply::Number(number) => number,
         };
-        self.told(number);
+        self.take_reply(number);
     }
 }

@@ -15,12 +15,12 @@ use Rattle.ec_core.specs.Following.{Rule, Follow}
 use Rattle.ec_core.proofs.shared.Breaks.{follow_or_break}
 use Rattle.ec_semaphore.specs.declared.shape.TheConstants.{INITIAL_MAX}
 use Rattle.ec_semaphore.specs.Shapes.{Semaphore}
-use Rattle.ec_semaphore.specs.Auditing.{Balancing, IsCounted}
+use Rattle.ec_semaphore.specs.Auditing.{BalanceAuditModel, IsCounted}
 use Rattle.ec_semaphore.proofs.shared.Smallness.{total_small}
 use Rattle.ec_draw.specs.declared.window.Window.{Window}
 use Rattle.ec_draw.specs.Following.{follows}
-use Rattle.ec_draw.specs.Balances.{Course, IsSmall, left_by, left_of, lefts, moments, padded}
-use Rattle.ec_draw.specs.Balances.{told_at}
+use Rattle.ec_draw.specs.Balances.{Course, IsSmall, left_by, units_left_after, lefts, moments, pad}
+use Rattle.ec_draw.specs.Balances.{list_if_moment}
 use Rattle.ec_draw.specs.LeftOut.{left_is, lefts_many, pad_more, small_before, told_alike}
 
 -- FOLLOWING
@@ -54,9 +54,9 @@ follow_by rules past false is = sym (follow_no rules past (λ f. (let e = is.1 f
 
 pub broken_no : (rules : ℕ → Rule) (h : List Entry) (fault : AuditFault) (w k : ℕ)
     → fault ≡ NotFollowed w k → IsAuditFault rules h fault → false ≡ follows rules (reverse h)
-broken_no rules h fault w k is told =
+broken_no rules h fault w k is returned =
     sym (follow_no rules (reverse h)
-    (follow_or_break rules h w k (subst (IsAuditFault rules h) is told)))
+    (follow_or_break rules h w k (subst (IsAuditFault rules h) is returned)))
 
 -- WHAT IS LEFT
 
@@ -68,19 +68,21 @@ small_run t s past few dec acc =
 
 -- before the first entry nothing is kept
 pub course_first : (c : Course) → IsCounted c.audit [] → c.heights ≡ []
-    → padded c 0 ≡ lefts c.audit.shape c.window []
+    → pad c 0 ≡ lefts c.audit.shape c.window []
 unfolding lefts
 course_first c counted none =
     let s = c.audit.shape in
     let w = c.window in
-    let many : length (told_at w 0 (left_of s [])) ≡ moments w 0 = lefts_many s w [] in
-    let no_more : moments w 0 - 0 ≡ length (told_at w 0 (left_of s [])) = omega arith in
+    let many : length (list_if_moment w 0 (units_left_after s [])) ≡ moments w 0 =
+    lefts_many s w [] in
+    let no_more : moments w 0 - 0 ≡ length (list_if_moment w 0 (units_left_after s [])) =
+    omega arith in
     ap (λ hs. hs ++ replicate (moments w 0 - length hs) (left_by c.audit)) none
     ∙ ap (λ n. replicate (moments w 0 - 0) n) (left_is c.audit [] counted)
-    ∙ ap (λ m. replicate m (left_of s [])) no_more ∙ told_alike w 0 (left_of s [])
+    ∙ ap (λ m. replicate m (units_left_after s [])) no_more ∙ told_alike w 0 (units_left_after s [])
 
 -- one entry more: first what was left until then is told
-pub course_next : (a b : Balancing) (w : Window) (x : Entry) (past : List Entry) (place n : ℕ)
+pub course_next : (a b : BalanceAuditModel) (w : Window) (x : Entry) (past : List Entry) (place n : ℕ)
     (hs gs : List ℕ) → b.shape ≡ a.shape → IsCounted a past → IsCounted b (x ∷ past)
     → place ≡ length past
     → (IsSmall a.shape past → hs ++ replicate (moments w (length past) - length hs) (left_by a)
@@ -90,7 +92,7 @@ pub course_next : (a b : Balancing) (w : Window) (x : Entry) (past : List Entry)
     → gs ++ replicate (moments w (length (x ∷ past)) - length gs) (left_by b)
     ≡ lefts b.shape w (x ∷ past)
 unfolding lefts
-course_next a b w x past place n hs gs same before counted at was small left_now told =
+course_next a b w x past place n hs gs same before counted at was small left_now returned =
     let s = a.shape in
     let m = moments w (length past) in
     let small_here : IsSmall s past =
@@ -98,31 +100,33 @@ course_next a b w x past place n hs gs same before counted at was small left_now
     let number : n ≡ left_by a =
     left_now (subst (λ k. s.initial + k < 2 ^ 64) (sym before.ups) small_here) in
     let here : gs ≡ lefts s w past =
-    told ∙ ap (λ k. hs ++ replicate (moments w k - length hs) n) at
+    returned ∙ ap (λ k. hs ++ replicate (moments w k - length hs) n) at
     ∙ ap (λ k. hs ++ replicate (m - length hs) k) number ∙ was small_here in
     let long : length gs ≡ m = ap length here ∙ lefts_many s w past in
     let one : suc (length past) ≡ length past + 1 = omega arith in
     let none : m - length gs ≡ 0 = omega arith in
     ap (λ k. gs ++ replicate (moments w k - length gs) (left_by b)) one
     ∙ pad_more w (length past) (left_by b) gs (omega arith)
-    ∙ ap (λ k. (gs ++ replicate k (left_by b)) ++ told_at w (length past + 1) (left_by b)) none
-    ∙ ap (λ l. l ++ told_at w (length past + 1) (left_by b)) (append-nil gs ∙ here
+    ∙ ap (λ k. (gs ++ replicate k (left_by b))
+    ++ list_if_moment w (length past + 1) (left_by b)) none
+    ∙ ap (λ l. l ++ list_if_moment w (length past + 1) (left_by b)) (append-nil gs ∙ here
     ∙ ap (λ z. lefts z w past) (sym same))
-    ∙ ap (λ k. lefts b.shape w past ++ told_at w (length past + 1) k) (left_is b (x ∷ past) counted)
+    ∙ ap (λ k. lefts b.shape w past
+    ++ list_if_moment w (length past + 1) k) (left_is b (x ∷ past) counted)
 
 -- after the last one, what is left is told up to there
-pub course_last : (a : Balancing) (w : Window) (s : Semaphore) (past : List Entry) (k n : ℕ)
+pub course_last : (a : BalanceAuditModel) (w : Window) (s : Semaphore) (past : List Entry) (k n : ℕ)
     (hs gs : List ℕ) → a.shape ≡ s → IsCounted a past → k ≡ length past
     → (IsSmall a.shape past → hs ++ replicate (moments w (length past) - length hs) (left_by a)
     ≡ lefts a.shape w past) → IsSmall s past
     → (a.shape.initial + a.ups < 2 ^ 64 → n ≡ left_by a)
     → gs ≡ hs ++ replicate (moments w k - length hs) n → gs ≡ lefts s w past
-course_last a w s past k n hs gs of counted at was small left_now told =
+course_last a w s past k n hs gs of counted at was small left_now returned =
     let small_here : IsSmall a.shape past =
     subst (λ (z : Semaphore). IsSmall z past) (sym of) small in
     let number : n ≡ left_by a =
     left_now (subst (λ m. a.shape.initial + m < 2 ^ 64) (sym counted.ups) small_here) in
-    told ∙ ap (λ j. hs ++ replicate (moments w j - length hs) n) at
+    returned ∙ ap (λ j. hs ++ replicate (moments w j - length hs) n) at
     ∙ ap (λ j. hs ++ replicate (moments w (length past) - length hs) j) number ∙ was small_here
     ∙ ap (λ z. lefts z w past) of
 

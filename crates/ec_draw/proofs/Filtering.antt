@@ -6,8 +6,8 @@ use Rattle.std.specs.List.{filter}
 use Rattle.std.specs.Option.{option_to_list}
 use Rattle.ec_core.specs.declared.act.Entry.{Entry}
 use Rattle.ec_draw.specs.declared.window.Window.{Window}
-use Rattle.ec_draw.specs.declared.curve.Counted.TheVariants.{Event, Sequencer}
-use Rattle.ec_draw.specs.Curves.{Line, line_of, event_lines, sequencer_lines}
+use Rattle.ec_draw.specs.declared.curve.Counter.TheVariants.{Event, Sequencer}
+use Rattle.ec_draw.specs.Curves.{CurveModel, curve_of_count, event_lines, sequencer_lines}
 
 pub filter_more : {X : Type 0} (f : X → Bool) (xs : List X) (x : X)
     → filter f (xs ++ x ∷ []) ≡ filter f xs ++ cond (f x) (x ∷ []) []
@@ -30,11 +30,12 @@ pub no_events : (w : Window) (h : List Entry) → [] ≡ event_lines w h 0
 unfolding event_lines
 no_events w h = refl
 
-pub more_events : (w : Window) (h : List Entry) (n : ℕ) (ls : List Line) → ls ≡ event_lines w h n
-    → ls ++ line_of w h (Event n) ∷ [] ≡ event_lines w h (n + 1)
+pub more_events : (w : Window) (h : List Entry) (n : ℕ) (ls : List CurveModel)
+    → ls ≡ event_lines w h n
+    → ls ++ curve_of_count w h (Event n) ∷ [] ≡ event_lines w h (n + 1)
 unfolding event_lines
 more_events w h n ls was =
-    (let one : n + 1 ≡ suc n = omega arith in ap (λ z. z ++ line_of w h (Event n) ∷ []) was
+    (let one : n + 1 ≡ suc n = omega arith in ap (λ z. z ++ curve_of_count w h (Event n) ∷ []) was
     ∙ sym (ap (event_lines w h) one))
 
 pub first_sequencers : (w : Window) (h : List Entry) (m n : ℕ) → m ≡ n
@@ -42,12 +43,12 @@ pub first_sequencers : (w : Window) (h : List Entry) (m n : ℕ) → m ≡ n
 unfolding sequencer_lines
 first_sequencers w h m n e = ap (event_lines w h) e ∙ sym (append-nil (event_lines w h n))
 
-pub more_sequencers : (w : Window) (h : List Entry) (n : ℕ) (es ls : List Line)
-    → ls ≡ es ++ sequencer_lines w h n → ls ++ line_of w h (Sequencer n) ∷ [] ≡ es
+pub more_sequencers : (w : Window) (h : List Entry) (n : ℕ) (es ls : List CurveModel)
+    → ls ≡ es ++ sequencer_lines w h n → ls ++ curve_of_count w h (Sequencer n) ∷ [] ≡ es
     ++ sequencer_lines w h (n + 1)
 unfolding sequencer_lines
 more_sequencers w h n es ls was =
     let one : n + 1 ≡ suc n = omega arith in
-    ap (λ z. z ++ line_of w h (Sequencer n) ∷ []) was
-    ∙ append_assoc es (sequencer_lines w h n) (line_of w h (Sequencer n) ∷ [])
+    ap (λ z. z ++ curve_of_count w h (Sequencer n) ∷ []) was
+    ∙ append_assoc es (sequencer_lines w h n) (curve_of_count w h (Sequencer n) ∷ [])
     ∙ sym (ap (λ m. es ++ sequencer_lines w h m) one)

@@ -17,13 +17,13 @@ use Rattle.ec_core.specs.Progress.{Progress}
 use Rattle.ec_core.specs.Counts.{past_at}
 use Rattle.ec_core.specs.declared.act.Reply.{Reply}
 use Rattle.ec_core.specs.declared.act.Refusal.{Refusal}
-use Rattle.ec_core.specs.Standing.{State, Stands, StandsFor, shown as progress}
+use Rattle.ec_core.specs.Standing.{State, Represents, StandsFor, call_progress as progress}
 use Rattle.ec_core.specs.Acceptance.{IsAccepted, answer_of}
 use Rattle.ec_core.proofs.shared.Moments.{past_next, accepted_at}
 use Rattle.ec_core.proofs.shared.Stepping.{past_after}
 use Rattle.std.specs.Prelude.{Result, Ok, IfOk}
 use Rattle.ec_draw.specs.declared.window.Window.{Window}
-use Rattle.ec_draw.specs.declared.open.Open.{Open}
+use Rattle.ec_draw.specs.declared.open.PendingBar.{PendingBar}
 use Rattle.ec_draw.specs.declared.dot.Dot.{Dot}
 use Rattle.ec_draw.specs.Windows.{shows}
 use Rattle.ec_draw.specs.Open.{begins, begun_at, open_bars_of, open_calls, open_of}
@@ -82,7 +82,8 @@ pub no_open : (w : Window) (past : List Entry) → [] ≡ open_calls w 0 past
 unfolding open_calls
 no_open w past = refl
 
-pub more_open : (w : Window) (past : List Entry) (n : ℕ) (os : List Open) → os ≡ open_calls w n past
+pub more_open : (w : Window) (past : List Entry) (n : ℕ) (os : List PendingBar)
+    → os ≡ open_calls w n past
     → os ++ open_bars_of w n past ≡ open_calls w (n + 1) past
 unfolding open_calls
 more_open w past n os is = ap (λ z. z ++ open_bars_of w n past) is
@@ -157,8 +158,8 @@ pub stands_step : (t : Tables) (s s' : State) (done : List Entry) (x : Entry)
     → IfOk r (λ reply. StandsFor s'
     (done ++ record { worker = x.worker; act = x.act; reply = reply } ∷ []))
     → StandsFor s' (done ++ x ∷ [])
-stands_step t s s' done x r acc on told after =
-    let right : r ≡ Ok x.reply = told ∙ ap (λ u. answer_of u (reverse done) x.worker x.act) on
+stands_step t s s' done x r acc on returned after =
+    let right : r ≡ Ok x.reply = returned ∙ ap (λ u. answer_of u (reverse done) x.worker x.act) on
     ∙ acc.0 in
     subst (λ q. IfOk q
     (λ reply. StandsFor s' (done ++ record { worker = x.worker; act = x.act; reply = reply } ∷ [])))
@@ -171,11 +172,11 @@ pub stands_next : (t : Tables) (s s' : State) (h : List Entry) (k : ℕ) (x : En
     → IfOk r (λ reply. StandsFor s'
     (take k h ++ record { worker = x.worker; act = x.act; reply = reply } ∷ []))
     → StandsFor s' (take (k + 1) h)
-stands_next t s s' h k x r acc at on told after =
-    let right : r ≡ Ok x.reply = told ∙ ap (λ u. answer_of u (past_at k h) x.worker x.act) on
+stands_next t s s' h k x r acc at on returned after =
+    let right : r ≡ Ok x.reply = returned ∙ ap (λ u. answer_of u (past_at k h) x.worker x.act) on
     ∙ accepted_at t h k x acc at in
     let stood : StandsFor s' (take k h ++ x ∷ []) =
     subst (λ q. IfOk q
     (λ reply. StandsFor s' (take k h ++ record { worker = x.worker; act = x.act; reply = reply }
     ∷ []))) right after in
-    subst (Stands s') (past_after (take k h) x ∙ sym (next_past h k x at)) stood
+    subst (Represents s') (past_after (take k h) x ∙ sym (next_past h k x at)) stood

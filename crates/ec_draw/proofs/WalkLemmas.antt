@@ -8,7 +8,7 @@ use Rattle.ec_count.specs.Tables.{Tables}
 use Rattle.ec_core.specs.declared.act.Act.{Act}
 use Rattle.ec_core.specs.declared.act.Entry.{Entry}
 use Rattle.ec_core.specs.Calls.{under_way}
-use Rattle.ec_core.specs.Following.{opened}
+use Rattle.ec_core.specs.Following.{opening_act}
 use Rattle.ec_semaphore.specs.Shapes.{Semaphore}
 use Rattle.ec_heading.specs.declared.group.Group.{Group}
 use Rattle.ec_heading.specs.declared.group.Group.TheVariants as groups
@@ -18,8 +18,8 @@ use Rattle.ec_draw.specs.declared.balance.BothCourse.{BothCourse}
 use Rattle.ec_draw.specs.declared.finding.Finding.{Finding}
 use Rattle.ec_draw.specs.declared.finding.Finding.TheVariants as finds
 use Rattle.ec_draw.specs.Balances.{Course, CoursesOn}
-use Rattle.ec_draw.specs.Shades.{Trying, TriesOn}
-use Rattle.ec_draw.specs.Arrows.{Moving, MovesOn}
+use Rattle.ec_draw.specs.Shades.{TriesModel, TriesOn}
+use Rattle.ec_draw.specs.Arrows.{MovesModel, MovesOn}
 use Rattle.ec_draw.specs.Findings.{FindsFor, EachFinds, BothOn, group_of, FindsOn}
 
 -- ONE ENTRY
@@ -27,29 +27,29 @@ use Rattle.ec_draw.specs.Findings.{FindsFor, EachFinds, BothOn, group_of, FindsO
 module _ (place : ℕ) (op : Act) (x : Entry) where
   -- what is kept has taken an entry in
   abbrev Takes : {A : Type 0} → (A → A → List Entry → Type 0) → A → A → Type 0
-  Takes {A} stands old new = (start : A) (past : List Entry) → place ≡ length past
-      → op ≡ opened x.act (under_way x.worker past) → stands start old past
-      → stands start new (x ∷ past)
+  Takes {A} represents old new = (start : A) (past : List Entry) → place ≡ length past
+      → op ≡ opening_act x.act (under_way x.worker past) → represents start old past
+      → represents start new (x ∷ past)
 
   pub takes_balance : (a b : Course) → Takes CoursesOn a b
       → Takes FindsOn (finds.Balance a) (finds.Balance b)
-  takes_balance a b take (finds.Balance s) past at is stands = take s past at is stands
-  takes_balance a b take start past at is stands = absurd stands
+  takes_balance a b take (finds.Balance s) past at is represents = take s past at is represents
+  takes_balance a b take start past at is represents = absurd represents
 
   pub takes_both : (a b : BothCourse) → Takes BothOn a b
       → Takes FindsOn (finds.Both a) (finds.Both b)
-  takes_both a b take (finds.Both s) past at is stands = take s past at is stands
-  takes_both a b take start past at is stands = absurd stands
+  takes_both a b take (finds.Both s) past at is represents = take s past at is represents
+  takes_both a b take start past at is represents = absurd represents
 
-  pub takes_tries : (a b : Trying) → Takes TriesOn a b
+  pub takes_tries : (a b : TriesModel) → Takes TriesOn a b
       → Takes FindsOn (finds.Tries a) (finds.Tries b)
-  takes_tries a b take (finds.Tries s) past at is stands = take s past at is stands
-  takes_tries a b take start past at is stands = absurd stands
+  takes_tries a b take (finds.Tries s) past at is represents = take s past at is represents
+  takes_tries a b take start past at is represents = absurd represents
 
-  pub takes_moves : (a b : Moving) → Takes MovesOn a b
+  pub takes_moves : (a b : MovesModel) → Takes MovesOn a b
       → Takes FindsOn (finds.Moves a) (finds.Moves b)
-  takes_moves a b take (finds.Moves s) past at is stands = take s past at is stands
-  takes_moves a b take start past at is stands = absurd stands
+  takes_moves a b take (finds.Moves s) past at is represents = take s past at is represents
+  takes_moves a b take start past at is represents = absurd represents
 
 -- THE WHOLE WALK
 

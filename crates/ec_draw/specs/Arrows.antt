@@ -7,7 +7,7 @@ use Rattle.ec_count.specs.Tables.{Tables}
 use Rattle.ec_core.specs.declared.act.Act.{Act}
 use Rattle.ec_core.specs.declared.act.Entry.{Entry}
 use Rattle.ec_buffer.specs.declared.delivery.Delivery.{Delivery}
-use Rattle.ec_buffer.specs.Auditing.{Delivering, IsDelivering}
+use Rattle.ec_buffer.specs.Auditing.{DeliveryAuditModel, IsDelivering}
 use Rattle.ec_buffer.specs.Shapes.{Buffer}
 use Rattle.ec_buffer.specs.Follows.{buffer_rules}
 use Rattle.ec_buffer.specs.Items.{put_on, is_get_on}
@@ -32,8 +32,8 @@ places m b [] = []
 places m b (x ∷ past) = places m b past ++ (if is_move m b x.act then length past ∷ [] else [])
 
 -- the position of the n-th of them
-abbrev pub place_of : List ℕ → ℕ → ℕ
-place_of ks n = unwrap_or (slice_get ks n) 0
+abbrev pub move_position : List ℕ → ℕ → ℕ
+move_position ks n = unwrap_or (slice_get ks n) 0
 
 -- the arrow of a delivery, if these are the positions of the puts and of the gets: item n is put
 -- by put n and got by get n, counted from 0. Its buffer is told by the eventcount of the puts
@@ -41,8 +41,8 @@ abbrev pub arrow_of : Buffer → List ℕ → List ℕ → Delivery → Arrow
 arrow_of b puts gets d = record {
   count = b.in_count;
   delivery = d;
-  put = place_of puts d.number;
-  got = place_of gets d.number;
+  put = move_position puts d.number;
+  got = move_position gets d.number;
 }
 
 -- those of all deliveries of a past, by number
@@ -68,21 +68,21 @@ arrows t gs w h = flat_map (group_arrows t w h) gs
 
 -- what a walk keeps of a buffer: its audit, and the positions of the puts and of the gets, or that
 -- memory was refused
-pub record Moving : Type 0 where
-  pub audit : Delivering
+pub record MovesModel : Type 0 where
+  pub audit : DeliveryAuditModel
   pub shape : Buffer
   pub puts : List ℕ
   pub gets : List ℕ
   pub lacks : Bool
 
 -- it is that after a past
-pub record IsMoving (m : Moving) (past : List Entry) : Type 0 where
+pub record IsMoving (m : MovesModel) (past : List Entry) : Type 0 where
   pub shape : m.audit.shape ≡ m.shape
   pub audit : IsDelivering m.audit past
   pub puts : m.lacks ≡ false → m.puts ≡ places moves.Put m.shape past
   pub gets : m.lacks ≡ false → m.gets ≡ places moves.Get m.shape past
 
 -- of the same buffer, after a past
-abbrev pub MovesOn : Moving → Moving → List Entry → Type 0
+abbrev pub MovesOn : MovesModel → MovesModel → List Entry → Type 0
 MovesOn start now past = (now.shape ≡ start.shape) × (now.audit.setup ≡ start.audit.setup)
     × IsMoving now past

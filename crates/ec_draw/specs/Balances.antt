@@ -8,46 +8,47 @@ use Rattle.ec_semaphore.specs.Shapes.{Semaphore}
 use Rattle.ec_semaphore.specs.Uses.{use_rules}
 use Rattle.ec_semaphore.specs.Both.{is_line, both_rules}
 use Rattle.ec_semaphore.specs.Balances.{downs, ups}
-use Rattle.ec_semaphore.specs.Auditing.{Balancing, IsCounted}
+use Rattle.ec_semaphore.specs.Auditing.{BalanceAuditModel, IsCounted}
 use Rattle.ec_heading.specs.declared.group.Group.{Group}
 use Rattle.ec_heading.specs.declared.group.Group.TheVariants as groups
 use Rattle.ec_heading.specs.Rules.{semaphores_of}
 use Rattle.ec_draw.specs.declared.window.Window.{Window}
-use Rattle.ec_draw.specs.declared.curve.Plotted.TheVariants.{Balance}
+use Rattle.ec_draw.specs.declared.curve.CurveSource.TheVariants.{Balance}
 use Rattle.ec_draw.specs.Following.{follows}
-use Rattle.ec_draw.specs.Curves.{Line}
+use Rattle.ec_draw.specs.Curves.{CurveModel}
 
 -- WHAT IS LEFT
 
 -- how many a semaphore has left after a past: those at first and those given back, without those
 -- taken. Where it is followed this is its balance
-abbrev pub left_of : Semaphore → List Entry → ℕ
-left_of s past = s.initial + ups s past - downs s past
+abbrev pub units_left_after : Semaphore → List Entry → ℕ
+units_left_after s past = s.initial + ups s past - downs s past
 
 -- whether moment k is shown: that before an entry that is shown, or the one after the last
 abbrev pub has_moment : Window → ℕ → Bool
 has_moment w k = nat_le w.from k && nat_le k w.to
 
-abbrev pub told_at : Window → ℕ → ℕ → List ℕ
-told_at w k n = if has_moment w k then n ∷ [] else []
+abbrev pub list_if_moment : Window → ℕ → ℕ → List ℕ
+list_if_moment w k n = if has_moment w k then n ∷ [] else []
 
 -- what is left at each moment of a past that is shown, in order
 unfoldable pub lefts : Semaphore → Window → List Entry → List ℕ
-lefts s w [] = told_at w 0 (left_of s [])
-lefts s w (x ∷ past) = lefts s w past ++ told_at w (length past + 1) (left_of s (x ∷ past))
+lefts s w [] = list_if_moment w 0 (units_left_after s [])
+lefts s w (x ∷ past) = lefts s w past
+    ++ list_if_moment w (length past + 1) (units_left_after s (x ∷ past))
 
 -- CURVES
 
 -- the curve of a semaphore's balance. A semaphore is told by its eventcount
-abbrev pub balance_line : Window → List Entry → Semaphore → Line
+abbrev pub balance_line : Window → List Entry → Semaphore → CurveModel
 balance_line w h s = record { object = Balance s.count; heights = lefts s w (reverse h) }
 
-abbrev pub line_if : Bool → Line → List Line
+abbrev pub line_if : Bool → CurveModel → List CurveModel
 line_if b l = if b then l ∷ [] else []
 
 -- that of a group, if it is a semaphore, or `both`, and is followed; these are all the
 -- semaphores
-abbrev pub group_line : List Semaphore → Window → List Entry → Group → List Line
+abbrev pub group_line : List Semaphore → Window → List Entry → Group → List CurveModel
 group_line all w h (groups.Semaphore s) =
     line_if (follows (use_rules s) (reverse h)) (balance_line w h s)
 group_line all w h (groups.Both c) =
@@ -55,7 +56,7 @@ group_line all w h (groups.Both c) =
 group_line all w h _ = []
 
 -- those of all groups
-abbrev pub balance_lines : List Group → Window → List Entry → List Line
+abbrev pub balance_lines : List Group → Window → List Entry → List CurveModel
 balance_lines gs w h = flat_map (group_line (semaphores_of gs) w h) gs
 
 -- A WALK
@@ -67,19 +68,19 @@ moments w k = min k w.to + 1 - w.from
 -- what a walk keeps of a semaphore: its audit, and what was left at the first of the moments that
 -- are shown, or that memory was refused
 pub record Course : Type 0 where
-  pub audit : Balancing
+  pub audit : BalanceAuditModel
   pub window : Window
   pub heights : List ℕ
   pub lacks : Bool
 
 -- how many the semaphore has left by its audit
-abbrev pub left_by : Balancing → ℕ
+abbrev pub left_by : BalanceAuditModel → ℕ
 left_by a = a.shape.initial + a.ups - a.downs
 
 -- what was left at each moment that is shown up to moment k: since the latest that is kept nothing
 -- was given back or taken
-abbrev pub padded : Course → ℕ → List ℕ
-padded c k = c.heights ++ replicate (moments c.window k - length c.heights) (left_by c.audit)
+abbrev pub pad : Course → ℕ → List ℕ
+pad c k = c.heights ++ replicate (moments c.window k - length c.heights) (left_by c.audit)
 
 -- no count of the semaphore is too large for the code after a past
 abbrev pub IsSmall : Semaphore → List Entry → Type 0
@@ -89,7 +90,7 @@ IsSmall s past = s.initial + ups s past < 2 ^ 64
 pub record IsCourse (c : Course) (past : List Entry) : Type 0 where
   pub counted : IsCounted c.audit past
   pub heights : c.lacks ≡ false → IsSmall c.audit.shape past
-      → padded c (length past) ≡ lefts c.audit.shape c.window past
+      → pad c (length past) ≡ lefts c.audit.shape c.window past
 
 -- of the same semaphore, after a past
 abbrev pub CoursesOn : Course → Course → List Entry → Type 0

@@ -7,7 +7,7 @@ use Rattle.ec_core.specs.declared.act.Act.TheVariants.{Advance, Read, Await, Go}
 use Rattle.ec_core.specs.declared.act.Entry.{Entry}
 use Rattle.ec_core.specs.Calls.{CallSoFar, under_way}
 use Rattle.ec_core.specs.Counts.{component_at, component_total}
-use Rattle.ec_core.specs.Rounds.{event_or, next_component, read_of, width}
+use Rattle.ec_core.specs.Rounds.{event_or, next_component, read_of, component_count}
 use Rattle.ec_draw.specs.declared.window.Window.{Window}
 use Rattle.ec_draw.specs.declared.dot.Dot.{Dot}
 use Rattle.ec_draw.specs.Windows.{shows}
@@ -39,12 +39,13 @@ component_in t w past act = None
 
 -- what component c of e holds after a past, if there is one
 abbrev pub held_in : Tables → ℕ → ℕ → List Entry → Option ℕ
-held_in t e c past = if nat_lt c (width t e) then Some (component_total t e c past) else None
+held_in t e c past =
+    if nat_lt c (component_count t e) then Some (component_total t e c past) else None
 
 -- what a go of a call reads
-abbrev pub gone_read : Tables → List Entry → Option CallSoFar → Option ℕ
-gone_read t past None = None
-gone_read t past (Some call) =
+abbrev pub read_by_go : Tables → List Entry → Option CallSoFar → Option ℕ
+read_by_go t past None = None
+read_by_go t past (Some call) =
     option_and_then (λ e. held_in t e (next_component t (event_or call.op) call.moments) past)
     (read_of call.op)
 
@@ -52,7 +53,7 @@ gone_read t past (Some call) =
 abbrev pub number_in : Tables → ℕ → List Entry → Act → Option ℕ
 number_in t w past (Read e) = held_in t e 0 past
 number_in t w past (Await e v) = held_in t e 0 past
-number_in t w past Go = gone_read t past (under_way w past)
+number_in t w past Go = read_by_go t past (under_way w past)
 number_in t w past act = None
 
 -- the dot of an entry at the end of a past; the entry's position is the length of its past

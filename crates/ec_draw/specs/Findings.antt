@@ -15,8 +15,8 @@ use Rattle.ec_draw.specs.declared.finding.Finding.{Finding}
 use Rattle.ec_draw.specs.declared.finding.Finding.TheVariants as finds
 use Rattle.ec_draw.specs.declared.finding.Findings.{Findings}
 use Rattle.ec_draw.specs.Balances.{CoursesOn, IsCourse, group_line}
-use Rattle.ec_draw.specs.Curves.{shown}
-use Rattle.ec_draw.specs.Shades.{TriesOn, IsTrying, group_shades, seen}
+use Rattle.ec_draw.specs.Curves.{curve_model}
+use Rattle.ec_draw.specs.Shades.{TriesOn, IsTrying, group_shades, shade_model}
 use Rattle.ec_draw.specs.Arrows.{MovesOn, IsMoving, group_arrows}
 
 -- what is kept is that of the semaphore, through this window, after a past
@@ -86,6 +86,8 @@ FindsOn start now past = ⊥
 -- what is found of one more group, which these are all the semaphores of
 pub record AddsGroup (t : Tables) (all : List Semaphore) (w : Window) (h : List Entry) (g : Group)
     (old new : Findings) : Type 0 where
-  pub curves : map shown new.curves.items ≡ map shown old.curves.items ++ group_line all w h g
-  pub shades : map seen new.shades.items ≡ map seen old.shades.items ++ group_shades t w h g
+  pub curves : map curve_model new.curves.items ≡ map curve_model old.curves.items
+      ++ group_line all w h g
+  pub shades : map shade_model new.shades.items ≡ map shade_model old.shades.items
+      ++ group_shades t w h g
   pub arrows : new.arrows.items ≡ old.arrows.items ++ group_arrows t w h g

@@ -23,13 +23,13 @@ use Rattle.ec_order.specs.declared.placed.Placed.{Placed}
 use Rattle.ec_order.specs.Cuts.{IsFinishedCall}
 use Rattle.ec_order.specs.Points.{IsPoint}
 use Rattle.ec_draw.specs.declared.window.Window.{Window}
-use Rattle.ec_draw.specs.declared.curve.Counted.{Counted}
+use Rattle.ec_draw.specs.declared.curve.Counter.{Counter}
 use Rattle.ec_draw.specs.Bars.{bars, is_shown}
 use Rattle.ec_draw.specs.Curves.{count_at, heights}
 use Rattle.ec_draw.specs.Following.{follows}
-use Rattle.ec_draw.specs.Balances.{left_of, lefts}
+use Rattle.ec_draw.specs.Balances.{units_left_after, lefts}
 use Rattle.ec_draw.specs.Open.{begun_at}
-use Rattle.ec_draw.specs.Shades.{Shaded, begins_list, shades_in}
+use Rattle.ec_draw.specs.Shades.{ShadeModel, begins_list, shades_in}
 use Rattle.ec_draw.specs.declared.arrow.Arrow.{Arrow}
 use Rattle.ec_draw.specs.Arrows.{arrows_in}
 
@@ -56,7 +56,7 @@ PendingBarsBegin = (w : ℕ) (h : List Entry) (call : CallSoFar)
 
 -- the curve at column j is the count at moment from + j
 abbrev pub CurvesAreCounts : Type 0
-CurvesAreCounts = (object : Counted) (w : Window) (h : List Entry) (j : ℕ) → j ≤ w.to - w.from
+CurvesAreCounts = (object : Counter) (w : Window) (h : List Entry) (j : ℕ) → j ≤ w.to - w.from
     → slice_get (heights object w h) j ≡ Some (count_at object h (w.from + j))
 
 -- whether a past follows is answered as the word says
@@ -69,24 +69,24 @@ FollowingIsAnswered = (rules : ℕ → Rule) (past : List Entry) → follows rul
 abbrev pub BalanceCurvesAreLefts : Type 0
 BalanceCurvesAreLefts = (s : Semaphore) (w : Window) (h : List Entry) (j : ℕ) → w.from + j ≤ w.to
     → w.from + j ≤ length h
-    → slice_get (lefts s w (reverse h)) j ≡ Some (left_of s (past_at (w.from + j) h))
+    → slice_get (lefts s w (reverse h)) j ≡ Some (units_left_after s (past_at (w.from + j) h))
 
 -- and that is the balance, if the semaphore is followed
 abbrev pub LeftsAreBalances : Type 0
 LeftsAreBalances = (s : Semaphore) (t : Tables) (k : ℕ) (h : List Entry) → IsDeclared t
     → IsAccepted t (reverse h) → Follow (use_rules s) (reverse h)
-    → pos (left_of s (past_at k h)) ≡ balance_of s (past_at k h)
+    → pos (units_left_after s (past_at k h)) ≡ balance_of s (past_at k h)
 
 -- each shade is that of an accepting try, which its last entry ends
 abbrev pub ShadesEndTries : Type 0
-ShadesEndTries = (t : Tables) (d : Database) (h : List Entry) (i : ℕ) (s : Shaded)
+ShadesEndTries = (t : Tables) (d : Database) (h : List Entry) (i : ℕ) (s : ShadeModel)
     → slice_get (shades_in t d (reverse h)) i ≡ Some s → EndsTry t d h s.span.last s.accepted
 
 -- and each accepting try has its shade, behind those of the tries that ended before it
 abbrev pub TriesHaveShades : Type 0
 TriesHaveShades = (t : Tables) (d : Database) (h : List Entry) (k : ℕ) (a : AcceptedTry)
     → EndsTry t d h k a
-    → (s : Shaded) × (slice_get (shades_in t d (reverse h)) (tries_before t d h k) ≡ Some s)
+    → (s : ShadeModel) × (slice_get (shades_in t d (reverse h)) (tries_before t d h k) ≡ Some s)
     × (s.span.last ≡ k) × (s.accepted ≡ a)
 
 -- entry i began the list of calls on the database that w was in before entry k: it began a call on
@@ -105,7 +105,7 @@ pub record BeginsList (t : Tables) (d : Database) (h : List Entry) (w k i : ℕ)
 
 -- each shade begins with the entry that began the list of its reader
 abbrev pub ShadesBeginLists : Type 0
-ShadesBeginLists = (t : Tables) (d : Database) (h : List Entry) (i : ℕ) (s : Shaded)
+ShadesBeginLists = (t : Tables) (d : Database) (h : List Entry) (i : ℕ) (s : ShadeModel)
     → slice_get (shades_in t d (reverse h)) i ≡ Some s
     → BeginsList t d h s.accepted.worker s.span.last s.span.first
 

@@ -13,9 +13,9 @@ use Rattle.ec_count.specs.Tables.{Tables}
 use Rattle.ec_core.specs.declared.act.Act.{Act}
 use Rattle.ec_core.specs.declared.act.Act.TheVariants.{Go, Put, Get}
 use Rattle.ec_core.specs.declared.act.Entry.{Entry}
-use Rattle.ec_core.specs.Calls.{CallSoFar, under_way, is_go, is_pending, goes_on}
+use Rattle.ec_core.specs.Calls.{CallSoFar, under_way, is_go, is_pending, is_intermediate}
 use Rattle.ec_core.specs.Counts.{total, is_advance}
-use Rattle.ec_core.specs.Following.{Told, Rule, block, opened}
+use Rattle.ec_core.specs.Following.{CompletedCall, Rule, block, opening_act}
 use Rattle.ec_core.proofs.shared.Following.{op_at}
 use Rattle.ec_core.proofs.shared.Tracking.{going, by_going}
 use Rattle.ec_buffer.specs.Shapes.{Buffer}
@@ -28,7 +28,7 @@ use Rattle.ec_database.specs.Tries.{accepted_of, ended_at}
 use Rattle.ec_database.proofs.shared.LeftOut.{versioning_off, versioning_going, none_going}
 use Rattle.ec_semaphore.specs.Shapes.{Semaphore}
 use Rattle.ec_semaphore.specs.Uses as semaphores
-use Rattle.ec_semaphore.specs.Auditing.{Balancing, IsCounted}
+use Rattle.ec_semaphore.specs.Auditing.{BalanceAuditModel, IsCounted}
 use Rattle.ec_semaphore.specs.Balances.{ups}
 use Rattle.ec_semaphore.proofs.shared.LeftOut.{counted_off, counted_going, pairing_going}
 use Rattle.ec_walk.specs.Walks.{is_on}
@@ -37,17 +37,17 @@ use Rattle.ec_draw.specs.declared.arrow.Move.{Move}
 use Rattle.ec_draw.specs.declared.arrow.Move.TheVariants as moves
 use Rattle.ec_draw.specs.declared.finding.Finding.{Finding}
 use Rattle.ec_draw.specs.declared.finding.Finding.TheVariants as finds
-use Rattle.ec_draw.specs.Balances.{Course, IsCourse, IsSmall, left_by, left_of, lefts, moments}
-use Rattle.ec_draw.specs.Balances.{padded, told_at}
-use Rattle.ec_draw.specs.Shades.{Trying, IsTrying, begins_list, list_start, shaded, shades_in}
+use Rattle.ec_draw.specs.Balances.{Course, IsCourse, IsSmall, left_by, units_left_after, lefts, moments}
+use Rattle.ec_draw.specs.Balances.{pad, list_if_moment}
+use Rattle.ec_draw.specs.Shades.{TriesModel, IsTrying, begins_list, list_start, shade, shades_in}
 use Rattle.ec_draw.specs.Shades.{shades_shown, span_at, is_in}
-use Rattle.ec_draw.specs.Arrows.{Moving, IsMoving, is_move, places}
+use Rattle.ec_draw.specs.Arrows.{MovesModel, IsMoving, is_move, places}
 use Rattle.ec_draw.specs.Findings.{group_of, FindsOn}
 
 -- BALANCES
 
 pub told_long : (w : Window) (k n : ℕ) → k ≤ w.to
-    → length (told_at w k n) + (k - w.from) ≡ k + 1 - w.from
+    → length (list_if_moment w k n) + (k - w.from) ≡ k + 1 - w.from
 told_long w k n le =
     elim (nat_le w.from k) as (λ b. nat_le w.from k ≡ b
     → length (cond (b && nat_le k w.to) (n ∷ []) []) + (k - w.from) ≡ k + 1 - w.from) [
@@ -59,7 +59,7 @@ told_long w k n le =
     ] refl
 
 -- behind the window none is told
-told_behind : (w : Window) (k n : ℕ) → w.to < k → told_at w k n ≡ []
+told_behind : (w : Window) (k n : ℕ) → w.to < k → list_if_moment w k n ≡ []
 told_behind w k n behind =
     elim (nat_le k w.to) as (λ b. nat_le k w.to ≡ b
     → cond (nat_le w.from k && b) (n ∷ []) [] ≡ []) [
@@ -73,15 +73,15 @@ told_behind w k n behind =
 
 -- one moment more
 moments_next : (w : Window) (k n : ℕ)
-    → moments w (k + 1) ≡ moments w k + length (told_at w (k + 1) n)
+    → moments w (k + 1) ≡ moments w k + length (list_if_moment w (k + 1) n)
 moments_next w k n =
     elim (nat_le (k + 1) w.to) as (λ b. nat_le (k + 1) w.to ≡ b
-    → moments w (k + 1) ≡ moments w k + length (told_at w (k + 1) n)) [
+    → moments w (k + 1) ≡ moments w k + length (list_if_moment w (k + 1) n)) [
       | true ↦ λ e.
           (let low = leb-true (k + 1) w.to e in
           let now : min (k + 1) w.to ≡ k + 1 = min-eq_left low in
           let was : min k w.to ≡ k = min-eq_left (omega arith) in
-          let told = told_long w (k + 1) n low in
+          let returned = told_long w (k + 1) n low in
           omega arith)
       | false ↦ λ e.
           (let above = leb-false (k + 1) w.to e in
@@ -91,7 +91,8 @@ moments_next w k n =
           omega arith)
     ] refl
 
-pub told_alike : (w : Window) (k n : ℕ) → replicate (length (told_at w k n)) n ≡ told_at w k n
+pub told_alike : (w : Window) (k n : ℕ)
+    → replicate (length (list_if_moment w k n)) n ≡ list_if_moment w k n
 told_alike w k n =
     elim (nat_le w.from k && nat_le k w.to) as (λ b. replicate (length (cond b (n ∷ []) [])) n
     ≡ cond b (n ∷ []) []) [ true ↦ refl | false ↦ refl ]
@@ -99,31 +100,32 @@ told_alike w k n =
 -- what is told up to one moment more
 pub pad_more : (w : Window) (k n : ℕ) (hs : List ℕ) → length hs ≤ moments w k
     → hs ++ replicate (moments w (k + 1) - length hs) n
-    ≡ (hs ++ replicate (moments w k - length hs) n) ++ told_at w (k + 1) n
+    ≡ (hs ++ replicate (moments w k - length hs) n) ++ list_if_moment w (k + 1) n
 pad_more w k n hs few =
     let next = moments_next w k n in
     let more : moments w (k + 1) - length hs ≡ (moments w k - length hs)
-    + length (told_at w (k + 1) n) = omega arith in
+    + length (list_if_moment w (k + 1) n) = omega arith in
     ap (λ m. hs ++ replicate m n) more
     ∙ ap (λ l. hs ++ l)
-    (sym (replicate-append-replicate (moments w k - length hs) (length (told_at w (k + 1) n)) n))
+    (sym (replicate-append-replicate (moments w k - length hs) (length (list_if_moment w (k + 1) n)) n))
     ∙ ap (λ l. hs ++ (replicate (moments w k - length hs) n ++ l)) (told_alike w (k + 1) n)
-    ∙ sym (append_assoc hs (replicate (moments w k - length hs) n) (told_at w (k + 1) n))
+    ∙ sym (append_assoc hs (replicate (moments w k - length hs) n) (list_if_moment w (k + 1) n))
 
 pub lefts_many : (s : Semaphore) (w : Window) (past : List Entry)
     → length (lefts s w past) ≡ moments w (length past)
 unfolding lefts
 lefts_many s w [] =
     let none : min 0 w.to ≡ 0 = zero-min w.to in
-    let told = told_long w 0 (left_of s []) (omega arith) in
+    let returned = told_long w 0 (units_left_after s []) (omega arith) in
     omega arith
 lefts_many s w (x ∷ past) =
     let was = lefts_many s w past in
-    let n = left_of s (x ∷ past) in
+    let n = units_left_after s (x ∷ past) in
     let next = moments_next w (length past) n in
-    let all = length-append (lefts s w past) (told_at w (length past + 1) n) in
+    let all = length-append (lefts s w past) (list_if_moment w (length past + 1) n) in
     let one : length past + 1 ≡ suc (length past) = omega arith in
-    all ∙ ap (λ m. m + length (told_at w (length past + 1) n)) was ∙ sym next ∙ ap (moments w) one
+    all ∙ ap (λ m. m + length (list_if_moment w (length past + 1) n)) was ∙ sym next
+    ∙ ap (moments w) one
 
 pub small_before : (s : Semaphore) (x : Entry) (past : List Entry) → IsSmall s (x ∷ past)
     → IsSmall s past
@@ -134,8 +136,8 @@ small_before s x past small =
     omega arith
 
 -- by its audit a semaphore has left what it has
-pub left_is : (a : Balancing) (past : List Entry) → IsCounted a past
-    → left_by a ≡ left_of a.shape past
+pub left_is : (a : BalanceAuditModel) (past : List Entry) → IsCounted a past
+    → left_by a ≡ units_left_after a.shape past
 left_is a past counted = ap (λ n. a.shape.initial + n - a.downs) counted.ups
     ∙ ap (λ n. a.shape.initial + ups a.shape past - n) counted.downs
 
@@ -163,9 +165,9 @@ course_kept c x past counted is =
           (let was = is.heights ok (small_before s x past small) in
           let few = few_kept s w past (left_by c.audit) c.heights was in
           let one : suc (length past) ≡ length past + 1 = omega arith in
-          ap (padded c) one ∙ pad_more w (length past) (left_by c.audit) c.heights few
-          ∙ ap (λ l. l ++ told_at w (length past + 1) (left_by c.audit)) was
-          ∙ ap (λ n. lefts s w past ++ told_at w (length past + 1) n)
+          ap (pad c) one ∙ pad_more w (length past) (left_by c.audit) c.heights few
+          ∙ ap (λ l. l ++ list_if_moment w (length past + 1) (left_by c.audit)) was
+          ∙ ap (λ n. lefts s w past ++ list_if_moment w (length past + 1) n)
           (left_is c.audit (x ∷ past) counted));
     }
 
@@ -174,7 +176,8 @@ course_off : (c : Course) (x : Entry) (past : List Entry)
     → IsCourse c (x ∷ past)
 course_off c x past off is = course_kept c x past (counted_off c.audit x past off is.counted) is
 
-course_going : (c : Course) (x : Entry) (past : List Entry) → goes_on x ≡ true → IsCourse c past
+course_going : (c : Course) (x : Entry) (past : List Entry) → is_intermediate x ≡ true
+    → IsCourse c past
     → IsCourse c (x ∷ past)
 course_going c x past on is = course_kept c x past (counted_going c.audit x past on is.counted) is
 
@@ -187,12 +190,13 @@ concerns_is t d w act =
     ≡ databases.is_on d act) [ true ↦ refl | false ↦ refl ]
 
 begins_none : (d : Database) (act : Act) (o : Option CallSoFar)
-    → databases.is_on d (opened act o) ≡ false → (not (is_go act) && databases.is_on d act) ≡ false
+    → databases.is_on d (opening_act act o) ≡ false
+    → (not (is_go act) && databases.is_on d act) ≡ false
 begins_none d Go o h = refl
 begins_none d act o h = h
 
-begins_off : (t : Tables) (d : Database) (w : ℕ) (calls : List Told) (act : Act)
-    (o : Option CallSoFar) → databases.is_on d (opened act o) ≡ false
+begins_off : (t : Tables) (d : Database) (w : ℕ) (calls : List CompletedCall) (act : Act)
+    (o : Option CallSoFar) → databases.is_on d (opening_act act o) ≡ false
     → begins_list (database_rules t d w) calls act ≡ false
 begins_off t d w [] act o off = ap (λ b. not (is_go act) && b) (concerns_is t d w act)
     ∙ begins_none d act o off
@@ -229,11 +233,11 @@ shades_off : (t : Tables) (d : Database) (w : Window) (x : Entry) (past : List E
 unfolding shades_in
 shades_off t d w x past off =
     ap (λ o. filter (is_in w)
-    (shades_in t d past ++ option_to_list (option_map (shaded d.start (span_at t d x past)) o)))
+    (shades_in t d past ++ option_to_list (option_map (shade d.start (span_at t d x past)) o)))
     (ended_off d (writes t d) x past off)
     ∙ ap (filter (is_in w)) (append-nil (shades_in t d past))
 
-trying_off : (a : Trying) (x : Entry) (past : List Entry)
+trying_off : (a : TriesModel) (x : Entry) (past : List Entry)
     → databases.is_on a.shape (op_at x past) ≡ false → IsTrying a past → IsTrying a (x ∷ past)
 trying_off a x past off is = record {
   shape = is.shape;
@@ -244,7 +248,7 @@ trying_off a x past off is = record {
   shades = λ ok. is.shades ok ∙ sym (shades_off a.audit.setup a.shape a.window x past off);
 }
 
-begins_going : (r : Rule) (calls : List Told) → begins_list r calls Go ≡ false
+begins_going : (r : Rule) (calls : List CompletedCall) → begins_list r calls Go ≡ false
 begins_going r [] = refl
 begins_going r (c ∷ calls) = refl
 
@@ -265,14 +269,15 @@ unfolding shades_in
 shades_going t d w v past =
     ap (λ o. filter (is_in w)
     (shades_in t d past
-    ++ option_to_list (option_map (shaded d.start (span_at t d (going v) past)) o)))
+    ++ option_to_list (option_map (shade d.start (span_at t d (going v) past)) o)))
     (none_going d (writes t d) v past)
     ∙ ap (filter (is_in w)) (append-nil (shades_in t d past))
 
-trying_going : (a : Trying) (x : Entry) (past : List Entry) → goes_on x ≡ true → IsTrying a past
+trying_going : (a : TriesModel) (x : Entry) (past : List Entry) → is_intermediate x ≡ true
+    → IsTrying a past
     → IsTrying a (x ∷ past)
 trying_going a x past on is =
-    by_going (λ y. goes_on y ≡ true → IsTrying a (y ∷ past)) (λ v on. record {
+    by_going (λ y. is_intermediate y ≡ true → IsTrying a (y ∷ past)) (λ v on. record {
       shape = is.shape;
       audit = versioning_going a.audit (going v) past on is.audit;
       starts = λ w lt. is.starts w lt
@@ -283,7 +288,7 @@ trying_going a x past on is =
 -- MOVES
 
 move_off : (m : Move) (b : Buffer) (act : Act) (o : Option CallSoFar)
-    → buffers.is_on b (opened act o) ≡ false → is_move m b act ≡ false
+    → buffers.is_on b (opening_act act o) ≡ false → is_move m b act ≡ false
 move_off moves.Put b (Put y v) o h = ap (λ c. is_some (cond c (Some v) None)) h
 move_off moves.Put b act o h = refl
 move_off moves.Get b (Get y) o h = h
@@ -296,7 +301,7 @@ places_off m b x past off =
     ap (λ c. places m b past ++ cond c (length past ∷ []) [])
     (move_off m b x.act (under_way x.worker past) off) ∙ append-nil (places m b past)
 
-moving_off : (m : Moving) (x : Entry) (past : List Entry)
+moving_off : (m : MovesModel) (x : Entry) (past : List Entry)
     → buffers.is_on m.shape (op_at x past) ≡ false → IsMoving m past → IsMoving m (x ∷ past)
 moving_off m x past off is = record {
   shape = is.shape;
@@ -316,10 +321,11 @@ unfolding places
 places_going m b w past = ap (λ c. places m b past ++ cond c (length past ∷ []) []) (move_going m b)
     ∙ append-nil (places m b past)
 
-moving_going : (m : Moving) (x : Entry) (past : List Entry) → goes_on x ≡ true → IsMoving m past
+moving_going : (m : MovesModel) (x : Entry) (past : List Entry) → is_intermediate x ≡ true
+    → IsMoving m past
     → IsMoving m (x ∷ past)
 moving_going m x past on is =
-    by_going (λ y. goes_on y ≡ true → IsMoving m (y ∷ past)) (λ w on. record {
+    by_going (λ y. is_intermediate y ≡ true → IsMoving m (y ∷ past)) (λ w on. record {
       shape = is.shape;
       audit = delivering_going m.audit (going w) past on is.audit;
       puts = λ ok. is.puts ok ∙ sym (places_going moves.Put m.shape w past);
@@ -353,7 +359,7 @@ finds_off (finds.Moves a) (finds.Moves b) x past off on = (
 finds_off (finds.Both a) now x past off on = absurd (true≢false off)
 finds_off start now x past off on = absurd on
 
-pub finds_stay : (start now : Finding) (x : Entry) (past : List Entry) → goes_on x ≡ true
+pub finds_stay : (start now : Finding) (x : Entry) (past : List Entry) → is_intermediate x ≡ true
     → FindsOn start now past → FindsOn start now (x ∷ past)
 finds_stay (finds.Balance a) (finds.Balance b) x past on is =
     (is.0, is.1, course_going b x past on is.2)

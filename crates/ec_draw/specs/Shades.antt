@@ -9,11 +9,11 @@ use Rattle.ec_count.specs.Tables.{Tables}
 use Rattle.ec_core.specs.declared.act.Act.{Act}
 use Rattle.ec_core.specs.declared.act.Entry.{Entry}
 use Rattle.ec_core.specs.Calls.{is_go}
-use Rattle.ec_core.specs.Following.{Told, Rule, block}
+use Rattle.ec_core.specs.Following.{CompletedCall, Rule, block}
 use Rattle.ec_database.specs.Shapes.{Database}
 use Rattle.ec_database.specs.Following.{is_on, writes, database_rules}
 use Rattle.ec_database.specs.Tries.{AcceptedTry, ended_at}
-use Rattle.ec_database.specs.Auditing.{Versioning, IsVersioning, shown as shown_try}
+use Rattle.ec_database.specs.Auditing.{VersionAuditModel, IsVersioning, accepted_try as shown_try}
 use Rattle.ec_heading.specs.declared.group.Group.{Group}
 use Rattle.ec_heading.specs.declared.group.Group.TheVariants as groups
 use Rattle.ec_draw.specs.declared.window.Window.{Window}
@@ -25,7 +25,7 @@ use Rattle.ec_draw.specs.Following.{follows}
 -- WHERE A TRY BEGINS
 
 -- whether an act begins a list of calls: it begins a call of the list, of which no call is finished
-abbrev pub begins_list : Rule → List Told → Act → Bool
+abbrev pub begins_list : Rule → List CompletedCall → Act → Bool
 begins_list r [] act = not (is_go act) && r.concerns [] act
 begins_list r (c ∷ calls) act = false
 
@@ -40,16 +40,16 @@ list_start r w (x ∷ past) = if x.worker == w && begins_list r (block r w past)
 
 -- an accepting try, and the positions of its first and its last entry; its database is told by its
 -- eventcount of starts
-pub record Shaded : Type 0 where
+pub record ShadeModel : Type 0 where
   pub count : ℕ
   pub span : Span
   pub accepted : AcceptedTry
 
-abbrev pub seen : Shade → Shaded
-seen s = record { count = s.count; span = s.span; accepted = shown_try s.accepted }
+abbrev pub shade_model : Shade → ShadeModel
+shade_model s = record { count = s.count; span = s.span; accepted = shown_try s.accepted }
 
-abbrev pub shaded : ℕ → Span → AcceptedTry → Shaded
-shaded count span a = record { count = count; span = span; accepted = a }
+abbrev pub shade : ℕ → Span → AcceptedTry → ShadeModel
+shade count span a = record { count = count; span = span; accepted = a }
 
 -- the list that the worker of an entry is in when it comes at the end of a past, from its first
 -- entry to this one
@@ -60,42 +60,42 @@ span_at t d x past = record {
 }
 
 -- the shade of the accepting try that an entry ends, if it ends one
-abbrev pub shade_at : Tables → Database → Entry → List Entry → Option Shaded
+abbrev pub shade_at : Tables → Database → Entry → List Entry → Option ShadeModel
 shade_at t d x past =
-    option_map (shaded d.start (span_at t d x past)) (ended_at d (writes t d) x past)
+    option_map (shade d.start (span_at t d x past)) (ended_at d (writes t d) x past)
 
 -- those of a past, in the order of their last entries
-unfoldable pub shades_in : Tables → Database → List Entry → List Shaded
+unfoldable pub shades_in : Tables → Database → List Entry → List ShadeModel
 shades_in t d [] = []
 shades_in t d (x ∷ past) = shades_in t d past ++ option_to_list (shade_at t d x past)
 
 -- whether a shade is shown: it began before the end of the window, and did not end before its start
-abbrev pub is_in : Window → Shaded → Bool
+abbrev pub is_in : Window → ShadeModel → Bool
 is_in w s = meets w s.span.first s.span.last
 
-abbrev pub shades_shown : Tables → Database → Window → List Entry → List Shaded
+abbrev pub shades_shown : Tables → Database → Window → List Entry → List ShadeModel
 shades_shown t d w past = filter (is_in w) (shades_in t d past)
 
 -- those of a group, if it is a database and is followed
-abbrev pub group_shades : Tables → Window → List Entry → Group → List Shaded
+abbrev pub group_shades : Tables → Window → List Entry → Group → List ShadeModel
 group_shades t w h (groups.Database d) = if follows (database_rules t d) (reverse h)
     then shades_shown t d w (reverse h) else []
 group_shades t w h _ = []
 
 -- those of all groups
-abbrev pub shades : Tables → List Group → Window → List Entry → List Shaded
+abbrev pub shades : Tables → List Group → Window → List Entry → List ShadeModel
 shades t gs w h = flat_map (group_shades t w h) gs
 
 -- A WALK
 
 -- what a walk keeps of a database: its audit, where the list began that each worker is in, and the
 -- shades that are shown, or that memory was refused
-pub record Trying : Type 0 where
-  pub audit : Versioning
+pub record TriesModel : Type 0 where
+  pub audit : VersionAuditModel
   pub shape : Database
   pub window : Window
   pub starts : List ℕ
-  pub shades : List Shaded
+  pub shades : List ShadeModel
   pub lacks : Bool
 
 -- by worker, where the list began that it is in
@@ -104,14 +104,14 @@ AreStarts t d starts past = (w : ℕ) → w < 16
     → slice_get starts w ≡ Some (list_start (database_rules t d w) w past)
 
 -- it is that after a past
-pub record IsTrying (a : Trying) (past : List Entry) : Type 0 where
+pub record IsTrying (a : TriesModel) (past : List Entry) : Type 0 where
   pub shape : a.audit.shape ≡ a.shape
   pub audit : IsVersioning a.audit past
   pub starts : AreStarts a.audit.setup a.shape a.starts past
   pub shades : a.lacks ≡ false → a.shades ≡ shades_shown a.audit.setup a.shape a.window past
 
 -- of the same database, after a past
-abbrev pub TriesOn : Trying → Trying → List Entry → Type 0
+abbrev pub TriesOn : TriesModel → TriesModel → List Entry → Type 0
 TriesOn start now past = (now.shape ≡ start.shape) × (now.audit.setup ≡ start.audit.setup)
     × (now.window ≡ start.window) × IsTrying now past
 
@@ -122,10 +122,11 @@ starts_after d finished place x starts =
     else starts
 
 -- the try that was found since there were so many, if one was, is added, if it is shown
-abbrev pub AddsNewest : ℕ → Window → Span → Option ℕ → Versioning → List Shaded → List Shaded
+abbrev pub AddsNewest : ℕ → Window → Span → Option ℕ → VersionAuditModel → List ShadeModel
+    → List ShadeModel
     → Type 0
 AddsNewest count w span None a old new = ⊥
 AddsNewest count w span (Some n) a old new =
     (a.lacks ≡ false)
     × (new ≡ old ++ filter (is_in w)
-    (option_to_list (option_map (shaded count span) (slice_get a.list n))))
+    (option_to_list (option_map (shade count span) (slice_get a.list n))))

@@ -1,7 +1,8 @@
 //! The arrows of deliveries.
 ghost use Rattle.std.specs.Prelude.{◌≡◌, ◌++◌, ◌∷◌, [], false, if◌then◌else◌, OnOk, map, reverse};
 ghost use Rattle.std.specs.List.{filter};
-ghost use Rattle.ec_draw.specs.Arrows.{IsMoving, arrow_of, group_arrows, is_in, is_move, place_of};
+ghost use Rattle.ec_draw.specs.Arrows.{IsMoving, arrow_of, group_arrows, is_in, is_move};
+ghost use Rattle.ec_draw.specs.Arrows.{move_position};
 ghost use Rattle.ec_heading.specs.declared.group.Group.TheVariants as groups;
 
 use crate::Window;
@@ -88,9 +89,9 @@ pub(crate) struct Moves<'a> {
 }
 
 impl<'a> Model for Moves<'a> {
-    ghost use Rattle.ec_draw.specs.Arrows.{Moving};
+    ghost use Rattle.ec_draw.specs.Arrows.{MovesModel};
 
-    ghost Value = { Moving };
+    ghost Value = { MovesModel };
 
     ghost view = { λ s. record {
       audit = s.audit;
@@ -104,7 +105,7 @@ impl<'a> Model for Moves<'a> {
 impl<'a> Audit for Moves<'a> {
     ghost use Rattle.ec_draw.specs.Arrows.{MovesOn};
 
-    ghost stands = { MovesOn };
+    ghost represents = { MovesOn };
 
     fn take(&mut self, place: usize, op: &Act, entry: &Entry) {
         let Moves {
@@ -138,8 +139,8 @@ impl<'a> Moves<'a> {
 }
 
 /// Returns the position of a move by its number.
-fn place_of(list: &[usize], number: u64) -> usize
-    ensures { result ≡ place_of list.now number }
+fn move_position(list: &[usize], number: u64) -> usize
+    ensures { result ≡ move_position list.now number }
 {
     list.get(number as usize).copied().unwrap_or(0)
 }
@@ -151,8 +152,8 @@ fn arrow_of(shape: &BufferShape, puts: &[usize], gets: &[usize], delivery: &Deli
     Arrow {
         count: shape.in_count(),
         delivery: *delivery,
-        put: place_of(puts, delivery.number),
-        got: place_of(gets, delivery.number),
+        put: move_position(puts, delivery.number),
+        got: move_position(gets, delivery.number),
     }
 }
 
@@ -197,13 +198,13 @@ pub(crate) fn add_buffer(
 ) -> Result<(), AllocError>
     requires shape { moves.shape ≡ shape.now }
     requires setup { moves.audit.setup ≡ run.now.setup }
-    requires stands { IsMoving moves (reverse run.now.entries) }
+    requires represents { IsMoving moves (reverse run.now.entries) }
     ensures { OnOk result
         (arrows.new.items ≡ arrows.old.items ++ group_arrows run.now.setup window run.now.entries
         (groups.Buffer shape.now)) }
 {
-    run.known();
-    shape.known();
+    run.invariant();
+    shape.invariant();
     let Moves {
         audit,
         puts,

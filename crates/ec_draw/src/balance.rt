@@ -4,18 +4,18 @@ ghost use Rattle.std.specs.Prelude.{replicate, IfOk, OnOk, map, reverse};
 ghost use Rattle.ec_semaphore.specs.Auditing.{IsCounted};
 ghost use Rattle.ec_semaphore.specs.Uses.{use_rules};
 ghost use Rattle.ec_draw.specs.Balances.{IsCourse, left_by, lefts, line_if, moments};
-ghost use Rattle.ec_draw.specs.Curves.{shown};
-ghost use Rattle.ec_draw.specs.declared.curve.Plotted.TheVariants as plotted;
+ghost use Rattle.ec_draw.specs.Curves.{curve_model};
+ghost use Rattle.ec_draw.specs.declared.curve.CurveSource.TheVariants as plotted;
 ghost use Rattle.ec_draw.specs.Following.{follows};
 
-use crate::{Curve, Plotted, Window};
+use crate::{Curve, CurveSource, Window};
 use ec_core::{Act, Audit, Entry, Run};
 use ec_semaphore::{BalanceAudit, PairAudit, SemaphoreShape};
 use std::alloc::{AllocError, Global};
 use std::marker::Model;
 
 /// Returns how many a semaphore has left, by its audit so far.
-fn left(audit: &BalanceAudit) -> u64
+fn units_left(audit: &BalanceAudit) -> u64
     ensures { audit.now.shape.initial + audit.now.ups < 2 ^ 64 → result ≡ left_by audit.now }
 {
     let parts = audit.so_far();
@@ -98,7 +98,7 @@ impl Model for Course {
 impl Audit for Course {
     ghost use Rattle.ec_draw.specs.Balances.{CoursesOn};
 
-    ghost stands = { CoursesOn };
+    ghost represents = { CoursesOn };
 
     fn take(&mut self, place: usize, op: &Act, entry: &Entry) {
         let Course {
@@ -107,7 +107,7 @@ impl Audit for Course {
             heights,
             lacks,
         } = self;
-        *lacks = lacks_after(*lacks, heights, *window, place, left(audit));
+        *lacks = lacks_after(*lacks, heights, *window, place, units_left(audit));
         audit.take(place, op, entry);
     }
 }
@@ -138,11 +138,11 @@ impl Course {
     /// Returns what was left at the moments that are shown, after all entries of a run.
     pub(crate) fn heights(self, run: &Run, shape: &SemaphoreShape) -> Result<Vec<u64>, AllocError>
         requires shape { self.audit.shape ≡ shape.now }
-        requires stands { IsCourse self (reverse run.now.entries) }
+        requires represents { IsCourse self (reverse run.now.entries) }
         ensures { IfOk result
             (λ hs. hs.items ≡ lefts shape.now self.window (reverse run.now.entries)) }
     {
-        run.known();
+        run.invariant();
         let _initial = shape.initial();
         let Course {
             audit,
@@ -153,7 +153,7 @@ impl Course {
         if lacks {
             return Err(AllocError);
         }
-        pad(&mut heights, window, run.len(), left(&audit))?;
+        pad(&mut heights, window, run.len(), units_left(&audit))?;
         Ok(heights)
     }
 }
@@ -169,7 +169,7 @@ pub(crate) struct BothCourse<'a> {
 impl<'a> Audit for BothCourse<'a> {
     ghost use Rattle.ec_draw.specs.Findings.{BothOn};
 
-    ghost stands = { BothOn };
+    ghost represents = { BothOn };
 
     fn take(&mut self, place: usize, op: &Act, entry: &Entry) {
         self.course.take(place, op, entry);
@@ -187,8 +187,8 @@ pub(crate) fn add_if(
     course: Course,
 ) -> Result<(), AllocError>
     requires shape { course.audit.shape ≡ shape.now }
-    requires stands { IsCourse course (reverse run.now.entries) }
-    ensures { OnOk result (map shown curves.new.items ≡ map shown curves.old.items
+    requires represents { IsCourse course (reverse run.now.entries) }
+    ensures { OnOk result (map curve_model curves.new.items ≡ map curve_model curves.old.items
         ++ line_if follows
         (record {
           object = plotted.Balance shape.now.count;
@@ -197,7 +197,7 @@ pub(crate) fn add_if(
 {
     if follows {
         let heights = course.heights(run, shape)?;
-        let object = Plotted::Balance(shape.count());
+        let object = CurveSource::Balance(shape.count());
         curves.push(Curve { object, heights })?;
     }
     Ok(())

@@ -4,12 +4,12 @@ ghost use Rattle.std.specs.List.{list_any};
 ghost use Rattle.ec_heading.specs.Spelling.{cell_in};
 ghost use Rattle.ec_draw.specs.Chosen.{chosen_targets, draws, draws_arrow, draws_cell, draws_curve};
 ghost use Rattle.ec_draw.specs.Chosen.{draws_event, draws_object, draws_sequencer, draws_shade};
-ghost use Rattle.ec_draw.specs.Chosen.{draws_worker, is_chosen, is_drawn, stands_for};
-ghost use Rattle.ec_draw.specs.Shades.{seen};
+ghost use Rattle.ec_draw.specs.Chosen.{draws_worker, is_chosen, is_drawn, is_name_of};
+ghost use Rattle.ec_draw.specs.Shades.{shade_model};
 
-use crate::{Arrow, Counted, Plotted, Shade};
+use crate::{Arrow, Counter, CurveSource, Shade};
 use ec_core::Act;
-use ec_count::{CellId, EventId, SeqId, Target, Vocabulary, WorkerId};
+use ec_count::{CellId, EventId, SeqId, SymbolTable, Target, WorkerId};
 use std::alloc::{AllocError, Global};
 use std::marker::Model;
 
@@ -37,8 +37,8 @@ impl Model for Chosen {
 
 /// Returns whether a name stands for a word: it is the word, or that of the group whose object the
 /// word spells.
-fn stands_for(word: &[u8], name: &[u8]) -> bool
-    ensures { result ≡ stands_for word.now name.now }
+fn is_name_of(word: &[u8], name: &[u8]) -> bool
+    ensures { result ≡ is_name_of word.now name.now }
 {
     if !word.starts_with(name) {
         return false;
@@ -51,14 +51,14 @@ fn stands_for(word: &[u8], name: &[u8]) -> bool
 
 /// Returns whether a name stands for a word.
 fn is_named(word: &[u8], name: &str) -> bool
-    ensures { result ≡ stands_for word.now name.now }
+    ensures { result ≡ is_name_of word.now name.now }
 {
-    stands_for(word, name.as_bytes())
+    is_name_of(word, name.as_bytes())
 }
 
 /// Returns whether some name stands for a word.
 fn any_named(names: &[&str], word: &[u8]) -> bool
-    ensures { result ≡ list_any (λ name. stands_for word.now name.now) names.now }
+    ensures { result ≡ list_any (λ name. is_name_of word.now name.now) names.now }
 {
     names.iter().any(|name| is_named(word, name))
 }
@@ -109,7 +109,11 @@ fn cell_in(cell: usize, target: &Target) -> bool
 
 impl Chosen {
     /// Returns what is drawn of all that the words of a heading stand for.
-    pub fn new(alloc: Global, choice: &Choice<'_>, words: &Vocabulary) -> Result<Chosen, AllocError>
+    pub fn new(
+        alloc: Global,
+        choice: &Choice<'_>,
+        words: &SymbolTable,
+    ) -> Result<Chosen, AllocError>
         ensures { IfOk result (λ c. c ≡ chosen_targets choice.now words.now) }
     {
         let mut targets = Vec::new(alloc);
@@ -185,19 +189,19 @@ impl Chosen {
     }
 
     /// Returns whether a curve is drawn; that of a balance is where its semaphore's eventcount is.
-    pub fn draws_curve(&self, object: &Plotted) -> bool
+    pub fn draws_curve(&self, object: &CurveSource) -> bool
         ensures { result ≡ draws_curve self.now object.now }
     {
         match *object {
-            Plotted::Count(Counted::Event(event)) => self.draws_event(event),
-            Plotted::Count(Counted::Sequencer(sequencer)) => self.draws_sequencer(sequencer),
-            Plotted::Balance(event) => self.draws_event(event),
+            CurveSource::Count(Counter::Event(event)) => self.draws_event(event),
+            CurveSource::Count(Counter::Sequencer(sequencer)) => self.draws_sequencer(sequencer),
+            CurveSource::Balance(event) => self.draws_event(event),
         }
     }
 
     /// Returns whether a shade is drawn: its reader is, and its database's eventcount of starts.
     pub fn draws_shade(&self, shade: &Shade) -> bool
-        ensures { result ≡ draws_shade self.now (seen shade.now) }
+        ensures { result ≡ draws_shade self.now (shade_model shade.now) }
     {
         self.draws_worker(shade.accepted.worker) && self.draws_event(shade.count)
     }

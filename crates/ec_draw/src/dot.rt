@@ -54,7 +54,7 @@ fn component_in(world: &World, worker: WorkerId, act: Act) -> Option<usize>
 }
 
 /// Returns what a go of a call reads in a world.
-fn gone_read(world: &World, call: &UnderWay) -> Option<u64>
+fn read_by_go(world: &World, call: &UnderWay) -> Option<u64>
     ensures { (h : List Entry) → StandsFor world.now h
         → result ≡ option_and_then (λ e. held_in world.now.setup e call.now.index (reverse h))
         (read_of call.now.op) }
@@ -73,7 +73,7 @@ fn number_in(world: &World, worker: WorkerId, act: Act) -> Option<u64>
     match act {
         Act::Read(event) | Act::Await(event, _) => world.component(event, 0),
         Act::Go => match world.under_way(worker) {
-            Some(call) => gone_read(world, &call),
+            Some(call) => read_by_go(world, &call),
             None => None,
         },
         Act::Advance(_) | Act::Ticket(_) | Act::Put(_, _) | Act::Get(_) | Act::Hand(_, _) => None,
@@ -103,11 +103,11 @@ pub(crate) fn dots(
     window: Window,
 ) -> Result<Vec<Dot>, AllocError>
     requires setup { world.setup ≡ run.now.setup }
-    requires stands { StandsFor world (take window.from run.now.entries) }
+    requires represents { StandsFor world (take window.from run.now.entries) }
     ensures { IfOk result
         (λ ds. ds.items ≡ dots_of run.now.setup window (reverse run.now.entries)) }
 {
-    run.known();
+    run.invariant();
     let mut dots = Vec::new(alloc);
     for position in window.from..window.to.min(run.len()) {
         if let Some(entry) = run.entry(position) {

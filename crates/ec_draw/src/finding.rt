@@ -7,11 +7,11 @@ ghost use Rattle.ec_semaphore.specs.Uses.{use_rules};
 ghost use Rattle.ec_heading.specs.declared.group.Group.TheVariants as groups;
 ghost use Rattle.ec_draw.specs.Arrows.{arrows, group_arrows};
 ghost use Rattle.ec_draw.specs.Balances.{balance_line, balance_lines, group_line, line_if};
-ghost use Rattle.ec_draw.specs.Curves.{shown};
+ghost use Rattle.ec_draw.specs.Curves.{curve_model};
 ghost use Rattle.ec_draw.specs.Following.{follows};
 ghost use Rattle.ec_draw.specs.Findings.{AddsGroup, BothFor, CourseFor, EachFinds, FindsFor};
 ghost use Rattle.ec_draw.specs.Findings.{MovesFor, TriesFor};
-ghost use Rattle.ec_draw.specs.Shades.{group_shades, seen, shades};
+ghost use Rattle.ec_draw.specs.Shades.{group_shades, shade_model, shades};
 
 use crate::arrow::{Moves, add_buffer};
 use crate::balance::{BothCourse, Course, add_if};
@@ -41,7 +41,7 @@ pub(crate) enum Finding<'a> {
 
 /// What all that is kept has in common.
 #[derive(Clone, Copy)]
-struct Asked<'a> {
+struct FindingContext<'a> {
     setup: &'a Setup,
     semaphores: &'a [SemaphoreShape],
     window: Window,
@@ -49,7 +49,7 @@ struct Asked<'a> {
 
 impl<'a> Finding<'a> {
     /// Makes what is kept before the first entry.
-    fn new(alloc: Global, group: &'a Group, asked: &Asked<'a>) -> Self
+    fn new(alloc: Global, group: &'a Group, asked: &FindingContext<'a>) -> Self
         ensures { FindsFor asked.now.setup.now asked.now.semaphores.now asked.now.window group.now
             result [] }
     {
@@ -71,7 +71,7 @@ impl<'a> Audit for Finding<'a> {
     ghost use Rattle.ec_draw.specs.Following.{follows};
     ghost use Rattle.ec_draw.specs.Findings.{FindsOn};
 
-    ghost stands = { FindsOn };
+    ghost represents = { FindsOn };
 
     fn take(&mut self, place: usize, op: &Act, entry: &Entry) {
         match self {
@@ -96,10 +96,10 @@ impl<'a> GroupAudit for Finding<'a> {
 }
 
 /// Returns what is kept of groups before the first entry.
-fn opened<'a>(
+fn open_findings<'a>(
     alloc: Global,
     groups: &'a [Group],
-    asked: &Asked<'a>,
+    asked: &FindingContext<'a>,
 ) -> Result<Vec<Finding<'a>>, AllocError>
     ensures { IfOk result
         (λ list. EachFinds asked.now.setup.now asked.now.semaphores.now asked.now.window groups.now
@@ -113,17 +113,17 @@ fn opened<'a>(
 }
 
 /// Returns what is kept of groups after all entries of a run, in one walk over them.
-fn walked<'a>(
+fn find_all<'a>(
     alloc: Global,
     run: &'a Run,
     groups: &'a [Group],
-    asked: &Asked<'a>,
+    asked: &FindingContext<'a>,
 ) -> Result<Vec<Finding<'a>>, AllocError>
     ensures { IfOk result
         (λ list. EachFinds asked.now.setup.now asked.now.semaphores.now asked.now.window groups.now
         list.items (reverse run.now.entries)) }
 {
-    let list = opened(alloc, groups, asked)?;
+    let list = open_findings(alloc, groups, asked)?;
     Ok(walk_groups(run, groups, list))
 }
 
@@ -147,7 +147,7 @@ fn add_semaphore(
     finding: Finding<'_>,
 ) -> Result<(), AllocError>
     requires { CourseFor window shape.now finding (reverse run.now.entries) }
-    ensures { OnOk result (map shown curves.new.items ≡ map shown curves.old.items
+    ensures { OnOk result (map curve_model curves.new.items ≡ map curve_model curves.old.items
         ++ line_if (follows (use_rules shape.now) (reverse run.now.entries))
         (balance_line window run.now.entries shape.now)) }
 {
@@ -183,12 +183,12 @@ fn add_both(
     curves: &mut Vec<Curve>,
     run: &Run,
     shape: &SemaphoreShape,
-    asked: &Asked<'_>,
+    asked: &FindingContext<'_>,
     finding: Finding<'_>,
 ) -> Result<(), AllocError>
     requires { BothFor asked.now.semaphores.now asked.now.window shape.now finding
         (reverse run.now.entries) }
-    ensures { OnOk result (map shown curves.new.items ≡ map shown curves.old.items
+    ensures { OnOk result (map curve_model curves.new.items ≡ map curve_model curves.old.items
         ++ line_if (follows (both_rules shape.now (is_line shape.now asked.now.semaphores.now))
         (reverse run.now.entries)) (balance_line asked.now.window run.now.entries shape.now)) }
 {
@@ -213,7 +213,7 @@ fn add_tries(
     finding: Finding<'_>,
 ) -> Result<(), AllocError>
     requires { TriesFor run.now.setup window shape.now finding (reverse run.now.entries) }
-    ensures { OnOk result (map seen shades.new.items ≡ map seen shades.old.items
+    ensures { OnOk result (map shade_model shades.new.items ≡ map shade_model shades.old.items
         ++ group_shades run.now.setup window run.now.entries (groups.Database shape.now)) }
 {
     let _ = window;
@@ -251,7 +251,7 @@ fn add_group(
     found: &mut Findings,
     run: &Run,
     group: &Group,
-    asked: &Asked<'_>,
+    asked: &FindingContext<'_>,
     finding: Finding<'_>,
 ) -> Result<(), AllocError>
     requires { FindsFor run.now.setup asked.now.semaphores.now asked.now.window group.now finding
@@ -278,16 +278,17 @@ fn add_groups(
     found: &mut Findings,
     run: &Run,
     groups: &[Group],
-    asked: &Asked<'_>,
+    asked: &FindingContext<'_>,
     list: Vec<Finding<'_>>,
 ) -> Result<(), AllocError>
     requires { EachFinds run.now.setup asked.now.semaphores.now asked.now.window groups.now
         list.items (reverse run.now.entries) }
     ensures curves { OnOk result
-        (map shown found.new.curves.items ≡ map shown found.old.curves.items
+        (map curve_model found.new.curves.items ≡ map curve_model found.old.curves.items
         ++ flat_map (group_line asked.now.semaphores.now asked.now.window run.now.entries)
         groups.now) }
-    ensures shades { OnOk result (map seen found.new.shades.items ≡ map seen found.old.shades.items
+    ensures shades { OnOk result (map shade_model found.new.shades.items
+        ≡ map shade_model found.old.shades.items
         ++ shades run.now.setup groups.now asked.now.window run.now.entries) }
     ensures arrows { OnOk result
         (found.new.arrows.items ≡ found.old.arrows.items ++ arrows run.now.setup groups.now
@@ -313,19 +314,19 @@ pub(crate) fn findings_of(
     window: Window,
 ) -> Result<Findings, AllocError>
     ensures curves { IfOk result
-        (λ f. map shown f.curves.items ≡ balance_lines groups.now window run.now.entries) }
+        (λ f. map curve_model f.curves.items ≡ balance_lines groups.now window run.now.entries) }
     ensures shades { IfOk result
-        (λ f. map seen f.shades.items ≡ shades run.now.setup groups.now window run.now.entries) }
+        (λ f. map shade_model f.shades.items ≡ shades run.now.setup groups.now window run.now.entries) }
     ensures arrows { IfOk result
         (λ f. f.arrows.items ≡ arrows run.now.setup groups.now window run.now.entries) }
 {
     let semaphores = semaphores_of(alloc, groups)?;
-    let asked = Asked {
+    let asked = FindingContext {
         setup: run.setup(),
         semaphores: semaphores.as_slice(),
         window,
     };
-    let list = walked(alloc, run, groups, &asked)?;
+    let list = find_all(alloc, run, groups, &asked)?;
     let mut found = Findings {
         curves: Vec::new(alloc),
         shades: Vec::new(alloc),

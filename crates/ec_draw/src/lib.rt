@@ -17,14 +17,14 @@ mod window;
 
 pub use arrow::Arrow;
 pub use chosen::{Choice, Chosen};
-pub use curve::{Counted, Curve, Plotted};
+pub use curve::{Counter, Curve, CurveSource};
 pub use dot::Dot;
 pub use laws::{
     arrows_are_deliveries, balance_curves_are_balances, bars_are_calls, curves_are_counts,
     following_is_answered, pending_bars_begin, pictures_have_400_columns_at_most,
     shades_begin_lists, shades_end_tries,
 };
-pub use open::Open;
+pub use open::PendingBar;
 pub use picture::{Picture, picture_of};
 pub use shade::{Shade, Span};
 pub use window::{COLUMNS_MAX, Window};

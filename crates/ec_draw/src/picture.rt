@@ -1,14 +1,14 @@
 //! All shapes of a picture.
 ghost use Rattle.std.specs.Prelude.{◌≡◌, ◌++◌, IfOk, OnOk, map};
-ghost use Rattle.ec_draw.specs.Curves.{shown};
-ghost use Rattle.ec_draw.specs.Pictures.{kept, shapes};
+ghost use Rattle.ec_draw.specs.Curves.{curve_model};
+ghost use Rattle.ec_draw.specs.Pictures.{kept_shapes, shapes};
 
 use crate::curve::curves;
 use crate::dot::dots;
 use crate::finding::findings_of;
 use crate::open::open_bars;
 use crate::replay::world_at;
-use crate::{Arrow, Curve, Dot, Open, Shade, Window};
+use crate::{Arrow, Curve, Dot, PendingBar, Shade, Window};
 use ec_core::Run;
 use ec_heading::Group;
 use ec_order::{Placed, order_between};
@@ -21,7 +21,7 @@ pub struct Picture {
     /// The completed calls that are shown, each with its point.
     pub calls: Vec<Placed>,
     /// The pending calls that are shown.
-    pub begun: Vec<Open>,
+    pub begun: Vec<PendingBar>,
     /// The entries that are shown.
     pub dots: Vec<Dot>,
     /// The count of each eventcount and each sequencer at each moment that is shown, and then the
@@ -35,8 +35,8 @@ pub struct Picture {
 
 /// Adds some curves.
 fn add_curves(curves: &mut Vec<Curve>, list: Vec<Curve>) -> Result<(), AllocError>
-    ensures { OnOk result (map shown curves.new.items ≡ map shown curves.old.items
-        ++ map shown list.items) }
+    ensures { OnOk result (map curve_model curves.new.items ≡ map curve_model curves.old.items
+        ++ map curve_model list.items) }
 {
     for curve in list {
         curves.push(curve)?;
@@ -52,7 +52,8 @@ pub fn picture_of(
     groups: &[Group],
     window: Window,
 ) -> Result<Picture, AllocError>
-    ensures { IfOk result (λ p. kept p ≡ shapes run.now.setup groups.now window run.now.entries) }
+    ensures { IfOk result (λ p. kept_shapes p
+        ≡ shapes run.now.setup groups.now window run.now.entries) }
 {
     let found = findings_of(alloc, run, groups, window)?;
     let world = world_at(run, window.from);

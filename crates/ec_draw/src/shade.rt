@@ -4,7 +4,8 @@ ghost use Rattle.std.specs.Prelude.{option_to_list, reverse, slice_get};
 ghost use Rattle.std.specs.List.{filter, flat_map};
 ghost use Rattle.std.specs.Option.{option_map};
 ghost use Rattle.ec_core.specs.Calls.{is_go};
-ghost use Rattle.ec_draw.specs.Shades.{AddsNewest, IsTrying, group_shades, is_in, seen, shaded};
+ghost use Rattle.ec_draw.specs.Shades.{AddsNewest, IsTrying, group_shades, is_in, shade_model};
+ghost use Rattle.ec_draw.specs.Shades.{shade};
 ghost use Rattle.ec_draw.specs.Shades.{starts_after};
 ghost use Rattle.ec_heading.specs.declared.group.Group.TheVariants as groups;
 
@@ -69,8 +70,8 @@ fn add_shade(
     window: Window,
     span: Span,
 ) -> Result<(), AllocError>
-    ensures { OnOk result (map seen shades.new.items ≡ map seen shades.old.items
-        ++ filter (is_in window) (shaded count span accepted.now ∷ [])) }
+    ensures { OnOk result (map shade_model shades.new.items ≡ map shade_model shades.old.items
+        ++ filter (is_in window) (shade count span accepted.now ∷ [])) }
 {
     if window.meets(span.first, span.last) {
         let accepted = accepted.to_accepted(*shades.allocator())?;
@@ -93,16 +94,16 @@ fn add_newest(
     span: Span,
 ) -> Result<(), AllocError>
     ensures { OnOk result
-        (AddsNewest count window span before audit.now (map seen shades.old.items)
-        (map seen shades.new.items)) }
+        (AddsNewest count window span before audit.now (map shade_model shades.old.items)
+        (map shade_model shades.new.items)) }
 {
     let Some(place) = before else {
         return Err(AllocError);
     };
-    if audit.found().is_none() {
+    if audit.accepted_count().is_none() {
         return Err(AllocError);
     }
-    if let Some(accepted) = audit.accepted(place) {
+    if let Some(accepted) = audit.accepted_at(place) {
         add_shade(shades, &accepted, count, window, span)?;
     }
     Ok(())
@@ -121,8 +122,8 @@ fn lacks_after(
 ) -> bool
     ensures before { result ≡ false → lacks ≡ false }
     ensures added { result ≡ false
-        → AddsNewest count window span before audit.now (map seen shades.old.items)
-        (map seen shades.new.items) }
+        → AddsNewest count window span before audit.now (map shade_model shades.old.items)
+        (map shade_model shades.new.items) }
 {
     lacks || add_newest(shades, audit, before, count, window, span).is_err()
 }
@@ -141,16 +142,16 @@ pub(crate) struct Tries<'a> {
 
 impl<'a> Model for Tries<'a> {
     ghost use Rattle.std.specs.Prelude.{map};
-    ghost use Rattle.ec_draw.specs.Shades.{Trying, seen};
+    ghost use Rattle.ec_draw.specs.Shades.{TriesModel, shade_model};
 
-    ghost Value = { Trying };
+    ghost Value = { TriesModel };
 
     ghost view = { λ s. record {
       audit = s.audit;
       shape = s.shape.now;
       window = s.window;
       starts = s.starts;
-      shades = map seen s.shades.items;
+      shades = map shade_model s.shades.items;
       lacks = s.lacks;
     } };
 }
@@ -158,7 +159,7 @@ impl<'a> Model for Tries<'a> {
 impl<'a> Audit for Tries<'a> {
     ghost use Rattle.ec_draw.specs.Shades.{TriesOn};
 
-    ghost stands = { TriesOn };
+    ghost represents = { TriesOn };
 
     fn take(&mut self, place: usize, op: &Act, entry: &Entry) {
         let Tries {
@@ -171,8 +172,8 @@ impl<'a> Audit for Tries<'a> {
         } = self;
         let first = starts[entry.worker.get()];
         let span = Span { first, last: place };
-        let before = audit.found();
-        let finished = audit.finished(entry.worker);
+        let before = audit.accepted_count();
+        let finished = audit.completed_count(entry.worker);
         note_start(shape, finished, place, entry, starts);
         audit.take(place, op, entry);
         *lacks = lacks_after(*lacks, shades, audit, before, shape.start(), *window, span);
@@ -205,8 +206,8 @@ impl<'a> Tries<'a> {
 
 /// Adds some shades.
 fn add_all(shades: &mut Vec<Shade>, list: Vec<Shade>) -> Result<(), AllocError>
-    ensures { OnOk result (map seen shades.new.items ≡ map seen shades.old.items
-        ++ map seen list.items) }
+    ensures { OnOk result (map shade_model shades.new.items ≡ map shade_model shades.old.items
+        ++ map shade_model list.items) }
 {
     for shade in list {
         shades.push(shade)?;
@@ -224,8 +225,8 @@ pub(crate) fn add_database(
 ) -> Result<(), AllocError>
     requires shape { tries.shape ≡ shape.now }
     requires setup { tries.audit.setup ≡ run.now.setup }
-    requires stands { IsTrying tries (reverse run.now.entries) }
-    ensures { OnOk result (map seen shades.new.items ≡ map seen shades.old.items
+    requires represents { IsTrying tries (reverse run.now.entries) }
+    ensures { OnOk result (map shade_model shades.new.items ≡ map shade_model shades.old.items
         ++ group_shades run.now.setup tries.entry.window run.now.entries
         (groups.Database shape.now)) }
 {

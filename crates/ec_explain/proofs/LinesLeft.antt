@@ -5,7 +5,7 @@ use Rattle.std.proofs.Common.{sym, ◌∙◌, ne_eqb, arith, length-append, subs
 use Rattle.std.specs.List.{onto_first, All}
 use Rattle.std.proofs.lemmas.List.Splits.{slice_split_at, slice_split_none}
 use Rattle.std.proofs.lemmas.List.Elements.{All-weaker}
-use Rattle.ec_explain.specs.Looking.{last_in, last_before, lines_of}
+use Rattle.ec_explain.specs.RelatedLine.{last_in, last_before, lines_of}
 use Rattle.ec_text.proofs.shared.WordLemmas.{onto_has}
 
 -- a list of lines has a first

@@ -7,20 +7,20 @@ use Rattle.std.specs.List.{list_any, list_all}
 use Rattle.std.specs.Char.{is_ascii_alphabetic}
 use Rattle.ec_count.specs.Tables.{first_that}
 use Rattle.ec_count.specs.Reserved.{is_name_byte}
-use Rattle.ec_text.specs.Words.{words_of, number_of, is_number_form}
+use Rattle.ec_text.specs.Words.{words_of, number_in_word, is_number_form}
 use Rattle.ec_heading.specs.declared.heading.HeadFault.{HeadFault}
 use Rattle.ec_heading.specs.declared.heading.HeadFault.TheVariants as heads
-use Rattle.ec_heading.specs.Headed.{Headed}
+use Rattle.ec_heading.specs.HeadingModel.{HeadingModel}
 use Rattle.ec_heading.specs.Lists.{worker_in}
-use Rattle.ec_heading.specs.Spelled.{Named, event_in, sequencer_in, cell_in_word}
-use Rattle.ec_heading.specs.Sorts.{sort_of}
-use Rattle.ec_heading.specs.Versions.{has_hand}
+use Rattle.ec_heading.specs.EntryWords.{NameTable, event_in, sequencer_in, cell_in_word}
+use Rattle.ec_heading.specs.DeclKinds.{sort_of}
+use Rattle.ec_heading.specs.Versions.{has_transfer}
 use Rattle.ec_explain.specs.declared.cause.Cause.{Cause}
 use Rattle.ec_explain.specs.declared.cause.Cause.TheVariants as causes
 use Rattle.ec_explain.specs.declared.site.Site.{Site}
 use Rattle.ec_explain.specs.declared.site.Site.TheVariants as sites
-use Rattle.ec_explain.specs.TextLines.{place_of}
-use Rattle.ec_explain.specs.Places.{word_at, behind_first, start_of, is_among, names_before}
+use Rattle.ec_explain.specs.TextLines.{position_or_end}
+use Rattle.ec_explain.specs.Places.{word_at, behind_first, word_start, is_among, names_before}
 use Rattle.ec_explain.specs.Places.{listed_before, full_before}
 use Rattle.calls_text.specs.Causes.{last_byte, has_space as has_blank, has_tab}
 
@@ -112,7 +112,7 @@ workers_cause fault line = unwrap_or (first_that (
 
 -- DECLARATIONS
 
-abbrev pub declaration_cause : Headed → HeadFault → List ℕ → Cause
+abbrev pub declaration_cause : HeadingModel → HeadFault → List ℕ → Cause
 declaration_cause h fault line = unwrap_or (first_that (
     (is_some (worker_in h.words (word_at 0 line)), causes.EntryBeforeRun)
     ∷ (is_none (sort_of (word_at 0 line)), causes.NoDeclaration)
@@ -136,7 +136,7 @@ abbrev pub is_hand : List ℕ → Bool
 is_hand verb = bytes_eq verb (codes "hand")
 
 -- whether a word is what an act names first: nothing, a sequencer, a cell, or an eventcount
-abbrev pub has_object : Named → List ℕ → List ℕ → Bool
+abbrev pub has_object : NameTable → List ℕ → List ℕ → Bool
 has_object names verb w =
     if bytes_eq verb (codes "go") then true
     else (if bytes_eq verb (codes "ticket") then is_some (sequencer_in names w)
@@ -145,22 +145,22 @@ has_object names verb w =
 
 -- whether an act has a value, and the word is none
 abbrev pub lacks_value : List ℕ → List ℕ → Bool
-lacks_value verb w = is_among (codes "await" ∷ codes "put" ∷ []) verb && is_none (number_of w)
+lacks_value verb w = is_among (codes "await" ∷ codes "put" ∷ []) verb && is_none (number_in_word w)
 
 abbrev pub is_reply : List ℕ → Bool
-is_reply w = is_among (codes "done" ∷ codes "pending" ∷ []) w || is_some (number_of w)
+is_reply w = is_among (codes "done" ∷ codes "pending" ∷ []) w || is_some (number_in_word w)
 
 -- what is wrong with the worker, the act and its object
-abbrev pub act_cause : Headed → List ℕ → Option Cause
+abbrev pub act_cause : HeadingModel → List ℕ → Option Cause
 act_cause h line = first_that (
     (is_none (worker_in h.words (word_at 0 line)), causes.NoWorker)
     ∷ (is_none (act_words (word_at 1 line)), causes.NoAct)
-    ∷ (is_hand (word_at 1 line) && not (has_hand h.version), causes.HandInOne)
+    ∷ (is_hand (word_at 1 line) && not (has_transfer h.version), causes.HandInOne)
     ∷ (not (has_object h.words (word_at 1 line) (word_at 2 line)), causes.NoObject)
     ∷ [])
 
 -- what is wrong with what stands behind it
-abbrev pub reply_cause : Headed → List ℕ → Cause
+abbrev pub reply_cause : HeadingModel → List ℕ → Cause
 reply_cause h line = unwrap_or (first_that (
     (lacks_value (word_at 1 line) (word_at 3 line), causes.NoValue)
     ∷ (is_hand (word_at 1 line) && is_none (worker_in h.words (word_at 3 line)), causes.NoReceiver)
@@ -168,7 +168,7 @@ reply_cause h line = unwrap_or (first_that (
     ∷ (not (is_reply (word_at (equals_place line + 1) line)), causes.NoReply)
     ∷ [])) causes.EntryWords
 
-abbrev pub entry_cause : Headed → List ℕ → Cause
+abbrev pub entry_cause : HeadingModel → List ℕ → Cause
 entry_cause h line = unwrap_or (act_cause h line) (reply_cause h line)
 
 -- A LINE IN ITS PLACE
@@ -198,7 +198,7 @@ name_place (sites.Heading fault) line = new_name_place line
 name_place _ line = 1
 
 -- the place of the first word behind the name that may not be listed
-abbrev pub first_unlisted : Named → List ℕ → ℕ
+abbrev pub first_unlisted : NameTable → List ℕ → ℕ
 first_unlisted names line = 2 + listed_before names (behind_first (behind_first (words_of line)))
 
 abbrev pub unknown_place : Site → List ℕ → ℕ
@@ -234,5 +234,5 @@ abbrev pub place_at : Site → Cause → List ℕ → ℕ
 place_at site causes.Long line = 8192
 place_at site causes.Return line = length line - 1
 place_at site causes.SpaceAfter line = length line - 1
-place_at site causes.Tab line = place_of 9 line
-place_at site cause line = start_of (word_place site cause line) line
+place_at site causes.Tab line = position_or_end 9 line
+place_at site cause line = word_start (word_place site cause line) line

@@ -10,12 +10,13 @@ use Rattle.ec_core.specs.declared.act.Act.TheVariants.{Go}
 use Rattle.ec_core.specs.declared.act.Entry.{Entry}
 use Rattle.ec_core.specs.Calls.{CallSoFar, is_go, under_way}
 use Rattle.ec_core.specs.Counts.{component_total, signaller_at, total}
-use Rattle.ec_core.specs.Rounds.{event_or, next_component, width}
+use Rattle.ec_core.specs.Rounds.{event_or, next_component, component_count}
 use Rattle.ec_explain.specs.declared.round.Look.{Look}
 
 -- what component c of e has counted after a past, if there is one
 abbrev pub held_in : Tables → ℕ → ℕ → List Entry → Option ℕ
-held_in t e c past = if nat_lt c (width t e) then Some (component_total t e c past) else None
+held_in t e c past =
+    if nat_lt c (component_count t e) then Some (component_total t e c past) else None
 
 -- the total of e, if it is declared
 abbrev pub total_in : Tables → ℕ → List Entry → Option ℕ
@@ -81,10 +82,10 @@ abbrev pub is_in_round : Tables → ℕ → List Entry → Bool
 is_in_round t w past = option_map_or (has_begun t) (under_way w past) false
 
 -- what is kept of what was found, if a go adds to it, and any other act begins anew
-abbrev pub kept_by : Act → List Look → List Look
-kept_by act looks = if is_go act then looks else []
+abbrev pub looks_continued_by : Act → List Look → List Look
+looks_continued_by act looks = if is_go act then looks else []
 
 -- what is kept with an act that finds this, if its round goes on
-abbrev pub kept : Bool → Act → Option Look → List Look → List Look
-kept goes_on act look looks =
-    if goes_on then kept_by act looks ++ option_to_list look else []
+abbrev pub looks_after_act : Bool → Act → Option Look → List Look → List Look
+looks_after_act goes_on act look looks =
+    if goes_on then looks_continued_by act looks ++ option_to_list look else []

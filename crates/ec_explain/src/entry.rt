@@ -94,7 +94,7 @@ fn act_cause(heading: &Heading, line: &[u8]) -> Option<Cause>
     if act_words(verb).is_none() {
         return Some(Cause::NoAct);
     }
-    if is_hand(verb) && !heading.version().has_hand() {
+    if is_hand(verb) && !heading.version().has_transfer() {
         return Some(Cause::HandInOne);
     }
     if !has_object(heading, verb, word_at(2, line)) {

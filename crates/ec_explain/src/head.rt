@@ -2,7 +2,7 @@
 ghost use Rattle.std.specs.Prelude.{◌≡◌, is_some};
 ghost use Rattle.std.specs.List.{list_all};
 ghost use Rattle.ec_count.specs.Reserved.{is_name_byte};
-ghost use Rattle.ec_heading.specs.Sorts.{sort_of};
+ghost use Rattle.ec_heading.specs.DeclKinds.{sort_of};
 ghost use Rattle.ec_explain.specs.Places.{word_at};
 ghost use Rattle.ec_explain.specs.Causes.{is_header, first_cause, limit_cause, has_name_form};
 ghost use Rattle.ec_explain.specs.Causes.{name_cause, head_cause, bad_name_place, new_name_place};

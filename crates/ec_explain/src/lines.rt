@@ -1,8 +1,9 @@
 //! The lines of a text, by their numbers.
 ghost use Rattle.std.specs.Prelude.{◌≡◌, ◌≤◌, ◌<◌, ◌==◌, IfSome, length};
 ghost use Rattle.std.specs.List.{position_from};
-ghost use Rattle.ec_explain.specs.TextLines.{before_line, behind, behind_line, first_line, line_at};
-ghost use Rattle.ec_explain.specs.TextLines.{lines_in, place_of};
+ghost use Rattle.ec_explain.specs.TextLines.{text_before_line, behind, text_after_line, first_line};
+ghost use Rattle.ec_explain.specs.TextLines.{line_at};
+ghost use Rattle.ec_explain.specs.TextLines.{lines_in, position_or_end};
 
 /// Returns where a byte stands first.
 fn position_of(sign: u8, bytes: &[u8]) -> Option<usize>
@@ -13,8 +14,8 @@ fn position_of(sign: u8, bytes: &[u8]) -> Option<usize>
 }
 
 /// Returns where a byte stands first; behind the last byte if it doesn't.
-pub fn place_of(sign: u8, bytes: &[u8]) -> usize
-    ensures value { result ≡ place_of sign bytes.now }
+pub fn position_or_end(sign: u8, bytes: &[u8]) -> usize
+    ensures value { result ≡ position_or_end sign bytes.now }
     ensures within { result ≤ length bytes.now }
 {
     match position_of(sign, bytes) {
@@ -24,10 +25,10 @@ pub fn place_of(sign: u8, bytes: &[u8]) -> usize
 }
 
 /// Returns what stands after the first line.
-fn behind_line(text: &[u8]) -> &[u8]
-    ensures { result.now ≡ behind_line text.now }
+fn text_after_line(text: &[u8]) -> &[u8]
+    ensures { result.now ≡ text_after_line text.now }
 {
-    let end = place_of(b'\n', text);
+    let end = position_or_end(b'\n', text);
     if end < text.len() {
         &text[end + 1..]
     } else {
@@ -41,7 +42,7 @@ fn behind(lines: u64, text: &[u8]) -> &[u8]
 {
     let mut rest = text;
     for _line in 0..lines {
-        rest = behind_line(rest);
+        rest = text_after_line(rest);
     }
     rest
 }
@@ -50,7 +51,7 @@ fn behind(lines: u64, text: &[u8]) -> &[u8]
 fn first_line(text: &[u8]) -> &[u8]
     ensures { result.now ≡ first_line text.now }
 {
-    &text[..place_of(b'\n', text)]
+    &text[..position_or_end(b'\n', text)]
 }
 
 /// Returns a line of a text, without its LF. Lines are counted from 1.
@@ -61,8 +62,8 @@ pub fn line_at(number: u64, text: &[u8]) -> &[u8]
 }
 
 /// Returns all that stands before a line.
-pub fn before_line(number: u64, text: &[u8]) -> &[u8]
-    ensures { result.now ≡ before_line number text.now }
+pub fn text_before_line(number: u64, text: &[u8]) -> &[u8]
+    ensures { result.now ≡ text_before_line number text.now }
 {
     let rest = behind(number.saturating_sub(1), text);
     &text[..text.len().saturating_sub(rest.len())]

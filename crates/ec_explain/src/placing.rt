@@ -10,9 +10,9 @@ use crate::head::{
     workers_cause,
 };
 use crate::line::line_cause;
-use crate::lines::place_of;
+use crate::lines::position_or_end;
 use crate::site::Site;
-use crate::words::{full_before, listed_before, start_of};
+use crate::words::{full_before, listed_before, word_start};
 use ec_heading::{Heading, LINE_MAX};
 use ec_text::cut_word;
 
@@ -109,7 +109,7 @@ pub fn place_at(site: &Site<'_>, cause: Cause, line: &[u8]) -> usize
     match cause {
         Cause::Long => LINE_MAX,
         Cause::Return | Cause::SpaceAfter => line.len().saturating_sub(1),
-        Cause::Tab => place_of(b'\t', line),
-        _ => start_of(word_place(site, cause, line), line),
+        Cause::Tab => position_or_end(b'\t', line),
+        _ => word_start(word_place(site, cause, line), line),
     }
 }

@@ -5,7 +5,8 @@ ghost use Rattle.ec_core.specs.declared.act.Entry.{Entry};
 ghost use Rattle.ec_core.specs.Acceptance.{answer_of};
 ghost use Rattle.ec_core.specs.Calls.{is_go};
 ghost use Rattle.ec_core.specs.Standing.{StandsFor};
-ghost use Rattle.ec_explain.specs.Rounds.{is_in_round, kept, kept_by, look_at, looks_so_far};
+ghost use Rattle.ec_explain.specs.Rounds.{is_in_round, looks_after_act, looks_continued_by};
+ghost use Rattle.ec_explain.specs.Rounds.{look_at, looks_so_far};
 ghost use Rattle.ec_explain.specs.Rounds.{looks_with, next_look};
 
 use ec_core::{Act, Entry, Run, World};
@@ -84,7 +85,7 @@ fn is_go(act: &Act) -> bool
 
 /// Drops what was found before an act that begins a call.
 fn begin_by(looks: &mut Vec<Look>, act: &Act)
-    ensures { looks.new.items ≡ kept_by act.now looks.old.items }
+    ensures { looks.new.items ≡ looks_continued_by act.now looks.old.items }
 {
     if !is_go(act) {
         looks.clear();
@@ -102,13 +103,13 @@ fn add_look(looks: &mut Vec<Look>, look: Option<Look>) -> Result<(), AllocError>
 }
 
 /// Keeps what an act found, if its round goes on.
-fn keep(
+fn update_looks(
     looks: &mut Vec<Look>,
     goes_on: bool,
     act: &Act,
     look: Option<Look>,
 ) -> Result<(), AllocError>
-    ensures { OnOk result (looks.new.items ≡ kept goes_on act.now look looks.old.items) }
+    ensures { OnOk result (looks.new.items ≡ looks_after_act goes_on act.now look looks.old.items) }
 {
     if !goes_on {
         looks.clear();
@@ -120,7 +121,7 @@ fn keep(
 
 /// Makes the step of an entry.
 fn enter(world: &mut World, entry: &Entry)
-    ensures stands { (h : List Entry) → StandsFor world.old h
+    ensures represents { (h : List Entry) → StandsFor world.old h
         → answer_of world.old.setup (reverse h) entry.now.worker entry.now.act ≡ Ok entry.now.reply
         → StandsFor world.new (h ++ entry.now ∷ []) }
     ensures setup { world.new.setup ≡ world.old.setup }
@@ -136,7 +137,7 @@ fn take(
     entry: &Entry,
     position: usize,
 ) -> Result<(), AllocError>
-    ensures stands { (h : List Entry) → StandsFor world.old h
+    ensures represents { (h : List Entry) → StandsFor world.old h
         → answer_of world.old.setup (reverse h) entry.now.worker entry.now.act ≡ Ok entry.now.reply
         → StandsFor world.new (h ++ entry.now ∷ []) }
     ensures setup { world.new.setup ≡ world.old.setup }
@@ -154,7 +155,7 @@ fn take(
     let look = next_look(world, worker, &entry.act, position);
     enter(world, entry);
     let goes_on = is_in_round(world, worker);
-    keep(looks, goes_on, &entry.act, look)
+    update_looks(looks, goes_on, &entry.act, look)
 }
 
 /// Returns what the round of a worker has found at the end of a run.
@@ -162,7 +163,7 @@ fn looks_so_far(alloc: Global, run: &Run, worker: WorkerId) -> Result<Vec<Look>,
     ensures { IfOk result (λ looks. looks.items ≡ looks_so_far run.now.setup worker
         (reverse run.now.entries)) }
 {
-    run.known();
+    run.invariant();
     let mut world = World::open(run.setup().copy());
     let mut looks = Vec::new(alloc);
     for position in 0..run.len() {
@@ -186,6 +187,6 @@ pub fn looks_with(
 {
     let mut looks = looks_so_far(alloc, run, worker)?;
     let look = next_look(run.world(), worker, act, run.len());
-    keep(&mut looks, true, act, look)?;
+    update_looks(&mut looks, true, act, look)?;
     Ok(looks)
 }

@@ -2,7 +2,8 @@
 ghost use Rattle.std.specs.Prelude.{◌≡◌, ◌≤◌, ◌+◌, bytes_eq, length};
 ghost use Rattle.std.specs.List.{list_any};
 ghost use Rattle.ec_text.specs.Words.{words_of};
-ghost use Rattle.ec_explain.specs.Places.{word_at, behind_first, bytes_before, start_of, is_listed};
+ghost use Rattle.ec_explain.specs.Places.{word_at, behind_first, bytes_before, word_start};
+ghost use Rattle.ec_explain.specs.Places.{is_listed};
 ghost use Rattle.ec_explain.specs.Places.{names_before, listed_before, full_before};
 
 use ec_count::is_name;
@@ -58,8 +59,8 @@ fn bytes_before(place: usize, line: &[u8]) -> usize
 }
 
 /// Returns where the word at a place begins; behind the last byte if there are not so many.
-pub(crate) fn start_of(place: usize, line: &[u8]) -> usize
-    ensures { result ≡ start_of place line.now }
+pub(crate) fn word_start(place: usize, line: &[u8]) -> usize
+    ensures { result ≡ word_start place line.now }
 {
     bytes_before(place, line).min(line.len())
 }

@@ -5,7 +5,7 @@ use Rattle.std.proofs.lemmas.List.Elements.{All-from_recursion, recursion_from_A
 use Rattle.std.proofs.lemmas.Slice.Eq.{bytes_eq-Decides}
 use Rattle.std.proofs.lemmas.Bool.{true≢false, or_parts, or_from, not-false, not_from_true, ltb-false, le-ltb, false_from_ne_true}
 use Rattle.ec_count.specs.Reserved.{is_name}
-use Rattle.ec_heading.specs.Outline.{AreWorkers}
+use Rattle.ec_heading.specs.HeaderTree.{AreWorkers}
 use Rattle.ec_heading.specs.Lists.{has_word, has_word_twice}
 use Rattle.ec_text.specs.Words.{words_of}
 use Rattle.ec_text.proofs.shared.WordLemmas.{has_first}

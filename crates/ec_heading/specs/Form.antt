@@ -1,14 +1,14 @@
 -- The form of a declaration, over the words of its line.
 use Rattle.std.specs.Prelude.{◌≡◌, ◌+◌, ◌≤◌, take, drop, zero, suc, ℕ, Bool, true, false, not, List, [], ◌∷◌, length, Option, Some, None, option_map, if◌then◌else◌, bytes_eq}
 use Rattle.ec_text.specs.Words.{words_of, is_number_form}
-use Rattle.ec_heading.specs.Sorts.{sort_of, sort_word, has_name, has_number, opener, second_opener, needs_second}
-use Rattle.ec_heading.specs.declared.sort.Sort.{Sort}
+use Rattle.ec_heading.specs.DeclKinds.{sort_of, sort_word, has_name, has_number, opener, second_opener, needs_second}
+use Rattle.ec_heading.specs.declared.decl_kind.DeclKind.{DeclKind}
 use Rattle.ec_heading.specs.declared.form.Parts.{Parts}
 use Rattle.ec_heading.specs.declared.form.Lists.{Lists}
 
 -- a line of one of the forms: its name is the sort's own word if the form has none, and its number is []
 pub record Phrase : Type 0 where
-  pub sort : Sort
+  pub sort : DeclKind
   pub name : List ℕ
   pub number : List ℕ
   pub first : List (List ℕ)
@@ -44,29 +44,29 @@ well_or needs p = if is_well needs p then Some p else None
 
 -- THE WORDS IN TURN
 
-abbrev pub phrase_of : Sort → List ℕ → List ℕ → Option TwoLists → Option Phrase
+abbrev pub phrase_of : DeclKind → List ℕ → List ℕ → Option TwoLists → Option Phrase
 phrase_of s name number p = option_map (λ (l : TwoLists). record { sort = s; name = name; number = number; first = l.0; second = l.1 }) p
 
-abbrev pub listed_in : Sort → List ℕ → List ℕ → List (List ℕ) → Option Phrase
+abbrev pub listed_in : DeclKind → List ℕ → List ℕ → List (List ℕ) → Option Phrase
 listed_in s name number ws = phrase_of s name number (well_or (needs_second s) (both_lists (second_opener s) ws))
 
-abbrev pub opened_in : Sort → List ℕ → List ℕ → List (List ℕ) → Option Phrase
+abbrev pub opened_in : DeclKind → List ℕ → List ℕ → List (List ℕ) → Option Phrase
 opened_in s name number [] = None
 opened_in s name number (w ∷ ws) = if bytes_eq w (opener s) then listed_in s name number ws else None
 
-abbrev pub numbered_in : Sort → List ℕ → List (List ℕ) → Option Phrase
+abbrev pub numbered_in : DeclKind → List ℕ → List (List ℕ) → Option Phrase
 numbered_in s name [] = None
 numbered_in s name (w ∷ ws) = if has_number s then (if is_number_form w then opened_in s name w ws else None) else opened_in s name [] (w ∷ ws)
 
-abbrev pub called_in : Sort → List (List ℕ) → Option Phrase
+abbrev pub called_in : DeclKind → List (List ℕ) → Option Phrase
 called_in s [] = None
 called_in s (w ∷ ws) = numbered_in s w ws
 
 -- a form without a name is called by its sort's own word
-abbrev pub named_in : Sort → List (List ℕ) → Option Phrase
+abbrev pub named_in : DeclKind → List (List ℕ) → Option Phrase
 named_in s ws = if has_name s then called_in s ws else numbered_in s (sort_word s) ws
 
-abbrev pub sorted_in : Option Sort → List (List ℕ) → Option Phrase
+abbrev pub sorted_in : Option DeclKind → List (List ℕ) → Option Phrase
 sorted_in None ws = None
 sorted_in (Some s) ws = named_in s ws
 
@@ -81,8 +81,8 @@ abbrev pub shown_lists : Lists → TwoLists
 shown_lists l = (words_of l.first.now, option_map (λ s. words_of s.now) l.second)
 
 -- what the parts of a line show
-abbrev pub shown : Parts → Phrase
-shown p = record { sort = p.sort; name = p.name.now; number = p.number.now; first = words_of p.first.now; second = option_map (λ s. words_of s.now) p.second }
+abbrev pub phrase_of_parts : Parts → Phrase
+phrase_of_parts p = record { sort = p.sort; name = p.name.now; number = p.number.now; first = words_of p.first.now; second = option_map (λ s. words_of s.now) p.second }
 
 -- the words before a place at which a word begins
 abbrev pub front_words : ℕ → List ℕ → List (List ℕ)

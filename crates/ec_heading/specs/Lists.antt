@@ -7,13 +7,13 @@ use Rattle.ec_count.specs.declared.target.Target.{Target}
 use Rattle.ec_count.specs.declared.target.Target.TheVariants.{Worker}
 
 -- the worker that a name stands for, if it stands for one
-abbrev pub worker_of : Target → Option ℕ
-worker_of (Worker w) = Some w
-worker_of _ = None
+abbrev pub target_worker : Target → Option ℕ
+target_worker (Worker w) = Some w
+target_worker _ = None
 
 -- the worker of a name
 abbrev pub worker_in : List (List ℕ × Target) → List ℕ → Option ℕ
-worker_in names w = option_and_then worker_of (find_name w names)
+worker_in names w = option_and_then target_worker (find_name w names)
 
 -- the workers that are named in a list; words that name none are left out
 abbrev pub ids_in : List (List ℕ × Target) → List (List ℕ) → List ℕ

@@ -10,8 +10,8 @@ use Rattle.ec_semaphore.specs.Shapes.{next_semaphore}
 use Rattle.ec_heading.specs.declared.group.Group as kinds
 use Rattle.ec_heading.specs.declared.group.Group.TheVariants as groups
 use Rattle.ec_heading.specs.declared.objects.Object.{Object}
-use Rattle.ec_heading.specs.declared.sort.Sort.{Sort}
-use Rattle.ec_heading.specs.declared.sort.Sort.TheVariants as sorts
+use Rattle.ec_heading.specs.declared.decl_kind.DeclKind.{DeclKind}
+use Rattle.ec_heading.specs.declared.decl_kind.DeclKind.TheVariants as sorts
 
 -- the numbers that come next: of the ids, and of the groups
 pub record Next : Type 0 where
@@ -26,7 +26,7 @@ ids_after t groups = record { event = length t.events; sequencer = length t.take
 
 -- each object by what it is called behind the name, nothing if the name alone spells it, and what it is; a name that
 -- spells no cells stands for the group itself, which no line uses
-abbrev pub objects_of : Sort → Next → ℕ → List (List ℕ × Target)
+abbrev pub objects_of : DeclKind → Next → ℕ → List (List ℕ × Target)
 objects_of sorts.EventCount k n = ([], Event k.event) ∷ []
 objects_of sorts.Sequencer k n = ([], Sequencer k.sequencer) ∷ []
 objects_of sorts.Cells k n = ([], Cells k.cell n) ∷ []
@@ -37,7 +37,7 @@ objects_of sorts.Semaphore k n = (codes "v", Event k.event) ∷ (codes "p", Sequ
 objects_of sorts.Both k n = (codes "v", Event k.event) ∷ (codes "p", Sequencer k.sequencer) ∷ ([], Group k.group) ∷ []
 
 -- what the name of a declaration stands for
-abbrev pub target_of : Sort → Next → ℕ → Target
+abbrev pub target_of : DeclKind → Next → ℕ → Target
 target_of sorts.EventCount k n = Event k.event
 target_of sorts.Sequencer k n = Sequencer k.sequencer
 target_of sorts.Cells k n = Cells k.cell n
@@ -47,14 +47,14 @@ target_of sorts.Semaphore k n = Group k.group
 target_of sorts.Both k n = Group k.group
 
 -- the group that a declaration is
-abbrev pub group_of : Sort → Tables → ℕ → Option kinds.Group
-group_of sorts.EventCount t n = None
-group_of sorts.Sequencer t n = None
-group_of sorts.Cells t n = None
-group_of sorts.Buffer t n = Some (groups.Buffer (next_buffer t n))
-group_of sorts.Database t n = Some (groups.Database (next_database t n))
-group_of sorts.Semaphore t n = Some (groups.Semaphore (next_semaphore t n))
-group_of sorts.Both t n = Some (groups.Both (next_semaphore t 1))
+abbrev pub group_of_declaration : DeclKind → Tables → ℕ → Option kinds.Group
+group_of_declaration sorts.EventCount t n = None
+group_of_declaration sorts.Sequencer t n = None
+group_of_declaration sorts.Cells t n = None
+group_of_declaration sorts.Buffer t n = Some (groups.Buffer (next_buffer t n))
+group_of_declaration sorts.Database t n = Some (groups.Database (next_database t n))
+group_of_declaration sorts.Semaphore t n = Some (groups.Semaphore (next_semaphore t n))
+group_of_declaration sorts.Both t n = Some (groups.Both (next_semaphore t 1))
 
 -- the word for an object: the name, or the name, a dot, and what the object is called behind it
 abbrev pub spelling : List ℕ → List ℕ → List ℕ

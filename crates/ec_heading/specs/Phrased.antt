@@ -1,9 +1,9 @@
 -- How a declaration is written: the words of a line of its form.
 use Rattle.std.specs.Prelude.{◌≡◌, ℕ, Bool, true, false, List, [], ◌∷◌, ◌++◌, Option, Some, None, if◌then◌else◌, bytes_eq}
 use Rattle.ec_text.specs.Words.{is_number_form}
-use Rattle.ec_heading.specs.declared.sort.Sort.{Sort}
+use Rattle.ec_heading.specs.declared.decl_kind.DeclKind.{DeclKind}
 use Rattle.ec_heading.specs.Form.{Phrase}
-use Rattle.ec_heading.specs.Sorts.{sort_word, has_name, has_number, opener, second_opener, needs_second}
+use Rattle.ec_heading.specs.DeclKinds.{sort_word, has_name, has_number, opener, second_opener, needs_second}
 use Rattle.ec_heading.specs.Spelling.{name_words}
 
 -- a list of one word or more
@@ -11,15 +11,15 @@ abbrev pub HasWords : List (List ℕ) → Type 0
 HasWords ws = (v : List ℕ) × (vs : List (List ℕ)) × (ws ≡ v ∷ vs)
 
 -- a form without a name is called by its own word
-abbrev pub NameFits : Sort → List ℕ → Type 0
+abbrev pub NameFits : DeclKind → List ℕ → Type 0
 NameFits s name = has_name s ≡ false → name ≡ sort_word s
 
 -- the number, if the form has one
-abbrev pub number_part : Sort → List ℕ → List (List ℕ)
+abbrev pub number_part : DeclKind → List ℕ → List (List ℕ)
 number_part s number = if has_number s then number ∷ [] else []
 
 -- the number is a number by its form, and where the form has none there is none
-pub record NumberFits (s : Sort) (number : List ℕ) : Type 0 where
+pub record NumberFits (s : DeclKind) (number : List ℕ) : Type 0 where
   pub none : has_number s ≡ false → number ≡ []
   pub some : has_number s ≡ true → is_number_form number ≡ true
 
@@ -35,7 +35,7 @@ SecondFits needs None (Some vs) = ⊥
 SecondFits needs (Some stop) (Some vs) = HasWords vs
 
 -- the words behind the name
-abbrev pub behind_name : Sort → List ℕ → List (List ℕ) → List (List ℕ)
+abbrev pub behind_name : DeclKind → List ℕ → List (List ℕ) → List (List ℕ)
 behind_name s number ws = number_part s number ++ opener s ∷ ws
 
 -- no word of the list is the one that ends it

@@ -19,13 +19,13 @@ abbrev pub as_limit : Version → ℕ → Option ℕ
 as_limit v n = if is_limit v n then Some n else None
 
 -- whether components are handed over in texts of this version
-abbrev pub has_hand : Version → Bool
-has_hand One = false
-has_hand Two = true
+abbrev pub has_transfer : Version → Bool
+has_transfer One = false
+has_transfer Two = true
 
 -- whether a text of this version may have the act: a hand, or any other
 abbrev pub can_spell : Version → Act → Bool
-can_spell v (Hand e b) = has_hand v
+can_spell v (Hand e b) = has_transfer v
 can_spell v act = true
 
 -- it may have each of these entries

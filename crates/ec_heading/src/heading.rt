@@ -2,31 +2,32 @@
 ghost use Rattle.std.specs.Prelude.{◌≡◌, ◌≢◌, ◌+◌, ◌++◌, ◌≤◌, ◌∷◌, IfErr, IfOk, OnErr, OnOk, [], None, false, true, length, option_map, vec_capacity};
 ghost use Rattle.std.specs.List.{All, cons_option};
 ghost use Rattle.ec_text.specs.Words.{words_of};
-ghost use Rattle.ec_heading.specs.Form.{parts_in, shown};
+ghost use Rattle.ec_heading.specs.Form.{parts_in, phrase_of_parts};
 ghost use Rattle.ec_heading.specs.Groups.{FitsGroup};
 ghost use Rattle.ec_heading.specs.Heading.{Lines, Steps, workers_in, words_step, opened_by, declared_or};
 ghost use Rattle.ec_heading.specs.Kinds.{workers_fault, declaration_fault, declaration_of, second_list, is_full_for};
 ghost use Rattle.ec_count.specs.Names.{AreNames};
 ghost use Rattle.ec_heading.specs.Lists.{ids_in, worker_in};
 ghost use Rattle.ec_heading.specs.Objects.{AreNew, ids_after, objects_of, spelled_objects};
-ghost use Rattle.ec_heading.specs.Outlined.{IsHeading, HasOutline};
-ghost use Rattle.ec_heading.specs.Sorts.{is_in_range};
-ghost use Rattle.ec_heading.specs.Spelled.{event_in, sequencer_in, cell_in_word, cell_of};
+ghost use Rattle.ec_heading.specs.HeadingInvariant.{IsHeading, HasHeaderTree};
+ghost use Rattle.ec_heading.specs.DeclKinds.{is_in_range};
+ghost use Rattle.ec_heading.specs.EntryWords.{event_in, sequencer_in, cell_in_word, cell_of};
 ghost use Rattle.ec_heading.specs.Versions.{greatest_limit};
-ghost use Rattle.ec_heading.specs.Upgraded.{upgraded};
-ghost use Rattle.ec_heading.specs.Outline.{opened, IsDeclarable, numbered, named_as, declared_by};
+ghost use Rattle.ec_heading.specs.Upgrade.{upgrade_heading};
+ghost use Rattle.ec_heading.specs.HeaderTree.{empty_heading, IsDeclarable, number_names, named_as};
+ghost use Rattle.ec_heading.specs.HeaderTree.{with_declaration};
 
-use crate::form::{Parts, parts_of};
+use crate::decl_kind::DeclKind;
+use crate::entry_words::{block_of, closed_number, cut_at, target_event, target_sequencer};
+use crate::form::{Parts, split_declaration};
 use crate::group::Group;
 use crate::kinds::{declaration_fault, size_of, workers_fault};
 use crate::lists::{is_same, push_ids, worker_in};
 use crate::objects::{add_objects, spell_objects, target_of};
-use crate::sort::Sort;
-use crate::spelled::{block_of, closed_number, cut_at, event_of, sequencer_of};
 use crate::version::Version;
 use arrayvec::ArrayVec;
 use ec_count::{
-    CellId, EventId, Limit, NameFault, Names, SeqId, Setup, Target, Vocabulary, WorkerId,
+    CellId, EventId, Limit, NameFault, Names, SeqId, Setup, SymbolTable, Target, WorkerId,
 };
 use ec_text::{cut_word, has_blank};
 use std::alloc::{AllocError, Global};
@@ -93,17 +94,17 @@ pub struct Heading {
     pub(crate) version: Version,
     pub(crate) setup: Setup,
     pub(crate) names: Names,
-    pub(crate) words: Vocabulary,
+    pub(crate) words: SymbolTable,
     pub(crate) groups: Vec<Group>,
     pub(crate) declarations: Vec<Target>,
 }
 
 impl Model for Heading {
-    ghost use Rattle.ec_heading.specs.Headed.{Headed};
+    ghost use Rattle.ec_heading.specs.HeadingModel.{HeadingModel};
 
-    ghost Value = { Headed };
+    ghost Value = { HeadingModel };
 
-    ghost use Rattle.ec_heading.specs.Outlined.{IsHeading};
+    ghost use Rattle.ec_heading.specs.HeadingInvariant.{IsHeading};
 
     ghost view = { λ h. record { version = h.version; setup = h.setup; names = h.names; words = h.words; groups = h.groups.items; declarations = h.declarations.items } };
 
@@ -128,14 +129,14 @@ fn worker_list(line: &[u8]) -> Option<&[u8]>
 /// Adds the workers of a list in order.
 fn add_workers(
     names: &mut Names,
-    words: &mut Vocabulary,
+    words: &mut SymbolTable,
     setup: &mut Setup,
     list: &[u8],
 ) -> Result<(), NameFault>
     requires room { setup.old.workers + length (words_of list.now) ≤ 16 }
     requires same { words.old ≡ names.old }
-    ensures names { OnOk result (names.new ≡ names.old ++ numbered setup.old.workers (words_of list.now)) }
-    ensures words { OnOk result (words.new ≡ words.old ++ numbered setup.old.workers (words_of list.now)) }
+    ensures names { OnOk result (names.new ≡ names.old ++ number_names setup.old.workers (words_of list.now)) }
+    ensures words { OnOk result (words.new ≡ words.old ++ number_names setup.old.workers (words_of list.now)) }
     ensures setup { OnOk result (setup.new ≡ record setup.old { workers = setup.old.workers + length (words_of list.now) }) }
 {
     let (word, rest) = cut_word(list);
@@ -153,16 +154,21 @@ fn add_workers(
 }
 
 /// Returns a heading with these workers and no declarations.
-fn opened(alloc: Global, version: Version, limit: Limit, list: &[u8]) -> Result<Heading, NameFault>
+fn empty_heading(
+    alloc: Global,
+    version: Version,
+    limit: Limit,
+    list: &[u8],
+) -> Result<Heading, NameFault>
     requires within { limit ≤ greatest_limit version }
     requires none { workers_fault (words_of list.now) ≡ None }
-    ensures { IfOk result (λ heading. heading ≡ opened version limit (words_of list.now)) }
+    ensures { IfOk result (λ heading. heading ≡ empty_heading version limit (words_of list.now)) }
 {
     let _limit = limit.get();
     let Ok(mut names) = Names::new(alloc) else {
         return Err(NameFault::Memory);
     };
-    let Ok(mut words) = Vocabulary::new(alloc) else {
+    let Ok(mut words) = SymbolTable::new(alloc) else {
         return Err(NameFault::Memory);
     };
     let mut setup = Setup::new(limit);
@@ -182,13 +188,13 @@ impl Heading {
     /// text of it may have the limit, as `Version::limit` tells.
     pub fn new(alloc: Global, version: Version, limit: Limit) -> Result<Self, AllocError>
         requires { limit ≤ greatest_limit version }
-        ensures { IfOk result (λ heading. heading ≡ opened version limit []) }
+        ensures { IfOk result (λ heading. heading ≡ empty_heading version limit []) }
     {
         Ok(Heading {
             version,
             setup: Setup::new(limit),
             names: Names::new(alloc)?,
-            words: Vocabulary::new(alloc)?,
+            words: SymbolTable::new(alloc)?,
             groups: Vec::new(alloc),
             declarations: Vec::new(alloc),
         })
@@ -222,7 +228,7 @@ impl Heading {
             return Err(fault);
         }
         let alloc = *self.declarations.allocator();
-        let Ok(heading) = opened(alloc, self.version, self.setup.limit(), list) else {
+        let Ok(heading) = empty_heading(alloc, self.version, self.setup.limit(), list) else {
             return Err(HeadFault::Memory);
         };
         *self = heading;
@@ -234,7 +240,7 @@ impl Heading {
         requires { self.old.setup.workers ≢ 0 }
         ensures { Steps result self.old self.new (declared_or self.old (parts_in (words_of line.now))) }
     {
-        let Some(parts) = parts_of(line) else {
+        let Some(parts) = split_declaration(line) else {
             return Err(HeadFault::BadLine);
         };
         if let Some(fault) = declaration_fault(&self.setup, &self.words, &parts) {
@@ -246,8 +252,9 @@ impl Heading {
     /// Adds what a line without fault declares.
     fn declare(&mut self, parts: &Parts<'_>) -> Result<(), HeadFault>
         requires some { self.old.setup.workers ≢ 0 }
-        requires may { IsDeclarable self.old (declaration_of self.old.words (shown parts.now)) }
-        ensures ok { OnOk result (self.new ≡ declared_by self.old (declaration_of self.old.words (shown parts.now))) }
+        requires may { IsDeclarable self.old
+            (declaration_of self.old.words (phrase_of_parts parts.now)) }
+        ensures ok { OnOk result (self.new ≡ with_declaration self.old (declaration_of self.old.words (phrase_of_parts parts.now))) }
         ensures err { OnErr result (self.new ≡ self.old) }
         ensures fault { IfErr result (λ fault. fault ≡ HeadFault.Memory) }
     {
@@ -264,10 +271,12 @@ impl Heading {
         second: &[WorkerId],
     ) -> Result<(), HeadFault>
         requires some { self.old.setup.workers ≢ 0 }
-        requires may { IsDeclarable self.old (declaration_of self.old.words (shown parts.now)) }
-        requires first { first.now ≡ ids_in self.old.words (shown parts.now).first }
-        requires second { second.now ≡ ids_in self.old.words (second_list (shown parts.now)) }
-        ensures ok { OnOk result (self.new ≡ declared_by self.old (declaration_of self.old.words (shown parts.now))) }
+        requires may { IsDeclarable self.old
+            (declaration_of self.old.words (phrase_of_parts parts.now)) }
+        requires first { first.now ≡ ids_in self.old.words (phrase_of_parts parts.now).first }
+        requires second { second.now
+            ≡ ids_in self.old.words (second_list (phrase_of_parts parts.now)) }
+        ensures ok { OnOk result (self.new ≡ with_declaration self.old (declaration_of self.old.words (phrase_of_parts parts.now))) }
         ensures err { OnErr result (self.new ≡ self.old) }
         ensures fault { IfErr result (λ fault. fault ≡ HeadFault.Memory) }
     {
@@ -303,7 +312,7 @@ impl Heading {
 
     /// Returns the same declarations under version 2.
     pub fn upgrade(self) -> Self
-        ensures { result ≡ upgraded self }
+        ensures { result ≡ upgrade_heading self }
     {
         let mut heading = self;
         heading.version = Version::Two;
@@ -326,7 +335,7 @@ impl Heading {
 
     /// Returns the words by which lines spell the workers and the objects, in the order in which
     /// they are declared.
-    pub fn words(&self) -> &Vocabulary
+    pub fn words(&self) -> &SymbolTable
         ensures { result.now ≡ self.now.words }
     {
         &self.words
@@ -349,13 +358,13 @@ impl Heading {
 
     /// States what is true of a heading.
     #[tactic(auto, using(crate::proofs::shared::Standing::has_outline_from))]
-    pub fn known(&self)
+    pub fn invariant(&self)
         ensures heading { IsHeading self.now }
-        ensures outline { 1 ≤ self.now.setup.workers → HasOutline self.now }
+        ensures outline { 1 ≤ self.now.setup.workers → HasHeaderTree self.now }
         ensures names { AreNames self.now.names }
         ensures groups { All (FitsGroup self.now.setup) self.now.groups }
     {
-        self.names.known();
+        self.names.invariant();
         let _setup = &self.setup;
     }
 
@@ -363,18 +372,18 @@ impl Heading {
     pub fn event(&self, word: &[u8]) -> Option<EventId>
         ensures { result ≡ event_in self.now.words word.now }
     {
-        event_of(self.words.find(word)?)
+        target_event(self.words.find(word)?)
     }
 
     /// Returns the sequencer that a word spells.
     pub fn sequencer(&self, word: &[u8]) -> Option<SeqId>
         ensures { result ≡ sequencer_in self.now.words word.now }
     {
-        sequencer_of(self.words.find(word)?)
+        target_sequencer(self.words.find(word)?)
     }
 
     /// Returns the cell that a word spells: the name of its block, `[`, its number there, and `]`.
-    #[tactic(auto, unfolding(crate::specs::Spelled::cell_in_word))]
+    #[tactic(auto, unfolding(crate::specs::EntryWords::cell_in_word))]
     pub fn cell(&self, word: &[u8]) -> Option<CellId>
         ensures { result ≡ cell_in_word self.now.words word.now }
     {
@@ -402,7 +411,12 @@ impl Heading {
 }
 
 /// Adds the name of a declaration, if its form has one.
-fn add_name(names: &mut Names, sort: Sort, name: &[u8], target: &Target) -> Result<(), NameFault>
+fn add_name(
+    names: &mut Names,
+    sort: DeclKind,
+    name: &[u8],
+    target: &Target,
+) -> Result<(), NameFault>
     ensures ok { OnOk result (names.new ≡ names.old ++ named_as sort name.now target.now) }
     ensures err { OnErr result (names.new ≡ names.old) }
 {
@@ -415,7 +429,7 @@ fn add_name(names: &mut Names, sort: Sort, name: &[u8], target: &Target) -> Resu
 /// Adds the words and the name of a declaration that comes next after these and so many groups, or
 /// none of them.
 fn spell_declaration(
-    words: &mut Vocabulary,
+    words: &mut SymbolTable,
     names: &mut Names,
     setup: &Setup,
     groups: usize,
@@ -481,7 +495,7 @@ fn push_group(groups: &mut Vec<Group>, group: Option<Group>)
 }
 
 /// Returns the workers that a list names.
-fn workers_of(words: &Vocabulary, list: &[u8]) -> ArrayVec<WorkerId, 16>
+fn workers_of(words: &SymbolTable, list: &[u8]) -> ArrayVec<WorkerId, 16>
     requires { length (ids_in words.now (words_of list.now)) ≤ 16 }
     ensures { result.items ≡ ids_in words.now (words_of list.now) }
 {
@@ -491,9 +505,9 @@ fn workers_of(words: &Vocabulary, list: &[u8]) -> ArrayVec<WorkerId, 16>
 }
 
 /// Returns the workers that the second list names.
-fn second_workers(words: &Vocabulary, parts: &Parts<'_>) -> ArrayVec<WorkerId, 16>
-    requires { length (ids_in words.now (second_list (shown parts.now))) ≤ 16 }
-    ensures { result.items ≡ ids_in words.now (second_list (shown parts.now)) }
+fn second_workers(words: &SymbolTable, parts: &Parts<'_>) -> ArrayVec<WorkerId, 16>
+    requires { length (ids_in words.now (second_list (phrase_of_parts parts.now))) ≤ 16 }
+    ensures { result.items ≡ ids_in words.now (second_list (phrase_of_parts parts.now)) }
 {
     match parts.second {
         None => ArrayVec::new(),

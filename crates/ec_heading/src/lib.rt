@@ -1,6 +1,8 @@
 //! Headings: what they declare, by which names, and how entries spell it. Read exactly.
 #![tactic(auto)]
 
+mod decl_kind;
+mod entry_words;
 mod form;
 mod group;
 mod heading;
@@ -8,10 +10,9 @@ mod kinds;
 mod laws;
 mod lists;
 mod objects;
-mod sort;
-mod spelled;
 mod version;
 
+pub use decl_kind::DeclKind;
 pub use group::{Group, both_of, semaphores_of};
 pub use heading::{HeadFault, Heading, LINE_MAX};
 pub use laws::{
@@ -19,5 +20,4 @@ pub use laws::{
     read_workers_are_spelled, spelled_declaration_is_read, spelled_workers_are_read,
 };
 pub use lists::{count_words, has_unknown};
-pub use sort::Sort;
 pub use version::Version;

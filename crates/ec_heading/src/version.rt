@@ -1,6 +1,6 @@
 //! Versions of traces and scripts.
 ghost use Rattle.std.specs.Prelude.{◌≡◌, ◌≤◌, IfSome};
-ghost use Rattle.ec_heading.specs.Versions.{greatest_limit, as_limit, has_hand};
+ghost use Rattle.ec_heading.specs.Versions.{greatest_limit, as_limit, has_transfer};
 
 use ec_count::Limit;
 
@@ -26,8 +26,8 @@ impl Version {
 
     /// Returns whether components are handed over in texts of this version.
     #[inline(always)]
-    pub fn has_hand(self) -> bool
-        ensures { result ≡ has_hand self }
+    pub fn has_transfer(self) -> bool
+        ensures { result ≡ has_transfer self }
     {
         match self {
             Version::One => false,

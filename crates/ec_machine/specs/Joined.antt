@@ -6,28 +6,28 @@ use Rattle.ec_core.specs.declared.act.Act.{Act}
 use Rattle.ec_core.specs.declared.act.Entry.{Entry}
 use Rattle.ec_core.specs.Acceptance.{IsAccepted}
 use Rattle.ec_core.specs.Calls.{is_go, under_way}
-use Rattle.ec_core.specs.Following.{Told}
+use Rattle.ec_core.specs.Following.{CompletedCall}
 use Rattle.ec_core.specs.JoinedLists.{finished_by, op_of}
 use Rattle.ec_machine.specs.declared.command.Command.{Command}
-use Rattle.ec_machine.specs.Written.{written}
+use Rattle.ec_machine.specs.Unrolled.{unroll}
 use Rattle.ec_machine.specs.Steps.{opening, finished}
 use Rattle.ec_machine.specs.Runs.{next_in, IsRunOf}
 use Rattle.ec_machine.specs.Follows.{program_at, Follows}
-use Rattle.ec_machine.specs.Laws.{AreWhole, IsBegun, number_told}
+use Rattle.ec_machine.specs.Laws.{AreWhole, IsBegun, number_after_lists}
 
 -- the completed calls are whole lists of calls joined end to end, one for each of the first commands of the written-out
 -- program, and then the beginning of the list of the command that follows; and the pending call, if one is, is the one
 -- that comes next in it
-pub record AreListsOf (cs : List Command) (calls : List Told) (going : Option Act) : Type 0 where
+pub record AreListsOf (cs : List Command) (calls : List CompletedCall) (going : Option Act) : Type 0 where
   pub done : List Command
   pub left : List Command
-  pub lists : List (List Told)
-  pub last : List Told
-  pub commands : written cs ≡ done ++ left
+  pub lists : List (List CompletedCall)
+  pub last : List CompletedCall
+  pub commands : unroll cs ≡ done ++ left
   pub order : calls ≡ flat_map (λ b. b) lists ++ last
   pub whole : AreWhole 0 done lists
-  pub begun : IsBegun (number_told lists) left last
-  pub next : IfSome going (λ op. next_in left (number_told lists) last ≡ Some op)
+  pub begun : IsBegun (number_after_lists lists) left last
+  pub next : IfSome going (λ op. next_in left (number_after_lists lists) last ≡ Some op)
 
 -- steps as they are cut into calls: each is a go exactly if a call is pending
 unfoldable pub AreSteps : List Entry → Type 0

@@ -16,5 +16,5 @@ is_set outcomes.Memory = true
 is_set _ = false
 
 -- the outcome after `refuse`, which takes effect only if the program is running and the new outcome comes from outside
-abbrev pub refused : Outcome → Outcome → Outcome
-refused old new = if is_running old && is_set new then new else old
+abbrev pub outcome_after_refusal : Outcome → Outcome → Outcome
+outcome_after_refusal old new = if is_running old && is_set new then new else old

@@ -7,7 +7,7 @@ use Rattle.ec_core.specs.declared.act.Act.{Act}
 use Rattle.ec_core.specs.declared.act.Act.TheVariants.{Go}
 use Rattle.ec_core.specs.declared.act.Entry.{Entry}
 use Rattle.ec_core.specs.Calls.{is_pending}
-use Rattle.ec_core.specs.Following.{Told}
+use Rattle.ec_core.specs.Following.{CompletedCall}
 use Rattle.ec_core.specs.Procedures.{next_of}
 
 -- the act that began the call that an act is part of, if this one began the pending call
@@ -22,7 +22,7 @@ opening [] = None
 opening (x ∷ past) = if is_pending x.reply then Some (begun_by x.act (opening past)) else None
 
 -- the completed calls, in order
-unfoldable pub finished : List Entry → List Told
+unfoldable pub finished : List Entry → List CompletedCall
 finished [] = []
 finished (x ∷ past) =
     if is_pending x.reply
@@ -30,12 +30,12 @@ finished (x ∷ past) =
     else finished past ++ record { op = begun_by x.act (opening past); reply = x.reply } ∷ []
 
 -- the act that a written list of calls has next: Go if a call is pending
-abbrev pub due_after : (List Told → Option Act) → List Entry → Option Act
+abbrev pub due_after : (List CompletedCall → Option Act) → List Entry → Option Act
 due_after list past = next_of (is_some (opening past)) (list (finished past))
 
 -- each step is the one that the list has next after those before it: the calls are a beginning of the list, and a pending
 -- call is the next one
-unfoldable pub IsRun : (List Told → Option Act) → List Entry → Type 0
+unfoldable pub IsRun : (List CompletedCall → Option Act) → List Entry → Type 0
 IsRun list [] = Unit {0}
 IsRun list (x ∷ past) = (due_after list past ≡ Some x.act) × IsRun list past
 

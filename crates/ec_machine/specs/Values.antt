@@ -7,13 +7,13 @@ use Rattle.ec_machine.specs.declared.command.Value.{Value}
 use Rattle.ec_machine.specs.declared.command.Value.TheVariants as values
 use Rattle.ec_machine.specs.declared.command.Command.{Command, Await, Put, Produce, WriteAll}
 
-abbrev pub value_of : ℕ → Value → ℕ
-value_of last (values.Number n) = n
-value_of last values.Last = last
-value_of last (values.LastPlus n) = last + n
+abbrev pub eval : ℕ → Value → ℕ
+eval last (values.Number n) = n
+eval last values.Last = last
+eval last (values.LastPlus n) = last + n
 
 abbrev pub is_large : ℕ → Value → Bool
-is_large last v = nat_lt VALUE_MAX (value_of last v)
+is_large last v = nat_lt VALUE_MAX (eval last v)
 
 -- whether a value of the command is above the greatest
 abbrev pub has_large : ℕ → Command → Bool
@@ -24,4 +24,4 @@ has_large last (WriteAll d vs) = list_any (is_large last) vs.items
 has_large last _ = false
 
 abbrev pub values_of : ℕ → List Value → List ℕ
-values_of last vs = map (value_of last) vs
+values_of last vs = map (eval last) vs

@@ -39,7 +39,7 @@ fn goes_with(machine: &mut Machine<'_>, entry: &Entry) -> bool
 
 /// Returns a machine at the start of a worker's program: a missing one is empty.
 fn machine_for(programs: &[Program], place: usize) -> Machine<'_>
-    ensures stands { StandsFor (program_at programs.now place) result [] }
+    ensures represents { StandsFor (program_at programs.now place) result [] }
     ensures unset { is_refused result ≡ false }
 {
     match programs.get(place) {
@@ -52,7 +52,7 @@ fn machine_for(programs: &[Program], place: usize) -> Machine<'_>
 fn follows_one(run: &Run, programs: &[Program], worker: WorkerId) -> bool
     ensures { IsTrue result ↔ Follows programs.now run.now.entries worker }
 {
-    run.known();
+    run.invariant();
     replies_fit_their_acts();
     let mut machine = machine_for(programs, worker.get());
     for entry in run.entries() {

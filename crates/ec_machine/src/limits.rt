@@ -25,7 +25,7 @@ pub(crate) fn keeps_limits(commands: &[Command]) -> bool
     ensures { IsTrue result ↔ IsProgram commands.now }
 {
     is_within(NESTING_MAX, commands)
-        && left_of(COMMANDS_MAX, commands).is_some()
+        && room_within(COMMANDS_MAX, commands).is_some()
         && is_sound(commands)
 }
 
@@ -47,7 +47,7 @@ fn is_within(bound: usize, commands: &[Command]) -> bool
 /// Returns how many commands there may be beside these within a bound; `None` if these are more
 /// than the bound.
 #[cycle(count)]
-fn left_of(bound: usize, commands: &[Command]) -> Option<usize>
+fn room_within(bound: usize, commands: &[Command]) -> Option<usize>
     ensures variant { IsSome result ↔ (count commands.now ≤ bound) }
     ensures value { IfSome result (λ left. left ≡ bound - count commands.now) }
 {
@@ -65,7 +65,7 @@ fn left_of_one(bound: usize, command: &Command) -> Option<usize>
 {
     let left = bound.checked_sub(1)?;
     match command {
-        Command::Repeat(_, block) => left_of(left, block.as_slice()),
+        Command::Repeat(_, block) => room_within(left, block.as_slice()),
         _ => Some(left),
     }
 }

@@ -6,10 +6,10 @@ ghost use Rattle.ec_core.specs.declared.act.Entry.{Entry};
 ghost use Rattle.ec_core.specs.Procedures.{IsReplyTo, next_of};
 ghost use Rattle.ec_core.specs.Values.{TellsAtMost};
 ghost use Rattle.ec_machine.specs.declared.command.Command.{Command};
-ghost use Rattle.ec_machine.specs.Outcomes.{is_running, refused};
+ghost use Rattle.ec_machine.specs.Outcomes.{is_running, outcome_after_refusal};
 ghost use Rattle.ec_machine.specs.Runs.{number_after, next_act, outcome_of};
 ghost use Rattle.ec_machine.specs.Tasks.{task_rest, task_going};
-ghost use Rattle.ec_machine.specs.Written.{written};
+ghost use Rattle.ec_machine.specs.Unrolled.{unroll};
 
 use crate::remaining::Remaining;
 use crate::settling::settle;
@@ -45,11 +45,11 @@ fn number_after(last: u64, reply: Reply) -> u64
 }
 
 impl<'a> Machine<'a> {
-    ghost use Rattle.ec_machine.specs.Standing.{StandsFor, kept_outcome, is_refused, act_of};
+    ghost use Rattle.ec_machine.specs.Standing.{StandsFor, machine_outcome, is_refused, due_act};
 
     /// Makes a machine at the start of a program.
     pub fn new(program: &'a Program) -> Self
-        ensures stands { StandsFor program.now result [] }
+        ensures represents { StandsFor program.now result [] }
         ensures unset { is_refused result ≡ false }
     {
         Machine::at_start(program.remaining())
@@ -57,7 +57,7 @@ impl<'a> Machine<'a> {
 
     /// Makes a machine at the start of these commands.
     pub(crate) fn at_start(mut rest: Remaining<'a>) -> Self
-        ensures stands { (cs : List Command) → rest.entry ≡ written cs → StandsFor cs result [] }
+        ensures represents { (cs : List Command) → rest.entry ≡ unroll cs → StandsFor cs result [] }
         ensures unset { is_refused result ≡ false }
     {
         let mut task = Task::nothing();
@@ -73,8 +73,8 @@ impl<'a> Machine<'a> {
     /// Returns the act that is due: Go if the last reply was Pending. None once the program has
     /// ended.
     pub fn next(&self) -> Option<Act>
-        ensures value { result ≡ act_of self.now }
-        ensures some { is_some result ≡ is_running (kept_outcome self.now) }
+        ensures value { result ≡ due_act self.now }
+        ensures some { is_some result ≡ is_running (machine_outcome self.now) }
         ensures due { (cs : List Command) (past : List Entry) → StandsFor cs self.now past → is_refused self.now ≡ false
             → result ≡ next_act cs past }
     {
@@ -83,7 +83,7 @@ impl<'a> Machine<'a> {
 
     /// Returns how the program has ended, or Running.
     pub fn outcome(&self) -> Outcome
-        ensures value { result ≡ kept_outcome self.now }
+        ensures value { result ≡ machine_outcome self.now }
         ensures after { (cs : List Command) (past : List Entry) → StandsFor cs self.now past → is_refused self.now ≡ false
             → result ≡ outcome_of cs past }
     {
@@ -93,8 +93,8 @@ impl<'a> Machine<'a> {
     /// Takes the reply to the act that is due. An act has to be due, and the reply has to be of a
     /// kind that the act can get, with a number of at most VALUE_MAX, as each reply of a step is.
     pub fn take(&mut self, reply: Reply)
-        requires { IsReplyTo (act_of self.old) reply }
-        ensures stands { (cs : List Command) (past : List Entry) (worker : ℕ) (act : Act) → StandsFor cs self.old past → act_of self.old ≡ Some act
+        requires { IsReplyTo (due_act self.old) reply }
+        ensures represents { (cs : List Command) (past : List Entry) (worker : ℕ) (act : Act) → StandsFor cs self.old past → due_act self.old ≡ Some act
             → StandsFor cs self.new (record { worker = worker; act = act; reply = reply } ∷ past) }
         ensures unset { is_refused self.new ≡ false }
     {
@@ -108,8 +108,9 @@ impl<'a> Machine<'a> {
     /// Ends the program from outside. It takes effect only if the outcome is Running and the new
     /// one is Refused, Stopped, OutOfTurns or Memory.
     pub fn refuse(&mut self, outcome: Outcome)
-        ensures outcome { kept_outcome self.new ≡ refused (kept_outcome self.old) outcome }
-        ensures stands { (cs : List Command) (past : List Entry) → StandsFor cs self.old past → StandsFor cs self.new past }
+        ensures outcome { machine_outcome self.new
+            ≡ outcome_after_refusal (machine_outcome self.old) outcome }
+        ensures represents { (cs : List Command) (past : List Entry) → StandsFor cs self.old past → StandsFor cs self.new past }
     {
         if self.outcome != Outcome::Running {
             return;

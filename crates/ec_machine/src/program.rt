@@ -1,7 +1,7 @@
 //! Programs.
 ghost use Rattle.std.specs.Prelude.{◌≡◌, ◌≤◌, ◌↔◌, true, IsTrue, IsSome, IfSome};
 ghost use Rattle.ec_machine.specs.Programs.{IsProgram};
-ghost use Rattle.ec_machine.specs.Written.{written};
+ghost use Rattle.ec_machine.specs.Unrolled.{unroll};
 
 use crate::Command;
 use crate::limits::keeps_limits;
@@ -49,13 +49,13 @@ impl Program {
 
     /// Returns its commands, with their repeats written out, at their start.
     pub(crate) fn remaining(&self) -> Remaining<'_>
-        ensures { result ≡ written self.now }
+        ensures { result ≡ unroll self.now }
     {
         Remaining::new(self.commands.as_slice())
     }
 
     /// States what is true of a program: its commands keep the limits.
-    pub fn known(&self)
+    pub fn invariant(&self)
         ensures { IsProgram self.now }
     {
         let _ = &self.commands;

@@ -1,8 +1,8 @@
 //! The commands that are left of a program, each repeat written out, kept as counters.
 ghost use Rattle.std.specs.Prelude.{◌≡◌, ◌+◌, ◌≤◌, ◌<◌, ◌++◌, ◌∷◌, [], MatchOption, IfSome, IfNone, length, true};
 ghost use Rattle.ec_machine.specs.Limits.{nesting, nesting_one, is_sound, is_sound_one};
-ghost use Rattle.ec_machine.specs.Written.{written, written_one, repeated, is_single};
-ghost use Rattle.ec_machine.specs.Left.{left_of, frame_left, FrameFits, FramesFit};
+ghost use Rattle.ec_machine.specs.Unrolled.{unroll, unroll_command, repeated, is_single};
+ghost use Rattle.ec_machine.specs.Left.{left_of, frame_commands, FrameFits, FramesFit};
 
 use crate::Command;
 use arrayvec::ArrayVec;
@@ -38,7 +38,7 @@ fn push_rest<'a>(
     requires block_some { 0 < length block.now }
     requires sound { (is_sound rest.now ≡ true) × (is_sound block.now ≡ true) }
     requires nesting { (length frames.old.items + nesting rest.now ≤ 4) × (length frames.old.items + nesting block.now ≤ 4) }
-    ensures left { left_of frames.new.items ≡ (written rest.now ++ repeated times (written block.now)) ++ left_of frames.old.items }
+    ensures left { left_of frames.new.items ≡ (unroll rest.now ++ repeated times (unroll block.now)) ++ left_of frames.old.items }
     ensures fit { FramesFit 0 frames.new.items }
     ensures few { length frames.new.items ≤ length frames.old.items + 1 }
 {
@@ -59,7 +59,7 @@ fn enter<'a>(frames: &mut ArrayVec<Frame<'a>, 5>, command: &'a Command) -> &'a C
     requires fit { FramesFit 0 frames.old.items }
     requires sound { is_sound_one command.now ≡ true }
     requires nesting { length frames.old.items + nesting_one command.now ≤ 5 }
-    ensures left { written_one command.now ++ left_of frames.old.items ≡ result.now ∷ left_of frames.new.items }
+    ensures left { unroll_command command.now ++ left_of frames.old.items ≡ result.now ∷ left_of frames.new.items }
     ensures fit { FramesFit 0 frames.new.items }
     ensures single { is_single result.now ≡ true }
     ensures sound { is_sound_one result.now ≡ true }
@@ -81,7 +81,7 @@ fn pop_frame<'a>(frames: &mut ArrayVec<Frame<'a>, 5>) -> Option<Frame<'a>>
     requires fit { FramesFit 0 frames.old.items }
     ensures none { IfNone result (left_of frames.old.items ≡ []) }
     ensures same { IfNone result (frames.new ≡ frames.old) }
-    ensures left { IfSome result (λ f. left_of frames.old.items ≡ frame_left f ++ left_of frames.new.items) }
+    ensures left { IfSome result (λ f. left_of frames.old.items ≡ frame_commands f ++ left_of frames.new.items) }
     ensures fit { FramesFit 0 frames.new.items }
     ensures fits { IfSome result (λ f. FrameFits (length frames.new.items) f) }
 {
@@ -134,7 +134,7 @@ impl<'a> Remaining<'a> {
     pub(crate) fn new(block: &'a [Command]) -> Self
         requires sound { is_sound block.now ≡ true }
         requires nesting { nesting block.now ≤ 4 }
-        ensures { result ≡ written block.now }
+        ensures { result ≡ unroll block.now }
     {
         let mut frames = ArrayVec::new();
         if block.is_empty() {

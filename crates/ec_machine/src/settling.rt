@@ -2,11 +2,11 @@
 ghost use Rattle.std.specs.Prelude.{◌≡◌, ◌≤◌, true, false, List, [], length, is_some};
 ghost use Rattle.std.specs.List.{list_all, list_any};
 ghost use Rattle.ec_core.specs.declared.act.TheConstants.{VALUE_MAX};
-ghost use Rattle.ec_core.specs.Following.{Told};
+ghost use Rattle.ec_core.specs.Following.{CompletedCall};
 ghost use Rattle.ec_database.specs.Calls.{write_call};
 ghost use Rattle.ec_database.specs.Snapshots.{snapshot_call};
 ghost use Rattle.ec_machine.specs.Limits.{is_sound_one, is_value};
-ghost use Rattle.ec_machine.specs.Written.{is_single};
+ghost use Rattle.ec_machine.specs.Unrolled.{is_single};
 ghost use Rattle.ec_machine.specs.Values.{has_large, is_large, values_of};
 ghost use Rattle.ec_machine.specs.Outcomes.{is_running, is_set};
 ghost use Rattle.ec_machine.specs.Kinds.{is_act};
@@ -19,7 +19,7 @@ use crate::one_call::OneCall;
 use crate::remaining::Remaining;
 use crate::small_task::SmallTask;
 use crate::task::Task;
-use crate::values::{has_large, value_of, values_of};
+use crate::values::{eval, has_large, values_of};
 use crate::{Command, Outcome, Value};
 use ec_buffer::{Consume, Produce};
 use ec_core::{Act, VALUE_MAX};
@@ -27,19 +27,20 @@ use ec_database::{DatabaseShape, Snapshot, WriteAll};
 use ec_semaphore::{Down, DownBoth, Up};
 
 /// Returns the act that a command is, if it is one and its value is not too large.
-fn act_of(last: u64, command: &Command) -> Act
+fn act_of_command(last: u64, command: &Command) -> Act
     requires last { last ≤ VALUE_MAX }
     requires sound { is_sound_one command.now ≡ true }
     requires fits { has_large last command.now ≡ false }
     requires one { is_act command.now ≡ true }
-    ensures { (calls : List Told) → one_call result calls ≡ command_call last command.now calls }
+    ensures { (calls : List CompletedCall)
+        → one_call result calls ≡ command_call last command.now calls }
 {
     match command {
         Command::Advance(event) => Act::Advance(*event),
         Command::Read(event) => Act::Read(*event),
-        Command::Await(event, value) => Act::Await(*event, value_of(last, value)),
+        Command::Await(event, value) => Act::Await(*event, eval(last, value)),
         Command::Ticket(sequencer) => Act::Ticket(*sequencer),
-        Command::Put(cell, value) => Act::Put(*cell, value_of(last, value)),
+        Command::Put(cell, value) => Act::Put(*cell, eval(last, value)),
         Command::Get(cell) => Act::Get(*cell),
         Command::Hand(event, to) => Act::Hand(*event, *to),
         _ => unreachable!(),
@@ -54,12 +55,12 @@ fn small_of(last: u64, command: &Command) -> SmallTask
     requires fits { has_large last command.now ≡ false }
     requires many { is_act command.now ≡ false }
     requires small { is_large_task command.now ≡ false }
-    ensures whole { (calls : List Told) → small_rest result calls ≡ command_call last command.now calls }
+    ensures whole { (calls : List CompletedCall) → small_rest result calls ≡ command_call last command.now calls }
     ensures fresh { small_going result ≡ false }
 {
     match command {
         Command::Produce(shape, value) => {
-            SmallTask::Produce(Produce::new(*shape, value_of(last, value)))
+            SmallTask::Produce(Produce::new(*shape, eval(last, value)))
         }
         Command::Consume(shape) => SmallTask::Consume(Consume::new(*shape)),
         Command::Down(shape) => SmallTask::Down(Down::new(*shape)),
@@ -77,7 +78,7 @@ fn begin_write(task: &mut Task, last: u64, shape: &DatabaseShape, values: &[Valu
     requires many { length values.now ≡ shape.now.cells }
     requires sound { list_all is_value values.now ≡ true }
     requires small { list_any (is_large last) values.now ≡ false }
-    ensures whole { (calls : List Told) → task_rest task.new calls ≡ write_call shape.now (values_of last values.now) calls }
+    ensures whole { (calls : List CompletedCall) → task_rest task.new calls ≡ write_call shape.now (values_of last values.now) calls }
     ensures fresh { task_going task.new ≡ false }
 {
     let _cells = shape.cells();
@@ -89,7 +90,7 @@ fn begin_write(task: &mut Task, last: u64, shape: &DatabaseShape, values: &[Valu
 fn begin_snapshot(task: &mut Task, shape: &DatabaseShape, tries: usize)
     requires some { 1 ≤ tries }
     requires few { tries ≤ 1000 }
-    ensures whole { (calls : List Told) → task_rest task.new calls ≡ snapshot_call shape.now tries calls }
+    ensures whole { (calls : List CompletedCall) → task_rest task.new calls ≡ snapshot_call shape.now tries calls }
     ensures fresh { task_going task.new ≡ false }
 {
     let snapshot = Snapshot::new(*shape, tries);
@@ -102,7 +103,7 @@ fn begin(task: &mut Task, last: u64, command: &Command)
     requires sound { is_sound_one command.now ≡ true }
     requires single { is_single command.now ≡ true }
     requires fits { has_large last command.now ≡ false }
-    ensures whole { (calls : List Told) → task_rest task.new calls ≡ command_call last command.now calls }
+    ensures whole { (calls : List CompletedCall) → task_rest task.new calls ≡ command_call last command.now calls }
     ensures fresh { task_going task.new ≡ false }
 {
     match command {
@@ -114,7 +115,7 @@ fn begin(task: &mut Task, last: u64, command: &Command)
         | Command::Ticket(_)
         | Command::Put(_, _)
         | Command::Get(_)
-        | Command::Hand(_, _) => task.put_small(SmallTask::One(OneCall::new(act_of(
+        | Command::Hand(_, _) => task.put_small(SmallTask::One(OneCall::new(act_of_command(
             last, command,
         )))),
         _ => task.put_small(small_of(last, command)),
@@ -124,7 +125,7 @@ fn begin(task: &mut Task, last: u64, command: &Command)
 /// Begins the command that is due, if there is one: how the program stands then.
 pub(crate) fn settle(rest: &mut Remaining<'_>, last: u64, task: &mut Task) -> Outcome
     requires last { last ≤ VALUE_MAX }
-    ensures at { IsAt (task_rest task.new) rest.new (record { left = rest.old; last = last; told = [] }) }
+    ensures at { IsAt (task_rest task.new) rest.new (record { left = rest.old; last = last; returned = [] }) }
     ensures outcome { result ≡ outcome_in rest.old last }
     ensures running { is_running result ≡ is_some (task_rest task.new []) }
     ensures fresh { task_going task.new ≡ false }

@@ -1,6 +1,6 @@
 //! The command that a machine is at.
 ghost use Rattle.std.specs.Prelude.{◌≡◌, false, List, None};
-ghost use Rattle.ec_core.specs.Following.{Told};
+ghost use Rattle.ec_core.specs.Following.{CompletedCall};
 ghost use Rattle.ec_machine.specs.Tasks.{small_rest, small_going, large_rest, large_going, task_rest, task_going};
 
 use crate::large_task::LargeTask;
@@ -21,7 +21,7 @@ pub(crate) struct Task {
 impl Task {
     /// Returns the task in which no command is due.
     pub(crate) fn nothing() -> Self
-        ensures rest { (calls : List Told) → task_rest result calls ≡ None }
+        ensures rest { (calls : List CompletedCall) → task_rest result calls ≡ None }
         ensures going { task_going result ≡ false }
     {
         Task {
@@ -33,7 +33,8 @@ impl Task {
 
     /// Makes this one the one that is due from now on.
     pub(crate) fn put_small(&mut self, small: SmallTask)
-        ensures rest { (calls : List Told) → task_rest self.new calls ≡ small_rest small calls }
+        ensures rest { (calls : List CompletedCall)
+            → task_rest self.new calls ≡ small_rest small calls }
         ensures going { task_going self.new ≡ small_going small }
     {
         self.is_large = false;
@@ -42,7 +43,8 @@ impl Task {
 
     /// Makes this one the one that is due from now on.
     pub(crate) fn put_large(&mut self, large: LargeTask)
-        ensures rest { (calls : List Told) → task_rest self.new calls ≡ large_rest large calls }
+        ensures rest { (calls : List CompletedCall)
+            → task_rest self.new calls ≡ large_rest large calls }
         ensures going { task_going self.new ≡ large_going large }
     {
         self.is_large = true;

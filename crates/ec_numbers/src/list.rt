@@ -25,9 +25,9 @@ pub struct NumberList {
 }
 
 impl Model for NumberList {
-    ghost use Rattle.ec_numbers.specs.Numbers.{KeptNumbers, numbers_in};
+    ghost use Rattle.ec_numbers.specs.Numbers.{NumberListModel, numbers_in};
 
-    ghost Value = { KeptNumbers };
+    ghost Value = { NumberListModel };
 
     ghost view = { λ s. numbers_in s.list };
 }
@@ -41,7 +41,7 @@ fn is_wide(number: u64) -> bool
 }
 
 /// Returns the numbers of a list in 64 bits each, with room for one more.
-fn widened(list: &Vec<u32>) -> Result<Vec<u64>, AllocError>
+fn widen(list: &Vec<u32>) -> Result<Vec<u64>, AllocError>
     ensures items { IfOk result (λ wide. wide.items ≡ list.now.items) }
     ensures room { IfOk result (λ wide. vec_len wide < vec_capacity wide) }
 {
@@ -140,7 +140,7 @@ impl NumberList {
         ensures err { OnErr result (self.new ≡ self.old) }
     {
         match &mut self.list {
-            Width::Narrow(list) => self.list = Width::Wide(widened(list)?),
+            Width::Narrow(list) => self.list = Width::Wide(widen(list)?),
             Width::Wide(list) => list.reserve(1)?,
         }
         Ok(())
@@ -149,7 +149,7 @@ impl NumberList {
     /// Makes room for this number. If there is room for it already, nothing changes; there is
     /// none if the list is full, or where this is its first number that needs 64 bits.
     #[inline(always)]
-    pub fn make_room(&mut self, number: u64) -> Result<(), AllocError>
+    pub fn reserve_for(&mut self, number: u64) -> Result<(), AllocError>
         ensures same { self.new.list ≡ self.old.list }
         ensures room { OnOk result (HasRoom self.new number) }
         ensures wide { OnOk result (self.new.wide ≡ is_wide_with self.old number) }
@@ -188,7 +188,7 @@ impl NumberList {
         ensures err { OnErr result (self.new ≡ self.old) }
         ensures full { OnErr result (HasRoom self.old number → ⊥) }
     {
-        self.make_room(number)?;
+        self.reserve_for(number)?;
         self.put(number);
         Ok(())
     }

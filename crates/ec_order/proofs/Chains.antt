@@ -4,7 +4,7 @@ use Rattle.ec_count.specs.Tables.{Tables}
 use Rattle.ec_core.specs.declared.act.Act.{Act}
 use Rattle.ec_core.specs.declared.act.Act.TheVariants.{Go}
 use Rattle.ec_core.specs.declared.act.Entry.{Entry}
-use Rattle.ec_core.specs.Calls.{CallSoFar, under_way, gone_on, is_pending}
+use Rattle.ec_core.specs.Calls.{CallSoFar, under_way, call_with_act, is_pending}
 use Rattle.ec_core.specs.Rounds.{sum_read, IsPastOf, IsPastOfEach, EachIsPastOf}
 use Rattle.ec_core.specs.Counts.{component_total}
 use Rattle.ec_core.proofs.shared.Pasts.{past_itself}
@@ -62,7 +62,7 @@ abbrev pub IsGone : List Entry → Option CallSoFar → Type 0
 IsGone past None = Unit {0}
 IsGone past (Some call) = (rest : List (List Entry)) × (call.moments ≡ past ∷ rest) × IsChain past rest
 
-pub gone_chain : (act : Act) (past : List Entry) (o : Option CallSoFar) → IsChained past o → IsGone past (gone_on act past o)
+pub gone_chain : (act : Act) (past : List Entry) (o : Option CallSoFar) → IsChained past o → IsGone past (call_with_act act past o)
 gone_chain Go past None h = tt
 gone_chain Go past (Some call) h = (call.moments, refl, h)
 gone_chain act past o h = ([], refl, tt)
@@ -80,7 +80,7 @@ pub call_chain : (w : ℕ) (past : List Entry) → IsChained past (under_way w p
 unfolding under_way
 call_chain w [] = tt
 call_chain w (x ∷ past) =
-    elim (x.worker == w) as (λ b. IsChained (x ∷ past) (cond b (cond (is_pending x.reply) (gone_on x.act past (under_way w past)) None) (under_way w past))) [
-      | true ↦ gone_kept x past (gone_on x.act past (under_way w past)) (is_pending x.reply) (gone_chain x.act past (under_way w past) (call_chain w past))
+    elim (x.worker == w) as (λ b. IsChained (x ∷ past) (cond b (cond (is_pending x.reply) (call_with_act x.act past (under_way w past)) None) (under_way w past))) [
+      | true ↦ gone_kept x past (call_with_act x.act past (under_way w past)) (is_pending x.reply) (gone_chain x.act past (under_way w past) (call_chain w past))
       | false ↦ chained_later x past (under_way w past) (call_chain w past)
     ]

@@ -6,7 +6,7 @@ use Rattle.std.proofs.lemmas.List.Elements.{All-weaker, All-contains}
 use Rattle.std.proofs.lemmas.Option.{slice_get_within, slice_get-get_or, get_or_from_slice_get}
 use Rattle.ec_count.specs.Tables.{Tables, IsDeclared}
 use Rattle.ec_core.specs.declared.act.Entry.{Entry}
-use Rattle.ec_core.specs.Calls.{under_way, gone_on}
+use Rattle.ec_core.specs.Calls.{under_way, call_with_act}
 use Rattle.ec_core.specs.Acceptance.{IsAccepted}
 use Rattle.ec_order.specs.declared.call.Call.{Call}
 use Rattle.ec_order.specs.declared.placed.Placed.{Placed}
@@ -83,7 +83,7 @@ abbrev pub EndsFirst : Call → Call → Type 0
 EndsFirst a b = a.last < b.last
 
 ended_alone : (t : Tables) (x : Entry) (past : List Entry) → Ends t x past (under_way x.worker past)
-    → AllPairs EndsFirst (ended_by t x (gone_on x.act past (under_way x.worker past))) × All (λ (c : Call). c.last ≡ length past) (ended_by t x (gone_on x.act past (under_way x.worker past)))
+    → AllPairs EndsFirst (ended_by t x (call_with_act x.act past (under_way x.worker past))) × All (λ (c : Call). c.last ≡ length past) (ended_by t x (call_with_act x.act past (under_way x.worker past)))
 ended_alone t x past (inl n) = rw n.is (λ i j d lt le. absurd (omega arith), λ k d lt. absurd (omega arith))
 ended_alone t x past (inr (inl r)) = (rw r.is (λ i j d lt le. absurd (omega arith)), ended_last t x past (inr (inl r)))
 ended_alone t x past (inr (inr a)) = (rw a.is (λ i j d lt le. absurd (omega arith)), ended_last t x past (inr (inr a)))
@@ -93,9 +93,9 @@ unfolding finished_calls
 ends_rise t [] d acc = λ i j e lt le. absurd (omega arith)
 ends_rise t (x ∷ past) d acc =
     let k = ended_alone t x past (ends t x past d acc) in
-    AllPairs-append EndsFirst (finished_calls t past) (ended_by t x (gone_on x.act past (under_way x.worker past))) (ends_rise t past d acc.1) k.0
-    (All-weaker (Fits past) (λ c. All (EndsFirst c) (ended_by t x (gone_on x.act past (under_way x.worker past))))
-    (λ c f. All-weaker (λ (b : Call). b.last ≡ length past) (EndsFirst c) (λ b e. (let lt : c.last < length past = f.last in omega arith)) (ended_by t x (gone_on x.act past (under_way x.worker past))) k.1)
+    AllPairs-append EndsFirst (finished_calls t past) (ended_by t x (call_with_act x.act past (under_way x.worker past))) (ends_rise t past d acc.1) k.0
+    (All-weaker (Fits past) (λ c. All (EndsFirst c) (ended_by t x (call_with_act x.act past (under_way x.worker past))))
+    (λ c f. All-weaker (λ (b : Call). b.last ≡ length past) (EndsFirst c) (λ b e. (let lt : c.last < length past = f.last in omega arith)) (ended_by t x (call_with_act x.act past (under_way x.worker past))) k.1)
     (finished_calls t past) (all_fit t past d acc.1))
 
 differ_from : (cs : List Call) → AllPairs EndsFirst cs → Differ cs

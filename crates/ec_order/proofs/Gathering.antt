@@ -8,14 +8,14 @@ use Rattle.std.proofs.lemmas.List.Elements.{All-nil, All-cons, All-head, All-tai
 use Rattle.ec_count.specs.Tables.{Tables, IsDeclared}
 use Rattle.ec_core.specs.declared.act.Entry.{Entry}
 use Rattle.ec_core.specs.Counts.{total}
-use Rattle.ec_core.specs.Calls.{CallSoFar, under_way, gone_on, call_with, is_go, is_pending}
+use Rattle.ec_core.specs.Calls.{CallSoFar, under_way, call_with_act, call_with, is_go, is_pending}
 use Rattle.ec_core.specs.Rounds.{event_or}
 use Rattle.ec_core.specs.Acceptance.{IsAccepted}
 use Rattle.ec_core.proofs.shared.Answering.{allowed}
 use Rattle.ec_order.specs.declared.call.Call.{Call}
 use Rattle.ec_order.specs.declared.placed.Placed.{Placed}
-use Rattle.ec_order.specs.Calls.{call_of_entries, ended_by, finished_calls, is_reading, stands_alone}
-use Rattle.ec_core.specs.CallLists.{number_of}
+use Rattle.ec_order.specs.Calls.{call_of_entries, ended_by, finished_calls, is_reading, is_one_entry_call}
+use Rattle.ec_core.specs.CallLists.{reply_number}
 use Rattle.ec_order.specs.Points.{first_entries, first_moment, point_of, with_point, by_moments}
 use Rattle.ec_order.specs.Walk.{is_alone, placed_point, reads, readings, IsPlaceFor}
 use Rattle.ec_order.proofs.Points.{first_next}
@@ -39,8 +39,8 @@ point_later x past c f =
     let order : c.round ≤ c.last = f.round in
     let last : c.last < length past = f.last in
     ap (λ k. cond (is_reading c.op) k c.last)
-    (first_moment_agree (λ k. total e (first_entries k (x ∷ past)) == number_of c.reply) (λ k. total e (first_entries k past) == number_of c.reply) c.round (c.last - c.round)
-    (λ j a b. ap (λ p. total e p == number_of c.reply) (first_next j x past (omega arith))))
+    (first_moment_agree (λ k. total e (first_entries k (x ∷ past)) == reply_number c.reply) (λ k. total e (first_entries k past) == reply_number c.reply) c.round (c.last - c.round)
+    (λ j a b. ap (λ p. total e p == reply_number c.reply) (first_next j x past (omega arith))))
 
 placed_later : (x : Entry) (past : List Entry) (cs : List Call) → All (Fits past) cs → map (with_point (x ∷ past)) cs ≡ map (with_point past) cs
 placed_later x past [] h = refl
@@ -56,23 +56,23 @@ abbrev pub placed : Tables → List Entry → List Placed
 placed t past = map (with_point past) (finished_calls t past)
 
 pub placed_more : (t : Tables) (x : Entry) (past : List Entry) → IsDeclared t → IsAccepted t (x ∷ past)
-    → placed t (x ∷ past) ≡ placed t past ++ map (with_point (x ∷ past)) (ended_by t x (gone_on x.act past (under_way x.worker past)))
+    → placed t (x ∷ past) ≡ placed t past ++ map (with_point (x ∷ past)) (ended_by t x (call_with_act x.act past (under_way x.worker past)))
 unfolding finished_calls
 placed_more t x past d acc =
     let f = with_point (x ∷ past) in
     let cs = finished_calls t past in
-    let more = ended_by t x (gone_on x.act past (under_way x.worker past)) in
+    let more = ended_by t x (call_with_act x.act past (under_way x.worker past)) in
     map-append f cs more ∙ ap (λ ps. ps ++ map f more) (placed_later x past cs (all_fit t past d acc.1))
 
 pub added : (t : Tables) (x : Entry) (past : List Entry) → IsDeclared t → IsAccepted t (x ∷ past)
-    → readings t (x ∷ past) ≡ readings t past ++ filter reads (map (with_point (x ∷ past)) (ended_by t x (gone_on x.act past (under_way x.worker past))))
+    → readings t (x ∷ past) ≡ readings t past ++ filter reads (map (with_point (x ∷ past)) (ended_by t x (call_with_act x.act past (under_way x.worker past))))
 added t x past d acc =
-    let more = ended_by t x (gone_on x.act past (under_way x.worker past)) in
+    let more = ended_by t x (call_with_act x.act past (under_way x.worker past)) in
     ap (filter reads) (placed_more t x past d acc) ∙ filter-append reads (placed t past) (map (with_point (x ∷ past)) more)
 
 -- what any other entry ends is one
 pub others_read : (t : Tables) (x : Entry) (past : List Entry) → is_alone x.act ≡ false → Ends t x past (under_way x.worker past)
-    → All (λ (c : Call). is_reading c.op ≡ true) (ended_by t x (gone_on x.act past (under_way x.worker past)))
+    → All (λ (c : Call). is_reading c.op ≡ true) (ended_by t x (call_with_act x.act past (under_way x.worker past)))
 others_read t x past other (inl n) = rw n.is (All-nil (λ (c : Call). is_reading c.op ≡ true))
 others_read t x past other (inr (inl r)) = rw r.is (All-cons (λ (c : Call). is_reading c.op ≡ true) (call_of_entries t x r.op (past ∷ r.rest)) [] r.reading (All-nil (λ (c : Call). is_reading c.op ≡ true)))
 others_read t x past other (inr (inr a)) = (let alone : is_alone x.act ≡ true = alone_from x.act a.begins a.acting in cc)
@@ -93,26 +93,26 @@ neither false true h = cc
 neither false false h = (refl, refl)
 
 -- it is no go, and not told Pending
-pub whole_parts : (x : Entry) → stands_alone x ≡ true → (is_go x.act ≡ false) × (is_pending x.reply ≡ false)
+pub whole_parts : (x : Entry) → is_one_entry_call x ≡ true → (is_go x.act ≡ false) × (is_pending x.reply ≡ false)
 whole_parts x whole = neither (is_go x.act) (is_pending x.reply) whole
 
-pub whole_from : (x : Entry) → is_go x.act ≡ false → is_pending x.reply ≡ false → stands_alone x ≡ true
+pub whole_from : (x : Entry) → is_go x.act ≡ false → is_pending x.reply ≡ false → is_one_entry_call x ≡ true
 whole_from x begins final = ap (λ a. not a && not (is_pending x.reply)) begins ∙ ap not final
 
 -- so is each act but a read, an await and a go
-pub alone_whole : (t : Tables) (x : Entry) (past : List Entry) → is_alone x.act ≡ true → Ends t x past (under_way x.worker past) → stands_alone x ≡ true
+pub alone_whole : (t : Tables) (x : Entry) (past : List Entry) → is_alone x.act ≡ true → Ends t x past (under_way x.worker past) → is_one_entry_call x ≡ true
 alone_whole t x past alone (inl n) = (let other : is_alone x.act ≡ false = n.goes_on in cc)
 alone_whole t x past alone (inr (inl r)) = (let other : is_alone x.act ≡ false = r.goes_on in cc)
 alone_whole t x past alone (inr (inr a)) = whole_from x a.begins a.final
 
-pub whole_leaves : (t : Tables) (x : Entry) (past : List Entry) (w : ℕ) → IsDeclared t → IsAccepted t (x ∷ past) → stands_alone x ≡ true → under_way w (x ∷ past) ≡ under_way w past
+pub whole_leaves : (t : Tables) (x : Entry) (past : List Entry) (w : ℕ) → IsDeclared t → IsAccepted t (x ∷ past) → is_one_entry_call x ≡ true → under_way w (x ∷ past) ≡ under_way w past
 unfolding under_way
 whole_leaves t x past w d acc whole =
     let parts = whole_parts x whole in
     let k = allowed t past x.worker x.act x.reply acc.0 in
     let none : under_way x.worker past ≡ None = not_some (under_way x.worker past) (and_true (is_some (under_way x.worker past)) (is_go x.act) k.0.free parts.0) in
-    elim (x.worker == w) as (λ b. (x.worker == w) ≡ b → cond b (cond (is_pending x.reply) (gone_on x.act past (under_way w past)) None) (under_way w past) ≡ under_way w past) [
-      | true ↦ λ e. ap (λ b. cond b (gone_on x.act past (under_way w past)) None) parts.1 ∙ sym none ∙ ap (λ v. under_way v past) (eqb-true x.worker w e)
+    elim (x.worker == w) as (λ b. (x.worker == w) ≡ b → cond b (cond (is_pending x.reply) (call_with_act x.act past (under_way w past)) None) (under_way w past) ≡ under_way w past) [
+      | true ↦ λ e. ap (λ b. cond b (call_with_act x.act past (under_way w past)) None) parts.1 ∙ sym none ∙ ap (λ v. under_way v past) (eqb-true x.worker w e)
       | false ↦ λ e. refl
     ] refl
 
@@ -120,7 +120,7 @@ whole_leaves t x past w d acc whole =
 pub known_call : (t : Tables) (x : Entry) (past : List Entry) (c : Call) → ended_by t x (call_with x past) ≡ option_to_list (Some c) → Contains (finished_calls t (x ∷ past)) c
 unfolding finished_calls
 known_call t x past c is =
-    Contains-append_right (finished_calls t past) (ended_by t x (gone_on x.act past (under_way x.worker past))) c (subst (λ cs. Contains cs c) (sym is) (zero, omega arith, refl))
+    Contains-append_right (finished_calls t past) (ended_by t x (call_with_act x.act past (under_way x.worker past))) c (subst (λ cs. Contains cs c) (sym is) (zero, omega arith, refl))
 
 -- READS AND AWAITS WITH ONE MORE ENTRY
 

@@ -5,13 +5,13 @@ use Rattle.std.proofs.lemmas.List.{get_or_append_left, get_or_push}
 use Rattle.ec_core.specs.declared.act.Entry.{Entry}
 use Rattle.ec_core.specs.Counts.{total, is_advance}
 use Rattle.ec_core.specs.Rounds.{event_or}
-use Rattle.ec_numbers.specs.Numbers.{KeptNumbers}
+use Rattle.ec_numbers.specs.Numbers.{NumberListModel}
 use Rattle.ec_order.specs.declared.call.Call.{Call}
 use Rattle.ec_order.specs.declared.placed.Placed.{Placed}
 use Rattle.ec_order.specs.Calls.{is_reading}
-use Rattle.ec_core.specs.CallLists.{number_of}
+use Rattle.ec_core.specs.CallLists.{reply_number}
 use Rattle.ec_order.specs.Points.{first_entries, first_moment, point_of, with_point}
-use Rattle.ec_order.specs.Index.{advanced, moment_of, moments_in, IsIndex, point_by, point_in, placed_in}
+use Rattle.ec_order.specs.Index.{advanced, moment_of_advance, moments_in, IsIndex, point_by, point_in, placed_in}
 use Rattle.ec_order.proofs.Points.{first_at, first_next}
 use Rattle.ec_order.proofs.Fits.{Fits, acts_there}
 
@@ -80,7 +80,7 @@ first_none [] = refl
 first_none (x ∷ past) = ap (λ b. cond b (first_entries 0 past) (x ∷ past)) (le-leb 0 (length past) (omega arith)) ∙ first_none past
 
 -- the moment after the r-th advance
-pub reached : (e r : ℕ) (past : List Entry) → r ≤ total e past → IsReached e r past (moment_of (advanced e past) r)
+pub reached : (e r : ℕ) (past : List Entry) → r ≤ total e past → IsReached e r past (moment_of_advance (advanced e past) r)
 unfolding advanced total
 reached e zero past h = record { within = omega arith; number = (let none : total e (first_entries 0 past) ≡ 0 = ap (total e) (first_none past) in none); before = λ j lt. absurd (omega arith) }
 reached e (suc r) [] h = absurd (omega arith)
@@ -130,17 +130,17 @@ at_greater f r a b h g =
 -- the point of a finished call, by the index
 pub point_is : (past : List Entry) (c : Call) → Fits past c → point_of past c ≡ point_by (advanced (event_or c.op) past) c
 point_is past c f =
-    elim (is_reading c.op) as (λ b. is_reading c.op ≡ b → point_of past c ≡ cond b (max c.round (moment_of (advanced (event_or c.op) past) (number_of c.reply))) c.last) [
+    elim (is_reading c.op) as (λ b. is_reading c.op ≡ b → point_of past c ≡ cond b (max c.round (moment_of_advance (advanced (event_or c.op) past) (reply_number c.reply))) c.last) [
       | true ↦ λ r.
           (let e = event_or c.op in
-          let n = number_of c.reply in
+          let n = reply_number c.reply in
           let total_at : ℕ → ℕ = λ k. total e (first_entries k past) in
           let low : total_at c.round ≤ n = f.low r in
           let high : n ≤ total_at c.last = f.high r in
           let order : c.round ≤ c.last = f.round in
           let up : total_at c.last ≤ total e past = total_upto e c.last past in
-          let here : IsReached e n past (moment_of (advanced e past) n) = reached e n past (omega arith) in
-          let m = moment_of (advanced e past) n in
+          let here : IsReached e n past (moment_of_advance (advanced e past) n) = reached e n past (omega arith) in
+          let m = moment_of_advance (advanced e past) n in
           let at : total_at m ≡ n = here.number in
           let before_last : m ≤ c.last = not_later total_at n m c.last here.before high in
           let is : total_at (max c.round m) ≡ n = at_greater total_at n c.round m (λ le. at)
@@ -152,12 +152,12 @@ point_is past c f =
     ] refl
 
 -- a call is placed as the index says
-pub placed_is : (past : List Entry) (lists : List KeptNumbers) (c : Call) → IsIndex past lists → Fits past c → placed_in lists c ≡ with_point past c
+pub placed_is : (past : List Entry) (lists : List NumberListModel) (c : Call) → IsIndex past lists → Fits past c → placed_in lists c ≡ with_point past c
 placed_is past lists c index f =
     let at : ℕ → Placed = λ k. record { call = c; point = k } in
     let same : point_in lists c ≡ point_of past c =
     elim (is_reading c.op) as (λ b. is_reading c.op ≡ b → point_in lists c ≡ point_of past c) [
       | true ↦ λ r. ap (λ ms. point_by ms c) (index (event_or c.op) (f.known r)) ∙ sym (point_is past c f)
-      | false ↦ λ r. ap (λ b. cond b (max c.round (moment_of (moments_in lists (event_or c.op)) (number_of c.reply))) c.last) r ∙ sym (acts_there past c r)
+      | false ↦ λ r. ap (λ b. cond b (max c.round (moment_of_advance (moments_in lists (event_or c.op)) (reply_number c.reply))) c.last) r ∙ sym (acts_there past c r)
     ] refl in
     ap at same

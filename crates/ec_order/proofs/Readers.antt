@@ -6,14 +6,14 @@ use Rattle.ec_core.specs.declared.act.Act.{Act}
 use Rattle.ec_core.specs.declared.act.Act.TheVariants.{Read, Await, Go}
 use Rattle.ec_core.specs.declared.act.Entry.{Entry}
 use Rattle.ec_core.specs.Acceptance.{IsAccepted}
-use Rattle.ec_core.specs.Calls.{CallSoFar, under_way, gone_on, call_with, is_go, is_pending}
+use Rattle.ec_core.specs.Calls.{CallSoFar, under_way, call_with_act, call_with, is_go, is_pending}
 use Rattle.ec_core.specs.Counts.{sum_to}
 use Rattle.ec_core.specs.Rounds.{read_of}
 use Rattle.ec_core.proofs.shared.Answering.{allowed}
 use Rattle.ec_core.proofs.shared.Scans.{call_own, call_other}
 use Rattle.ec_order.specs.declared.call.Call.{Call}
-use Rattle.ec_order.specs.Calls.{call_of_entries, ended_by, stands_alone}
-use Rattle.ec_order.specs.Raised.{is_reading_of, reads_event, readers}
+use Rattle.ec_order.specs.Calls.{call_of_entries, ended_by, is_one_entry_call}
+use Rattle.ec_order.specs.AdvanceLogModel.{is_reading_of, reads_event, readers}
 use Rattle.ec_order.specs.Walk.{is_alone}
 use Rattle.ec_order.proofs.Gathering.{whole_leaves}
 
@@ -105,7 +105,7 @@ abbrev IsFree : Act → Option CallSoFar → Type 0
 IsFree act o = ((is_some o && not (is_go act)) ≡ false) × ((not (is_some o) && is_go act) ≡ false)
 
 pending_adds : (e : ℕ) (act : Act) (past : List Entry) (o : Option CallSoFar) → is_alone act ≡ false → IsFree act o
-    → one_if e (gone_on act past o) ≡ one_if e o + cond (is_reading_of e act) 1 0
+    → one_if e (call_with_act act past o) ≡ one_if e o + cond (is_reading_of e act) 1 0
 pending_adds e Go past None other free = (let busy = free.1 in cc)
 pending_adds e Go past (Some call) other free = omega arith
 pending_adds e (Read f) past None other free = omega arith
@@ -119,21 +119,21 @@ abbrev pub left_on : ℕ → Act → Call → ℕ
 left_on e act c = cond (is_go act && is_reading_of e c.op) 1 0
 
 told_leaves : (t : Tables) (e : ℕ) (x : Entry) (act : Act) (past : List Entry) (o : Option CallSoFar) (c : Call) → is_alone act ≡ false → IsFree act o → is_pending x.reply ≡ false
-    → ended_by t x (gone_on act past o) ≡ c ∷ [] → one_if e o ≡ left_on e act c
-told_leaves t e x Go past None c other free told is = cc
-told_leaves t e x Go past (Some call) c other free told is =
+    → ended_by t x (call_with_act act past o) ≡ c ∷ [] → one_if e o ≡ left_on e act c
+told_leaves t e x Go past None c other free returned is = cc
+told_leaves t e x Go past (Some call) c other free returned is =
     let the = call_of_entries t x call.op (past ∷ call.moments) in
-    let same : the ∷ [] ≡ c ∷ [] = sym (ap (λ b. cond b [] (the ∷ [])) told) ∙ is in
+    let same : the ∷ [] ≡ c ∷ [] = sym (ap (λ b. cond b [] (the ∷ [])) returned) ∙ is in
     let op : call.op ≡ c.op = cc in
     ap (λ op. cond (is_reading_of e op) 1 0) op
-told_leaves t e x (Read f) past None c other free told is = refl
-told_leaves t e x (Await f v) past None c other free told is = refl
-told_leaves t e x (Read f) past (Some call) c other free told is = (let busy = free.0 in cc)
-told_leaves t e x (Await f v) past (Some call) c other free told is = (let busy = free.0 in cc)
-told_leaves t e x act past o c other free told is = cc
+told_leaves t e x (Read f) past None c other free returned is = refl
+told_leaves t e x (Await f v) past None c other free returned is = refl
+told_leaves t e x (Read f) past (Some call) c other free returned is = (let busy = free.0 in cc)
+told_leaves t e x (Await f v) past (Some call) c other free returned is = (let busy = free.0 in cc)
+told_leaves t e x act past o c other free returned is = cc
 
 -- whether an entry is told Pending, by what it ends
-some_gone : (act : Act) (past : List Entry) (o : Option CallSoFar) → is_alone act ≡ false → IsFree act o → (call : CallSoFar) × (gone_on act past o ≡ Some call)
+some_gone : (act : Act) (past : List Entry) (o : Option CallSoFar) → is_alone act ≡ false → IsFree act o → (call : CallSoFar) × (call_with_act act past o ≡ Some call)
 some_gone Go past None other free = (let busy = free.1 in cc)
 some_gone Go past (Some call) other free = (record { op = call.op; moments = past ∷ call.moments }, refl)
 some_gone (Read f) past o other free = (record { op = Read f; moments = past ∷ [] }, refl)
@@ -168,7 +168,7 @@ free_at t x past acc = (let k = (allowed t past x.worker x.act x.reply acc.0).0 
 -- WITH ONE MORE ENTRY
 
 -- a whole call
-pub readers_whole : (t : Tables) (e : ℕ) (x : Entry) (past : List Entry) → IsDeclared t → IsAccepted t (x ∷ past) → stands_alone x ≡ true → readers e (x ∷ past) ≡ readers e past
+pub readers_whole : (t : Tables) (e : ℕ) (x : Entry) (past : List Entry) → IsDeclared t → IsAccepted t (x ∷ past) → is_one_entry_call x ≡ true → readers e (x ∷ past) ≡ readers e past
 readers_whole t e x past d acc whole = readers_same e x past (λ w. whole_leaves t x past w d acc whole)
 
 -- one of a read or an await: where it ends no call

@@ -7,12 +7,12 @@ use Rattle.ec_core.specs.declared.act.Entry.{Entry}
 use Rattle.ec_core.specs.Counts.{total, past_at}
 use Rattle.ec_core.specs.Rounds.{event_or}
 use Rattle.ec_core.specs.Acceptance.{IsAccepted}
-use Rattle.ec_core.specs.Following.{Told}
+use Rattle.ec_core.specs.Following.{CompletedCall}
 use Rattle.ec_core.specs.JoinedLists.{finished_by}
 use Rattle.ec_order.specs.declared.call.Call.{Call}
 use Rattle.ec_order.specs.declared.placed.Placed.{Placed}
 use Rattle.ec_order.specs.Calls.{finished_calls, is_reading}
-use Rattle.ec_core.specs.CallLists.{number_of}
+use Rattle.ec_core.specs.CallLists.{reply_number}
 use Rattle.ec_order.specs.Cuts.{IsFinishedCall}
 use Rattle.ec_order.specs.Orders.{IsLegalOrder, calls_in}
 use Rattle.ec_order.specs.Points.{IsPoint, point_of, ordered_by_points}
@@ -29,18 +29,18 @@ abbrev pub CallsAreCutInOrder : Type 0
 CallsAreCutInOrder = (t : Tables) (h : List Entry) → IsDeclared t → IsAccepted t (reverse h) → AreFinishedCalls t h (finished_calls t (reverse h))
 
 -- what was asked and what was told
-abbrev pub told_of : Call → Told
-told_of c = record { op = c.op; reply = c.reply }
+abbrev pub op_and_reply : Call → CompletedCall
+op_and_reply c = record { op = c.op; reply = c.reply }
 
 -- the calls that w made, as what was asked and told
-abbrev pub told_by : ℕ → List Call → List Told
-told_by w calls = map told_of (filter (λ c. c.worker == w) calls)
+abbrev pub completed_by : ℕ → List Call → List CompletedCall
+completed_by w calls = map op_and_reply (filter (λ c. c.worker == w) calls)
 
 -- the calls of a worker that protocols speak of, when they say that a history follows them, are its completed calls
 -- here
 abbrev pub ProtocolsSpeakOfTheseCalls : Type 0
 ProtocolsSpeakOfTheseCalls = (t : Tables) (h : List Entry) (w : ℕ) → IsAccepted t (reverse h)
-    → told_by w (finished_calls t (reverse h)) ≡ finished_by w (reverse h)
+    → completed_by w (finished_calls t (reverse h)) ≡ finished_by w (reverse h)
 
 -- each completed call has its point
 abbrev pub PointsExist : Type 0
@@ -52,7 +52,7 @@ pub record StoodBetween (h : List Entry) (c : Call) : Type 0 where
   pub moment : ℕ
   pub from_first : c.first ≤ moment
   pub to_last : moment ≤ c.last
-  pub total_is : total (event_or c.op) (past_at moment h) ≡ number_of c.reply
+  pub total_is : total (event_or c.op) (past_at moment h) ≡ reply_number c.reply
 
 -- the order by points is a linearization of the completed calls, in which each stands with its
 -- point

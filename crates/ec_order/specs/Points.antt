@@ -9,16 +9,16 @@ use Rattle.ec_core.specs.Rounds.{event_or}
 use Rattle.ec_order.specs.declared.call.Call.{Call}
 use Rattle.ec_order.specs.declared.placed.Placed.{Placed}
 use Rattle.ec_order.specs.Calls.{finished_calls, is_reading}
-use Rattle.ec_core.specs.CallLists.{number_of}
+use Rattle.ec_core.specs.CallLists.{reply_number}
 
 -- POINTS, as a relation over a history in its natural order
 
 -- the least moment from the last round's start to the last entry at which the total was the answer
 pub record IsLeastMoment (h : List Entry) (c : Call) (k : ℕ) : Type 0 where
-  pub total_is : total (event_or c.op) (past_at k h) ≡ number_of c.reply
+  pub total_is : total (event_or c.op) (past_at k h) ≡ reply_number c.reply
   pub low : c.round ≤ k
   pub high : k ≤ c.last
-  pub least : (j : ℕ) → c.round ≤ j → j < k → total (event_or c.op) (past_at j h) ≢ number_of c.reply
+  pub least : (j : ℕ) → c.round ≤ j → j < k → total (event_or c.op) (past_at j h) ≢ reply_number c.reply
 
 -- that moment for a read or an await, and its position for any other call
 abbrev pub IsPoint : List Entry → Call → ℕ → Type 0
@@ -41,7 +41,7 @@ first_moment test k (suc n) = if test k then k else first_moment test (k + 1) n
 abbrev pub point_of : List Entry → Call → ℕ
 point_of past c =
     if is_reading c.op
-    then first_moment (λ k. total (event_or c.op) (first_entries k past) == number_of c.reply) c.round (c.last - c.round)
+    then first_moment (λ k. total (event_or c.op) (first_entries k past) == reply_number c.reply) c.round (c.last - c.round)
     else c.last
 
 -- whether a call began before position `to`, and did not end before position `from`

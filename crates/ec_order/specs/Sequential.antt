@@ -29,14 +29,15 @@ sequential_reply s (Hand e b) = Some Done
 sequential_reply s Go = None
 
 -- f with v at n
-abbrev pub put_at : (ℕ → ℕ) → ℕ → ℕ → ℕ → ℕ
-put_at f n v m = if n == m then v else f m
+abbrev pub update_at : (ℕ → ℕ) → ℕ → ℕ → ℕ → ℕ
+update_at f n v m = if n == m then v else f m
 
 -- the state after a call: an advance and a ticket add one, a put stores, and the others change nothing
 abbrev pub sequential_after : SequentialState → Act → SequentialState
-sequential_after s (Advance e) = record s { events = put_at s.events e (s.events e + 1) }
-sequential_after s (Ticket q) = record s { sequencers = put_at s.sequencers q (s.sequencers q + 1) }
-sequential_after s (Put x v) = record s { cells = put_at s.cells x v }
+sequential_after s (Advance e) = record s { events = update_at s.events e (s.events e + 1) }
+sequential_after s (Ticket q) =
+    record s { sequencers = update_at s.sequencers q (s.sequencers q + 1) }
+sequential_after s (Put x v) = record s { cells = update_at s.cells x v }
 sequential_after s _ = s
 
 -- the state after these calls, one after another

@@ -1,11 +1,12 @@
 //! The advances of all eventcounts, as a walk over a history keeps them.
 ghost use Rattle.std.specs.Prelude.{◌≡◌, ◌<◌, Some, None, [], length, IfOk, IfSome, OnOk};
 ghost use Rattle.ec_core.specs.Rounds.{read_of};
-ghost use Rattle.ec_order.specs.Raised.{AreRaised, FollowsReading, IsPointBy, NotesAlone, left_of};
+ghost use Rattle.ec_order.specs.AdvanceLogModel.{AreAdvanceLogs, FollowsReading, IsPointBy};
+ghost use Rattle.ec_order.specs.AdvanceLogModel.{NotesAlone, ended_event};
 
 use crate::Call;
-use crate::index::advanced;
-use crate::raised::Raised;
+use crate::advance_log::AdvanceLog;
+use crate::index::event_to_raise;
 use ec_core::Act;
 use std::alloc::{AllocError, Global};
 use std::marker::Model;
@@ -14,14 +15,14 @@ use std::marker::Model;
 /// begin later.
 #[derive(Drop)]
 pub(crate) struct Advances {
-    events: Vec<Raised>,
+    events: Vec<AdvanceLog>,
 }
 
 impl Model for Advances {
     ghost use Rattle.std.specs.Prelude.{◌≡◌, List, length};
-    ghost use Rattle.ec_order.specs.Raised.{Raised};
+    ghost use Rattle.ec_order.specs.AdvanceLogModel.{AdvanceLogModel};
 
-    ghost Value = { List Raised };
+    ghost Value = { List AdvanceLogModel };
 
     ghost view = { λ s. s.events.items };
 
@@ -31,27 +32,27 @@ impl Model for Advances {
 impl Advances {
     /// Makes what is kept before the first entry.
     pub(crate) fn none(alloc: Global) -> Result<Self, AllocError>
-        ensures { IfOk result (λ advances. AreRaised advances []) }
+        ensures { IfOk result (λ advances. AreAdvanceLogs advances []) }
     {
         Ok(Advances {
-            events: unraised(alloc)?,
+            events: empty_logs(alloc)?,
         })
     }
 
     /// Takes in an entry that is a whole call, by its act and the moment after it.
-    #[tactic(auto, using(crate::proofs::Raising::notes_none, crate::proofs::Raising::notes_one))]
+    #[tactic(auto, using(crate::proofs::AdvanceLogLemmas::notes_none, crate::proofs::AdvanceLogLemmas::notes_one))]
     #[inline(always)]
     pub(crate) fn note(&mut self, act: Act, moment: usize) -> Result<(), AllocError>
         ensures { OnOk result (NotesAlone self.old act moment self.new) }
     {
-        if let Some(event) = advanced(act) {
+        if let Some(event) = event_to_raise(act) {
             self.events[event].raise(moment)?;
         }
         Ok(())
     }
 
     /// Takes in an entry of a read or an await that ends no call, by its act.
-    #[tactic(auto, using(crate::proofs::Raising::begins_none, crate::proofs::Raising::begins_one))]
+    #[tactic(auto, using(crate::proofs::AdvanceLogLemmas::begins_none, crate::proofs::AdvanceLogLemmas::begins_one))]
     pub(crate) fn begin(&mut self, act: Act)
         ensures { FollowsReading self.old act None self.new }
     {
@@ -61,7 +62,7 @@ impl Advances {
     }
 
     /// Takes in an entry that ends a read or an await, by its act and the call.
-    #[tactic(auto, using(crate::proofs::Raising::ends_none, crate::proofs::Raising::ends_one))]
+    #[tactic(auto, using(crate::proofs::AdvanceLogLemmas::ends_none, crate::proofs::AdvanceLogLemmas::ends_one))]
     pub(crate) fn end(&mut self, act: Act, call: &Call)
         ensures { FollowsReading self.old act (Some call.now) self.new }
     {
@@ -99,7 +100,7 @@ fn read_by(act: Act) -> Option<usize>
 /// Returns the eventcount that a call was pending on, by the act that ends it and the one that
 /// began it: a call that is told at once never was.
 fn left_by(act: Act, op: Act) -> Option<usize>
-    ensures value { result ≡ left_of act op }
+    ensures value { result ≡ ended_event act op }
     ensures small { IfSome result (λ e. e < 32) }
 {
     match act {
@@ -109,14 +110,14 @@ fn left_by(act: Act, op: Act) -> Option<usize>
 }
 
 /// Returns each of the 32 eventcounts with no advance.
-#[tactic(auto, using(crate::proofs::Raising::none_raised))]
-fn unraised(alloc: Global) -> Result<Vec<Raised>, AllocError>
+#[tactic(auto, using(crate::proofs::AdvanceLogLemmas::none_raised))]
+fn empty_logs(alloc: Global) -> Result<Vec<AdvanceLog>, AllocError>
     ensures long { IfOk result (λ events. length events.items ≡ 32) }
-    ensures value { IfOk result (λ events. AreRaised events.items []) }
+    ensures value { IfOk result (λ events. AreAdvanceLogs events.items []) }
 {
     let mut events = Vec::new(alloc);
     for event in 0..32usize {
-        events.push(Raised::new(alloc))?;
+        events.push(AdvanceLog::new(alloc))?;
     }
     Ok(events)
 }

@@ -61,7 +61,7 @@ fn judge(alloc: Global, run: &Run, placed: &[Placed]) -> Result<Verdict, AllocEr
     ensures { IfOk result (λ v.
         IsVerdict run.now.setup (reverse run.now.entries) placed.now v) }
 {
-    run.known();
+    run.invariant();
     let calls = calls(alloc, run)?;
     let lists = index(alloc, run)?;
     let mut seen = unset(alloc, calls.len())?;
@@ -103,7 +103,7 @@ pub fn verify(alloc: Global, run: &Run, placed: &[Placed]) -> Result<Verdict, Al
     ensures only { IfOk result (λ v.
         IsGood run.now.setup (reverse run.now.entries) placed.now → v ≡ Verdict.Good) }
 {
-    run.known();
+    run.invariant();
     let verdict = judge(alloc, run, placed)?;
     Ok(verdict)
 }

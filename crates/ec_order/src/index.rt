@@ -1,6 +1,6 @@
 //! Points by an index of the advances.
 ghost use Rattle.std.specs.Prelude.{◌≡◌, ℕ, ◌<◌, ◌+◌, [], ◌∷◌, ◌++◌, length, reverse, slice_set, slice_index_or, IfOk, OnOk, IfSome};
-ghost use Rattle.ec_order.specs.Index.{moment_of, moments_in, IsIndex, NotesAct, point_in, raised_by};
+ghost use Rattle.ec_order.specs.Index.{moment_of_advance, moments_in, IsIndex, NotesAct, point_in, raised_by};
 
 use crate::Call;
 use ec_core::{Act, Run};
@@ -9,7 +9,7 @@ use std::alloc::{AllocError, Global};
 
 /// Returns the eventcount that an act advances.
 #[inline(always)]
-pub(crate) fn advanced(act: Act) -> Option<usize>
+pub(crate) fn event_to_raise(act: Act) -> Option<usize>
     ensures value { result ≡ raised_by act }
     ensures small { IfSome result (λ e. e < 32) }
 {
@@ -38,7 +38,7 @@ fn note(lists: &mut Vec<NumberList>, act: Act, moment: usize) -> Result<(), Allo
     ensures long { length lists.new.items ≡ 32 }
     ensures notes { OnOk result (NotesAct lists.old.items act moment lists.new.items) }
 {
-    if let Some(event) = advanced(act) {
+    if let Some(event) = event_to_raise(act) {
         add_moment(lists, event, moment)?;
     }
     Ok(())
@@ -73,8 +73,8 @@ pub(crate) fn index(alloc: Global, run: &Run) -> Result<Vec<NumberList>, AllocEr
 /// Returns the moment after the r-th advance, by the list of the moments after each advance; moment
 /// 0 for r = 0.
 #[inline(always)]
-fn moment_of(moments: &NumberList, r: u64) -> usize
-    ensures { result ≡ moment_of moments.now.list r }
+fn moment_of_advance(moments: &NumberList, r: u64) -> usize
+    ensures { result ≡ moment_of_advance moments.now.list r }
 {
     if r == 0 {
         0
@@ -93,7 +93,8 @@ pub(crate) fn point(lists: &[NumberList], call: &Call) -> usize
     match call.op {
         Act::Read(event) | Act::Await(event, _) => {
             let moments = &lists[event.get()];
-            call.round.max(moment_of(moments, call.reply.number()))
+            call.round
+                .max(moment_of_advance(moments, call.reply.number()))
         }
         Act::Advance(_)
         | Act::Go

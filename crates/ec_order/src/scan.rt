@@ -2,10 +2,10 @@
 ghost use Rattle.std.specs.Prelude.{◌≡◌, true, None, not, count_by, reverse, IfOk};
 ghost use Rattle.ec_core.specs.Calls.{is_pending};
 ghost use Rattle.ec_core.specs.declared.act.Entry.{Entry};
-ghost use Rattle.ec_order.specs.Calls.{finished_calls, call_told, Ending};
+ghost use Rattle.ec_order.specs.Calls.{finished_calls, call_ended_by, Ending};
 
 use crate::Call;
-use ec_core::{Calls, Entry, Ongoing, Reply, Run};
+use ec_core::{Entry, PendingCall, PendingCalls, Reply, Run};
 use ec_count::Setup;
 use std::alloc::{AllocError, Global};
 
@@ -19,8 +19,8 @@ pub(crate) fn is_last(reply: Reply) -> bool
 
 /// Returns the call that the entry at position i ends, if it ends one, given its call up to it.
 #[inline(always)]
-fn ended(entry: &Entry, call: &Option<Ongoing>, i: usize) -> Option<Call>
-    ensures { result ≡ call_told entry.now i call.now }
+fn call_ended_by(entry: &Entry, call: &Option<PendingCall>, i: usize) -> Option<Call>
+    ensures { result ≡ call_ended_by entry.now i call.now }
 {
     if !is_last(entry.reply) {
         return None;
@@ -40,14 +40,19 @@ fn ended(entry: &Entry, call: &Option<Ongoing>, i: usize) -> Option<Call>
 
 /// Takes in the entry at position i, which may end a call. (This and `go_on` have no `#[inline(always)]`: the compiler drops that of a function
 /// that would grow very large, as that which enters an entry of a trace would by them.)
-pub(crate) fn take_in(under_way: &mut Calls, setup: &Setup, entry: &Entry, i: usize) -> Option<Call>
+pub(crate) fn take_in(
+    under_way: &mut PendingCalls,
+    setup: &Setup,
+    entry: &Entry,
+    i: usize,
+) -> Option<Call>
     ensures { Ending under_way.old i entry.now result under_way.new setup.now }
 {
-    ended(entry, &under_way.take(setup, i, entry), i)
+    call_ended_by(entry, &under_way.take(setup, i, entry), i)
 }
 
 /// Takes in the entry at position i, after which its call goes on.
-pub(crate) fn go_on(under_way: &mut Calls, setup: &Setup, entry: &Entry, i: usize)
+pub(crate) fn go_on(under_way: &mut PendingCalls, setup: &Setup, entry: &Entry, i: usize)
     requires { is_pending entry.now.reply ≡ true }
     ensures { Ending under_way.old i entry.now None under_way.new setup.now }
 {
@@ -75,8 +80,8 @@ pub fn calls(alloc: Global, run: &Run) -> Result<Vec<Call>, AllocError>
     ensures { IfOk result (λ cs.
         cs.items ≡ finished_calls run.now.setup (reverse run.now.entries)) }
 {
-    run.known();
-    let mut under_way = Calls::new();
+    run.invariant();
+    let mut under_way = PendingCalls::new();
     let mut calls = Vec::with_capacity(alloc, finished_count(run))?;
     for i in 0..run.len() {
         if let Some(entry) = run.entry(i) {

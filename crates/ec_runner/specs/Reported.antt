@@ -9,7 +9,7 @@ use Rattle.ec_machine.specs.Steps.{own}
 use Rattle.ec_runner.specs.declared.report.Report.{Report}
 use Rattle.ec_runner.specs.declared.report.SimFault.{SimFault}
 use Rattle.ec_runner.specs.declared.report.SimFault.TheVariants.{Ended, Memory}
-use Rattle.ec_runner.specs.Schedules.{Turn, Plays, HasEnded, entries_of, outcome_after}
+use Rattle.ec_runner.specs.Schedules.{Turn, Plays, EndsBeforePlace, entries_of, outcome_after}
 
 -- a list for each of so many workers, and in each the worker's entries in order
 pub record AreLogs (workers : ℕ) (h : List Entry) (logs : List (List Entry)) : Type 0 where
@@ -32,5 +32,5 @@ pub record IsReport (t : Tables) (programs : List (List Command)) (schedule : Li
 
 -- the place that is told names a worker that has ended; nothing is said of want of memory
 abbrev pub IsSimFault : Tables → List (List Command) → List ℕ → SimFault → Type 0
-IsSimFault t programs schedule (Ended place w) = HasEnded t programs schedule place w
+IsSimFault t programs schedule (Ended place w) = EndsBeforePlace t programs schedule place w
 IsSimFault t programs schedule Memory = Unit {0}

@@ -13,15 +13,15 @@ use Rattle.ec_machine.specs.declared.outcome.Outcome.TheVariants.{Running, Refus
 use Rattle.ec_machine.specs.Follows.{program_at, Follows}
 use Rattle.ec_machine.specs.Runs.{next_act, outcome_of}
 use Rattle.ec_machine.specs.Steps.{own}
-use Rattle.ec_runner.specs.Schedules.{Turn, Plays, HasEnded, entries_of, outcome_after}
+use Rattle.ec_runner.specs.Schedules.{Turn, Plays, EndsBeforePlace, entries_of, outcome_after}
 
 -- THE PLACES OF A SCHEDULE, each with a mark: the refusal that was told there, or none if an entry was made
 
 -- how many of these places made an entry
-abbrev pub made : List (Option Refusal) → ℕ
-made [] = 0
-made (None ∷ marks) = made marks + 1
-made (Some r ∷ marks) = made marks
+abbrev pub made_entries : List (Option Refusal) → ℕ
+made_entries [] = 0
+made_entries (None ∷ marks) = made_entries marks + 1
+made_entries (Some r ∷ marks) = made_entries marks
 
 -- the schedule without the places that were refused
 abbrev pub unrefused : List ℕ → List (Option Refusal) → List ℕ
@@ -56,7 +56,7 @@ pub record IsHistoryOf (t : Tables) (programs : List (List Command)) (schedule :
   pub workers : map (λ (x : Entry). x.worker) h ≡ unrefused schedule marks
   pub parts : (w : ℕ) → Follows programs h w
   pub places : (i w : ℕ) (mark : Option Refusal) → slice_get schedule i ≡ Some w → slice_get marks i ≡ Some mark
-      → IsPlace t (program_at programs w) h (made (take i marks)) w mark
+      → IsPlace t (program_at programs w) h (made_entries (take i marks)) w mark
   pub last : (i j w : ℕ) (r : Refusal) → slice_get schedule i ≡ Some w → slice_get marks i ≡ Some (Some r) → slice_get schedule j ≡ Some w → i < j → ⊥
   pub refused : (w : ℕ) (r : Refusal) → IsRefusedWith schedule marks w r → outcome w ≡ Refused r
   pub others : (w : ℕ) → ((r : Refusal) → IsRefusedWith schedule marks w r → ⊥) → outcome w ≡ outcome_of (program_at programs w) (own w (reverse h))
@@ -74,7 +74,7 @@ SchedulesHaveOneRun = (t : Tables) (programs : List (List Command)) (schedule : 
 -- if it names a worker that has ended, in none
 abbrev pub EndedIsNotPlayed : Type 0
 EndedIsNotPlayed = (t : Tables) (programs : List (List Command)) (schedule : List ℕ) (place w : ℕ) (turns : List Turn)
-    → HasEnded t programs schedule place w → Plays t programs schedule turns → ⊥
+    → EndsBeforePlace t programs schedule place w → Plays t programs schedule turns → ⊥
 
 -- HISTORIES AND TURNS
 
@@ -98,7 +98,7 @@ SchedulesHaveOneHistory = (t : Tables) (programs : List (List Command)) (schedul
 -- and where it names a worker that has ended, it has none
 abbrev pub EndedHasNoHistory : Type 0
 EndedHasNoHistory = (t : Tables) (programs : List (List Command)) (schedule : List ℕ) (place w : ℕ) (h : List Entry) (outcome : ℕ → Outcome)
-    → HasEnded t programs schedule place w → IsHistoryOf t programs schedule h outcome → ⊥
+    → EndsBeforePlace t programs schedule place w → IsHistoryOf t programs schedule h outcome → ⊥
 
 -- the places before this one have a history after which the worker that the schedule names there isn't running
 pub record HasEndedAfter (t : Tables) (programs : List (List Command)) (schedule : List ℕ) (place w : ℕ) : Type 0 where
@@ -111,4 +111,4 @@ pub record HasEndedAfter (t : Tables) (programs : List (List Command)) (schedule
 -- that is what it means that a place names a worker that has ended
 abbrev pub EndedIsAfterAHistory : Type 0
 EndedIsAfterAHistory = (t : Tables) (programs : List (List Command)) (schedule : List ℕ) (place w : ℕ)
-    → HasEnded t programs schedule place w ↔ HasEndedAfter t programs schedule place w
+    → EndsBeforePlace t programs schedule place w ↔ HasEndedAfter t programs schedule place w

@@ -34,9 +34,9 @@ refusal_or (Ok reply) other = other
 refusal_or (Err r) other = Some r
 
 -- the refusal that w was told in these turns, if it was told one
-abbrev pub refusal_told : ℕ → List Turn → Option Refusal
-refusal_told w [] = None
-refusal_told w (x ∷ turns) = if x.worker == w then refusal_or x.answer (refusal_told w turns) else refusal_told w turns
+abbrev pub refusal_in_turns : ℕ → List Turn → Option Refusal
+refusal_in_turns w [] = None
+refusal_in_turns w (x ∷ turns) = if x.worker == w then refusal_or x.answer (refusal_in_turns w turns) else refusal_in_turns w turns
 
 abbrev pub ended_by : Option Refusal → Outcome → Outcome
 ended_by None outcome = outcome
@@ -44,7 +44,7 @@ ended_by (Some r) outcome = Refused r
 
 -- how the program of w has ended after these turns, if it has: by a refusal, or as its entries say
 abbrev pub outcome_after : List (List Command) → ℕ → List Turn → Outcome
-outcome_after programs w turns = ended_by (refusal_told w turns) (outcome_of (program_at programs w) (own w (entries_of turns)))
+outcome_after programs w turns = ended_by (refusal_in_turns w turns) (outcome_of (program_at programs w) (own w (entries_of turns)))
 
 -- a turn may come after these: its worker's program is running, its act is the one that the program asks for next, and the
 -- answer is the one to that act at that moment
@@ -64,7 +64,7 @@ pub record Plays (t : Tables) (programs : List (List Command)) (schedule : List 
   pub each : AreTurns t programs turns
 
 -- the worker that the schedule names at this place, counted from 0, has ended after the turns at the places before it
-pub record HasEnded (t : Tables) (programs : List (List Command)) (schedule : List ℕ) (place w : ℕ) : Type 0 where
+pub record EndsBeforePlace (t : Tables) (programs : List (List Command)) (schedule : List ℕ) (place w : ℕ) : Type 0 where
   pub turns : List Turn
   pub plays : Plays t programs (take place schedule) turns
   pub named : slice_get schedule place ≡ Some w

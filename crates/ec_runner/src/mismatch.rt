@@ -2,8 +2,8 @@
 ghost use Rattle.std.specs.Prelude.{◌≡◌, ◌↔◌, ◌≤◌, length, IsTrue, MatchOption};
 ghost use Rattle.ec_runner.specs.Fits.{AllFit, IsMismatch};
 
-use crate::ending::{first_not_borne_out, worker_of};
-use crate::told::Told;
+use crate::ending::{first_not_borne_out, nth_worker};
+use crate::summary::Summary;
 use crate::walk::first_unlike;
 use ec_core::Run;
 use ec_count::{Setup, WorkerId};
@@ -16,16 +16,16 @@ fn are_same(setup: &Setup, other: &Setup) -> bool
 
 /// Returns a worker of whom what is told doesn't fit the run; the first worker if the run is on
 /// other declarations. It takes no memory.
-pub(crate) fn mismatched(setup: &Setup, run: &Run, tolds: &[Told]) -> Option<WorkerId>
-    requires few { length tolds.now ≤ 16 }
-    requires each { length tolds.now ≡ setup.now.workers }
-    ensures { MatchOption result (AllFit setup.now run.now tolds.now) (IsMismatch setup.now run.now tolds.now) }
+pub(crate) fn find_mismatch(setup: &Setup, run: &Run, summaries: &[Summary]) -> Option<WorkerId>
+    requires few { length summaries.now ≤ 16 }
+    requires each { length summaries.now ≡ setup.now.workers }
+    ensures { MatchOption result (AllFit setup.now run.now summaries.now) (IsMismatch setup.now run.now summaries.now) }
 {
     if !are_same(run.setup(), setup) {
-        return Some(worker_of(0));
+        return Some(nth_worker(0));
     }
-    match first_unlike(run, tolds) {
+    match first_unlike(run, summaries) {
         Some(worker) => Some(worker),
-        None => first_not_borne_out(run, tolds),
+        None => first_not_borne_out(run, summaries),
     }
 }

@@ -13,7 +13,7 @@ use ec_machine::{Machine, Outcome};
 
 /// What became of a place of a schedule.
 #[derive(Clone, Copy, Debug, PartialEq, Eq)]
-pub(crate) enum Played {
+pub(crate) enum TurnOutcome {
     /// The worker made its step, or was refused it.
     Made,
     /// The worker had ended, and nothing was done.
@@ -24,28 +24,28 @@ pub(crate) enum Played {
 
 /// Returns the turn of a worker: the step that its program asks for next. A refusal ends the
 /// program.
-fn take_turn(run: &mut Run, machine: &mut Machine<'_>, worker: WorkerId) -> Played
+fn take_turn(run: &mut Run, machine: &mut Machine<'_>, worker: WorkerId) -> TurnOutcome
     ensures { (t : Tables) (programs : List (List Command)) (turns : List Turn)
         → IsRunOf t turns run.old → IsMachineOf programs turns worker machine.old → Takes result t programs turns worker run.new machine.new }
 {
     let Some(act) = machine.next() else {
-        return Played::Ended;
+        return TurnOutcome::Ended;
     };
     match run.step(worker, act) {
         Ok(reply) => {
             machine.take(reply);
-            Played::Made
+            TurnOutcome::Made
         }
         Err(StepFault::Refused(refusal)) => {
             machine.refuse(Outcome::Refused(refusal));
-            Played::Made
+            TurnOutcome::Made
         }
-        Err(StepFault::Memory) => Played::Memory,
+        Err(StepFault::Memory) => TurnOutcome::Memory,
     }
 }
 
 /// Returns the turn of the worker that stands at a place.
-fn play_place(run: &mut Run, machines: &mut [Machine<'_>], worker: WorkerId) -> Played
+fn play_place(run: &mut Run, machines: &mut [Machine<'_>], worker: WorkerId) -> TurnOutcome
     requires { worker < length machines.old }
     ensures { (t : Tables) (programs : List (List Command)) (turns : List Turn)
         → IsRunOf t turns run.old → AreMachines programs turns machines.old → PlaysOne result t programs turns worker run.new machines.new }
@@ -66,14 +66,14 @@ pub(crate) fn play_places(
 {
     for (place, worker) in schedule.iter().enumerate() {
         match play_place(run, machines, *worker) {
-            Played::Made => {}
-            Played::Ended => {
+            TurnOutcome::Made => {}
+            TurnOutcome::Ended => {
                 return Err(SimFault::Ended {
                     place,
                     worker: *worker,
                 });
             }
-            Played::Memory => return Err(SimFault::Memory),
+            TurnOutcome::Memory => return Err(SimFault::Memory),
         }
     }
     Ok(())

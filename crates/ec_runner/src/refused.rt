@@ -5,11 +5,11 @@ ghost use Rattle.ec_core.specs.Acceptance.{answer_of};
 ghost use Rattle.ec_core.specs.Counts.{past_at};
 ghost use Rattle.ec_core.specs.Standing.{StandsFor};
 ghost use Rattle.ec_machine.specs.Steps.{own};
-ghost use Rattle.ec_runner.specs.declared.told.Told.{Told};
+ghost use Rattle.ec_runner.specs.declared.summary.Summary.{Summary};
 ghost use Rattle.ec_runner.specs.Fits.{IsDoneBy, IsRefusedSo, IsRightThen, IsRightAt, IsUnborne};
 
-use crate::ending::worker_of;
-use crate::told::{Asked, Told};
+use crate::ending::nth_worker;
+use crate::summary::{LastRequest, Summary};
 use ec_core::{Act, Entry, Refusal, Run, World, accepted_means_answered};
 use ec_count::WorkerId;
 use ec_machine::Outcome;
@@ -22,7 +22,7 @@ fn is_same_refusal(refusal: Refusal, other: Refusal) -> bool
 
 /// Makes the step of an entry, to which it is the answer.
 fn make(world: &mut World, entry: &Entry)
-    ensures stands { (h : List Entry) → StandsFor world.old h → answer_of world.old.setup (reverse h) entry.now.worker entry.now.act ≡ Ok entry.now.reply
+    ensures represents { (h : List Entry) → StandsFor world.old h → answer_of world.old.setup (reverse h) entry.now.worker entry.now.act ≡ Ok entry.now.reply
         → StandsFor world.new (h ++ entry.now ∷ []) }
     ensures setup { world.new.setup ≡ world.old.setup }
 {
@@ -32,10 +32,10 @@ fn make(world: &mut World, entry: &Entry)
 /// Makes the step of the entry at a place of a run.
 fn go_on(world: &mut World, run: &Run, place: usize)
     requires { place < length run.now.entries }
-    ensures stands { StandsFor world.old (take place run.now.entries) → world.old.setup ≡ run.now.setup → StandsFor world.new (take (place + 1) run.now.entries) }
+    ensures represents { StandsFor world.old (take place run.now.entries) → world.old.setup ≡ run.now.setup → StandsFor world.new (take (place + 1) run.now.entries) }
     ensures setup { world.new.setup ≡ world.old.setup }
 {
-    run.known();
+    run.invariant();
     accepted_means_answered();
     let Some(entry) = run.entry(place) else {
         return;
@@ -52,7 +52,7 @@ fn is_refused_by(
     act: &Act,
     refusal: Refusal,
 ) -> bool
-    requires stands { StandsFor world.now (take moment run.now.entries) }
+    requires represents { StandsFor world.now (take moment run.now.entries) }
     requires setup { world.now.setup ≡ run.now.setup }
     ensures { IsTrue result ↔ (answer_of run.now.setup (past_at moment run.now.entries) worker act.now ≡ Err refusal) }
 {
@@ -96,9 +96,9 @@ fn is_refused_so(
     world: &World,
     worker: WorkerId,
     refusal: Refusal,
-    asked: &Asked,
+    asked: &LastRequest,
 ) -> bool
-    requires stands { StandsFor world.now (take asked.now.moment run.now.entries) }
+    requires represents { StandsFor world.now (take asked.now.moment run.now.entries) }
     requires setup { world.now.setup ≡ run.now.setup }
     ensures { IsTrue result ↔ IsRefusedSo run.now worker refusal asked.now }
 {
@@ -116,9 +116,9 @@ fn is_right_then(
     moment: usize,
     worker: WorkerId,
     refusal: Refusal,
-    asked: Option<Asked>,
+    asked: Option<LastRequest>,
 ) -> bool
-    requires stands { StandsFor world.now (take moment run.now.entries) }
+    requires represents { StandsFor world.now (take moment run.now.entries) }
     requires setup { world.now.setup ≡ run.now.setup }
     ensures { IsTrue result ↔ IsRightThen asked run.now moment worker refusal }
 {
@@ -134,14 +134,14 @@ fn is_right_then(
 }
 
 /// Returns the same of a worker that may have ended otherwise.
-fn is_right_at(run: &Run, world: &World, moment: usize, worker: WorkerId, told: &Told) -> bool
-    requires stands { StandsFor world.now (take moment run.now.entries) }
+fn is_right_at(run: &Run, world: &World, moment: usize, worker: WorkerId, summary: &Summary) -> bool
+    requires represents { StandsFor world.now (take moment run.now.entries) }
     requires setup { world.now.setup ≡ run.now.setup }
-    ensures { IsTrue result ↔ IsRightAt told.now.outcome told.now.asked run.now moment worker }
+    ensures { IsTrue result ↔ IsRightAt summary.now.outcome summary.now.asked run.now moment worker }
 {
-    match told.outcome {
+    match summary.outcome {
         Outcome::Refused(refusal) => {
-            is_right_then(run, world, moment, worker, refusal, told.asked)
+            is_right_then(run, world, moment, worker, refusal, summary.asked)
         }
         _ => true,
     }
@@ -149,17 +149,22 @@ fn is_right_at(run: &Run, world: &World, moment: usize, worker: WorkerId, told: 
 
 /// Returns the first worker whose refusal at this moment, to which the world has come, is not
 /// right.
-fn first_wrong_at(run: &Run, world: &World, moment: usize, tolds: &[Told]) -> Option<WorkerId>
-    requires few { length tolds.now ≤ 16 }
-    requires stands { StandsFor world.now (take moment run.now.entries) }
+fn first_wrong_at(
+    run: &Run,
+    world: &World,
+    moment: usize,
+    summaries: &[Summary],
+) -> Option<WorkerId>
+    requires few { length summaries.now ≤ 16 }
+    requires represents { StandsFor world.now (take moment run.now.entries) }
     requires setup { world.now.setup ≡ run.now.setup }
     ensures { MatchOption result
-        ((w : ℕ) (told : Told) → slice_get tolds.now w ≡ Some told → IsRightAt told.outcome told.asked run.now moment w)
-        (IsUnborne run.now tolds.now) }
+        ((w : ℕ) (summary : Summary) → slice_get summaries.now w ≡ Some summary → IsRightAt summary.outcome summary.asked run.now moment w)
+        (IsUnborne run.now summaries.now) }
 {
-    for w in 0..tolds.len() {
-        let worker = worker_of(w);
-        if !is_right_at(run, world, moment, worker, &tolds[w]) {
+    for w in 0..summaries.len() {
+        let worker = nth_worker(w);
+        if !is_right_at(run, world, moment, worker, &summaries[w]) {
             return Some(worker);
         }
     }
@@ -168,19 +173,19 @@ fn first_wrong_at(run: &Run, world: &World, moment: usize, tolds: &[Told]) -> Op
 
 /// Returns a worker whose refusal at a moment up to this one is not right, found in one walk over
 /// the entries with a world that makes their steps.
-pub(crate) fn first_wrong(run: &Run, tolds: &[Told], last: usize) -> Option<WorkerId>
-    requires few { length tolds.now ≤ 16 }
+pub(crate) fn first_wrong(run: &Run, summaries: &[Summary], last: usize) -> Option<WorkerId>
+    requires few { length summaries.now ≤ 16 }
     requires within { last ≤ length run.now.entries }
     ensures { MatchOption result
-        ((k w : ℕ) (told : Told) → k ≤ last → slice_get tolds.now w ≡ Some told → IsRightAt told.outcome told.asked run.now k w)
-        (IsUnborne run.now tolds.now) }
+        ((k w : ℕ) (summary : Summary) → k ≤ last → slice_get summaries.now w ≡ Some summary → IsRightAt summary.outcome summary.asked run.now k w)
+        (IsUnborne run.now summaries.now) }
 {
     let mut world = World::open(run.setup().copy());
     for k in 0..last {
-        match first_wrong_at(run, &world, k, tolds) {
+        match first_wrong_at(run, &world, k, summaries) {
             Some(worker) => return Some(worker),
             None => go_on(&mut world, run, k),
         }
     }
-    first_wrong_at(run, &world, last, tolds)
+    first_wrong_at(run, &world, last, summaries)
 }

@@ -5,7 +5,7 @@ ghost use Rattle.std.specs.declared.alloc.Global.{Global};
 ghost use Rattle.ec_core.specs.declared.act.Entry.{Entry};
 ghost use Rattle.ec_machine.specs.declared.command.Command.{Command};
 ghost use Rattle.ec_machine.specs.declared.machine.Machine.{Machine};
-ghost use Rattle.ec_machine.specs.Standing.{kept_outcome};
+ghost use Rattle.ec_machine.specs.Standing.{machine_outcome};
 ghost use Rattle.ec_runner.specs.Machines.{AreMachines, IsPlayFault};
 ghost use Rattle.ec_runner.specs.Reported.{AreLogs, IsReport, IsSimFault};
 
@@ -19,7 +19,7 @@ use ec_script::Plan;
 use std::alloc::{AllocError, Global};
 
 /// Returns a machine at the start of each program.
-fn started(alloc: Global, programs: &[Program]) -> Result<Vec<Machine<'_>>, AllocError>
+fn start_machines(alloc: Global, programs: &[Program]) -> Result<Vec<Machine<'_>>, AllocError>
     ensures each { IfOk result (λ machines. length machines.items ≡ length programs.now) }
     ensures start { IfOk result (λ machines. AreMachines programs.now [] machines.items) }
 {
@@ -32,7 +32,7 @@ fn started(alloc: Global, programs: &[Program]) -> Result<Vec<Machine<'_>>, Allo
 
 /// Returns how the program of each machine has ended, if it has.
 fn outcomes_of(alloc: Global, machines: &[Machine<'_>]) -> Result<Vec<Outcome>, AllocError>
-    ensures { IfOk result (λ outcomes. outcomes.items ≡ map kept_outcome machines.now) }
+    ensures { IfOk result (λ outcomes. outcomes.items ≡ map machine_outcome machines.now) }
 {
     let mut outcomes = Vec::with_capacity(alloc, machines.len())?;
     for machine in machines {
@@ -45,7 +45,7 @@ fn outcomes_of(alloc: Global, machines: &[Machine<'_>]) -> Result<Vec<Outcome>, 
 fn report_of(alloc: Global, run: Run, machines: &[Machine<'_>]) -> Result<Report, AllocError>
     ensures run { IfOk result (λ report. report.run ≡ run) }
     ensures logs { IfOk result (λ report. AreLogs run.setup.workers run.entries (map (λ (log : Vec Entry Global). log.items) report.logs.items)) }
-    ensures outcomes { IfOk result (λ report. report.outcomes.items ≡ map kept_outcome machines.now) }
+    ensures outcomes { IfOk result (λ report. report.outcomes.items ≡ map machine_outcome machines.now) }
 {
     let logs = logs_of(alloc, &run)?;
     let outcomes = outcomes_of(alloc, machines)?;
@@ -92,7 +92,7 @@ fn play(
     let Ok(run) = Run::open(alloc, setup) else {
         return Err(SimFault::Memory);
     };
-    let Ok(mut machines) = started(alloc, programs) else {
+    let Ok(mut machines) = start_machines(alloc, programs) else {
         return Err(SimFault::Memory);
     };
     play_out(alloc, run, machines.as_mut_slice(), schedule)

@@ -1,7 +1,7 @@
 //! What a worker waits for.
 ghost use Rattle.std.specs.Prelude.{◌≡◌, ◌<◌, Some, length};
 ghost use Rattle.ec_runner.specs.declared.wait.Wait.{Wait};
-ghost use Rattle.ec_runner.specs.Boarded.{awaited, past_of, unmet};
+ghost use Rattle.ec_runner.specs.BoardModel.{await_fallen_short, past_of, unmet};
 
 use ec_core::{Act, Run};
 use ec_count::{EventId, WorkerId};
@@ -14,8 +14,8 @@ pub(crate) struct Wait {
 }
 
 /// Returns the await whose last round fell short, if the worker's latest entry ended it.
-fn awaited(run: &Run, worker: WorkerId) -> Option<Wait>
-    ensures { result ≡ awaited run.now.setup worker (past_of run.now) }
+fn await_fallen_short(run: &Run, worker: WorkerId) -> Option<Wait>
+    ensures { result ≡ await_fallen_short run.now.setup worker (past_of run.now) }
 {
     let call = run.world().under_way(worker)?;
     match call.op() {
@@ -41,9 +41,10 @@ fn unmet(run: &Run, wait: Option<Wait>) -> Option<Wait>
 /// Returns the await of a worker whose last round fell short, if the worker's latest entry ended
 /// it and the total has not come to the threshold since.
 pub(crate) fn unmet_await(run: &Run, worker: WorkerId) -> Option<Wait>
-    ensures { result ≡ unmet (past_of run.now) (awaited run.now.setup worker (past_of run.now)) }
+    ensures { result ≡ unmet (past_of run.now)
+        (await_fallen_short run.now.setup worker (past_of run.now)) }
 {
-    run.known();
-    let wait = awaited(run, worker);
+    run.invariant();
+    let wait = await_fallen_short(run, worker);
     unmet(run, wait)
 }

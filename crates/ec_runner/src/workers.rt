@@ -1,18 +1,19 @@
 //! Workers on threads of their own.
 ghost use Rattle.std.specs.Prelude.{◌≡◌, ℕ, ◌≤◌, map, length, Err, IfOk, IfErr, MatchResult};
 ghost use Rattle.ec_runner.specs.Fits.{AllFit, IsVerdict};
-ghost use Rattle.ec_runner.specs.Promised.{IsJoined, IsOneMore, AreJoined, AreToldOf, IsWant};
+ghost use Rattle.ec_runner.specs.WorkPromises.{IsJoinResult, IsOneMore, AreJoinResults};
+ghost use Rattle.ec_runner.specs.WorkPromises.{AreSummariesOf, IsWant};
 ghost use Rattle.ec_runner.specs.RunReports.{IsReportOf, NamesDeclared};
 ghost use Rattle.ec_runner.specs.RunFaults.{IsRunFault};
 
 use crate::board::Board;
-use crate::duty::Duty;
 use crate::gate::Gate;
-use crate::mismatch::mismatched;
+use crate::mismatch::find_mismatch;
 use crate::report::Report;
 use crate::run_fault::RunFault;
-use crate::threads::{Shared, start_each};
-use crate::told::Told;
+use crate::summary::Summary;
+use crate::threads::{SharedState, start_each};
+use crate::work_promise::WorkPromise;
 use ec_core::Run;
 use ec_count::Setup;
 use ec_machine::Program;
@@ -23,16 +24,16 @@ use std::thread;
 use std::thread::{PromisedHandle, Scope, Threads};
 
 /// Returns the report of a run and what its workers tell.
-fn made_report(alloc: Global, run: Run, tolds: Vec<Told>) -> Result<Report, AllocError>
+fn made_report(alloc: Global, run: Run, summaries: Vec<Summary>) -> Result<Report, AllocError>
     ensures run { IfOk result (λ r. r.run ≡ run) }
-    ensures logs { IfOk result (λ r. r.logs.items ≡ map (λ t. t.log) tolds.items) }
-    ensures outcomes { IfOk result (λ r. r.outcomes.items ≡ map (λ t. t.outcome) tolds.items) }
+    ensures logs { IfOk result (λ r. r.logs.items ≡ map (λ t. t.log) summaries.items) }
+    ensures outcomes { IfOk result (λ r. r.outcomes.items ≡ map (λ t. t.outcome) summaries.items) }
 {
     let mut logs = Vec::new(alloc);
     let mut outcomes = Vec::new(alloc);
-    for told in tolds {
-        logs.push(told.log)?;
-        outcomes.push(told.outcome)?;
+    for summary in summaries {
+        logs.push(summary.log)?;
+        outcomes.push(summary.outcome)?;
     }
     Ok(Report {
         run,
@@ -43,22 +44,28 @@ fn made_report(alloc: Global, run: Run, tolds: Vec<Told>) -> Result<Report, Allo
 
 /// Returns what one more worker tells, behind the others. A thread that was not started comes
 /// before want of memory.
-fn with_told(tolds: Result<Vec<Told>, RunFault>, told: Option<Told>) -> Result<Vec<Told>, RunFault>
-    ensures { IsOneMore tolds told result }
+fn push_summary(
+    summaries: Result<Vec<Summary>, RunFault>,
+    summary: Option<Summary>,
+) -> Result<Vec<Summary>, RunFault>
+    ensures { IsOneMore summaries summary result }
 {
-    let Some(told) = told else {
+    let Some(summary) = summary else {
         return Err(RunFault::Spawn);
     };
-    let mut tolds = tolds?;
-    match tolds.push(told) {
-        Ok(()) => Ok(tolds),
+    let mut summaries = summaries?;
+    match summaries.push(summary) {
+        Ok(()) => Ok(summaries),
         Err(_) => Err(RunFault::Memory),
     }
 }
 
 /// Returns what a thread tells, if it was started.
-fn joined<R: Threads>(rt: &R, handle: Option<PromisedHandle<Told, Duty<'_>>>) -> Option<Told>
-    ensures { IsJoined handle.entry result }
+fn join_worker<R: Threads>(
+    rt: &R,
+    handle: Option<PromisedHandle<Summary, WorkPromise<'_>>>,
+) -> Option<Summary>
+    ensures { IsJoinResult handle.entry result }
 {
     match handle {
         Some(handle) => Some(handle.join(rt)),
@@ -70,16 +77,16 @@ fn joined<R: Threads>(rt: &R, handle: Option<PromisedHandle<Told, Duty<'_>>>) ->
 fn join_each<R: Threads>(
     rt: &R,
     alloc: Global,
-    handles: Vec<Option<PromisedHandle<Told, Duty<'_>>>>,
-) -> Result<Vec<Told>, RunFault>
-    ensures { AreJoined handles.entry.items result }
+    handles: Vec<Option<PromisedHandle<Summary, WorkPromise<'_>>>>,
+) -> Result<Vec<Summary>, RunFault>
+    ensures { AreJoinResults handles.entry.items result }
 {
-    let mut tolds = Ok(Vec::new(alloc));
+    let mut summaries = Ok(Vec::new(alloc));
     for handle in handles {
-        let told = joined(rt, handle);
-        tolds = with_told(tolds, told);
+        let summary = join_worker(rt, handle);
+        summaries = push_summary(summaries, summary);
     }
-    tolds
+    summaries
 }
 
 /// Starts a thread for each program, and joins them all.
@@ -92,14 +99,14 @@ fn start_and_join<'s, E: 's, R: Threads + Wait + Sync, G: Gate + Sync>(
     gate: &'s G,
     turns: u64,
     alloc: Global,
-) -> Result<Vec<Told>, RunFault>
+) -> Result<Vec<Summary>, RunFault>
     requires { length programs.now ≤ 16 }
-    ensures { MatchResult result (λ v. AreToldOf programs.now turns v.items) IsWant }
+    ensures { MatchResult result (λ v. AreSummariesOf programs.now turns v.items) IsWant }
 {
     let Ok(room) = Vec::with_capacity(alloc, programs.len()) else {
         return Err(RunFault::Memory);
     };
-    let shared = Shared {
+    let shared = SharedState {
         board,
         sleeps,
         gate,
@@ -124,9 +131,9 @@ fn ran<R: Threads + Wait + Sync, G: Gate + Sync>(
     programs: &[Program],
     gate: &G,
     turns: u64,
-) -> Result<(Run, Vec<Told>), RunFault>
+) -> Result<(Run, Vec<Summary>), RunFault>
     requires { length programs.now ≤ 16 }
-    ensures { MatchResult result (λ r. AreToldOf programs.now turns r.1.items) IsWant }
+    ensures { MatchResult result (λ r. AreSummariesOf programs.now turns r.1.items) IsWant }
 {
     let Ok(board) = Board::open(alloc, setup.copy()) else {
         return Err(RunFault::Memory);
@@ -135,29 +142,35 @@ fn ran<R: Threads + Wait + Sync, G: Gate + Sync>(
     let sleeps = sleeps();
     let lock = &board;
     let beds = &sleeps;
-    let tolds = thread::scope(
+    let summaries = thread::scope(
         thread::scope_env(),
         rt,
-        |scope| -> Result<Vec<Told>, RunFault>
+        |scope| -> Result<Vec<Summary>, RunFault>
             requires { length programs.now ≤ 16 }
-            ensures { MatchResult result (λ v. AreToldOf programs.entry.now turns v.items) IsWant }
+            ensures { MatchResult result (λ v. AreSummariesOf programs.entry.now turns v.items)
+                IsWant }
         { start_and_join(rt, scope, lock, beds, programs, gate, turns, alloc) },
     )?;
-    Ok((board.into_inner().into_run(), tolds))
+    Ok((board.into_inner().into_run(), summaries))
 }
 
 /// Returns what is told of a run: its report, if what the workers tell fits it, and else the
 /// mismatch.
-fn reported(alloc: Global, setup: &Setup, run: Run, tolds: Vec<Told>) -> Result<Report, RunFault>
-    requires few { length tolds.items ≤ 16 }
-    requires each { length tolds.items ≡ setup.now.workers }
-    ensures { IsVerdict result setup.now run tolds.items }
+fn report_or_mismatch(
+    alloc: Global,
+    setup: &Setup,
+    run: Run,
+    summaries: Vec<Summary>,
+) -> Result<Report, RunFault>
+    requires few { length summaries.items ≤ 16 }
+    requires each { length summaries.items ≡ setup.now.workers }
+    ensures { IsVerdict result setup.now run summaries.items }
 {
-    match mismatched(setup, &run, tolds.as_slice()) {
+    match find_mismatch(setup, &run, summaries.as_slice()) {
         Some(worker) => return Err(RunFault::Mismatch(worker)),
         None => {}
     }
-    match made_report(alloc, run, tolds) {
+    match made_report(alloc, run, summaries) {
         Ok(report) => Ok(report),
         Err(_) => Err(RunFault::Memory),
     }
@@ -165,17 +178,17 @@ fn reported(alloc: Global, setup: &Setup, run: Run, tolds: Vec<Told>) -> Result<
 
 /// Returns what is told of workers that have ended: why nothing is known of them, if so, and else
 /// what their run and what they tell come to.
-fn answered(
+fn conclude(
     alloc: Global,
     setup: &Setup,
-    ran: Result<(Run, Vec<Told>), RunFault>,
+    ran: Result<(Run, Vec<Summary>), RunFault>,
 ) -> Result<Report, RunFault>
     requires few { IfOk ran (λ r. length r.1.items ≤ 16) }
     requires each { IfOk ran (λ r. length r.1.items ≡ setup.now.workers) }
     ensures { MatchResult ran (λ r. IsVerdict result setup.now r.0 r.1.items) (λ fault. result ≡ Err fault) }
 {
-    let (run, tolds) = ran?;
-    reported(alloc, setup, run, tolds)
+    let (run, summaries) = ran?;
+    report_or_mismatch(alloc, setup, run, summaries)
 }
 
 /// Runs programs of the workers of these declarations, each in a thread of its own.
@@ -192,9 +205,9 @@ fn run_on<R: Threads + Wait + Sync, G: Gate + Sync>(
     ensures named { IfErr result (NamesDeclared setup.now) }
     ensures fault { IfErr result (IsRunFault setup.now programs.now turns) }
 {
-    setup.known();
+    setup.invariant();
     let ended = ran(rt, alloc, setup, programs, gate, turns);
-    answered(alloc, setup, ended)
+    conclude(alloc, setup, ended)
 }
 
 /// Runs the programs of a plan, each worker's in a thread of its own, all at once, on one board

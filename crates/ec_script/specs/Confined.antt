@@ -5,18 +5,18 @@ use Rattle.ec_machine.specs.declared.command.Command.{Command}
 use Rattle.ec_machine.specs.declared.command.Command.TheViews.{out-Command}
 use Rattle.ec_machine.specs.declared.command.Command.TheOpen.{Command-F}
 use Rattle.ec_machine.specs.declared.command.Command.TheOpen as layer
-use Rattle.ec_machine.specs.Written.{written}
+use Rattle.ec_machine.specs.Unrolled.{unroll}
 use Rattle.ec_heading.specs.declared.group.Group.{Group}
 use Rattle.ec_heading.specs.declared.group.Group.TheVariants as groups
 use Rattle.ec_script.specs.declared.object.Object.{Object}
 use Rattle.ec_script.specs.declared.object.Object.TheVariants.{Event, Sequencer, Cell}
-use Rattle.ec_script.specs.declared.order.Order.{Order}
-use Rattle.ec_script.specs.declared.order.Order.TheVariants.{Do, Write, Begin, End}
+use Rattle.ec_script.specs.declared.block_item.BlockItem.{BlockItem}
+use Rattle.ec_script.specs.declared.block_item.BlockItem.TheVariants.{Do, Write, Begin, End}
 use Rattle.ec_script.specs.Objects.{owns, is_owned}
 use Rattle.ec_heading.specs.Groups.{both_of}
 use Rattle.ec_script.specs.Versioned.{HasOrders}
 use Rattle.ec_script.specs.Flat.{flat}
-use Rattle.ec_script.specs.Scripted.{Planned}
+use Rattle.ec_script.specs.ScriptModel.{PlanModel}
 use Rattle.ec_script.specs.Outcome.{outcome}
 
 -- ONE COMMAND
@@ -43,14 +43,14 @@ UsesGroups gs (layer.Repeat n block) = Unit {0}
 
 -- BY THEIR LINES
 
-abbrev pub IsConfined : List Group → Order → Type 0
+abbrev pub IsConfined : List Group → BlockItem → Type 0
 IsConfined gs (Do c) = UsesGroups gs (out-Command c)
 IsConfined gs (Write d vs) = Contains gs (groups.Database d)
 IsConfined gs (Begin n) = Unit {0}
 IsConfined gs End = Unit {0}
 
 -- each line of each program
-abbrev pub AreConfined : List Group → List (List Order) → Type 0
+abbrev pub AreConfined : List Group → List (List BlockItem) → Type 0
 AreConfined gs programs = AllByRecursion (AllByRecursion (IsConfined gs)) programs
 
 -- no object belongs to two groups
@@ -59,7 +59,7 @@ AreApart gs = (o : Object) (g k : Group) → Contains gs g → Contains gs k →
 
 -- some worker is declared, the groups are apart, there is a program for each declared worker, each confined and of commands that the
 -- version of the heading has, and a schedule of declared workers
-pub record IsPlan (p : Planned) : Type 0 where
+pub record IsPlan (p : PlanModel) : Type 0 where
   pub some : 1 ≤ p.heading.setup.workers
   pub apart : AreApart p.heading.groups
   pub programs : length p.programs ≡ p.heading.setup.workers
@@ -69,13 +69,13 @@ pub record IsPlan (p : Planned) : Type 0 where
 
 -- every script is such a plan
 abbrev pub PlansAreConfined : Type 0
-PlansAreConfined = (bytes : List ℕ) (p : Planned) → outcome bytes ≡ Ok p → IsPlan p
+PlansAreConfined = (bytes : List ℕ) (p : PlanModel) → outcome bytes ≡ Ok p → IsPlan p
 
 -- WRITTEN OUT
 
 -- each command that a program comes to, with its repeats written out
 abbrev pub IsConfinedProgram : List Group → List Command → Type 0
-IsConfinedProgram gs cs = AllByRecursion (λ c. UsesGroups gs (out-Command c)) (written cs)
+IsConfinedProgram gs cs = AllByRecursion (λ c. UsesGroups gs (out-Command c)) (unroll cs)
 
 abbrev pub AreConfinedPrograms : List Group → List (List Command) → Type 0
 AreConfinedPrograms gs programs = AllByRecursion (IsConfinedProgram gs) programs

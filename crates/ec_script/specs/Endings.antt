@@ -7,7 +7,7 @@ use Rattle.ec_script.specs.declared.parsing.TheConstants.{SCRIPT_MAX}
 use Rattle.ec_script.specs.declared.stage.Stage.{Stage}
 use Rattle.ec_script.specs.declared.stage.Stage.TheVariants.{Opening, Reading}
 use Rattle.ec_script.specs.Grammar.{IsLine, Leads}
-use Rattle.ec_heading.specs.Spelling.{text_of}
+use Rattle.ec_heading.specs.Spelling.{lines_text}
 use Rattle.ec_script.specs.Holding.{HasKind}
 use Rattle.ec_script.specs.Outcome.{outcome}
 use Rattle.ec_script.specs.Reading.{step}
@@ -27,7 +27,7 @@ pub record EndsEarly (text : List ℕ) (n : ℕ) : Type 0 where
   pub before : List (List ℕ)
   pub stage : Stage
   pub line : List ℕ
-  pub whole : text ≡ text_of before ++ line
+  pub whole : text ≡ lines_text before ++ line
   pub number : n ≡ length before + 1
   pub each : AllByRecursion IsLine before
   pub plain : IsLine line

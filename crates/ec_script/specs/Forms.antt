@@ -3,11 +3,11 @@ use Rattle.std.specs.Prelude.{ℕ, Bool, false, ◌||◌, ◌&&◌, ◌==◌, na
 use Rattle.std.specs.Option.{option_and_then, option_map_or}
 use Rattle.std.specs.List.{list_all}
 use Rattle.std.specs.Borrow.{Bor}
-use Rattle.ec_text.specs.Words.{words_of, number_of, is_number_form}
+use Rattle.ec_text.specs.Words.{words_of, number_in_word, is_number_form}
 use Rattle.ec_machine.specs.declared.command.Value.{Value}
 use Rattle.ec_machine.specs.declared.command.Value.TheVariants.{Number, Last, LastPlus}
-use Rattle.ec_script.specs.Verbs.{verb_of, has_object, tail_of}
-use Rattle.ec_script.specs.declared.verb.Verb.{Verb}
+use Rattle.ec_script.specs.Verbs.{parse_verb, has_object, tail_of}
+use Rattle.ec_script.specs.declared.verb.LineWord.{LineWord}
 use Rattle.ec_script.specs.declared.verb.Tail.{Tail}
 use Rattle.ec_script.specs.declared.verb.Tail.TheVariants as tails
 use Rattle.ec_script.specs.declared.form.Parts.{Parts}
@@ -27,8 +27,8 @@ abbrev pub last_plus : ℕ → Option Value
 last_plus n = if nat_le 1 n then Some (LastPlus n) else None
 
 abbrev pub number_or_more : Option (List ℕ) → List ℕ → Option Value
-number_or_more None w = option_map Number (number_of w)
-number_or_more (Some digits) w = option_and_then last_plus (number_of digits)
+number_or_more None w = option_map Number (number_in_word w)
+number_or_more (Some digits) w = option_and_then last_plus (number_in_word digits)
 
 -- the value that a word spells, if its number is in range
 unfoldable pub value_of : List ℕ → Option Value
@@ -53,25 +53,25 @@ is_tail tails.Words ws = nat_le 1 (length ws)
 
 -- a line of one of the forms: its object is [] if the form has none
 pub record Phrase : Type 0 where
-  pub verb : Verb
+  pub verb : LineWord
   pub object : List ℕ
   pub rest : List (List ℕ)
 
-abbrev pub tailed_in : Verb → List ℕ → List (List ℕ) → Option Phrase
+abbrev pub tailed_in : LineWord → List ℕ → List (List ℕ) → Option Phrase
 tailed_in v object ws = if is_tail (tail_of v) ws then Some (record { verb = v; object = object; rest = ws }) else None
 
-abbrev pub objected_in : Verb → List (List ℕ) → Option Phrase
+abbrev pub objected_in : LineWord → List (List ℕ) → Option Phrase
 objected_in v [] = None
 objected_in v (w ∷ ws) = tailed_in v w ws
 
-abbrev pub verbed_in : Option Verb → List (List ℕ) → Option Phrase
+abbrev pub verbed_in : Option LineWord → List (List ℕ) → Option Phrase
 verbed_in None ws = None
 verbed_in (Some v) ws = if has_object v then objected_in v ws else tailed_in v [] ws
 
 -- the parts of a line, if it has one of the forms
 unfoldable pub phrase_in : List (List ℕ) → Option Phrase
 phrase_in [] = None
-phrase_in (w ∷ ws) = verbed_in (verb_of w) ws
+phrase_in (w ∷ ws) = verbed_in (parse_verb w) ws
 
 -- AS THE CODE HOLDS THEM
 
@@ -80,5 +80,5 @@ abbrev pub rest_words : Option (Bor (List ℕ)) → List (List ℕ)
 rest_words None = []
 rest_words (Some r) = words_of r.now
 
-abbrev pub shown : Parts → Phrase
-shown p = record { verb = p.verb; object = p.object.now; rest = rest_words p.rest }
+abbrev pub phrase_of_parts : Parts → Phrase
+phrase_of_parts p = record { verb = p.verb; object = p.object.now; rest = rest_words p.rest }

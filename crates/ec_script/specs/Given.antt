@@ -9,14 +9,14 @@ use Rattle.ec_machine.specs.declared.command.Command.TheOpen as layer
 use Rattle.ec_machine.specs.Limits.{is_value, are_apart}
 use Rattle.ec_heading.specs.declared.group.Group.TheVariants as groups
 use Rattle.ec_heading.specs.declared.version.Version.{Version}
-use Rattle.ec_heading.specs.Headed.{Headed}
-use Rattle.ec_heading.specs.Outline.{Outline, IsOutline, headed}
-use Rattle.ec_script.specs.declared.order.Order.{Order}
-use Rattle.ec_script.specs.declared.order.Order.TheVariants.{Do, Write, Begin, End}
+use Rattle.ec_heading.specs.HeadingModel.{HeadingModel}
+use Rattle.ec_heading.specs.HeaderTree.{HeaderTree, IsHeaderTree, heading_of_tree}
+use Rattle.ec_script.specs.declared.block_item.BlockItem.{BlockItem}
+use Rattle.ec_script.specs.declared.block_item.BlockItem.TheVariants.{Do, Write, Begin, End}
 use Rattle.ec_script.specs.Kinds.{may_signal, are_declared}
 use Rattle.ec_script.specs.Versioned.{has_command}
 use Rattle.ec_script.specs.Confined.{UsesGroups}
-use Rattle.ec_script.specs.Layout.{Says}
+use Rattle.ec_script.specs.Layout.{IsLineOfItem}
 use Rattle.ec_script.specs.Spelling.{order_line}
 
 -- whether a script of the version may have the worker do such a thing, as the rights of its declarations go
@@ -50,7 +50,7 @@ is_line_of _ = true
 
 -- the order uses the objects of groups by the groups' procedures alone, the worker has the right, the numbers are in range, and the
 -- version has the command
-abbrev pub IsGiven : Headed → ℕ → Order → Type 0
+abbrev pub IsGiven : HeadingModel → ℕ → BlockItem → Type 0
 IsGiven h w (Do c) =
     UsesGroups h.groups (out-Command c) × (may_do h.version h.setup w (out-Command c) ≡ true) × (is_line_of (out-Command c) ≡ true) × (has_command h.version (out-Command c) ≡ true)
 IsGiven h w (Write d vs) = Contains h.groups (groups.Database d) × (may_take h.setup d.turn w ≡ true) × (1 ≤ length vs) × ((length vs == d.cells) ≡ true) × (list_all is_value vs ≡ true)
@@ -58,11 +58,11 @@ IsGiven h w (Begin n) = (1 ≤ n) × (n ≤ 1000000)
 IsGiven h w End = Unit {0}
 
 -- and its line has at most 8192 bytes
-abbrev pub MayGive : Headed → ℕ → Order → Type 0
+abbrev pub MayGive : HeadingModel → ℕ → BlockItem → Type 0
 MayGive h w o = IsGiven h w o × (length (order_line h o) ≤ 8192)
 
 -- LAWS
 
 -- a line says an order exactly if it spells the order, and the order may be given
 abbrev pub LinesSayOrders : Type 0
-LinesSayOrders = (o : Outline) (w : ℕ) (line : List ℕ) (order : Order) → IsOutline o → Says (headed o) w line order ↔ ((line ≡ order_line (headed o) order) × MayGive (headed o) w order)
+LinesSayOrders = (o : HeaderTree) (w : ℕ) (line : List ℕ) (order : BlockItem) → IsHeaderTree o → IsLineOfItem (heading_of_tree o) w line order ↔ ((line ≡ order_line (heading_of_tree o) order) × MayGive (heading_of_tree o) w order)

@@ -8,10 +8,10 @@ use Rattle.ec_script.specs.declared.fault.Kind.TheVariants as kinds
 use Rattle.ec_script.specs.declared.parsing.TheConstants.{SCRIPT_MAX}
 use Rattle.ec_script.specs.declared.stage.Stage.{Stage}
 use Rattle.ec_script.specs.declared.stage.Stage.TheVariants.{Opening}
-use Rattle.ec_script.specs.Scripted.{Planned}
+use Rattle.ec_script.specs.ScriptModel.{PlanModel}
 use Rattle.ec_script.specs.Reading.{step}
-use Rattle.ec_script.specs.Outcome.{outcome, parts_of, plan_in, first_of, long_kind}
-use Rattle.ec_heading.specs.Spelling.{text_of}
+use Rattle.ec_script.specs.Outcome.{outcome, lines_of_text, plan_in, first_or_empty, long_kind}
+use Rattle.ec_heading.specs.Spelling.{lines_text}
 
 -- a line holds no LF
 abbrev pub IsLine : List ℕ → Type 0
@@ -23,10 +23,10 @@ Leads s [] t = s ≡ t
 Leads s (line ∷ lines) t = (next : Stage) × (step s line ≡ Ok next) × Leads next lines t
 
 -- the bytes are a script that says this plan
-pub record IsScript (bytes : List ℕ) (p : Planned) : Type 0 where
+pub record IsScript (bytes : List ℕ) (p : PlanModel) : Type 0 where
   pub lines : List (List ℕ)
   pub stage : Stage
-  pub text : bytes ≡ text_of lines
+  pub text : bytes ≡ lines_text lines
   pub each : AllByRecursion IsLine lines
   pub leads : Leads Opening lines stage
   pub plan : plan_in stage ≡ Some p
@@ -34,15 +34,15 @@ pub record IsScript (bytes : List ℕ) (p : Planned) : Type 0 where
 
 -- the bytes say no plan
 abbrev pub IsNoScript : List ℕ → Type 0
-IsNoScript bytes = (p : Planned) → IsScript bytes p → ⊥
+IsNoScript bytes = (p : PlanModel) → IsScript bytes p → ⊥
 
 -- a script is read as its plan
 abbrev pub ScriptIsRead : Type 0
-ScriptIsRead = (bytes : List ℕ) (p : Planned) → IsScript bytes p → outcome bytes ≡ Ok p
+ScriptIsRead = (bytes : List ℕ) (p : PlanModel) → IsScript bytes p → outcome bytes ≡ Ok p
 
 -- what is read is a script
 abbrev pub ReadIsScript : Type 0
-ReadIsScript = (bytes : List ℕ) (p : Planned) → outcome bytes ≡ Ok p → IsScript bytes p
+ReadIsScript = (bytes : List ℕ) (p : PlanModel) → outcome bytes ≡ Ok p → IsScript bytes p
 
 -- THE FIRST FAULTY LINE
 
@@ -62,7 +62,7 @@ pub record IsFirstFault (text : List ℕ) (n : ℕ) (kind : Kind) : Type 0 where
   pub stage : Stage
   pub line : List ℕ
   pub behind : List ℕ
-  pub whole : text ≡ text_of before ++ (line ++ behind)
+  pub whole : text ≡ lines_text before ++ (line ++ behind)
   pub number : n ≡ length before + 1
   pub each : AllByRecursion IsLine before
   pub plain : IsLine line
@@ -75,7 +75,7 @@ FaultIsTheFirst = (text : List ℕ) (n : ℕ) (kind : Kind) → length text ≤ 
 
 -- of a longer one it is line 1, which is a header or none
 abbrev pub LongIsLine1 : Type 0
-LongIsLine1 = (text : List ℕ) (n : ℕ) (kind : Kind) → SCRIPT_MAX < length text → outcome text ≡ Err (n, kind) → (n ≡ 1) × (kind ≡ long_kind (first_of (parts_of text)))
+LongIsLine1 = (text : List ℕ) (n : ℕ) (kind : Kind) → SCRIPT_MAX < length text → outcome text ≡ Err (n, kind) → (n ≡ 1) × (kind ≡ long_kind (first_or_empty (lines_of_text text)))
 
 -- what stands before the first LF of a longer text, or all of it, is a header, and the text has too many bytes, or it is none
 pub record IsLongFault (text : List ℕ) (n : ℕ) (kind : Kind) : Type 0 where

@@ -11,11 +11,11 @@ use Rattle.ec_heading.specs.declared.group.Group.{Group}
 use Rattle.ec_heading.specs.Form as headings
 use Rattle.ec_heading.specs.declared.version.Version.{Version}
 use Rattle.ec_heading.specs.Versions.{greatest_limit}
-use Rattle.ec_heading.specs.Headed.{Headed}
+use Rattle.ec_heading.specs.HeadingModel.{HeadingModel}
 use Rattle.ec_heading.specs.Kinds.{second_list, declaration_of}
 use Rattle.ec_heading.specs.Lists.{worker_in, ids_in}
-use Rattle.ec_heading.specs.Outline.{declared_by}
-use Rattle.ec_heading.specs.Sorts.{has_number, is_called, is_in_range, needs_disjoint_lists}
+use Rattle.ec_heading.specs.HeaderTree.{with_declaration}
+use Rattle.ec_heading.specs.DeclKinds.{has_number, is_called, is_in_range, needs_disjoint_lists}
 use Rattle.ec_script.specs.Headers.{script_header}
 use Rattle.ec_script.specs.declared.fault.Kind.{Kind}
 use Rattle.ec_script.specs.declared.fault.Kind.TheVariants as kinds
@@ -26,8 +26,8 @@ use Rattle.ec_script.specs.declared.stage.Stage.{Stage}
 use Rattle.ec_script.specs.declared.stage.Stage.TheVariants.{Opening, Limiting, Naming, Reading}
 use Rattle.ec_script.specs.declared.verb.Tail.{Tail}
 use Rattle.ec_script.specs.declared.verb.Tail.TheVariants as tails
-use Rattle.ec_script.specs.declared.verb.Verb.{Verb}
-use Rattle.ec_script.specs.declared.verb.Verb.TheVariants as verbs
+use Rattle.ec_script.specs.declared.verb.LineWord.{LineWord}
+use Rattle.ec_script.specs.declared.verb.LineWord.TheVariants as verbs
 use Rattle.ec_script.specs.Faults.{kind_number}
 use Rattle.ec_script.specs.Forms.{Phrase}
 use Rattle.ec_script.specs.Grammar.{Leads}
@@ -35,13 +35,13 @@ use Rattle.ec_script.specs.Kinds.{greatest, has_right}
 use Rattle.ec_script.specs.Objects.{object_in, owns}
 use Rattle.ec_script.specs.Placed.{IsLimitLine, IsWorkersLine, IsDeclaration, IsOther}
 use Rattle.ec_script.specs.Reading.{step}
-use Rattle.ec_script.specs.Scripted.{Scripted}
+use Rattle.ec_script.specs.ScriptModel.{ScriptModel}
 use Rattle.ec_script.specs.Spelling.{value_word}
 use Rattle.ec_script.specs.Verbs.{tail_of, is_giving, is_counted}
 
 -- something stands at two places of a list
-abbrev pub StandsTwice : {A : Type 0} → List A → Type 0
-StandsTwice {A} xs = (x : A) × (front : List A) × (between : List A) × (rest : List A) × (xs ≡ front ++ x ∷ (between ++ x ∷ rest))
+abbrev pub OccursTwice : {A : Type 0} → List A → Type 0
+OccursTwice {A} xs = (x : A) × (prefix : List A) × (between : List A) × (rest : List A) × (xs ≡ prefix ++ x ∷ (between ++ x ∷ rest))
 
 -- THE LIMIT
 
@@ -55,32 +55,32 @@ LimitHas v digits _ = ⊥
 -- a word is no name, a word stands twice, there are more than 16
 abbrev pub WorkersHave : List (List ℕ) → Kind → Type 0
 WorkersHave names kinds.BadName = Any (λ w. is_name w ≡ false) names
-WorkersHave names kinds.NameTaken = StandsTwice names
+WorkersHave names kinds.NameTaken = OccursTwice names
 WorkersHave names kinds.TooMany = 16 < length names
 WorkersHave names _ = ⊥
 
 -- A DECLARATION
 
 -- a word of the heading is spelled so already, or a list names a worker twice
-abbrev pub IsTaken : Headed → headings.Phrase → Type 0
-IsTaken h p = (find_name p.name h.words ≢ None) ⊎ (StandsTwice (ids_in h.words p.first) ⊎ StandsTwice (ids_in h.words (second_list p)))
+abbrev pub IsTaken : HeadingModel → headings.Phrase → Type 0
+IsTaken h p = (find_name p.name h.words ≢ None) ⊎ (OccursTwice (ids_in h.words p.first) ⊎ OccursTwice (ids_in h.words (second_list p)))
 
 -- more than 32 eventcounts, 32 sequencers or 256 cells
 abbrev pub IsOver : Tables → Type 0
 IsOver t = (32 < length t.events) ⊎ ((32 < length t.takers) ⊎ (256 < length t.cells))
 
 -- a list names more than 16 workers, or with these objects there would be too many
-abbrev pub PassesBounds : Headed → headings.Phrase → Type 0
+abbrev pub PassesBounds : HeadingModel → headings.Phrase → Type 0
 PassesBounds h p =
-    ((16 < length (ids_in h.words p.first)) ⊎ (16 < length (ids_in h.words (second_list p)))) ⊎ IsOver (declared_by h (declaration_of h.words p)).setup
+    ((16 < length (ids_in h.words p.first)) ⊎ (16 < length (ids_in h.words (second_list p)))) ⊎ IsOver (with_declaration h (declaration_of h.words p)).setup
 
 -- some worker stands in both lists
-abbrev pub SharesWorker : Headed → headings.Phrase → Type 0
+abbrev pub SharesWorker : HeadingModel → headings.Phrase → Type 0
 SharesWorker h p = (w : ℕ) × Contains (ids_in h.words p.first) w × Contains (ids_in h.words (second_list p)) w
 
 -- the new name is none; it is taken; a word of a list is no worker's name; its number isn't spelled by the digits of any in range;
 -- bounds are passed; and of a buffer or a database, a worker has both roles
-abbrev pub DeclarationHas : Headed → headings.Phrase → Kind → Type 0
+abbrev pub DeclarationHas : HeadingModel → headings.Phrase → Kind → Type 0
 DeclarationHas h p kinds.BadName = is_called p.sort p.name ≡ false
 DeclarationHas h p kinds.NameTaken = IsTaken h p
 DeclarationHas h p kinds.UnknownName = Any (λ w. worker_in h.words w ≡ None) p.first ⊎ Any (λ w. worker_in h.words w ≡ None) (second_list p)
@@ -92,10 +92,10 @@ DeclarationHas h p _ = ⊥
 -- LINES BEHIND THE DECLARATIONS
 
 -- a block is open, and this holds of it; a declared object of the sort is spelled, and this holds of it
-abbrev pub InBlock : Scripted → (Block → Type 0) → Type 0
+abbrev pub InBlock : ScriptModel → (Block → Type 0) → Type 0
 InBlock s T = (b : Block) × (s.block ≡ Some b) × T b
 
-abbrev pub About : Scripted → Phrase → (Object → Type 0) → Type 0
+abbrev pub About : ScriptModel → Phrase → (Object → Type 0) → Type 0
 About s p T = (o : Object) × (object_in s.heading p ≡ Some o) × T o
 
 -- it is a worker whose block began before
@@ -108,20 +108,20 @@ abbrev pub IsNoValue : List ℕ → Type 0
 IsNoValue w = (v : Value) → is_value v ≡ true → w ≢ value_word v
 
 -- a value is none; of `write`, or the database doesn't have as many cells; a count of tries or of a repeat is none in its range
-abbrev pub IsBadNumber : Tail → Headed → Phrase → Type 0
+abbrev pub IsBadNumber : Tail → HeadingModel → Phrase → Type 0
 IsBadNumber tails.Value h p = (w : List ℕ) × (p.rest ≡ w ∷ []) × IsNoValue w
 IsBadNumber tails.Values h p = Any IsNoValue p.rest ⊎ ((d : Database) → object_in h p ≡ Some (OfDatabase d) → length p.rest ≢ d.cells)
 IsBadNumber tails.Digits h p = (n : ℕ) → 1 ≤ n → n ≤ greatest p.verb → p.rest ≢ decimal n ∷ []
 IsBadNumber _ h p = ⊥
 
 -- the schedule passes 65536 names, or the commands of the block pass 4096
-abbrev pub IsTooLong : Scripted → Phrase → Type 0
+abbrev pub IsTooLong : ScriptModel → Phrase → Type 0
 IsTooLong s p =
     ((p.verb ≡ verbs.Schedule) × (65536 < length s.schedule + length p.rest))
     ⊎ InBlock s (λ b. (is_counted p.verb ≡ true) × (4096 < b.draft.commands + 1))
 
 -- a `worker` or `schedule` line; a fifth repeat in the others; an `end` of a repeat without a command
-abbrev pub IsMisplaced : Block → Verb → Type 0
+abbrev pub IsMisplaced : Block → LineWord → Type 0
 IsMisplaced b verbs.Worker = Unit {0}
 IsMisplaced b verbs.Schedule = Unit {0}
 IsMisplaced b verbs.Repeat = 4 ≤ b.draft.depth
@@ -131,7 +131,7 @@ IsMisplaced b _ = ⊥
 -- a `worker` line names a worker whose block began before; a word spells no declared object of the sort, or a name of the schedule is
 -- no worker's; a number is bad; bounds are passed; a raw command names an object of a group; a `pboth` line names one semaphore twice;
 -- the worker of the block lacks the right; and in a block, the line is misplaced
-abbrev pub OtherHas : Scripted → Phrase → Kind → Type 0
+abbrev pub OtherHas : ScriptModel → Phrase → Kind → Type 0
 OtherHas s p kinds.NameTaken = About s p (IsBegun s.named)
 OtherHas s p kinds.UnknownName = (object_in s.heading p ≡ None) ⊎ ((p.verb ≡ verbs.Schedule) × Any (λ w. worker_in s.heading.words w ≡ None) p.rest)
 OtherHas s p kinds.BadNumber = IsBadNumber (tail_of p.verb) s.heading p
@@ -150,7 +150,7 @@ OfForm {F} Is Has kinds.BadLine = (f : F) → Is f → ⊥
 OfForm {F} Is Has kind = (f : F) × Is f × Has f kind
 
 -- behind the workers a line declares something, or it is another
-abbrev pub OfEither : Scripted → List ℕ → Kind → Type 0
+abbrev pub OfEither : ScriptModel → List ℕ → Kind → Type 0
 OfEither s line kinds.BadLine = ((p : headings.Phrase) → IsDeclaration s line p → ⊥) × ((p : Phrase) → IsOther s line p → ⊥)
 OfEither s line kind =
     ((p : headings.Phrase) × IsDeclaration s line p × DeclarationHas s.heading p kind) ⊎ ((p : Phrase) × IsOther s line p × OtherHas s p kind)

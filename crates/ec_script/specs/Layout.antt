@@ -3,29 +3,29 @@ use Rattle.std.specs.Prelude.{◌≡◌, ℕ, ◌+◌, ◌-◌, ◌<◌, ◌≤�
 use Rattle.std.specs.List.{AllByRecursion, flat_map, join_with_byte, range_with_len}
 use Rattle.ec_count.specs.Members.{has_repeat}
 use Rattle.ec_text.specs.Words.{words_of}
-use Rattle.ec_heading.specs.Headed.{Headed}
-use Rattle.ec_heading.specs.Outline.{Outline, IsOutline, headed}
+use Rattle.ec_heading.specs.HeadingModel.{HeadingModel}
+use Rattle.ec_heading.specs.HeaderTree.{HeaderTree, IsHeaderTree, heading_of_tree}
 use Rattle.ec_heading.specs.Heading.{is_no_line}
-use Rattle.ec_heading.specs.Spelling.{heading_lines, list_words, text_of}
+use Rattle.ec_heading.specs.Spelling.{heading_lines, list_words, lines_text}
 use Rattle.ec_script.specs.Headers.{script_header}
-use Rattle.ec_script.specs.declared.verb.Verb.{Verb}
-use Rattle.ec_script.specs.declared.verb.Verb.TheVariants as verbs
+use Rattle.ec_script.specs.declared.verb.LineWord.{LineWord}
+use Rattle.ec_script.specs.declared.verb.LineWord.TheVariants as verbs
 use Rattle.ec_script.specs.declared.object.Object.{Object}
-use Rattle.ec_script.specs.declared.order.Order.{Order}
-use Rattle.ec_script.specs.declared.order.Order.TheVariants.{Do, Write, Begin, End}
+use Rattle.ec_script.specs.declared.block_item.BlockItem.{BlockItem}
+use Rattle.ec_script.specs.declared.block_item.BlockItem.TheVariants.{Do, Write, Begin, End}
 use Rattle.ec_script.specs.declared.parsing.TheConstants.{SCRIPT_MAX}
 use Rattle.ec_script.specs.Verbs.{has_verb, tail_of, is_giving, is_outer}
 use Rattle.ec_script.specs.Forms.{Phrase, phrase_in}
 use Rattle.ec_script.specs.Objects.{object_in, is_owned}
 use Rattle.ec_script.specs.Kinds.{is_bad_tail, has_two_roles, has_right}
-use Rattle.ec_script.specs.Orders.{size_in, command_in}
-use Rattle.ec_script.specs.Scripted.{Planned}
+use Rattle.ec_script.specs.BlockItems.{size_in, command_in}
+use Rattle.ec_script.specs.ScriptModel.{PlanModel}
 use Rattle.ec_script.specs.Grammar.{IsScript}
 
 -- A LINE OF A BLOCK
 
 -- what a line says that does this with the object, and to whose word these follow
-abbrev pub order_by : Verb → Object → List (List ℕ) → Option Order
+abbrev pub order_by : LineWord → Object → List (List ℕ) → Option BlockItem
 order_by verbs.Repeat o ws = Some (Begin (size_in ws))
 order_by verbs.End o ws = Some End
 order_by v o ws = command_in v (is_giving v) o ws
@@ -33,7 +33,7 @@ order_by v o ws = command_in v (is_giving v) o ws
 -- the line says this order to the worker: it has at most 8192 bytes and no empty word, it has the form of a command that the version of
 -- the heading has, of `repeat` or of `end`, its object is declared, its numbers are in range and its values as many as the cells, a raw command names no object of a
 -- group, no semaphore stands twice, and the worker has the right
-pub record Says (h : Headed) (w : ℕ) (line : List ℕ) (order : Order) : Type 0 where
+pub record IsLineOfItem (h : HeadingModel) (w : ℕ) (line : List ℕ) (order : BlockItem) : Type 0 where
   pub whole : is_no_line line ≡ false
   pub phrase : Phrase
   pub form : phrase_in (words_of line) ≡ Some phrase
@@ -52,17 +52,17 @@ pub record Says (h : Headed) (w : ℕ) (line : List ℕ) (order : Order) : Type 
 -- a worker, and the lines between its `worker` line and its `end`, each with what it says
 pub record Block : Type 0 where
   pub worker : ℕ
-  pub lines : List (List ℕ × Order)
+  pub lines : List (List ℕ × BlockItem)
 
-abbrev pub texts_of : List (List ℕ × Order) → List (List ℕ)
-texts_of lines = map (λ (l : List ℕ × Order). l.0) lines
+abbrev pub texts_of : List (List ℕ × BlockItem) → List (List ℕ)
+texts_of lines = map (λ (l : List ℕ × BlockItem). l.0) lines
 
-abbrev pub orders_of : List (List ℕ × Order) → List Order
-orders_of lines = map (λ (l : List ℕ × Order). l.1) lines
+abbrev pub orders_of : List (List ℕ × BlockItem) → List BlockItem
+orders_of lines = map (λ (l : List ℕ × BlockItem). l.1) lines
 
 -- the orders go on where so many repeats are open, the innermost of which has no command yet or has one: each `end` is that of a
 -- repeat with a command, at most four repeats stand in one another, and each has its `end`
-abbrev pub AreNested : ℕ → Bool → List Order → Type 0
+abbrev pub AreNested : ℕ → Bool → List BlockItem → Type 0
 AreNested depth is_empty [] = depth ≡ 0
 AreNested depth is_empty (Do c ∷ os) = AreNested depth false os
 AreNested depth is_empty (Write d vs ∷ os) = AreNested depth false os
@@ -70,7 +70,7 @@ AreNested depth is_empty (Begin n ∷ os) = (depth < 4) × AreNested (depth + 1)
 AreNested depth is_empty (End ∷ os) = (0 < depth) × (is_empty ≡ false) × AreNested (depth - 1) false os
 
 -- how many commands they are, a repeat among them and its `end` not
-abbrev pub commands_in : List Order → ℕ
+abbrev pub commands_in : List BlockItem → ℕ
 commands_in [] = 0
 commands_in (Do c ∷ os) = commands_in os + 1
 commands_in (Write d vs ∷ os) = commands_in os + 1
@@ -79,9 +79,9 @@ commands_in (End ∷ os) = commands_in os
 
 -- a whole block: of a declared worker, each line says its order to it, the repeats are properly nested, and there are at most 4096
 -- commands
-pub record IsBlock (h : Headed) (b : Block) : Type 0 where
+pub record IsBlock (h : HeadingModel) (b : Block) : Type 0 where
   pub worker : b.worker < h.setup.workers
-  pub each : AllByRecursion (λ (l : List ℕ × Order). Says h b.worker l.0 l.1) b.lines
+  pub each : AllByRecursion (λ (l : List ℕ × BlockItem). IsLineOfItem h b.worker l.0 l.1) b.lines
   pub nested : AreNested 0 true (orders_of b.lines)
   pub few : commands_in (orders_of b.lines) ≤ 4096
 
@@ -102,14 +102,14 @@ pub record IsRow (workers : List (List ℕ)) (ids : List ℕ) : Type 0 where
   pub declared : AllByRecursion (λ w. w < length workers) ids
   pub short : length (schedule_line workers ids) ≤ 8192
 
-abbrev pub joined : List (List ℕ) → List ℕ
-joined rows = flat_map (λ (ids : List ℕ). ids) rows
+abbrev pub concat_rows : List (List ℕ) → List ℕ
+concat_rows rows = flat_map (λ (ids : List ℕ). ids) rows
 
 -- A WHOLE SCRIPT
 
 -- the outline of a heading, blocks, and the workers of each line of the schedule
 pub record Layout : Type 0 where
-  pub outline : Outline
+  pub outline : HeaderTree
   pub blocks : List Block
   pub rows : List (List ℕ)
 
@@ -118,11 +118,11 @@ workers_of blocks = map (λ (b : Block). b.worker) blocks
 
 -- no worker has two blocks, and the schedule has at most 65536 names
 pub record IsLayout (l : Layout) : Type 0 where
-  pub heading : IsOutline l.outline
-  pub blocks : AllByRecursion (IsBlock (headed l.outline)) l.blocks
+  pub heading : IsHeaderTree l.outline
+  pub blocks : AllByRecursion (IsBlock (heading_of_tree l.outline)) l.blocks
   pub differ : has_repeat (workers_of l.blocks) ≡ false
   pub rows : AllByRecursion (IsRow l.outline.workers) l.rows
-  pub few : length (joined l.rows) ≤ 65536
+  pub few : length (concat_rows l.rows) ≤ 65536
 
 abbrev pub layout_lines : Layout → List (List ℕ)
 layout_lines l =
@@ -130,29 +130,29 @@ layout_lines l =
     ++ (flat_map (block_lines l.outline.workers) l.blocks ++ map (schedule_line l.outline.workers) l.rows)
 
 -- the orders of a worker's block, none if it has no block
-abbrev pub program_of : List Block → ℕ → List Order
+abbrev pub program_of : List Block → ℕ → List BlockItem
 program_of [] w = []
 program_of (b ∷ blocks) w = if b.worker == w then orders_of b.lines else program_of blocks w
 
-abbrev pub plan_of : Layout → Planned
+abbrev pub plan_of : Layout → PlanModel
 plan_of l = record {
-  heading = headed l.outline;
+  heading = heading_of_tree l.outline;
   programs = map (program_of l.blocks) (range_with_len 0 (length l.outline.workers));
-  schedule = joined l.rows;
+  schedule = concat_rows l.rows;
 }
 
 -- the bytes are the text of a layout, and the plan is what it says
-pub record IsLaidOut (bytes : List ℕ) (p : Planned) : Type 0 where
+pub record IsLaidOut (bytes : List ℕ) (p : PlanModel) : Type 0 where
   pub layout : Layout
   pub is : IsLayout layout
-  pub text : bytes ≡ text_of (layout_lines layout)
+  pub text : bytes ≡ lines_text (layout_lines layout)
   pub within : length bytes ≤ SCRIPT_MAX
   pub plan : p ≡ plan_of layout
 
 -- LAWS
 
 abbrev pub ScriptsAreLaidOut : Type 0
-ScriptsAreLaidOut = (bytes : List ℕ) (p : Planned) → IsScript bytes p → IsLaidOut bytes p
+ScriptsAreLaidOut = (bytes : List ℕ) (p : PlanModel) → IsScript bytes p → IsLaidOut bytes p
 
 abbrev pub LayoutsAreScripts : Type 0
-LayoutsAreScripts = (bytes : List ℕ) (p : Planned) → IsLaidOut bytes p → IsScript bytes p
+LayoutsAreScripts = (bytes : List ℕ) (p : PlanModel) → IsLaidOut bytes p → IsScript bytes p

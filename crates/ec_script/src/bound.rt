@@ -1,8 +1,8 @@
 //! The limit of a script, under its version.
 ghost use Rattle.std.specs.Prelude.{◌≡◌, ◌≤◌, [], IfOk};
-ghost use Rattle.ec_heading.specs.Outline.{opened};
+ghost use Rattle.ec_heading.specs.HeaderTree.{empty_heading};
 ghost use Rattle.ec_heading.specs.Versions.{greatest_limit};
-ghost use Rattle.ec_script.specs.Headers.{bounded};
+ghost use Rattle.ec_script.specs.Headers.{bound};
 
 use ec_count::Limit;
 use ec_heading::{Heading, Version};
@@ -17,21 +17,21 @@ pub(crate) struct Bound {
 
 impl Model for Bound {
     ghost use Rattle.std.specs.Prelude.{◌≡◌, []};
-    ghost use Rattle.ec_heading.specs.Outline.{opened};
-    ghost use Rattle.ec_script.specs.Headers.{Bounded};
+    ghost use Rattle.ec_heading.specs.HeaderTree.{empty_heading};
+    ghost use Rattle.ec_script.specs.Headers.{BoundModel};
 
-    ghost Value = { Bounded };
+    ghost Value = { BoundModel };
 
     ghost view = { λ b. record { version = b.heading.version; limit = b.heading.setup.limit } };
 
-    ghost invariant = { λ b. b.heading ≡ opened b.heading.version b.heading.setup.limit [] };
+    ghost invariant = { λ b. b.heading ≡ empty_heading b.heading.version b.heading.setup.limit [] };
 }
 
 impl Bound {
     /// Makes a limit that a text of the version may have.
     pub(crate) fn new(alloc: Global, version: Version, limit: Limit) -> Result<Self, AllocError>
         requires { limit ≤ greatest_limit version }
-        ensures { IfOk result (λ bound. bound ≡ bounded version limit) }
+        ensures { IfOk result (λ bound. bound ≡ bound version limit) }
     {
         let heading = Heading::new(alloc, version, limit)?;
         Ok(Bound { heading })
@@ -39,7 +39,7 @@ impl Bound {
 
     /// Returns the heading of this version with this limit, and nothing declared.
     pub(crate) fn into_heading(self) -> Heading
-        ensures { result ≡ opened self.version self.limit [] }
+        ensures { result ≡ empty_heading self.version self.limit [] }
     {
         self.heading
     }

@@ -3,16 +3,16 @@ ghost use Rattle.std.specs.Prelude.{◌≡◌, ◌∷◌, [], option_map, IfSome
 ghost use Rattle.std.specs.List.{list_all};
 ghost use Rattle.ec_text.specs.Words.{words_of};
 ghost use Rattle.ec_machine.specs.Limits.{is_value};
-ghost use Rattle.ec_script.specs.Forms.{more_in, is_value_form, value_of, only_in, is_tail, tailed_in, phrase_in, rest_words, shown};
+ghost use Rattle.ec_script.specs.Forms.{more_in, is_value_form, value_of, only_in, is_tail, tailed_in, phrase_in, rest_words, phrase_of_parts};
 
-use crate::verb::{Tail, Verb, verb_of};
+use crate::verb::{LineWord, Tail, parse_verb};
 use ec_machine::Value;
 use ec_text::{cut_word, is_number_form, number};
 
 /// A line of one of the forms, by its words: the object has no bytes if the form has none.
 #[derive(Clone, Copy)]
 pub(crate) struct Parts<'a> {
-    pub(crate) verb: Verb,
+    pub(crate) verb: LineWord,
     pub(crate) object: &'a [u8],
     pub(crate) rest: Option<&'a [u8]>,
 }
@@ -39,7 +39,7 @@ fn is_value_form(word: &[u8]) -> bool
 
 /// Returns the value that a word spells, if its number is in range.
 #[tactic(auto, unfolding(crate::specs::Forms::value_of))]
-pub(crate) fn value_of(word: &[u8]) -> Option<Value>
+pub(crate) fn parse_value(word: &[u8]) -> Option<Value>
     ensures value { result ≡ value_of word.now }
     ensures small { IfSome result (λ v. is_value v ≡ true) }
 {
@@ -108,8 +108,13 @@ fn is_tail(tail: Tail, rest: Option<&[u8]>) -> bool
 }
 
 /// Returns the parts of a line from what stands behind its object on.
-fn tailed<'a>(verb: Verb, object: &'a [u8], rest: Option<&'a [u8]>) -> Option<Parts<'a>>
-    ensures { option_map shown result ≡ tailed_in verb object.now (rest_words rest.entry) }
+fn parts_after_object<'a>(
+    verb: LineWord,
+    object: &'a [u8],
+    rest: Option<&'a [u8]>,
+) -> Option<Parts<'a>>
+    ensures { option_map phrase_of_parts result
+        ≡ tailed_in verb object.now (rest_words rest.entry) }
 {
     if !is_tail(verb.tail(), rest) {
         return None;
@@ -119,17 +124,17 @@ fn tailed<'a>(verb: Verb, object: &'a [u8], rest: Option<&'a [u8]>) -> Option<Pa
 
 /// Returns the parts of a line of one of the forms.
 #[tactic(auto, unfolding(crate::specs::Forms::phrase_in))]
-pub(crate) fn parts_of(line: &[u8]) -> Option<Parts<'_>>
-    ensures { option_map shown result ≡ phrase_in (words_of line.now) }
+pub(crate) fn split_line(line: &[u8]) -> Option<Parts<'_>>
+    ensures { option_map phrase_of_parts result ≡ phrase_in (words_of line.now) }
 {
     let (word, rest) = cut_word(line);
-    let verb = verb_of(word)?;
+    let verb = parse_verb(word)?;
     if !verb.has_object() {
-        return tailed(verb, b"".as_slice(), rest);
+        return parts_after_object(verb, b"".as_slice(), rest);
     }
     let Some(rest) = rest else {
         return None;
     };
     let (object, rest) = cut_word(rest);
-    tailed(verb, object, rest)
+    parts_after_object(verb, object, rest)
 }

@@ -3,16 +3,16 @@ ghost use Rattle.std.specs.Prelude.{◌≡◌, ◌+◌, ◌==◌, ◌||◌, not,
 ghost use Rattle.std.specs.Option.{option_and_then};
 ghost use Rattle.std.specs.List.{list_any};
 ghost use Rattle.ec_count.specs.Members.{is_member};
-ghost use Rattle.ec_text.specs.Words.{number_of};
-ghost use Rattle.ec_script.specs.Forms.{rest_words, shown};
+ghost use Rattle.ec_text.specs.Words.{number_in_word};
+ghost use Rattle.ec_script.specs.Forms.{rest_words, phrase_of_parts};
 ghost use Rattle.ec_script.specs.Verbs.{tail_of};
-ghost use Rattle.ec_script.specs.Kinds.{seen_of, is_no_value, is_count, is_allowed, is_named_again, has_unknown_name, cells_of, greatest, is_bad_tail, is_too_many, has_two_roles, may_signal, are_declared, has_right, lacks_right, is_badly_nested, or_nothing, phrase_fault};
+ghost use Rattle.ec_script.specs.Kinds.{context_model, is_no_value, is_count, is_allowed, is_named_again, has_unknown_name, cells_of, greatest, is_bad_tail, is_too_many, has_two_roles, may_signal, are_declared, has_right, lacks_right, is_badly_nested, or_nothing, phrase_fault};
 
 use crate::fault::Kind;
-use crate::form::{Parts, only_word, value_of};
+use crate::form::{Parts, only_word, parse_value};
 use crate::lists::has_no_value;
 use crate::object::{Object, is_owned};
-use crate::verb::{Tail, Verb};
+use crate::verb::{LineWord, Tail};
 use ec_count::{EventId, Setup, WorkerId};
 use ec_heading::{Heading, Version, count_words, has_unknown};
 use ec_machine::{COMMANDS_MAX, NESTING_MAX, TIMES_MAX, TRIES_MAX, are_apart};
@@ -21,7 +21,7 @@ use ec_text::number;
 /// The block that a line stands in: its worker, how many repeats are open there, whether the
 /// innermost has no command yet, and how many commands there are.
 #[derive(Clone, Copy)]
-pub(crate) struct BlockView {
+pub(crate) struct BlockContext {
     pub(crate) worker: WorkerId,
     pub(crate) depth: usize,
     pub(crate) is_empty: bool,
@@ -30,10 +30,10 @@ pub(crate) struct BlockView {
 
 /// Where a line stands.
 #[derive(Clone, Copy)]
-pub(crate) struct View<'a> {
+pub(crate) struct LineContext<'a> {
     pub(crate) heading: &'a Heading,
     pub(crate) named: &'a [WorkerId],
-    pub(crate) block: Option<BlockView>,
+    pub(crate) block: Option<BlockContext>,
     pub(crate) scheduled: usize,
 }
 
@@ -41,12 +41,12 @@ pub(crate) struct View<'a> {
 const SCHEDULE_MAX: usize = 65536;
 
 /// Returns whether such a line may stand there.
-fn is_allowed(verb: Verb, in_block: bool, scheduled: usize) -> bool
+fn is_allowed(verb: LineWord, in_block: bool, scheduled: usize) -> bool
     ensures { result ≡ is_allowed verb in_block scheduled }
 {
     match verb {
-        Verb::Schedule => true,
-        Verb::Worker => in_block || scheduled == 0,
+        LineWord::Schedule => true,
+        LineWord::Worker => in_block || scheduled == 0,
         _ => in_block,
     }
 }
@@ -73,7 +73,7 @@ fn has_unknown_name(heading: &Heading, parts: &Parts<'_>) -> bool
     ensures { result ≡ has_unknown_name heading.now parts.now.verb (rest_words parts.now.rest) }
 {
     match (parts.verb, parts.rest) {
-        (Verb::Schedule, Some(rest)) => has_unknown(heading.words(), rest),
+        (LineWord::Schedule, Some(rest)) => has_unknown(heading.words(), rest),
         _ => false,
     }
 }
@@ -89,11 +89,11 @@ fn cells_of(object: &Object) -> usize
 }
 
 /// Returns the greatest count of a repeat, and of tries.
-fn greatest(verb: Verb) -> u64
+fn greatest(verb: LineWord) -> u64
     ensures { result ≡ greatest verb }
 {
     match verb {
-        Verb::Repeat => TIMES_MAX,
+        LineWord::Repeat => TIMES_MAX,
         _ => TRIES_MAX as u64,
     }
 }
@@ -102,7 +102,7 @@ fn greatest(verb: Verb) -> u64
 fn is_no_value(word: &[u8]) -> bool
     ensures { result ≡ is_no_value word.now }
 {
-    value_of(word).is_none()
+    parse_value(word).is_none()
 }
 
 /// Returns whether the values are out of range, or not so many.
@@ -117,7 +117,7 @@ fn are_bad_values(rest: Option<&[u8]>, cells: usize) -> bool
 
 /// Returns whether digits spell a number from 1 to the greatest.
 fn is_count(most: u64, digits: Option<&[u8]>) -> bool
-    ensures { result ≡ is_count most (option_and_then number_of (option_map (λ w. w.now) digits.entry)) }
+    ensures { result ≡ is_count most (option_and_then number_in_word (option_map (λ w. w.now) digits.entry)) }
 {
     let Some(word) = digits else {
         return false;
@@ -161,11 +161,11 @@ fn is_over(scheduled: usize, more: usize) -> bool
 }
 
 /// Returns whether the commands of the block, or the names of the schedule, become too many.
-fn is_too_many(parts: &Parts<'_>, block: Option<BlockView>, scheduled: usize) -> bool
+fn is_too_many(parts: &Parts<'_>, block: Option<BlockContext>, scheduled: usize) -> bool
     ensures { result ≡ is_too_many parts.now.verb (rest_words parts.now.rest) block scheduled }
 {
     match (parts.verb, block) {
-        (Verb::Schedule, _) => is_over(scheduled, count_rest(parts.rest)),
+        (LineWord::Schedule, _) => is_over(scheduled, count_rest(parts.rest)),
         (verb, Some(block)) => verb.is_counted() && block.commands >= COMMANDS_MAX,
         (_, None) => false,
     }
@@ -253,7 +253,12 @@ fn has_right(
 }
 
 /// Returns whether the worker of the block lacks the right to do such a thing with the object.
-fn lacks_right(heading: &Heading, block: Option<BlockView>, verb: Verb, object: &Object) -> bool
+fn lacks_right(
+    heading: &Heading,
+    block: Option<BlockContext>,
+    verb: LineWord,
+    object: &Object,
+) -> bool
     ensures { result ≡ lacks_right heading.now block verb object.now }
 {
     match block {
@@ -270,16 +275,16 @@ fn lacks_right(heading: &Heading, block: Option<BlockView>, verb: Verb, object: 
 
 /// Returns whether a line stands inside a block that must not, a fifth repeat in the others, or an
 /// `end` of a repeat without a command.
-fn is_badly_nested(verb: Verb, block: Option<BlockView>) -> bool
+fn is_badly_nested(verb: LineWord, block: Option<BlockContext>) -> bool
     ensures { result ≡ is_badly_nested verb block }
 {
     let Some(block) = block else {
         return false;
     };
     match verb {
-        Verb::Worker | Verb::Schedule => true,
-        Verb::Repeat => block.depth >= NESTING_MAX,
-        Verb::End => block.depth > 0 && block.is_empty,
+        LineWord::Worker | LineWord::Schedule => true,
+        LineWord::Repeat => block.depth >= NESTING_MAX,
+        LineWord::End => block.depth > 0 && block.is_empty,
         _ => false,
     }
 }
@@ -297,11 +302,11 @@ pub(crate) fn or_nothing(object: Option<Object>) -> Object
 /// Returns the least fault of a line that has one of the forms; `meant` is what its word for an
 /// object means.
 pub(crate) fn phrase_fault(
-    view: &View<'_>,
+    view: &LineContext<'_>,
     parts: &Parts<'_>,
     found: Option<Object>,
 ) -> Option<Kind>
-    ensures { result ≡ phrase_fault (seen_of view.now) (shown parts.now) found }
+    ensures { result ≡ phrase_fault (context_model view.now) (phrase_of_parts parts.now) found }
 {
     let object = or_nothing(found);
     if !parts.verb.is_of(view.heading.version())

@@ -9,7 +9,7 @@ ghost use Rattle.ec_script.specs.Given.{LinesSayOrders};
 ghost use Rattle.ec_script.specs.Grammar.{FaultIsTheFirst, FaultsAreTold, LongIsLine1, ReadIsScript, ScriptIsRead};
 ghost use Rattle.ec_script.specs.Holding.{LeastKindIsTold};
 ghost use Rattle.ec_script.specs.Layout.{LayoutsAreScripts, ScriptsAreLaidOut};
-ghost use Rattle.ec_script.specs.Spelled.{ScriptsAreSpelled};
+ghost use Rattle.ec_script.specs.ScriptTree.{ScriptsAreSpelled};
 ghost use Rattle.ec_script.specs.Spelling.{LayoutsAreSpelled, LinesAreSpelled};
 
 /// States that a script is read as the plan that it says.

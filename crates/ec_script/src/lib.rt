@@ -1,6 +1,7 @@
 //! Scripts: read exactly by their grammar.
 #![tactic(auto)]
 
+mod block_item;
 mod bound;
 mod command;
 mod draft;
@@ -10,7 +11,6 @@ mod kinds;
 mod laws;
 mod lists;
 mod object;
-mod order;
 mod pairs;
 mod parsing;
 mod plan;
@@ -18,6 +18,7 @@ mod script;
 mod stage;
 mod verb;
 
+pub use block_item::{BlockItem, Values};
 pub use fault::{Kind, ScriptFault};
 pub use laws::{
     blocks_are_counted, confined_lines_are_confined_commands, fault_is_the_first,
@@ -26,7 +27,6 @@ pub use laws::{
     lines_say_orders, long_is_line_1, plans_are_confined, read_is_script, script_is_read,
     scripts_are_laid_out, scripts_are_spelled, scripts_have_a_mebibyte_at_most, unfinished_is_told,
 };
-pub use order::{Order, Values};
 pub use pairs::{
     lines_lead_to_headings, lines_of_two_roles, two_roles_are_one_name, two_roles_are_told,
 };

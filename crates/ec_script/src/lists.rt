@@ -5,9 +5,9 @@ ghost use Rattle.ec_text.specs.Words.{words_of};
 ghost use Rattle.ec_machine.specs.Limits.{is_value};
 ghost use Rattle.ec_heading.specs.Lists.{ids_in};
 ghost use Rattle.ec_script.specs.Kinds.{is_no_value};
-ghost use Rattle.ec_script.specs.Orders.{amount_of};
+ghost use Rattle.ec_script.specs.BlockItems.{amount_of};
 
-use crate::form::value_of;
+use crate::form::parse_value;
 use ec_count::WorkerId;
 use ec_heading::Heading;
 use ec_machine::Value;
@@ -19,7 +19,7 @@ pub(crate) fn has_no_value(list: &[u8]) -> bool
     ensures { result ≡ list_any is_no_value (words_of list.now) }
 {
     let (word, rest) = cut_word(list);
-    if value_of(word).is_none() {
+    if parse_value(word).is_none() {
         return true;
     }
     match rest {
@@ -51,7 +51,7 @@ pub(crate) fn amount_of(word: &[u8]) -> Value
     ensures value { result ≡ amount_of word.now }
     ensures sound { is_value result ≡ true }
 {
-    match value_of(word) {
+    match parse_value(word) {
         Some(value) => value,
         None => Value::Last,
     }

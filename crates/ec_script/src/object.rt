@@ -3,12 +3,12 @@ ghost use Rattle.std.specs.Prelude.{◌≡◌};
 ghost use Rattle.std.specs.Option.{option_and_then};
 ghost use Rattle.ec_heading.specs.Groups.{both_of};
 ghost use Rattle.ec_heading.specs.Lists.{worker_in};
-ghost use Rattle.ec_heading.specs.Spelled.{event_in};
-ghost use Rattle.ec_script.specs.Forms.{only_in, rest_words, shown};
-ghost use Rattle.ec_script.specs.Objects.{group_in, buffer_in, database_in, semaphore_in, pair_of, handed_of, object_in, owns, is_owned};
+ghost use Rattle.ec_heading.specs.EntryWords.{event_in};
+ghost use Rattle.ec_script.specs.Forms.{only_in, rest_words, phrase_of_parts};
+ghost use Rattle.ec_script.specs.Objects.{group_in, buffer_in, database_in, semaphore_in, semaphore_pair, transfer_object, object_in, owns, is_owned};
 
 use crate::form::{Parts, only_word};
-use crate::verb::Verb;
+use crate::verb::LineWord;
 use ec_buffer::BufferShape;
 use ec_count::{CellId, EventId, SeqId, Target, WorkerId};
 use ec_database::DatabaseShape;
@@ -65,7 +65,7 @@ fn semaphore_in(heading: &Heading, word: &[u8]) -> Option<SemaphoreShape>
 
 /// Returns the common semaphore and the two that a line names.
 fn pair_in(heading: &Heading, parts: &Parts<'_>) -> Option<Object>
-    ensures { result ≡ pair_of (both_of heading.now.groups) (semaphore_in heading.now parts.now.object.now) (option_and_then (semaphore_in heading.now) (only_in (rest_words parts.now.rest))) }
+    ensures { result ≡ semaphore_pair (both_of heading.now.groups) (semaphore_in heading.now parts.now.object.now) (option_and_then (semaphore_in heading.now) (only_in (rest_words parts.now.rest))) }
 {
     let common = both_of(heading.groups())?;
     let one = semaphore_in(heading, parts.object)?;
@@ -74,8 +74,8 @@ fn pair_in(heading: &Heading, parts: &Parts<'_>) -> Option<Object>
 }
 
 /// Returns the eventcount and the worker that a line names.
-fn handed_in(heading: &Heading, parts: &Parts<'_>) -> Option<Object>
-    ensures { result ≡ handed_of (event_in heading.now.words parts.now.object.now) (option_and_then (worker_in heading.now.words) (only_in (rest_words parts.now.rest))) }
+fn find_transfer(heading: &Heading, parts: &Parts<'_>) -> Option<Object>
+    ensures { result ≡ transfer_object (event_in heading.now.words parts.now.object.now) (option_and_then (worker_in heading.now.words) (only_in (rest_words parts.now.rest))) }
 {
     let event = heading.event(parts.object)?;
     let to = heading.worker(only_word(parts.rest)?)?;
@@ -85,20 +85,24 @@ fn handed_in(heading: &Heading, parts: &Parts<'_>) -> Option<Object>
 /// Returns what a line is about: the declared object, of the sort that its verb asks for, that its
 /// word spells.
 pub(crate) fn object_in(heading: &Heading, parts: &Parts<'_>) -> Option<Object>
-    ensures { result ≡ object_in heading.now (shown parts.now) }
+    ensures { result ≡ object_in heading.now (phrase_of_parts parts.now) }
 {
     let word = parts.object;
     match parts.verb {
-        Verb::Advance | Verb::Read | Verb::Await => Some(Object::Event(heading.event(word)?)),
-        Verb::Ticket => Some(Object::Sequencer(heading.sequencer(word)?)),
-        Verb::Put | Verb::Get => Some(Object::Cell(heading.cell(word)?)),
-        Verb::Hand => handed_in(heading, parts),
-        Verb::Produce | Verb::Consume => Some(Object::OfBuffer(buffer_in(heading, word)?)),
-        Verb::Write | Verb::Snapshot => Some(Object::OfDatabase(database_in(heading, word)?)),
-        Verb::Down | Verb::Up => Some(Object::OfSemaphore(semaphore_in(heading, word)?)),
-        Verb::DownBoth => pair_in(heading, parts),
-        Verb::Worker => Some(Object::Worker(heading.worker(word)?)),
-        Verb::Repeat | Verb::End | Verb::Schedule => Some(Object::Nothing),
+        LineWord::Advance | LineWord::Read | LineWord::Await => Some(Object::Event(heading.event(
+            word,
+        )?)),
+        LineWord::Ticket => Some(Object::Sequencer(heading.sequencer(word)?)),
+        LineWord::Put | LineWord::Get => Some(Object::Cell(heading.cell(word)?)),
+        LineWord::Hand => find_transfer(heading, parts),
+        LineWord::Produce | LineWord::Consume => Some(Object::OfBuffer(buffer_in(heading, word)?)),
+        LineWord::Write | LineWord::Snapshot => Some(Object::OfDatabase(database_in(
+            heading, word,
+        )?)),
+        LineWord::Down | LineWord::Up => Some(Object::OfSemaphore(semaphore_in(heading, word)?)),
+        LineWord::DownBoth => pair_in(heading, parts),
+        LineWord::Worker => Some(Object::Worker(heading.worker(word)?)),
+        LineWord::Repeat | LineWord::End | LineWord::Schedule => Some(Object::Nothing),
     }
 }
 

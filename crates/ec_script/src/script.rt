@@ -4,24 +4,24 @@ ghost use Rattle.ec_heading.specs.Heading.{head_step};
 ghost use Rattle.ec_heading.specs.Lists.{ids_in};
 ghost use Rattle.ec_text.specs.Words.{words_of};
 ghost use Rattle.ec_script.specs.Flat.{flat};
-ghost use Rattle.ec_script.specs.Forms.{rest_words, shown};
+ghost use Rattle.ec_script.specs.Forms.{rest_words, phrase_of_parts};
 ghost use Rattle.ec_script.specs.Kinds.{phrase_fault, or_nothing, is_bad_tail, has_two_roles};
-ghost use Rattle.ec_script.specs.Orders.{command_in};
+ghost use Rattle.ec_script.specs.BlockItems.{command_in};
 ghost use Rattle.ec_script.specs.Verbs.{is_giving, tail_of};
-ghost use Rattle.ec_script.specs.Reading.{view_of_block, seen, began, ordered, commanded, ended_in, after_verb, phrased, headed_on, is_declaring, opens_outer, script_of, script_step, Steps};
+ghost use Rattle.ec_script.specs.Reading.{view_of_block, context_of_script, began, after_item, after_command, ended_in, after_verb, after_phrase, headed_on, is_declaring, opens_outer, script_of, script_step, Steps};
 ghost use Rattle.ec_script.specs.Outcome.{plan_or, shown_plan};
 ghost use Rattle.ec_script.specs.Rooms.{MayOrder, MayEnd, HasRoom};
 
+use crate::block_item::BlockItem;
 use crate::command::{command_in, size_in};
 use crate::draft::Draft;
 use crate::fault::{Kind, StageFault, stage_fault};
-use crate::form::{Parts, parts_of};
-use crate::kinds::{BlockView, View, or_nothing, phrase_fault};
+use crate::form::{Parts, split_line};
+use crate::kinds::{BlockContext, LineContext, or_nothing, phrase_fault};
 use crate::lists::push_ids;
 use crate::object::{Object, object_in};
-use crate::order::Order;
 use crate::plan::Plan;
-use crate::verb::{Verb, verb_of};
+use crate::verb::{LineWord, parse_verb};
 use ec_count::WorkerId;
 use ec_heading::{Heading, LINE_MAX};
 use ec_machine::Program;
@@ -38,10 +38,10 @@ pub(crate) struct Block {
 
 impl Block {
     /// Returns what a line sees of it.
-    fn view(&self) -> BlockView
+    fn view(&self) -> BlockContext
         ensures { result ≡ view_of_block self.now }
     {
-        BlockView {
+        BlockContext {
             worker: self.worker,
             depth: self.draft.depth(),
             is_empty: self.draft.is_empty(),
@@ -65,11 +65,11 @@ impl Model for Script {
     ghost use Rattle.std.specs.Prelude.{map};
     ghost use Rattle.std.specs.Coded.{codes};
     ghost use Rattle.ec_machine.specs.contracts.command.Command as command;
-    ghost use Rattle.ec_script.specs.contracts.order.Order as order;
+    ghost use Rattle.ec_script.specs.contracts.block_item.BlockItem as order;
     ghost use Rattle.ec_script.specs.Flat.{flat};
-    ghost use Rattle.ec_script.specs.Scripted.{Scripted};
+    ghost use Rattle.ec_script.specs.ScriptModel.{ScriptModel};
 
-    ghost Value = { Scripted };
+    ghost Value = { ScriptModel };
 
     ghost coded = { Prim.hlevel (codes, command.the_row.coded, order.the_row.coded) };
 
@@ -125,7 +125,7 @@ impl Script {
     }
 
     /// Returns the block that a line stands in.
-    fn block_view(&self) -> Option<BlockView>
+    fn block_view(&self) -> Option<BlockContext>
         ensures { result ≡ option_map view_of_block self.now.block }
     {
         match &self.block {
@@ -135,7 +135,7 @@ impl Script {
     }
 
     /// Returns how many names the schedule has.
-    fn scheduled(&self) -> usize
+    fn schedule_length(&self) -> usize
         ensures { result ≡ length self.now.schedule }
     {
         self.schedule.len()
@@ -143,13 +143,14 @@ impl Script {
 
     /// Returns the least fault of a line of one of the forms, whose word for an object means this.
     fn fault(&self, parts: &Parts<'_>, found: &Option<Object>) -> Option<Kind>
-        ensures { result ≡ phrase_fault (seen self.now) (shown parts.now) found.now }
+        ensures { result ≡ phrase_fault (context_of_script self.now) (phrase_of_parts parts.now)
+            found.now }
     {
-        let view = View {
+        let view = LineContext {
             heading: &self.heading,
             named: self.named.as_slice(),
             block: self.block_view(),
-            scheduled: self.scheduled(),
+            scheduled: self.schedule_length(),
         };
         phrase_fault(&view, parts, *found)
     }
@@ -168,9 +169,9 @@ impl Script {
     }
 
     /// Takes one more line of the block.
-    fn order(&mut self, order: Order) -> Result<(), AllocError>
+    fn order(&mut self, order: BlockItem) -> Result<(), AllocError>
         requires { MayOrder self.old.block order }
-        ensures { OnOk result (self.new ≡ ordered self.old order) }
+        ensures { OnOk result (self.new ≡ after_item self.old order) }
     {
         let Some(block) = self.block.take() else {
             return Ok(());
@@ -188,7 +189,7 @@ impl Script {
         requires numbers { is_bad_tail (tail_of parts.now.verb) parts.now.verb (rest_words parts.now.rest) object.now ≡ false }
         requires roles { has_two_roles object.now ≡ false }
         requires room { HasRoom self.old.block }
-        ensures { OnOk result (self.new ≡ commanded self.old (command_in parts.now.verb (is_giving parts.now.verb) object.now (rest_words parts.now.rest))) }
+        ensures { OnOk result (self.new ≡ after_command self.old (command_in parts.now.verb (is_giving parts.now.verb) object.now (rest_words parts.now.rest))) }
     {
         let Some(order) = command_in(self.alloc, parts, object)? else {
             return Ok(());
@@ -210,7 +211,7 @@ impl Script {
             return Ok(());
         }
         let mut draft = draft;
-        draft.take(Order::End)?;
+        draft.take(BlockItem::End)?;
         self.block = Some(Block { worker, draft });
         Ok(())
     }
@@ -229,22 +230,23 @@ impl Script {
 impl Script {
     /// Does what a line without fault says.
     fn apply(&mut self, parts: &Parts<'_>, found: &Option<Object>) -> Result<(), AllocError>
-        requires { phrase_fault (seen self.old) (shown parts.now) found.now ≡ None }
+        requires { phrase_fault (context_of_script self.old) (phrase_of_parts parts.now) found.now
+            ≡ None }
         ensures { OnOk result (self.new ≡ after_verb parts.now.verb self.old (or_nothing found.now) (rest_words parts.now.rest)) }
     {
         let object = or_nothing(*found);
         match parts.verb {
-            Verb::Worker => self.begin(&object),
-            Verb::Schedule => self.extend(parts.rest),
-            Verb::Repeat => self.order(Order::Begin(size_in(parts.rest))),
-            Verb::End => self.end(),
+            LineWord::Worker => self.begin(&object),
+            LineWord::Schedule => self.extend(parts.rest),
+            LineWord::Repeat => self.order(BlockItem::Begin(size_in(parts.rest))),
+            LineWord::End => self.end(),
             _ => self.command(parts, &object),
         }
     }
 
     /// Takes a line of one of the forms.
     fn phrase(&mut self, parts: &Parts<'_>) -> Result<(), StageFault>
-        ensures { Steps result (phrased self.old (Some (shown parts.now))) self.new }
+        ensures { Steps result (after_phrase self.old (Some (phrase_of_parts parts.now))) self.new }
     {
         let found = object_in(&self.heading, parts);
         if let Some(kind) = self.fault(parts, &found) {
@@ -285,7 +287,7 @@ impl Script {
         if line.len() > LINE_MAX || has_blank(line) {
             return Err(StageFault::Of(Kind::BadLine));
         }
-        match parts_of(line) {
+        match split_line(line) {
             Some(parts) => self.phrase(&parts),
             None => Err(StageFault::Of(Kind::BadLine)),
         }
@@ -297,7 +299,7 @@ fn opens_outer(line: &[u8]) -> bool
     ensures { result ≡ opens_outer (words_of line.now) }
 {
     let (word, _) = cut_word(line);
-    match verb_of(word) {
+    match parse_verb(word) {
         Some(verb) => verb.is_outer(),
         None => false,
     }

@@ -30,7 +30,7 @@ pub(crate) enum Stage {
 }
 
 /// Returns the version whose first line this is.
-pub(crate) fn version_of(line: &[u8]) -> Option<Version>
+pub(crate) fn parse_version(line: &[u8]) -> Option<Version>
     ensures { result ≡ version_of script_header line.now }
 {
     if line == b"evc-script 1".as_slice() {
@@ -61,7 +61,7 @@ fn limit_digits(line: &[u8]) -> Option<&[u8]>
 }
 
 /// Returns the limit that a line gives, one that the version may have.
-fn limit_of(version: Version, line: &[u8]) -> Result<Limit, Kind>
+fn parse_limit(version: Version, line: &[u8]) -> Result<Limit, Kind>
     ensures value { LimitIs version result (limit_or version (limit_digits (words_of line.now))) }
     ensures within { IfOk result (λ limit. limit ≤ greatest_limit version) }
 {
@@ -84,7 +84,7 @@ impl Stage {
         requires { self.old ≡ Stage.Opening }
         ensures { Steps result (step self.old line.now) self.new }
     {
-        let Some(version) = version_of(line) else {
+        let Some(version) = parse_version(line) else {
             return Err(StageFault::Of(Kind::BadHeader));
         };
         *self = Stage::Limiting(version);
@@ -100,7 +100,7 @@ impl Stage {
         if line.len() > LINE_MAX {
             return Err(StageFault::Of(Kind::BadLine));
         }
-        let limit = match limit_of(version, line) {
+        let limit = match parse_limit(version, line) {
             Ok(limit) => limit,
             Err(kind) => return Err(StageFault::Of(kind)),
         };

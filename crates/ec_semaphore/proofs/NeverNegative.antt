@@ -10,8 +10,8 @@ use Rattle.ec_core.specs.declared.act.Entry.{Entry}
 use Rattle.ec_core.specs.Counts.{total, issued, is_advance, is_ticket, sum_to}
 use Rattle.ec_core.specs.Calls.{is_pending}
 use Rattle.ec_core.specs.Acceptance.{IsAccepted}
-use Rattle.ec_core.specs.Following.{Told, block, Follow}
-use Rattle.ec_core.specs.CallLists.{is_due, number_of}
+use Rattle.ec_core.specs.Following.{CompletedCall, block, Follow}
+use Rattle.ec_core.specs.CallLists.{is_due, reply_number}
 use Rattle.ec_core.proofs.shared.Totals.{sum_same, one_more}
 use Rattle.ec_core.proofs.shared.Following.{other_block, IsTold, op_at, step_told, total_step, issued_step, step_due, is_act-true, after_told, after_pending, off_block}
 use Rattle.ec_semaphore.specs.Shapes.{Semaphore}
@@ -20,11 +20,11 @@ use Rattle.ec_semaphore.specs.Balances.{is_await, is_down, downs}
 use Rattle.ec_core.proofs.shared.Reading.{never}
 
 -- the ticket of a list of calls that has drawn one
-abbrev pub turn_of : List Told → ℕ
+abbrev pub turn_of : List CompletedCall → ℕ
 turn_of [] = 0
-turn_of (t ∷ rest) = number_of t.reply
+turn_of (t ∷ rest) = reply_number t.reply
 
-abbrev pub calls_of : Semaphore → List Entry → ℕ → List Told
+abbrev pub calls_of : Semaphore → List Entry → ℕ → List CompletedCall
 calls_of s past w = block (use_rule s) w past
 
 -- whether the Down with ticket k is finished
@@ -39,8 +39,8 @@ pub record IsBalanced (s : Semaphore) (past : List Entry) : Type 0 where
   pub count : downs s past ≡ sum_to (λ k. one (finished s k past)) (issued s.line past)
   pub low : (k : ℕ) → finished s k past ≡ true → k < s.initial + total s.count past
   pub known : (k : ℕ) → issued s.line past ≤ k → finished s k past ≡ false
-  pub held : (w : ℕ) (c : Told) → calls_of s past w ≡ c ∷ [] → (number_of c.reply < issued s.line past) × (finished s (number_of c.reply) past ≡ false)
-  pub apart : (v w : ℕ) (c d : Told) → calls_of s past v ≡ c ∷ [] → calls_of s past w ≡ d ∷ [] → number_of c.reply ≡ number_of d.reply → v ≡ w
+  pub held : (w : ℕ) (c : CompletedCall) → calls_of s past w ≡ c ∷ [] → (reply_number c.reply < issued s.line past) × (finished s (reply_number c.reply) past ≡ false)
+  pub apart : (v w : ℕ) (c d : CompletedCall) → calls_of s past v ≡ c ∷ [] → calls_of s past w ≡ d ∷ [] → reply_number c.reply ≡ reply_number d.reply → v ≡ w
 
 -- SUMS
 
@@ -78,7 +78,7 @@ sum_more f t n lt none =
 -- ONE STEP
 
 -- lists that are as they were but for the worker's, which holds no ticket
-held_less : (s : Semaphore) (x : Entry) (past : List Entry) → calls_of s (x ∷ past) x.worker ≡ [] → (w : ℕ) (c : Told) → calls_of s (x ∷ past) w ≡ c ∷ [] → ((x.worker == w) ≡ false) × (calls_of s past w ≡ c ∷ [])
+held_less : (s : Semaphore) (x : Entry) (past : List Entry) → calls_of s (x ∷ past) x.worker ≡ [] → (w : ℕ) (c : CompletedCall) → calls_of s (x ∷ past) w ≡ c ∷ [] → ((x.worker == w) ≡ false) × (calls_of s past w ≡ c ∷ [])
 held_less s x past none w c at =
     elim (x.worker == w) as (λ b. (x.worker == w) ≡ b → (b ≡ false) × (calls_of s past w ≡ c ∷ [])) [
       | true ↦ λ e. (let same : calls_of s (x ∷ past) w ≡ [] = (let P : ℕ → Type 0 = λ v. calls_of s (x ∷ past) v ≡ [] in subst P (eqb-true x.worker w e) none) in cc)
@@ -103,13 +103,13 @@ downs_same s x past h = rw h (zero-add (downs s past))
 
 -- no ticket is drawn and no Down ends: each list is as it was, or the worker's is empty
 still : (s : Semaphore) (x : Entry) (past : List Entry) → issued s.line (x ∷ past) ≡ issued s.line past → total s.count past ≤ total s.count (x ∷ past) → is_down s x past ≡ false
-    → ((w : ℕ) (c : Told) → calls_of s (x ∷ past) w ≡ c ∷ [] → calls_of s past w ≡ c ∷ []) → IsBalanced s past → IsBalanced s (x ∷ past)
+    → ((w : ℕ) (c : CompletedCall) → calls_of s (x ∷ past) w ≡ c ∷ [] → calls_of s past w ≡ c ∷ []) → IsBalanced s past → IsBalanced s (x ∷ past)
 still s x past drawn up none same b = record {
   count = downs_same s x past none ∙ b.count ∙ ap (sum_to (λ k. one (finished s k past))) (sym drawn)
       ∙ sum_same (issued s.line (x ∷ past)) (λ k. one (finished s k past)) (λ k. one (finished s k (x ∷ past))) (λ k lt. ap one (sym (finished_same s k x past none)));
   low = λ k e. (let lt : k < s.initial + total s.count past = b.low k (sym (finished_same s k x past none) ∙ e) in omega arith);
   known = λ k le. finished_same s k x past none ∙ b.known k (omega arith);
-  held = λ w c at. (let k = b.held w c (same w c at) in let lt : number_of c.reply < issued s.line past = k.0 in (omega arith, finished_same s (number_of c.reply) x past none ∙ k.1));
+  held = λ w c at. (let k = b.held w c (same w c at) in let lt : reply_number c.reply < issued s.line past = k.0 in (omega arith, finished_same s (reply_number c.reply) x past none ∙ k.1));
   apart = λ v w c d p q e. b.apart v w c d (same v c p) (same w d q) e;
 }
 
@@ -122,7 +122,7 @@ not_await s x past op is h = ap (λ a. is_await s.count a && not (is_pending x.r
 not_pending : (s : Semaphore) (x : Entry) (past : List Entry) → x.reply ≡ Pending → is_down s x past ≡ false
 not_pending s x past h = ap (λ r. is_await s.count (op_at x past) && not (is_pending r)) h ∙ never (is_await s.count (op_at x past))
 
-draw : (s : Semaphore) (t : Tables) (x : Entry) (past : List Entry) (c : Told) → IsAccepted t (x ∷ past) → op_at x past ≡ Ticket s.line → calls_of s (x ∷ past) x.worker ≡ c ∷ [] → number_of c.reply ≡ issued s.line past
+draw : (s : Semaphore) (t : Tables) (x : Entry) (past : List Entry) (c : CompletedCall) → IsAccepted t (x ∷ past) → op_at x past ≡ Ticket s.line → calls_of s (x ∷ past) x.worker ≡ c ∷ [] → reply_number c.reply ≡ issued s.line past
     → IsBalanced s past → IsBalanced s (x ∷ past)
 unfolding sum_to
 draw s t x past c acc op at turn b =
@@ -131,28 +131,28 @@ draw s t x past c acc op at turn b =
     let level : total s.count (x ∷ past) ≡ total s.count past = total_step t s.count x past acc ∙ ap (λ a. cond (is_advance s.count a) 1 0 + total s.count past) op ∙ zero-add (total s.count past) in
     let none : is_down s x past ≡ false = not_await s x past (Ticket s.line) op refl in
     let fresh : finished s (issued s.line past) past ≡ false = b.known (issued s.line past) (omega arith) in
-    let mine : (w : ℕ) (d : Told) → calls_of s (x ∷ past) w ≡ d ∷ [] → (x.worker == w) ≡ true → number_of d.reply ≡ issued s.line past =
+    let mine : (w : ℕ) (d : CompletedCall) → calls_of s (x ∷ past) w ≡ d ∷ [] → (x.worker == w) ≡ true → reply_number d.reply ≡ issued s.line past =
     λ w d q e. (let P : ℕ → Type 0 = λ v. calls_of s (x ∷ past) v ≡ c ∷ [] in
     let same : calls_of s (x ∷ past) w ≡ c ∷ [] = subst P (eqb-true x.worker w e) at in
     ap turn_of (sym q ∙ same) ∙ turn) in
-    let theirs : (w : ℕ) (d : Told) → calls_of s (x ∷ past) w ≡ d ∷ [] → (x.worker == w) ≡ false → calls_of s past w ≡ d ∷ [] = λ w d q e. sym (other_block (use_rule s) w x past e) ∙ q in
+    let theirs : (w : ℕ) (d : CompletedCall) → calls_of s (x ∷ past) w ≡ d ∷ [] → (x.worker == w) ≡ false → calls_of s past w ≡ d ∷ [] = λ w d q e. sym (other_block (use_rule s) w x past e) ∙ q in
     record {
       count = downs_same s x past none ∙ b.count
           ∙ sum_same (issued s.line past) (λ k. one (finished s k past)) (λ k. one (finished s k (x ∷ past))) (λ k lt. ap one (sym (finished_same s k x past none)))
           ∙ sym (ap (sum_to (λ k. one (finished s k (x ∷ past)))) drawn ∙ ap (λ v. one v + sum_to (λ k. one (finished s k (x ∷ past))) (issued s.line past)) (finished_same s (issued s.line past) x past none ∙ fresh) ∙ zero-add (sum_to (λ k. one (finished s k (x ∷ past))) (issued s.line past)));
       low = λ k e. (let lt : k < s.initial + total s.count past = b.low k (sym (finished_same s k x past none) ∙ e) in omega arith);
       known = λ k le. finished_same s k x past none ∙ b.known k (omega arith);
-      held = λ w d q. elim (x.worker == w) as (λ v. (x.worker == w) ≡ v → (number_of d.reply < issued s.line (x ∷ past)) × (finished s (number_of d.reply) (x ∷ past) ≡ false)) [
-        | true ↦ λ e. (let num : number_of d.reply ≡ issued s.line past = mine w d q e in (omega arith, finished_same s (number_of d.reply) x past none ∙ ap (λ n. finished s n past) num ∙ fresh))
-        | false ↦ λ e. (let k = b.held w d (theirs w d q e) in let lt : number_of d.reply < issued s.line past = k.0 in (omega arith, finished_same s (number_of d.reply) x past none ∙ k.1))
+      held = λ w d q. elim (x.worker == w) as (λ v. (x.worker == w) ≡ v → (reply_number d.reply < issued s.line (x ∷ past)) × (finished s (reply_number d.reply) (x ∷ past) ≡ false)) [
+        | true ↦ λ e. (let num : reply_number d.reply ≡ issued s.line past = mine w d q e in (omega arith, finished_same s (reply_number d.reply) x past none ∙ ap (λ n. finished s n past) num ∙ fresh))
+        | false ↦ λ e. (let k = b.held w d (theirs w d q e) in let lt : reply_number d.reply < issued s.line past = k.0 in (omega arith, finished_same s (reply_number d.reply) x past none ∙ k.1))
       ] refl;
       apart = λ v w d f p q same. elim (x.worker == v) as (λ z. (x.worker == v) ≡ z → v ≡ w) [
         | true ↦ λ e. (elim (x.worker == w) as (λ z. (x.worker == w) ≡ z → v ≡ w) [
           | true ↦ λ g. sym (eqb-true x.worker v e) ∙ eqb-true x.worker w g
-          | false ↦ λ g. (let num : number_of d.reply ≡ issued s.line past = mine v d p e in let lt : number_of f.reply < issued s.line past = (b.held w f (theirs w f q g)).0 in absurd (omega arith))
+          | false ↦ λ g. (let num : reply_number d.reply ≡ issued s.line past = mine v d p e in let lt : reply_number f.reply < issued s.line past = (b.held w f (theirs w f q g)).0 in absurd (omega arith))
         ] refl)
         | false ↦ λ e. (elim (x.worker == w) as (λ z. (x.worker == w) ≡ z → v ≡ w) [
-          | true ↦ λ g. (let num : number_of f.reply ≡ issued s.line past = mine w f q g in let lt : number_of d.reply < issued s.line past = (b.held v d (theirs v d p e)).0 in absurd (omega arith))
+          | true ↦ λ g. (let num : reply_number f.reply ≡ issued s.line past = mine w f q g in let lt : reply_number d.reply < issued s.line past = (b.held v d (theirs v d p e)).0 in absurd (omega arith))
           | false ↦ λ g. b.apart v w d f (theirs v d p e) (theirs w f q g) same
         ] refl)
       ] refl;
@@ -166,32 +166,33 @@ downs_now : (s : Semaphore) (x : Entry) (past : List Entry) → is_down s x past
 unfolding downs
 downs_now s x past is = rw is refl
 
-finish : (s : Semaphore) (t : Tables) (x : Entry) (past : List Entry) (c : Told) (v : ℕ) → IsAccepted t (x ∷ past) → op_at x past ≡ Await s.count v → is_pending x.reply ≡ false
-    → calls_of s past x.worker ≡ c ∷ [] → calls_of s (x ∷ past) x.worker ≡ [] → number_of c.reply + 1 - s.initial ≤ total s.count past → IsBalanced s past → IsBalanced s (x ∷ past)
+finish : (s : Semaphore) (t : Tables) (x : Entry) (past : List Entry) (c : CompletedCall) (v : ℕ) → IsAccepted t (x ∷ past) → op_at x past ≡ Await s.count v → is_pending x.reply ≡ false
+    → calls_of s past x.worker ≡ c ∷ [] → calls_of s (x ∷ past) x.worker ≡ [] → reply_number c.reply + 1 - s.initial ≤ total s.count past → IsBalanced s past → IsBalanced s (x ∷ past)
 finish s t x past c v acc op done at after reached b =
     let drawn : issued s.line (x ∷ past) ≡ issued s.line past = issued_step t s.line x past acc ∙ ap (λ a. cond (is_ticket s.line a) 1 0 + issued s.line past) op ∙ zero-add (issued s.line past) in
     let level : total s.count (x ∷ past) ≡ total s.count past = total_step t s.count x past acc ∙ ap (λ a. cond (is_advance s.count a) 1 0 + total s.count past) op ∙ zero-add (total s.count past) in
     let down : is_down s x past ≡ true = ap (λ a. is_await s.count a && not (is_pending x.reply)) op ∙ ap (λ p. p && not (is_pending x.reply)) (eq-eqb s.count s.count refl) ∙ ap not done in
-    let turn = number_of c.reply in
-    let now : (k : ℕ) → finished s k (x ∷ past) ≡ ((number_of c.reply == k) || finished s k past) = λ k. finished_now s x past (number_of c.reply) k down (ap turn_of at) in
+    let turn = reply_number c.reply in
+    let now : (k : ℕ) → finished s k (x ∷ past) ≡ ((reply_number c.reply == k) || finished s k past) = λ k. finished_now s x past (reply_number c.reply) k down (ap turn_of at) in
     let mine = b.held x.worker c at in
-    let lt : number_of c.reply < issued s.line past = mine.0 in
+    let lt : reply_number c.reply < issued s.line past = mine.0 in
     record {
-      count = downs_now s x past down ∙ ap (λ n. 1 + n) b.count ∙ sym (sum_more (λ k. finished s k past) (number_of c.reply) (issued s.line past) lt mine.1)
-          ∙ sum_same (issued s.line past) (λ k. one ((number_of c.reply == k) || finished s k past)) (λ k. one (finished s k (x ∷ past))) (λ k below. ap one (sym (now k)))
+      count = downs_now s x past down ∙ ap (λ n. 1 + n) b.count ∙ sym (sum_more (λ k. finished s k past) (reply_number c.reply) (issued s.line past) lt mine.1)
+          ∙ sum_same (issued s.line past) (λ k. one ((reply_number c.reply == k) || finished s k past)) (λ k. one (finished s k (x ∷ past))) (λ k below. ap one (sym (now k)))
           ∙ ap (sum_to (λ k. one (finished s k (x ∷ past)))) (sym drawn);
-      low = λ k e. (elim (or_cases (number_of c.reply == k) (finished s k past) (sym (now k) ∙ e)) [
-        | inl p ↦ (let same : number_of c.reply ≡ k = eqb-true (number_of c.reply) k p in omega arith)
-        | inr q ↦ (let k' : k < s.initial + total s.count past = b.low k q in omega arith)
-      ]);
-      known = λ k le. (let off : (number_of c.reply == k) ≡ false = ne_eqb (number_of c.reply) k (λ e. omega arith) in now k ∙ ap (λ p. p || finished s k past) off ∙ b.known k (omega arith));
+      low = λ k e. (elim (or_cases (reply_number c.reply == k) (finished s k past) (sym (now k)
+          ∙ e)) [
+            | inl p ↦ (let same : reply_number c.reply ≡ k = eqb-true (reply_number c.reply) k p in omega arith)
+            | inr q ↦ (let k' : k < s.initial + total s.count past = b.low k q in omega arith)
+          ]);
+      known = λ k le. (let off : (reply_number c.reply == k) ≡ false = ne_eqb (reply_number c.reply) k (λ e. omega arith) in now k ∙ ap (λ p. p || finished s k past) off ∙ b.known k (omega arith));
       held = λ w d q.
           (let k = held_less s x past after w d q in
           let h = b.held w d k.1 in
-          let less : number_of d.reply < issued s.line past = h.0 in
+          let less : reply_number d.reply < issued s.line past = h.0 in
           let other : x.worker ≢ w = eqb-false x.worker w k.0 in
-          let off : (number_of c.reply == number_of d.reply) ≡ false = ne_eqb (number_of c.reply) (number_of d.reply) (λ e. other (b.apart x.worker w c d at k.1 e)) in
-          (omega arith, now (number_of d.reply) ∙ ap (λ p. p || finished s (number_of d.reply) past) off ∙ h.1));
+          let off : (reply_number c.reply == reply_number d.reply) ≡ false = ne_eqb (reply_number c.reply) (reply_number d.reply) (λ e. other (b.apart x.worker w c d at k.1 e)) in
+          (omega arith, now (reply_number d.reply) ∙ ap (λ p. p || finished s (reply_number d.reply) past) off ∙ h.1));
       apart = λ y w d f p q e. b.apart y w d f (held_less s x past after y d p).1 (held_less s x past after w f q).1 e;
     }
 
@@ -212,42 +213,42 @@ total_up t e x past acc = (let k = total_step t e x past acc in omega arith)
 unticketed : (s : Semaphore) (t : Tables) (x : Entry) (past : List Entry) (op : Act) → IsAccepted t (x ∷ past) → op_at x past ≡ op → is_ticket s.line op ≡ false → issued s.line (x ∷ past) ≡ issued s.line past
 unticketed s t x past op acc is none = issued_step t s.line x past acc ∙ ap (λ a. cond (is_ticket s.line a) 1 0 + issued s.line past) is ∙ ap (λ v. cond v 1 0 + issued s.line past) none ∙ zero-add (issued s.line past)
 
-step_on : (s : Semaphore) (t : Tables) (x : Entry) (past : List Entry) (calls : List Told) → IsAccepted t (x ∷ past) → calls_of s past x.worker ≡ calls → is_on s (op_at x past) ≡ true
+step_on : (s : Semaphore) (t : Tables) (x : Entry) (past : List Entry) (calls : List CompletedCall) → IsAccepted t (x ∷ past) → calls_of s past x.worker ≡ calls → is_on s (op_at x past) ≡ true
     → (is_due (down_call s calls) (op_at x past) || is_due (up_call s calls) (op_at x past)) ≡ true → IsTold t past (op_at x past) x.reply → IsBalanced s past → IsBalanced s (x ∷ past)
-step_on s t x past [] acc at on due told b =
+step_on s t x past [] acc at on due returned b =
     let P : Act → Type 0 = λ a. IsTold t past a x.reply in
     elim (or_cases _ _ due) [
       | inl d ↦
           (let op : op_at x past ≡ Ticket s.line = sym (is_act-true (Ticket s.line) (op_at x past) d) in
-          let reply : x.reply ≡ Number (issued s.line past) = subst P op told in
-          draw s t x past (record { op = Ticket s.line; reply = x.reply }) acc op (after_told (use_rule s) x past [] (Ticket s.line) at op (ap (is_on s) (sym op) ∙ on) (ap is_pending reply)) (ap number_of reply) b)
+          let reply : x.reply ≡ Number (issued s.line past) = subst P op returned in
+          draw s t x past (record { op = Ticket s.line; reply = x.reply }) acc op (after_told (use_rule s) x past [] (Ticket s.line) at op (ap (is_on s) (sym op) ∙ on) (ap is_pending reply)) (ap reply_number reply) b)
       | inr u ↦
           (let op : op_at x past ≡ Advance s.count = sym (is_act-true (Advance s.count) (op_at x past) u) in
-          let reply : x.reply ≡ Done = subst P op told in
+          let reply : x.reply ≡ Done = subst P op returned in
           let after : calls_of s (x ∷ past) x.worker ≡ [] =
           after_told (use_rule s) x past [] (Advance s.count) at op (ap (is_on s) (sym op) ∙ on) (ap is_pending reply)
           ∙ ap (λ p. cond p [] (record { op = Advance s.count; reply = x.reply } ∷ [])) (eq-eqb s.count s.count refl) in
           still s x past (unticketed s t x past (Advance s.count) acc op refl) (total_up t s.count x past acc) (not_await s x past (Advance s.count) op refl)
           (λ w c q. (held_less s x past after w c q).1) b)
     ]
-step_on s t x past (c ∷ []) acc at on due told b =
+step_on s t x past (c ∷ []) acc at on due returned b =
     let P : Act → Type 0 = λ a. IsTold t past a x.reply in
-    let v = number_of c.reply + 1 - s.initial in
+    let v = reply_number c.reply + 1 - s.initial in
     elim (or_cases _ _ due) [
       | inl d ↦
-          (let op : op_at x past ≡ Await s.count (number_of c.reply + 1 - s.initial) = sym (is_act-true (Await s.count (number_of c.reply + 1 - s.initial)) (op_at x past) d) in
-          elim (subst P op told) [
-            | inl pending ↦ still s x past (unticketed s t x past (Await s.count (number_of c.reply + 1 - s.initial)) acc op refl) (total_up t s.count x past acc) (not_pending s x past pending)
+          (let op : op_at x past ≡ Await s.count (reply_number c.reply + 1 - s.initial) = sym (is_act-true (Await s.count (reply_number c.reply + 1 - s.initial)) (op_at x past) d) in
+          elim (subst P op returned) [
+            | inl pending ↦ still s x past (unticketed s t x past (Await s.count (reply_number c.reply + 1 - s.initial)) acc op refl) (total_up t s.count x past acc) (not_pending s x past pending)
                 (λ w e q. sym (held_same s x past (after_pending (use_rule s) x past pending) w) ∙ q) b
             | inr k ↦
-                (let low : number_of c.reply + 1 - s.initial ≤ k.0 = k.1 in
+                (let low : reply_number c.reply + 1 - s.initial ≤ k.0 = k.1 in
                 let high : k.0 ≤ total s.count past = k.2 in
-                finish s t x past c (number_of c.reply + 1 - s.initial) acc op (ap is_pending k.3) at
-                (after_told (use_rule s) x past (c ∷ []) (Await s.count (number_of c.reply + 1 - s.initial)) at op (ap (is_on s) (sym op) ∙ on) (ap is_pending k.3)) (omega arith) b)
+                finish s t x past c (reply_number c.reply + 1 - s.initial) acc op (ap is_pending k.3) at
+                (after_told (use_rule s) x past (c ∷ []) (Await s.count (reply_number c.reply + 1 - s.initial)) at op (ap (is_on s) (sym op) ∙ on) (ap is_pending k.3)) (omega arith) b)
           ])
       | inr u ↦ cc
     ]
-step_on s t x past (c ∷ d ∷ rest) acc at on due told b = cc
+step_on s t x past (c ∷ d ∷ rest) acc at on due returned b = cc
 
 step : (s : Semaphore) (t : Tables) (x : Entry) (past : List Entry) → IsDeclared t → IsAccepted t (x ∷ past) → Follow (use_rules s) (x ∷ past) → IsBalanced s past → IsBalanced s (x ∷ past)
 step s t x past dec acc f b =

@@ -1,40 +1,44 @@
 -- What is left of a P on two semaphores at each place in it.
 use Rattle.std.specs.Prelude.{ℕ, List, [], ◌∷◌, ◌++◌, Option}
 use Rattle.ec_core.specs.declared.act.Act.{Act}
-use Rattle.ec_core.specs.Following.{Told}
-use Rattle.ec_semaphore.specs.declared.down_both.Place.{Place}
-use Rattle.ec_semaphore.specs.declared.down_both.Place.TheVariants.{Line, Enter, DrawFirst, DrawSecond, Leave, WaitFirst, WaitSecond, Over}
+use Rattle.ec_core.specs.Following.{CompletedCall}
+use Rattle.ec_semaphore.specs.declared.down_both.BothPhase.{BothPhase}
+use Rattle.ec_semaphore.specs.declared.down_both.BothPhase.TheVariants.{Line, Enter, DrawFirst, DrawSecond, Leave, WaitFirst, WaitSecond, Over}
 use Rattle.ec_semaphore.specs.Shapes.{Semaphore}
 use Rattle.ec_semaphore.specs.Both.{down_both_call}
-use Rattle.ec_semaphore.specs.Spent.{spent, told_number}
+use Rattle.ec_semaphore.specs.Spent.{unneeded_call, call_with_number}
 
 -- the first of the two tickets if it is needed, else 0
-abbrev pub first_of : Place → ℕ
-first_of (DrawSecond first) = first
-first_of (Leave first second) = first
-first_of (WaitFirst first second) = first
-first_of _ = 0
+abbrev pub first_ticket : BothPhase → ℕ
+first_ticket (DrawSecond first) = first
+first_ticket (Leave first second) = first
+first_ticket (WaitFirst first second) = first
+first_ticket _ = 0
 
 -- the second
-abbrev pub second_of : Place → ℕ
+abbrev pub second_of : BothPhase → ℕ
 second_of (Leave first second) = second
 second_of (WaitFirst first second) = second
 second_of (WaitSecond second) = second
 second_of _ = 0
 
 -- what is kept of the calls that are finished there
-abbrev pub made : Place → List Told
-made Line = []
-made (Enter turn) = told_number turn ∷ []
-made DrawFirst = spent ∷ spent ∷ []
-made (DrawSecond first) = spent ∷ spent ∷ told_number first ∷ []
-made (Leave first second) = spent ∷ spent ∷ told_number first ∷ told_number second ∷ []
-made (WaitFirst first second) = spent ∷ spent ∷ told_number first ∷ told_number second ∷ spent ∷ []
-made (WaitSecond second) = spent ∷ spent ∷ spent ∷ told_number second ∷ spent ∷ spent ∷ []
-made Over = spent ∷ spent ∷ spent ∷ spent ∷ spent ∷ spent ∷ spent ∷ []
+abbrev pub completed_calls_at : BothPhase → List CompletedCall
+completed_calls_at Line = []
+completed_calls_at (Enter turn) = call_with_number turn ∷ []
+completed_calls_at DrawFirst = unneeded_call ∷ unneeded_call ∷ []
+completed_calls_at (DrawSecond first) = unneeded_call ∷ unneeded_call ∷ call_with_number first ∷ []
+completed_calls_at (Leave first second) =
+    unneeded_call ∷ unneeded_call ∷ call_with_number first ∷ call_with_number second ∷ []
+completed_calls_at (WaitFirst first second) =
+    unneeded_call ∷ unneeded_call ∷ call_with_number first ∷ call_with_number second ∷ unneeded_call ∷ []
+completed_calls_at (WaitSecond second) =
+    unneeded_call ∷ unneeded_call ∷ unneeded_call ∷ call_with_number second ∷ unneeded_call ∷ unneeded_call ∷ []
+completed_calls_at Over =
+    unneeded_call ∷ unneeded_call ∷ unneeded_call ∷ unneeded_call ∷ unneeded_call ∷ unneeded_call ∷ unneeded_call ∷ []
 
 -- the place that follows, if a call told this number
-abbrev pub next_place : Place → ℕ → Place
+abbrev pub next_place : BothPhase → ℕ → BothPhase
 next_place Line number = Enter number
 next_place (Enter turn) number = DrawFirst
 next_place DrawFirst number = DrawSecond number
@@ -45,5 +49,6 @@ next_place (WaitSecond second) number = Over
 next_place Over number = Over
 
 -- the call that comes after these further calls, or none
-abbrev pub both_rest : Semaphore → Semaphore → Semaphore → Place → List Told → Option Act
-both_rest c one other place calls = down_both_call c one other (made place ++ calls)
+abbrev pub both_rest : Semaphore → Semaphore → Semaphore → BothPhase → List CompletedCall
+    → Option Act
+both_rest c one other place calls = down_both_call c one other (completed_calls_at place ++ calls)

@@ -5,8 +5,8 @@ use Rattle.ec_core.specs.declared.act.Act.TheVariants.{Advance, Await, Ticket}
 use Rattle.ec_core.specs.declared.act.Entry.{Entry}
 use Rattle.ec_core.specs.Acceptance.{IsAccepted}
 use Rattle.ec_core.specs.Calls.{under_way}
-use Rattle.ec_core.specs.CallLists.{number_of}
-use Rattle.ec_core.specs.Following.{Told, Follow}
+use Rattle.ec_core.specs.CallLists.{reply_number}
+use Rattle.ec_core.specs.Following.{CompletedCall, Follow}
 use Rattle.ec_core.specs.JoinedLists.{finished_by, calls_on, going_on, op_of, IsWholeList, IsJoined, IsSideBySide}
 use Rattle.ec_core.specs.Procedures.{IsWritten}
 use Rattle.ec_semaphore.specs.Shapes.{Semaphore}
@@ -14,27 +14,27 @@ use Rattle.ec_semaphore.specs.Uses.{threshold, down_call, up_call, is_on, use_ru
 use Rattle.ec_semaphore.specs.Both.{is_line, down_both_call, both_rule, both_rules}
 
 -- the calls are a P: a ticket, and the wait for the total that the ticket says
-pub record IsDown (s : Semaphore) (calls : List Told) : Type 0 where
-  pub ticket : Told
-  pub wait : Told
+pub record IsDown (s : Semaphore) (calls : List CompletedCall) : Type 0 where
+  pub ticket : CompletedCall
+  pub wait : CompletedCall
   pub are : calls ≡ ticket ∷ wait ∷ []
   pub draws : ticket.op ≡ Ticket s.line
-  pub waits : wait.op ≡ Await s.count (threshold s (number_of ticket.reply))
+  pub waits : wait.op ≡ Await s.count (threshold s (reply_number ticket.reply))
 
 -- the calls are a V: an advance
-pub record IsUp (s : Semaphore) (calls : List Told) : Type 0 where
-  pub advance : Told
+pub record IsUp (s : Semaphore) (calls : List CompletedCall) : Type 0 where
+  pub advance : CompletedCall
   pub are : calls ≡ advance ∷ []
   pub advances : advance.op ≡ Advance s.count
 
 -- the calls are a critical section: a ticket of the common semaphore, the wait for its turn, tickets of two different
 -- ones of the lines, and the advance that lets the next one in
-pub record IsGuarded (c : Semaphore) (lines : ℕ → Bool) (calls : List Told) : Type 0 where
-  pub ticket : Told
-  pub wait : Told
-  pub first : Told
-  pub second : Told
-  pub advance : Told
+pub record IsGuarded (c : Semaphore) (lines : ℕ → Bool) (calls : List CompletedCall) : Type 0 where
+  pub ticket : CompletedCall
+  pub wait : CompletedCall
+  pub first : CompletedCall
+  pub second : CompletedCall
+  pub advance : CompletedCall
   pub are : calls ≡ ticket ∷ wait ∷ first ∷ second ∷ advance ∷ []
   pub one : ℕ
   pub other : ℕ
@@ -42,14 +42,14 @@ pub record IsGuarded (c : Semaphore) (lines : ℕ → Bool) (calls : List Told) 
   pub known_other : lines other ≡ true
   pub apart : one ≢ other
   pub draws : ticket.op ≡ Ticket c.line
-  pub waits : wait.op ≡ Await c.count (number_of ticket.reply)
+  pub waits : wait.op ≡ Await c.count (reply_number ticket.reply)
   pub draws_one : first.op ≡ Ticket one
   pub draws_other : second.op ≡ Ticket other
   pub advances : advance.op ≡ Advance c.count
 
 -- the whole lists of a semaphore's users are P and V
 abbrev pub UsesAreDownsAndUps : Type 0
-UsesAreDownsAndUps = (s : Semaphore) (calls : List Told) → IsWholeList (use_rule s) calls ↔ (IsDown s calls ⊎ IsUp s calls)
+UsesAreDownsAndUps = (s : Semaphore) (calls : List CompletedCall) → IsWholeList (use_rule s) calls ↔ (IsDown s calls ⊎ IsUp s calls)
 
 -- an accepted history follows a semaphore exactly if each worker's calls on it are such lists joined end to end, and the
 -- beginning of one more
@@ -60,7 +60,7 @@ FollowingMeansUses = (s : Semaphore) (t : Tables) (h : List Entry) → IsDeclare
 
 -- the whole lists of `both` are critical sections
 abbrev pub WholePartsAreGuarded : Type 0
-WholePartsAreGuarded = (c : Semaphore) (lines : ℕ → Bool) (calls : List Told) → IsWholeList (both_rule c lines) calls ↔ IsGuarded c lines calls
+WholePartsAreGuarded = (c : Semaphore) (lines : ℕ → Bool) (calls : List CompletedCall) → IsWholeList (both_rule c lines) calls ↔ IsGuarded c lines calls
 
 -- an accepted history follows `both` exactly if the calls of each worker are critical sections, with calls on other
 -- objects between them, and the beginning of one more
@@ -71,16 +71,16 @@ FollowingBothMeansGuardedParts = (c : Semaphore) (shapes : List Semaphore) (t : 
 
 -- what a P has asked for once it is over is that, and so is what a V has
 abbrev pub DownIsWritten : Type 0
-DownIsWritten = (s : Semaphore) (calls : List Told) → IsWritten (down_call s) calls → length calls ≡ 2 → IsDown s calls
+DownIsWritten = (s : Semaphore) (calls : List CompletedCall) → IsWritten (down_call s) calls → length calls ≡ 2 → IsDown s calls
 
 abbrev pub UpIsWritten : Type 0
-UpIsWritten = (s : Semaphore) (calls : List Told) → IsWritten (up_call s) calls → length calls ≡ 1 → IsUp s calls
+UpIsWritten = (s : Semaphore) (calls : List CompletedCall) → IsWritten (up_call s) calls → length calls ≡ 1 → IsUp s calls
 
 -- the calls of a P on two semaphores: a critical section, and on each of the two the calls of a P
-pub record IsDownBoth (c one other : Semaphore) (lines : ℕ → Bool) (calls : List Told) : Type 0 where
-  pub guarded : List Told
-  pub wait_one : Told
-  pub wait_other : Told
+pub record IsDownBoth (c one other : Semaphore) (lines : ℕ → Bool) (calls : List CompletedCall) : Type 0 where
+  pub guarded : List CompletedCall
+  pub wait_one : CompletedCall
+  pub wait_other : CompletedCall
   pub part : IsGuarded c lines guarded
   pub are : calls ≡ part.ticket ∷ part.wait ∷ part.first ∷ part.second ∷ part.advance ∷ wait_one ∷ wait_other ∷ []
   pub down_one : IsDown one (part.first ∷ wait_one ∷ [])
@@ -88,5 +88,5 @@ pub record IsDownBoth (c one other : Semaphore) (lines : ℕ → Bool) (calls : 
 
 -- what a P on two different semaphores has asked for once it is over is that
 abbrev pub DownBothIsWritten : Type 0
-DownBothIsWritten = (c one other : Semaphore) (lines : ℕ → Bool) (calls : List Told) → lines one.line ≡ true → lines other.line ≡ true → one.line ≢ other.line
+DownBothIsWritten = (c one other : Semaphore) (lines : ℕ → Bool) (calls : List CompletedCall) → lines one.line ≡ true → lines other.line ≡ true → one.line ≢ other.line
     → IsWritten (down_both_call c one other) calls → length calls ≡ 7 → IsDownBoth c one other lines calls

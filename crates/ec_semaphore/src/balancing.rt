@@ -8,7 +8,7 @@ ghost use Rattle.ec_core.specs.Counts.{past_at, is_advance};
 ghost use Rattle.ec_core.specs.Ending.{EndsAt};
 ghost use Rattle.ec_core.specs.Following.{Follow};
 ghost use Rattle.ec_semaphore.specs.Auditing.{IsCounted};
-ghost use Rattle.ec_semaphore.specs.Balances.{is_await, balance_of, parts_of};
+ghost use Rattle.ec_semaphore.specs.Balances.{is_await, balance_of, balance_parts};
 ghost use Rattle.ec_semaphore.specs.Uses.{use_rules};
 
 use crate::uses::Uses;
@@ -58,9 +58,9 @@ pub struct BalanceAudit {
 }
 
 impl Model for BalanceAudit {
-    ghost use Rattle.ec_semaphore.specs.Auditing.{Balancing};
+    ghost use Rattle.ec_semaphore.specs.Auditing.{BalanceAuditModel};
 
-    ghost Value = { Balancing };
+    ghost Value = { BalanceAuditModel };
 
     ghost view = { λ s. record { shape = s.uses.shape; tracked = s.tracker; downs = s.downs; ups = s.ups } };
 }
@@ -68,7 +68,7 @@ impl Model for BalanceAudit {
 impl Audit for BalanceAudit {
     ghost use Rattle.ec_semaphore.specs.Auditing.{BalancesOn};
 
-    ghost stands = { BalancesOn };
+    ghost represents = { BalancesOn };
 
     #[inline(never)]
     fn take(&mut self, place: usize, op: &Act, entry: &Entry) {
@@ -117,13 +117,13 @@ impl BalanceAudit {
     /// semaphore. Err is NotFollowed, with the first entry that breaks the lists of calls.
     pub fn finish(&self) -> Result<Balance, AuditFault>
         ensures ok { (t : Tables) (h : List Entry) → EndsAt t (IsCounted self.now) h → IsOk result ↔ Follow (use_rules self.now.shape) (reverse h) }
-        ensures parts { (t : Tables) (h : List Entry) → EndsAt t (IsCounted self.now) h → IfOk result (λ b. b ≡ parts_of self.now.shape (reverse h)) }
+        ensures parts { (t : Tables) (h : List Entry) → EndsAt t (IsCounted self.now) h → IfOk result (λ b. b ≡ balance_parts self.now.shape (reverse h)) }
         ensures never_negative { (t : Tables) (h : List Entry) → EndsAt t (IsCounted self.now) h → IsOk result → (k : ℕ) → pos 0 ≤ℤ balance_of self.now.shape (past_at k h) }
         ensures few { (t : Tables) (h : List Entry) → EndsAt t (IsCounted self.now) h → IfOk result (λ b. b.downs ≤ b.initial + b.ups) }
         ensures small { (t : Tables) (h : List Entry) → EndsAt t (IsCounted self.now) h → IfOk result (λ b. b.initial + b.ups < 2 ^ 64) }
         ensures err { (t : Tables) (h : List Entry) → EndsAt t (IsCounted self.now) h → IfErr result (IsFirstBreak (use_rules self.now.shape) h) }
     {
-        if let Err(fault) = self.tracker.followed() {
+        if let Err(fault) = self.tracker.finding() {
             return Err(fault);
         }
         let shape = self.uses.shape();
@@ -139,13 +139,14 @@ impl BalanceAudit {
     pub fn balance(&self, run: &Run) -> Result<Balance, AuditFault>
         requires { IsCounted self.now (reverse run.now.entries) }
         ensures ok { IsOk result ↔ Follow (use_rules self.now.shape) (reverse run.now.entries) }
-        ensures parts { IfOk result (λ b. b ≡ parts_of self.now.shape (reverse run.now.entries)) }
+        ensures parts { IfOk result (λ b. b
+            ≡ balance_parts self.now.shape (reverse run.now.entries)) }
         ensures never_negative { IsOk result → (k : ℕ) → pos 0 ≤ℤ balance_of self.now.shape (past_at k run.now.entries) }
         ensures few { IfOk result (λ b. b.downs ≤ b.initial + b.ups) }
         ensures small { IfOk result (λ b. b.initial + b.ups < 2 ^ 64) }
         ensures err { IfErr result (IsFirstBreak (use_rules self.now.shape) run.now.entries) }
     {
-        run.known();
+        run.invariant();
         self.finish()
     }
 }
@@ -156,7 +157,7 @@ impl BalanceAudit {
 /// It is meant for a shape that fits the run's declarations; what it answers holds of any.
 pub fn balance(run: &Run, shape: &SemaphoreShape) -> Result<Balance, AuditFault>
     ensures ok { IsOk result ↔ Follow (use_rules shape.now) (reverse run.now.entries) }
-    ensures parts { IfOk result (λ b. b ≡ parts_of shape.now (reverse run.now.entries)) }
+    ensures parts { IfOk result (λ b. b ≡ balance_parts shape.now (reverse run.now.entries)) }
     ensures never_negative { IsOk result → (k : ℕ) → pos 0 ≤ℤ balance_of shape.now (past_at k run.now.entries) }
     ensures few { IfOk result (λ b. b.downs ≤ b.initial + b.ups) }
     ensures small { IfOk result (λ b. b.initial + b.ups < 2 ^ 64) }

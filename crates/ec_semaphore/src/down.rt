@@ -1,7 +1,7 @@
 //! P on a semaphore.
 ghost use Rattle.std.specs.Prelude.{◌≡◌, ◌≤◌, false, List};
 ghost use Rattle.ec_core.specs.declared.act.TheConstants.{VALUE_MAX};
-ghost use Rattle.ec_core.specs.Following.{Told};
+ghost use Rattle.ec_core.specs.Following.{CompletedCall};
 ghost use Rattle.ec_semaphore.specs.DownPlaces.{ticket_of};
 ghost use Rattle.ec_semaphore.specs.Uses.{threshold, down_call};
 
@@ -10,7 +10,7 @@ use ec_core::{Act, Procedure, Reply, VALUE_MAX};
 
 /// Where a P stands: what it does next.
 #[derive(Clone, Copy, Debug, PartialEq, Eq)]
-enum Place {
+enum DownPhase {
     Draw,
     Wait { ticket: u64 },
     Over,
@@ -20,7 +20,7 @@ enum Place {
 #[derive(Clone, Copy, Debug, PartialEq, Eq)]
 pub struct Down {
     shape: SemaphoreShape,
-    place: Place,
+    place: DownPhase,
     going: bool,
     ghost small: { ticket_of place ≤ VALUE_MAX },
 }
@@ -28,12 +28,12 @@ pub struct Down {
 impl Down {
     /// Returns the whole list.
     pub fn new(shape: SemaphoreShape) -> Self
-        ensures whole { (calls : List Told) → ⟦<Down as Procedure>⟧.rest result calls ≡ down_call shape calls }
+        ensures whole { (calls : List CompletedCall) → ⟦<Down as Procedure>⟧.rest result calls ≡ down_call shape calls }
         ensures fresh { ⟦<Down as Procedure>⟧.is_going result ≡ false }
     {
         Down {
             shape,
-            place: Place::Draw,
+            place: DownPhase::Draw,
             going: false,
         }
     }
@@ -59,12 +59,12 @@ impl Procedure for Down {
             return Some(Act::Go);
         }
         match self.place {
-            Place::Draw => Some(Act::Ticket(self.shape.line())),
-            Place::Wait { ticket } => Some(Act::Await(
+            DownPhase::Draw => Some(Act::Ticket(self.shape.line())),
+            DownPhase::Wait { ticket } => Some(Act::Await(
                 self.shape.count(),
                 threshold(&self.shape, ticket),
             )),
-            Place::Over => None,
+            DownPhase::Over => None,
         }
     }
 
@@ -79,8 +79,8 @@ impl Procedure for Down {
         };
         self.going = false;
         self.place = match self.place {
-            Place::Draw => Place::Wait { ticket: number },
-            Place::Wait { .. } | Place::Over => Place::Over,
+            DownPhase::Draw => DownPhase::Wait { ticket: number },
+            DownPhase::Wait { .. } | DownPhase::Over => DownPhase::Over,
         };
     }
 }

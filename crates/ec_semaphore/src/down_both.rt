@@ -1,8 +1,8 @@
 //! P on two semaphores at once.
 ghost use Rattle.std.specs.Prelude.{◌≡◌, ◌≢◌, ◌≤◌, false, List, []};
 ghost use Rattle.ec_core.specs.declared.act.TheConstants.{VALUE_MAX};
-ghost use Rattle.ec_core.specs.Following.{Told};
-ghost use Rattle.ec_semaphore.specs.BothPlaces.{first_of, second_of, next_place};
+ghost use Rattle.ec_core.specs.Following.{CompletedCall};
+ghost use Rattle.ec_semaphore.specs.BothPlaces.{first_ticket, second_of, next_place};
 ghost use Rattle.ec_semaphore.specs.Both.{down_both_call};
 
 use crate::SemaphoreShape;
@@ -11,7 +11,7 @@ use ec_core::{Act, Procedure, Reply, VALUE_MAX};
 
 /// Where a P on two semaphores stands: what it does next.
 #[derive(Clone, Copy, Debug, PartialEq, Eq)]
-enum Place {
+enum BothPhase {
     Line,
     Enter { turn: u64 },
     DrawFirst,
@@ -29,9 +29,9 @@ pub struct DownBoth {
     common: SemaphoreShape,
     one: SemaphoreShape,
     other: SemaphoreShape,
-    place: Place,
+    place: BothPhase,
     going: bool,
-    ghost small_first: { first_of place ≤ VALUE_MAX },
+    ghost small_first: { first_ticket place ≤ VALUE_MAX },
     ghost small_second: { second_of place ≤ VALUE_MAX },
 }
 
@@ -41,14 +41,14 @@ impl DownBoth {
     pub fn new(common: SemaphoreShape, one: SemaphoreShape, other: SemaphoreShape) -> Self
         requires single { common.initial ≡ 1 }
         requires apart { (common ≢ one) × (common ≢ other) × (one ≢ other) }
-        ensures whole { (calls : List Told) → ⟦<DownBoth as Procedure>⟧.rest result calls ≡ down_both_call common one other calls }
+        ensures whole { (calls : List CompletedCall) → ⟦<DownBoth as Procedure>⟧.rest result calls ≡ down_both_call common one other calls }
         ensures fresh { ⟦<DownBoth as Procedure>⟧.is_going result ≡ false }
     {
         DownBoth {
             common,
             one,
             other,
-            place: Place::Line,
+            place: BothPhase::Line,
             going: false,
         }
     }
@@ -58,39 +58,39 @@ impl DownBoth {
         ensures { result ≡ ⟦<DownBoth as Procedure>⟧.rest self.now [] }
     {
         match self.place {
-            Place::Line => Some(Act::Ticket(self.common.line())),
-            Place::Enter { turn } => Some(Act::Await(self.common.count(), turn)),
-            Place::DrawFirst => Some(Act::Ticket(self.one.line())),
-            Place::DrawSecond { .. } => Some(Act::Ticket(self.other.line())),
-            Place::Leave { .. } => Some(Act::Advance(self.common.count())),
-            Place::WaitFirst { first, .. } => {
+            BothPhase::Line => Some(Act::Ticket(self.common.line())),
+            BothPhase::Enter { turn } => Some(Act::Await(self.common.count(), turn)),
+            BothPhase::DrawFirst => Some(Act::Ticket(self.one.line())),
+            BothPhase::DrawSecond { .. } => Some(Act::Ticket(self.other.line())),
+            BothPhase::Leave { .. } => Some(Act::Advance(self.common.count())),
+            BothPhase::WaitFirst { first, .. } => {
                 Some(Act::Await(self.one.count(), threshold(&self.one, first)))
             }
-            Place::WaitSecond { second } => Some(Act::Await(
+            BothPhase::WaitSecond { second } => Some(Act::Await(
                 self.other.count(),
                 threshold(&self.other, second),
             )),
-            Place::Over => None,
+            BothPhase::Over => None,
         }
     }
 }
 
 /// Returns the place after one if a call told this number; 0 if it told none.
-fn next_place(place: Place, number: u64) -> Place
+fn next_place(place: BothPhase, number: u64) -> BothPhase
     ensures { result ≡ next_place place number }
 {
     match place {
-        Place::Line => Place::Enter { turn: number },
-        Place::Enter { .. } => Place::DrawFirst,
-        Place::DrawFirst => Place::DrawSecond { first: number },
-        Place::DrawSecond { first } => Place::Leave {
+        BothPhase::Line => BothPhase::Enter { turn: number },
+        BothPhase::Enter { .. } => BothPhase::DrawFirst,
+        BothPhase::DrawFirst => BothPhase::DrawSecond { first: number },
+        BothPhase::DrawSecond { first } => BothPhase::Leave {
             first,
             second: number,
         },
-        Place::Leave { first, second } => Place::WaitFirst { first, second },
-        Place::WaitFirst { second, .. } => Place::WaitSecond { second },
-        Place::WaitSecond { .. } => Place::Over,
-        Place::Over => Place::Over,
+        BothPhase::Leave { first, second } => BothPhase::WaitFirst { first, second },
+        BothPhase::WaitFirst { second, .. } => BothPhase::WaitSecond { second },
+        BothPhase::WaitSecond { .. } => BothPhase::Over,
+        BothPhase::Over => BothPhase::Over,
     }
 }
 

@@ -1,19 +1,19 @@
 //! The critical section of P on two semaphores, as a list of calls.
 ghost use Rattle.std.specs.Prelude.{◌≡◌, ℕ, ◌<◌, ◌==◌, List, [], ◌∷◌, Some, slice_get};
-ghost use Rattle.ec_core.specs.declared.protocol.Kept.{Kept};
-ghost use Rattle.ec_core.specs.Following.{Told, block_after, is_right};
-ghost use Rattle.ec_semaphore.specs.Both.{is_line, both_rules, line_of};
-ghost use Rattle.ec_semaphore.specs.Keeping.{kept_of_both};
+ghost use Rattle.ec_core.specs.declared.protocol.ListProgress.{ListProgress};
+ghost use Rattle.ec_core.specs.Following.{CompletedCall, block_after, is_right};
+ghost use Rattle.ec_semaphore.specs.Both.{is_line, both_rules, sequencer_number};
+ghost use Rattle.ec_semaphore.specs.Keeping.{list_progress_of_both};
 
 use crate::SemaphoreShape;
 use crate::uses::{NOTHING, is_on};
-use ec_core::{Act, Kept, Protocol, Reply};
+use ec_core::{Act, ListProgress, Protocol, Reply};
 use ec_count::{SeqId, WorkerId};
 
 /// The critical section of P on two of these semaphores, for workers that use a common one, and a
 /// table of the sequencers that it may draw from.
 #[derive(Drop)]
-pub(crate) struct Guarded<'a> {
+pub(crate) struct CriticalSections<'a> {
     common: SemaphoreShape,
     shapes: &'a [SemaphoreShape],
     lines: [bool; 32],
@@ -21,7 +21,7 @@ pub(crate) struct Guarded<'a> {
 }
 
 /// Returns whether each sequencer is that of one of the semaphores, and not that of the common one.
-fn lines_of(common: &SemaphoreShape, shapes: &[SemaphoreShape]) -> [bool; 32]
+fn semaphore_sequencers(common: &SemaphoreShape, shapes: &[SemaphoreShape]) -> [bool; 32]
     ensures { (q : ℕ) → q < 32 → slice_get result q ≡ Some (is_line common.now shapes.now q) }
 {
     let mut lines = [false; 32];
@@ -32,15 +32,15 @@ fn lines_of(common: &SemaphoreShape, shapes: &[SemaphoreShape]) -> [bool; 32]
     lines
 }
 
-impl<'a> Guarded<'a> {
+impl<'a> CriticalSections<'a> {
     pub(crate) fn new(common: SemaphoreShape, shapes: &'a [SemaphoreShape]) -> Self
         ensures common { result.common ≡ common }
         ensures shapes { result.shapes.now ≡ shapes.now }
     {
-        Guarded {
+        CriticalSections {
             common,
             shapes,
-            lines: lines_of(&common, shapes),
+            lines: semaphore_sequencers(&common, shapes),
         }
     }
 
@@ -54,8 +54,8 @@ impl<'a> Guarded<'a> {
 }
 
 /// Returns the sequencer that an act draws from, by number; 0 if it draws no ticket.
-fn line_of(act: &Act) -> u64
-    ensures { result ≡ line_of act.now }
+fn sequencer_number(act: &Act) -> u64
+    ensures { result ≡ sequencer_number act.now }
 {
     match act {
         Act::Ticket(sequencer) => sequencer.get() as u64,
@@ -63,19 +63,19 @@ fn line_of(act: &Act) -> u64
     }
 }
 
-impl<'a> Protocol for Guarded<'a> {
+impl<'a> Protocol for CriticalSections<'a> {
     ghost use Rattle.ec_semaphore.specs.Both.{is_line, both_rules};
-    ghost use Rattle.ec_semaphore.specs.Keeping.{kept_of_both};
+    ghost use Rattle.ec_semaphore.specs.Keeping.{list_progress_of_both};
 
     ghost rules = { λ g. both_rules g.common (is_line g.common g.shapes.now) };
 
-    ghost keeps = { λ _. kept_of_both };
+    ghost keeps = { λ _. list_progress_of_both };
 
-    fn start(&self) -> Kept {
+    fn start(&self) -> ListProgress {
         NOTHING
     }
 
-    fn is_right(&self, _worker: WorkerId, kept: &Kept, act: &Act) -> bool {
+    fn is_right(&self, _worker: WorkerId, kept: &ListProgress, act: &Act) -> bool {
         let common = &self.common;
         match act {
             Act::Go => true,
@@ -88,7 +88,13 @@ impl<'a> Protocol for Guarded<'a> {
         }
     }
 
-    fn after(&self, _worker: WorkerId, kept: &Kept, op: &Act, reply: Reply) -> Kept {
+    fn after(
+        &self,
+        _worker: WorkerId,
+        kept: &ListProgress,
+        op: &Act,
+        reply: Reply,
+    ) -> ListProgress {
         let number = match reply {
             Reply::Pending => return *kept,
             Reply::Done => 0,
@@ -100,10 +106,14 @@ impl<'a> Protocol for Guarded<'a> {
         if kept.at >= 4 {
             return NOTHING;
         }
-        Kept {
+        ListProgress {
             at: kept.at + 1,
             first: if kept.at == 0 { number } else { 0 },
-            second: if kept.at == 2 { line_of(op) } else { 0 },
+            second: if kept.at == 2 {
+                sequencer_number(op)
+            } else {
+                0
+            },
         }
     }
 }

@@ -6,35 +6,35 @@ ghost use Rattle.ec_core.specs.declared.act.Entry.{Entry};
 ghost use Rattle.ec_core.specs.Acceptance.{IsAccepted};
 ghost use Rattle.ec_core.specs.Audits.{IsAuditFault};
 ghost use Rattle.ec_core.specs.Ending.{EndsAt};
-ghost use Rattle.ec_core.specs.Following.{Told, block, Follow};
+ghost use Rattle.ec_core.specs.Following.{CompletedCall, block, Follow};
 ghost use Rattle.ec_semaphore.specs.Auditing.{IsPairing};
 ghost use Rattle.ec_semaphore.specs.Both.{is_line, both_rule, both_rules};
 ghost use Rattle.ec_semaphore.specs.Completing.{IsDrawn, AreDrawn, drawn_after};
 ghost use Rattle.ec_semaphore.specs.InOrder.{ArePairs};
-ghost use Rattle.ec_semaphore.specs.Keeping.{kept_of_both};
+ghost use Rattle.ec_semaphore.specs.Keeping.{list_progress_of_both};
 ghost use Rattle.ec_semaphore.specs.Pairs.{IsEarlier, pair_with, pairs_of};
 ghost use Rattle.ec_semaphore.specs.Shapes.{Semaphore};
 
-use crate::guarded::Guarded;
+use crate::guarded::CriticalSections;
 use crate::{Pair, SemaphoreShape};
-use ec_core::{Act, Audit, AuditFault, Entry, Kept, Run, Tracker, walk};
+use ec_core::{Act, Audit, AuditFault, Entry, ListProgress, Run, Tracker, walk};
 use ec_count::SeqId;
 use std::alloc::{AllocError, Global};
 use std::marker::Model;
 
 /// A ticket, and the sequencer that it was drawn from.
 #[derive(Clone, Copy, Debug)]
-struct Drawn {
+struct LatestTicket {
     line: SeqId,
     number: u64,
 }
 
 /// Returns the latest ticket of an entry's worker after the entry.
-fn drawn_after(before: Drawn, entry: &Entry) -> Drawn
+fn drawn_after(before: LatestTicket, entry: &Entry) -> LatestTicket
     ensures { result ≡ drawn_after before entry.now entry.now.act }
 {
     match entry.act {
-        Act::Ticket(line) => Drawn {
+        Act::Ticket(line) => LatestTicket {
             line,
             number: entry.reply.number(),
         },
@@ -43,8 +43,8 @@ fn drawn_after(before: Drawn, entry: &Entry) -> Drawn
 }
 
 /// Returns the pair that an entry completes, given the latest ticket of its worker.
-fn completed(kept: &Kept, latest: Drawn, entry: &Entry) -> Option<Pair>
-    ensures { (calls : List Told) → kept.now ≡ kept_of_both calls → IsDrawn latest calls → result ≡ pair_with calls entry.now }
+fn complete_pair(kept: &ListProgress, latest: LatestTicket, entry: &Entry) -> Option<Pair>
+    ensures { (calls : List CompletedCall) → kept.now ≡ list_progress_of_both calls → IsDrawn latest calls → result ≡ pair_with calls entry.now }
 {
     match entry.act {
         Act::Ticket(line) if kept.at == 3 => Some(Pair {
@@ -59,14 +59,15 @@ fn completed(kept: &Kept, latest: Drawn, entry: &Entry) -> Option<Pair>
 }
 
 /// Returns the pair that an entry completes, whose worker's latest ticket is then noted.
-fn note_drawn(kept: &Kept, entry: &Entry, latest: &mut [Drawn; 16]) -> Option<Pair>
+fn note_ticket(kept: &ListProgress, entry: &Entry, latest: &mut [LatestTicket; 16]) -> Option<Pair>
     ensures { (c : Semaphore) (lines : ℕ → Bool) (t : Tables) (past : List Entry)
-        → kept.now ≡ kept_of_both (block (both_rule c lines) entry.now.worker past) → IsDeclared t
+        → kept.now ≡ list_progress_of_both (block (both_rule c lines) entry.now.worker past)
+        → IsDeclared t
         → IsAccepted t (entry.now ∷ past) → Follow (both_rules c lines) (entry.now ∷ past) → AreDrawn c lines latest.old past
         → (result ≡ pair_with (block (both_rule c lines) entry.now.worker past) entry.now) × AreDrawn c lines latest.new (entry.now ∷ past) }
 {
     let worker = entry.worker.get();
-    let pair = completed(kept, latest[worker], entry);
+    let pair = complete_pair(kept, latest[worker], entry);
     latest[worker] = drawn_after(latest[worker], entry);
     pair
 }
@@ -94,17 +95,17 @@ fn lacks_after(lacks: bool, pairs: &mut Vec<Pair>, pair: Option<Pair>) -> bool
 /// takes each entry, since within a critical section a worker makes no other call.
 #[derive(Drop)]
 pub struct PairAudit<'a> {
-    guarded: Guarded<'a>,
+    guarded: CriticalSections<'a>,
     tracker: Tracker,
-    latest: [Drawn; 16],
+    latest: [LatestTicket; 16],
     pairs: Vec<Pair>,
     lacks: bool,
 }
 
 impl<'a> Model for PairAudit<'a> {
-    ghost use Rattle.ec_semaphore.specs.Auditing.{Pairing};
+    ghost use Rattle.ec_semaphore.specs.Auditing.{PairAuditModel};
 
-    ghost Value = { Pairing };
+    ghost Value = { PairAuditModel };
 
     ghost view = { λ s. record { common = s.guarded.common; shapes = s.guarded.shapes.now; tracked = s.tracker; latest = s.latest; pairs = s.pairs.items; lacks = s.lacks } };
 }
@@ -112,12 +113,12 @@ impl<'a> Model for PairAudit<'a> {
 impl<'a> Audit for PairAudit<'a> {
     ghost use Rattle.ec_semaphore.specs.Auditing.{PairsOn};
 
-    ghost stands = { PairsOn };
+    ghost represents = { PairsOn };
 
     #[inline(never)]
     fn take(&mut self, place: usize, op: &Act, entry: &Entry) {
-        let kept = self.tracker.kept(entry.worker);
-        let pair = note_drawn(&kept, entry, &mut self.latest);
+        let kept = self.tracker.list_progress(entry.worker);
+        let pair = note_ticket(&kept, entry, &mut self.latest);
         self.lacks = lacks_after(self.lacks, &mut self.pairs, pair);
         self.tracker.take(&self.guarded, place, op, entry);
     }
@@ -130,9 +131,9 @@ impl<'a> PairAudit<'a> {
         ensures shapes { result.shapes ≡ shapes.now }
         ensures first { IsPairing result [] }
     {
-        let guarded = Guarded::new(common, shapes);
+        let guarded = CriticalSections::new(common, shapes);
         let tracker = Tracker::new(&guarded);
-        let none = Drawn {
+        let none = LatestTicket {
             line: SeqId::new(0).unwrap(),
             number: 0,
         };
@@ -155,7 +156,7 @@ impl<'a> PairAudit<'a> {
         ensures ordered { (t : Tables) (h : List Entry) → EndsAt t (IsPairing self.entry) h → IfOk result (λ ps. AllPairs IsEarlier ps.items) }
         ensures err { (t : Tables) (h : List Entry) → EndsAt t (IsPairing self.entry) h → IfErr result (IsAuditFault (both_rules self.entry.common (is_line self.entry.common self.entry.shapes)) h) }
     {
-        if let Err(fault) = self.tracker.followed() {
+        if let Err(fault) = self.tracker.finding() {
             return Err(fault);
         }
         if self.lacks {
@@ -174,7 +175,7 @@ impl<'a> PairAudit<'a> {
         ensures ordered { IfOk result (λ ps. AllPairs IsEarlier ps.items) }
         ensures err { IfErr result (IsAuditFault (both_rules self.entry.common (is_line self.entry.common self.entry.shapes)) run.now.entries) }
     {
-        run.known();
+        run.invariant();
         self.finish()
     }
 }

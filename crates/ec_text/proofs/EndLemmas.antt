@@ -6,7 +6,7 @@ use Rattle.std.proofs.lemmas.Bool.{and_parts, and_from, cond-true, cases_lt}
 use Rattle.std.proofs.lemmas.List.{take-append-drop, take_all, get_or-drop}
 use Rattle.std.proofs.lemmas.List.Elements.{All-from_get_or}
 use Rattle.std.proofs.Math.Nat.{pow-succ', pow-le-pow_right, mul-le-mul_right}
-use Rattle.ec_text.specs.Words.{number_of, has_form, value_from, IsWord, EndsInNumber, AreDigits}
+use Rattle.ec_text.specs.Words.{number_in_word, has_form, value_from, IsWord, EndsInNumber, AreDigits}
 use Rattle.ec_text.proofs.shared.NumberLemmas.{guarded, reads, spelled, number_is_form}
 
 -- a number before digits stands before theirs
@@ -125,7 +125,7 @@ place_space text q is =
     let long : length (take q text) ≡ q = omega (arith, length-take q text, place_within text q is) in
     ap (λ (t : List ℕ). get_or t q 0) is ∙ ap (λ (k : ℕ). get_or (take q text ++ 32 ∷ drop (q + 1) text) k 0) (sym long) ∙ read_seam (take q text) (drop (q + 1) text) 32
 
-number_digits : (w : List ℕ) (n : ℕ) → number_of w ≡ Some n → (all_ascii_digits w ≡ true) × (has_form w ≡ true)
+number_digits : (w : List ℕ) (n : ℕ) → number_in_word w ≡ Some n → (all_ascii_digits w ≡ true) × (has_form w ≡ true)
 number_digits w n h = (let g = guarded (has_form w) _ n h in ((reads 0 n w (omega arith) g.1).0, g.0))
 
 -- a text that ends in a number has its space where the digits begin

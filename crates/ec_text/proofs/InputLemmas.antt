@@ -35,14 +35,15 @@ enough_read max room n None now new text buf full within small a b = tt
 enough_read max room n (Some o) None new text buf full within small a b = absurd a
 enough_read max room n (Some o) (Some m) None text buf full within small a b = absurd b
 enough_read max room n (Some o) (Some m) (Some r) text buf full within small a b =
-    let front : List ℕ = take room buf in
+    let prefix : List ℕ = take room buf in
     let rest : List ℕ = drop room (take n buf) in
-    let parts : front ++ rest ≡ take n buf = ap (λ x. x ++ rest) (sym (take-take room n buf within)) ∙ take-append-drop room (take n buf) in
-    let whole : o ≡ (text ++ front) ++ (rest ++ r) =
-    a ∙ ap (λ t. text ++ t) (b ∙ ap (λ t. t ++ r) (sym parts) ∙ append_assoc front rest r) ∙ sym (append_assoc text front (rest ++ r)) in
-    let len : length (text ++ front) ≡ max + 1 =
-    length-append text front ∙ ap (λ k. length text + k) (length-take-le room buf (omega (arith, within, small))) ∙ full in
-    sym (take_at (text ++ front) (rest ++ r) (max + 1) len) ∙ ap (λ t. take (max + 1) t) (sym whole)
+    let parts : prefix ++ rest ≡ take n buf = ap (λ x. x ++ rest) (sym (take-take room n buf within)) ∙ take-append-drop room (take n buf) in
+    let whole : o ≡ (text ++ prefix) ++ (rest ++ r) =
+    a ∙ ap (λ t. text ++ t) (b ∙ ap (λ t. t ++ r) (sym parts) ∙ append_assoc prefix rest r) ∙ sym (append_assoc text prefix (rest ++ r)) in
+    let len : length (text ++ prefix) ≡ max + 1 =
+    length-append text prefix ∙ ap (λ k. length text + k) (length-take-le room buf (omega (arith, within, small))) ∙ full in
+    sym (take_at (text ++ prefix) (rest ++ r) (max + 1) len)
+    ∙ ap (λ t. take (max + 1) t) (sym whole)
 
 -- HOW MUCH WAS READ
 

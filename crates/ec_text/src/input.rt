@@ -28,7 +28,7 @@ pub fn read_piece<R: Read>(reader: &mut R, table: &mut ArrayVec<u8, 8192>) -> io
 }
 
 /// Keeps the front of the table.
-fn keep_front(text: &mut Vec<u8>, table: &ArrayVec<u8, 8192>, n: usize) -> Result<(), AllocError>
+fn keep_prefix(text: &mut Vec<u8>, table: &ArrayVec<u8, 8192>, n: usize) -> Result<(), AllocError>
     requires { n ≤ length table.now.items }
     ensures { OnOk result (text.new.items ≡ text.old.items ++ take n table.now.items) }
 {
@@ -53,9 +53,9 @@ pub fn read_up_to<R: Read>(alloc: Global, reader: &mut R, most: usize) -> Result
             return Ok(Input::Whole(text));
         }
         if n >= room {
-            keep_front(&mut text, &table, room)?;
+            keep_prefix(&mut text, &table, room)?;
             return Ok(Input::Whole(text));
         }
-        keep_front(&mut text, &table, n)?;
+        keep_prefix(&mut text, &table, n)?;
     }
 }

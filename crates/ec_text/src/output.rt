@@ -2,10 +2,10 @@
 ghost use Rattle.std.specs.Prelude.{◌≡◌, ◌∷◌, ◌++◌, [], List, ℕ, false, true, IsOk, IsErr, OnOk, OnErr, IsTrue, decimal, length, slice_set, ◌+◌, ◌-◌, ◌<◌, ◌≤◌};
 ghost use Rattle.std.specs.List.{flat_map};
 ghost use Rattle.std.specs.Io.KnownBytes.{Appends};
-ghost use Rattle.ec_text.specs.Puts.{Outgoing, Holds, Puts, AppendsPrefix, IsFresh, IsWrittenOut, at_first, with_bytes};
+ghost use Rattle.ec_text.specs.Puts.{OutputModel, Holds, Puts, AppendsPrefix, IsFresh, IsWrittenOut, at_first, with_bytes};
 
-use crate::decimal::Decimal;
-use crate::table::{ShortText, Table};
+use crate::buffer::{Buffer, InlineText};
+use crate::cached_decimal::CachedDecimal;
 use crate::writing::{WriteFault, write_out};
 use std::io::Write;
 use std::marker::Model;
@@ -13,34 +13,34 @@ use std::marker::Model;
 /// A writer, and at most 8192 bytes that wait for it.
 ///
 /// After a write that failed or took no byte nothing more is written, so that what the writer has is a front of what was put.
-/// A caller makes an `Out`, puts, and ends with `finish`. The prover adds up the clauses `puts` of the calls between by
+/// A caller makes an `Output`, puts, and ends with `finish`. The prover adds up the clauses `puts` of the calls between by
 /// itself, up to about five in one function.
 #[derive(Drop)]
-pub struct Out<'a, W: Write> {
+pub struct Output<'a, W: Write> {
     writer: &'a mut W,
-    bytes: Table,
+    bytes: Buffer,
     failed: bool,
 }
 
-impl<'a, W: Write> Model for Out<'a, W> {
+impl<'a, W: Write> Model for Output<'a, W> {
     ghost use Rattle.std.specs.Prelude.{[], if◌then◌else◌};
-    ghost use Rattle.ec_text.specs.Puts.{Outgoing};
+    ghost use Rattle.ec_text.specs.Puts.{OutputModel};
 
-    ghost Value = { Outgoing };
+    ghost Value = { OutputModel };
 
     ghost view = { λ o. record { writer = o.writer.ghost_name; contents = W.contents o.writer.now; waiting = if o.failed then [] else o.bytes; failed = o.failed } };
 }
 
-impl<'a, W: Write> Out<'a, W> {
+impl<'a, W: Write> Output<'a, W> {
     /// Makes a writer before which nothing waits.
     #[tactic(auto, using(crate::proofs::shared::PutLemmas::begins))]
     pub fn new(writer: &'a mut W) -> Self
         ensures value { result ≡ at_first writer.entry.ghost_name (W.contents writer.old) }
         ensures none { Holds (at_first writer.entry.ghost_name (W.contents writer.old)) result [] }
     {
-        Out {
+        Output {
             writer,
-            bytes: Table::new(),
+            bytes: Buffer::new(),
             failed: false,
         }
     }
@@ -97,7 +97,7 @@ impl<'a, W: Write> Out<'a, W> {
 
     /// Takes bytes and a short text in as `take_in` does, if there is room for the longest.
     #[inline(always)]
-    fn take_in_short(&mut self, before: &[u8], text: &ShortText) -> bool
+    fn take_in_short(&mut self, before: &[u8], text: &InlineText) -> bool
         ensures puts { IsTrue result → Puts self.old self.new (before.now ++ text.now) }
         ensures full { result ≡ false → self.new ≡ self.old }
         ensures stays { self.old.failed ≡ true → self.new ≡ self.old }
@@ -108,7 +108,7 @@ impl<'a, W: Write> Out<'a, W> {
 
     /// Puts bytes, and a short text behind them. Where the bytes are a literal that costs little more than the text alone.
     #[inline(always)]
-    pub fn put_with_short(&mut self, before: &[u8], text: &ShortText)
+    pub fn put_with_short(&mut self, before: &[u8], text: &InlineText)
         ensures puts { Puts self.old self.new (before.now ++ text.now) }
         ensures room { self.old.failed ≡ false → length self.old.waiting + length (before.now ++ text.now) ≤ 8192
             → self.new ≡ with_bytes self.old (before.now ++ text.now) }
@@ -122,7 +122,7 @@ impl<'a, W: Write> Out<'a, W> {
 
     /// Takes bytes and a short text with another last byte in, as `take_in_short` does.
     #[inline(always)]
-    fn take_in_ending(&mut self, before: &[u8], text: &ShortText, last: u8) -> bool
+    fn take_in_ending(&mut self, before: &[u8], text: &InlineText, last: u8) -> bool
         requires { 0 < length text.now }
         ensures puts { IsTrue result → Puts self.old self.new (before.now ++ slice_set text.now (length text.now - 1) last) }
         ensures full { result ≡ false → self.new ≡ self.old }
@@ -134,7 +134,7 @@ impl<'a, W: Write> Out<'a, W> {
 
     /// Puts bytes, and the digits of a number that is kept with them.
     #[inline(always)]
-    pub fn put_with_decimal(&mut self, before: &[u8], number: &Decimal)
+    pub fn put_with_decimal(&mut self, before: &[u8], number: &CachedDecimal)
         ensures puts { Puts self.old self.new (before.now ++ decimal number.now) }
         ensures room { self.old.failed ≡ false → length self.old.waiting + length (before.now ++ decimal number.now) ≤ 8192
             → self.new ≡ with_bytes self.old (before.now ++ decimal number.now) }
@@ -149,7 +149,7 @@ impl<'a, W: Write> Out<'a, W> {
 
     /// Puts a short text. It costs less than `put` of its bytes.
     #[inline(always)]
-    pub fn put_short(&mut self, text: &ShortText)
+    pub fn put_short(&mut self, text: &InlineText)
         ensures puts { Puts self.old self.new text.now }
         ensures room { self.old.failed ≡ false → length self.old.waiting + length text.now ≤ 8192
             → self.new ≡ with_bytes self.old text.now }
@@ -160,7 +160,7 @@ impl<'a, W: Write> Out<'a, W> {
 
     /// Puts the digits of a number that is kept with them.
     #[inline(always)]
-    pub fn put_decimal(&mut self, number: &Decimal)
+    pub fn put_decimal(&mut self, number: &CachedDecimal)
         ensures puts { Puts self.old self.new (decimal number.now) }
         ensures room { self.old.failed ≡ false → length self.old.waiting + length (decimal number.now) ≤ 8192
             → self.new ≡ with_bytes self.old (decimal number.now) }
@@ -172,7 +172,7 @@ impl<'a, W: Write> Out<'a, W> {
     /// Puts bytes and a short text near the end of the table.
     #[cold]
     #[inline(never)]
-    fn put_at_end(&mut self, before: &[u8], text: &ShortText)
+    fn put_at_end(&mut self, before: &[u8], text: &InlineText)
         ensures puts { Puts self.old self.new (before.now ++ text.now) }
         ensures room { self.old.failed ≡ false → length self.old.waiting + length (before.now ++ text.now) ≤ 8192
             → self.new ≡ with_bytes self.old (before.now ++ text.now) }
@@ -186,7 +186,7 @@ impl<'a, W: Write> Out<'a, W> {
     /// a function that mostly needs none would clear the room for one each time.)
     #[cold]
     #[inline(never)]
-    fn put_decimal_at_end(&mut self, before: &[u8], number: &Decimal)
+    fn put_decimal_at_end(&mut self, before: &[u8], number: &CachedDecimal)
         ensures puts { Puts self.old self.new (before.now ++ decimal number.now) }
         ensures room { self.old.failed ≡ false → length self.old.waiting + length (before.now ++ decimal number.now) ≤ 8192
             → self.new ≡ with_bytes self.old (before.now ++ decimal number.now) }
@@ -255,7 +255,7 @@ impl<'a, W: Write> Out<'a, W> {
             → self.new ≡ with_bytes self.old (decimal n) }
         ensures stays { self.old.failed ≡ true → self.new ≡ self.old }
     {
-        self.put_short(&ShortText::spelled(n));
+        self.put_short(&InlineText::of_number(n));
     }
 
     /// Puts pieces, one behind the other.
@@ -281,9 +281,9 @@ impl<'a, W: Write> Out<'a, W> {
 
     /// Writes what waits. With `Ok` all that was put since `new` stands in the writer, with an error a front of it.
     pub fn finish(&mut self) -> Result<(), WriteFault>
-        ensures same { (first : Outgoing) (all : List ℕ) → Holds first self.old all → self.new.writer ≡ first.writer }
-        ensures ok { (first : Outgoing) (all : List ℕ) → Holds first self.old all → OnOk result (Appends first.contents self.new.contents all) }
-        ensures err { (first : Outgoing) (all : List ℕ) → Holds first self.old all → OnErr result (AppendsPrefix first.contents self.new.contents all) }
+        ensures same { (first : OutputModel) (all : List ℕ) → Holds first self.old all → self.new.writer ≡ first.writer }
+        ensures ok { (first : OutputModel) (all : List ℕ) → Holds first self.old all → OnOk result (Appends first.contents self.new.contents all) }
+        ensures err { (first : OutputModel) (all : List ℕ) → Holds first self.old all → OnErr result (AppendsPrefix first.contents self.new.contents all) }
         ensures nothing { IsFresh self.old → IsOk result × (self.new ≡ self.old) }
         ensures failed { self.old.failed ≡ true → IsErr result × (self.new ≡ self.old) }
         ensures puts { Puts self.old self.new [] }
@@ -303,7 +303,7 @@ impl<'a, W: Write> Out<'a, W> {
         ensures same { result.ghost_name ≡ self.entry.writer }
         ensures contents { W.contents result.now ≡ self.entry.contents }
     {
-        let Out {
+        let Output {
             writer,
             bytes: _,
             failed: _,

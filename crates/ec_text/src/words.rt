@@ -7,7 +7,7 @@ use std::simd::prelude::*;
 
 /// Returns how many of the first 16 bytes come before their first space.
 #[inline(always)]
-fn front_of_16(line: &[u8]) -> usize
+fn first_word_length_of_16(line: &[u8]) -> usize
     requires { 16 ≤ length line.now }
     ensures { result ≡ position_or_len (λ b. b == 32) (take 16 line.now) }
 {
@@ -23,7 +23,7 @@ fn front_of_16(line: &[u8]) -> usize
 
 /// Returns how many of the first 8 bytes come before their first space.
 #[inline(always)]
-fn front_of_8(line: &[u8]) -> usize
+fn first_word_length_of_8(line: &[u8]) -> usize
     requires { 8 ≤ length line.now }
     ensures { result ≡ position_or_len (λ b. b == 32) (take 8 line.now) }
 {
@@ -41,14 +41,14 @@ fn front_of_8(line: &[u8]) -> usize
 /// long enough.
 #[inline(always)]
 #[tactic(auto, using(crate::proofs::shared::WordLemmas::fronts))]
-fn front(line: &[u8]) -> usize
+fn first_word_length(line: &[u8]) -> usize
     ensures within { result ≤ length line.now }
     ensures none { (k : ℕ) → k < result → slice_index line.now k ≢ 32 }
 {
     if line.len() >= 16 {
-        front_of_16(line)
+        first_word_length_of_16(line)
     } else if line.len() >= 8 {
-        front_of_8(line)
+        first_word_length_of_8(line)
     } else {
         0
     }
@@ -67,7 +67,7 @@ pub fn cut_word(line: &[u8]) -> (&[u8], Option<&[u8]>)
     ensures only { IfNone result.1 (line.now ≡ result.0.now) }
     ensures word { IsWord result.0.now }
 {
-    for i in front(line)..line.len() {
+    for i in first_word_length(line)..line.len() {
         if line[i] == b' ' {
             return (&line[..i], Some(&line[i + 1..]));
         }

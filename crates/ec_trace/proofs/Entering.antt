@@ -2,8 +2,8 @@
 use Rattle.std.proofs.Common.{ℕ, Err, reverse}
 use Rattle.ec_core.specs.Acceptance.{answer_of}
 use Rattle.ec_core.specs.Faults.{IsFaultOf}
-use Rattle.ec_core.specs.Recorded.{Recorded}
+use Rattle.ec_core.specs.RunModel.{RunModel}
 use Rattle.ec_core.specs.declared.act.Act.{Act}
 use Rattle.ec_core.specs.declared.run.StepFault.{StepFault}
 use Rattle.ec_core.specs.declared.run.StepFault.TheVariants.{Refused, Memory}
-use Rattle.ec_trace.specs.Histories.{Enters}
+use Rattle.ec_trace.specs.EntrySinks.{Enters}

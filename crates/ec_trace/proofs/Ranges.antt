@@ -30,11 +30,11 @@ range_cut xs i j line rest ordered fits cut =
     let last : j - (i + length line + 1) ≡ length rest = omega arith in
     let place : i + length line + 1 ≡ i + (length line + 1) = omega arith in
     let whole : drop i xs ≡ (line ++ 10 ∷ rest) ++ drop j xs = range_front xs i j ordered ∙ ap (λ (r : List ℕ). r ++ drop j xs) cut in
-    let front : drop i xs ≡ line ++ (10 ∷ rest ++ drop j xs) = whole ∙ append_assoc line (10 ∷ rest) (drop j xs) in
+    let prefix : drop i xs ≡ line ++ (10 ∷ rest ++ drop j xs) = whole ∙ append_assoc line (10 ∷ rest) (drop j xs) in
     let behind : drop (i + length line + 1) xs ≡ rest ++ drop j xs =
-    ap (λ (n : ℕ). drop n xs) place ∙ sym (drop-drop (length line + 1) i xs) ∙ ap (drop (length line + 1)) front ∙ drop-append-add line (10 ∷ (rest ++ drop j xs)) 1 in
+    ap (λ (n : ℕ). drop n xs) place ∙ sym (drop-drop (length line + 1) i xs) ∙ ap (drop (length line + 1)) prefix ∙ drop-append-add line (10 ∷ (rest ++ drop j xs)) 1 in
     record {
-      before = ap (λ (n : ℕ). take n (drop i xs)) first ∙ ap (take (length line)) front ∙ take-append_seam line (10 ∷ (rest ++ drop j xs));
+      before = ap (λ (n : ℕ). take n (drop i xs)) first ∙ ap (take (length line)) prefix ∙ take-append_seam line (10 ∷ (rest ++ drop j xs));
       behind = ap (λ (n : ℕ). take n (drop (i + length line + 1) xs)) last ∙ ap (take (length rest)) behind ∙ take-append_seam rest (drop j xs);
       within = omega arith;
     }

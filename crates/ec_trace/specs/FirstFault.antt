@@ -6,9 +6,9 @@ use Rattle.ec_trace.specs.declared.fault.LineFault.TheVariants.{Bad}
 use Rattle.ec_trace.specs.declared.fault.TraceFault.TheVariants.{TooLarge, Unfinished}
 use Rattle.ec_trace.specs.Stages.{Stage, Opening}
 use Rattle.ec_trace.specs.declared.read.TheConstants.{TRACE_MAX}
-use Rattle.ec_heading.specs.Spelling.{text_of}
+use Rattle.ec_heading.specs.Spelling.{lines_text}
 use Rattle.ec_trace.specs.Step.{step, is_ended}
-use Rattle.ec_trace.specs.Outcome.{numbered, outcome, HasNoFault}
+use Rattle.ec_trace.specs.Outcome.{fault_of_line, outcome, HasNoFault}
 
 -- a line, without its LF
 pub record IsLine (line : List ℕ) : Type 0 where
@@ -38,7 +38,7 @@ pub record IsFirstFault (text : List ℕ) (n : ℕ) (fault : LineFault) : Type 0
   pub stage : Stage
   pub line : List ℕ
   pub behind : List ℕ
-  pub whole : text ≡ text_of before ++ (line ++ behind)
+  pub whole : text ≡ lines_text before ++ (line ++ behind)
   pub number : length before + 1 ≡ n
   pub each : AllByRecursion IsLine before
   pub leads : Leads Opening before stage
@@ -47,11 +47,11 @@ pub record IsFirstFault (text : List ℕ) (n : ℕ) (fault : LineFault) : Type 0
 
 -- the fault of a line is that of the first faulty line of the text, up to the bound
 abbrev pub LineFaultIsTheFirst : Type 0
-LineFaultIsTheFirst = (bytes : List ℕ) (n : ℕ) (fault : LineFault) → outcome TRACE_MAX bytes ≡ Err (numbered n fault) → IsFirstFault (take TRACE_MAX bytes) n fault
+LineFaultIsTheFirst = (bytes : List ℕ) (n : ℕ) (fault : LineFault) → outcome TRACE_MAX bytes ≡ Err (fault_of_line n fault) → IsFirstFault (take TRACE_MAX bytes) n fault
 
 -- the first faulty line of the text, up to the bound, gives the fault
 abbrev pub FirstFaultIsTold : Type 0
-FirstFaultIsTold = (bytes : List ℕ) (n : ℕ) (fault : LineFault) → IsFirstFault (take TRACE_MAX bytes) n fault → outcome TRACE_MAX bytes ≡ Err (numbered n fault)
+FirstFaultIsTold = (bytes : List ℕ) (n : ℕ) (fault : LineFault) → IsFirstFault (take TRACE_MAX bytes) n fault → outcome TRACE_MAX bytes ≡ Err (fault_of_line n fault)
 
 -- a text is too large only if it has more bytes than the bound, and unfinished only if it has not
 abbrev pub FaultOfTheWhole : Type 0

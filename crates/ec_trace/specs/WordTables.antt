@@ -3,8 +3,8 @@ use Rattle.std.specs.Prelude.{◌≡◌, ℕ, ◌<◌, ◌+◌, ◌-◌, ◌&&�
 use Rattle.std.specs.Option.{option_map_or}
 use Rattle.std.specs.Borrow.{Bor}
 use Rattle.ec_count.specs.declared.target.Target.TheVariants.{Worker, Event, Sequencer}
-use Rattle.ec_heading.specs.Spelling.{Named, word_of, cell_word}
-use Rattle.ec_trace.specs.declared.spell.Words.{Words}
+use Rattle.ec_heading.specs.Spelling.{NameTable, target_name, cell_word}
+use Rattle.ec_trace.specs.declared.spell.WordTable.{WordTable}
 use Rattle.ec_trace.specs.declared.spell.CellName.{CellName}
 use Rattle.ec_trace.specs.declared.short_words.ShortWords.{ShortWords}
 
@@ -27,10 +27,10 @@ abbrev pub with_block : List ℕ → ℕ → ℕ → ℕ → List ℕ → List �
 with_block block first n x bytes = if nat_le first x && nat_lt x (first + n) then cell_bytes block (x - first) else bytes
 
 -- each table has the words that the names give
-pub record Spells (names : Named) (words : Words) : Type 0 where
-  pub workers : (i : ℕ) → i < 16 → word_at words.workers i ≡ word_of names (Worker i)
-  pub events : (i : ℕ) → i < 32 → word_at words.events i ≡ word_of names (Event i)
-  pub sequencers : (i : ℕ) → i < 32 → word_at words.sequencers i ≡ word_of names (Sequencer i)
+pub record Spells (names : NameTable) (words : WordTable) : Type 0 where
+  pub workers : (i : ℕ) → i < 16 → word_at words.workers i ≡ target_name names (Worker i)
+  pub events : (i : ℕ) → i < 32 → word_at words.events i ≡ target_name names (Event i)
+  pub sequencers : (i : ℕ) → i < 32 → word_at words.sequencers i ≡ target_name names (Sequencer i)
   pub cells : (x : ℕ) → x < 256 → cell_at words.cells x ≡ cell_word names x
 
 -- THE SHORT ONES
@@ -44,8 +44,9 @@ abbrev pub IsShortOf : Option (List ℕ) → List ℕ → Type 0
 IsShortOf short word = IfSome short (λ t. t ≡ word)
 
 -- each text that is there has the word that the names give
-pub record SpellsShort (names : Named) (short : ShortWords) : Type 0 where
-  pub workers : (i : ℕ) → i < 16 → IsShortOf (short_at short.workers i) (word_of names (Worker i))
-  pub events : (i : ℕ) → i < 32 → IsShortOf (short_at short.events i) (word_of names (Event i))
-  pub sequencers : (i : ℕ) → i < 32 → IsShortOf (short_at short.sequencers i) (word_of names (Sequencer i))
+pub record SpellsShort (names : NameTable) (short : ShortWords) : Type 0 where
+  pub workers : (i : ℕ) → i < 16
+      → IsShortOf (short_at short.workers i) (target_name names (Worker i))
+  pub events : (i : ℕ) → i < 32 → IsShortOf (short_at short.events i) (target_name names (Event i))
+  pub sequencers : (i : ℕ) → i < 32 → IsShortOf (short_at short.sequencers i) (target_name names (Sequencer i))
   pub cells : (x : ℕ) → x < 256 → IsShortOf (short_at short.cells x) (cell_word names x)

@@ -1,6 +1,6 @@
 //! The entry that a line spells.
 ghost use Rattle.std.specs.Prelude.{◌≡◌, ◌∷◌};
-ghost use Rattle.ec_trace.specs.Entries.{act_alone, act_on, act_with, reply_of, entry_by, entry_in, entry_of};
+ghost use Rattle.ec_trace.specs.Entries.{act_alone, act_on, act_with, parse_reply, entry_by, entry_in, entry_of};
 ghost use Rattle.ec_text.specs.Words.{words_of};
 
 use ec_core::{Act, Entry, Reply};
@@ -57,9 +57,9 @@ fn act_with(heading: &Heading, verb: &[u8], object: &[u8], value: &[u8]) -> Opti
 }
 
 /// Returns what the word of a reply says.
-#[tactic(auto, unfolding(crate::specs::Entries::reply_of))]
-fn reply_of(word: &[u8]) -> Option<Reply>
-    ensures { result ≡ reply_of word.now }
+#[tactic(auto, unfolding(crate::specs::Entries::parse_reply))]
+fn parse_reply(word: &[u8]) -> Option<Reply>
+    ensures { result ≡ parse_reply word.now }
 {
     if word == b"done".as_slice() {
         return Some(Reply::Done);
@@ -87,7 +87,7 @@ fn entry_by(
     if equals != b"=".as_slice() {
         return None;
     }
-    let reply = reply_of(answer)?;
+    let reply = parse_reply(answer)?;
     Some(Entry { worker, act, reply })
 }
 

@@ -2,12 +2,12 @@
 #![tactic(auto)]
 
 mod entry;
+mod entry_sink;
 mod fault;
-mod fronts;
-mod history;
-mod key;
+mod line_cache;
 mod lines;
 mod opening;
+mod packed_bytes;
 mod read;
 mod reading_laws;
 mod short_words;
@@ -17,14 +17,14 @@ mod write;
 mod write_heading;
 
 pub use ec_heading::{
-    Group, HeadFault, Heading, LINE_MAX, Sort, Version, lines_have_an_outline, outline_lines_lead,
-    read_declaration_is_spelled, read_workers_are_spelled, semaphores_of,
+    DeclKind, Group, HeadFault, Heading, LINE_MAX, Version, lines_have_an_outline,
+    outline_lines_lead, read_declaration_is_spelled, read_workers_are_spelled, semaphores_of,
     spelled_declaration_is_read, spelled_workers_are_read,
 };
+pub use entry_sink::{AuditedWorld, EntrySink};
 pub use fault::TraceFault;
-pub use history::{History, Watched};
 pub use lines::Lines;
-pub use opening::{Opened, open_trace};
+pub use opening::{TraceOpening, open_trace};
 pub use read::{TRACE_MAX, read_entries, read_trace};
 pub use reading_laws::{
     entries_are_spelled, failed_read_has_no_fault, fault_of_the_whole, faults_of_entries,
@@ -35,6 +35,6 @@ pub use reading_laws::{
 pub use spell::Spellings;
 pub use traced::Traced;
 pub use write::{
-    LastNumbers, put_act, put_cell, put_entry, put_next_entry, put_reply, write_entry, write_trace,
+    DecimalCache, put_act, put_cell, put_entry, put_next_entry, put_reply, write_entry, write_trace,
 };
 pub use write_heading::put_heading;

@@ -1,10 +1,10 @@
 //! The lines of a text that comes in pieces.
 ghost use Rattle.std.specs.Prelude.{◌≡◌, ◌≤◌, ◌<◌, ◌+◌, [], ℕ, List, Option, IsTrue, IfOk, OnOk, IfErr, MatchResult, Ok, Err, true, false, length};
-ghost use Rattle.ec_trace.specs.Recounted.{Recounted};
+ghost use Rattle.ec_trace.specs.TraceModel.{TraceModel};
 ghost use Rattle.ec_trace.specs.Stages.{Stage, Ended};
 ghost use Rattle.ec_trace.specs.Step.{is_ended};
-ghost use Rattle.ec_trace.specs.Outcome.{outcome, Tells};
-ghost use Rattle.ec_trace.specs.Reading.{IsWithin, Refills, Stays, Begins, Reaches, HasLine, Holds, Goes, Comes};
+ghost use Rattle.ec_trace.specs.Outcome.{outcome, Returns};
+ghost use Rattle.ec_trace.specs.Reading.{IsWithin, Refills, Stays, Begins, Reaches, HasLine, ReadsPart, ReadsMore, ReadsLine};
 
 use crate::fault::TraceFault;
 use crate::read::TRACE_MAX;
@@ -37,9 +37,9 @@ pub struct Lines {
 impl Model for Lines {
     ghost use Rattle.std.specs.Prelude.{◌+◌, if◌then◌else◌};
     ghost use Rattle.std.specs.List.{slice_range};
-    ghost use Rattle.ec_trace.specs.Reading.{Reading, IsSound};
+    ghost use Rattle.ec_trace.specs.Reading.{LinesModel, IsSound};
 
-    ghost Value = { Reading };
+    ghost Value = { LinesModel };
 
     ghost view = { λ l. record { number = l.number; taken = l.before + l.from; line = if l.is_apart then l.apart.items else slice_range l.piece.items l.first l.last; part = l.apart.items; behind = slice_range l.piece.items l.from l.end; over = slice_range l.piece.items l.end l.read } };
 
@@ -112,7 +112,7 @@ impl Lines {
     fn hold(&mut self) -> Result<bool, TraceFault>
         ensures more { IfOk result (λ whole. whole ≡ true → (self.old.taken < self.new.taken) × (self.new.taken ≤ TRACE_MAX)) }
         ensures all { IfOk result (λ whole. whole ≡ false → (self.new.taken ≡ self.old.taken + length self.old.behind) × (self.new.taken ≤ TRACE_MAX) × (self.old.over ≡ []) × (self.new.behind ≡ []) × (self.new.over ≡ [])) }
-        ensures holds { (xs : List ℕ) (left : Option (List ℕ)) (s : Stage) → is_ended s ≡ false → Begins xs left self.old self.old.part s → Holds xs left self.new s result }
+        ensures holds { (xs : List ℕ) (left : Option (List ℕ)) (s : Stage) → is_ended s ≡ false → Begins xs left self.old self.old.part s → ReadsPart xs left self.new s result }
     {
         let piece = self.piece.as_slice();
         let bytes = &piece[self.from..self.end];
@@ -164,7 +164,7 @@ impl Lines {
         requires taken { self.old.behind ≡ [] }
         requires within { self.old.over ≡ [] }
         ensures more { OnOk result ((self.new.taken ≡ self.old.taken) × (0 < length self.new.behind + length self.new.over)) }
-        ensures goes { (xs : List ℕ) (s : Stage) → is_ended s ≡ false → Begins xs (R.remaining reader.old) self.old self.old.part s → Goes xs (R.remaining reader.new) self.new s result }
+        ensures goes { (xs : List ℕ) (s : Stage) → is_ended s ≡ false → Begins xs (R.remaining reader.old) self.old self.old.part s → ReadsMore xs (R.remaining reader.new) self.new s result }
     {
         match self.refill(reader) {
             Ok(true) => Ok(()),
@@ -178,7 +178,7 @@ impl Lines {
     #[inline(never)]
     fn next_over_pieces<R: Read>(&mut self, reader: &mut R) -> Result<(), TraceFault>
         ensures more { OnOk result ((self.old.taken < self.new.taken) × (self.new.taken ≤ TRACE_MAX)) }
-        ensures comes { (xs : List ℕ) (s : Stage) → is_ended s ≡ false → Reaches xs (R.remaining reader.old) self.old s → Comes xs (R.remaining reader.new) self.new s result }
+        ensures comes { (xs : List ℕ) (s : Stage) → is_ended s ≡ false → Reaches xs (R.remaining reader.old) self.old s → ReadsLine xs (R.remaining reader.new) self.new s result }
     {
         self.clear_part();
         loop {
@@ -211,7 +211,7 @@ impl Lines {
     #[inline(always)]
     pub(crate) fn next<R: Read>(&mut self, reader: &mut R) -> Result<(), TraceFault>
         ensures more { OnOk result ((self.old.taken < self.new.taken) × (self.new.taken ≤ TRACE_MAX)) }
-        ensures comes { (xs : List ℕ) (s : Stage) → is_ended s ≡ false → Reaches xs (R.remaining reader.old) self.old s → Comes xs (R.remaining reader.new) self.new s result }
+        ensures comes { (xs : List ℕ) (s : Stage) → is_ended s ≡ false → Reaches xs (R.remaining reader.old) self.old s → ReadsLine xs (R.remaining reader.new) self.new s result }
     {
         if self.find() {
             return Ok(());
@@ -231,8 +231,8 @@ impl Lines {
     #[cold]
     #[inline(never)]
     pub(crate) fn end<R: Read>(&mut self, reader: &mut R) -> Result<(), TraceFault>
-        ensures { (xs : List ℕ) (t : Recounted) → Reaches xs (R.remaining reader.old) self.old (Ended t)
-            → MatchResult result (λ _. outcome TRACE_MAX xs ≡ Ok t) (λ fault. Tells TRACE_MAX xs (R.remaining reader.new) (Err fault)) }
+        ensures { (xs : List ℕ) (t : TraceModel) → Reaches xs (R.remaining reader.old) self.old (Ended t)
+            → MatchResult result (λ _. outcome TRACE_MAX xs ≡ Ok t) (λ fault. Returns TRACE_MAX xs (R.remaining reader.new) (Err fault)) }
     {
         if !self.is_taken() {
             return Err(self.behind_the_end());
@@ -247,7 +247,7 @@ impl Lines {
     /// Returns why there may not be more behind the last line.
     fn behind_the_end(&self) -> TraceFault
         requires { 0 < length self.now.behind + length self.now.over }
-        ensures { (xs : List ℕ) (left : Option (List ℕ)) (t : Recounted) → Reaches xs left self.now (Ended t) → Tells TRACE_MAX xs left (Err result) }
+        ensures { (xs : List ℕ) (left : Option (List ℕ)) (t : TraceModel) → Reaches xs left self.now (Ended t) → Returns TRACE_MAX xs left (Err result) }
     {
         if self.from < self.end {
             TraceFault::BadLine(self.number + 1)

@@ -36,7 +36,7 @@ pub fn line_fault_is_the_first()
 {}
 
 /// States that the first faulty line, up to the bound of a text, gives the fault.
-#[tactic(auto, using(crate::proofs::FaultTold::first_fault_is_told))]
+#[tactic(auto, using(crate::proofs::ReportedFault::first_fault_is_told))]
 pub fn first_fault_is_told()
     ensures { FirstFaultIsTold }
 {}

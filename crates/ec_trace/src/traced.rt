@@ -14,9 +14,9 @@ pub struct Traced {
 
 impl Model for Traced {
     ghost use Rattle.std.specs.Prelude.{◌≡◌};
-    ghost use Rattle.ec_trace.specs.Recounted.{Recounted};
+    ghost use Rattle.ec_trace.specs.TraceModel.{TraceModel};
 
-    ghost Value = { Recounted };
+    ghost Value = { TraceModel };
 
     ghost view = { λ t. record { heading = t.heading; entries = t.run.entries } };
 
@@ -24,7 +24,7 @@ impl Model for Traced {
 }
 
 impl Traced {
-    ghost use Rattle.ec_trace.specs.Recounted.{trace_upgraded};
+    ghost use Rattle.ec_trace.specs.TraceModel.{upgrade_trace};
 
     /// Returns what the trace declares.
     pub fn heading(&self) -> &Heading
@@ -42,7 +42,7 @@ impl Traced {
 
     /// Returns the same trace under version 2.
     pub fn upgrade(self) -> Traced
-        ensures { result ≡ trace_upgraded self }
+        ensures { result ≡ upgrade_trace self }
     {
         let Traced { run, heading } = self;
         Traced {

@@ -1,10 +1,10 @@
 //! `evc`: a tool for histories of eventcounts and sequencers.
 #![tactic(auto)]
 
-use ec_text::Out;
+use ec_text::Output;
+use evc_cli::{status_of, task};
 use evc_engine::Status;
 use evc_scripts::engine;
-use evc_task::{status_of, task};
 use std::alloc::AllocError;
 use std::env;
 use std::io::ErrorKind;
@@ -13,7 +13,7 @@ use std::process::ExitCode;
 fn main(rt: HostRuntime) -> ExitCode {
     let alloc = rt.alloc();
     let mut stderr = rt.stderr();
-    let mut notes = Out::new(&mut stderr);
+    let mut notes = Output::new(&mut stderr);
     let words: Result<Vec<String>, AllocError> = match env::args(&rt) {
         Ok(args) => args.collect(alloc),
         Err(error) => {

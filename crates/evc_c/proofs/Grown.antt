@@ -1,7 +1,7 @@
 -- What a contract says of writers that held something at first, said of writers that held nothing.
 use Rattle.std.proofs.Common.{◌≡◌, inl, inr, ℕ, Bool, length, List, [], ◌++◌, Option, None, Some, codes, refl, sym, ap, ◌∙◌, take, append-nil, subst}
 use Rattle.std.specs.Io.KnownBytes.{Appends, Keeps}
-use Rattle.ec_text.specs.Puts.{AppendsPrefix, Outgoing, Puts, at_first, IsWrittenOut}
+use Rattle.ec_text.specs.Puts.{AppendsPrefix, OutputModel, Puts, at_first, IsWrittenOut}
 use Rattle.evc_engine.specs.declared.status.Status.TheVariants.{Done, Refused, Usage, InputOutput, Memory, Stopped}
 use Rattle.evc_engine.specs.Checks.{Checks, text_for}
 use Rattle.evc_engine.specs.Audits.{Audits}
@@ -34,12 +34,12 @@ fronted a c bs p = (p.0, p.3, (p.0, p.1, p.2, refl, p.4))
 -- THE COMMANDS
 
 -- what a command wrote stands behind what was there, and by itself it is what the command would have written if nothing was
-abbrev pub GrowsAt : {S O : Type 0} → (List ℕ → Outgoing → O) → ContractBy S O → List ℕ → Option (List ℕ) → S → (first last : Outgoing) → List ℕ → List ℕ
+abbrev pub GrowsAt : {S O : Type 0} → (List ℕ → OutputModel → O) → ContractBy S O → List ℕ → Option (List ℕ) → S → (first last : OutputModel) → List ℕ → List ℕ
     → Type 0
 GrowsAt outlets Does bytes left status first last a c = Grown a c (λ w. Does bytes left status (outlets [] first) (outlets w last))
 
-abbrev pub GrowsBy : {S O : Type 0} → (List ℕ → Outgoing → O) → ContractBy S O → Type 0
-GrowsBy {S} {O} outlets Does = (bytes : List ℕ) (left : Option (List ℕ)) (status : S) (first last : Outgoing) (a c : List ℕ)
+abbrev pub GrowsBy : {S O : Type 0} → (List ℕ → OutputModel → O) → ContractBy S O → Type 0
+GrowsBy {S} {O} outlets Does = (bytes : List ℕ) (left : Option (List ℕ)) (status : S) (first last : OutputModel) (a c : List ℕ)
     → Does bytes left status (outlets a first) (outlets c last) → GrowsAt outlets Does bytes left status first last a c
 
 abbrev pub Grows : Contract → Type 0
@@ -129,7 +129,7 @@ sim_grows bytes left Stopped first last a c p = absurd p
 
 -- HISTORIES OF CALLS
 
-text_grows : (status : calls.Status) (bytes : List ℕ) (first last : Outgoing) (a c : List ℕ)
+text_grows : (status : calls.Status) (bytes : List ℕ) (first last : OutputModel) (a c : List ℕ)
     → ChecksText status bytes (calls_outlets a first) (calls_outlets c last)
     → Grown a c (λ w. ChecksText status bytes (calls_outlets [] first) (calls_outlets w last))
 text_grows ends.InputOutput bytes first last a c p =
@@ -151,7 +151,7 @@ text_grows ends.NotDecided bytes first last a c p =
     let out = appended a c (texts_of p.0) p.2 in
     (out.0, out.1, (p.0, p.1, out.2))
 
-large_grows : (status : calls.Status) (bytes : List ℕ) (first last : Outgoing) (a c : List ℕ)
+large_grows : (status : calls.Status) (bytes : List ℕ) (first last : OutputModel) (a c : List ℕ)
     → IsTooLarge status bytes (calls_outlets a first) (calls_outlets c last)
     → Grown a c (λ w. IsTooLarge status bytes (calls_outlets [] first) (calls_outlets w last))
 large_grows ends.Refused bytes first last a c p =
@@ -163,7 +163,7 @@ large_grows ends.InputOutput bytes first last a c p = absurd p
 large_grows ends.Memory bytes first last a c p = absurd p
 large_grows ends.NotDecided bytes first last a c p = absurd p
 
-unread_grows : (status : calls.Status) (bytes : List ℕ) (left : Option (List ℕ)) (first last : Outgoing) (a c : List ℕ)
+unread_grows : (status : calls.Status) (bytes : List ℕ) (left : Option (List ℕ)) (first last : OutputModel) (a c : List ℕ)
     → IsNothingRead status bytes left (calls_outlets a first) (calls_outlets c last)
     → Grown a c (λ w. IsNothingRead status bytes left (calls_outlets [] first) (calls_outlets w last))
 unread_grows ends.InputOutput bytes left first last a c p =
@@ -197,8 +197,8 @@ grown r new w none e =
     let rest : take new.len new.bytes.now ≡ take r.len r.bytes.now ++ w = cc in
     (name, rest ∙ ap (λ (n : ℕ). take n r.bytes.now ++ w) none)
 
-pub fills : {S O : Type 0} (outlets : List ℕ → Outgoing → O) (Does : ContractBy S O) → GrowsBy outlets Does
-    → (bytes : List ℕ) (left : Option (List ℕ)) (status : S) (first last : Outgoing) (r new : Room)
+pub fills : {S O : Type 0} (outlets : List ℕ → OutputModel → O) (Does : ContractBy S O) → GrowsBy outlets Does
+    → (bytes : List ℕ) (left : Option (List ℕ)) (status : S) (first last : OutputModel) (r new : Room)
     → r.len ≡ 0 → Does bytes left status (outlets (room_holds r) first) (outlets (room_holds new) last) → (IsWrittenOut first → IsWrittenOut last)
     → FillsBy outlets Does bytes status r new first last
 fills outlets Does grows bytes left status first last r new empty p written =
@@ -212,7 +212,7 @@ fills outlets Does grows bytes left status first last r new empty p written =
     }
 
 -- where there was no memory before anything was read
-pub no_memory_fills : (bytes : List ℕ) (r : Room) (first last : Outgoing) → r.len ≡ 0 → Puts first last (codes "no memory\n")
+pub no_memory_fills : (bytes : List ℕ) (r : Room) (first last : OutputModel) → r.len ≡ 0 → Puts first last (codes "no memory\n")
     → IsWrittenOut last → FillsBy calls_outlets calls_checks.Checks bytes ends.Memory r r first last
 no_memory_fills bytes r first last empty puts written = record {
   same = refl;
@@ -222,25 +222,25 @@ no_memory_fills bytes r first last empty puts written = record {
 }
 
 -- and what is then answered, of the caller's bytes
-pub answers : {S O : Type 0} (code_of : S → ℕ) (outlets : List ℕ → Outgoing → O) (Does : ContractBy S O) (bytes : List ℕ) (status : S) (code given : ℕ) (is_cut : Bool) (many : ℕ)
-    (r new : Room) (writer : ℕ) (first last : Outgoing) (start noted text notes : List ℕ) (m n room : ℕ)
+pub answers : {S O : Type 0} (code_of : S → ℕ) (outlets : List ℕ → OutputModel → O) (Does : ContractBy S O) (bytes : List ℕ) (status : S) (code given : ℕ) (is_cut : Bool) (many : ℕ)
+    (r new : Room) (writer : ℕ) (first last : OutputModel) (start noted text notes : List ℕ) (m n room : ℕ)
     → FillsBy outlets Does bytes status r new first last → first ≡ at_first writer (Some start) → start ≡ [] → Some noted ≡ last.contents
     → text ≡ new.bytes.now → m ≡ new.len → IsCode code given is_cut many room → given ≡ code_of status → is_cut ≡ last.failed → many ≡ length noted → take n notes ≡ take room noted
     → AnswersBy code_of outlets Does bytes code (take m text) (take n notes) room
-answers code_of outlets Does bytes status code given is_cut many r new writer first last start noted text notes m n room f at none holds is len is_code by cut long told =
+answers code_of outlets Does bytes status code given is_cut many r new writer first last start noted text notes m n room f at none holds is len is_code by cut long returned =
     let e : first ≡ at_first writer (Some []) = at ∙ ap (λ (k : List ℕ). at_first writer (Some k)) none in
     let ends : Does bytes f.left status (outlets [] (at_first writer (Some []))) (outlets (take new.len new.bytes.now) last)
-    = subst (λ (o : Outgoing). Does bytes f.left status (outlets [] o) (outlets (take new.len new.bytes.now) last)) e f.ends in
+    = subst (λ (o : OutputModel). Does bytes f.left status (outlets [] o) (outlets (take new.len new.bytes.now) last)) e f.ends in
     record {
       status = status;
       left = f.left;
       writer = writer;
       last = last;
       ends = subst (λ (w : List ℕ). Does bytes f.left status (outlets [] (at_first writer (Some []))) (outlets w last)) (sym (ap (λ (k : ℕ). take k text) len ∙ ap (take new.len) is)) ends;
-      written = subst (λ (o : Outgoing). IsWrittenOut o → IsWrittenOut last) e f.written (λ _. refl);
+      written = subst (λ (o : OutputModel). IsWrittenOut o → IsWrittenOut last) e f.written (λ _. refl);
       noted = noted;
       holds = sym holds;
-      told = told;
+      returned = returned;
       is = subst (λ (k : ℕ). IsCode code (code_of status) last.failed k room) long
           (subst (λ (b : Bool). IsCode code (code_of status) b many room) cut (subst (λ (k : ℕ). IsCode code k is_cut many room) by is_code));
     }

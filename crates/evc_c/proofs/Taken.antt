@@ -1,7 +1,7 @@
 -- What follows of the lines that a monitor has taken.
 use Rattle.std.proofs.Common.{◌≡◌, refl, sym, ap, subst, ◌∙◌, ℕ, List, [], ◌∷◌, ◌++◌, take, Some}
 use Rattle.std.proofs.Common.{Result, Ok, Err}
-use Rattle.ec_text.specs.Puts.{Outgoing, at_first, IsWrittenOut}
+use Rattle.ec_text.specs.Puts.{OutputModel, at_first, IsWrittenOut}
 use Rattle.calls_report.specs.declared.status.Status.{Status}
 use Rattle.calls_watch.specs.declared.stop.Stop.{Stop}
 use Rattle.calls_watch.specs.declared.watcher.Watcher.{Watcher}
@@ -48,22 +48,22 @@ is_stopped lines line old new result stop leads err taken q qs =
     subst (λ (ps : List (List ℕ)). Stops stop ps new) (one_more lines line rest) is
 
 -- what is handed out of a note
-pub said : (m : Monitor) (stop : Stop) (status : Status) (writer room : ℕ) (first last : Outgoing)
+pub said : (m : Monitor) (stop : Stop) (status : Status) (writer room : ℕ) (first last : OutputModel)
     (start held note : List ℕ) → m.stage ≡ Stopped stop
     → ((ps : List (List ℕ)) → Stops stop ps m.watcher → SaysStop ps status first last)
     → IsWrittenOut last
     → first ≡ at_first writer (Some start) → start ≡ [] → Some held ≡ last.contents
     → note ≡ take room held → IsNoteOf m room note
-said m stop status writer room first last start held note at says written is none holds told =
+said m stop status writer room first last start held note at says written is none holds returned =
     let e : first ≡ at_first writer (Some []) = is ∙ ap (λ (k : List ℕ). at_first writer
     (Some k)) none in
     subst (λ (stage : Stage). IsNoteAt stage m.watcher room note) (sym at) (λ ps stops. record {
       status = status;
       writer = writer;
       last = last;
-      says = subst (λ (o : Outgoing). SaysStop ps status o last) e (says ps stops);
+      says = subst (λ (o : OutputModel). SaysStop ps status o last) e (says ps stops);
       written = written;
       noted = held;
       holds = sym holds;
-      told = told;
+      returned = returned;
     })

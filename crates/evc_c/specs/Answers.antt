@@ -1,6 +1,6 @@
 -- What a call answered and wrote, for the bytes that it was given.
 use Rattle.std.specs.Prelude.{◌≡◌, ◌≤◌, ◌<◌, ◌⊎◌, ℕ, Bool, true, List, [], length, take, Option, Some}
-use Rattle.ec_text.specs.Puts.{Outgoing, at_first, IsWrittenOut}
+use Rattle.ec_text.specs.Puts.{OutputModel, at_first, IsWrittenOut}
 use Rattle.evc_engine.specs.declared.status.Status as evc
 use Rattle.evc_engine.specs.Statuses as evc_statuses
 use Rattle.evc_engine.specs.Checks as evc_checks
@@ -20,23 +20,23 @@ IsCode code given is_cut many room =
 
 -- for these bytes the command ended with this status, if at first nothing was written and no note waited; this text was written, and
 -- of its notes their writer holds these: all of them, or as much of them as the caller has room for, or the code is 4
-pub record AnswersBy {S O : Type 0} (code_of : S → ℕ) (outlets : List ℕ → Outgoing → O) (Does : ContractBy S O) (bytes : List ℕ) (code : ℕ)
+pub record AnswersBy {S O : Type 0} (code_of : S → ℕ) (outlets : List ℕ → OutputModel → O) (Does : ContractBy S O) (bytes : List ℕ) (code : ℕ)
     (text notes : List ℕ) (room : ℕ) : Type 0 where
   pub status : S
   pub left : Option (List ℕ)
   pub writer : ℕ
-  pub last : Outgoing
+  pub last : OutputModel
   pub ends : Does bytes left status (outlets [] (at_first writer (Some []))) (outlets text last)
   pub written : IsWrittenOut last
   pub noted : List ℕ
   pub holds : last.contents ≡ Some noted
-  pub told : notes ≡ take room noted
+  pub returned : notes ≡ take room noted
   pub is : IsCode code (code_of status) last.failed (length noted) room
 
 -- COMMANDS ON TRACES AND SCRIPTS
 
 -- a writer of the text that holds these bytes, and these notes
-abbrev pub outlets : List ℕ → Outgoing → evc_checks.Outlets
+abbrev pub outlets : List ℕ → OutputModel → evc_checks.Outlets
 outlets text notes = record { out = Some text; notes = notes }
 
 abbrev pub Contract : Type 1
@@ -47,7 +47,7 @@ Answers Does bytes code text notes room = AnswersBy evc_statuses.status_code out
 
 -- HISTORIES OF CALLS
 
-abbrev pub calls_outlets : List ℕ → Outgoing → calls_checks.Outlets
+abbrev pub calls_outlets : List ℕ → OutputModel → calls_checks.Outlets
 calls_outlets text notes = record { out = Some text; notes = notes }
 
 abbrev pub CallsAnswers : List ℕ → ℕ → List ℕ → List ℕ → ℕ → Type 0

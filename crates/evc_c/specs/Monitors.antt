@@ -1,7 +1,7 @@
 -- Histories of calls that are judged line by line: what a monitor represents, and what a call on it
 -- does.
 use Rattle.std.specs.Prelude.{◌≡◌, ◌≤◌, ℕ, List, [], ◌∷◌, ◌++◌, length, take, drop, Some}
-use Rattle.ec_text.specs.Puts.{Outgoing, at_first, IsWrittenOut}
+use Rattle.ec_text.specs.Puts.{OutputModel, at_first, IsWrittenOut}
 use Rattle.calls_text.specs.declared.fault.TextFault.TheVariants as faults
 use Rattle.calls_report.specs.declared.status.Status.{Status}
 use Rattle.calls_report.specs.declared.status.Status.TheVariants.{Done, Refused, Usage, Memory}
@@ -97,18 +97,19 @@ EndsText code old new = (status : Status) × (code ≡ status_code status)
 -- NOTES
 
 -- of the note that is written of a text with these parts this is as much as there is room for
-pub record IsSaid (ps : List (List ℕ)) (room : ℕ) (note : List ℕ) : Type 0 where
+pub record IsNotePrefix (ps : List (List ℕ)) (room : ℕ) (note : List ℕ) : Type 0 where
   pub status : Status
   pub writer : ℕ
-  pub last : Outgoing
+  pub last : OutputModel
   pub says : SaysStop ps status (at_first writer (Some [])) last
   pub written : IsWrittenOut last
   pub noted : List ℕ
   pub holds : last.contents ≡ Some noted
-  pub told : note ≡ take room noted
+  pub returned : note ≡ take room noted
 
 abbrev pub IsNoteAt : Stage → Watcher → ℕ → List ℕ → Type 0
-IsNoteAt (Stopped stop) w room note = (ps : List (List ℕ)) → Stops stop ps w → IsSaid ps room note
+IsNoteAt (Stopped stop) w room note = (ps : List (List ℕ)) → Stops stop ps w
+    → IsNotePrefix ps room note
 IsNoteAt _ w room note = note ≡ []
 
 abbrev pub IsNoteOf : Monitor → ℕ → List ℕ → Type 0

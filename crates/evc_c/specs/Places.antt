@@ -13,8 +13,8 @@ abbrev pub monitor_size : ℕ
 monitor_size = size (lone the_row.mir)
 
 -- so many bytes the header tells: 1024 words of 8 bytes
-abbrev pub room_told : ℕ
-room_told = 1024 * 8
+abbrev pub room_size : ℕ
+room_size = 1024 * 8
 
 -- here is room for a monitor
 abbrev pub room_for_monitor : Ptr → Fml

@@ -1,6 +1,6 @@
 -- The caller's bytes, as a writer.
 use Rattle.std.specs.Prelude.{◌≡◌, ℕ, List, [], ◌∷◌, take, Option}
-use Rattle.ec_text.specs.Puts.{Outgoing, IsWrittenOut}
+use Rattle.ec_text.specs.Puts.{OutputModel, IsWrittenOut}
 use Rattle.evc_engine.specs.declared.status.Status as evc
 use Rattle.calls_report.specs.declared.status.Status as calls
 use Rattle.calls_report.specs.Checks.{Checks}
@@ -13,15 +13,15 @@ room_holds r = r.bytes.ghost_name ∷ take r.len r.bytes.now
 
 -- what a command did to a room in which nothing had been written, and to the notes: it is the same room, and what is written in it is
 -- what the command writes; and no note waits, if none waited
-pub record FillsBy {S O : Type 0} (outlets : List ℕ → Outgoing → O) (Does : ContractBy S O) (bytes : List ℕ) (status : S) (r new : Room)
-    (first last : Outgoing) : Type 0 where
+pub record FillsBy {S O : Type 0} (outlets : List ℕ → OutputModel → O) (Does : ContractBy S O) (bytes : List ℕ) (status : S) (r new : Room)
+    (first last : OutputModel) : Type 0 where
   pub same : new.bytes.ghost_name ≡ r.bytes.ghost_name
   pub left : Option (List ℕ)
   pub ends : Does bytes left status (outlets [] first) (outlets (take new.len new.bytes.now) last)
   pub written : IsWrittenOut first → IsWrittenOut last
 
-abbrev pub Fills : Contract → List ℕ → evc.Status → Room → Room → Outgoing → Outgoing → Type 0
+abbrev pub Fills : Contract → List ℕ → evc.Status → Room → Room → OutputModel → OutputModel → Type 0
 Fills Does bytes status r new first last = FillsBy outlets Does bytes status r new first last
 
-abbrev pub CallsFills : List ℕ → calls.Status → Room → Room → Outgoing → Outgoing → Type 0
+abbrev pub CallsFills : List ℕ → calls.Status → Room → Room → OutputModel → OutputModel → Type 0
 CallsFills bytes status r new first last = FillsBy calls_outlets Checks bytes status r new first last

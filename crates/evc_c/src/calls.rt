@@ -10,10 +10,10 @@ ghost use Rattle.evc_c.specs.Versions.{IsVersionOf};
 
 use crate::room::{NotesRoom, Room, put_front};
 use arrayvec::ArrayVec;
-use ec_text::Out;
+use ec_text::Output;
+use evc_cli::VERSION;
 use evc_engine::{Status, audit, check, upgrade};
 use evc_scripts::sim;
-use evc_task::VERSION;
 use std::alloc::Global;
 
 /// The bytes of notes for which a call on a trace or a script has room. The notes of such a call have less
@@ -31,15 +31,15 @@ pub struct EvcWritten {
 }
 
 /// Tells how much stands in a room, and hands out as much of the notes as there is room for.
-fn hand_out(out: &Room<'_>, told: &[u8], notes: &mut [u8], written: &mut EvcWritten)
+fn write_lengths(out: &Room<'_>, returned: &[u8], notes: &mut [u8], written: &mut EvcWritten)
     ensures text { written.new.text ≡ out.now.len }
     ensures within { written.new.notes ≤ length notes.new }
     ensures long { length notes.new ≡ length notes.old }
-    ensures notes { take written.new.notes notes.new ≡ take (length notes.old) told.now }
+    ensures notes { take written.new.notes notes.new ≡ take (length notes.old) returned.now }
     ensures rest { drop written.new.notes notes.new ≡ drop written.new.notes notes.old }
 {
     written.text = out.len;
-    written.notes = put_front(notes, told);
+    written.notes = put_front(notes, returned);
 }
 
 /// Returns a status as the caller gets it: 4 if notes were cut off before the caller's room for them
@@ -56,7 +56,7 @@ fn check_bytes(
     alloc: Global,
     trace: &[u8],
     out: &mut Room<'_>,
-    notes: &mut Out<'_, Noted>,
+    notes: &mut Output<'_, Noted>,
 ) -> Status
     requires { out.old.len ≡ 0 }
     ensures same { out.new.bytes.ghost_name ≡ out.old.bytes.ghost_name }
@@ -85,12 +85,12 @@ pub extern "C" fn evc_check(
 {
     let mut out = Room::new(text);
     let mut bytes = Noted::new();
-    let mut told = Out::new(&mut bytes);
-    let status = check_bytes(alloc, trace, &mut out, &mut told);
-    let is_cut = told.has_failed();
-    let noted = told.into_writer().as_slice();
+    let mut returned = Output::new(&mut bytes);
+    let status = check_bytes(alloc, trace, &mut out, &mut returned);
+    let is_cut = returned.has_failed();
+    let noted = returned.into_writer().as_slice();
     let code = code_for(status.code(), is_cut, noted.len(), notes.len());
-    hand_out(&out, noted, notes, written);
+    write_lengths(&out, noted, notes, written);
     code
 }
 
@@ -100,7 +100,7 @@ fn audit_bytes(
     alloc: Global,
     trace: &[u8],
     out: &mut Room<'_>,
-    notes: &mut Out<'_, Noted>,
+    notes: &mut Output<'_, Noted>,
 ) -> Status
     requires { out.old.len ≡ 0 }
     ensures same { out.new.bytes.ghost_name ≡ out.old.bytes.ghost_name }
@@ -127,12 +127,12 @@ pub extern "C" fn evc_audit(
 {
     let mut out = Room::new(text);
     let mut bytes = Noted::new();
-    let mut told = Out::new(&mut bytes);
-    let status = audit_bytes(alloc, trace, &mut out, &mut told);
-    let is_cut = told.has_failed();
-    let noted = told.into_writer().as_slice();
+    let mut returned = Output::new(&mut bytes);
+    let status = audit_bytes(alloc, trace, &mut out, &mut returned);
+    let is_cut = returned.has_failed();
+    let noted = returned.into_writer().as_slice();
     let code = code_for(status.code(), is_cut, noted.len(), notes.len());
-    hand_out(&out, noted, notes, written);
+    write_lengths(&out, noted, notes, written);
     code
 }
 
@@ -142,7 +142,7 @@ fn upgrade_bytes(
     alloc: Global,
     trace: &[u8],
     out: &mut Room<'_>,
-    notes: &mut Out<'_, Noted>,
+    notes: &mut Output<'_, Noted>,
 ) -> Status
     requires { out.old.len ≡ 0 }
     ensures same { out.new.bytes.ghost_name ≡ out.old.bytes.ghost_name }
@@ -169,18 +169,23 @@ pub extern "C" fn evc_upgrade(
 {
     let mut out = Room::new(text);
     let mut bytes = Noted::new();
-    let mut told = Out::new(&mut bytes);
-    let status = upgrade_bytes(alloc, trace, &mut out, &mut told);
-    let is_cut = told.has_failed();
-    let noted = told.into_writer().as_slice();
+    let mut returned = Output::new(&mut bytes);
+    let status = upgrade_bytes(alloc, trace, &mut out, &mut returned);
+    let is_cut = returned.has_failed();
+    let noted = returned.into_writer().as_slice();
     let code = code_for(status.code(), is_cut, noted.len(), notes.len());
-    hand_out(&out, noted, notes, written);
+    write_lengths(&out, noted, notes, written);
     code
 }
 
 /// Does `sim` of bytes, into a room.
 #[tactic(auto, using(crate::proofs::Grown::sim_grows, crate::proofs::Grown::fills))]
-fn sim_bytes(alloc: Global, script: &[u8], out: &mut Room<'_>, notes: &mut Out<'_, Noted>) -> Status
+fn sim_bytes(
+    alloc: Global,
+    script: &[u8],
+    out: &mut Room<'_>,
+    notes: &mut Output<'_, Noted>,
+) -> Status
     requires { out.old.len ≡ 0 }
     ensures same { out.new.bytes.ghost_name ≡ out.old.bytes.ghost_name }
     ensures fills { Fills Sims script.now result out.old out.new notes.old notes.new }
@@ -206,12 +211,12 @@ pub extern "C" fn evc_sim(
 {
     let mut out = Room::new(text);
     let mut bytes = Noted::new();
-    let mut told = Out::new(&mut bytes);
-    let status = sim_bytes(alloc, script, &mut out, &mut told);
-    let is_cut = told.has_failed();
-    let noted = told.into_writer().as_slice();
+    let mut returned = Output::new(&mut bytes);
+    let status = sim_bytes(alloc, script, &mut out, &mut returned);
+    let is_cut = returned.has_failed();
+    let noted = returned.into_writer().as_slice();
     let code = code_for(status.code(), is_cut, noted.len(), notes.len());
-    hand_out(&out, noted, notes, written);
+    write_lengths(&out, noted, notes, written);
     code
 }
 
@@ -220,7 +225,7 @@ fn calls_check_bytes(
     alloc: Global,
     calls: &[u8],
     out: &mut Room<'_>,
-    notes: &mut Out<'_, NotesRoom>,
+    notes: &mut Output<'_, NotesRoom>,
 ) -> calls_report::Status
     requires { out.old.len ≡ 0 }
     ensures same { out.new.bytes.ghost_name ≡ out.old.bytes.ghost_name }
@@ -231,10 +236,10 @@ fn calls_check_bytes(
 }
 
 /// Says that there was no memory before anything was read.
-fn say_no_memory(
+fn report_no_memory(
     calls: &[u8],
     out: &mut Room<'_>,
-    notes: &mut Out<'_, Noted>,
+    notes: &mut Output<'_, Noted>,
 ) -> calls_report::Status
     requires { out.old.len ≡ 0 }
     ensures same { out.new.bytes.ghost_name ≡ out.old.bytes.ghost_name }
@@ -254,12 +259,12 @@ fn answer_no_memory(calls: &[u8], text: &mut [u8], notes: &mut [u8], written: &m
 {
     let mut out = Room::new(text);
     let mut bytes = Noted::new();
-    let mut told = Out::new(&mut bytes);
-    let status = say_no_memory(calls, &mut out, &mut told);
-    let is_cut = told.has_failed();
-    let noted = told.into_writer().as_slice();
+    let mut returned = Output::new(&mut bytes);
+    let status = report_no_memory(calls, &mut out, &mut returned);
+    let is_cut = returned.has_failed();
+    let noted = returned.into_writer().as_slice();
     let code = code_for(status.code(), is_cut, noted.len(), notes.len());
-    hand_out(&out, noted, notes, written);
+    write_lengths(&out, noted, notes, written);
     code
 }
 
@@ -285,12 +290,12 @@ pub extern "C" fn evc_calls_check(
         return answer_no_memory(calls, text, notes, written);
     };
     let mut out = Room::new(text);
-    let mut told = Out::new(&mut bytes);
-    let status = calls_check_bytes(alloc, calls, &mut out, &mut told);
-    let is_cut = told.has_failed();
-    let noted = told.into_writer().as_slice();
+    let mut returned = Output::new(&mut bytes);
+    let status = calls_check_bytes(alloc, calls, &mut out, &mut returned);
+    let is_cut = returned.has_failed();
+    let noted = returned.into_writer().as_slice();
     let code = code_for(status.code(), is_cut, noted.len(), notes.len());
-    hand_out(&out, noted, notes, written);
+    write_lengths(&out, noted, notes, written);
     code
 }
 
@@ -299,7 +304,7 @@ pub extern "C" fn evc_calls_check(
 #[unsafe(no_mangle)]
 pub extern "C" fn evc_version() -> u32
     ensures value { result ≡ 2 }
-    ensures told { IsVersionOf VERSION.now result }
+    ensures returned { IsVersionOf VERSION.now result }
 {
     2
 }

@@ -9,8 +9,8 @@ use crate::room::put_front;
 use arrayvec::ArrayVec;
 use calls_report::Status;
 use calls_text::TextFault;
-use calls_watch::{Stop, Watcher, say_stop};
-use ec_text::Out;
+use calls_watch::{Stop, Watcher, report_stop};
+use ec_text::Output;
 use std::alloc::Global;
 
 /// The note on what stopped a monitor.
@@ -155,9 +155,9 @@ impl Monitor {
             return 0;
         };
         let mut bytes = Noted::new();
-        let mut told = Out::new(&mut bytes);
-        say_stop(&self.watcher, stop, &mut told);
-        put_front(room, told.into_writer().as_slice())
+        let mut returned = Output::new(&mut bytes);
+        report_stop(&self.watcher, stop, &mut returned);
+        put_front(room, returned.into_writer().as_slice())
     }
 
     /// Tells how many calls came, and how far they overlap.

@@ -7,7 +7,7 @@ ghost use Rattle.std.specs.Borrow.{sem};
 ghost use Rattle.evc_c.specs.declared.monitor.Monitor.{Monitor};
 ghost use Rattle.evc_c.specs.Monitors.{IsOpen, TakesLine, EndsText, TellsNote, TellsLoad};
 ghost use Rattle.evc_c.specs.Monitors.{IsClosed};
-ghost use Rattle.evc_c.specs.Places.{monitor_size, room_told, room_for_monitor, monitor_at};
+ghost use Rattle.evc_c.specs.Places.{monitor_size, room_size, room_for_monitor, monitor_at};
 
 use crate::monitor::{EvcLoad, Monitor};
 use std::alloc::Global;
@@ -17,7 +17,7 @@ use std::mem::size_of;
 #[unsafe(no_mangle)]
 pub extern "C" fn evc_monitor_size() -> usize
     ensures size { result ≡ monitor_size }
-    ensures fits { result ≤ room_told }
+    ensures fits { result ≤ room_size }
 {
     size_of::<Monitor>()
 }

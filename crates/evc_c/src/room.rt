@@ -27,12 +27,12 @@ impl<'a> Room<'a> {
 }
 
 /// Puts as much of bytes as there is room for behind the first `at`, and tells how much.
-pub(crate) fn put_at(room: &mut [u8], at: usize, bytes: &[u8]) -> usize
+pub(crate) fn put_after(room: &mut [u8], at: usize, bytes: &[u8]) -> usize
     requires { at ≤ length room.old }
     ensures count { result ≡ min (length bytes.now) (length room.old - at) }
     ensures len { length room.new ≡ length room.old }
     ensures rest { drop (at + result) room.new ≡ drop (at + result) room.old }
-    ensures front { take (at + result) room.new ≡ take at room.old ++ take result bytes.now }
+    ensures prefix { take (at + result) room.new ≡ take at room.old ++ take result bytes.now }
 {
     let n = bytes.len().min(room.len() - at);
     room[at..at + n].copy_from_slice(&bytes[..n]);
@@ -43,10 +43,10 @@ pub(crate) fn put_at(room: &mut [u8], at: usize, bytes: &[u8]) -> usize
 pub(crate) fn put_front(room: &mut [u8], bytes: &[u8]) -> usize
     ensures within { result ≤ length room.new }
     ensures len { length room.new ≡ length room.old }
-    ensures front { take result room.new ≡ take (length room.old) bytes.now }
+    ensures prefix { take result room.new ≡ take (length room.old) bytes.now }
     ensures rest { drop result room.new ≡ drop result room.old }
 {
-    put_at(room, 0, bytes)
+    put_after(room, 0, bytes)
 }
 
 impl Write for Room<'_> {
@@ -58,7 +58,7 @@ impl Write for Room<'_> {
             (Some (self.new.bytes.ghost_name ∷ take self.new.len self.new.bytes.now)) result buf.now }
         ensures ok { IsOk result }
     {
-        let n = put_at(self.bytes, self.len, buf);
+        let n = put_after(self.bytes, self.len, buf);
         self.len += n;
         Ok(n)
     }

@@ -5,8 +5,8 @@ use calls_extract::extract_calls;
 use calls_replay::replay_calls;
 use calls_report::{Status, check};
 use calls_watch::watch;
-use ec_text::Out;
-use evc_calls_task::{Action, Error, Task, status_of, task};
+use ec_text::Output;
+use evc_calls_cli::{Action, Error, Task, status_of, task};
 use std::alloc::AllocError;
 use std::io::{Read, Write};
 use std::process::ExitCode;
@@ -17,7 +17,7 @@ fn run<R: Read, N: Write>(
     rt: &HostRuntime,
     action: Action,
     reader: &mut R,
-    notes: &mut Out<'_, N>,
+    notes: &mut Output<'_, N>,
 ) -> u8 {
     let alloc = rt.alloc();
     match action {
@@ -29,7 +29,7 @@ fn run<R: Read, N: Write>(
 }
 
 /// Does what is asked with a file, or with standard input, and returns the exit status.
-fn run_task<N: Write>(rt: &HostRuntime, task: Task<'_>, notes: &mut Out<'_, N>) -> u8 {
+fn run_task<N: Write>(rt: &HostRuntime, task: Task<'_>, notes: &mut Output<'_, N>) -> u8 {
     let Some(path) = task.file else {
         return run(rt, task.action, &mut rt.stdin(), notes);
     };
@@ -45,7 +45,7 @@ fn run_task<N: Write>(rt: &HostRuntime, task: Task<'_>, notes: &mut Out<'_, N>) 
 }
 
 /// Writes what the command line gave in place of a task, and returns the exit status.
-fn end_by<N: Write>(rt: &HostRuntime, error: &Error, notes: &mut Out<'_, N>) -> u8 {
+fn end_by<N: Write>(rt: &HostRuntime, error: &Error, notes: &mut Output<'_, N>) -> u8 {
     // (help goes to standard output, and that a note could not be written is not reported)
     if error.print(rt).is_err() && !error.use_stderr() {
         notes.say(b"write fault\n");
@@ -57,7 +57,7 @@ fn end_by<N: Write>(rt: &HostRuntime, error: &Error, notes: &mut Out<'_, N>) -> 
 fn main(rt: HostRuntime) -> ExitCode {
     let alloc = rt.alloc();
     let mut stderr = rt.stderr();
-    let mut notes = Out::new(&mut stderr);
+    let mut notes = Output::new(&mut stderr);
     let words: Result<Vec<String>, AllocError> = match env::args(&rt) {
         Ok(args) => args.collect(alloc),
         Err(error) => {

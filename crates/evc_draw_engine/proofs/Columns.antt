@@ -4,7 +4,7 @@ use Rattle.std.specs.Prelude.{nat_lt}
 use Rattle.std.proofs.lemmas.Bool.Decides.{nat_tests}
 use Rattle.std.proofs.lemmas.Int.{clamps}
 use Rattle.ec_draw.specs.declared.window.TheConstants.{COLUMNS_MAX}
-use Rattle.evc_draw_task.specs.declared.choice.Range.{Range}
+use Rattle.evc_draw_cli.specs.declared.choice.Range.{Range}
 use Rattle.evc_draw_engine.specs.Windows.{is_wide, window_for}
 
 -- the last column is shown if the range has its position

@@ -7,7 +7,7 @@ use Rattle.std.specs.Io.KnownBytes.{Appends, Keeps}
 use Rattle.std.specs.List.{starts_with}
 use Rattle.ec_text.specs.Puts.{AppendsPrefix}
 use Rattle.ec_text.specs.Inputs.{looked_at, IsCutOff}
-use Rattle.ec_trace.specs.Recounted.{Recounted}
+use Rattle.ec_trace.specs.TraceModel.{TraceModel}
 use Rattle.ec_trace.specs.Outcome.{outcome}
 use Rattle.ec_trace.specs.declared.fault.TraceFault.{TraceFault}
 use Rattle.ec_trace.specs.declared.fault.TraceFault.TheVariants as faults
@@ -30,7 +30,7 @@ use Rattle.evc_draw_engine.specs.Windows.{cut_note, empty_note, is_empty, is_who
 use Rattle.evc_draw_engine.specs.Windows.{window_on}
 
 -- the shapes of a trace, of which so many columns are drawn
-abbrev pub shapes_for : View → Recounted → ℕ → Shapes
+abbrev pub shapes_for : View → TraceModel → ℕ → Shapes
 shapes_for v t n = shapes t.heading.setup t.heading.groups (window_for v.range n) t.entries
 
 -- whether a text is one of histories of calls, by its first line
@@ -39,7 +39,7 @@ is_calls text = starts_with nat_eq text (codes "evc-calls 1\n")
 
 -- how many columns there are: one for each entry; and up to a faulty line one for it, whether it
 -- has an entry or not
-abbrev pub columns_for : Recounted → Option Note → ℕ
+abbrev pub columns_for : TraceModel → Option Note → ℕ
 columns_for t None = length t.entries
 columns_for t (Some n) = position_in (right_of n.fault) (length t.entries) + 1
 
@@ -52,7 +52,7 @@ WrotePrefix old new = (bytes : List ℕ) × AppendsPrefix old new bytes
 
 -- nothing can be drawn of what was asked for, and the note says so: names stand for none, or no
 -- entry is in the window
-abbrev pub TellsUsage : View → Recounted → Outlets → Outlets → Type 0
+abbrev pub TellsUsage : View → TraceModel → Outlets → Outlets → Type 0
 TellsUsage v t old new =
     ((has_unknown v.choice t.heading.words ≡ true)
     × Notes old new (unknown_notes v.choice t.heading.words))
@@ -60,19 +60,19 @@ TellsUsage v t old new =
     × Notes old new (empty_note v.range (length t.entries)))
 
 -- each name is declared, and some entry is in the range, or none is asked for
-abbrev pub IsDrawable : View → Recounted → Type 0
+abbrev pub IsDrawable : View → TraceModel → Type 0
 IsDrawable v t = (has_unknown v.choice t.heading.words ≡ false)
     × (is_empty v.range (length t.entries) ≡ false)
 
 -- a note says that only the last entries are drawn, if the range has more than a picture has;
 -- else there is none
-abbrev pub TellsCut : View → Recounted → Outlets → Outlets → Type 0
+abbrev pub TellsCut : View → TraceModel → Outlets → Outlets → Type 0
 TellsCut v t old new =
     ((is_wide (window_on v.range (length t.entries)) ≡ false) × KeepsNotes old new)
     ⊎ ((is_wide (window_on v.range (length t.entries)) ≡ true) × Notes old new cut_note)
 
 -- how the writing of the picture of a trace ended
-abbrev pub Drawn : View → Recounted → Status → Outlets → Outlets → Type 0
+abbrev pub Drawn : View → TraceModel → Status → Outlets → Outlets → Type 0
 Drawn v t Done old new = IsDrawable v t × Wrote old.out new.out × TellsCut v t old new
 Drawn v t InputOutput old new = IsDrawable v t × WrotePrefix old.out new.out
     × Notes old new (codes "write fault\n")
@@ -86,15 +86,15 @@ Drawn v t Stopped old new = ⊥
 -- the history that is drawn of a text that is refused: that of the lines before the faulty one, and
 -- of that line with its right reply if its reply alone is wrong; none if the fault has no
 -- line, or where no run had begun there
-abbrev pub history_at : List ℕ → TraceFault → Option ℕ → Option Recounted
+abbrev pub history_at : List ℕ → TraceFault → Option ℕ → Option TraceModel
 history_at text fault None = None
 history_at text fault (Some n) = history n (right_of fault) text
 
-abbrev pub story : List ℕ → TraceFault → Option Recounted
+abbrev pub story : List ℕ → TraceFault → Option TraceModel
 story text fault = history_at text fault (fault_line fault)
 
 -- how the telling of a fault of a text ended, if this is the history up to there
-abbrev pub TellsFault : Option Recounted → TraceFault → Status → Outlets → Outlets → Type 0
+abbrev pub TellsFault : Option TraceModel → TraceFault → Status → Outlets → Outlets → Type 0
 TellsFault None fault Refused old new = Keeps old.out new.out × Notes old new (fault_note fault)
 TellsFault (Some t) fault Refused old new = Wrote old.out new.out × Notes old new (fault_note fault)
 TellsFault None fault InputOutput old new = ⊥
@@ -115,11 +115,11 @@ RefusedOr text fault = RefusedFor text fault
 pub record Refuses (text : List ℕ) (status : Status) (old new : Outlets) : Type 0 where
   pub fault : TraceFault
   pub refused : RefusedFor text fault
-  pub told : TellsFault (story text fault) fault status old new
+  pub returned : TellsFault (story text fault) fault status old new
 
 -- no line of a text is at fault, as far as it goes
 abbrev pub HasNoFaultYet : List ℕ → Type 0
-HasNoFaultYet text = ((t : Recounted) × (outcome TRACE_MAX text ≡ Ok t))
+HasNoFaultYet text = ((t : TraceModel) × (outcome TRACE_MAX text ≡ Ok t))
     ⊎ (outcome TRACE_MAX text ≡ Err faults.Unfinished)
 
 -- a fault that a text has whatever follows it
@@ -133,8 +133,8 @@ CutOffFault text None = HasNoFaultYet text
 CutOffFault text (Some fault) = IsLasting fault × RefusedOr text fault
 
 -- memory was refused, and nothing was written
-abbrev pub Wants : Outlets → Outlets → Type 0
-Wants old new = Keeps old.out new.out × Notes old new (codes "no memory\n")
+abbrev pub IsOutOfMemory : Outlets → Outlets → Type 0
+IsOutOfMemory old new = Keeps old.out new.out × Notes old new (codes "no memory\n")
 
 -- how the program ended with a trace that was read to its end: its picture was written, or it has
 -- none of the entries that were asked for, or not the names that were chosen, and that is said; or
@@ -142,21 +142,21 @@ Wants old new = Keeps old.out new.out × Notes old new (codes "no memory\n")
 -- want of memory is told
 abbrev pub DrawsTrace : View → List ℕ → Status → Outlets → Outlets → Type 0
 DrawsTrace v text status old new =
-    ((status ≡ Memory) × Wants old new)
-    ⊎ (((t : Recounted) × ReadsAs text t × Drawn v t status old new)
+    ((status ≡ Memory) × IsOutOfMemory old new)
+    ⊎ (((t : TraceModel) × ReadsAs text t × Drawn v t status old new)
     ⊎ Refuses text status old new)
 
 -- a read failed, which is told, and nothing was written
-abbrev pub TellsRead : Status → Outlets → Outlets → Type 0
-TellsRead status old new =
+abbrev pub ReportsReadFault : Status → Outlets → Outlets → Type 0
+ReportsReadFault status old new =
     (status ≡ InputOutput) × Keeps old.out new.out × Notes old new (codes "read fault\n")
 
 -- how it ended with the beginning of a trace, behind which a read failed: a fault of its lines is
 -- told in the same way, but not that it has no end; if there is none the failed read is told
 abbrev pub DrawsTraceSoFar : List ℕ → Status → Outlets → Outlets → Type 0
 DrawsTraceSoFar text status old new =
-    ((status ≡ Memory) × Wants old new)
-    ⊎ ((HasNoFaultYet text × TellsRead status old new)
+    ((status ≡ Memory) × IsOutOfMemory old new)
+    ⊎ ((HasNoFaultYet text × ReportsReadFault status old new)
     ⊎ ((r : Refuses text status old new) × IsLasting r.fault))
 
 -- HISTORIES OF CALLS
@@ -197,13 +197,13 @@ DrawsText v text status old new =
 -- and with a text behind which a read failed
 abbrev pub DrawsCutOff : List ℕ → Status → Outlets → Outlets → Type 0
 DrawsCutOff text status old new =
-    ((is_calls text ≡ true) × TellsRead status old new)
+    ((is_calls text ≡ true) × ReportsReadFault status old new)
     ⊎ ((is_calls text ≡ false) × DrawsTraceSoFar text status old new)
 
 -- how the program ended, for an input that had these bytes and has those left: with what was looked
 -- at of it, or with what the reader gave before a failed read; or memory was refused before
 abbrev pub Draws : View → List ℕ → Option (List ℕ) → Status → Outlets → Outlets → Type 0
 Draws v bytes left status old new =
-    ((status ≡ Memory) × Wants old new)
+    ((status ≡ Memory) × IsOutOfMemory old new)
     ⊎ (DrawsText v (looked_at TRACE_MAX bytes) status old new
     ⊎ ((text : List ℕ) × IsCutOff TRACE_MAX bytes left text × DrawsCutOff text status old new))

@@ -2,9 +2,9 @@
 -- line, and of the line itself with the right reply if its reply alone is wrong.
 use Rattle.std.specs.Prelude.{ℕ, ◌-◌, List, [], ◌++◌, take, Option, Some, None, Result, Ok, Err, codes}
 use Rattle.ec_core.specs.declared.act.Reply.{Reply}
-use Rattle.ec_explain.specs.TextLines.{before_line, line_at, place_of}
+use Rattle.ec_explain.specs.TextLines.{text_before_line, line_at, position_or_end}
 use Rattle.ec_heading.specs.Spelling.{reply_word}
-use Rattle.ec_trace.specs.Recounted.{Recounted}
+use Rattle.ec_trace.specs.TraceModel.{TraceModel}
 use Rattle.ec_trace.specs.Outcome.{outcome}
 use Rattle.ec_trace.specs.declared.fault.TraceFault.{TraceFault}
 use Rattle.ec_trace.specs.declared.fault.TraceFault.TheVariants.{BadLine, Refused, WrongReply}
@@ -14,7 +14,7 @@ use Rattle.ec_trace.specs.declared.read.TheConstants.{TRACE_MAX}
 
 -- a line with another reply: the reply stands behind the sign of equality
 unfoldable pub with_reply : List ℕ → Reply → List ℕ
-with_reply line r = take (place_of 61 line) line ++ codes "= " ++ reply_word r ++ codes "\n"
+with_reply line r = take (position_or_end 61 line) line ++ codes "= " ++ reply_word r ++ codes "\n"
 
 abbrev pub with_right : List ℕ → Option Reply → List ℕ
 with_right line None = []
@@ -25,13 +25,14 @@ with_right line (Some r) = with_reply line r
 unfoldable pub mended : List ℕ → List ℕ → Option Reply → List ℕ
 mended before line right = before ++ with_right line right ++ codes "end\n"
 
-abbrev pub read_back : Result Recounted TraceFault → Option Recounted
+abbrev pub read_back : Result TraceModel TraceFault → Option TraceModel
 read_back (Ok t) = Some t
 read_back (Err e) = None
 
 -- the trace of that text; none if no run had begun before line n
-abbrev pub history : ℕ → Option Reply → List ℕ → Option Recounted
-history n right xs = read_back (outcome TRACE_MAX (mended (before_line n xs) (line_at n xs) right))
+abbrev pub history : ℕ → Option Reply → List ℕ → Option TraceModel
+history n right xs =
+    read_back (outcome TRACE_MAX (mended (text_before_line n xs) (line_at n xs) right))
 
 -- THE FAULT
 

@@ -3,8 +3,8 @@ use Rattle.std.specs.Prelude.{ℕ, ◌-◌, ◌==◌, ◌&&◌, min, max, Bool, 
 use Rattle.std.specs.Prelude.{codes, decimal, if◌then◌else◌}
 use Rattle.ec_draw.specs.declared.window.Window.{Window}
 use Rattle.ec_draw.specs.declared.window.TheConstants.{COLUMNS_MAX}
-use Rattle.evc_draw_task.specs.declared.choice.Range.{Range}
-use Rattle.evc_draw_task.specs.declared.choice.TheConstants.{NO_END}
+use Rattle.evc_draw_cli.specs.declared.choice.Range.{Range}
+use Rattle.evc_draw_cli.specs.declared.choice.TheConstants.{NO_END}
 
 -- the part of a range that n entries have
 abbrev pub window_on : Range → ℕ → Window

@@ -9,8 +9,8 @@ use crate::view::View;
 use crate::window::is_whole;
 use calls_draw::{CallsView, draw_calls};
 use calls_report::Status as CallsStatus;
-use ec_text::Out;
-use evc_draw_task::{Form, NO_END};
+use ec_text::Output;
+use evc_draw_cli::{Form, NO_END};
 use evc_engine::Status;
 use std::alloc::Global;
 use std::io::Write;
@@ -65,7 +65,7 @@ pub(crate) fn draw_histories<W: Write, N: Write>(
     view: &View<'_>,
     text: &[u8],
     out: &mut W,
-    notes: &mut Out<'_, N>,
+    notes: &mut Output<'_, N>,
 ) -> Status
     ensures ends { DrawsHistories view.now text.now result
         (record { out = W.contents out.old; notes = notes.old })

@@ -4,7 +4,7 @@ ghost use Rattle.ec_text.specs.Puts.{Puts, IsWrittenOut};
 ghost use Rattle.ec_trace.specs.declared.read.TheConstants.{TRACE_MAX};
 ghost use Rattle.evc_engine.specs.declared.status.Status.TheVariants.{InputOutput, Memory};
 ghost use Rattle.ec_draw.specs.Chosen.{chosen_targets};
-ghost use Rattle.ec_draw.specs.Pictures.{kept};
+ghost use Rattle.ec_draw.specs.Pictures.{kept_shapes};
 ghost use Rattle.evc_draw_engine.specs.Draws.{CutOffFault, Drawn, Draws, DrawsCutOff, DrawsText};
 ghost use Rattle.evc_draw_engine.specs.Draws.{DrawsTrace, DrawsTraceSoFar, IsDrawable, TellsFault};
 ghost use Rattle.evc_draw_engine.specs.Draws.{columns_for, shapes_for, story};
@@ -19,21 +19,21 @@ use crate::note::Note;
 use crate::sheet::Sheet;
 use crate::svg::put_svg;
 use crate::text::put_text;
-use crate::unknown::{has_unknown, say_unknown};
+use crate::unknown::{has_unknown, report_unknown};
 use crate::view::View;
-use crate::window::{is_empty, is_wide, say_empty, window_for};
+use crate::window::{is_empty, is_wide, report_empty, window_for};
 use calls_draw::is_calls;
 use ec_draw::{Chosen, Picture, picture_of};
 use ec_explain::line_at;
-use ec_text::{Input, Out, read_up_to, write_out};
+use ec_text::{Input, Output, read_up_to, write_out};
 use ec_trace::{TRACE_MAX, TraceFault, Traced};
-use evc_draw_task::{Form, Range};
-use evc_engine::{Status, say_fault};
+use evc_draw_cli::{Form, Range};
+use evc_engine::{Status, report_fault};
 use std::alloc::{AllocError, Global};
 use std::io::{Read, Write};
 
 /// Returns the text of the picture of a trace, of which so many columns are drawn.
-fn text_of(
+fn picture_text(
     alloc: Global,
     view: &View<'_>,
     traced: &Traced,
@@ -44,7 +44,7 @@ fn text_of(
 ) -> Result<String, AllocError>
     requires columns { columns ≡ columns_for traced.now note }
     requires chosen { chosen.now ≡ chosen_targets view.now.choice traced.now.heading.words }
-    requires picture { kept picture.now ≡ shapes_for view.now traced.now columns }
+    requires picture { kept_shapes picture.now ≡ shapes_for view.now traced.now columns }
 {
     let _ = columns;
     let names = Names::new(traced.heading().words());
@@ -79,11 +79,11 @@ fn document(
     let chosen = Chosen::new(alloc, &view.choice, heading.words())?;
     let window = window_for(view.range, columns);
     let picture = picture_of(alloc, traced.run(), heading.groups(), window)?;
-    text_of(alloc, view, traced, columns, &chosen, &picture, note)
+    picture_text(alloc, view, traced, columns, &chosen, &picture, note)
 }
 
 /// Says that memory ran out.
-fn want<N: Write>(notes: &mut Out<'_, N>) -> Status
+fn report_no_memory<N: Write>(notes: &mut Output<'_, N>) -> Status
     ensures memory { result ≡ Memory }
     ensures puts { Puts notes.old notes.new (codes "no memory\n") }
     ensures written { IsWrittenOut notes.new }
@@ -93,7 +93,7 @@ fn want<N: Write>(notes: &mut Out<'_, N>) -> Status
 }
 
 /// Says that a write failed.
-fn write_fault<N: Write>(notes: &mut Out<'_, N>) -> Status
+fn write_fault<N: Write>(notes: &mut Output<'_, N>) -> Status
     ensures status { result ≡ InputOutput }
     ensures puts { Puts notes.old notes.new (codes "write fault\n") }
     ensures written { IsWrittenOut notes.new }
@@ -103,7 +103,7 @@ fn write_fault<N: Write>(notes: &mut Out<'_, N>) -> Status
 }
 
 /// Says that only the last entries of a range are drawn, if it has more than a picture has.
-fn say_cut<N: Write>(range: Range, entries: usize, notes: &mut Out<'_, N>)
+fn report_cut<N: Write>(range: Range, entries: usize, notes: &mut Output<'_, N>)
     ensures wide { is_wide (window_on range entries) ≡ true → Puts notes.old notes.new cut_note }
     ensures out { is_wide (window_on range entries) ≡ true → IsWrittenOut notes.new }
     ensures narrow { is_wide (window_on range entries) ≡ false → notes.new ≡ notes.old }
@@ -121,7 +121,7 @@ fn write_whole<W: Write, N: Write>(
     traced: &Traced,
     view: &View<'_>,
     out: &mut W,
-    notes: &mut Out<'_, N>,
+    notes: &mut Output<'_, N>,
 ) -> Status
     requires { IsDrawable view.now traced.now }
     ensures ends { Drawn view.now traced.now result
@@ -131,11 +131,11 @@ fn write_whole<W: Write, N: Write>(
 {
     let entries = traced.run().len();
     let Ok(text) = document(alloc, view, traced, entries, None) else {
-        return want(notes);
+        return report_no_memory(notes);
     };
     match write_out(out, text.as_bytes()) {
         Ok(()) => {
-            say_cut(view.range, entries, notes);
+            report_cut(view.range, entries, notes);
             Status::Done
         }
         Err(_) => write_fault(notes),
@@ -148,7 +148,7 @@ fn write_drawn<W: Write, N: Write>(
     traced: &Traced,
     view: &View<'_>,
     out: &mut W,
-    notes: &mut Out<'_, N>,
+    notes: &mut Output<'_, N>,
 ) -> Status
     ensures ends { Drawn view.now traced.now result
         (record { out = W.contents out.old; notes = notes.old })
@@ -157,12 +157,12 @@ fn write_drawn<W: Write, N: Write>(
 {
     let words = traced.heading().words();
     if has_unknown(words, &view.choice) {
-        say_unknown(words, &view.choice, notes);
+        report_unknown(words, &view.choice, notes);
         return Status::Usage;
     }
     let entries = traced.run().len();
     if is_empty(view.range, entries) {
-        say_empty(notes, view.range, entries);
+        report_empty(notes, view.range, entries);
         return Status::Usage;
     }
     write_whole(alloc, traced, view, out, notes)
@@ -176,7 +176,7 @@ fn write_story<W: Write, N: Write>(
     traced: &Traced,
     note: &Note<'_>,
     out: &mut W,
-    notes: &mut Out<'_, N>,
+    notes: &mut Output<'_, N>,
 ) -> Status
     requires { note.now.position ≡ position_in (right_of note.now.fault)
         (length traced.now.entries) }
@@ -186,14 +186,14 @@ fn write_story<W: Write, N: Write>(
     ensures written { IsWrittenOut notes.old → IsWrittenOut notes.new }
 {
     let Some(columns) = note.position.checked_add(1) else {
-        return want(notes);
+        return report_no_memory(notes);
     };
     let Ok(text) = document(alloc, view, traced, columns, Some(*note)) else {
-        return want(notes);
+        return report_no_memory(notes);
     };
     match write_out(out, text.as_bytes()) {
         Ok(()) => {
-            say_fault(notes, &note.fault);
+            report_fault(notes, &note.fault);
             Status::Refused
         }
         Err(_) => write_fault(notes),
@@ -201,7 +201,7 @@ fn write_story<W: Write, N: Write>(
 }
 
 /// Writes the picture of what came before a fault, if a run had begun, and reports the fault.
-fn tell_story<W: Write, N: Write>(
+fn draw_before_fault<W: Write, N: Write>(
     alloc: Global,
     view: &View<'_>,
     text: &[u8],
@@ -209,7 +209,7 @@ fn tell_story<W: Write, N: Write>(
     number: u64,
     traced: &Option<Traced>,
     out: &mut W,
-    notes: &mut Out<'_, N>,
+    notes: &mut Output<'_, N>,
 ) -> Status
     ensures ends { TellsFault traced.now fault.now result
         (record { out = W.contents out.old; notes = notes.old })
@@ -217,7 +217,7 @@ fn tell_story<W: Write, N: Write>(
     ensures written { IsWrittenOut notes.old → IsWrittenOut notes.new }
 {
     let Some(traced) = traced else {
-        say_fault(notes, fault);
+        report_fault(notes, fault);
         return Status::Refused;
     };
     let note = Note {
@@ -230,13 +230,13 @@ fn tell_story<W: Write, N: Write>(
 }
 
 /// Reports the fault of a text, and draws what came before.
-fn tell_fault<W: Write, N: Write>(
+fn draw_faulty_text<W: Write, N: Write>(
     alloc: Global,
     view: &View<'_>,
     text: &[u8],
     fault: &TraceFault,
     out: &mut W,
-    notes: &mut Out<'_, N>,
+    notes: &mut Output<'_, N>,
 ) -> Status
     ensures ends { TellsFault (story text.now fault.now) fault.now result
         (record { out = W.contents out.old; notes = notes.old })
@@ -244,12 +244,12 @@ fn tell_fault<W: Write, N: Write>(
     ensures written { IsWrittenOut notes.old → IsWrittenOut notes.new }
 {
     let Some(number) = fault_line(fault) else {
-        say_fault(notes, fault);
+        report_fault(notes, fault);
         return Status::Refused;
     };
     match history(alloc, number, &right_of(fault), text) {
-        Ok(traced) => tell_story(alloc, view, text, fault, number, &traced, out, notes),
-        Err(AllocError) => want(notes),
+        Ok(traced) => draw_before_fault(alloc, view, text, fault, number, &traced, out, notes),
+        Err(AllocError) => report_no_memory(notes),
     }
 }
 
@@ -259,7 +259,7 @@ fn draw_trace<W: Write, N: Write>(
     view: &View<'_>,
     text: &[u8],
     out: &mut W,
-    notes: &mut Out<'_, N>,
+    notes: &mut Output<'_, N>,
 ) -> Status
     ensures ends { DrawsTrace view.now text.now result
         (record { out = W.contents out.old; notes = notes.old })
@@ -268,8 +268,8 @@ fn draw_trace<W: Write, N: Write>(
 {
     match read_text(alloc, text) {
         Ok(traced) => write_drawn(alloc, &traced, view, out, notes),
-        Err(TraceFault::Memory | TraceFault::Read) => want(notes),
-        Err(fault) => tell_fault(alloc, view, text, &fault, out, notes),
+        Err(TraceFault::Memory | TraceFault::Read) => report_no_memory(notes),
+        Err(fault) => draw_faulty_text(alloc, view, text, &fault, out, notes),
     }
 }
 
@@ -279,7 +279,7 @@ fn draw_text<W: Write, N: Write>(
     view: &View<'_>,
     text: &[u8],
     out: &mut W,
-    notes: &mut Out<'_, N>,
+    notes: &mut Output<'_, N>,
 ) -> Status
     ensures ends { DrawsText view.now text.now result
         (record { out = W.contents out.old; notes = notes.old })
@@ -305,7 +305,7 @@ fn cut_off_fault(alloc: Global, text: &[u8]) -> Option<TraceFault>
 }
 
 /// Says that a read failed.
-fn read_fault<N: Write>(notes: &mut Out<'_, N>) -> Status
+fn read_fault<N: Write>(notes: &mut Output<'_, N>) -> Status
     ensures status { result ≡ InputOutput }
     ensures puts { Puts notes.old notes.new (codes "read fault\n") }
     ensures written { IsWrittenOut notes.new }
@@ -321,7 +321,7 @@ fn draw_trace_so_far<W: Write, N: Write>(
     view: &View<'_>,
     text: &[u8],
     out: &mut W,
-    notes: &mut Out<'_, N>,
+    notes: &mut Output<'_, N>,
 ) -> Status
     ensures ends { DrawsTraceSoFar text.now result
         (record { out = W.contents out.old; notes = notes.old })
@@ -330,8 +330,8 @@ fn draw_trace_so_far<W: Write, N: Write>(
 {
     match cut_off_fault(alloc, text) {
         None => read_fault(notes),
-        Some(TraceFault::Memory | TraceFault::Read) => want(notes),
-        Some(fault) => tell_fault(alloc, view, text, &fault, out, notes),
+        Some(TraceFault::Memory | TraceFault::Read) => report_no_memory(notes),
+        Some(fault) => draw_faulty_text(alloc, view, text, &fault, out, notes),
     }
 }
 
@@ -341,7 +341,7 @@ fn draw_cut_off<W: Write, N: Write>(
     view: &View<'_>,
     text: &[u8],
     out: &mut W,
-    notes: &mut Out<'_, N>,
+    notes: &mut Output<'_, N>,
 ) -> Status
     ensures ends { DrawsCutOff text.now result
         (record { out = W.contents out.old; notes = notes.old })
@@ -363,7 +363,7 @@ pub fn draw<R: Read, W: Write, N: Write>(
     view: &View<'_>,
     reader: &mut R,
     out: &mut W,
-    notes: &mut Out<'_, N>,
+    notes: &mut Output<'_, N>,
 ) -> Status
     ensures ends { IfSome (R.remaining reader.old)
         (λ bytes. Draws view.now bytes (R.remaining reader.new) result
@@ -374,6 +374,6 @@ pub fn draw<R: Read, W: Write, N: Write>(
     match read_up_to(alloc, reader, TRACE_MAX) {
         Ok(Input::Whole(text)) => draw_text(alloc, view, text.as_slice(), out, notes),
         Ok(Input::CutOff(text)) => draw_cut_off(alloc, view, text.as_slice(), out, notes),
-        Err(AllocError) => want(notes),
+        Err(AllocError) => report_no_memory(notes),
     }
 }

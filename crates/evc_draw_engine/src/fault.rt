@@ -7,7 +7,7 @@ ghost use Rattle.evc_draw_engine.specs.Faults.{with_reply, with_right};
 ghost use Rattle.evc_draw_engine.specs.Draws.{RefusedOr};
 
 use ec_core::Reply;
-use ec_explain::{before_line, line_at, place_of};
+use ec_explain::{line_at, position_or_end, text_before_line};
 use ec_trace::{TraceFault, Traced, read_trace};
 use itoa::Buffer;
 use std::alloc::{AllocError, Global};
@@ -31,7 +31,7 @@ fn add_reply(text: &mut Vec<u8>, reply: &Reply) -> Result<(), AllocError>
 fn add_with_reply(text: &mut Vec<u8>, line: &[u8], reply: &Reply) -> Result<(), AllocError>
     ensures { OnOk result (text.new.items ≡ text.old.items ++ with_reply line.now reply.now) }
 {
-    text.extend_from_slice(&line[..place_of(b'=', line)])?;
+    text.extend_from_slice(&line[..position_or_end(b'=', line)])?;
     text.extend_from_slice(b"= ")?;
     add_reply(text, reply)?;
     text.extend_from_slice(b"\n")
@@ -50,7 +50,7 @@ fn add_with_right(text: &mut Vec<u8>, line: &[u8], right: &Option<Reply>) -> Res
 /// Returns the text of the lines before a faulty one, and of that with its right reply, if it has
 /// one.
 #[tactic(auto, unfolding(crate::specs::Faults::mended))]
-fn mended(
+fn mend_line(
     alloc: Global,
     before: &[u8],
     line: &[u8],
@@ -84,9 +84,9 @@ pub(crate) fn history(
 ) -> Result<Option<Traced>, AllocError>
     ensures { IfOk result (λ read. read ≡ history number right.now text.now) }
 {
-    let mended = mended(
+    let mended = mend_line(
         alloc,
-        before_line(number, text),
+        text_before_line(number, text),
         line_at(number, text),
         right,
     )?;

@@ -1,13 +1,13 @@
 //! What the audits of groups find: shades over accepting tries, and arrows from puts to gets.
 ghost use Rattle.std.specs.Prelude.{◌≤◌};
 
-use crate::elements::{Put, put_rect, xy};
+use crate::elements::{PutResult, put_rect, xy};
 use crate::sheet::{ROW, Sheet};
 use crate::words::{put_delivery_words, put_version_words};
 use ec_draw::{Arrow, Shade};
 
 /// Puts a shade over its columns in the row of its reader.
-pub(crate) fn put_shade(out: &mut String, sheet: &Sheet<'_>, shade: &Shade) -> Put {
+pub(crate) fn put_shade(out: &mut String, sheet: &Sheet<'_>, shade: &Shade) -> PutResult {
     out.push_str("<g class='version'><title>")?;
     put_version_words(out, sheet.names, shade)?;
     out.push_str("</title>\n")?;
@@ -43,7 +43,7 @@ fn lane(y: u64, other: u64, number: u64) -> u64
 }
 
 /// Puts the arrow of a delivery. It goes along the consumer's row, in one of three lanes.
-pub(crate) fn put_arrow(out: &mut String, sheet: &Sheet<'_>, arrow: &Arrow) -> Put {
+pub(crate) fn put_arrow(out: &mut String, sheet: &Sheet<'_>, arrow: &Arrow) -> PutResult {
     out.push_str("<g class='delivery'><title>")?;
     put_delivery_words(out, sheet.names, arrow)?;
     out.push_str("</title>\n")?;

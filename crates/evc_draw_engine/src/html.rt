@@ -1,6 +1,6 @@
 //! The picture in a page of HTML, in which it is scrolled and zoomed without a server.
 
-use crate::elements::Put;
+use crate::elements::PutResult;
 use crate::sheet::Sheet;
 use crate::svg::put_svg;
 use std::alloc::Global;
@@ -57,7 +57,7 @@ addEventListener('wheel', event => {
 ";
 
 /// Puts the page of a picture.
-pub(crate) fn put_html(out: &mut String, alloc: Global, sheet: &Sheet<'_>) -> Put {
+pub(crate) fn put_html(out: &mut String, alloc: Global, sheet: &Sheet<'_>) -> PutResult {
     out.push_str(BEGINNING)?;
     put_svg(out, alloc, sheet)?;
     out.push_str(END)

@@ -1,8 +1,8 @@
 //! What a trace calls its workers and objects, and how calls are spelled.
 
 use ec_core::{Act, Reply};
-use ec_count::{CellId, EventId, SeqId, Target, Vocabulary, WorkerId};
-use ec_draw::{Counted, Plotted};
+use ec_count::{CellId, EventId, SeqId, SymbolTable, Target, WorkerId};
+use ec_draw::{Counter, CurveSource};
 use ec_trace::Spellings;
 use std::fmt;
 
@@ -29,12 +29,12 @@ impl<'a> Name<'a> {
 /// The names of a heading.
 #[derive(Drop)]
 pub(crate) struct Names<'a> {
-    words: &'a Vocabulary,
+    words: &'a SymbolTable,
     spellings: Spellings<'a>,
 }
 
 impl<'a> Names<'a> {
-    pub(crate) fn new(words: &'a Vocabulary) -> Self {
+    pub(crate) fn new(words: &'a SymbolTable) -> Self {
         let spellings = Spellings::new(words);
         Names { words, spellings }
     }
@@ -61,11 +61,11 @@ impl<'a> Names<'a> {
     }
 
     /// Returns the name of what has a curve: a balance is called by its semaphore.
-    pub(crate) fn curve(&self, object: &Plotted) -> Name<'a> {
+    pub(crate) fn curve(&self, object: &CurveSource) -> Name<'a> {
         match *object {
-            Plotted::Count(Counted::Event(event)) => self.event(event),
-            Plotted::Count(Counted::Sequencer(sequencer)) => self.sequencer(sequencer),
-            Plotted::Balance(event) => self.group(event),
+            CurveSource::Count(Counter::Event(event)) => self.event(event),
+            CurveSource::Count(Counter::Sequencer(sequencer)) => self.sequencer(sequencer),
+            CurveSource::Balance(event) => self.group(event),
         }
     }
 
@@ -131,12 +131,12 @@ pub(crate) fn kind(act: &Act) -> &'static str {
 
 /// What an act asks for, after its word: as a trace has it.
 #[derive(Clone, Copy)]
-pub(crate) struct Asked<'a, 'n> {
+pub(crate) struct ActText<'a, 'n> {
     pub(crate) names: &'a Names<'n>,
     pub(crate) act: Act,
 }
 
-impl fmt::Display for Asked<'_, '_> {
+impl fmt::Display for ActText<'_, '_> {
     fn fmt<W: fmt::Write>(&self, f: &mut fmt::Formatter<W>) -> fmt::Result {
         let names = self.names;
         match self.act {
@@ -153,9 +153,9 @@ impl fmt::Display for Asked<'_, '_> {
 
 /// The word of a reply.
 #[derive(Clone, Copy)]
-pub(crate) struct Returned(pub(crate) Reply);
+pub(crate) struct ReplyText(pub(crate) Reply);
 
-impl fmt::Display for Returned {
+impl fmt::Display for ReplyText {
     fn fmt<W: fmt::Write>(&self, f: &mut fmt::Formatter<W>) -> fmt::Result {
         match self.0 {
             Reply::Done => f.write_str("done"),
@@ -173,14 +173,14 @@ pub(crate) struct Plain<'a>(pub(crate) &'a [u8]);
 impl fmt::Display for Plain<'_> {
     fn fmt<W: fmt::Write>(&self, f: &mut fmt::Formatter<W>) -> fmt::Result {
         for byte in self.0 {
-            f.write_char(shown(*byte))?;
+            f.write_char(plain_char(*byte))?;
         }
         Ok(())
     }
 }
 
 /// Returns a byte as it is shown.
-fn shown(byte: u8) -> char {
+fn plain_char(byte: u8) -> char {
     match byte {
         b'<' | b'>' | b'&' => '?',
         32..127 => byte as char,

@@ -1,8 +1,8 @@
 //! What is said of a faulty line.
 ghost use Rattle.std.specs.Prelude.{◌≤◌};
 
-use crate::elements::{Put, put_line, put_text_end, put_text_start, squeeze, xy};
-use crate::names::{Plain, Returned};
+use crate::elements::{PutResult, put_line, put_text_end, put_text_start, squeeze, xy};
+use crate::names::{Plain, ReplyText};
 use crate::sheet::Sheet;
 use ec_core::Act;
 use ec_count::WorkerId;
@@ -65,7 +65,7 @@ fn fault_words(alloc: Global, fault: &TraceFault) -> Result<String, AllocError> 
         TraceFault::BadLine(_) => String::from_str(alloc, "no line that can stand here"),
         TraceFault::Refused(_, refusal) => format!(in alloc; "refused: {}", refusal.name()),
         TraceFault::WrongReply(_, right) => {
-            format!(in alloc; "the right reply is {}", Returned(right))
+            format!(in alloc; "the right reply is {}", ReplyText(right))
         }
         TraceFault::Unfinished => String::from_str(alloc, "unfinished"),
         TraceFault::TooLarge => String::from_str(alloc, "too large"),
@@ -107,7 +107,7 @@ fn add_reads(
     note: &Note<'_>,
     round: &Round,
     dots: &[Dot],
-) -> Put {
+) -> PutResult {
     for dot in dots {
         if let (true, Some(component), Some(number)) = (round.has(dot), dot.component, dot.number) {
             let before = note.position.saturating_sub(dot.position) as u64;
@@ -136,17 +136,17 @@ fn lines_of(alloc: Global, sheet: &Sheet<'_>, note: &Note<'_>) -> Result<Vec<Str
 
 /// What is said of a faulty line, in lines; none if there is none.
 #[derive(Drop)]
-pub(crate) struct Told {
+pub(crate) struct NoteLines {
     lines: Vec<String>,
 }
 
-impl Told {
-    pub(crate) fn of(alloc: Global, sheet: &Sheet<'_>) -> Result<Told, AllocError> {
+impl NoteLines {
+    pub(crate) fn of(alloc: Global, sheet: &Sheet<'_>) -> Result<NoteLines, AllocError> {
         let lines = match &sheet.note {
             Some(note) => lines_of(alloc, sheet, note)?,
             None => Vec::new(alloc),
         };
-        Ok(Told { lines })
+        Ok(NoteLines { lines })
     }
 
     /// Returns how wide a picture with it is.
@@ -169,7 +169,7 @@ impl Told {
     }
 
     /// Puts it as lines, after an empty one.
-    pub(crate) fn put_lines(&self, out: &mut String) -> Put {
+    pub(crate) fn put_lines(&self, out: &mut String) -> PutResult {
         if !self.lines.is_empty() {
             out.push_str("\n")?;
         }
@@ -189,7 +189,7 @@ fn reply_in(line: &[u8]) -> &[u8] {
 }
 
 /// Puts the wrong reply of a faulty line, struck out, before the right one.
-fn put_wrong_reply(out: &mut String, sheet: &Sheet<'_>, note: &Note<'_>, dot: &Dot) -> Put {
+fn put_wrong_reply(out: &mut String, sheet: &Sheet<'_>, note: &Note<'_>, dot: &Dot) -> PutResult {
     if !sheet.chosen.draws(dot.worker, &dot.op) {
         return Ok(());
     }
@@ -202,7 +202,7 @@ fn put_wrong_reply(out: &mut String, sheet: &Sheet<'_>, note: &Note<'_>, dot: &D
 }
 
 /// Puts a band over the column of a faulty line, and its wrong reply if it has one.
-fn put_column(out: &mut String, sheet: &Sheet<'_>, note: &Note<'_>) -> Put {
+fn put_column(out: &mut String, sheet: &Sheet<'_>, note: &Note<'_>) -> PutResult {
     if !sheet.picture.window.shows(note.position) {
         return Ok(());
     }
@@ -215,12 +215,12 @@ fn put_column(out: &mut String, sheet: &Sheet<'_>, note: &Note<'_>) -> Put {
 }
 
 /// Puts what is said of a faulty line below the picture.
-pub(crate) fn put_note(out: &mut String, sheet: &Sheet<'_>, told: &Told) -> Put {
+pub(crate) fn put_note(out: &mut String, sheet: &Sheet<'_>, returned: &NoteLines) -> PutResult {
     if let Some(note) = &sheet.note {
         put_column(out, sheet, note)?;
     }
     let mut y = sheet.height();
-    for line in told.lines.as_slice() {
+    for line in returned.lines.as_slice() {
         put_text_start(out, "fault", "", xy(16, y))?;
         write!(out, "{}", line.as_str())?;
         put_text_end(out)?;

@@ -1,23 +1,23 @@
 //! The picture as SVG.
 
-use crate::elements::{Put, put_line, put_number, put_row_name, xy};
+use crate::elements::{PutResult, put_line, put_number, put_row_name, xy};
 use crate::findings::{put_arrow, put_shade};
-use crate::note::{Told, put_note};
+use crate::note::{NoteLines, put_note};
 use crate::shapes::{put_bar, put_dot, put_mark, put_open_bar};
 use crate::sheet::{LEFT, Scale, Sheet, greatest, least};
 use crate::style::{OPENING, STYLE};
 use ec_count::WorkerId;
-use ec_draw::{Curve, Dot, Plotted};
+use ec_draw::{Curve, CurveSource, Dot};
 use std::alloc::Global;
 
 /// Puts the beginning of a picture.
-fn put_header(out: &mut String, width: u64, height: u64) -> Put {
+fn put_header(out: &mut String, width: u64, height: u64) -> PutResult {
     write!(out, "{OPENING} width='{width}' height='{height}'")?;
     write!(out, " viewBox='0 0 {width} {height}'>\n{STYLE}")
 }
 
 /// Puts the row of a worker.
-fn put_row(out: &mut String, sheet: &Sheet<'_>, worker: WorkerId) -> Put {
+fn put_row(out: &mut String, sheet: &Sheet<'_>, worker: WorkerId) -> PutResult {
     let y = sheet.row(worker);
     let name = sheet.names.worker(worker);
     put_row_name(out, xy(124, y + 47), name)?;
@@ -26,7 +26,7 @@ fn put_row(out: &mut String, sheet: &Sheet<'_>, worker: WorkerId) -> Put {
 }
 
 /// Puts the rows of the workers that are drawn.
-fn put_rows(out: &mut String, sheet: &Sheet<'_>) -> Put {
+fn put_rows(out: &mut String, sheet: &Sheet<'_>) -> PutResult {
     for number in 0..sheet.workers {
         if let Some(worker) = WorkerId::new(number) {
             if sheet.chosen.draws_worker(worker) {
@@ -38,7 +38,7 @@ fn put_rows(out: &mut String, sheet: &Sheet<'_>) -> Put {
 }
 
 /// Puts the column of an entry.
-fn put_column(out: &mut String, sheet: &Sheet<'_>, dot: &Dot) -> Put {
+fn put_column(out: &mut String, sheet: &Sheet<'_>, dot: &Dot) -> PutResult {
     let x = sheet.edge(dot.position);
     let y = sheet.below();
     put_line(out, "grid", xy(x, 34), xy(x, y))?;
@@ -47,10 +47,10 @@ fn put_column(out: &mut String, sheet: &Sheet<'_>, dot: &Dot) -> Put {
 }
 
 /// Puts the line of a curve: at each moment's number up to the entry that comes then.
-fn put_path(out: &mut String, scale: &Scale, curve: &Curve) -> Put {
+fn put_path(out: &mut String, scale: &Scale, curve: &Curve) -> PutResult {
     let class = match curve.object {
-        Plotted::Count(_) => "curve",
-        Plotted::Balance(_) => "balance",
+        CurveSource::Count(_) => "curve",
+        CurveSource::Balance(_) => "balance",
     };
     let first = curve.heights.first().copied().unwrap_or(0);
     write!(out, "<path class='{class}' d='M 136 {}", scale.level(first))?;
@@ -63,7 +63,7 @@ fn put_path(out: &mut String, scale: &Scale, curve: &Curve) -> Put {
 }
 
 /// Puts a curve, with its name and its least and its greatest number.
-fn put_curve(out: &mut String, sheet: &Sheet<'_>, number: usize, curve: &Curve) -> Put {
+fn put_curve(out: &mut String, sheet: &Sheet<'_>, number: usize, curve: &Curve) -> PutResult {
     let y = sheet.base(number);
     let from = xy(LEFT, y);
     put_line(out, "zero", from, from.at(sheet.width()))?;
@@ -76,7 +76,7 @@ fn put_curve(out: &mut String, sheet: &Sheet<'_>, number: usize, curve: &Curve) 
 }
 
 /// Puts the curves that are drawn.
-fn put_curves(out: &mut String, sheet: &Sheet<'_>) -> Put {
+fn put_curves(out: &mut String, sheet: &Sheet<'_>) -> PutResult {
     for (number, curve) in sheet.picture.curves.iter().enumerate() {
         if sheet.chosen.draws_curve(&curve.object) {
             put_curve(out, sheet, number, curve)?;
@@ -86,7 +86,7 @@ fn put_curves(out: &mut String, sheet: &Sheet<'_>) -> Put {
 }
 
 /// Puts what stands behind the calls: the columns, the curves, and what the audits of groups find.
-fn put_back(out: &mut String, sheet: &Sheet<'_>) -> Put {
+fn put_back(out: &mut String, sheet: &Sheet<'_>) -> PutResult {
     put_rows(out, sheet)?;
     for dot in sheet.picture.dots.as_slice() {
         put_column(out, sheet, dot)?;
@@ -95,7 +95,7 @@ fn put_back(out: &mut String, sheet: &Sheet<'_>) -> Put {
 }
 
 /// Puts what the audits of groups find.
-fn put_findings(out: &mut String, sheet: &Sheet<'_>) -> Put {
+fn put_findings(out: &mut String, sheet: &Sheet<'_>) -> PutResult {
     for shade in sheet.picture.shades.as_slice() {
         if sheet.chosen.draws_shade(shade) {
             put_shade(out, sheet, shade)?;
@@ -110,7 +110,7 @@ fn put_findings(out: &mut String, sheet: &Sheet<'_>) -> Put {
 }
 
 /// Puts the bars of the calls.
-fn put_bars(out: &mut String, sheet: &Sheet<'_>) -> Put {
+fn put_bars(out: &mut String, sheet: &Sheet<'_>) -> PutResult {
     for placed in sheet.picture.calls.as_slice() {
         if sheet.chosen.draws(placed.call.worker, &placed.call.op) {
             put_bar(out, sheet, placed)?;
@@ -125,7 +125,7 @@ fn put_bars(out: &mut String, sheet: &Sheet<'_>) -> Put {
 }
 
 /// Puts the dots of the entries and the marks of the points.
-fn put_front(out: &mut String, sheet: &Sheet<'_>) -> Put {
+fn put_front(out: &mut String, sheet: &Sheet<'_>) -> PutResult {
     for dot in sheet.picture.dots.as_slice() {
         if sheet.chosen.draws(dot.worker, &dot.op) {
             put_dot(out, sheet, dot)?;
@@ -140,13 +140,17 @@ fn put_front(out: &mut String, sheet: &Sheet<'_>) -> Put {
 }
 
 /// Puts a picture as SVG.
-pub(crate) fn put_svg(out: &mut String, alloc: Global, sheet: &Sheet<'_>) -> Put {
-    let told = Told::of(alloc, sheet)?;
-    put_header(out, told.width(sheet), sheet.height() + told.height())?;
+pub(crate) fn put_svg(out: &mut String, alloc: Global, sheet: &Sheet<'_>) -> PutResult {
+    let returned = NoteLines::of(alloc, sheet)?;
+    put_header(
+        out,
+        returned.width(sheet),
+        sheet.height() + returned.height(),
+    )?;
     put_back(out, sheet)?;
     put_findings(out, sheet)?;
     put_bars(out, sheet)?;
     put_front(out, sheet)?;
-    put_note(out, sheet, &told)?;
+    put_note(out, sheet, &returned)?;
     out.push_str("</svg>\n")
 }

@@ -6,9 +6,9 @@ ghost use Rattle.evc_draw_engine.specs.Unknown.{has_unknown, is_object, is_worke
 ghost use Rattle.evc_draw_engine.specs.Unknown.{lacks_worker, object_note, unknown_note, unknown_notes};
 ghost use Rattle.evc_draw_engine.specs.Unknown.{worker_note};
 
-use ec_count::{Target, Vocabulary};
+use ec_count::{SymbolTable, Target};
 use ec_draw::Choice;
-use ec_text::Out;
+use ec_text::Output;
 use std::io::Write;
 
 /// Returns whether a name stands for a worker.
@@ -26,35 +26,35 @@ fn is_object(target: Option<Target>) -> bool
 }
 
 /// Returns whether a name that was chosen among the workers stands for none.
-fn lacks_worker(words: &Vocabulary, name: &str) -> bool
+fn lacks_worker(words: &SymbolTable, name: &str) -> bool
     ensures { result ≡ lacks_worker words.now name.now }
 {
     !is_worker(words.find(name.as_bytes()))
 }
 
 /// Returns whether a name that was chosen among the objects stands for none.
-fn lacks_object(words: &Vocabulary, name: &str) -> bool
+fn lacks_object(words: &SymbolTable, name: &str) -> bool
     ensures { result ≡ lacks_object words.now name.now }
 {
     !is_object(words.find(name.as_bytes()))
 }
 
 /// Returns whether some name among the workers stands for none.
-fn any_lacks_worker(words: &Vocabulary, names: &[&str]) -> bool
+fn any_lacks_worker(words: &SymbolTable, names: &[&str]) -> bool
     ensures { result ≡ list_any (λ s. lacks_worker words.now s.now) names.now }
 {
     names.iter().any(|name| lacks_worker(words, name))
 }
 
 /// Returns whether some name among the objects stands for none.
-fn any_lacks_object(words: &Vocabulary, names: &[&str]) -> bool
+fn any_lacks_object(words: &SymbolTable, names: &[&str]) -> bool
     ensures { result ≡ list_any (λ s. lacks_object words.now s.now) names.now }
 {
     names.iter().any(|name| lacks_object(words, name))
 }
 
 /// Returns whether the trace doesn't have some name that was chosen.
-pub(crate) fn has_unknown(words: &Vocabulary, choice: &Choice<'_>) -> bool
+pub(crate) fn has_unknown(words: &SymbolTable, choice: &Choice<'_>) -> bool
     ensures { result ≡ has_unknown choice.now words.now }
 {
     any_lacks_worker(words, choice.workers) || any_lacks_object(words, choice.objects)
@@ -62,7 +62,7 @@ pub(crate) fn has_unknown(words: &Vocabulary, choice: &Choice<'_>) -> bool
 
 /// Puts the note on a name.
 #[tactic(auto, unfolding(crate::specs::Unknown::unknown_note))]
-fn put_unknown<N: Write>(out: &mut Out<'_, N>, what: &[u8], name: &[u8])
+fn put_unknown<N: Write>(out: &mut Output<'_, N>, what: &[u8], name: &[u8])
     ensures { Puts out.old out.new (unknown_note what.now name.now) }
 {
     out.put(what);
@@ -72,7 +72,7 @@ fn put_unknown<N: Write>(out: &mut Out<'_, N>, what: &[u8], name: &[u8])
 
 /// Puts the note on a name among the workers, if there is none of that name.
 #[tactic(auto, unfolding(crate::specs::Unknown::worker_note))]
-fn put_worker_note<N: Write>(out: &mut Out<'_, N>, words: &Vocabulary, name: &str)
+fn put_worker_note<N: Write>(out: &mut Output<'_, N>, words: &SymbolTable, name: &str)
     ensures { Puts out.old out.new (worker_note words.now name.now) }
 {
     if lacks_worker(words, name) {
@@ -82,7 +82,7 @@ fn put_worker_note<N: Write>(out: &mut Out<'_, N>, words: &Vocabulary, name: &st
 
 /// Puts the note on a name among the objects, if there is none of that name.
 #[tactic(auto, unfolding(crate::specs::Unknown::object_note))]
-fn put_object_note<N: Write>(out: &mut Out<'_, N>, words: &Vocabulary, name: &str)
+fn put_object_note<N: Write>(out: &mut Output<'_, N>, words: &SymbolTable, name: &str)
     ensures { Puts out.old out.new (object_note words.now name.now) }
 {
     if lacks_object(words, name) {
@@ -91,7 +91,7 @@ fn put_object_note<N: Write>(out: &mut Out<'_, N>, words: &Vocabulary, name: &st
 }
 
 /// Puts the notes on the names among the workers.
-fn put_worker_notes<N: Write>(out: &mut Out<'_, N>, words: &Vocabulary, names: &[&str])
+fn put_worker_notes<N: Write>(out: &mut Output<'_, N>, words: &SymbolTable, names: &[&str])
     ensures { Puts out.old out.new (flat_map (λ s. worker_note words.now s.now) names.now) }
 {
     for name in names {
@@ -100,7 +100,7 @@ fn put_worker_notes<N: Write>(out: &mut Out<'_, N>, words: &Vocabulary, names: &
 }
 
 /// Puts the notes on the names among the objects.
-fn put_object_notes<N: Write>(out: &mut Out<'_, N>, words: &Vocabulary, names: &[&str])
+fn put_object_notes<N: Write>(out: &mut Output<'_, N>, words: &SymbolTable, names: &[&str])
     ensures { Puts out.old out.new (flat_map (λ s. object_note words.now s.now) names.now) }
 {
     for name in names {
@@ -109,7 +109,7 @@ fn put_object_notes<N: Write>(out: &mut Out<'_, N>, words: &Vocabulary, names: &
 }
 
 /// Puts a note on each name that the trace doesn't have.
-fn put_unknown_notes<N: Write>(out: &mut Out<'_, N>, words: &Vocabulary, choice: &Choice<'_>)
+fn put_unknown_notes<N: Write>(out: &mut Output<'_, N>, words: &SymbolTable, choice: &Choice<'_>)
     ensures { Puts out.old out.new (unknown_notes choice.now words.now) }
 {
     put_worker_notes(out, words, choice.workers);
@@ -117,7 +117,11 @@ fn put_unknown_notes<N: Write>(out: &mut Out<'_, N>, words: &Vocabulary, choice:
 }
 
 /// Writes a note on each name that the trace doesn't have.
-pub(crate) fn say_unknown<N: Write>(words: &Vocabulary, choice: &Choice<'_>, notes: &mut Out<'_, N>)
+pub(crate) fn report_unknown<N: Write>(
+    words: &SymbolTable,
+    choice: &Choice<'_>,
+    notes: &mut Output<'_, N>,
+)
     ensures puts { Puts notes.old notes.new (unknown_notes choice.now words.now) }
     ensures written { IsWrittenOut notes.new }
 {

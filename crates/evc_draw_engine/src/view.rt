@@ -1,7 +1,7 @@
 //! What is asked for of a trace.
 
 use ec_draw::Choice;
-use evc_draw_task::{Form, Range};
+use evc_draw_cli::{Form, Range};
 
 /// What is to be drawn of a trace, and as what.
 #[derive(Clone, Copy)]

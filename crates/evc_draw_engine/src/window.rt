@@ -5,8 +5,8 @@ ghost use Rattle.evc_draw_engine.specs.Windows.{empty_note, is_empty, is_whole, 
 ghost use Rattle.evc_draw_engine.specs.Windows.{last_words, range_words, window_for, window_on};
 
 use ec_draw::{COLUMNS_MAX, Window};
-use ec_text::Out;
-use evc_draw_task::{NO_END, Range};
+use ec_text::Output;
+use evc_draw_cli::{NO_END, Range};
 use std::io::Write;
 
 /// Returns the part of a range that so many entries have.
@@ -58,7 +58,7 @@ pub(crate) fn is_empty(range: Range, entries: usize) -> bool
 }
 
 /// Puts the last entry of the range, if one was named.
-fn put_last<N: Write>(notes: &mut Out<'_, N>, to: usize)
+fn put_last<N: Write>(notes: &mut Output<'_, N>, to: usize)
     ensures { Puts notes.old notes.new (last_words to) }
 {
     if to == NO_END {
@@ -71,7 +71,7 @@ fn put_last<N: Write>(notes: &mut Out<'_, N>, to: usize)
 
 /// Puts the range that was asked for.
 #[tactic(auto, unfolding(crate::specs::Windows::range_words))]
-fn put_range<N: Write>(notes: &mut Out<'_, N>, range: Range)
+fn put_range<N: Write>(notes: &mut Output<'_, N>, range: Range)
     ensures { Puts notes.old notes.new (range_words range) }
 {
     notes.put(b"from ");
@@ -81,7 +81,7 @@ fn put_range<N: Write>(notes: &mut Out<'_, N>, range: Range)
 
 /// Puts the note on such a range.
 #[tactic(auto, unfolding(crate::specs::Windows::empty_note))]
-fn put_empty_note<N: Write>(notes: &mut Out<'_, N>, range: Range, entries: usize)
+fn put_empty_note<N: Write>(notes: &mut Output<'_, N>, range: Range, entries: usize)
     ensures { Puts notes.old notes.new (empty_note range entries) }
 {
     notes.put(b"no entry ");
@@ -92,7 +92,7 @@ fn put_empty_note<N: Write>(notes: &mut Out<'_, N>, range: Range, entries: usize
 }
 
 /// Writes that note.
-pub(crate) fn say_empty<N: Write>(notes: &mut Out<'_, N>, range: Range, entries: usize)
+pub(crate) fn report_empty<N: Write>(notes: &mut Output<'_, N>, range: Range, entries: usize)
     ensures puts { Puts notes.old notes.new (empty_note range entries) }
     ensures written { IsWrittenOut notes.new }
 {

@@ -12,7 +12,7 @@ use Rattle.ec_semaphore.specs.Shapes.{Semaphore}
 use Rattle.ec_heading.specs.declared.group.Group.{Group}
 use Rattle.ec_heading.specs.declared.group.Group.TheVariants as groups
 use Rattle.ec_heading.specs.Groups.{FitsGroup}
-use Rattle.ec_heading.specs.Headed.{Headed}
+use Rattle.ec_heading.specs.HeadingModel.{HeadingModel}
 use Rattle.ec_heading.specs.Rules.{semaphores_of}
 use Rattle.ec_walk.specs.Each.{Each}
 use Rattle.evc_engine.specs.declared.walked.Auditing.{Auditing}
@@ -48,20 +48,21 @@ StandsFor t all (groups.Semaphore s) a past = CountsFor s a past
 StandsFor t all (groups.Both c) a past = PairsFor c all a past
 
 -- each group has its audit, in order
-abbrev pub EachStands : Tables → List Semaphore → List Group → List Auditing → List Entry → Type 0
-EachStands t all gs list past = Each (λ g a. StandsFor t all g a past) gs list
+abbrev pub EachRepresents : Tables → List Semaphore → List Group → List Auditing → List Entry
+    → Type 0
+EachRepresents t all gs list past = Each (λ g a. StandsFor t all g a past) gs list
 
 -- AT THE END
 
 -- the audit is that of a group of a heading, after an accepted history of these entries under it
-pub record EndsFor (h : Headed) (entries : List Entry) (g : Group) (a : Auditing) : Type 0 where
+pub record EndsFor (h : HeadingModel) (entries : List Entry) (g : Group) (a : Auditing) : Type 0 where
   pub declared : IsDeclared h.setup
   pub accepted : IsAccepted h.setup (reverse entries)
   pub fits : FitsGroup h.setup g
-  pub stands : StandsFor h.setup (semaphores_of h.groups) g a (reverse entries)
+  pub represents : StandsFor h.setup (semaphores_of h.groups) g a (reverse entries)
 
 -- those of all groups, in order
-abbrev pub EachEndsFor : Headed → List Entry → List Auditing → Type 0
+abbrev pub EachEndsFor : HeadingModel → List Entry → List Auditing → Type 0
 EachEndsFor h entries list = Each (λ g a. EndsFor h entries g a) h.groups list
 
 -- IN A WALK

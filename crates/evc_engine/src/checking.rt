@@ -7,13 +7,13 @@ ghost use Rattle.evc_engine.specs.Checks.{Checks, Writes};
 ghost use Rattle.evc_engine.specs.Halts.{IsReadInto};
 ghost use Rattle.evc_engine.specs.Notes.{fault_note, fault_status};
 
-use crate::notes::say_fault;
+use crate::notes::report_fault;
 use crate::status::Status;
 use crate::text::write_text;
 use ec_core::World;
-use ec_order::Timeline;
-use ec_text::Out;
-use ec_trace::{Heading, Lines, Opened, TraceFault, Watched, open_trace, read_entries};
+use ec_order::Linearizer;
+use ec_text::Output;
+use ec_trace::{AuditedWorld, Heading, Lines, TraceFault, TraceOpening, open_trace, read_entries};
 use std::alloc::Global;
 use std::io::{Read, Write};
 
@@ -33,12 +33,12 @@ pub(crate) fn status_of(fault: &TraceFault) -> Status
 }
 
 /// Notes that a trace was not read, and returns how the command ends.
-pub fn note_unread<N: Write>(fault: &TraceFault, notes: &mut Out<'_, N>) -> Status
+pub fn note_unread<N: Write>(fault: &TraceFault, notes: &mut Output<'_, N>) -> Status
     ensures status { result ≡ fault_status fault.now }
     ensures note { Puts notes.old notes.new (fault_note fault.now) }
     ensures written { IsWrittenOut notes.new }
 {
-    say_fault(notes, fault);
+    report_fault(notes, fault);
     status_of(fault)
 }
 
@@ -46,9 +46,9 @@ pub fn note_unread<N: Write>(fault: &TraceFault, notes: &mut Out<'_, N>) -> Stat
 fn write_order<W: Write, N: Write>(
     heading: &Heading,
     world: &World,
-    timeline: &Timeline<'_>,
+    timeline: &Linearizer<'_>,
     out: &mut W,
-    notes: &mut Out<'_, N>,
+    notes: &mut Output<'_, N>,
 ) -> Status
     ensures ends { (entries : List Entry) → IsReadInto heading.now entries world.now timeline.now → Writes (record { heading = heading.now; entries = entries }) result
         (record { out = W.contents out.old; notes = notes.old })
@@ -71,11 +71,11 @@ fn write_order<W: Write, N: Write>(
 /// Writes the text of a trace, of which this was gathered. (It stands apart from its caller: so the room that it takes is not there
 /// while the trace is read.)
 #[inline(never)]
-fn write_watched<W: Write, N: Write>(
+fn write_linearization<W: Write, N: Write>(
     heading: &Heading,
-    watched: Watched<Timeline<'_>>,
+    watched: AuditedWorld<Linearizer<'_>>,
     out: &mut W,
-    notes: &mut Out<'_, N>,
+    notes: &mut Output<'_, N>,
 ) -> Status
     ensures ends { (entries : List Entry) → IsReadInto heading.now entries watched.entry.world watched.entry.audit → Writes (record { heading = heading.now; entries = entries }) result
         (record { out = W.contents out.old; notes = notes.old })
@@ -95,21 +95,21 @@ fn check_entries<R: Read, W: Write, N: Write>(
     lines: Lines,
     reader: &mut R,
     out: &mut W,
-    notes: &mut Out<'_, N>,
+    notes: &mut Output<'_, N>,
 ) -> Status
     ensures ends { (bytes : List ℕ) → IsOpened bytes (R.remaining reader.old) lines heading.now → Checks bytes (R.remaining reader.new) result
         (record { out = W.contents out.old; notes = notes.old })
         (record { out = W.contents out.new; notes = notes.new }) }
     ensures written { IsWrittenOut notes.old → IsWrittenOut notes.new }
 {
-    let Ok(timeline) = Timeline::open(alloc, heading.setup()) else {
+    let Ok(timeline) = Linearizer::open(alloc, heading.setup()) else {
         return note_unread(&TraceFault::Memory, notes);
     };
-    let mut watched = Watched::new(heading.setup().copy(), timeline);
+    let mut watched = AuditedWorld::new(heading.setup().copy(), timeline);
     if let Err(fault) = read_entries(alloc, lines, reader, heading, &mut watched) {
         return note_unread(&fault, notes);
     }
-    write_watched(heading, watched, out, notes)
+    write_linearization(heading, watched, out, notes)
 }
 
 /// Reads a trace, and writes the order of its completed calls and the totals; notes say what is
@@ -122,7 +122,7 @@ pub fn check<R: Read, W: Write, N: Write>(
     alloc: Global,
     reader: &mut R,
     out: &mut W,
-    notes: &mut Out<'_, N>,
+    notes: &mut Output<'_, N>,
 ) -> Status
     ensures ends { IfSome (R.remaining reader.old) (λ bytes. Checks bytes (R.remaining reader.new) result
         (record { out = W.contents out.old; notes = notes.old })
@@ -130,7 +130,9 @@ pub fn check<R: Read, W: Write, N: Write>(
     ensures written { IsWrittenOut notes.old → IsWrittenOut notes.new }
 {
     match open_trace(alloc, reader) {
-        Ok(Opened { heading, lines }) => check_entries(alloc, &heading, lines, reader, out, notes),
+        Ok(TraceOpening { heading, lines }) => check_entries(
+            alloc, &heading, lines, reader, out, notes,
+        ),
         Err(fault) => note_unread(&fault, notes),
     }
 }

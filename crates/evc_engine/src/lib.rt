@@ -1,8 +1,8 @@
 //! What the program does with its input: texts out as a function of bytes in.
 #![tactic(auto)]
 
+mod audit_result;
 mod audit_text;
-mod audited;
 mod auditing;
 mod checking;
 mod laws;
@@ -20,6 +20,6 @@ pub use laws::{
     notes_leave_the_table, refused_audits_have_one_note, refused_checks_have_one_note,
     texts_have_no_version,
 };
-pub use notes::{put_line, put_refused, say_fault};
+pub use notes::{put_line, put_refused, report_fault};
 pub use status::Status;
 pub use upgrading::upgrade;

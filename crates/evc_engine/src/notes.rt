@@ -6,12 +6,12 @@ ghost use Rattle.evc_engine.specs.Audits.{not_followed_note};
 use crate::audit_text::group_word;
 use ec_core::{Refusal, Reply};
 use ec_count::WorkerId;
-use ec_text::Out;
+use ec_text::Output;
 use ec_trace::{Heading, Spellings, TraceFault, put_reply};
 use std::io::Write;
 
 /// Puts what a note says of a refused act.
-pub fn put_refused<W: Write>(out: &mut Out<'_, W>, refusal: Refusal)
+pub fn put_refused<W: Write>(out: &mut Output<'_, W>, refusal: Refusal)
     ensures { Puts out.old out.new (refused_words refusal) }
 {
     out.put(b"refused ");
@@ -21,7 +21,7 @@ pub fn put_refused<W: Write>(out: &mut Out<'_, W>, refusal: Refusal)
 }
 
 /// Puts what a note says of a wrong reply.
-fn put_wrong<W: Write>(out: &mut Out<'_, W>, right: &Reply)
+fn put_wrong<W: Write>(out: &mut Output<'_, W>, right: &Reply)
     ensures { Puts out.old out.new (wrong_words right.now) }
 {
     out.put(b"wrong reply, right is ");
@@ -29,7 +29,7 @@ fn put_wrong<W: Write>(out: &mut Out<'_, W>, right: &Reply)
 }
 
 /// Puts the beginning of a note on a line.
-pub fn put_line<W: Write>(out: &mut Out<'_, W>, line: u64)
+pub fn put_line<W: Write>(out: &mut Output<'_, W>, line: u64)
     ensures { Puts out.old out.new (line_words line) }
 {
     out.put(b"line ");
@@ -38,7 +38,7 @@ pub fn put_line<W: Write>(out: &mut Out<'_, W>, line: u64)
 }
 
 /// Puts the note on a fault of a trace.
-fn put_fault<W: Write>(out: &mut Out<'_, W>, fault: &TraceFault)
+fn put_fault<W: Write>(out: &mut Output<'_, W>, fault: &TraceFault)
     ensures { Puts out.old out.new (fault_note fault.now) }
 {
     match *fault {
@@ -64,7 +64,7 @@ fn put_fault<W: Write>(out: &mut Out<'_, W>, fault: &TraceFault)
 }
 
 /// Puts the note on an entry that breaks a group.
-fn put_break<W: Write>(out: &mut Out<'_, W>, group: &[u8], worker: &[u8], entry: u64)
+fn put_break<W: Write>(out: &mut Output<'_, W>, group: &[u8], worker: &[u8], entry: u64)
     ensures { Puts out.old out.new (break_note group.now worker.now entry) }
 {
     put_broken(out, group);
@@ -72,7 +72,7 @@ fn put_break<W: Write>(out: &mut Out<'_, W>, group: &[u8], worker: &[u8], entry:
 }
 
 /// Puts the beginning of that note: the group.
-fn put_broken<W: Write>(out: &mut Out<'_, W>, group: &[u8])
+fn put_broken<W: Write>(out: &mut Output<'_, W>, group: &[u8])
     ensures { Puts out.old out.new (broken_words group.now) }
 {
     out.put(group);
@@ -80,7 +80,7 @@ fn put_broken<W: Write>(out: &mut Out<'_, W>, group: &[u8])
 }
 
 /// Puts the end of that note: the entry and its worker.
-fn put_breaker<W: Write>(out: &mut Out<'_, W>, worker: &[u8], entry: u64)
+fn put_breaker<W: Write>(out: &mut Output<'_, W>, worker: &[u8], entry: u64)
     ensures { Puts out.old out.new (breaker_words worker.now entry) }
 {
     out.put(worker);
@@ -90,7 +90,7 @@ fn put_breaker<W: Write>(out: &mut Out<'_, W>, worker: &[u8], entry: u64)
 }
 
 /// Says a fault of a trace: the note is put and written.
-pub fn say_fault<W: Write>(notes: &mut Out<'_, W>, fault: &TraceFault)
+pub fn report_fault<W: Write>(notes: &mut Output<'_, W>, fault: &TraceFault)
     ensures puts { Puts notes.old notes.new (fault_note fault.now) }
     ensures written { IsWrittenOut notes.new }
 {
@@ -100,8 +100,8 @@ pub fn say_fault<W: Write>(notes: &mut Out<'_, W>, fault: &TraceFault)
 
 /// Says that a group is not followed: the note has its number, and the first entry that breaks its
 /// rule, with that entry's worker.
-pub(crate) fn say_not_followed<W: Write>(
-    notes: &mut Out<'_, W>,
+pub(crate) fn report_not_followed<W: Write>(
+    notes: &mut Output<'_, W>,
     heading: &Heading,
     group: usize,
     worker: WorkerId,

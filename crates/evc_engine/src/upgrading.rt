@@ -4,15 +4,19 @@ ghost use Rattle.evc_engine.specs.Upgrades.{Rewrites, Upgrades};
 ghost use Rattle.ec_text.specs.Puts.{IsWrittenOut};
 
 use crate::checking::status_of;
-use crate::notes::say_fault;
+use crate::notes::report_fault;
 use crate::status::Status;
-use ec_text::Out;
+use ec_text::Output;
 use ec_trace::{Traced, read_trace, write_trace};
 use std::alloc::Global;
 use std::io::{Read, Write};
 
 /// Writes a trace in version 2.
-fn write_upgraded<W: Write, N: Write>(traced: Traced, out: &mut W, notes: &mut Out<'_, N>) -> Status
+fn write_upgraded<W: Write, N: Write>(
+    traced: Traced,
+    out: &mut W,
+    notes: &mut Output<'_, N>,
+) -> Status
     ensures ends { Rewrites traced result
         (record { out = W.contents out.old; notes = notes.old })
         (record { out = W.contents out.new; notes = notes.new }) }
@@ -39,7 +43,7 @@ pub fn upgrade<R: Read, W: Write, N: Write>(
     alloc: Global,
     reader: &mut R,
     out: &mut W,
-    notes: &mut Out<'_, N>,
+    notes: &mut Output<'_, N>,
 ) -> Status
     ensures ends { IfSome (R.remaining reader.old) (λ bytes. Upgrades bytes (R.remaining reader.new) result
         (record { out = W.contents out.old; notes = notes.old })
@@ -49,7 +53,7 @@ pub fn upgrade<R: Read, W: Write, N: Write>(
     match read_trace(alloc, reader) {
         Ok(traced) => write_upgraded(traced, out, notes),
         Err(fault) => {
-            say_fault(notes, &fault);
+            report_fault(notes, &fault);
             status_of(&fault)
         }
     }

@@ -3,16 +3,16 @@ ghost use Rattle.std.specs.Prelude.{◌≡◌, ◌+◌, ◌^◌, ◌<◌, List, 
 ghost use Rattle.ec_core.specs.declared.act.Entry.{Entry};
 ghost use Rattle.ec_core.specs.Audits.{IsAuditFault};
 ghost use Rattle.ec_core.specs.Calls.{under_way};
-ghost use Rattle.ec_core.specs.Following.{opened};
-ghost use Rattle.ec_semaphore.specs.Auditing.{Balancing, BalancesOn};
-ghost use Rattle.ec_heading.specs.Headed.{Headed};
+ghost use Rattle.ec_core.specs.Following.{opening_act};
+ghost use Rattle.ec_semaphore.specs.Auditing.{BalanceAuditModel, BalancesOn};
+ghost use Rattle.ec_heading.specs.HeadingModel.{HeadingModel};
 ghost use Rattle.ec_heading.specs.Rules.{group_rules};
 ghost use Rattle.ec_heading.specs.declared.group.Group.{Group};
 ghost use Rattle.evc_engine.specs.AuditTexts.{now_of};
 ghost use Rattle.evc_engine.specs.Audits.{IsAudited};
-ghost use Rattle.evc_engine.specs.Walks.{StandsFor, EachStands, EndsFor};
+ghost use Rattle.evc_engine.specs.Walks.{StandsFor, EachRepresents, EndsFor};
 
-use crate::audited::Audited;
+use crate::audit_result::AuditResult;
 use ec_buffer::DeliveryAudit;
 use ec_core::{Act, Audit, AuditFault, Entry};
 use ec_count::Setup;
@@ -43,8 +43,8 @@ pub(crate) struct BothAudit<'a> {
 impl<'a> BothAudit<'a> {
     /// Returns what they found of the entries so far: the pairs, by the rule of `both`, and the
     /// balance.
-    fn finish(self) -> Result<Audited, AuditFault>
-        ensures { (h : Headed) (entries : List Entry) (g : Group) → EndsFor h entries g (Auditing.Both self.entry)
+    fn finish(self) -> Result<AuditResult, AuditFault>
+        ensures { (h : HeadingModel) (entries : List Entry) (g : Group) → EndsFor h entries g (Auditing.Both self.entry)
             → MatchResult result (λ a. IsAudited h entries g a) (λ fault. IsAuditFault (group_rules h.setup h.groups g) entries fault) }
     {
         let BothAudit {
@@ -55,7 +55,7 @@ impl<'a> BothAudit<'a> {
         match pairs.finish() {
             Ok(list) => {
                 let parts = balance.so_far();
-                Ok(Audited::Pairs(parts, now_of(&parts), list))
+                Ok(AuditResult::Pairs(parts, now_of(&parts), list))
             }
             Err(fault) => Err(fault),
         }
@@ -72,7 +72,7 @@ fn take_on(
     entry: &Entry,
 )
     requires { place + 1 < 2 ^ 64 }
-    ensures { (start : Balancing) (past : List Entry) → place ≡ length past → op.now ≡ opened entry.now.act (under_way entry.now.worker past)
+    ensures { (start : BalanceAuditModel) (past : List Entry) → place ≡ length past → op.now ≡ opening_act entry.now.act (under_way entry.now.worker past)
         → semaphore.now ≡ audit.old.shape → BalancesOn start audit.old past → BalancesOn start audit.new (entry.now ∷ past) }
 {
     if is_on(semaphore, op) {
@@ -83,7 +83,7 @@ fn take_on(
 impl<'a> Audit for BothAudit<'a> {
     ghost use Rattle.evc_engine.specs.Walks.{BothOn};
 
-    ghost stands = { BothOn };
+    ghost represents = { BothOn };
 
     fn take(&mut self, place: usize, op: &Act, entry: &Entry) {
         take_on(&mut self.balance, &self.common, place, op, entry);
@@ -131,21 +131,22 @@ impl<'a> Auditing<'a> {
 impl<'a> Auditing<'a> {
     /// Returns what it found of the entries so far, or the first of them that breaks the group's
     /// lists of calls.
-    pub(crate) fn finish(self) -> Result<Audited, AuditFault>
-        ensures { (h : Headed) (entries : List Entry) (g : Group) → EndsFor h entries g self.entry
+    pub(crate) fn finish(self) -> Result<AuditResult, AuditFault>
+        ensures { (h : HeadingModel) (entries : List Entry) (g : Group)
+            → EndsFor h entries g self.entry
             → MatchResult result (λ a. IsAudited h entries g a) (λ fault. IsAuditFault (group_rules h.setup h.groups g) entries fault) }
     {
         match self {
             Auditing::Deliveries(audit) => match audit.finish() {
-                Ok(list) => Ok(Audited::Deliveries(list)),
+                Ok(list) => Ok(AuditResult::Deliveries(list)),
                 Err(fault) => Err(fault),
             },
             Auditing::Versions(audit) => match audit.finish() {
-                Ok(tries) => Ok(Audited::Versions(tries)),
+                Ok(tries) => Ok(AuditResult::Versions(tries)),
                 Err(fault) => Err(fault),
             },
             Auditing::Balance(audit) => match audit.finish() {
-                Ok(parts) => Ok(Audited::Balances(parts, now_of(&parts))),
+                Ok(parts) => Ok(AuditResult::Balances(parts, now_of(&parts))),
                 Err(fault) => Err(fault),
             },
             Auditing::Both(audit) => audit.finish(),
@@ -156,7 +157,7 @@ impl<'a> Auditing<'a> {
 impl<'a> Audit for Auditing<'a> {
     ghost use Rattle.evc_engine.specs.Walks.{AuditsOn};
 
-    ghost stands = { AuditsOn };
+    ghost represents = { AuditsOn };
 
     #[inline(always)]
     fn take(&mut self, place: usize, op: &Act, entry: &Entry) {
@@ -181,13 +182,13 @@ impl<'a> GroupAudit for Auditing<'a> {
 }
 
 /// Returns the audits of groups before the first entry, if these are all semaphores.
-pub(crate) fn opened<'a>(
+pub(crate) fn open_audits<'a>(
     alloc: Global,
     groups: &'a [Group],
     setup: &'a Setup,
     semaphores: &'a [SemaphoreShape],
 ) -> Result<Vec<Auditing<'a>>, AllocError>
-    ensures { IfOk result (λ audits. EachStands setup.now semaphores.now groups.now audits.items []) }
+    ensures { IfOk result (λ audits. EachRepresents setup.now semaphores.now groups.now audits.items []) }
 {
     let mut audits = Vec::new(alloc);
     for number in 0..groups.len() {

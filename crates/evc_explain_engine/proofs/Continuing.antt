@@ -4,7 +4,7 @@ use Rattle.std.proofs.Common.{zero, suc, ap, sym, arith, append_assoc, append-ni
 use Rattle.std.specs.List.{All}
 use Rattle.std.proofs.Math.Seq.{take-append-add}
 use Rattle.std.proofs.lemmas.List.Elements.{All-append, All-take}
-use Rattle.evc_explain_engine.specs.GoingOn.{Continues}
+use Rattle.evc_explain_engine.specs.Continuation.{Continues}
 
 none : (n : ℕ) → All (λ w. w < n) []
 none n k d within = absurd (omega (arith, within))

@@ -4,7 +4,7 @@ use Rattle.std.proofs.Common.{take, drop, cond, true, false, eqb, ltb, Option, S
 use Rattle.std.proofs.Common.{◌∙◌, ne_eqb, lt-ltb, arith, length-append, append_assoc, length-take}
 use Rattle.std.specs.Prelude.{unwrap_or}
 use Rattle.std.specs.List.{AllByRecursion, position_from, flat_map}
-use Rattle.ec_explain.specs.TextLines.{place_of, behind_line, behind, first_line, line_at, before_line}
+use Rattle.ec_explain.specs.TextLines.{position_or_end, text_after_line, behind, first_line, line_at, text_before_line}
 use Rattle.ec_heading.specs.Spelling.{ended_line as ended}
 
 -- a line without an LF
@@ -43,7 +43,8 @@ from_first line more plain =
     let count : 0 + length line ≡ length line = omega arith in
     passes line more 0 plain ∙ ap (λ n. position_from (λ b. eqb b 10) n more) count
 
-place_here : (line more : List ℕ) → IsPlain line → place_of 10 (line ++ 10 ∷ more) ≡ length line
+place_here : (line more : List ℕ) → IsPlain line
+    → position_or_end 10 (line ++ 10 ∷ more) ≡ length line
 place_here line more plain =
     ap (λ o. unwrap_or o (length (line ++ 10 ∷ more))) (from_first line (10 ∷ more) plain)
 
@@ -52,17 +53,17 @@ pub first_here : (line more : List ℕ) → IsPlain line → first_line (line ++
 first_here line more plain =
     ap (λ n. take n (line ++ 10 ∷ more)) (place_here line more plain) ∙ take_here line (10 ∷ more)
 
-behind_here : (line more : List ℕ) → IsPlain line → behind_line (line ++ 10 ∷ more) ≡ more
+behind_here : (line more : List ℕ) → IsPlain line → text_after_line (line ++ 10 ∷ more) ≡ more
 behind_here line more plain =
-    let here : place_of 10 (line ++ 10 ∷ more) ≡ length line = place_here line more plain in
+    let here : position_or_end 10 (line ++ 10 ∷ more) ≡ length line = place_here line more plain in
     let within : ltb (length line) (length (line ++ 10 ∷ more)) ≡ true =
     lt-ltb _ _ (omega (arith, length-append line (10 ∷ more))) in
     rw (here, within) (drop_here line more 10)
 
-behind_first : (n : ℕ) (xs : List ℕ) → behind (suc n) xs ≡ behind n (behind_line xs)
+behind_first : (n : ℕ) (xs : List ℕ) → behind (suc n) xs ≡ behind n (text_after_line xs)
 unfolding behind
 behind_first zero xs = refl
-behind_first (suc n) xs = ap behind_line (behind_first n xs)
+behind_first (suc n) xs = ap text_after_line (behind_first n xs)
 
 -- behind some lines
 pub behind_lines : (before : List (List ℕ)) (rest : List ℕ) → AllByRecursion IsPlain before
@@ -75,13 +76,14 @@ behind_lines (line ∷ before) rest plain =
     append_assoc (ended line) (flat_map ended before) rest
     ∙ append_assoc line (10 ∷ []) (flat_map ended before ++ rest) in
     behind_first (length before) ((ended line ++ flat_map ended before) ++ rest)
-    ∙ ap (λ xs. behind (length before) (behind_line xs)) grouped
+    ∙ ap (λ xs. behind (length before) (text_after_line xs)) grouped
     ∙ ap (behind (length before)) (behind_here line (flat_map ended before ++ rest) plain.0)
     ∙ behind_lines before rest plain.1
 
 -- the lines before a line
 pub before_here : (n : ℕ) (before : List (List ℕ)) (rest : List ℕ) → AllByRecursion IsPlain before
-    → length before + 1 ≡ n → before_line n (flat_map ended before ++ rest) ≡ flat_map ended before
+    → length before + 1 ≡ n
+    → text_before_line n (flat_map ended before ++ rest) ≡ flat_map ended before
 before_here n before rest plain number =
     let text : List ℕ = flat_map ended before ++ rest in
     let count : n - 1 ≡ length before = omega (arith, number) in
@@ -113,7 +115,7 @@ pub first_long : (line more : List ℕ) → IsPlain line
     → length line ≤ length (first_line (line ++ more))
 first_long line more plain =
     let found : Option ℕ = position_from (λ b. eqb b 10) (length line) more in
-    let place : place_of 10 (line ++ more) ≡ unwrap_or found (length (line ++ more)) =
+    let place : position_or_end 10 (line ++ more) ≡ unwrap_or found (length (line ++ more)) =
     ap (λ o. unwrap_or o (length (line ++ more))) (from_first line more plain) in
     let far : length line ≤ unwrap_or found (length (line ++ more)) =
     elim found as (λ o. found ≡ o → length line ≤ unwrap_or o (length (line ++ more))) [
@@ -125,5 +127,5 @@ first_long line more plain =
       far,
       place,
       length-append line more,
-      length-take (place_of 10 (line ++ more)) (line ++ more),
+      length-take (position_or_end 10 (line ++ more)) (line ++ more),
     )

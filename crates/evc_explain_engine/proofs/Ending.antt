@@ -2,7 +2,7 @@
 use Rattle.std.proofs.Common.{◌≡◌, ◌∙◌, ℕ, ◌+◌, ◌<◌, ◌≤◌, List, [], ◌∷◌, ◌++◌, length, reverse, refl, sym, ap, arith}
 use Rattle.std.proofs.Common.{false, subst, Option, Some, IfSome, Result, Ok, Err, IfOk, inr, Vec}
 use Rattle.std.specs.declared.alloc.Global.{Global}
-use Rattle.ec_heading.specs.Spelling.{Named}
+use Rattle.ec_heading.specs.Spelling.{NameTable}
 use Rattle.std.specs.List.{All, list_any}
 use Rattle.std.proofs.lemmas.List.Elements.{All-append}
 use Rattle.ec_count.specs.Tables.{Tables}
@@ -11,9 +11,9 @@ use Rattle.ec_machine.specs.declared.outcome.Outcome.{Outcome}
 use Rattle.ec_runner.specs.declared.report.Report.{Report}
 use Rattle.ec_runner.specs.Reported.{IsReport}
 use Rattle.ec_script.specs.declared.plan.Plan.{Plan}
-use Rattle.evc_explain_engine.specs.declared.playing.End.{End}
-use Rattle.evc_explain_engine.specs.Played.{ends_from, goes_on}
-use Rattle.evc_explain_engine.specs.GoingOn.{Continues, ComesTo, AreLeft, SaysBeyond, come_text, ends_after}
+use Rattle.evc_explain_engine.specs.declared.worker_ends.End.{End}
+use Rattle.evc_explain_engine.specs.WorkerEnds.{ends_from, can_continue}
+use Rattle.evc_explain_engine.specs.Continuation.{Continues, IsMaximalRun, AreFinalEnds, IsContinuationText, final_ends_text, ends_after}
 use Rattle.evc_explain_engine.proofs.Continuing.{continues_more}
 
 each_end : (t : Tables) (past : List Entry) (s : List ℕ) (w : ℕ) (os : List Outcome)
@@ -43,7 +43,7 @@ pub comes_to : (p q : Plan) (schedule seen : List ℕ) (r : Report) (os : List O
     → schedule ≡ q.schedule.items
     → IsReport q.heading.setup q.programs.items q.schedule.items r → seen ≡ schedule
     → os ≡ r.outcomes.items → es ≡ ends_from r.run.setup (reverse r.run.entries) seen 0 os
-    → list_any goes_on es ≡ false → AreLeft p es
+    → list_any can_continue es ≡ false → AreFinalEnds p es
 comes_to p q schedule seen r os es heading programs continues same report see out ends still =
     let all : es ≡ ends_after schedule r = rw (sym see, sym out) ends in (
       schedule,
@@ -104,10 +104,10 @@ pub given : {X : Type 0} (o : Option X) (x : X) → o ≡ Some x → (P : X → 
 given o x is P so = subst (λ k. IfSome k P) is so
 
 -- what is said beyond the schedule of a script
-pub says_beyond : {E : Type 0} (p : Plan) (words : Named) (es seen : List End)
-    (r : Result (Vec ℕ Global) E) → AreLeft p es → seen ≡ es → words ≡ p.heading.words
-    → IfOk r (λ bytes. bytes.items ≡ come_text words seen)
-    → IfOk r (λ bytes. SaysBeyond p bytes.items)
-says_beyond p words es seen (Ok bytes) left see same told =
-    inr (es, left, rw (sym see, sym same) told)
-says_beyond p words es seen (Err e) left see same told = tt
+pub says_beyond : {E : Type 0} (p : Plan) (words : NameTable) (es seen : List End)
+    (r : Result (Vec ℕ Global) E) → AreFinalEnds p es → seen ≡ es → words ≡ p.heading.words
+    → IfOk r (λ bytes. bytes.items ≡ final_ends_text words seen)
+    → IfOk r (λ bytes. IsContinuationText p bytes.items)
+says_beyond p words es seen (Ok bytes) left see same explanation =
+    inr (es, left, rw (sym see, sym same) explanation)
+says_beyond p words es seen (Err e) left see same explanation = tt

@@ -11,6 +11,6 @@ pub whole_explained : (old left : Option (List ℕ)) (text : List ℕ) (status :
     → IfSome old (λ bytes. (text ≡ looked_at TRACE_MAX bytes) × IsReadUp TRACE_MAX bytes left)
     → ExplainsText text status before after
     → IfSome old (λ bytes. Explains bytes left status before after)
-whole_explained None left text status before after is told = tt
-whole_explained (Some bytes) left text status before after is told =
-    inr (inl (subst (λ t. ExplainsText t status before after) is.0 told))
+whole_explained None left text status before after is explanation = tt
+whole_explained (Some bytes) left text status before after is explanation =
+    inr (inl (subst (λ t. ExplainsText t status before after) is.0 explanation))

@@ -7,8 +7,8 @@ use Rattle.ec_trace.specs.declared.read.TheConstants.{TRACE_MAX}
 use Rattle.evc_engine.specs.declared.status.Status.{Status}
 use Rattle.evc_engine.specs.declared.status.Status.TheVariants.{InputOutput, Memory}
 use Rattle.evc_engine.specs.Checks.{Outlets, Notes, KeepsNotes}
-use Rattle.evc_explain_engine.specs.Tells.{Tells}
-use Rattle.evc_explain_engine.specs.declared.told.Told.{Told}
+use Rattle.evc_explain_engine.specs.Explanations.{IsExplanation}
+use Rattle.evc_explain_engine.specs.declared.explanation.Explanation.{Explanation}
 
 -- the text was written, and the program ends so; or a write failed, and a prefix of it was written
 abbrev pub Writes : List ℕ → Status → Status → Outlets → Outlets → Type 0
@@ -18,19 +18,20 @@ Writes text done status old new =
     × Notes old new (codes "write fault\n"))
 
 -- memory was refused, and nothing was written
-abbrev pub Wants : Status → Outlets → Outlets → Type 0
-Wants status old new =
+abbrev pub IsOutOfMemory : Status → Outlets → Outlets → Type 0
+IsOutOfMemory status old new =
     (status ≡ Memory) × Keeps old.out new.out × Notes old new (codes "no memory\n")
 
 -- how the program ended with a text that was read to its end: what is said of it was written
 abbrev pub ExplainsText : List ℕ → Status → Outlets → Outlets → Type 0
 ExplainsText text status old new =
-    Wants status old new
-    ⊎ ((told : Told) × Tells text told × Writes told.bytes.items told.status status old new)
+    IsOutOfMemory status old new
+    ⊎ ((explanation : Explanation) × IsExplanation text explanation
+    × Writes explanation.bytes.items explanation.status status old new)
 
 -- a failed read is told, and nothing was written
-abbrev pub TellsRead : Status → Outlets → Outlets → Type 0
-TellsRead status old new =
+abbrev pub ReportsReadFault : Status → Outlets → Outlets → Type 0
+ReportsReadFault status old new =
     (status ≡ InputOutput) × Keeps old.out new.out × Notes old new (codes "read fault\n")
 
 -- how the program ended, for an input that had these bytes and has those left: with what was looked
@@ -38,6 +39,6 @@ TellsRead status old new =
 -- failed
 abbrev pub Explains : List ℕ → Option (List ℕ) → Status → Outlets → Outlets → Type 0
 Explains bytes left status old new =
-    Wants status old new
+    IsOutOfMemory status old new
     ⊎ (ExplainsText (looked_at TRACE_MAX bytes) status old new
-    ⊎ ((text : List ℕ) × IsCutOff TRACE_MAX bytes left text × TellsRead status old new))
+    ⊎ ((text : List ℕ) × IsCutOff TRACE_MAX bytes left text × ReportsReadFault status old new))

@@ -4,8 +4,8 @@ use Rattle.std.proofs.lemmas.List.{reverse-reverse, take_all, length-take}
 use Rattle.ec_count.specs.Tables.{Tables}
 use Rattle.ec_core.specs.declared.act.Entry.{Entry}
 use Rattle.ec_machine.specs.declared.outcome.Outcome.{Outcome}
-use Rattle.ec_heading.specs.Outline.{Outline, IsOutline, headed}
-use Rattle.ec_heading.specs.Outlined.{HasOutline}
+use Rattle.ec_heading.specs.HeaderTree.{HeaderTree, IsHeaderTree, heading_of_tree}
+use Rattle.ec_heading.specs.HeadingInvariant.{HasHeaderTree}
 use Rattle.ec_heading.specs.Spelling.{trace_text}
 use Rattle.ec_runner.specs.Reported.{IsReport}
 use Rattle.ec_runner.specs.declared.report.Report.{Report}
@@ -15,7 +15,7 @@ use Rattle.ec_script.specs.declared.plan.Plan.{Plan}
 use Rattle.ec_script.specs.Flat.{flat}
 use Rattle.ec_script.specs.Grammar.{IsScript, IsNoScript}
 use Rattle.ec_script.specs.Outcome.{outcome, shown_plan}
-use Rattle.ec_script.specs.Scripted.{Planned}
+use Rattle.ec_script.specs.ScriptModel.{PlanModel}
 use Rattle.ec_script.specs.Versioned.{HasOrders}
 use Rattle.ec_script.proofs.shared.Texts.{read_is_script, script_is_read}
 use Rattle.ec_script.proofs.shared.WrittenOut.{had_lines}
@@ -30,7 +30,7 @@ use Rattle.evc_scripts.proofs.PlainActs.{turns_spelled}
 -- A REPORT
 
 -- a report of a plan, and its trace by an outline of the heading
-pub is_played : (plan : Plan) (report : Report) (h : HasOutline plan.heading) → HasOrders plan.heading.version (map flat plan.programs.items) → IsReport plan.heading.setup plan.programs.items plan.schedule.items report
+pub is_played : (plan : Plan) (report : Report) (h : HasHeaderTree plan.heading) → HasOrders plan.heading.version (map flat plan.programs.items) → IsReport plan.heading.setup plan.programs.items plan.schedule.items report
     → IsPlayed (shown_plan plan) (trace_text h.outline report.run.entries) (outcomes_note plan.heading report.outcomes.items)
 is_played plan report h has r = record {
   turns = r.turns;
@@ -57,17 +57,17 @@ all_of_it max bytes short =
 looked_at_all : (max : ℕ) (bytes : List ℕ) → length bytes ≤ max → looked_at max bytes ≡ bytes
 looked_at_all max bytes short = take_all (max + 1) bytes (omega (arith, short))
 
-pub says : (bytes : List ℕ) (p : Planned) → outcome (looked_at SCRIPT_MAX bytes) ≡ Ok p → SaysPlan bytes p
-says bytes p told =
-    let s : IsScript (looked_at SCRIPT_MAX bytes) p = read_is_script (looked_at SCRIPT_MAX bytes) p told in
-    record { script = subst (λ (b : List ℕ). IsScript b p) (all_of_it SCRIPT_MAX bytes s.within) s; told = told }
+pub says : (bytes : List ℕ) (p : PlanModel) → outcome (looked_at SCRIPT_MAX bytes) ≡ Ok p → SaysPlan bytes p
+says bytes p returned =
+    let s : IsScript (looked_at SCRIPT_MAX bytes) p = read_is_script (looked_at SCRIPT_MAX bytes) p returned in
+    record { script = subst (λ (b : List ℕ). IsScript b p) (all_of_it SCRIPT_MAX bytes s.within) s; returned = returned }
 
 pub refused_at : (bytes : List ℕ) (n : ℕ) (kind : Kind) → outcome (looked_at SCRIPT_MAX bytes) ≡ Err (n, kind) → RefusedAt bytes n kind
-refused_at bytes n kind told = record {
+refused_at bytes n kind returned = record {
   none = λ p s.
       let read : outcome (looked_at SCRIPT_MAX bytes) ≡ Ok p = ap outcome (looked_at_all SCRIPT_MAX bytes s.within) ∙ script_is_read bytes p s in
-      (let never : Ok p ≡ Err (n, kind) = sym read ∙ told in cc);
-  told = told;
+      (let never : Ok p ≡ Err (n, kind) = sym read ∙ returned in cc);
+  returned = returned;
 }
 
 -- THE COMMAND

@@ -8,14 +8,14 @@ use Rattle.ec_trace.specs.Outcome.{outcome}
 use Rattle.ec_trace.specs.declared.read.TheConstants.{TRACE_MAX}
 use Rattle.ec_script.specs.declared.fault.Kind.{Kind}
 use Rattle.ec_script.specs.Flat.{flat}
-use Rattle.ec_script.specs.Scripted.{Planned}
+use Rattle.ec_script.specs.ScriptModel.{PlanModel}
 use Rattle.ec_runner.specs.Schedules.{Turn, Plays, entries_of, outcome_after}
 use Rattle.ec_runner.specs.ScheduleLaws.{IsHistoryOf}
 use Rattle.evc_engine.specs.declared.status.Status.{Status}
 use Rattle.evc_engine.specs.declared.status.Status.TheVariants.{Done, Refused}
 use Rattle.evc_engine.specs.Checks.{Outlets}
 use Rattle.evc_scripts.specs.Sims.{AreProgramsOf, PlaysPlan, EndsEarly, IsPlayed, RefusedAt, Sims}
-use Rattle.evc_scripts.specs.Runs.{HaveRun, Says, Runs}
+use Rattle.evc_scripts.specs.Runs.{HaveRun, WritesOnlyNote, Runs}
 
 -- ONE TEXT FOR A SCRIPT
 
@@ -27,26 +27,26 @@ LinesPlayAlike = (t : Tables) (programs others : List (List Command)) (schedule 
 
 -- a plan is played in one way at most
 abbrev pub PlansHaveOneRun : Type 0
-PlansHaveOneRun = (p : Planned) (turns others : List Turn) (outcomes ends : List Outcome)
+PlansHaveOneRun = (p : PlanModel) (turns others : List Turn) (outcomes ends : List Outcome)
     → PlaysPlan p turns outcomes → PlaysPlan p others ends → (turns ≡ others) × (outcomes ≡ ends)
 
 -- and with one trace and one note
 abbrev pub SimsHaveOneText : Type 0
-SimsHaveOneText = (p : Planned) (trace note other remark : List ℕ)
+SimsHaveOneText = (p : PlanModel) (trace note other remark : List ℕ)
     → IsPlayed p trace note → IsPlayed p other remark → (trace ≡ other) × (note ≡ remark)
 
 -- if its schedule names a worker that has ended, in none
 abbrev pub EndedPlansAreNotPlayed : Type 0
-EndedPlansAreNotPlayed = (p : Planned) (place w : ℕ) (turns : List Turn) (outcomes : List Outcome) → EndsEarly p place w → PlaysPlan p turns outcomes → ⊥
+EndedPlansAreNotPlayed = (p : PlanModel) (place w : ℕ) (turns : List Turn) (outcomes : List Outcome) → EndsEarly p place w → PlaysPlan p turns outcomes → ⊥
 
 -- and has no history, whatever programs of its lines made it and however they are said to have ended
 abbrev pub EndedPlansHaveNoHistory : Type 0
-EndedPlansHaveNoHistory = (p : Planned) (place w : ℕ) (programs : List (List Command)) (h : List Entry) (outcome : ℕ → Outcome)
+EndedPlansHaveNoHistory = (p : PlanModel) (place w : ℕ) (programs : List (List Command)) (h : List Entry) (outcome : ℕ → Outcome)
     → EndsEarly p place w → AreProgramsOf p programs → IsHistoryOf p.heading.setup programs p.schedule h outcome → ⊥
 
 -- and it does so first at one place
 abbrev pub PlansEndAtOnePlace : Type 0
-PlansEndAtOnePlace = (p : Planned) (place w other v : ℕ) → EndsEarly p place w → EndsEarly p other v → (place ≡ other) × (w ≡ v)
+PlansEndAtOnePlace = (p : PlanModel) (place w other v : ℕ) → EndsEarly p place w → EndsEarly p other v → (place ≡ other) × (w ≡ v)
 
 -- no input may end with status 0 and with status 1
 abbrev pub SimsEndOneWay : Type 0
@@ -61,26 +61,26 @@ RefusedScriptsHaveOneFault = (bytes : List ℕ) (n m : ℕ) (kind sort : Kind) �
 -- whatever `sim` refuses, a script or bytes that are none: wherever it ends with status 1 on the same bytes, it writes nothing but the same note
 abbrev pub RefusedSimsHaveOneNote : Type 0
 RefusedSimsHaveOneNote = (bytes : List ℕ) (left rest : Option (List ℕ)) (old new before after : Outlets) → Sims bytes left Refused old new → Sims bytes rest Refused before after
-    → (note : List ℕ) × Says old new note × Says before after note
+    → (note : List ℕ) × WritesOnlyNote old new note × WritesOnlyNote before after note
 
 -- the same of `run`, whatever the bounds of turns
 abbrev pub RefusedRunsHaveOneNote : Type 0
 RefusedRunsHaveOneNote = (bytes : List ℕ) (left rest : Option (List ℕ)) (turns most : ℕ) (old new before after : Outlets) → Runs turns bytes left Refused old new → Runs most bytes rest Refused before after
-    → (note : List ℕ) × Says old new note × Says before after note
+    → (note : List ℕ) × WritesOnlyNote old new note × WritesOnlyNote before after note
 
 -- and where `run` refuses, `sim` writes the same note, if it ends with status 1
 abbrev pub RefusalsAreAlike : Type 0
 RefusalsAreAlike = (bytes : List ℕ) (left rest : Option (List ℕ)) (turns : ℕ) (old new before after : Outlets) → Sims bytes left Refused old new → Runs turns bytes rest Refused before after
-    → (note : List ℕ) × Says old new note × Says before after note
+    → (note : List ℕ) × WritesOnlyNote old new note × WritesOnlyNote before after note
 
 -- WHAT IS WRITTEN IS READ AGAIN
 
 -- the trace that is written is read again as the same run, if it is within the bound of traces
 abbrev pub SimulatedIsReadAgain : Type 0
-SimulatedIsReadAgain = (p : Planned) (trace note : List ℕ) (played : IsPlayed p trace note) → length trace ≤ TRACE_MAX
+SimulatedIsReadAgain = (p : PlanModel) (trace note : List ℕ) (played : IsPlayed p trace note) → length trace ≤ TRACE_MAX
     → outcome TRACE_MAX trace ≡ Ok (record { heading = p.heading; entries = reverse (entries_of played.turns) })
 
 -- the same of what workers on threads did
 abbrev pub RanIsReadAgain : Type 0
-RanIsReadAgain = (p : Planned) (turns : ℕ) (status : Status) (trace note : List ℕ) (ran : HaveRun p turns status trace note) → length trace ≤ TRACE_MAX
+RanIsReadAgain = (p : PlanModel) (turns : ℕ) (status : Status) (trace note : List ℕ) (ran : HaveRun p turns status trace note) → length trace ≤ TRACE_MAX
     → outcome TRACE_MAX trace ≡ Ok (record { heading = p.heading; entries = ran.report.run.entries })

@@ -1,7 +1,7 @@
 -- What a task does to the input and the outlets.
 use Rattle.std.specs.Prelude.{ℕ, List, Option}
-use Rattle.evc_task.specs.declared.choice.Task.{Task}
-use Rattle.evc_task.specs.declared.choice.Task.TheVariants.{Check, Audit, Upgrade, Sim, Run}
+use Rattle.evc_cli.specs.declared.choice.Task.{Task}
+use Rattle.evc_cli.specs.declared.choice.Task.TheVariants.{Check, Audit, Upgrade, Sim, Run}
 use Rattle.evc_engine.specs.declared.status.Status.{Status}
 use Rattle.evc_engine.specs.Checks.{Outlets, Checks}
 use Rattle.evc_engine.specs.Audits.{Audits}

@@ -1,7 +1,7 @@
 //! The notes of the commands on scripts.
 ghost use Rattle.std.specs.Prelude.{◌≡◌, ◌≤◌, ◌∷◌, [], length, slice_get};
 ghost use Rattle.ec_text.specs.Puts.{Puts, IsWrittenOut};
-ghost use Rattle.ec_heading.specs.Spelling.{text_of};
+ghost use Rattle.ec_heading.specs.Spelling.{lines_text};
 ghost use Rattle.evc_scripts.specs.OutcomeNotes.{outcome_words, outcome_line, outcome_lines, outcomes_note, kind_words, script_note, ended_words, ended_note};
 ghost use Rattle.evc_engine.specs.AuditTexts.{worker_word};
 ghost use Rattle.evc_scripts.specs.Runs.{mismatch_words};
@@ -9,13 +9,13 @@ ghost use Rattle.evc_scripts.specs.Runs.{mismatch_words};
 use ec_count::WorkerId;
 use ec_machine::Outcome;
 use ec_script::Kind;
-use ec_text::Out;
+use ec_text::Output;
 use ec_trace::{Heading, Spellings};
 use evc_engine::{put_line, put_refused};
 use std::io::Write;
 
 /// Puts how a program has ended.
-fn put_outcome<W: Write>(out: &mut Out<'_, W>, outcome: &Outcome)
+fn put_outcome<W: Write>(out: &mut Output<'_, W>, outcome: &Outcome)
     ensures { Puts out.old out.new (outcome_words outcome.now) }
 {
     match *outcome {
@@ -31,7 +31,7 @@ fn put_outcome<W: Write>(out: &mut Out<'_, W>, outcome: &Outcome)
 
 /// Puts how the program of a worker has ended.
 fn put_outcome_of<W: Write>(
-    out: &mut Out<'_, W>,
+    out: &mut Output<'_, W>,
     spellings: &Spellings<'_>,
     worker: WorkerId,
     outcome: &Outcome,
@@ -46,12 +46,12 @@ fn put_outcome_of<W: Write>(
 
 /// Puts the line of a worker, with its LF.
 fn put_outcome_line<W: Write>(
-    out: &mut Out<'_, W>,
+    out: &mut Output<'_, W>,
     spellings: &Spellings<'_>,
     worker: WorkerId,
     outcome: &Outcome,
 )
-    ensures { Puts out.old out.new (text_of (outcome_lines spellings.now worker (outcome.now ∷ []))) }
+    ensures { Puts out.old out.new (lines_text (outcome_lines spellings.now worker (outcome.now ∷ []))) }
 {
     put_outcome_of(out, spellings, worker, outcome);
     out.put_byte(b'\n');
@@ -64,9 +64,9 @@ fn outcome_at(outcomes: &[Outcome], place: usize) -> Option<Outcome>
 }
 
 /// Puts a line for each worker.
-fn put_outcomes<W: Write>(out: &mut Out<'_, W>, spellings: &Spellings<'_>, outcomes: &[Outcome])
+fn put_outcomes<W: Write>(out: &mut Output<'_, W>, spellings: &Spellings<'_>, outcomes: &[Outcome])
     requires { length outcomes.now ≤ 16 }
-    ensures { Puts out.old out.new (text_of (outcome_lines spellings.now 0 outcomes.now)) }
+    ensures { Puts out.old out.new (lines_text (outcome_lines spellings.now 0 outcomes.now)) }
 {
     for place in 0..outcomes.len() {
         let worker = WorkerId::new(place).unwrap();
@@ -79,7 +79,7 @@ fn put_outcomes<W: Write>(out: &mut Out<'_, W>, spellings: &Spellings<'_>, outco
 
 /// Notes how the programs of the workers have ended, and writes it.
 pub(crate) fn note_outcomes<N: Write>(
-    notes: &mut Out<'_, N>,
+    notes: &mut Output<'_, N>,
     heading: &Heading,
     outcomes: &[Outcome],
 )
@@ -93,7 +93,7 @@ pub(crate) fn note_outcomes<N: Write>(
 }
 
 /// Puts the number and the name of a kind.
-fn put_kind<W: Write>(out: &mut Out<'_, W>, kind: Kind)
+fn put_kind<W: Write>(out: &mut Output<'_, W>, kind: Kind)
     ensures { Puts out.old out.new (kind_words kind) }
 {
     out.put_number(kind.number());
@@ -102,7 +102,7 @@ fn put_kind<W: Write>(out: &mut Out<'_, W>, kind: Kind)
 }
 
 /// Puts the note on a line of a script.
-fn put_script_fault<W: Write>(out: &mut Out<'_, W>, line: u64, kind: Kind)
+fn put_script_fault<W: Write>(out: &mut Output<'_, W>, line: u64, kind: Kind)
     ensures { Puts out.old out.new (script_note line kind) }
 {
     put_line(out, line);
@@ -111,7 +111,7 @@ fn put_script_fault<W: Write>(out: &mut Out<'_, W>, line: u64, kind: Kind)
 }
 
 /// Notes the first faulty line of a script, and writes it.
-pub(crate) fn note_kind<N: Write>(notes: &mut Out<'_, N>, line: u64, kind: Kind)
+pub(crate) fn note_kind<N: Write>(notes: &mut Output<'_, N>, line: u64, kind: Kind)
     ensures puts { Puts notes.old notes.new (script_note line kind) }
     ensures written { IsWrittenOut notes.new }
 {
@@ -120,7 +120,7 @@ pub(crate) fn note_kind<N: Write>(notes: &mut Out<'_, N>, line: u64, kind: Kind)
 }
 
 /// Puts the note on a place of a schedule.
-fn put_ended<W: Write>(out: &mut Out<'_, W>, place: u64, worker: &[u8])
+fn put_ended<W: Write>(out: &mut Output<'_, W>, place: u64, worker: &[u8])
     ensures { Puts out.old out.new (ended_words place worker.now) }
 {
     out.put(b"schedule place ");
@@ -132,7 +132,7 @@ fn put_ended<W: Write>(out: &mut Out<'_, W>, place: u64, worker: &[u8])
 
 /// Notes that a place of the schedule, counted from 0, names a worker that has ended, and writes it.
 pub(crate) fn note_ended<N: Write>(
-    notes: &mut Out<'_, N>,
+    notes: &mut Output<'_, N>,
     heading: &Heading,
     place: usize,
     worker: WorkerId,
@@ -146,7 +146,7 @@ pub(crate) fn note_ended<N: Write>(
 }
 
 /// Puts the note on a worker whose log does not fit the run.
-fn put_mismatch<W: Write>(out: &mut Out<'_, W>, worker: &[u8])
+fn put_mismatch<W: Write>(out: &mut Output<'_, W>, worker: &[u8])
     ensures { Puts out.old out.new (mismatch_words worker.now) }
 {
     out.put(b"mismatch ");
@@ -156,7 +156,7 @@ fn put_mismatch<W: Write>(out: &mut Out<'_, W>, worker: &[u8])
 
 /// Notes that what a worker was told is not what it did, and writes it. No run is known to come to
 /// this; it is public so that a test can write the note.
-pub fn note_mismatch<N: Write>(notes: &mut Out<'_, N>, heading: &Heading, worker: WorkerId)
+pub fn note_mismatch<N: Write>(notes: &mut Output<'_, N>, heading: &Heading, worker: WorkerId)
     ensures puts { Puts notes.old notes.new (mismatch_words (worker_word heading.now.words worker)) }
     ensures written { IsWrittenOut notes.new }
 {

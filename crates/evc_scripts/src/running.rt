@@ -13,7 +13,7 @@ use crate::writing::write_run;
 use ec_machine::Outcome;
 use ec_runner::{OpenGate, Report, RunFault, run_workers};
 use ec_script::{Plan, SCRIPT_MAX, ScriptFault, parse};
-use ec_text::{Input, Out, read_up_to};
+use ec_text::{Input, Output, read_up_to};
 use ec_trace::Heading;
 use evc_engine::Status;
 use std::alloc::Global;
@@ -47,7 +47,7 @@ fn status_for(outcomes: &[Outcome]) -> Status
 }
 
 /// Notes why there is no report of the workers.
-fn note_fault<N: Write>(heading: &Heading, fault: RunFault, notes: &mut Out<'_, N>) -> Status
+fn note_fault<N: Write>(heading: &Heading, fault: RunFault, notes: &mut Output<'_, N>) -> Status
     ensures status { result ≡ run_fault_status fault }
     ensures note { Puts notes.old notes.new (run_fault_note heading.now fault) }
     ensures written { IsWrittenOut notes.new }
@@ -73,7 +73,7 @@ fn write_report<W: Write, N: Write>(
     plan: &Plan,
     report: &Report,
     out: &mut W,
-    notes: &mut Out<'_, N>,
+    notes: &mut Output<'_, N>,
 ) -> Status
     requires plan { IsPlan (shown_plan plan.now) }
     requires few { length report.now.outcomes.items ≡ plan.now.heading.setup.workers }
@@ -82,9 +82,9 @@ fn write_report<W: Write, N: Write>(
         (record { out = W.contents out.new; notes = notes.new }) }
     ensures written { IsWrittenOut notes.new }
 {
-    plan.heading.known();
-    plan.heading.setup().known();
-    report.run.known();
+    plan.heading.invariant();
+    plan.heading.setup().invariant();
+    report.run.invariant();
     let outcomes = report.outcomes.as_slice();
     if write_run(&plan.heading, &report.run, outcomes, out, notes) {
         status_for(outcomes)
@@ -100,7 +100,7 @@ fn run_plan<H: Threads + Wait + Sync, W: Write, N: Write>(
     turns: u64,
     plan: &Plan,
     out: &mut W,
-    notes: &mut Out<'_, N>,
+    notes: &mut Output<'_, N>,
 ) -> Status
     requires { IsPlan (shown_plan plan.now) }
     ensures ends { RunEnds (shown_plan plan.now) turns result
@@ -121,7 +121,7 @@ fn run_text<H: Threads + Wait + Sync, W: Write, N: Write>(
     turns: u64,
     text: &[u8],
     out: &mut W,
-    notes: &mut Out<'_, N>,
+    notes: &mut Output<'_, N>,
 ) -> Status
     ensures ends { TextRuns text.now turns result
         (record { out = W.contents out.old; notes = notes.old })
@@ -154,7 +154,7 @@ pub fn run<H: Threads + Wait + Sync, R: Read, W: Write, N: Write>(
     turns: u64,
     reader: &mut R,
     out: &mut W,
-    notes: &mut Out<'_, N>,
+    notes: &mut Output<'_, N>,
 ) -> Status
     ensures ends { IfSome (R.remaining reader.old) (λ bytes. Runs turns bytes (R.remaining reader.new) result
         (record { out = W.contents out.old; notes = notes.old })

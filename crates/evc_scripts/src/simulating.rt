@@ -11,7 +11,7 @@ use crate::outcomes::{note_ended, note_kind};
 use crate::writing::write_run;
 use ec_runner::{Report, SimFault, simulate};
 use ec_script::{Plan, SCRIPT_MAX, ScriptFault, parse};
-use ec_text::{Input, Out, read_up_to};
+use ec_text::{Input, Output, read_up_to};
 use ec_trace::Heading;
 use evc_engine::Status;
 use std::alloc::Global;
@@ -22,7 +22,7 @@ fn write_report<W: Write, N: Write>(
     plan: &Plan,
     report: &Report,
     out: &mut W,
-    notes: &mut Out<'_, N>,
+    notes: &mut Output<'_, N>,
 ) -> Status
     requires plan { IsPlan (shown_plan plan.now) }
     requires report { IsReport plan.now.heading.setup plan.now.programs.items plan.now.schedule.items report.now }
@@ -31,8 +31,8 @@ fn write_report<W: Write, N: Write>(
         (record { out = W.contents out.new; notes = notes.new }) }
     ensures written { IsWrittenOut notes.new }
 {
-    plan.heading.known();
-    report.run.known();
+    plan.heading.invariant();
+    report.run.invariant();
     let outcomes = report.outcomes.as_slice();
     if write_run(&plan.heading, &report.run, outcomes, out, notes) {
         Status::Done
@@ -42,7 +42,7 @@ fn write_report<W: Write, N: Write>(
 }
 
 /// Notes why a plan's schedule was not played.
-fn note_fault<N: Write>(heading: &Heading, fault: SimFault, notes: &mut Out<'_, N>) -> Status
+fn note_fault<N: Write>(heading: &Heading, fault: SimFault, notes: &mut Output<'_, N>) -> Status
     ensures status { result ≡ fault_status fault }
     ensures note { Puts notes.old notes.new (sim_fault_note heading.now fault) }
     ensures written { IsWrittenOut notes.new }
@@ -64,7 +64,7 @@ fn sim_plan<W: Write, N: Write>(
     alloc: Global,
     plan: &Plan,
     out: &mut W,
-    notes: &mut Out<'_, N>,
+    notes: &mut Output<'_, N>,
 ) -> Status
     requires { IsPlan (shown_plan plan.now) }
     ensures ends { PlanEnds (shown_plan plan.now) result
@@ -83,7 +83,7 @@ fn sim_text<W: Write, N: Write>(
     alloc: Global,
     text: &[u8],
     out: &mut W,
-    notes: &mut Out<'_, N>,
+    notes: &mut Output<'_, N>,
 ) -> Status
     ensures ends { TextEnds text.now result
         (record { out = W.contents out.old; notes = notes.old })
@@ -113,7 +113,7 @@ pub fn sim<R: Read, W: Write, N: Write>(
     alloc: Global,
     reader: &mut R,
     out: &mut W,
-    notes: &mut Out<'_, N>,
+    notes: &mut Output<'_, N>,
 ) -> Status
     ensures ends { IfSome (R.remaining reader.old) (λ bytes. Sims bytes (R.remaining reader.new) result
         (record { out = W.contents out.old; notes = notes.old })

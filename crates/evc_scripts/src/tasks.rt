@@ -1,15 +1,15 @@
 //! What a task of the command line does.
 ghost use Rattle.std.specs.Prelude.{◌≡◌, IfErr, IfOk, IfSome, ℕ};
 ghost use Rattle.evc_engine.specs.Checks.{Checks};
-ghost use Rattle.evc_task.specs.declared.choice.Task.TheVariants.{Run};
+ghost use Rattle.evc_cli.specs.declared.choice.Task.TheVariants.{Run};
 ghost use Rattle.evc_scripts.specs.Tasks.{Does};
 ghost use Rattle.ec_text.specs.Puts.{IsWrittenOut};
 
 use crate::running::run;
 use crate::simulating::sim;
-use ec_text::Out;
+use ec_text::Output;
+use evc_cli::Task;
 use evc_engine::{Status, audit, check, upgrade};
-use evc_task::Task;
 use std::alloc::Global;
 use std::io::{Read, Write};
 use std::sync::Wait;
@@ -24,7 +24,7 @@ pub fn engine_without_threads<R: Read, W: Write, N: Write>(
     task: Task,
     reader: &mut R,
     out: &mut W,
-    notes: &mut Out<'_, N>,
+    notes: &mut Output<'_, N>,
 ) -> Result<Status, u64>
     ensures ends { IfOk result (λ status. IfSome (R.remaining reader.old) (λ bytes. Does task bytes (R.remaining reader.new) status
         (record { out = W.contents out.old; notes = notes.old })
@@ -53,7 +53,7 @@ pub fn engine<H: Threads + Wait + Sync, R: Read, W: Write, N: Write>(
     task: Task,
     reader: &mut R,
     out: &mut W,
-    notes: &mut Out<'_, N>,
+    notes: &mut Output<'_, N>,
 ) -> Status
     ensures ends { IfSome (R.remaining reader.old) (λ bytes. Does task bytes (R.remaining reader.new) result
         (record { out = W.contents out.old; notes = notes.old })

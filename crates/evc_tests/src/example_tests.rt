@@ -46,10 +46,10 @@ fn refusal_keeps_the_total(limit: Limit) -> Result<bool, Fail> {
     let press = setup.add_worker()?;
     let sheets = setup.add_event(&[press], &[])?;
     let mut world = World::open(setup);
-    let told = world.step(press, Act::Advance(sheets))?;
+    let returned = world.step(press, Act::Advance(sheets))?;
     let refused = world.step(press, Act::Read(sheets));
     let total = world.total(sheets);
-    Ok(told == Reply::Done && refused == Err(Refusal::NoRight) && total == Some(1))
+    Ok(returned == Reply::Done && refused == Err(Refusal::NoRight) && total == Some(1))
 }
 
 #[test]
@@ -68,10 +68,10 @@ fn watcher_is_told_one(alloc: Global, limit: Limit) -> Result<bool, Fail> {
     run.step(watcher, Act::Read(sheets))?;
     run.step(press1, Act::Advance(sheets))?;
     run.step(press2, Act::Advance(sheets))?;
-    let told = run.step(watcher, Act::Go)?;
+    let returned = run.step(watcher, Act::Go)?;
     let placed = order(alloc, &run)?;
     let verdict = verify(alloc, &run, placed.as_slice())?;
-    Ok(told == Reply::Number(1) && placed.len() == 3 && verdict == Verdict::Good)
+    Ok(returned == Reply::Number(1) && placed.len() == 3 && verdict == Verdict::Good)
 }
 
 #[test]

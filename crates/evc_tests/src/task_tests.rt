@@ -1,5 +1,5 @@
 //! The command line: what its words ask for, if they are more than a system hands on. tests/rows has plainer ones.
-use evc_task::{Task, status_of, task};
+use evc_cli::{Task, status_of, task};
 use std::alloc::{AllocError, Global};
 use std::test::Fail;
 

@@ -1,27 +1,27 @@
 //! How lines are answered.
 use crate::fault::Fault;
-use crate::output::Output;
+use crate::output::TestOutput;
 use std::alloc::Global;
 
 /// What lines are about.
 pub trait Driver {
     /// Makes the call of a line, and writes what it returns. After `Fault::Memory` all is as it
     /// was before, and nothing was written.
-    fn answer(&mut self, alloc: Global, line: &str, out: &mut Output) -> Result<(), Fault>;
+    fn answer(&mut self, alloc: Global, line: &str, out: &mut TestOutput) -> Result<(), Fault>;
 
     /// Writes all that can be asked, which takes no memory.
-    fn write_all(&self, out: &mut Output) -> Result<(), Fault>;
+    fn write_all(&self, out: &mut TestOutput) -> Result<(), Fault>;
 }
 
 /// Sums up all that can be asked, or nothing if it is not watched.
 fn sum_of<D: Driver>(driver: &D, watched: bool) -> Result<u64, Fault> {
-    let mut out = Output::Sum(0);
+    let mut out = TestOutput::Sum(0);
     if watched {
         driver.write_all(&mut out)?;
     }
     match out {
-        Output::Sum(sum) => Ok(sum),
-        Output::Text(_) => Ok(0),
+        TestOutput::Sum(sum) => Ok(sum),
+        TestOutput::Text(_) => Ok(0),
     }
 }
 
@@ -31,7 +31,7 @@ fn answer_line<D: Driver>(
     driver: &mut D,
     watched: bool,
     line: &str,
-    out: &mut Output,
+    out: &mut TestOutput,
 ) -> Result<(), Fault> {
     let before = sum_of(driver, watched)?;
     match driver.answer(alloc, line, out) {
@@ -53,7 +53,7 @@ pub fn answer_lines<D: Driver>(
     driver: &mut D,
     watched: bool,
     text: &str,
-    out: &mut Output,
+    out: &mut TestOutput,
 ) -> Result<(), Fault> {
     for line in text.lines() {
         answer_line(alloc, driver, watched, line, out)?;

@@ -1,6 +1,6 @@
 //! Lines: their words, and where they are answered.
 use crate::fault::Fault;
-use crate::output::Output;
+use crate::output::TestOutput;
 use std::fmt::Display;
 use std::str::SplitWhitespace;
 
@@ -24,12 +24,12 @@ pub struct Line<'a, C> {
     pub about: C,
     pub verb: &'a str,
     pub words: Words<'a>,
-    pub out: &'a mut Output,
+    pub out: &'a mut TestOutput,
 }
 
 impl<'a, C: Drop> Line<'a, C> {
     /// Takes the first word of a line.
-    pub fn new(about: C, line: &'a str, out: &'a mut Output) -> Self {
+    pub fn new(about: C, line: &'a str, out: &'a mut TestOutput) -> Self {
         let mut words = line.split_whitespace();
         let verb = word(&mut words);
         Line {
@@ -57,12 +57,12 @@ impl<'a, C: Drop> Line<'a, C> {
 }
 
 /// Writes a line.
-pub fn tell<T: Display + Drop>(text: T, out: &mut Output) -> Result<(), Fault> {
+pub fn tell<T: Display + Drop>(text: T, out: &mut TestOutput) -> Result<(), Fault> {
     writeln!(out, "{text}")
 }
 
 /// Writes a line of what was found, or `-`.
-pub fn tell_if<T: Display + Drop>(found: Option<T>, out: &mut Output) -> Result<(), Fault> {
+pub fn tell_if<T: Display + Drop>(found: Option<T>, out: &mut TestOutput) -> Result<(), Fault> {
     match found {
         Some(found) => tell(found, out),
         None => tell("-", out),

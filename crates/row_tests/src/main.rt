@@ -18,7 +18,7 @@ mod writing;
 use driver::answer_lines;
 use fault::Fault;
 use kernel::Kernel;
-use output::Output;
+use output::TestOutput;
 use setup::Table;
 use std::alloc::{AllocError, Global};
 use std::io::{BufWriter, Read, Write};
@@ -34,7 +34,7 @@ fn answer<R: Threads + Wait + Sync>(
     alloc: Global,
     words: &[String],
     text: &str,
-    out: &mut Output,
+    out: &mut TestOutput,
 ) -> Result<(), Fault> {
     let about = words.get(1).map_or("", |word| word.as_str());
     let watched = words.len() > 2;
@@ -61,7 +61,7 @@ fn main(rt: HostRuntime) -> io::Result<ExitCode> {
     let words: Result<Vec<String>, AllocError> = env::args(&rt)?.collect(alloc);
     let mut text = String::new(alloc);
     rt.stdin().read_to_string(&mut text)?;
-    let mut out = Output::Text(BufWriter::new(alloc, rt.stdout())?);
+    let mut out = TestOutput::Text(BufWriter::new(alloc, rt.stdout())?);
     let answered = answer(&rt, alloc, words?.as_slice(), text.as_str(), &mut out);
     out.flush()?;
     Ok(status_of(answered))

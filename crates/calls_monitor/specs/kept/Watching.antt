@@ -25,8 +25,8 @@ use Rattle.calls_monitor.specs.Refusals.{Explains}
 -- ONE OBJECT
 
 -- how many calls were begun
-abbrev pub begun : List Event → ℕ
-begun past = length (completed_calls past) + length (pending_calls past)
+abbrev pub call_count : List Event → ℕ
+call_count past = length (completed_calls past) + length (pending_calls past)
 
 -- what is kept of an object of this kind represents the events of its calls, which have a
 -- linearization
@@ -34,7 +34,7 @@ abbrev pub WatchesOf : Kind → List Event → Watch → Type 0
 WatchesOf (Eventcount n) past (Count m) = IsTaken n past m
 WatchesOf Sequencer past (Ticket m) = IsTicketed past m
 WatchesOf (Semaphores units) past (Units m) =
-    Represents units past m × UpTo (begun past) m.bank.added.items
+    Represents units past m × UpTo (call_count past) m.bank.added.items
 WatchesOf Cell past Nothing = Unit {0}
 WatchesOf (Database n) past Nothing = Unit {0}
 WatchesOf _ _ _ = ⊥
@@ -54,7 +54,7 @@ VerdictOf kind past x new (Err r) = Explains kind past x r
 abbrev pub JudgesOf : Watch → Watch → Event → Result Unit Refusal → Type 0
 JudgesOf old new x result =
     (kind : Kind) (past : List Event) → IsHistoryOf kind (x ∷ past) → WatchesOf kind past old
-    → begun past ≤ 2 ^ 64 - 2 → VerdictOf kind past x new result
+    → call_count past ≤ 2 ^ 64 - 2 → VerdictOf kind past x new result
 
 -- ALL OBJECTS
 

@@ -24,8 +24,8 @@ use Rattle.calls_serial.specs.declared.stage.Stop.{Stop}
 use Rattle.calls_serial.specs.declared.stage.Stop.TheVariants.{Fails, Overlaps}
 use Rattle.calls_serial.specs.Faults.{Leaves, Shows}
 use Rattle.calls_serial.specs.Outcomes.{AreBothPending}
-use Rattle.calls_serial.specs.kept.Stages.{Held, helds, Current, current}
-use Rattle.calls_serial.specs.kept.Stages.{Stands}
+use Rattle.calls_serial.specs.kept.Stages.{StageView, helds, Current, current}
+use Rattle.calls_serial.specs.kept.Stages.{AreStages}
 use Rattle.calls_serial.specs.kept.Stages.{links_with, with_get, with_late, with_response}
 
 -- the pending call of a worker is at index i
@@ -48,34 +48,34 @@ completed_of (Some o) n = n - 1
 
 abbrev pub AddsGet : List Stage → List Stage → ℕ → Call → Type 0
 AddsGet old new i get =
-    (front : List Held) (h : Held) (back : List Held) → length front ≡ i
-    → helds old ≡ front ++ h ∷ back → helds new ≡ front ++ with_get get h ∷ back
+    (prefix : List StageView) (h : StageView) (back : List StageView) → length prefix ≡ i
+    → helds old ≡ prefix ++ h ∷ back → helds new ≡ prefix ++ with_get get h ∷ back
 
 abbrev pub Responds : List Stage → List Stage → Call → Type 0
 Responds old new call =
-    (front : List Held) (h : Held) → helds old ≡ front ++ h ∷ []
-    → helds new ≡ front ++ with_response call h ∷ []
+    (prefix : List StageView) (h : StageView) → helds old ≡ prefix ++ h ∷ []
+    → helds new ≡ prefix ++ with_response call h ∷ []
 
 -- a get is added when there are n links, and no link said before by when the put took effect
-pub record IsLate (old new : Held) (get : Call) (n : ℕ) (first : Bool) : Type 0 where
+pub record IsLate (old new : StageView) (get : Call) (n : ℕ) (first : Bool) : Type 0 where
   pub stage : new ≡ with_late get n old
   pub said : IsTrue first ↔ (old.link ≡ None)
 
 abbrev pub AddsLate : List Stage → List Stage → List Link → List Link → Link → Type 0
 AddsLate old new links more link =
-    (front : List Held) (h : Held) → helds old ≡ front ++ h ∷ []
-    → (helds new ≡ front ++ with_late link.get (length links) h ∷ [])
+    (prefix : List StageView) (h : StageView) → helds old ≡ prefix ++ h ∷ []
+    → (helds new ≡ prefix ++ with_late link.get (length links) h ∷ [])
     × (reverse more ≡ links_with h.link link (reverse links))
 
 -- THE PASS
 
 -- stages of completed and pending calls, and links, the latest first
-pub record Holding (end t : ℕ) (done : List Call) (pending : List PendingCall) (hs : List Held)
+pub record Holding (end t : ℕ) (done : List Call) (pending : List PendingCall) (hs : List StageView)
     (links : List Link) : Type 0 where
-  pub front : List Held
+  pub prefix : List StageView
   pub now : Option Current
-  pub all : hs ≡ front ++ current now
-  pub stands : Stands end t done pending front now links
+  pub all : hs ≡ prefix ++ current now
+  pub represents : AreStages end t done pending prefix now links
 
 pub record IsResponse (end t : ℕ) (done : List Call) (pending : List PendingCall) (w at : ℕ)
     (o : PendingCall) : Type 0 where

@@ -14,30 +14,30 @@ use Rattle.calls_core.specs.Histories.{pending_of, pending_after, IsNext}
 use Rattle.calls_text.specs.declared.fault.Kind.{Kind}
 use Rattle.calls_text.specs.declared.fault.Kind.TheVariants as kinds
 use Rattle.calls_text.specs.declared.fault.LineFault.{LineFault}
-use Rattle.calls_text.specs.declared.form.Answer.{Answer}
+use Rattle.calls_text.specs.declared.form.ReplyWord.{ReplyWord}
 use Rattle.calls_text.specs.declared.object.Object.{Object}
 use Rattle.calls_text.specs.declared.object.Object.TheVariants as objects
 use Rattle.calls_text.specs.declared.running.Running.{Running}
 use Rattle.calls_text.specs.declared.tally.Tally.{Tally}
-use Rattle.calls_text.specs.declared.verb.Verb.{Verb}
-use Rattle.calls_text.specs.declared.verb.Verb.TheVariants as verbs
+use Rattle.calls_text.specs.declared.verb.CallWord.{CallWord}
+use Rattle.calls_text.specs.declared.verb.CallWord.TheVariants as verbs
 use Rattle.calls_text.specs.Forms.{Phrase, Calls, Returns, phrase_in}
 use Rattle.calls_text.specs.Objects.{object_in}
 use Rattle.calls_text.specs.Recordings.{AreKinds}
 use Rattle.calls_text.specs.Tallies.{tally_at, is_advance_by, IsCountedFurther}
-use Rattle.calls_text.specs.Reading.{call_fault_by, fault_or, index_of, op_of, number_in, lists_of}
-use Rattle.calls_text.specs.Reading.{suit_fault, reply_of, lists_with, is_bad_answer, other_word}
+use Rattle.calls_text.specs.Reading.{call_fault_by, fault_or, index_of, op_of_word, number_in, lists_of}
+use Rattle.calls_text.specs.Reading.{suit_fault, reply_of_word, lists_with, is_bad_answer, other_word}
 use Rattle.calls_text.specs.Reading.{StepFails}
 
 abbrev pub pending_by : Running → ℕ → Option PendingCall
 pending_by r w = pending_of w r.pending.items
 
 -- whether the worker has called as many advances of the eventcount as the limit allows
-abbrev pub spent_at : ℕ → Tally → ℕ → Verb → Object → Bool
+abbrev pub spent_at : ℕ → Tally → ℕ → CallWord → Object → Bool
 spent_at limit t w verbs.Advance (objects.Event e) = nat_le limit (tally_at t w e)
 spent_at limit t w _ _ = false
 
-abbrev pub spent_by : Running → ℕ → Verb → Object → Bool
+abbrev pub spent_by : Running → ℕ → CallWord → Object → Bool
 spent_by r w v o = spent_at r.recording.heading.setup.limit r.tally w v o
 
 -- whose event it is, what happens, and the lists after it
@@ -46,36 +46,36 @@ pub record Happening : Type 0 where
   pub action : Action
   pub lists : List (List ℕ)
 
-abbrev pub invocation : Running → ℕ → Verb → Object → List (List ℕ) → Happening
+abbrev pub invocation : Running → ℕ → CallWord → Object → List (List ℕ) → Happening
 invocation r w v o ws = record {
   worker = w;
-  action = Invoke (index_of r.recording.heading o) (op_of v o (number_in r.recording.lists v ws));
+  action = Invoke (index_of r.recording.heading o) (op_of_word v o (number_in r.recording.lists v ws));
   lists = lists_of r.recording.lists v ws;
 }
 
-abbrev pub fault_by : Running → ℕ → Verb → Object → List (List ℕ) → Option Kind
+abbrev pub fault_by : Running → ℕ → CallWord → Object → List (List ℕ) → Option Kind
 fault_by r w v o ws =
     call_fault_by r.recording.heading w v o ws (is_some (pending_by r w)) (spent_by r w v o)
 
-abbrev pub called_by : Running → Option ℕ → Verb → Option Object → List (List ℕ)
+abbrev pub called_by : Running → Option ℕ → CallWord → Option Object → List (List ℕ)
     → Result Happening Kind
 called_by r (Some w) v (Some o) ws = fault_or (fault_by r w v o ws) (invocation r w v o ws)
 called_by r _ v _ ws = Err kinds.UnknownName
 
-abbrev pub response : Running → ℕ → PendingCall → Answer → List (List ℕ) → Happening
+abbrev pub response : Running → ℕ → PendingCall → ReplyWord → List (List ℕ) → Happening
 response r w o a ws = record {
   worker = w;
-  action = Respond (reply_of r.recording o a ws);
+  action = Respond (reply_of_word r.recording o a ws);
   lists = lists_with r.recording o a ws;
 }
 
-abbrev pub answered_by : Running → ℕ → Option PendingCall → Answer → List (List ℕ)
+abbrev pub answered_by : Running → ℕ → Option PendingCall → ReplyWord → List (List ℕ)
     → Result Happening Kind
 answered_by r w None a ws = Err kinds.Idle
 answered_by r w (Some o) a ws =
     fault_or (suit_fault r.recording.heading o a ws) (response r w o a ws)
 
-abbrev pub returned_by : Running → Option ℕ → Answer → List (List ℕ) → Result Happening Kind
+abbrev pub returned_by : Running → Option ℕ → ReplyWord → List (List ℕ) → Result Happening Kind
 returned_by r None a ws = Err kinds.UnknownName
 returned_by r (Some w) a ws =
     if is_bad_answer a ws then Err kinds.BadNumber else answered_by r w (pending_by r w) a ws
@@ -101,7 +101,7 @@ IsTallied old new x =
     → tally_at new w e ≡ (if is_advance_by w e x then tally_at old w e + 1 else tally_at old w e)
 
 -- one more if this is an advance of an eventcount
-abbrev pub TallyAfter : Tally → Tally → ℕ → Verb → Object → Type 0
+abbrev pub TallyAfter : Tally → Tally → ℕ → CallWord → Object → Type 0
 TallyAfter old new w verbs.Advance (objects.Event e) = IsCountedFurther old new w e
 TallyAfter old new w _ _ = new ≡ old
 

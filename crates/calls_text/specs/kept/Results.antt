@@ -1,14 +1,14 @@
 -- What functions answer of a line.
 use Rattle.std.specs.Prelude.{◌≡◌, ℕ, [], Result, Ok, Err}
 use Rattle.ec_heading.specs.declared.version.Version.TheVariants.{Two}
-use Rattle.ec_heading.specs.Outline.{opened}
+use Rattle.ec_heading.specs.HeaderTree.{empty_heading}
 use Rattle.calls_text.specs.declared.fault.Kind.{Kind}
 use Rattle.calls_text.specs.declared.fault.LineFault.{LineFault}
 use Rattle.calls_text.specs.Reading.{Draft, draft_of, StepFails}
 
 -- the limit of a heading, or the kind of fault
 abbrev pub IsLimit : Result ℕ Kind → Result Draft Kind → Type 0
-IsLimit (Ok n) stepped = stepped ≡ Ok (draft_of (opened Two n []))
+IsLimit (Ok n) stepped = stepped ≡ Ok (draft_of (empty_heading Two n []))
 IsLimit (Err kind) stepped = stepped ≡ Err kind
 
 abbrev pub Opens : Result Draft LineFault → Result Draft Kind → Type 0

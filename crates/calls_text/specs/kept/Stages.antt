@@ -12,12 +12,12 @@ use Rattle.calls_text.specs.kept.Runs.{IsRunning, IsKeeping, IsNextOf}
 
 -- WITH THE EVENTS THAT ARE KEPT
 
-abbrev pub seen : held.Stage → Stage
-seen holds.Opening = Opening
-seen holds.Limiting = Limiting
-seen (holds.Declaring d) = Declaring d
-seen (holds.Running r) = Running r.recording
-seen (holds.Ended r) = Ended r
+abbrev pub stage_with_all : held.Stage → Stage
+stage_with_all holds.Opening = Opening
+stage_with_all holds.Limiting = Limiting
+stage_with_all (holds.Declaring d) = Declaring d
+stage_with_all (holds.Running r) = Running r.recording
+stage_with_all (holds.Ended r) = Ended r
 
 abbrev pub IsSound : held.Stage → Type 0
 IsSound (holds.Running r) = IsKeeping r
@@ -25,7 +25,7 @@ IsSound _ = Unit {0}
 
 -- the step leads to the stage as it now is, or it fails
 abbrev pub Takes : Result (Unit {0}) LineFault → Result Stage Kind → held.Stage → Type 0
-Takes (Ok _) stepped new = (stepped ≡ Ok (seen new)) × IsSound new
+Takes (Ok _) stepped new = (stepped ≡ Ok (stage_with_all new)) × IsSound new
 Takes (Err e) stepped _ = StepFails e stepped
 
 abbrev pub kept_events : held.Stage → List Event

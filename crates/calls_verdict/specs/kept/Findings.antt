@@ -15,7 +15,7 @@ use Rattle.calls_verdict.specs.declared.verdict.Undecided.{Undecided}
 use Rattle.calls_verdict.specs.declared.verdict.Verdict.{Verdict}
 use Rattle.calls_verdict.specs.declared.verdict.Decision.{Decision}
 use Rattle.calls_verdict.specs.declared.verdict.Decision.TheVariants.{Ordered, Refused, Open}
-use Rattle.calls_verdict.specs.declared.findings.Found.{Found}
+use Rattle.calls_verdict.specs.declared.findings.Findings.{Findings}
 use Rattle.calls_verdict.specs.Verdicts.{IsOrderedBefore, IsDecision, HasFault, HasOpen, IsVerdict}
 use Rattle.calls_verdict.specs.Verdicts.{IsClear}
 
@@ -43,7 +43,7 @@ pub record ArePlaced (kinds : List Kind) (past : List Event) (n : ℕ) (ps : Lis
         (pending_on k (pending_calls past)) (clock past) (placed_on k ps)
 
 -- what is found of the first n objects
-pub record AreFound (kinds : List Kind) (past : List Event) (n : ℕ) (found : Found) : Type 0 where
+pub record AreFound (kinds : List Kind) (past : List Event) (n : ℕ) (found : Findings) : Type 0 where
   pub clear : (k : ℕ) (kind : Kind) → k < n → slice_get kinds k ≡ Some kind → (m : ℕ)
       → m ≤ limit (clock past) found.refusal → IsClear kind (until m (part k past))
   pub refused : IsRefused kinds past found.refusal
@@ -58,7 +58,7 @@ HasRoom own (Refused i f) = i < length own
 HasRoom own (Open i u) = Unit {0}
 
 -- with a decision on object k, whose events these are
-abbrev pub IsAddedTo : ℕ → List Event → Decision → Found → Found → Type 0
+abbrev pub IsAddedTo : ℕ → List Event → Decision → Findings → Findings → Type 0
 IsAddedTo k own d old new =
     (kinds : List Kind) (past : List Event) (kind : Kind) → IsHistory kinds past
     → slice_get kinds k ≡ Some kind → reverse own ≡ part k past → IsDecision kind own (clock past) d
@@ -70,6 +70,6 @@ IsEarlier None next r = r ≡ next
 IsEarlier (Some old) next r = ((r ≡ old) × (old.at ≤ next.at)) ⊎ ((r ≡ next) × (next.at < old.at))
 
 -- what is found of all objects gives this verdict
-abbrev pub Gives : Found → Verdict → Type 0
+abbrev pub Gives : Findings → Verdict → Type 0
 Gives found v = (kinds : List Kind) (past : List Event) → IsHistory kinds past
     → AreFound kinds past (length kinds) found → IsVerdict kinds past v

@@ -12,7 +12,7 @@ use Rattle.ec_core.specs.declared.act.Entry.{Entry}
 use Rattle.ec_core.specs.declared.act.TheConstants.{VALUE_MAX}
 use Rattle.ec_core.specs.Counts.{component_total, issued, cell_value, is_advance, is_ticket, is_place, put_in, component_at}
 use Rattle.ec_core.specs.Calls.{CallSoFar, under_way}
-use Rattle.ec_core.specs.Rounds.{event_or, width, sum_read, next_component, round_reply, read_reply, go_reply, IsPastOf, EachIsPastOf}
+use Rattle.ec_core.specs.Rounds.{event_or, component_count, sum_read, next_component, round_reply, read_reply, go_reply, IsPastOf, EachIsPastOf}
 use Rattle.ec_core.specs.Acceptance.{reply_of, answer_of, is_at_limit, is_too_large, names_unknown_object, IsAccepted}
 use Rattle.ec_core.specs.Values.{TellsAtMost}
 use Rattle.ec_core.proofs.shared.Answering.{allowed, width_few, width_some, call_reads, reading_event, IsReadingCall}
@@ -134,12 +134,12 @@ unfolding read_reply
 read_small t op past moments d low acc known h =
     let e = event_or op in
     let c = next_component t e moments in
-    let some : 0 < width t e = width_some t e d known in
-    let few : width t e ≤ 16 = width_few t e d in
-    let below : c < width t e = mod_below (length moments) (width t e) some in
+    let some : 0 < component_count t e = width_some t e d known in
+    let few : component_count t e ≤ 16 = width_few t e d in
+    let below : c < component_count t e = mod_below (length moments) (component_count t e) some in
     let itself : IsPastOf past past = record { since = []; is = refl } in
     let sum : sum_read t e (suc c) (past ∷ moments) ≤ suc c * 2 ^ 48 = sum_within t e (suc c) (past ∷ moments) past low acc (itself, h) in
-    small_if (nat_le (width t e) (c + 1)) (round_reply op (sum_read t e (suc c) (past ∷ moments)))
+    small_if (nat_le (component_count t e) (c + 1)) (round_reply op (sum_read t e (suc c) (past ∷ moments)))
     (round_small op (sum_read t e (suc c) (past ∷ moments)) (small_sum (sum_read t e (suc c) (past ∷ moments)) (suc c) sum (omega arith)))
 
 go_small : (t : Tables) (past : List Entry) (o : Option CallSoFar) → IsDeclared t → t.limit < 2 ^ 48 → IsAccepted t past → IsReadingCall t o → IsCallBefore o past

@@ -5,7 +5,7 @@ use Rattle.ec_core.specs.declared.act.Act.TheVariants.{Advance, Read, Await, Go,
 use Rattle.ec_core.specs.declared.act.Reply.{Reply}
 use Rattle.ec_core.specs.declared.act.Reply.TheVariants.{Done, Number, Pending}
 use Rattle.ec_core.specs.declared.act.Entry.{Entry}
-use Rattle.ec_core.specs.Calls.{CallSoFar, under_way, gone_on, is_pending}
+use Rattle.ec_core.specs.Calls.{CallSoFar, under_way, call_with_act, is_pending}
 use Rattle.ec_core.specs.Rounds.{IsPastOf, EachIsPastOf}
 
 -- each past is one of itself
@@ -31,7 +31,7 @@ abbrev pub IsCallBefore : Option CallSoFar → List Entry → Type 0
 IsCallBefore None late = Unit {0}
 IsCallBefore (Some call) late = EachIsPastOf call.moments late
 
-pub gone_before : (act : Act) (past : List Entry) (o : Option CallSoFar) → IsCallBefore o past → IsCallBefore (gone_on act past o) past
+pub gone_before : (act : Act) (past : List Entry) (o : Option CallSoFar) → IsCallBefore o past → IsCallBefore (call_with_act act past o) past
 gone_before Go past None h = tt
 gone_before Go past (Some call) h = (past_itself past, h)
 gone_before (Advance e) past o h = (past_itself past, tt)
@@ -55,8 +55,8 @@ pub call_before : (w : ℕ) (past : List Entry) → IsCallBefore (under_way w pa
 unfolding under_way
 call_before w [] = tt
 call_before w (x ∷ past) =
-    call_later (cond (x.worker == w) (cond (is_pending x.reply) (gone_on x.act past (under_way w past)) None) (under_way w past)) past x
-    (elim (x.worker == w) as (λ b. IsCallBefore (cond b (cond (is_pending x.reply) (gone_on x.act past (under_way w past)) None) (under_way w past)) past) [
-      | true ↦ kept_before (is_pending x.reply) (gone_on x.act past (under_way w past)) past (gone_before x.act past (under_way w past) (call_before w past))
+    call_later (cond (x.worker == w) (cond (is_pending x.reply) (call_with_act x.act past (under_way w past)) None) (under_way w past)) past x
+    (elim (x.worker == w) as (λ b. IsCallBefore (cond b (cond (is_pending x.reply) (call_with_act x.act past (under_way w past)) None) (under_way w past)) past) [
+      | true ↦ kept_before (is_pending x.reply) (call_with_act x.act past (under_way w past)) past (gone_before x.act past (under_way w past) (call_before w past))
       | false ↦ call_before w past
     ])

@@ -9,13 +9,13 @@ use Rattle.ec_core.specs.declared.act.Reply.{Reply}
 use Rattle.ec_core.specs.declared.act.Reply.TheVariants.{Done, Number, Pending}
 use Rattle.ec_core.specs.declared.audit.AuditFault.{AuditFault}
 use Rattle.ec_core.specs.declared.audit.AuditFault.TheVariants.{NotFollowed, Memory}
-use Rattle.ec_core.specs.declared.protocol.Kept.{Kept}
+use Rattle.ec_core.specs.declared.protocol.ListProgress.{ListProgress}
 use Rattle.ec_core.specs.Audits.{IsFirstBreak}
-use Rattle.ec_core.specs.Calls.{CallSoFar, under_way, is_go, is_pending, goes_on}
+use Rattle.ec_core.specs.Calls.{CallSoFar, under_way, is_go, is_pending, is_intermediate}
 use Rattle.ec_core.specs.Counts.{past_at}
-use Rattle.ec_core.specs.Following.{Told, Rule, opened, block_after, block, is_right, Follow, BreaksAt}
+use Rattle.ec_core.specs.Following.{CompletedCall, Rule, opening_act, block_after, block, is_right, Follow, BreaksAt}
 use Rattle.ec_core.specs.JoinedLists.{SpeaksOf}
-use Rattle.ec_core.specs.Scanning.{Tracked, AreKept, IsFinding, IsTracked}
+use Rattle.ec_core.specs.Scanning.{TrackerModel, AreListProgress, IsFinding, IsTrackerModel}
 use Rattle.ec_core.proofs.shared.Breaks.{break_at, follow_or_break}
 use Rattle.ec_core.proofs.shared.Following.{op_at, off_block, other_block, block_pending}
 use Rattle.ec_core.proofs.shared.Moments.{past_next}
@@ -87,33 +87,33 @@ found_either rules Memory h b f = b
 
 -- A WHOLE TRACKER
 
-abbrev pub tracked : List Kept → Option AuditFault → Tracked
+abbrev pub tracked : List ListProgress → Option AuditFault → TrackerModel
 tracked kept fault = record { kept = kept; fault = fault }
 
-pub tracked_first : (rules : ℕ → Rule) (keeps : List Told → Kept) (kept : List Kept) (start : Kept) → start ≡ keeps []
-    → ((w : ℕ) → w < 16 → slice_get kept w ≡ Some start) → IsTracked rules keeps (tracked kept None) []
+pub tracked_first : (rules : ℕ → Rule) (keeps : List CompletedCall → ListProgress) (kept : List ListProgress) (start : ListProgress) → start ≡ keeps []
+    → ((w : ℕ) → w < 16 → slice_get kept w ≡ Some start) → IsTrackerModel rules keeps (tracked kept None) []
 unfolding block
 tracked_first rules keeps kept start e k = record { lists = λ w lt. k w lt ∙ ap Some e; finding = tt }
 
 -- what is kept of the lists stays if a call goes on
-lists_pending : (rules : ℕ → Rule) (keeps : List Told → Kept) (kept : List Kept) (x : Entry) (past : List Entry) → is_pending x.reply ≡ true → AreKept rules keeps kept past → AreKept rules keeps kept (x ∷ past)
+lists_pending : (rules : ℕ → Rule) (keeps : List CompletedCall → ListProgress) (kept : List ListProgress) (x : Entry) (past : List Entry) → is_pending x.reply ≡ true → AreListProgress rules keeps kept past → AreListProgress rules keeps kept (x ∷ past)
 lists_pending rules keeps kept x past pending s = λ w lt. s w lt ∙ ap (λ b. Some (keeps b)) (sym (block_pending (rules w) w x past pending))
 
 -- one more entry whose call goes on, in the words of the code
-pub tracked_pending : (rules : ℕ → Rule) (keeps : List Told → Kept) (kept : List Kept) (fault found : Option AuditFault) (x : Entry) (past : List Entry)
-    → IsTracked rules keeps (tracked kept fault) past → is_pending x.reply ≡ true → IsFinding rules found (x ∷ past) → IsTracked rules keeps (tracked kept found) (x ∷ past)
+pub tracked_pending : (rules : ℕ → Rule) (keeps : List CompletedCall → ListProgress) (kept : List ListProgress) (fault found : Option AuditFault) (x : Entry) (past : List Entry)
+    → IsTrackerModel rules keeps (tracked kept fault) past → is_pending x.reply ≡ true → IsFinding rules found (x ∷ past) → IsTrackerModel rules keeps (tracked kept found) (x ∷ past)
 tracked_pending rules keeps kept fault found x past s pending finding = record { lists = lists_pending rules keeps kept x past pending s.lists; finding = finding }
 
 -- one more entry, in the words of the code
-pub tracked_take : (rules : ℕ → Rule) (keeps : List Told → Kept) (kept : List Kept) (fault found : Option AuditFault) (x : Entry) (past : List Entry) (i : ℕ) (was k : Kept) (op : Act)
-    → IsTracked rules keeps (tracked kept fault) past → i ≡ x.worker → i < 16
+pub tracked_take : (rules : ℕ → Rule) (keeps : List CompletedCall → ListProgress) (kept : List ListProgress) (fault found : Option AuditFault) (x : Entry) (past : List Entry) (i : ℕ) (was k : ListProgress) (op : Act)
+    → IsTrackerModel rules keeps (tracked kept fault) past → i ≡ x.worker → i < 16
     → was ≡ keeps (block (rules x.worker) x.worker past) → op ≡ op_at x past
-    → ((calls : List Told) → was ≡ keeps calls → k ≡ keeps (block_after (rules x.worker) calls op x.reply))
+    → ((calls : List CompletedCall) → was ≡ keeps calls → k ≡ keeps (block_after (rules x.worker) calls op x.reply))
     → IsFinding rules found (x ∷ past)
-    → IsTracked rules keeps (tracked (slice_set kept i k) found) (x ∷ past)
+    → IsTrackerModel rules keeps (tracked (slice_set kept i k) found) (x ∷ past)
 tracked_take rules keeps kept fault found x past i was k op s at lt was_is op_is list finding =
     let Small : ℕ → Type 0 = λ n. n < 16 in
-    let Q : ℕ → Type 0 = λ n. AreKept rules keeps (slice_set kept n k) (x ∷ past) in
+    let Q : ℕ → Type 0 = λ n. AreListProgress rules keeps (slice_set kept n k) (x ∷ past) in
     record {
       lists = subst Q (sym at)
           (lists_after rules keeps kept x past k s.lists (subst Small at lt)
@@ -127,7 +127,7 @@ not_true : (b c : Bool) → b ≡ false → not b || c ≡ true
 not_true false c h = refl
 not_true true c h = cc
 
-right_off : (r : Rule) (calls : List Told) (act : Act) (o : Option CallSoFar) → r.concerns calls (opened act o) ≡ false → is_right r calls act ≡ true
+right_off : (r : Rule) (calls : List CompletedCall) (act : Act) (o : Option CallSoFar) → r.concerns calls (opening_act act o) ≡ false → is_right r calls act ≡ true
 right_off r calls Go o h = refl
 right_off r calls (Advance e) o h = not_true (r.concerns calls (Advance e)) (r.fits calls (Advance e)) h
 right_off r calls (Read e) o h = not_true (r.concerns calls (Read e)) (r.fits calls (Read e)) h
@@ -151,8 +151,8 @@ block_off rules x past w off =
     ] refl
 
 -- if the rules speak of the calls on a group, an entry whose call is not on it changes nothing
-pub tracked_off : (rules : ℕ → Rule) (keeps : List Told → Kept) (is_on : Act → Bool) (z : Tracked) (x : Entry) (past : List Entry)
-    → ((w : ℕ) → SpeaksOf (rules w) is_on) → is_on (op_at x past) ≡ false → IsTracked rules keeps z past → IsTracked rules keeps z (x ∷ past)
+pub tracked_off : (rules : ℕ → Rule) (keeps : List CompletedCall → ListProgress) (is_on : Act → Bool) (z : TrackerModel) (x : Entry) (past : List Entry)
+    → ((w : ℕ) → SpeaksOf (rules w) is_on) → is_on (op_at x past) ≡ false → IsTrackerModel rules keeps z past → IsTrackerModel rules keeps z (x ∷ past)
 tracked_off rules keeps is_on z x past speaks off s =
     let apart : (rules x.worker).concerns (block (rules x.worker) x.worker past) (op_at x past) ≡ false = speaks x.worker (block (rules x.worker) x.worker past) (op_at x past) ∙ off in
     record {
@@ -174,7 +174,7 @@ go_is (Hand e f) h = cc
 abbrev pub going : ℕ → Entry
 going w = record { worker = w; act = Go; reply = Pending }
 
-going_is : (x : Entry) → goes_on x ≡ true → going x.worker ≡ x
+going_is : (x : Entry) → is_intermediate x ≡ true → going x.worker ≡ x
 going_is x on =
     let k = and_parts (is_go x.act) (is_pending x.reply) on in
     let act : x.act ≡ Go = go_is x.act k.0 in
@@ -182,10 +182,11 @@ going_is x on =
     ap (λ a. entry_of x.worker a Pending) (sym act) ∙ ap (λ p. entry_of x.worker x.act p) (sym reply)
 
 -- what holds after each go that ends no call
-pub by_going : (P : Entry → Type 0) → ((w : ℕ) → P (going w)) → (x : Entry) → goes_on x ≡ true → P x
+pub by_going : (P : Entry → Type 0) → ((w : ℕ) → P (going w)) → (x : Entry)
+    → is_intermediate x ≡ true → P x
 by_going P each x on = subst P (going_is x on) (each x.worker)
 
 -- such a go changes nothing
-pub tracked_going : (rules : ℕ → Rule) (keeps : List Told → Kept) (z : Tracked) (w : ℕ) (past : List Entry) → IsTracked rules keeps z past → IsTracked rules keeps z (going w ∷ past)
+pub tracked_going : (rules : ℕ → Rule) (keeps : List CompletedCall → ListProgress) (z : TrackerModel) (w : ℕ) (past : List Entry) → IsTrackerModel rules keeps z past → IsTrackerModel rules keeps z (going w ∷ past)
 tracked_going rules keeps z w past s =
     record { lists = lists_pending rules keeps z.kept (going w) past refl s.lists; finding = found_off rules z.fault (going w) past refl s.finding }

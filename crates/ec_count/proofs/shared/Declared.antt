@@ -7,7 +7,7 @@ use Rattle.std.proofs.lemmas.Bool.{or_parts, or_from, ltb-false, leb-false, lt-l
 use Rattle.std.proofs.lemmas.List.Elements.{All-nil, All-cons}
 use Rattle.ec_count.specs.declared.setup.Rights.{Rights}
 use Rattle.ec_count.specs.declared.setup.Access.{Access}
-use Rattle.ec_count.specs.Members.{AreWorkers, AreTwoLists, is_faulty, is_faulty_pair, is_member, has_repeat, place_of}
+use Rattle.ec_count.specs.Members.{AreWorkers, AreTwoLists, is_faulty, is_faulty_pair, is_member, has_repeat, index_of}
 use Rattle.ec_count.specs.Tables.{Tables, IsDeclared, KeepsTables, signallers, has_faulty_rights, has_faulty_takers, has_faulty_access, cells_fault, names_unknown}
 use Rattle.ec_count.specs.Lists.{observers}
 use Rattle.ec_count.specs.Laws.{OneSignaller}
@@ -144,7 +144,7 @@ some_signaller t e d lt =
 
 pub one_signaller : OneSignaller
 one_signaller t d e c w =
-    elim (slice_get t.events e) as (λ o. slice_get t.events e ≡ o → (place_of w (option_map_or (λ (r : Rights). r.signal) o []) ≡ Some c) ↔ (option_and_then (λ (r : Rights). slice_get r.signal c) o ≡ Some w)) [
+    elim (slice_get t.events e) as (λ o. slice_get t.events e ≡ o → (index_of w (option_map_or (λ (r : Rights). r.signal) o []) ≡ Some c) ↔ (option_and_then (λ (r : Rights). slice_get r.signal c) o ≡ Some w)) [
       | None ↦ λ at. (λ h. (cc), λ h. (cc))
       | Some r ↦ λ at. (
         λ h. (let k = found_there w 0 c r.signal h in let same : c ≡ k.0 = omega arith in ap (slice_get r.signal) same ∙ k.2),

@@ -16,7 +16,7 @@ use Rattle.std.proofs.lemmas.List.Elements.{All-push}
 use Rattle.std.proofs.lemmas.List.Quantifiers.{all_pairs_push}
 use Rattle.ec_count.specs.declared.target.Target.{Target}
 use Rattle.ec_count.specs.Laws.{NamesAreFound, IsFirstName}
-use Rattle.ec_count.specs.Names.{AreNames, KeepsNames, by_bytes, find_name, name_of, place_of, with_first, same_target, name_fault}
+use Rattle.ec_count.specs.Names.{AreNames, KeepsNames, by_bytes, find_name, name_of, name_index, with_first, same_target, name_fault}
 use Rattle.ec_count.specs.Tables.{first_that}
 use Rattle.ec_count.specs.declared.names.NameFault.TheVariants.{BadName, NameTaken}
 use Rattle.ec_count.specs.Targets.{target_is, targets_decide}
@@ -115,12 +115,12 @@ one_on : (x : List ℕ × Target) (xs : List (List ℕ × Target)) (o : Option �
 one_on x xs None = refl
 one_on x xs (Some i) = rw add-one refl
 
-pub name_at_place : (target : Target) (names : List (List ℕ × Target)) → name_of target names ≡ option_and_then (λ i. option_map (λ (e : List ℕ × Target). e.0) (slice_get names i)) (place_of target names)
+pub name_at_place : (target : Target) (names : List (List ℕ × Target)) → name_of target names ≡ option_and_then (λ i. option_map (λ (e : List ℕ × Target). e.0) (slice_get names i)) (name_index target names)
 name_at_place target [] = refl
 name_at_place target (x ∷ xs) =
     elim (same_target x.1 target) as (λ b. cond b (Some x.0) (name_of target xs) ≡ option_and_then (λ i. option_map (λ (e : List ℕ × Target). e.0) (slice_get (x ∷ xs) i)) (cond b (Some 0) (position_from (λ e. same_target e.1 target) 1 xs))) [
       | true ↦ refl
-      | false ↦ name_at_place target xs ∙ sym (one_on x xs (place_of target xs)) ∙ ap (option_and_then (λ i. option_map (λ (e : List ℕ × Target). e.0) (slice_get (x ∷ xs) i))) (sym (later (λ e. same_target e.1 target) 0 xs))
+      | false ↦ name_at_place target xs ∙ sym (one_on x xs (name_index target xs)) ∙ ap (option_and_then (λ i. option_map (λ (e : List ℕ × Target). e.0) (slice_get (x ∷ xs) i))) (sym (later (λ e. same_target e.1 target) 0 xs))
     ]
 
 -- the places once one more name is added
@@ -191,5 +191,5 @@ pub KeepsNames-push : (names : List (List ℕ × Target)) (firsts after : List (
 KeepsNames-push names firsts after name u h free noted = record {
   hold = AreNames-push names name u h.hold free;
   places = λ t. (let start : 0 + length names ≡ length names = zero-add (length names) in
-      noted t ∙ ap (with_first u (length names) t) (h.places t) ∙ ap (λ k. with_first u k t (place_of t names)) (sym start) ∙ sym (place_after t 0 names name u));
+      noted t ∙ ap (with_first u (length names) t) (h.places t) ∙ ap (λ k. with_first u k t (name_index t names)) (sym start) ∙ sym (place_after t 0 names name u));
 }

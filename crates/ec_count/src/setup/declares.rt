@@ -39,7 +39,7 @@ impl Setup {
     ) -> bool
         ensures { IsTrue result ↔ DeclaresCells self.now first n write.now read.now }
     {
-        self.known();
+        self.invariant();
         if n > self.cells() {
             return false;
         }

@@ -5,7 +5,7 @@ use Rattle.std.proofs.lemmas.Bool.{or_from, le-ltb, cond-false}
 use Rattle.ec_text.specs.Words.{words_of, IsWord, AreWords}
 use Rattle.ec_text.proofs.shared.WordLemmas.{words_join}
 use Rattle.ec_count.specs.Reserved.{is_name}
-use Rattle.ec_heading.specs.Headed.{Headed}
+use Rattle.ec_heading.specs.HeadingModel.{HeadingModel}
 use Rattle.ec_heading.specs.Heading.{head_step, words_step, is_no_line}
 use Rattle.ec_heading.specs.Spelling.{list_words}
 use Rattle.ec_heading.proofs.shared.NameWords.{IsNamed, named, name_is_word, name_not_empty}
@@ -47,7 +47,7 @@ join_length (w ∷ []) = omega arith
 join_length (w ∷ v ∷ ws) = omega (arith, length-append w (32 ∷ join_with_byte 32 (v ∷ ws)), join_length (v ∷ ws))
 
 -- a line of fit words is read by its words
-pub line_read : (h : Headed) (w : List ℕ) (ws : List (List ℕ)) → AreFit (w ∷ ws) → letters (w ∷ ws) ≤ 8192 → head_step h (join_with_byte 32 (w ∷ ws)) ≡ words_step h (w ∷ ws)
+pub line_read : (h : HeadingModel) (w : List ℕ) (ws : List (List ℕ)) → AreFit (w ∷ ws) → letters (w ∷ ws) ≤ 8192 → head_step h (join_with_byte 32 (w ∷ ws)) ≡ words_step h (w ∷ ws)
 unfolding head_step
 line_read h w ws fit short =
     let line : List ℕ = join_with_byte 32 (w ∷ ws) in

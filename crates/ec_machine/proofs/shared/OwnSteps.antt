@@ -3,7 +3,7 @@ use Rattle.std.proofs.Common.{◌≡◌, ◌≢◌, ℕ, Bool, true, false, ◌=
 use Rattle.std.proofs.lemmas.List.{reverse-append}
 use Rattle.ec_core.specs.declared.act.Act.{Act}
 use Rattle.ec_core.specs.declared.act.Entry.{Entry}
-use Rattle.ec_core.specs.Following.{Told}
+use Rattle.ec_core.specs.Following.{CompletedCall}
 use Rattle.ec_machine.specs.declared.command.Command.{Command}
 use Rattle.ec_machine.specs.Runs.{program_call, IsRunOf, next_act}
 use Rattle.ec_machine.specs.Steps.{due_after, IsRun, own}
@@ -19,12 +19,12 @@ own_append w (x ∷ xs) ys =
     ap (λ rest. cond (x.worker == w) (x ∷ rest) rest) (own_append w xs ys) ∙ if_append (x.worker == w) x (own w xs) (own w ys)
 
 -- a run's beginnings are runs
-pub run_before : (list : List Told → Option Act) (later past : List Entry) → IsRun list (later ++ past) → IsRun list past
+pub run_before : (list : List CompletedCall → Option Act) (later past : List Entry) → IsRun list (later ++ past) → IsRun list past
 unfolding IsRun
 run_before list [] past run = run
 run_before list (x ∷ later) past run = run_before list later past run.1
 
-pub run_due : (list : List Told → Option Act) (x : Entry) (past : List Entry) → IsRun list (x ∷ past) → due_after list past ≡ Some x.act
+pub run_due : (list : List CompletedCall → Option Act) (x : Entry) (past : List Entry) → IsRun list (x ∷ past) → due_after list past ≡ Some x.act
 unfolding IsRun
 run_due list x past run = run.0
 

@@ -24,12 +24,12 @@ fn tell_waiting(board: &Board, ask: &mut Ask<'_>) -> Result<(), Fault> {
 pub fn answer_board(board: &mut Board, ask: &mut Ask<'_>) -> Result<(), Fault> {
     match ask.verb {
         "waiting" => tell_waiting(board, ask),
-        "stuck" => tell(board.is_stuck(), ask.out),
+        "stuck" => tell(board.is_deadlocked(), ask.out),
         "park" => {
             let parked = board.park(worker(ask)?);
             tell(format_args!("{parked:?}"), ask.out)
         }
-        "live" => tell(board.is_live(worker(ask)?), ask.out),
+        "live" => tell(board.is_active(worker(ask)?), ask.out),
         "leave" => {
             board.leave(worker(ask)?);
             Ok(())
@@ -42,9 +42,9 @@ pub fn answer_board(board: &mut Board, ask: &mut Ask<'_>) -> Result<(), Fault> {
 pub fn tell_board(board: &Board, ask: &mut Ask<'_>) -> Result<(), Fault> {
     for n in 0..16 {
         if let Some(worker) = WorkerId::new(n) {
-            tell(board.is_live(worker), ask.out)?;
+            tell(board.is_active(worker), ask.out)?;
         }
     }
-    tell(board.is_stuck(), ask.out)?;
+    tell(board.is_deadlocked(), ask.out)?;
     tell_waiting(board, ask)
 }

@@ -76,7 +76,7 @@ pub fn answer_heading(ask: &mut Ask<'_>) -> Result<(), Fault> {
     match what {
         "sizes" => tell_sizes(ask),
         "declared" => tell_declared(ask),
-        "has-hand" => tell(ask.about.version().has_hand(), ask.out),
+        "has-hand" => tell(ask.about.version().has_transfer(), ask.out),
         "at" => write_word(ask.about.words(), ask.size()?, ask.out),
         "named" => {
             let group = Target::Group(ask.size()?);

@@ -6,7 +6,7 @@ use crate::kernel::ask::{Ask, worker};
 use crate::kernel::stage::Stage;
 use crate::kernel::writing::{pending, tell_entry, tell_worker};
 use crate::line::{Line, tell, word};
-use crate::output::Output;
+use crate::output::TestOutput;
 use ec_core::{Act, Entry, Reply, Run, StepFault};
 use ec_count::WorkerId;
 use ec_heading::Heading;
@@ -81,7 +81,7 @@ fn answer_worker<'a>(
     stage: &mut Stage,
     machines: &mut [Machine<'_>],
     line: &'a str,
-    out: &'a mut Output,
+    out: &'a mut TestOutput,
 ) -> Result<(), Fault> {
     let ask = &mut Line::new(heading, line, out);
     let worker = worker(ask)?;
@@ -110,7 +110,7 @@ impl<'a> Machines<'a> {
         programs: &'a [Program],
         watched: bool,
         text: &str,
-        out: &mut Output,
+        out: &mut TestOutput,
     ) -> Result<(), Fault> {
         let list = machines_of(alloc, programs)?;
         let mut machines = Machines { programs, list };
@@ -121,7 +121,7 @@ impl<'a> Machines<'a> {
     }
 
     /// Writes who is first off its program.
-    fn tell_first_off(&self, kernel: &Kernel, out: &mut Output) -> Result<(), Fault> {
+    fn tell_first_off(&self, kernel: &Kernel, out: &mut TestOutput) -> Result<(), Fault> {
         let worker = follows(kernel.parts.stage.run()?, self.programs);
         tell_worker(worker, &mut Line::new(&kernel.heading, "", out))
     }
@@ -133,7 +133,7 @@ impl<'a> Machines<'a> {
         kernel: &mut Kernel,
         line: &str,
         watched: bool,
-        out: &mut Output,
+        out: &mut TestOutput,
     ) -> Result<(), Fault> {
         match word(&mut line.split_whitespace()) {
             "follows" => self.tell_first_off(kernel, out),

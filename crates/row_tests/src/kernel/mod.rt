@@ -18,7 +18,7 @@ use crate::fault::Fault;
 use crate::kernel::machines::Machines;
 use crate::kernel::stage::{Parts, Stage};
 use crate::line::{Line, number, word};
-use crate::output::Output;
+use crate::output::TestOutput;
 use ec_core::{Run, World};
 use ec_count::Setup;
 use ec_heading::{HeadFault, Heading, Version};
@@ -53,7 +53,12 @@ fn opened(alloc: Global, what: &str, setup: Setup) -> Result<Stage, Fault> {
 
 impl Kernel {
     /// Takes a line of the heading, or one that ends it.
-    fn read_heading(&mut self, alloc: Global, line: &str, out: &mut Output) -> Result<(), Fault> {
+    fn read_heading(
+        &mut self,
+        alloc: Global,
+        line: &str,
+        out: &mut TestOutput,
+    ) -> Result<(), Fault> {
         match line {
             "evc-trace 1" => self.version = Version::One,
             "evc-trace 2" => self.version = Version::Two,
@@ -86,7 +91,7 @@ impl Kernel {
 }
 
 impl Driver for Kernel {
-    fn answer(&mut self, alloc: Global, line: &str, out: &mut Output) -> Result<(), Fault> {
+    fn answer(&mut self, alloc: Global, line: &str, out: &mut TestOutput) -> Result<(), Fault> {
         let mut words = line.split_whitespace();
         match (word(&mut words), &self.parts.stage) {
             ("limit", _) => self.begin(alloc, number(&mut words)?),
@@ -98,7 +103,7 @@ impl Driver for Kernel {
         }
     }
 
-    fn write_all(&self, out: &mut Output) -> Result<(), Fault> {
+    fn write_all(&self, out: &mut TestOutput) -> Result<(), Fault> {
         self.parts
             .stage
             .tell(&mut Line::new(&self.heading, "", out))
@@ -122,7 +127,7 @@ impl Kernel {
         alloc: Global,
         watched: bool,
         text: &str,
-        out: &mut Output,
+        out: &mut TestOutput,
     ) -> Result<(), Fault> {
         let Some((lines, rest)) = text.split_once("\nmachines\n") else {
             return answer_lines(alloc, self, watched, text, out);

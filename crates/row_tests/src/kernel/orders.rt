@@ -3,8 +3,8 @@ use crate::fault::Fault;
 use crate::kernel::ask::{Ask, act, reply, worker};
 use crate::kernel::writing::{pending, put_entry, tell_entry};
 use crate::line::tell;
-use ec_core::{Calls, Entry, Run, walk};
-use ec_order::{Call, Placed, Timeline, calls, order, order_between, verify};
+use ec_core::{Entry, PendingCalls, Run, walk};
+use ec_order::{Call, Linearizer, Placed, calls, order, order_between, verify};
 use std::alloc::Global;
 
 /// Returns a call as one entry.
@@ -18,7 +18,7 @@ fn entry_of(call: &Call) -> Entry {
 
 /// Returns whether a timeline of the entries of a run gives these calls.
 fn is_timed(alloc: Global, run: &Run, placed: &[Placed]) -> Result<bool, Fault> {
-    let mut timeline = Timeline::open(alloc, run.setup())?;
+    let mut timeline = Linearizer::open(alloc, run.setup())?;
     walk(run, &mut timeline);
     let mut dated = timeline.calls()?;
     for right in placed {
@@ -99,7 +99,7 @@ fn answer_calls(alloc: Global, run: &Run, ask: &mut Ask<'_>) -> Result<(), Fault
 /// Writes the call that the entry at a place is part of, up to that entry.
 fn answer_so_far(run: &Run, ask: &mut Ask<'_>) -> Result<(), Fault> {
     let last = ask.size()?;
-    let mut calls = Calls::new();
+    let mut calls = PendingCalls::new();
     for (place, entry) in run.entries().enumerate() {
         let call = calls.take(run.setup(), place, &entry);
         if place == last {

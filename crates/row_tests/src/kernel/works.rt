@@ -140,7 +140,7 @@ fn begun_of(ask: &mut Ask<'_>) -> Result<Begun, Fault> {
 
 /// Writes how a snapshot has ended.
 fn tell_end(snapshot: &Snapshot, ask: &mut Ask<'_>) -> Result<(), Fault> {
-    let (version, values) = match snapshot.ended() {
+    let (version, values) = match snapshot.end() {
         None => return tell("goes on", ask.out),
         Some(SnapshotEnd::Disturbed) => return tell("disturbed", ask.out),
         Some(SnapshotEnd::Accepted(version, values)) => (version, values),

@@ -3,7 +3,7 @@ use crate::fault::Fault;
 use crate::kernel::ask::{Ask, act, cell, event, sequencer, worker};
 use crate::kernel::writing::{pending, put_entry, tell_entry, tell_reply, tell_worker};
 use crate::line::{tell, tell_if};
-use crate::output::Output;
+use crate::output::TestOutput;
 use ec_core::{Entry, Step, World};
 use ec_count::{CellId, EventId, SeqId, WorkerId};
 

@@ -1,7 +1,7 @@
 //! Lines: their words, read as numbers, ids and lists of workers, and where they are answered.
 use crate::fault::Fault;
 use crate::line::tell;
-use crate::output::Output;
+use crate::output::TestOutput;
 use arrayvec::ArrayVec;
 use ec_count::{CellId, EventId, SeqId, WorkerId};
 
@@ -68,7 +68,7 @@ pub fn cell(line: &mut Line<'_>) -> Result<CellId, Fault> {
 }
 
 /// Writes the numbers of workers.
-pub fn tell_workers(workers: &[WorkerId], out: &mut Output) -> Result<(), Fault> {
+pub fn tell_workers(workers: &[WorkerId], out: &mut TestOutput) -> Result<(), Fault> {
     write!(out, "{}", workers.len())?;
     for worker in workers {
         write!(out, " {}", worker.get())?;

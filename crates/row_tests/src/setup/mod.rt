@@ -11,7 +11,7 @@ mod values;
 use crate::driver::Driver;
 use crate::fault::Fault;
 use crate::line::tell;
-use crate::output::Output;
+use crate::output::TestOutput;
 use crate::setup::line::Line;
 use crate::setup::naming::{Naming, cut};
 use crate::setup::numbers::{answer_numbers, tell_numbers};
@@ -46,7 +46,7 @@ impl Table {
     }
 
     /// Answers a line with a text in brackets.
-    fn answer_brackets(&mut self, text: &str, out: &mut Output) -> Result<(), Fault> {
+    fn answer_brackets(&mut self, text: &str, out: &mut TestOutput) -> Result<(), Fault> {
         let (verb, text, behind) = cut(text).ok_or(Fault::Line)?;
         let line = &mut Line {
             about: (),
@@ -91,14 +91,14 @@ impl Table {
 }
 
 impl Driver for Table {
-    fn answer(&mut self, _alloc: Global, text: &str, out: &mut Output) -> Result<(), Fault> {
+    fn answer(&mut self, _alloc: Global, text: &str, out: &mut TestOutput) -> Result<(), Fault> {
         if text.contains('<') {
             return self.answer_brackets(text, out);
         }
         self.answer_line(&mut Line::new((), text, out))
     }
 
-    fn write_all(&self, out: &mut Output) -> Result<(), Fault> {
+    fn write_all(&self, out: &mut TestOutput) -> Result<(), Fault> {
         self.naming.tell(out)?;
         tell_numbers(&self.numbers, out)
     }

@@ -1,18 +1,18 @@
 //! Names and words, and what they stand for. A name or a word stands in angle brackets.
 use crate::fault::Fault;
 use crate::line::{tell, tell_if};
-use crate::output::Output;
+use crate::output::TestOutput;
 use crate::setup::line::{Line, cell, event, worker};
 use crate::setup::texts::long;
 use crate::writing::{write_found, write_name, write_word};
-use ec_count::{NameFault, Names, Target, Vocabulary, WORD_MAX};
+use ec_count::{NameFault, Names, SymbolTable, Target, WORD_MAX};
 use std::alloc::Global;
 
 /// Names, and words.
 #[derive(Drop)]
 pub struct Naming {
     names: Names,
-    words: Vocabulary,
+    words: SymbolTable,
 }
 
 /// Reads what a name or a word stands for.
@@ -34,7 +34,7 @@ pub fn cut(line: &str) -> Option<(&str, &str, &str)> {
 }
 
 /// Adds a word that is not there yet.
-fn add_word(words: &mut Vocabulary, word: &[u8], target: Target) -> Result<(), Fault> {
+fn add_word(words: &mut SymbolTable, word: &[u8], target: Target) -> Result<(), Fault> {
     if word.len() > WORD_MAX || words.find(word).is_some() {
         return Err(Fault::Line);
     }
@@ -47,7 +47,7 @@ impl Naming {
     pub fn new(alloc: Global) -> Result<Self, Fault> {
         Ok(Naming {
             names: Names::new(alloc)?,
-            words: Vocabulary::new(alloc)?,
+            words: SymbolTable::new(alloc)?,
         })
     }
 
@@ -102,7 +102,7 @@ impl Naming {
     }
 
     /// Writes the names and the words, and whether each is found.
-    pub fn tell(&self, out: &mut Output) -> Result<(), Fault> {
+    pub fn tell(&self, out: &mut TestOutput) -> Result<(), Fault> {
         for place in 0..self.names.len() {
             write_name(&self.names, place, out)?;
             if let Some((name, target)) = self.names.at(place) {

@@ -1,7 +1,7 @@
 //! A list of numbers.
 use crate::fault::Fault;
 use crate::line::{tell, tell_if};
-use crate::output::Output;
+use crate::output::TestOutput;
 use crate::setup::line::Line;
 use ec_numbers::NumberList;
 
@@ -11,13 +11,13 @@ fn put_in(list: &mut NumberList, line: &mut Line<'_>) -> Result<(), Fault> {
     if place > list.len() {
         return Err(Fault::Line);
     }
-    list.make_room(number)?;
+    list.reserve_for(number)?;
     list.insert(place, number);
     Ok(())
 }
 
 /// Writes how many numbers there are, and each of them.
-pub fn tell_numbers(list: &NumberList, out: &mut Output) -> Result<(), Fault> {
+pub fn tell_numbers(list: &NumberList, out: &mut TestOutput) -> Result<(), Fault> {
     write!(out, "{}:", list.len())?;
     for place in 0..list.len() {
         write!(out, " {}", list.at(place))?;

@@ -3,7 +3,7 @@ use crate::fault::Fault;
 use crate::line::{tell, tell_if};
 use crate::setup::line::{Line, Lists, cell, event, sequencer, tell_workers, two_lists, worker};
 use crate::writing::write_sizes;
-use ec_count::{CellId, EventId, SeqId, Setup, SetupFault, joined, shares_worker};
+use ec_count::{CellId, EventId, SeqId, Setup, SetupFault, concat, shares_worker};
 
 /// Adds a worker or objects, so many if they are cells, and returns the number of the first.
 fn add(setup: &mut Setup, sort: &str, many: usize, lists: &Lists) -> Result<usize, SetupFault> {
@@ -88,7 +88,7 @@ fn answer_lists(setup: &Setup, line: &mut Line<'_>) -> Result<(), Fault> {
         "shares" => tell(shares_worker(first, second), line.out),
         "roles" => tell_if(setup.roles_fault(false, first, second, false), line.out),
         _ if first.len() > 16 || second.len() > 16 => Err(Fault::Line),
-        _ => tell_workers(&joined(first, second), line.out),
+        _ => tell_workers(&concat(first, second), line.out),
     }
 }
 

@@ -1,17 +1,19 @@
 //! Lines, words, numbers and short texts. What is cut is gathered first, a piece at a time.
 use crate::fault::Fault;
 use crate::line::{tell, tell_if};
-use crate::output::Output;
+use crate::output::TestOutput;
 use crate::setup::line::Line;
-use ec_text::{Decimal, Out, ShortText, cut_line, cut_word, has_blank, number, number_at_end};
+use ec_text::{
+    CachedDecimal, InlineText, Output, cut_line, cut_word, has_blank, number, number_at_end,
+};
 use std::alloc::Global;
 
 /// Bytes that were gathered, a number with its digits, and a short text.
 #[derive(Drop)]
 pub struct Texts {
     bytes: Vec<u8>,
-    decimal: Decimal,
-    short: ShortText,
+    decimal: CachedDecimal,
+    short: InlineText,
 }
 
 /// As many bytes as wait before a writer.
@@ -23,7 +25,7 @@ pub fn long(many: usize) -> Result<&'static [u8], Fault> {
 }
 
 /// Writes a piece in angle brackets, or `-`.
-fn put_piece(piece: Option<&[u8]>, out: &mut Output) -> Result<(), Fault> {
+fn put_piece(piece: Option<&[u8]>, out: &mut TestOutput) -> Result<(), Fault> {
     let Some(piece) = piece else {
         write!(out, "-")?;
         return Ok(());
@@ -34,7 +36,7 @@ fn put_piece(piece: Option<&[u8]>, out: &mut Output) -> Result<(), Fault> {
 }
 
 /// Ends a line that was put.
-fn end(mut out: Out<'_, Output>) -> Result<(), Fault> {
+fn end(mut out: Output<'_, TestOutput>) -> Result<(), Fault> {
     out.put(b"\n");
     Ok(out.finish()?)
 }
@@ -44,8 +46,8 @@ impl Texts {
     pub fn new(alloc: Global) -> Self {
         Texts {
             bytes: Vec::new(alloc),
-            decimal: Decimal::new(7),
-            short: ShortText::new(),
+            decimal: CachedDecimal::new(7),
+            short: InlineText::new(),
         }
     }
 
@@ -85,7 +87,7 @@ impl Texts {
     /// Sets the number, and writes its digits, as they are kept, as a number and as a kept number.
     fn set(&mut self, n: u64, line: &mut Line<'_>) -> Result<(), Fault> {
         self.decimal.set(n);
-        let mut out = Out::new(line.out);
+        let mut out = Output::new(line.out);
         out.put(self.decimal.digits().bytes());
         out.put(b" ");
         out.put_number(n);
@@ -96,9 +98,9 @@ impl Texts {
 
     /// Writes so many bytes, the short text, and a shorter one.
     fn put_short(&self, before: usize, line: &mut Line<'_>) -> Result<(), Fault> {
-        let mut shorter = ShortText::new();
+        let mut shorter = InlineText::new();
         let _fits = shorter.take_in(b"!");
-        let mut out = Out::new(line.out);
+        let mut out = Output::new(line.out);
         out.put(long(before)?);
         out.put_short(&self.short);
         out.put_short(&shorter);
@@ -108,7 +110,7 @@ impl Texts {
     /// Writes so many bytes, a text, and with it the short text.
     fn put_with_short(&self, text: &str, line: &mut Line<'_>) -> Result<(), Fault> {
         let before = long(line.size()?)?;
-        let mut out = Out::new(line.out);
+        let mut out = Output::new(line.out);
         out.put(before);
         out.put_with_short(text.as_bytes(), &self.short);
         end(out)
@@ -116,7 +118,7 @@ impl Texts {
 
     /// Writes a text, and with it the number.
     fn put_with_number(&self, text: &str, line: &mut Line<'_>) -> Result<(), Fault> {
-        let mut out = Out::new(line.out);
+        let mut out = Output::new(line.out);
         out.put_with_decimal(text.as_bytes(), &self.decimal);
         end(out)
     }
@@ -165,7 +167,7 @@ impl Texts {
         match verb {
             "clear" => self.bytes.clear(),
             "line-feed" => self.gather(b"\n")?,
-            "short" => self.short = ShortText::new(),
+            "short" => self.short = InlineText::new(),
             "byte" => self.add(line.number()?)?,
             "set" => self.set(line.number()?, line)?,
             "put-short" => self.put_short(line.size()?, line)?,

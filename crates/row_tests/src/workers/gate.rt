@@ -4,7 +4,7 @@
 //! behind a worker's last one is where it leaves.
 use crate::fault::Fault;
 use crate::line::{Words, number, word};
-use crate::output::Output;
+use crate::output::TestOutput;
 use ec_count::WorkerId;
 use ec_heading::Heading;
 use ec_runner::Gate;

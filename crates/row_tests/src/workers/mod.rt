@@ -7,7 +7,7 @@ mod running;
 
 use crate::fault::Fault;
 use crate::line::word;
-use crate::output::Output;
+use crate::output::TestOutput;
 use crate::workers::gate::rule_of;
 use crate::workers::running::run;
 use ec_script::{ScriptFault, parse};
@@ -20,7 +20,7 @@ pub fn answer_script<R: Threads + Wait + Sync>(
     rt: &R,
     alloc: Global,
     text: &str,
-    out: &mut Output,
+    out: &mut TestOutput,
 ) -> Result<(), Fault> {
     let (script, lines) = text.split_once("gate\n").ok_or(Fault::Line)?;
     let plan = match parse(alloc, script.as_bytes()) {

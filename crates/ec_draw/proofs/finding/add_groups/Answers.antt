@@ -7,9 +7,9 @@ use Rattle.ec_walk.proofs.shared.Each.{from_first, from_here, from_next, from_so
 use Rattle.ec_draw.specs.declared.finding.Finding.{Finding}
 use Rattle.ec_draw.specs.Arrows.{group_arrows}
 use Rattle.ec_draw.specs.Balances.{group_line}
-use Rattle.ec_draw.specs.Curves.{shown}
+use Rattle.ec_draw.specs.Curves.{curve_model}
 use Rattle.ec_draw.specs.Findings.{FindsFor, EachFindsFrom}
-use Rattle.ec_draw.specs.Shades.{group_shades, seen}
+use Rattle.ec_draw.specs.Shades.{group_shades, shade_model}
 use Rattle.ec_draw.proofs.WalkLemmas.{found_more, found_all, nil_of}
 use Rattle.ec_draw.proofs.finding.add_groups.Goals as goal
 
@@ -47,11 +47,11 @@ loop-number-preserved c =
     let at = slice_get_read gs _ n g refl c.loop-number-test.true c.index-groups-number.is in
     let R : Group → Finding → Type 0 = λ k f. FindsFor t all w k f past in
     record {
-      curves = found_more (group_line all w h) gs n g (map shown c.args.found.now.curves.items)
-          (map shown c.loop-number.found.curves.items)
-          (map shown c.add_group.new.found.curves.items) at was.curves added.curves;
-      shades = found_more (group_shades t w h) gs n g (map seen c.args.found.now.shades.items)
-          (map seen c.loop-number.found.shades.items) (map seen c.add_group.new.found.shades.items)
+      curves = found_more (group_line all w h) gs n g (map curve_model c.args.found.now.curves.items)
+          (map curve_model c.loop-number.found.curves.items)
+          (map curve_model c.add_group.new.found.curves.items) at was.curves added.curves;
+      shades = found_more (group_shades t w h) gs n g (map shade_model c.args.found.now.shades.items)
+          (map shade_model c.loop-number.found.shades.items) (map shade_model c.add_group.new.found.shades.items)
           at was.shades added.shades;
       arrows = found_more (group_arrows t w h) gs n g c.args.found.now.arrows.items
           c.loop-number.found.arrows.items c.add_group.new.found.arrows.items at was.arrows
@@ -99,15 +99,15 @@ pub returns-clause-curves : goal.returns-clause-curves
 returns-clause-curves c =
     let asked = c.args.asked.now in
     found_all (group_line asked.semaphores.now asked.window c.args.run.now.entries)
-    c.args.groups.now c.loop-number.number (map shown c.args.found.now.curves.items)
-    (map shown c.loop-number.found.curves.items) (omega arith) c.loop-number.invariant.curves
+    c.args.groups.now c.loop-number.number (map curve_model c.args.found.now.curves.items)
+    (map curve_model c.loop-number.found.curves.items) (omega arith) c.loop-number.invariant.curves
 
 pub returns-clause-shades : goal.returns-clause-shades
 returns-clause-shades c =
     let asked = c.args.asked.now in
     found_all (group_shades c.args.run.now.setup asked.window c.args.run.now.entries)
-    c.args.groups.now c.loop-number.number (map seen c.args.found.now.shades.items)
-    (map seen c.loop-number.found.shades.items) (omega arith) c.loop-number.invariant.shades
+    c.args.groups.now c.loop-number.number (map shade_model c.args.found.now.shades.items)
+    (map shade_model c.loop-number.found.shades.items) (omega arith) c.loop-number.invariant.shades
 
 pub returns-clause-arrows : goal.returns-clause-arrows
 returns-clause-arrows c =

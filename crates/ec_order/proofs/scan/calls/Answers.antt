@@ -13,10 +13,10 @@ pub loop-i-preserved : goal.loop-i-preserved
 loop-i-preserved c =
     elim c.match-entry.branch [
       | in-Some+in-Some-take_in+in_ok-push w ↦
-          rw (w.calls-is, w.under_way-is) (scanned _ _ _ _ w.in-Some.entry (Some w.in-Some-take_in.call) _ _ _ _ c.known.ensures.accepted w.in-Some.ensures c.loop-i.invariant w.setup.ensures
+          rw (w.calls-is, w.under_way-is) (scanned _ _ _ _ w.in-Some.entry (Some w.in-Some-take_in.call) _ _ _ _ c.invariant.ensures.accepted w.in-Some.ensures c.loop-i.invariant w.setup.ensures
           w.in-Some-take_in.ensures w.in_ok-push.ensures.items)
       | in-Some+in_default-take_in w ↦
-          rw (w.calls-is, w.under_way-is) (scanned _ _ _ _ w.in-Some.entry w.take_in.result _ _ _ _ c.known.ensures.accepted w.in-Some.ensures c.loop-i.invariant w.setup.ensures
+          rw (w.calls-is, w.under_way-is) (scanned _ _ _ _ w.in-Some.entry w.take_in.result _ _ _ _ c.invariant.ensures.accepted w.in-Some.ensures c.loop-i.invariant w.setup.ensures
           w.take_in.ensures (sym (append-nil _) ∙ ap (λ z. c.loop-i.calls.items ++ option_to_list z) (sym w.in_default-take_in.is)))
       | in_default w ↦ absurd (none_past c.args.run.now.entries c.loop-i.i (sym w.in_default.is ∙ c.entry.ensures) (omega arith))
     ]

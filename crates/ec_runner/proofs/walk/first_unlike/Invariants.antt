@@ -5,5 +5,5 @@ use Rattle.ec_runner.proofs.walk.first_unlike.Given as goal
 abbrev pub invariant-loop-entry : goal.invariant-loop-entry
 invariant-loop-entry l = record {
   order : l.yielded ++ l.entry-iterator ≡ l.run.entries;
-  walked : AreWalked l.tolds l.cursors l.yielded;
+  walked : AreWalked l.summaries l.cursors l.yielded;
 }

@@ -1,4 +1,4 @@
-use Rattle.ec_script.proofs.KindsTold.{faultless_taken}
+use Rattle.ec_script.proofs.ReportedKinds.{faultless_taken}
 use Rattle.ec_script.proofs.laws.faultless_lines_are_taken.Goals as goal
 
 pub returns : goal.returns

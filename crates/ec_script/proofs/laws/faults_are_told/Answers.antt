@@ -1,4 +1,4 @@
-use Rattle.ec_script.proofs.FaultsTold.{faults_are_told}
+use Rattle.ec_script.proofs.ReportedFaults.{faults_are_told}
 use Rattle.ec_script.proofs.laws.faults_are_told.Goals as goal
 
 pub returns : goal.returns

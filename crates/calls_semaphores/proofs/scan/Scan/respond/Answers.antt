@@ -3,7 +3,7 @@ use Rattle.std.proofs.Common.{false, arith}
 use Rattle.std.specs.List.{position}
 use Rattle.std.specs.Vec.{with_item}
 use Rattle.calls_core.specs.declared.history.Call.{Call}
-use Rattle.calls_semaphores.specs.declared.scan.Open.{Open}
+use Rattle.calls_semaphores.specs.declared.scan.PendingUnits.{PendingUnits}
 use Rattle.calls_semaphores.specs.declared.scan.Scan.{Scan}
 use Rattle.calls_semaphores.specs.Monitors.{IsRefusedAt}
 use Rattle.calls_semaphores.specs.Keeping.{is_v, TakenAs}
@@ -14,16 +14,16 @@ use Rattle.calls_semaphores.proofs.scan.Scan.respond.Goals as goal
 pub returns-in_default-clause-step : goal.returns-in_default-clause-step
 returns-in_default-clause-step c = λ is units past h le k.
     absurd (scan_nobody units c.args.event past h c.args.self.now k c.args.reply is
-    (subst (λ os. position (is_his (λ (o : Open). o.call) c.args.event.worker) os ≡ None)
+    (subst (λ os. position (is_his (λ (o : PendingUnits). o.call) c.args.event.worker) os ≡ None)
     c.deref.ensures.value (sym c.in_default.ensures)))
 
 pub returns-in-Some-take-clause-step : goal.returns-in-Some-take-clause-step
 returns-in-Some-take-clause-step c = λ is units past h le k.
     (let s = c.args.self.now in
     let o = c.remove-open.result in
-    let at : IsAt (λ (p : Open). p.call) c.args.event.worker s.pending.items c.in-Some.k o =
-    at_position (λ (p : Open). p.call) c.args.event.worker s.pending.items c.in-Some.k o
-    (subst (λ os. position (is_his (λ (p : Open). p.call) c.args.event.worker) os
+    let at : IsAt (λ (p : PendingUnits). p.call) c.args.event.worker s.pending.items c.in-Some.k o =
+    at_position (λ (p : PendingUnits). p.call) c.args.event.worker s.pending.items c.in-Some.k o
+    (subst (λ os. position (is_his (λ (p : PendingUnits). p.call) c.args.event.worker) os
     ≡ Some c.in-Some.k) c.deref.ensures.value (sym c.in-Some.ensures))
     c.remove-open.ensures.value in
     subst (λ (z : Call). IsRefusedAt units past c.args.event (record {
@@ -40,9 +40,9 @@ pub returns-in_ok-push-clause-step : goal.returns-in_ok-push-clause-step
 returns-in_ok-push-clause-step c = λ is units past h le k.
     (let s = c.args.self.now in
     let o = c.remove-open.result in
-    let at : IsAt (λ (p : Open). p.call) c.args.event.worker s.pending.items c.in-Some.k o =
-    at_position (λ (p : Open). p.call) c.args.event.worker s.pending.items c.in-Some.k o
-    (subst (λ os. position (is_his (λ (p : Open). p.call) c.args.event.worker) os
+    let at : IsAt (λ (p : PendingUnits). p.call) c.args.event.worker s.pending.items c.in-Some.k o =
+    at_position (λ (p : PendingUnits). p.call) c.args.event.worker s.pending.items c.in-Some.k o
+    (subst (λ os. position (is_his (λ (p : PendingUnits). p.call) c.args.event.worker) os
     ≡ Some c.in-Some.k) c.deref.ensures.value (sym c.in-Some.ensures))
     c.remove-open.ensures.value in
     let new : Scan = record {
@@ -65,9 +65,9 @@ pub returns-then-open-len-clause-step : goal.returns-then-open-len-clause-step
 returns-then-open-len-clause-step c = λ is units past h le k.
     (let s = c.args.self.now in
     let o = c.remove-open.result in
-    let at : IsAt (λ (p : Open). p.call) c.args.event.worker s.pending.items c.in-Some.k o =
-    at_position (λ (p : Open). p.call) c.args.event.worker s.pending.items c.in-Some.k o
-    (subst (λ os. position (is_his (λ (p : Open). p.call) c.args.event.worker) os
+    let at : IsAt (λ (p : PendingUnits). p.call) c.args.event.worker s.pending.items c.in-Some.k o =
+    at_position (λ (p : PendingUnits). p.call) c.args.event.worker s.pending.items c.in-Some.k o
+    (subst (λ os. position (is_his (λ (p : PendingUnits). p.call) c.args.event.worker) os
     ≡ Some c.in-Some.k) c.deref.ensures.value (sym c.in-Some.ensures))
     c.remove-open.ensures.value in
     let new : Scan = record {
@@ -89,9 +89,9 @@ pub returns-else-open-len-clause-step : goal.returns-else-open-len-clause-step
 returns-else-open-len-clause-step c = λ is units past h le k.
     (let s = c.args.self.now in
     let o = c.remove-open.result in
-    let at : IsAt (λ (p : Open). p.call) c.args.event.worker s.pending.items c.in-Some.k o =
-    at_position (λ (p : Open). p.call) c.args.event.worker s.pending.items c.in-Some.k o
-    (subst (λ os. position (is_his (λ (p : Open). p.call) c.args.event.worker) os
+    let at : IsAt (λ (p : PendingUnits). p.call) c.args.event.worker s.pending.items c.in-Some.k o =
+    at_position (λ (p : PendingUnits). p.call) c.args.event.worker s.pending.items c.in-Some.k o
+    (subst (λ os. position (is_his (λ (p : PendingUnits). p.call) c.args.event.worker) os
     ≡ Some c.in-Some.k) c.deref.ensures.value (sym c.in-Some.ensures))
     c.remove-open.ensures.value in
     let within = placed_within units c.args.event past h s k c.args.reply is c.in-Some.k o at

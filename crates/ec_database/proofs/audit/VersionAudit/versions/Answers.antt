@@ -12,6 +12,6 @@ returns-clause-undisturbed c =
     let h = c.args.run.now.entries in
     let A : Tables → Type 0 = λ u. IsAccepted u (reverse h) in
     let ended : EndsAt c.args.self.setup (IsVersioning c.args.self) h =
-    record { declared = subst IsDeclared (sym c.requires.setup) c.known.ensures.declared; accepted = subst A (sym c.requires.setup) c.known.ensures.accepted; stands = c.requires.stands } in
+    record { declared = subst IsDeclared (sym c.requires.setup) c.invariant.ensures.declared; accepted = subst A (sym c.requires.setup) c.invariant.ensures.accepted; represents = c.requires.represents } in
     let Q : Tables → Type 0 = λ u. IfOk c.finish.result (λ tries. AreUndisturbed u c.args.self.shape h tries.list) in
     subst Q c.requires.setup (c.finish.ensures.undisturbed h ended)

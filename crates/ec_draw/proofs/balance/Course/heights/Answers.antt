@@ -11,13 +11,14 @@ returns c =
     let past = reverse h in
     let s = c.args.shape.now in
     let inside = c.self.inside in
-    let stands = subst (λ (z : Course). IsCourse z past) (sym c.self.view_is) c.requires.stands in
+    let represents =
+    subst (λ (z : Course). IsCourse z past) (sym c.self.view_is) c.requires.represents in
     let shape = subst (λ (z : Course). z.audit.shape ≡ s) (sym c.self.view_is) c.requires.shape in
     let few = subst (λ (n : ℕ). n ≤ INITIAL_MAX) c.initial-initial.ensures.value
     c.initial-initial.ensures.small in
-    let small = small_run c.args.run.now.setup s past few c.known.ensures.declared
-    c.known.ensures.accepted in
-    course_last inside.audit inside.window s past c.len.result c.left.result inside.heights.items _
-    shape stands.counted (c.len.ensures ∙ sym (length-reverse h))
-    (stands.heights c.if-lacks.false) small c.left.ensures c.in_ok-pad.ensures
+    let small = small_run c.args.run.now.setup s past few c.invariant.ensures.declared
+    c.invariant.ensures.accepted in
+    course_last inside.audit inside.window s past c.len.result c.units_left.result inside.heights.items _
+    shape represents.counted (c.len.ensures ∙ sym (length-reverse h))
+    (represents.heights c.if-lacks.false) small c.units_left.ensures c.in_ok-pad.ensures
     ∙ ap (λ (z : Course). lefts s z.window past) c.self.view_is

@@ -14,8 +14,8 @@ returns c = λ start past at op was.
       record {
         counted = counted.1;
         heights = λ ok small. course_next c.self.inside.audit c.take.new.self c.self.inside.window
-            c.args.entry.now past c.args.place c.left.result c.self.inside.heights.items _ counted.0
-            inside.counted counted.1 at (inside.heights (added.before ok)) small c.left.ensures
+            c.args.entry.now past c.args.place c.units_left.result c.self.inside.heights.items _ counted.0
+            inside.counted counted.1 at (inside.heights (added.before ok)) small c.units_left.ensures
             (added.added ok);
       },
     ))

@@ -6,5 +6,5 @@ pub returns-clause-parts : goal.returns-clause-parts
 returns-clause-parts c =
     let h = c.args.run.now.entries in
     let t = c.args.run.now.setup in
-    let ended : EndsAt t (IsCounted c.args.self.now) h = record { declared = c.known.ensures.declared; accepted = c.known.ensures.accepted; stands = c.requires } in
+    let ended : EndsAt t (IsCounted c.args.self.now) h = record { declared = c.invariant.ensures.declared; accepted = c.invariant.ensures.accepted; represents = c.requires } in
     c.finish.ensures.parts t h ended

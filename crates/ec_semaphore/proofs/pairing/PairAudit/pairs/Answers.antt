@@ -6,12 +6,12 @@ pub returns-clause-pairs : goal.returns-clause-pairs
 returns-clause-pairs c =
     let h = c.args.run.now.entries in
     let t = c.args.run.now.setup in
-    let ended : EndsAt t (IsPairing c.args.self) h = record { declared = c.known.ensures.declared; accepted = c.known.ensures.accepted; stands = c.requires } in
+    let ended : EndsAt t (IsPairing c.args.self) h = record { declared = c.invariant.ensures.declared; accepted = c.invariant.ensures.accepted; represents = c.requires } in
     c.finish.ensures.pairs t h ended
 
 pub returns-clause-drawn : goal.returns-clause-drawn
 returns-clause-drawn c =
     let h = c.args.run.now.entries in
     let t = c.args.run.now.setup in
-    let ended : EndsAt t (IsPairing c.args.self) h = record { declared = c.known.ensures.declared; accepted = c.known.ensures.accepted; stands = c.requires } in
+    let ended : EndsAt t (IsPairing c.args.self) h = record { declared = c.invariant.ensures.declared; accepted = c.invariant.ensures.accepted; represents = c.requires } in
     c.finish.ensures.drawn t h ended

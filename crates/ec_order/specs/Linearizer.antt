@@ -1,0 +1,114 @@
+-- The completed calls of a history by their points, as they are gathered while the history goes
+-- past.
+use Rattle.std.specs.Prelude.{◌≡◌, ℕ, ◌+◌, ◌≤◌, Bool, true, false, not, nat_lt, List, [], ◌∷◌, length, map, reverse, Option, if◌then◌else◌}
+use Rattle.std.specs.List.{filter}
+use Rattle.ec_count.specs.Tables.{Tables}
+use Rattle.ec_core.specs.declared.act.Entry.{Entry}
+use Rattle.ec_core.specs.declared.pending_calls.PendingCall.{PendingCall}
+use Rattle.ec_core.specs.Acceptance.{IsAccepted}
+use Rattle.ec_core.specs.PendingCalls.{AreCalls}
+use Rattle.ec_order.specs.declared.call.Call.{Call}
+use Rattle.ec_order.specs.declared.linearized_entry.LinearizedEntry.{LinearizedEntry}
+use Rattle.ec_order.specs.declared.placed.Placed.{Placed}
+use Rattle.ec_order.specs.Calls.{is_one_entry_call}
+use Rattle.ec_order.specs.Points.{by_moments, ordered_by_points}
+use Rattle.ec_order.specs.AdvanceLogModel.{AdvanceLogModel, AreAdvanceLogs, IsPointBy}
+use Rattle.ec_order.specs.Verdicts.{IsGood}
+use Rattle.ec_order.specs.Walk.{is_alone, due_then, readings, PutsIn}
+
+-- a call, told as one entry: what it asked for, and what it was told in the end
+abbrev pub entry_of_call : Call → Entry
+entry_of_call c = record { worker = c.worker; act = c.op; reply = c.reply }
+
+-- a placed call, told so, with its point
+abbrev pub linearized_entry : Placed → LinearizedEntry
+linearized_entry p = record { point = p.point; entry = entry_of_call p.call }
+
+abbrev pub entry_point : LinearizedEntry → ℕ
+entry_point d = d.point
+
+-- these tell a good order of the completed calls of a past
+pub record IsGoodLinearization (t : Tables) (past : List Entry) (calls : List LinearizedEntry) : Type 0 where
+  pub placed : List Placed
+  pub returned : calls ≡ map linearized_entry placed
+  pub good : IsGood t past placed
+
+-- the completed calls of a past by their points, told so
+abbrev pub linearized_entries : Tables → List Entry → List LinearizedEntry
+linearized_entries t past = map linearized_entry (ordered_by_points t past)
+
+-- WHAT IS KEPT
+
+-- of the declarations: the pending calls; the advances of each eventcount, of which the moments are kept of those alone that were
+-- made while a read or an await of it is pending; of each entry whether it is a whole call, those that are, the completed reads and
+-- awaits of more entries by their points, and whether memory was refused for one
+pub record LinearizerModel : Type 0 where
+  pub setup : Tables
+  pub under_way : List (Option PendingCall)
+  pub advances : List AdvanceLogModel
+  pub marks : List Bool
+  pub alone : List Entry
+  pub readings : List LinearizedEntry
+  pub lacks : Bool
+
+-- whether a call has more than one entry
+abbrev pub is_long : Placed → Bool
+is_long p = nat_lt p.call.first p.call.last
+
+-- the completed reads and awaits of more than one entry, by their last entries
+abbrev pub long_readings : Tables → List Entry → List Placed
+long_readings t past = filter is_long (readings t past)
+
+-- it is that after an accepted past
+pub record IsLinearizerModel (k : LinearizerModel) (past : List Entry) : Type 0 where
+  pub under_way : AreCalls k.setup k.under_way past
+  pub advances : AreAdvanceLogs k.advances past
+  pub marks : k.marks ≡ map is_one_entry_call (reverse past)
+  pub alone : k.alone ≡ filter is_one_entry_call (reverse past)
+  pub readings : (n : ℕ) → length past ≤ n → k.readings ≡ map linearized_entry (by_moments (long_readings k.setup past) n)
+
+-- a call that an entry ends is put in by its point, found by the advances that are kept before that entry is taken in
+pub record PutsByPoint (kept : List AdvanceLogModel) (c : Call) (old new : List LinearizedEntry) : Type 0 where
+  pub point : ℕ
+  pub is : IsPointBy kept c point
+  pub puts : PutsIn entry_point old new (linearized_entry (record { call = c; point = point }))
+
+-- one more entry, at this position, is taken in
+pub record TakesIn (old : LinearizerModel) (place : ℕ) (x : Entry) (new : LinearizerModel) : Type 0 where
+  pub timed : (past : List Entry) → place ≡ length past → IsAccepted old.setup (x ∷ past) → IsLinearizerModel old past → IsLinearizerModel new (x ∷ past)
+
+-- it is that after a past, if the past is accepted and no memory was refused
+abbrev pub IsLinearizer : LinearizerModel → List Entry → Type 0
+IsLinearizer k past = k.lacks ≡ false → IsAccepted k.setup past → IsLinearizerModel k past
+
+-- on the same declarations, after a past
+abbrev pub LinearizesOn : LinearizerModel → LinearizerModel → List Entry → Type 0
+LinearizesOn start now past = (now.setup ≡ start.setup) × IsLinearizer now past
+
+-- ONE AFTER ANOTHER
+-- Marks say of the entries from a position on whether they are whole calls, and beside them stand those that are.
+
+-- whether the next entry is a read or an await that is a whole call
+abbrev pub read_comes : List Bool → List Entry → Bool
+read_comes (true ∷ marks) (x ∷ alone) = not (is_alone x.act)
+read_comes marks alone = false
+
+-- the moment at which a read or an await of more entries comes: that of its point, but the one after it if it waits for a read or an
+-- await that is a whole call, and so has its point there and ends no later
+abbrev pub due_moment : Bool → LinearizedEntry → ℕ
+due_moment waits d = if waits then d.point + 1 else d.point
+
+-- what comes after those that are due at moment k, if these are the entries from position k on, and the reads and awaits of more
+-- entries that are left
+unfoldable pub entries_after_moment : ℕ → List Bool → List Entry → List LinearizedEntry
+    → List LinearizedEntry
+entries_after_moment k [] alone readings = []
+entries_after_moment k (true ∷ marks) [] readings = due_then (due_moment (read_comes marks [])) (k + 1) (entries_after_moment (k + 1) marks []) readings
+entries_after_moment k (true ∷ marks) (x ∷ alone) readings =
+    record { point = k; entry = x } ∷ due_then (due_moment (read_comes marks alone)) (k + 1) (entries_after_moment (k + 1) marks alone) readings
+entries_after_moment k (false ∷ marks) alone readings = due_then (due_moment (read_comes marks alone)) (k + 1) (entries_after_moment (k + 1) marks alone) readings
+
+-- the calls from moment k on
+abbrev pub entries_from_moment : ℕ → List Bool → List Entry → List LinearizedEntry
+    → List LinearizedEntry
+entries_from_moment k marks alone readings = due_then (due_moment (read_comes marks alone)) k (entries_after_moment k marks alone) readings

@@ -1,0 +1,276 @@
+//! The completed calls of a history by their points, gathered while the history goes past.
+ghost use Rattle.std.specs.Prelude.{◌≡◌, ◌+◌, ◌<◌, ◌^◌, true, false, List, [], Some, IfOk, IfSome, OnOk};
+ghost use Rattle.ec_core.specs.declared.act.Entry.{Entry};
+ghost use Rattle.ec_core.specs.Acceptance.{IsAccepted};
+ghost use Rattle.ec_core.specs.Calls.{is_go};
+ghost use Rattle.ec_order.specs.AdvanceLogModel.{FollowsReading};
+ghost use Rattle.ec_order.specs.Walk.{is_alone, IsDue};
+ghost use Rattle.ec_order.specs.Linearizer.{entry_of_call, linearized_entries, entries_from_moment, due_moment, read_comes, IsLinearizer, PutsByPoint, TakesIn, IsGoodLinearization};
+
+use crate::advances::Advances;
+use crate::bit_vec::{BitIter, BitVec};
+use crate::linearized_reads::LinearizedReads;
+use crate::scan::{go_on, is_last, take_in};
+use crate::{Call, LinearizedEntry, OrderFault};
+use ec_core::{Act, Audit, Entries, Entry, PendingCalls, Segments};
+use ec_count::Setup;
+use std::alloc::{AllocError, Global};
+use std::marker::Model;
+
+/// The completed calls of a history by their points, gathered while the history goes past: each
+/// entry is handed to it once, by `take`. Of a call of one entry, as each advance is, and each read
+/// that is told at once, it keeps that entry; of a completed read or await of more entries one
+/// entry that tells it, and its point; and of every entry one bit. The moment of an advance is kept
+/// only while a read or an await of its eventcount is pending.
+#[derive(Drop)]
+pub struct Linearizer<'a> {
+    setup: &'a Setup,
+    under_way: PendingCalls,
+    advances: Advances,
+    marks: BitVec,
+    alone: Segments,
+    readings: LinearizedReads,
+    lacks: bool,
+}
+
+impl<'a> Model for Linearizer<'a> {
+    ghost use Rattle.ec_order.specs.Linearizer.{LinearizerModel};
+
+    ghost Value = { LinearizerModel };
+
+    ghost view = { λ s. record { setup = s.setup.now; under_way = s.under_way; advances = s.advances; marks = s.marks; alone = s.alone; readings = s.readings; lacks = s.lacks } };
+}
+
+/// Returns the call, told as one entry.
+fn entry_of_call(call: &Call) -> Entry
+    ensures { result ≡ entry_of_call call.now }
+{
+    Entry {
+        worker: call.worker,
+        act: call.op,
+        reply: call.reply,
+    }
+}
+
+/// Takes in an entry that ends a read or an await, by its act and the call, which is put in by its point.
+fn store_read(
+    readings: &mut LinearizedReads,
+    advances: &mut Advances,
+    act: Act,
+    call: &Call,
+) -> Result<(), AllocError>
+    ensures kept { OnOk result (PutsByPoint advances.old call.now readings.old readings.new) }
+    ensures followed { FollowsReading advances.old act (Some call.now) advances.new }
+{
+    let point = advances.point(call);
+    advances.end(act, call);
+    readings.put(point, &entry_of_call(call))
+}
+
+impl<'a> Linearizer<'a> {
+    /// Makes what is kept before the first entry of a history on this setup.
+    pub fn open(alloc: Global, setup: &'a Setup) -> Result<Self, OrderFault>
+        ensures setup { IfOk result (λ timeline. timeline.setup ≡ setup.now) }
+        ensures first { IfOk result (λ timeline. IsLinearizer timeline []) }
+    {
+        Ok(Linearizer {
+            setup,
+            under_way: PendingCalls::new(),
+            advances: Advances::none(alloc)?,
+            marks: BitVec::new(alloc),
+            alone: Segments::open(alloc)?,
+            readings: LinearizedReads::open(alloc)?,
+            lacks: false,
+        })
+    }
+
+    /// Takes the next entry in, at this position.
+    #[tactic(auto, using(crate::proofs::Timing::takes_alone, crate::proofs::Timing::takes_pending))]
+    #[inline(always)]
+    fn gather(&mut self, place: usize, entry: &Entry) -> Result<(), AllocError>
+        requires { place + 1 < 2 ^ 64 }
+        ensures setup { self.new.setup ≡ self.old.setup }
+        ensures kept { OnOk result (TakesIn self.old place entry.now self.new) }
+    {
+        self.setup.invariant();
+        if is_last(entry.reply) {
+            if let Act::Go = entry.act {
+                return self.end(place, entry);
+            }
+            self.advances.note(entry.act, place + 1)?;
+            self.marks.push(true)?;
+            self.alone.push(*entry)?;
+            return Ok(());
+        }
+        self.marks.push(false)?;
+        go_on(&mut self.under_way, self.setup, entry, place);
+        self.advances.begin(entry.act);
+        Ok(())
+    }
+
+    /// Takes in a go that ends a read or an await, at this position. (It stands apart from `gather`, which is put into a function that is
+    /// large by then.)
+    #[tactic(auto, using(crate::proofs::Timing::takes_none, crate::proofs::Timing::takes_one))]
+    #[inline(never)]
+    fn end(&mut self, place: usize, entry: &Entry) -> Result<(), AllocError>
+        requires { is_go entry.now.act ≡ true }
+        ensures setup { self.new.setup ≡ self.old.setup }
+        ensures kept { OnOk result (TakesIn self.old place entry.now self.new) }
+    {
+        self.setup.invariant();
+        self.marks.push(false)?;
+        match take_in(&mut self.under_way, self.setup, entry, place) {
+            Some(call) => store_read(&mut self.readings, &mut self.advances, entry.act, &call),
+            None => {
+                self.advances.begin(entry.act);
+                Ok(())
+            }
+        }
+    }
+
+    /// Returns the completed calls after the entries so far, by their points, one after another: a
+    /// linearization of them. `Err` if memory was refused for one of the entries.
+    pub fn calls(&self) -> Result<Linearization<'_>, OrderFault>
+        ensures value { (past : List Entry) → IsLinearizer self.now past → IsAccepted self.now.setup past → IfOk result (λ calls. calls ≡ linearized_entries self.now.setup past) }
+        ensures good { (past : List Entry) → IsLinearizer self.now past → IsAccepted self.now.setup past → IfOk result (λ calls. IsGoodLinearization self.now.setup past calls) }
+    {
+        self.setup.invariant();
+        if self.lacks {
+            return Err(OrderFault::Memory);
+        }
+        Ok(Linearization::all(&self.marks, &self.alone, &self.readings))
+    }
+}
+
+impl<'a> Audit for Linearizer<'a> {
+    ghost use Rattle.ec_order.specs.Linearizer.{LinearizesOn};
+
+    ghost represents = { LinearizesOn };
+
+    #[inline(always)]
+    fn take(&mut self, place: usize, _op: &Act, entry: &Entry) {
+        if !self.lacks && self.gather(place, entry).is_err() {
+            self.lacks = true;
+        }
+    }
+}
+
+/// Returns whether each entry with this act is a whole call. One of a read or an await may not be:
+/// it may go on by `go` entries.
+#[inline(always)]
+fn is_alone(act: Act) -> bool
+    ensures { result ≡ is_alone act }
+{
+    match act {
+        Act::Read(_) | Act::Await(_, _) | Act::Go => false,
+        Act::Advance(_) | Act::Ticket(_) | Act::Put(_, _) | Act::Get(_) | Act::Hand(_, _) => true,
+    }
+}
+
+/// Returns whether the next entry is a read or an await that is told at once.
+#[inline(always)]
+fn read_comes(marks: &BitIter<'_>, alone: &Entries<'_>) -> bool
+    ensures { result ≡ read_comes marks.now alone.now }
+{
+    let Some(true) = marks.peek() else {
+        return false;
+    };
+    match alone.peek() {
+        Some(entry) => !is_alone(entry.act),
+        None => false,
+    }
+}
+
+/// Returns the read or await at a place among those of more than one entry, if it is due at a
+/// moment. Of those whose point is one moment the first is the one that is told at once, since it
+/// ends there.
+#[inline(always)]
+fn due(
+    readings: &LinearizedReads,
+    i: usize,
+    moment: usize,
+    marks: &BitIter<'_>,
+    alone: &Entries<'_>,
+) -> Option<LinearizedEntry>
+    ensures value { IsDue (due_moment (read_comes marks.now alone.now)) readings.now i moment result }
+    ensures within { IfSome result (λ _. i + 1 < 2 ^ 64) }
+{
+    let dated = readings.due(i, moment)?;
+    if dated.point == moment && read_comes(marks, alone) {
+        return None;
+    }
+    Some(dated)
+}
+
+/// Completed calls by their points, one after another. A contract sees it as the list of those that
+/// are left.
+#[derive(Drop)]
+pub struct Linearization<'a> {
+    marks: BitIter<'a>,
+    alone: Entries<'a>,
+    readings: &'a LinearizedReads,
+    position: usize,
+    given: usize,
+}
+
+impl<'a> Model for Linearization<'a> {
+    ghost use Rattle.std.specs.Prelude.{◌+◌, ◌<◌, ◌^◌, List, drop, length};
+    ghost use Rattle.ec_order.specs.declared.linearized_entry.LinearizedEntry.{LinearizedEntry};
+    ghost use Rattle.ec_order.specs.Linearizer.{entries_from_moment};
+
+    ghost Value = { List LinearizedEntry };
+
+    ghost view = { λ s. entries_from_moment s.position s.marks s.alone (drop s.given s.readings.now) };
+
+    ghost invariant = { λ s. s.position + length s.marks < 2 ^ 64 };
+}
+
+impl<'a> Linearization<'a> {
+    /// Returns all of them.
+    fn all(marks: &'a BitVec, alone: &'a Segments, readings: &'a LinearizedReads) -> Self
+        ensures { result ≡ entries_from_moment 0 marks.now alone.now readings.now }
+    {
+        Linearization {
+            marks: marks.iter(),
+            alone: alone.entries(),
+            readings,
+            position: 0,
+            given: 0,
+        }
+    }
+}
+
+impl<'a> Iterator for Linearization<'a> {
+    ghost use Rattle.std.specs.Iterator.{YieldsFirst, item_count};
+
+    type Item = LinearizedEntry;
+
+    ghost next_gives = { YieldsFirst (λ s. s) };
+
+    ghost remaining = { item_count (λ s. s) };
+
+    fn next(&mut self) -> Option<LinearizedEntry> {
+        loop {
+            if let Some(dated) = due(
+                self.readings,
+                self.given,
+                self.position,
+                &self.marks,
+                &self.alone,
+            ) {
+                self.given += 1;
+                return Some(dated);
+            }
+            let point = self.position;
+            let Some(is_alone) = self.marks.next() else {
+                return None;
+            };
+            self.position += 1;
+            if is_alone {
+                if let Some(entry) = self.alone.next() {
+                    return Some(LinearizedEntry { point, entry });
+                }
+            }
+        }
+    }
+}

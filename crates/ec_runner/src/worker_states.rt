@@ -1,0 +1,187 @@
+//! The seats of all workers, and the lines of those that wait.
+ghost use Rattle.std.specs.Prelude.{◌≡◌, ℕ, ◌<◌, ◌≤◌, true, false, map, slice_get, slice_set, Some, if◌then◌else◌, nat_lt, List, length, drop, is_some};
+ghost use Rattle.std.specs.List.{list_any};
+ghost use Rattle.ec_runner.specs.declared.worker_state.WorkerState.TheVariants.{Gone, Running};
+ghost use Rattle.ec_runner.specs.declared.worker_state.WorkerState.TheVariants.{Waiting};
+ghost use Rattle.ec_runner.specs.WorkerStates.{is_active, is_running, is_waiting, is_deadlocked, every_active_waits, state_at_total};
+ghost use Rattle.ec_runner.specs.WorkerStates.{states_after_act};
+ghost use Rattle.ec_runner.specs.WaitQueues.{LetsOneGo, remove_waiter, insert_waiter, first_ready};
+ghost use Rattle.ec_runner.specs.WaitQueues.{waits_on};
+ghost use Rattle.ec_core.specs.Fields.{map_at};
+ghost use Rattle.ec_runner.specs.declared.wait_queue.Waiter.{Waiter};
+ghost use Rattle.ec_runner.specs.BoardModel.{past_of};
+ghost use Rattle.ec_core.specs.Acceptance.{names_unknown_object};
+
+use crate::WorkerState;
+use crate::wait_queue::{WaitQueue, Waiter};
+use ec_core::{Act, Run};
+use ec_count::{EventId, WorkerId};
+use std::marker::Model;
+
+/// The seat of each worker. Beside them stand, for each eventcount, its waiters in line, so that an
+/// advance finds those whom it lets go at the head of one line.
+#[derive(Drop)]
+pub(crate) struct WorkerStates {
+    table: [WorkerState; 16],
+    lines: [WaitQueue; 32],
+}
+
+impl Model for WorkerStates {
+    ghost use Rattle.std.specs.Prelude.{List};
+    ghost use Rattle.ec_runner.specs.declared.worker_state.WorkerState.{WorkerState};
+
+    ghost Value = { List WorkerState };
+
+    ghost use Rattle.ec_runner.specs.WaitQueues.{AreWaitQueues};
+
+    ghost view = { λ s. s.table };
+
+    ghost invariant = { λ s. AreWaitQueues s.table s.lines };
+}
+
+impl WorkerStates {
+    /// Makes seats in which the first so many workers are active, and nobody waits.
+    pub fn open(workers: usize) -> Self
+        requires { workers ≤ 16 }
+        ensures states { (w : ℕ) → w < 16 → slice_get result w ≡ Some (if nat_lt w workers then Running else Gone) }
+        ensures long { length result ≡ 16 }
+    {
+        WorkerStates {
+            table: running(workers),
+            lines: std::array::from_fn(|_| WaitQueue::empty()),
+        }
+    }
+
+    /// Returns the seat of a worker.
+    pub fn get(&self, worker: WorkerId) -> WorkerState
+        ensures { slice_get self.now worker ≡ Some result }
+    {
+        self.table[worker.get()]
+    }
+
+    /// Returns whether anybody waits for an eventcount.
+    pub fn has_waiters(&self, event: EventId) -> bool
+        ensures { result ≡ list_any (waits_on event) self.now }
+    {
+        let line = &self.lines[event.get()];
+        !line.is_empty()
+    }
+
+    /// Gives a worker a seat on which it doesn't wait, and takes it off the line that it stands in.
+    pub fn settle(&mut self, worker: WorkerId, state: WorkerState)
+        requires { is_waiting state ≡ false }
+        ensures states { self.new ≡ slice_set self.old worker state }
+        ensures within { worker < length self.old }
+    {
+        let was = self.get(worker);
+        drop_out(&mut self.lines, was, worker);
+        self.table[worker.get()] = state;
+    }
+
+    /// Makes a worker that runs a waiter.
+    pub fn wait(&mut self, worker: WorkerId, event: EventId, threshold: u64)
+        requires { slice_get self.old worker ≡ Some Running }
+        ensures { self.new ≡ slice_set self.old worker (Waiting event threshold) }
+    {
+        join(&mut self.lines, event, Waiter { threshold, worker });
+        self.table[worker.get()] = WorkerState::Waiting(event, threshold);
+    }
+
+    /// Lets the first in line for an eventcount go, if the total has come to its threshold.
+    fn release_first(&mut self, event: EventId, total: u64) -> bool
+        ensures yes { result ≡ true → LetsOneGo event total self.old self.new }
+        ensures no { result ≡ false → (self.new ≡ self.old) × (map (state_at_total event total) self.old ≡ self.old) }
+    {
+        match pop_ready(&mut self.lines, event, total) {
+            Some(waiter) => {
+                self.table[waiter.worker.get()] = WorkerState::Running;
+                true
+            }
+            None => false,
+        }
+    }
+
+    /// Lets all go whose threshold the total of their eventcount has come to.
+    pub fn release(&mut self, event: EventId, total: u64)
+        ensures { self.new ≡ map (state_at_total event total) self.old }
+    {
+        while self.release_first(event, total) {}
+    }
+
+    /// Takes in an entry of a run, the run's latest: its worker waits no more, and an advance lets
+    /// those go whose threshold it has brought the total to.
+    pub fn note(&mut self, run: &Run, worker: WorkerId, act: &Act)
+        requires { names_unknown_object run.now.setup act.now ≡ false }
+        ensures states { self.new ≡ states_after_act act.now (past_of run.now) (slice_set self.old worker Running) }
+        ensures within { worker < length self.old }
+    {
+        self.settle(worker, WorkerState::Running);
+        if let Act::Advance(event) = *act {
+            if let Some(total) = run.world().total(event) {
+                self.release(event, total);
+            }
+        }
+    }
+
+    /// Returns whether some worker is active and every active worker waits.
+    pub fn are_deadlocked(&self) -> bool
+        ensures { result ≡ is_deadlocked self.now }
+    {
+        any_is_live(&self.table) && !any_is_running(&self.table)
+    }
+}
+
+/// Takes a worker with this seat off the line that it stands in.
+fn drop_out(lines: &mut [WaitQueue; 32], state: WorkerState, worker: WorkerId)
+    ensures { lines.new ≡ remove_waiter state worker lines.old }
+{
+    if let WorkerState::Waiting(event, _) = state {
+        let line = &mut lines[event.get()];
+        line.drop_out(worker);
+    }
+}
+
+/// Puts a waiter into the line for an eventcount.
+fn join(lines: &mut [WaitQueue; 32], event: EventId, waiter: Waiter)
+    requires { (line : List Waiter) → slice_get lines.old event ≡ Some line → length line < 16 }
+    ensures line { lines.new ≡ map_at (insert_waiter waiter) lines.old event }
+    ensures event { event < 32 }
+{
+    let line = &mut lines[event.get()];
+    line.join(waiter);
+}
+
+/// Takes the first off the line for an eventcount, if the total has come to its threshold.
+fn pop_ready(lines: &mut [WaitQueue; 32], event: EventId, total: u64) -> Option<Waiter>
+    ensures first { (line : List Waiter) → slice_get lines.old event ≡ Some line → result ≡ first_ready total line }
+    ensures rest { lines.new ≡ map_at (λ line. if is_some result then drop 1 line else line) lines.old event }
+    ensures event { event < 32 }
+{
+    let line = &mut lines[event.get()];
+    line.pop_ready(total)
+}
+
+/// Makes seats of which the first so many are those of workers that run.
+fn running(workers: usize) -> [WorkerState; 16]
+    requires { workers ≤ 16 }
+    ensures long { length result ≡ 16 }
+    ensures each { (w : ℕ) → w < 16 → slice_get result w ≡ Some (if nat_lt w workers then Running else Gone) }
+{
+    let mut states = [WorkerState::Gone; 16];
+    for w in 0..workers {
+        states[w] = WorkerState::Running;
+    }
+    states
+}
+
+fn any_is_live(states: &[WorkerState]) -> bool
+    ensures { result ≡ list_any is_active states.now }
+{
+    states.iter().any(|state| state.is_active())
+}
+
+fn any_is_running(states: &[WorkerState]) -> bool
+    ensures { result ≡ list_any is_running states.now }
+{
+    states.iter().any(|state| state.is_running())
+}

@@ -1,0 +1,75 @@
+-- What a line of a block says of the worker's commands.
+use Rattle.std.specs.Prelude.{◌≡◌, ℕ, ◌==◌, Bool, true, false, List, [], length, map, Option, Some, None, unwrap_or}
+use Rattle.std.specs.Option.{option_and_then}
+use Rattle.std.specs.List.{list_all}
+use Rattle.ec_buffer.specs.Shapes.{Buffer}
+use Rattle.ec_database.specs.Shapes.{Database}
+use Rattle.ec_semaphore.specs.Shapes.{Semaphore}
+use Rattle.ec_text.specs.Words.{number_in_word}
+use Rattle.ec_machine.specs.declared.command.Value as amounts
+use Rattle.ec_machine.specs.declared.command.Value.TheVariants.{Last}
+use Rattle.ec_machine.specs.declared.command.Command.TheVariants as commands
+use Rattle.ec_machine.specs.Limits.{is_value, is_sound_one}
+use Rattle.ec_script.specs.Flat.{is_plain}
+use Rattle.ec_script.specs.declared.block_item.BlockItem.{BlockItem}
+use Rattle.ec_script.specs.declared.block_item.BlockItem.TheVariants.{Do, Write, Begin, End}
+use Rattle.ec_script.specs.declared.verb.LineWord.{LineWord}
+use Rattle.ec_script.specs.declared.verb.LineWord.TheVariants as verbs
+use Rattle.ec_script.specs.declared.object.Object.{Object}
+use Rattle.ec_script.specs.declared.object.Object.TheVariants.{Nothing, Worker, Event, Sequencer, Cell, Handed, OfBuffer, OfDatabase, OfSemaphore, SemaphorePair}
+use Rattle.ec_script.specs.Forms.{only_in, value_of}
+
+-- the value that a word spells; it is `last` if the word spells none in its range, of which no command is made
+abbrev pub amount_of : List ℕ → amounts.Value
+amount_of w = unwrap_or (value_of w) Last
+
+abbrev pub amount_in : List (List ℕ) → amounts.Value
+amount_in ws = amount_of (unwrap_or (only_in ws) [])
+
+-- the number that the only word spells, 0 if it spells none
+abbrev pub size_in : List (List ℕ) → ℕ
+size_in ws = unwrap_or (option_and_then number_in_word (only_in ws)) 0
+
+-- THE COMMAND OF A LINE
+
+abbrev pub event_order : LineWord → ℕ → amounts.Value → BlockItem
+event_order verbs.Advance e v = Do (commands.Advance e)
+event_order verbs.Read e v = Do (commands.Read e)
+event_order _ e v = Do (commands.Await e v)
+
+abbrev pub cell_order : Bool → ℕ → amounts.Value → BlockItem
+cell_order true x v = Do (commands.Put x v)
+cell_order false x v = Do (commands.Get x)
+
+abbrev pub buffer_order : Bool → Buffer → amounts.Value → BlockItem
+buffer_order true b v = Do (commands.Produce b v)
+buffer_order false b v = Do (commands.Consume b)
+
+abbrev pub database_order : LineWord → Database → List (List ℕ) → Option BlockItem
+database_order verbs.Write d ws = Some (Write d (map amount_of ws))
+database_order verbs.Snapshot d ws = Some (Do (commands.Snapshot d (size_in ws)))
+database_order _ d ws = None
+
+abbrev pub semaphore_order : LineWord → Semaphore → BlockItem
+semaphore_order verbs.Down s = Do (commands.Down s)
+semaphore_order _ s = Do (commands.Up s)
+
+-- what a line says that does this with the object, to whose word these follow; none if it is about nothing
+abbrev pub command_in : LineWord → Bool → Object → List (List ℕ) → Option BlockItem
+command_in v giving (Event e) ws = Some (event_order v e (amount_in ws))
+command_in v giving (Sequencer q) ws = Some (Do (commands.Ticket q))
+command_in v giving (Cell x) ws = Some (cell_order giving x (amount_in ws))
+command_in v giving (Handed e b) ws = Some (Do (commands.Hand e b))
+command_in v giving (OfBuffer b) ws = Some (buffer_order giving b (amount_in ws))
+command_in v giving (OfDatabase d) ws = database_order v d ws
+command_in v giving (OfSemaphore s) ws = Some (semaphore_order v s)
+command_in v giving (SemaphorePair common one other) ws = Some (Do (commands.DownBoth common one other))
+command_in v giving Nothing ws = None
+command_in v giving (Worker w) ws = None
+
+-- a command that keeps the limits
+abbrev pub IsSound : BlockItem → Type 0
+IsSound (Do c) = (is_plain c ≡ true) × (is_sound_one c ≡ true)
+IsSound (Write d vs) = ((length vs == d.cells) ≡ true) × (list_all is_value vs ≡ true)
+IsSound (Begin n) = ⊥
+IsSound End = ⊥
