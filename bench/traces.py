@@ -1,4 +1,4 @@
-"""Traces for the bench. A small simulator of the kernel makes each reply, so that every trace is a right one."""
+"""Traces for the bench. A small simulator of the kernel makes each reply, so that every trace is right."""
 
 import itertools
 import random
@@ -11,11 +11,11 @@ LONGEST = 64
 
 
 class Kernel:
-    """Counts, tickets and calls under way, and the lines that steps on them write."""
+    """Counts, tickets and pending calls, and the lines that steps on them write."""
 
     def __init__(self, workers, events, sequencers, groups=()):
-        """`events` has for each eventcount its signallers and its observers, `sequencers` the takers of each.
-        Where they are the objects of groups, `groups` has their lines."""
+        """Takes the signallers and the observers of each eventcount, and the takers of each sequencer. If they are
+        the objects of groups, `groups` has the lines that declare these."""
         self.version = 1
         self.workers = workers
         self.events = events
@@ -29,17 +29,17 @@ class Kernel:
         self.issued = dict.fromkeys(sequencers, 0)
         self.groups = list(groups)
         self.cells = {}
-        self.told = {}
+        self.returned = {}
         self.ended = {}
         self.going = {}
         self.audited = []
         self.downs = {}
         self.pairs = []
         self.calls = {}
-        self.finished = 0
+        self.completed = 0
 
-    def heading(self):
-        """The lines before the first entry."""
+    def header(self):
+        """Returns the lines before the first entry."""
         lines = [f"evc-trace {self.version}", f"limit {LIMIT}", "workers " + " ".join(self.workers)]
         if self.groups:
             return "".join(line + "\n" for line in [*lines, *self.groups, "run"])
@@ -50,14 +50,14 @@ class Kernel:
         return "".join(line + "\n" for line in lines + ["run"])
 
     def totals(self):
-        """The lines at the end of what `check` writes."""
+        """Returns the lines at the end of what `check` writes."""
         lines = ["totals"]
         lines += [f"eventcount {event} {sum(counts)}" for event, counts in self.components.items()]
         lines += [f"sequencer {sequencer} {n}" for sequencer, n in self.issued.items()]
         return "".join(line + "\n" for line in lines + ["end"])
 
     def audits(self):
-        """The lines of the groups in what `audit` writes."""
+        """Returns the lines of the groups in what `audit` writes."""
         lines = [line for _, line in sorted(self.audited)]
         for name, downs in self.downs.items():
             ups = self.total(f"{name}.v")
@@ -70,29 +70,29 @@ class Kernel:
 
     def advance(self, worker, event):
         self.components[event][self.places[event, worker]] += 1
-        self.finished += 1
+        self.completed += 1
         return f"{worker} advance {event} = done\n"
 
     def hand(self, worker, event, receiver):
         self.places[event, receiver] = self.places.pop((event, worker))
-        self.finished += 1
+        self.completed += 1
         return f"{worker} hand {event} {receiver} = done\n"
 
     def put(self, worker, cell, value):
         self.cells[cell] = value
-        self.finished += 1
+        self.completed += 1
         return f"{worker} put {cell} {value} = done\n"
 
     def get(self, worker, cell):
-        self.told[worker] = self.cells.get(cell, 0)
-        self.finished += 1
-        return f"{worker} get {cell} = {self.told[worker]}\n"
+        self.returned[worker] = self.cells.get(cell, 0)
+        self.completed += 1
+        return f"{worker} get {cell} = {self.returned[worker]}\n"
 
     def ticket(self, worker, sequencer):
         number = self.issued[sequencer]
         self.issued[sequencer] = number + 1
-        self.told[worker] = number
-        self.finished += 1
+        self.returned[worker] = number
+        self.completed += 1
         return f"{worker} ticket {sequencer} = {number}\n"
 
     def read(self, worker, event):
@@ -105,7 +105,7 @@ class Kernel:
         return f"{worker} go = {self.read_on(worker, *self.calls[worker])}\n"
 
     def read_on(self, worker, event, threshold, component, before):
-        """Reads one component. A read is an await of 0: any sum ends it."""
+        """Reads one component, and returns the reply. A read is an await of 0: any sum ends it."""
         counts = self.components[event]
         so_far = before + counts[component]
         if component + 1 < len(counts):
@@ -115,14 +115,14 @@ class Kernel:
             self.calls[worker] = (event, threshold, 0, 0)
             return "pending"
         self.calls.pop(worker, None)
-        self.told[worker] = so_far
-        self.finished += 1
-        self.ended[worker] = self.finished
+        self.returned[worker] = so_far
+        self.completed += 1
+        self.ended[worker] = self.completed
         return so_far
 
 
 def ordinary(kernel, draw):
-    """Entries of a few workers: mostly advances and tickets, some reads, and some awaits of what comes next."""
+    """Yields entries of a few workers: usually advances and tickets, some reads, and some awaits of the next advance."""
     alice, bob, carol, dave = kernel.workers
     acts = {
         alice: [lambda: kernel.advance(alice, "Events")] * 6 + [lambda: kernel.ticket(alice, "Turns")],
@@ -142,7 +142,7 @@ def ordinary(kernel, draw):
 
 
 def interleaved(kernel, draw):
-    """Entries of reads that overlap: some 13 of the 16 workers are in one, and advances overtake them."""
+    """Yields entries of reads that overlap: some 13 of the 16 workers have one pending, and advances overtake them."""
     acts = [kernel.advance, kernel.advance, kernel.advance, kernel.read]
     while True:
         worker = draw(kernel.workers)
@@ -150,7 +150,7 @@ def interleaved(kernel, draw):
 
 
 def hands(kernel, draw):
-    """Entries of advances and reads of two components that are handed round: every eighth advance is a hand in its place."""
+    """Yields entries of advances and reads of two components that are transferred: one advance in eight is a `hand`."""
     while True:
         worker = draw(kernel.workers)
         if worker in kernel.calls:
@@ -190,9 +190,9 @@ def interleaved_kernel():
     return Kernel(workers, {"Events": (workers, workers)}, {})
 
 
-# Workers of groups. Each is a generator of what it asks for next: a function that makes the entry. What it was told
-# stands in `kernel.told` when it goes on. `kernel.audited` gets the lines that `audit` has to write,
-# each behind its place: those of a buffer come first, and then those of a database.
+# Workers of groups. Each is a generator of what it asks for next: a function that makes the entry. `kernel.returned` has
+# the reply when the generator continues. `kernel.audited` gets the lines that `audit` has to write, each with a key to
+# sort by: those of a buffer come first, and then those of a database.
 
 CELLS = 8
 
@@ -200,7 +200,7 @@ CELLS = 8
 def producer(kernel, worker, makers):
     for item in range(10**9):
         yield lambda: kernel.ticket(worker, "B.put")
-        turn = kernel.told[worker]
+        turn = kernel.returned[worker]
         yield lambda: kernel.wait(worker, "B.in", turn)
         yield lambda: kernel.wait(worker, "B.out", max(0, turn + 1 - CELLS))
         makers[turn] = worker
@@ -211,11 +211,11 @@ def producer(kernel, worker, makers):
 def consumer(kernel, worker, makers):
     while True:
         yield lambda: kernel.ticket(worker, "B.take")
-        turn = kernel.told[worker]
+        turn = kernel.returned[worker]
         yield lambda: kernel.wait(worker, "B.out", turn)
         yield lambda: kernel.wait(worker, "B.in", turn + 1)
         yield lambda: kernel.get(worker, f"B[{turn % CELLS}]")
-        kernel.audited.append(((0, turn), f"delivery B {turn} {makers.pop(turn)} {worker} {kernel.told[worker]}"))
+        kernel.audited.append(((0, turn), f"delivery B {turn} {makers.pop(turn)} {worker} {kernel.returned[worker]}"))
         yield lambda: kernel.advance(worker, "B.out")
 
 
@@ -223,7 +223,7 @@ def writer(kernel, worker):
     for value in range(10**9):
         yield lambda: kernel.advance(worker, "D.start")
         yield lambda: kernel.ticket(worker, "D.turn")
-        turn = kernel.told[worker]
+        turn = kernel.returned[worker]
         yield lambda: kernel.wait(worker, "D.done", turn)
         for cell in range(CELLS):
             yield lambda: kernel.put(worker, f"D[{cell}]", value)
@@ -233,14 +233,14 @@ def writer(kernel, worker):
 def reader(kernel, worker):
     while True:
         yield lambda: kernel.read(worker, "D.start")
-        version = kernel.told[worker]
+        version = kernel.returned[worker]
         yield lambda: kernel.wait(worker, "D.done", version)
         values = []
         for cell in range(CELLS):
             yield lambda: kernel.get(worker, f"D[{cell}]")
-            values.append(kernel.told[worker])
+            values.append(kernel.returned[worker])
         yield lambda: kernel.read(worker, "D.start")
-        if kernel.told[worker] == version:
+        if kernel.returned[worker] == version:
             kernel.audited.append(((1, kernel.ended[worker]), f"version D {version} {worker} {' '.join(map(str, values))}"))
 
 
@@ -248,29 +248,29 @@ def user(kernel, worker):
     while True:
         for name in kernel.downs:
             yield lambda: kernel.ticket(worker, f"{name}.p")
-            turn = kernel.told[worker]
+            turn = kernel.returned[worker]
             yield lambda: kernel.wait(worker, f"{name}.v", max(0, turn + 1 - INITIAL))
             kernel.downs[name] += 1
             yield lambda: kernel.advance(worker, f"{name}.v")
 
 
 def entry_of(kernel, workers, worker):
-    """The next entry of a worker, which goes on with what it is at."""
+    """Returns the next entry of a worker, which continues its pending call if it has one."""
     return kernel.go(worker) if worker in kernel.calls else next(workers[worker])()
 
 
 def user_of_both(kernel, worker):
-    """P and then V on two semaphores at once, whose tickets are drawn under the guard of `both`."""
+    """Makes P on two semaphores at once, whose tickets are drawn in the critical section of `both`, and then V on each."""
     first, second = [name for name in kernel.downs if name != "both"][:2]
     while True:
         yield lambda: kernel.ticket(worker, "both.p")
-        turn = kernel.told[worker]
+        turn = kernel.returned[worker]
         yield lambda: kernel.wait(worker, "both.v", turn)
         kernel.downs["both"] += 1
         tickets = []
         for name in (first, second):
             yield lambda: kernel.ticket(worker, f"{name}.p")
-            tickets.append(kernel.told[worker])
+            tickets.append(kernel.returned[worker])
         kernel.pairs.append(f"pair {worker} {first} {tickets[0]} {second} {tickets[1]}")
         yield lambda: kernel.advance(worker, "both.v")
         for name, ticket in zip((first, second), tickets):
@@ -296,7 +296,7 @@ def snapshots(kernel, draw):
     workers[alice] = writer(kernel, alice)
     kernel.going = workers
     while True:
-        # (the writer seldom begins, and then hastens, so that many tries are accepted)
+        # (the writer seldom begins, and is fast then, so that many tries are accepted)
         writes = kernel.total("D.start") > kernel.total("D.done")
         yield entry_of(kernel, workers, draw([alice] * 3 + readers if writes else [alice] + readers * 20))
 
@@ -374,7 +374,7 @@ def all_groups_kernel():
     return kernel
 
 
-# Traces for the baseline in plain Rust (texts.rs): each with much of one sort of line, and one with all sorts.
+# Traces for the baseline in plain Rust (texts.rs): each has many lines of one sort, and one has all sorts.
 
 
 def sixteen():
@@ -405,7 +405,7 @@ def cells_kernel():
 
 
 def reads(kernel, draw):
-    """Entries of reads of 16 components, one after another: each sixteenth call is an advance."""
+    """Yields entries of reads of 16 components, one after another: one call in sixteen is an advance."""
     while True:
         worker = draw(kernel.workers)
         yield draw([kernel.advance] + [kernel.read] * 15)(worker, "Events")
@@ -414,7 +414,7 @@ def reads(kernel, draw):
 
 
 def awaits(kernel, draw):
-    """Entries of four workers on two components, which two of them advance and two await, often one advance ahead."""
+    """Yields entries of four workers on two components: two advance them, and all await, often one more advance."""
     while True:
         worker = draw(kernel.workers)
         if worker in kernel.calls:
@@ -422,7 +422,7 @@ def awaits(kernel, draw):
         elif ("Events", worker) in kernel.places and draw(range(2)):
             yield kernel.advance(worker, "Events")
         else:
-            # (who advances awaits no more than there is, so that somebody goes on)
+            # (a worker that advances awaits no more than the total, so that some worker can go on)
             more = 0 if ("Events", worker) in kernel.places else draw(range(2))
             yield kernel.wait(worker, "Events", kernel.total("Events") + more)
 
@@ -507,17 +507,17 @@ KINDS = {
 
 
 def write_trace(path, kind, size, most=None):
-    """Writes a trace of at most `size` bytes, as many entries as fit or `most`, and gives the kernel at its end."""
+    """Writes a trace of at most `size` bytes, with as many entries as fit or `most`, and returns the kernel at its end."""
     make_kernel, entries = {**KINDS, **AUDITED, **SEMAPHORES, **SORTS}[kind]
     kernel = make_kernel()
     with open(path, "w", encoding="ascii", newline="\n") as file:
-        written = file.write(kernel.heading())
+        written = file.write(kernel.header())
         for line in itertools.islice(entries(kernel, random.Random(1).choice), most):
             written += file.write(line)
             if written + LONGEST > size:
                 break
         file.write("end\n")
-    # (each worker takes in what its last call was told)
+    # (each worker processes the reply of its last call)
     for worker, acts in kernel.going.items():
         if worker not in kernel.calls:
             next(acts)

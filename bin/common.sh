@@ -8,14 +8,14 @@ say() {
     printf '%s: %s\n' "bin/$(basename -- "$0")" "$*" >&2
 }
 
-# take_no_words WORD..: ends where the command was given words, and takes none.
+# take_no_words WORD..: ends if the command was given words, of which it takes none.
 take_no_words() {
     [ $# -eq 0 ] && return
     say "takes no words; what it does stands at the front of the file"
     exit 2
 }
 
-# crates_of NAME: the crate and all crates of this repository that it stands on, a line each.
+# crates_of NAME: the crate and all crates of this repository that it depends on, a line each.
 crates_of() {
     awk -v top="$1" '
         /^[a-z]/ {
@@ -44,7 +44,7 @@ crates_of() {
         }' crates.txt
 }
 
-# lines_of NAME: the lines of crates.txt of the crate NAME and of all that it stands on, in one order everywhere.
+# lines_of NAME: the lines of crates.txt of the crate NAME and of all that it depends on, in one order everywhere.
 lines_of() {
     for crate in $(crates_of "$1" | LC_ALL=C sort); do
         grep "^$crate[ :]" crates.txt
@@ -59,8 +59,8 @@ sources_of() {
     done | LC_ALL=C sort
 }
 
-# digest_of NAME: one sum over the kit's line, the lines of crates.txt, and the names and contents of all that the crate
-# NAME is made from.
+# digest_of NAME: one checksum over the kit's line, the lines of crates.txt, and the names and contents of all that the
+# crate NAME is made from.
 digest_of() {
     {
         echo "$kit"
@@ -69,7 +69,7 @@ digest_of() {
     } | sha256sum | cut -d ' ' -f 1
 }
 
-# What is released, a line each: its name, the crate that it is made from, and what the gate leaves of that.
+# What is released, a line each: its name, the crate that it is made from, and the file that the gate makes of that.
 release_table() {
     cat <<'END'
 evc evc crates/evc/out/evc
@@ -85,25 +85,25 @@ crate_released() {
     release_table | awk -v name="$1" '$1 == name { print $2 }'
 }
 
-# place_of NAME: where its release stands, for x86-64 Linux: packed as .gz, beside it the sum of what was packed and
+# place_of NAME: where its release for x86-64 Linux is: packed as .gz, and next to it the checksum of what was packed and
 # the digest of the sources that it was built from.
 place_of() {
     echo "$top/release/$1-x86_64-linux"
 }
 
-# is_release_of NAME: whether there is a release of it, and it was built from the sources as they are here.
+# is_release_of NAME: whether there is a release of it that was built from the sources as they are here.
 is_release_of() {
     [ -f "$(place_of "$1").gz" ] &&
         [ "$(cd "$top" && digest_of "$(crate_released "$1")")" = "$(cat "$(place_of "$1").sources" 2>/dev/null)" ]
 }
 
-# unpack_release NAME FILE: unpacks its release into the file, and fails where that has not its sum.
+# unpack_release NAME FILE: unpacks its release into the file, and fails if that doesn't have the checksum.
 unpack_release() {
     gzip -dc "$(place_of "$1").gz" >"$2" 2>/dev/null &&
         [ "$(sha256sum <"$2" | cut -d ' ' -f 1)" = "$(cat "$(place_of "$1").sha256" 2>/dev/null)" ]
 }
 
-# whole_of NAME FILE: puts what is released under the name, as the gate has just made it, into the file.
+# whole_of NAME FILE: copies what is released under the name, as the gate has just made it, to the file.
 whole_of() {
     case $1 in
     lib*) whole_library "$2" ;;
@@ -112,7 +112,7 @@ whole_of() {
 }
 
 # whole_library FILE: puts the library that the gate has built, and the three functions of the toolchain by which it
-# takes memory, into one archive.
+# allocates, into one archive.
 whole_library() {
     folder=$(dirname -- "$(rt doc)") || return 1
     rm -f "$1"
@@ -120,9 +120,9 @@ whole_library() {
 }
 
 # start NAME WORD..: runs the program of this name. If nothing that it is made from is newer than the program, it is
-# started at once. Else it is taken from release/, if that is of these sources and this machine can run it. Else it is
-# proved and built first, which takes the toolchain's command `rt`: standard error says so, and the log is
-# out/NAME.log. The arguments, the three standard streams and the exit status are the program's own, besides these:
+# started at once. Otherwise it is taken from release/, if that is of these sources and this machine can run it.
+# Otherwise it is proved and built first, which needs the toolchain's command `rt`: standard error says so, and the log
+# is out/NAME.log. The arguments, the three standard streams and the exit status are the program's own, except for these:
 # 127  the program has to be built, and `rt` is not on PATH
 # 70   the program was not proved or not built
 start() {
@@ -141,7 +141,7 @@ start() {
     exec "$program" "$@"
 }
 
-# is_newest PROGRAM: whether the program is there, and nothing that it is made from is newer.
+# is_newest PROGRAM: whether the program exists, and nothing that it is made from is newer.
 is_newest() {
     [ -x "$1" ] || return 1
     newer=$(
@@ -151,7 +151,7 @@ is_newest() {
     [ -z "$newer" ]
 }
 
-# take_release NAME FILE: takes the program of the release.
+# take_release NAME FILE: unpacks the program of the release to the file, if it is of these sources and runs here.
 take_release() {
     [ "$(uname -s -m)" = 'Linux x86_64' ] && is_release_of "$1" || return 1
     if ! mkdir -p "$top/out" || ! (: >>"$2.$$"); then

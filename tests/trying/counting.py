@@ -1,4 +1,4 @@
-"""Counting what passed and what failed, and the last line of a test."""
+"""Counts what passed and what failed, and writes the last line of a test."""
 
 import subprocess
 
@@ -17,7 +17,7 @@ def need(holds, what):
 
 
 def tried(test, *given):
-    """What a test finds wrong, or why it could not be made."""
+    """Returns what a test finds wrong, or why it could not be made."""
     try:
         return test(*given)
     except (Fault, ValueError, OSError, subprocess.TimeoutExpired) as fault:
@@ -25,7 +25,7 @@ def tried(test, *given):
 
 
 class Count:
-    """How many things passed and failed. Failures are shown as they come, of a part with a name the first of them."""
+    """How many things passed and failed. Failures are shown as they come; in a part with a name, only the first."""
 
     def __init__(self, name=None):
         self.name, self.passed, self.failed = name, 0, 0
@@ -64,5 +64,5 @@ def ended(counts):
 
 
 def numbers(words, *otherwise):
-    """The numbers that these words are, and such as stand for words that are not there."""
+    """Returns the numbers that these words are, and defaults for words that are missing."""
     return [*map(int, words), *otherwise[len(words) :]]

@@ -1,4 +1,4 @@
-"""Programs of which one read or write fails (tests/fail.c), and what can't be read or written at all."""
+"""Programs in which one read or write fails (tests/fail.c), and what can't be read or written at all."""
 
 import os
 import tempfile
@@ -14,14 +14,14 @@ PIECES = (1, 2, 3, 5, 7, 8192)
 
 
 class Failer:
-    """Runs a program of which one read or write fails."""
+    """Runs a program in which one read or write fails."""
 
     def __init__(self, folder, program):
         self.program = program
         self.library = preloaded(folder, "fail")
 
     def ends(self, words, text, **how):
-        """The status, the output and the notes of a command, where this fails."""
+        """Returns the status, the output and the notes of a command in which this fails."""
         env = {**os.environ, "LD_PRELOAD": self.library}
         env.update({f"FAILED_{name.upper()}": str(value) for name, value in how.items()})
         return run([self.program, *words], text, SECONDS, env=env)
@@ -36,7 +36,7 @@ def pieces_of(text, most):
 
 
 def tries_of_reads(words, text, ample, pieces=PIECES):
-    """Each try of a read that fails. The last read finds the end of the text."""
+    """Yields each try of a read that fails. The last read finds the end of the text."""
     for most in pieces:
         for k in range(pieces_of(text, most) + 2):
             right = (3, b"", b"read fault\n") if k <= pieces_of(text, most) else ample
@@ -44,7 +44,7 @@ def tries_of_reads(words, text, ample, pieces=PIECES):
 
 
 def tries_of_writes(words, text, ample, pieces=PIECES):
-    """Each try of a write that fails or takes nothing."""
+    """Yields each try of a write that fails or takes nothing."""
     whole = ample[1]
     for most in pieces:
         for k in range(pieces_of(whole, most) + 1):
@@ -54,7 +54,7 @@ def tries_of_writes(words, text, ample, pieces=PIECES):
 
 
 def faults_of(failer, pool, tries):
-    """What is wrong with these tries, and how many there are."""
+    """Returns what is wrong with these tries, and how many there are."""
     tries = list(tries)
     found = pool.map(lambda it: failer.ends(it[0], it[1], **it[2]), tries)
     faults = [it for (_, _, how, right), ends in zip(tries, found) for it in fault(ends, right, how)]
@@ -62,7 +62,7 @@ def faults_of(failer, pool, tries):
 
 
 def ample_of(failer, words, text):
-    """What comes of a command of which nothing fails."""
+    """Returns the result of a command in which nothing fails."""
     ample = failer.ends(words, text)
     need(ample[0] == 0 and ample[1], f"{words} ends with {ample} where nothing fails")
     return ample
@@ -81,7 +81,7 @@ def try_pieces(part, path, tries):
 
 
 def faults_of_full_files(program, words, text):
-    """What is wrong if the output is a file that takes so many bytes, for each number of bytes."""
+    """Returns what is wrong if the output is a file that takes so many bytes, for each number of bytes."""
     faults = []
     _, whole, _ = program.ends(words, text)
     for most in range(len(whole)):

@@ -11,6 +11,6 @@ def example(name):
 
 
 def examples(pattern):
-    """The name and the bytes of each example whose place in examples/ is like this."""
+    """Yields the name and the bytes of each example whose path in examples/ fits the pattern."""
     for path in sorted(EXAMPLES.glob(pattern)):
         yield str(path.relative_to(EXAMPLES)), path.read_bytes()

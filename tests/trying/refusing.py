@@ -1,4 +1,4 @@
-"""Programs of which one request for memory, or one start of a thread, is refused (tests/refuse.c)."""
+"""Programs in which one allocation, or one start of a thread, fails (tests/refuse.c)."""
 
 import itertools
 import os
@@ -12,8 +12,8 @@ from trying.running import preloaded, run
 
 SECONDS = 20
 
-# What tests/refuse.c refuses, and what else would give memory or start something. A program that takes any of these
-# would go past it.
+# What tests/refuse.c makes fail, and what else would allocate or start something. A program that uses any of these
+# would bypass it.
 REFUSED = {"malloc", "realloc", "pthread_create"}
 OTHERS = set(
     "calloc reallocarray aligned_alloc memalign posix_memalign valloc pvalloc mmap mmap64 mremap brk sbrk strdup "
@@ -21,7 +21,7 @@ OTHERS = set(
 )
 
 
-# What a program without memory tells, and what it tells while it reads its command line.
+# What a program reports that is out of memory, and what it reports while it reads its command line.
 NO_MEMORY = b"no memory\n"
 UNREAD = b"error: out of memory\n"
 
@@ -39,13 +39,13 @@ class Ran:
 
 
 class Refuser:
-    """Runs programs of which one call is refused."""
+    """Runs programs in which one allocation or one start of a thread fails."""
 
     def __init__(self, folder):
         self.library = preloaded(folder, "refuse")
 
     def ran(self, command, text, refused, number, output=subprocess.PIPE):
-        """Runs a command, and refuses the call of this number, which REQUEST or START says the sort of."""
+        """Runs a command in which the call of this number fails: an allocation (REQUEST) or a start (START)."""
         seen, tell = os.pipe()
         more = {"LD_PRELOAD": self.library, "REFUSED_TELL": str(tell), f"REFUSED_{refused}": str(number)}
         try:
@@ -55,12 +55,12 @@ class Refuser:
             raise Fault(f"had not ended after {SECONDS} seconds") from None
         finally:
             os.close(tell)
-            with open(seen, "rb") as told:
-                was_refused = told.read() != b""
+            with open(seen, "rb") as pipe:
+                was_refused = pipe.read() != b""
         return Ran(status, written or b"", notes, was_refused)
 
     def refusals(self, command, text, refused="REQUEST", output=subprocess.PIPE):
-        """Each run of a command that met a refusal, and last the one that met none."""
+        """Yields each run of a command in which a call failed, with its number, and last the run in which none did."""
         for number in itertools.count(1):
             ran = self.ran(command, text, refused, number, output)
             yield number, ran
@@ -73,7 +73,7 @@ def plainly(command, text=b""):
 
 
 def imported(program):
-    """The names that a program for x86-64 Linux takes from libraries."""
+    """Returns the names that a program for x86-64 Linux imports from libraries."""
     with open(program, "rb") as file:
         data = file.read()
     start, size, count = struct.unpack_from("<Q", data, 40)[0], *struct.unpack_from("<HH", data, 58)
@@ -91,7 +91,7 @@ def imported(program):
 def faults_of_imports(program):
     found = imported(program)
     if not found & REFUSED:
-        return ["takes no memory from the C library, so nothing of it can be refused"]
+        return ["takes no memory from the C library, so no allocation of it can fail"]
     return [f"takes {name} from the C library, which tests/refuse.c does not refuse" for name in sorted(found & OTHERS)]
 
 
@@ -100,23 +100,23 @@ def is_whole(ran, ample):
 
 
 def is_out_of_memory(ran):
-    """Whether want of memory was told. While the command line is read, nothing can have been written."""
+    """Returns whether a run reports out of memory. While the command line is read, nothing can have been written."""
     return ran.status == 4 and (ran.notes == NO_MEMORY or (ran.notes, ran.output) == (UNREAD, b""))
 
 
-def is_front(ran, ample):
+def is_prefix(ran, ample):
     return ample.output.startswith(ran.output)
 
 
 def fault_of_text(program, ran, ample):
-    """What is wrong with a run that has one right text."""
-    if is_whole(ran, ample) or (is_out_of_memory(ran) and is_front(ran, ample)):
+    """Returns what is wrong with a run that has one right text."""
+    if is_whole(ran, ample) or (is_out_of_memory(ran) and is_prefix(ran, ample)):
         return None
-    return "neither as with ample memory nor told as want of memory"
+    return "neither as with ample memory nor reported as out of memory"
 
 
 def faults_of_line(refuser, program, words, text, fault_of):
-    """What is wrong with a command line, the requests of which are refused one after another."""
+    """Returns what is wrong with runs of a command line in which each allocation fails in turn, and the runs."""
     command = [program, *words]
     ample = plainly(command, text)
     faults, seen = [], []
@@ -131,7 +131,7 @@ def faults_of_line(refuser, program, words, text, fault_of):
 
 
 def try_texts(part, path, tries, fault_of=fault_of_text):
-    """Has each request for memory of a program refused in turn, with each of these words and texts."""
+    """Has each allocation of a program fail in turn, with each of these words and texts."""
     with tempfile.TemporaryDirectory() as folder:
         refuser = Refuser(folder)
         for words, text in tries:

@@ -1,11 +1,11 @@
-"""The bytes that the lines of a row stand for. The head of tests/run-rows has the forms."""
+"""The bytes that the lines of a golden test represent. The head of tests/run-rows has the forms."""
 
 import re
 from dataclasses import dataclass
 
 from trying.files import TOP
 
-# What a line begins with that is no plain line of a text; the first four begin a section.
+# The marks with which a line begins that is no plain line of a text. The first four begin a section.
 SECTION_MARKS = ("=", "$", "|", "-")
 MARKS = (*SECTION_MARKS, "@", "<", "*", "?", "#")
 
@@ -14,7 +14,7 @@ ESCAPES.update({mark.encode(): mark.encode() for mark in MARKS})
 
 
 class BadRow(Exception):
-    """What is wrong with a file of rows, and in which line."""
+    """What is wrong with a file of golden tests, and in which line."""
 
     def __init__(self, line, what):
         super().__init__(what)
@@ -32,7 +32,7 @@ def words_of(text, number):
 
 
 def bytes_of(line):
-    """The bytes that a line of a text stands for."""
+    """Returns the bytes that a line of a text represents."""
     if line.text.startswith("<"):
         return bytes_of_file(line)
     if line.text.startswith("*"):
@@ -64,20 +64,20 @@ def repeated(line):
     if not form:
         raise BadRow(line.number, "is no line `* COUNT TEXT`")
     count, pieces = int(form[1]), between_counters(form[2])
-    front = [unescaped(piece, line.number) for piece in pieces[:-1]]
+    parts = [unescaped(piece, line.number) for piece in pieces[:-1]]
     last = line_with_end(pieces[-1], line.number)
-    if not front:
+    if not parts:
         return last * count
-    # Quick, since some texts have millions of lines.
-    counted = b"".join(piece.replace(b"%", b"%%") + b"%d" for piece in front) + last.replace(b"%", b"%%")
+    # (this is quick, since some texts have millions of lines)
+    counted = b"".join(piece.replace(b"%", b"%%") + b"%d" for piece in parts) + last.replace(b"%", b"%%")
     lines = bytearray()
     for before in range(count):
-        lines += counted % ((before,) * len(front))
+        lines += counted % ((before,) * len(parts))
     return bytes(lines)
 
 
 def between_counters(text):
-    r"""What stands before, between and behind the \i of a text."""
+    r"""Returns the parts of a text before, between and after its \i."""
     pieces = [""]
     for part in re.findall(r"\\.|[^\\]+|\\", text):
         if part == r"\i":
@@ -88,7 +88,7 @@ def between_counters(text):
 
 
 def line_with_end(text, number):
-    """The bytes of a line, and its line feed, if no backslash at its end takes that away."""
+    """Returns the bytes of a line, with its line feed unless a backslash at its end takes that away."""
     backslashes = len(text) - len(text.rstrip("\\"))
     if backslashes % 2 == 1:
         return unescaped(text[:-1], number)

@@ -1,4 +1,4 @@
-"""Trying rows: what comes of their commands, and what is not as the row says."""
+"""Tries golden tests: runs their commands, and finds what is not as the test says."""
 
 import subprocess
 
@@ -12,7 +12,7 @@ SHOWN = 200
 
 
 def faults_of(program, row):
-    """Runs one row, and returns a line for each thing that is not as it has to be."""
+    """Runs one golden test, and returns a line for each thing that is not as it has to be."""
     faults = []
     text = row.input
     for command in row.commands:
@@ -30,7 +30,7 @@ def faults_of(program, row):
 
 
 def differences(command, ended, is_last):
-    """A line for each thing that came of a command and is not what the row says."""
+    """Returns a line for each result of a command that is not what the test says."""
     found, (status, output, notes) = [], ended
     for count, text in command.counts or []:
         lines = sum(text in line for line in output.splitlines())
@@ -46,12 +46,12 @@ def differences(command, ended, is_last):
 
 
 def in_order(text):
-    """The lines of a text in the order of their bytes."""
+    """Returns the lines of a text in the order of their bytes."""
     return b"".join(sorted(text.splitlines(keepends=True)))
 
 
 def difference(part, got, right):
-    """A list of one line that says where two texts differ first, or of none."""
+    """Returns a list with a line that says where two texts first differ, or an empty list."""
     if got == right:
         return []
     same = (one == other for one, other in zip(got, right))
@@ -61,16 +61,16 @@ def difference(part, got, right):
 
 
 def around(text, at):
-    """The line that has the byte at this place, or as much of it as is shown."""
+    """Returns the line that has the byte at this position, or as much of it as is shown."""
     if at == len(text):
         return "the end"
-    front = text[max(at - SHOWN, 0) : at].rpartition(b"\n")[2]
+    before = text[max(at - SHOWN, 0) : at].rpartition(b"\n")[2]
     rest, line_feed, _ = text[at : at + SHOWN].partition(b"\n")
-    return repr(front + rest + line_feed)
+    return repr(before + rest + line_feed)
 
 
 def try_each(part, file, faults_of_row):
-    """Tries each row of a file, of which no two may have one name."""
+    """Tries each golden test of a file, of which no two may have one name."""
     names = set()
     for row in rows_in(file):
         faults = tried(faults_of_row, row)

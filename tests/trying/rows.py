@@ -1,4 +1,4 @@
-"""Reading files of rows: golden tests, in the form that the head of tests/run-rows has."""
+"""Reads files of golden tests, in the format that the head of tests/run-rows has."""
 
 import functools
 import re
@@ -11,7 +11,7 @@ from trying.row_texts import SECTION_MARKS, BadRow, Line, bytes_of, unescaped, w
 
 ROWS = TOP / "tests" / "rows"
 
-# What stands between a line of calls and what comes of it.
+# The arrow between a line of calls and the answer to it.
 ARROW = re.compile(" *-> ?")
 
 
@@ -25,7 +25,7 @@ class Section:
 
 @dataclass
 class Command:
-    """The words of a command, and what has to come of it; None is what the row does not say."""
+    """The words of a command, and what its result has to be. None is what the test does not say."""
 
     words: list[bytes]
     output: Optional[bytes] = None
@@ -37,8 +37,8 @@ class Command:
 
 @dataclass
 class Row:
-    """The commands of a row, the input of the first, and where the row begins. Of a row with lines `?` each try is
-    a row with a number of its own. The sort is that of the calls that the row is over, or None."""
+    """A golden test: its commands, the input of the first, and where it begins. If it has lines `?`, each try is a test
+    with a number of its own. The sort is that of the calls that it is over, or None."""
 
     title: str
     file: Path
@@ -60,7 +60,7 @@ class Row:
 
 
 def rows_of(file, data):
-    """The rows of a file that has these bytes."""
+    """Returns the golden tests of a file that has these bytes."""
     rows = []
     sort, lines = sort_of(lines_of(data))
     for section in sections_of(lines):
@@ -79,7 +79,7 @@ def rows_of(file, data):
 
 
 def sort_of(lines):
-    """The sort of calls that the first line but comments names, or None, and the lines without it."""
+    """Returns the sort of calls that the first line that is no comment names, or None, and the lines without it."""
     for place, line in enumerate(lines):
         if line.text.startswith("@ "):
             return line.text[2:], lines[:place] + lines[place + 1 :]
@@ -89,7 +89,7 @@ def sort_of(lines):
 
 
 def tries_of(row):
-    """A row for each try of a row."""
+    """Returns a golden test for each try of one."""
     if row.times > 1:
         return [replace(row, number=number) for number in range(1, row.times + 1)]
     if not row.inputs:
@@ -143,7 +143,7 @@ def new_row(section, file, sort):
 
 
 def answered(section):
-    """The input and the output that the lines of a row over calls say."""
+    """Returns the input and the output that the lines of a golden test over calls give."""
     given, right = [], []
     for line in section.lines:
         text, arrow, answer = cut_at_arrow(line.text)
@@ -157,7 +157,7 @@ def answered(section):
 
 
 def cut_at_arrow(text):
-    """What stands before the arrow of a line, whether it has one, and what stands after it."""
+    """Returns what is before the arrow of a line, whether it has one, and what is after it."""
     arrow = ARROW.search(text)
     if not arrow:
         return text, False, ""
@@ -165,7 +165,7 @@ def cut_at_arrow(text):
 
 
 def add_section(row, section):
-    """Puts a section that is not the row's first into the row."""
+    """Adds a section that is not the first to a golden test."""
     number = section.head.number
     mark, _, rest = section.head.text.partition(" ")
     if mark == "$":
@@ -197,7 +197,7 @@ def number_of(text, line):
 
 
 def counts_of(section):
-    """The number and the text of each line of a section."""
+    """Returns the number and the text of each line of a section."""
     found = []
     for line in section.lines:
         count, _, text = line.text.partition(" ")
@@ -206,7 +206,7 @@ def counts_of(section):
 
 
 def add_result(command, title, section):
-    """Puts what a section `-- TITLE` says into the command."""
+    """Adds what a section `-- TITLE` says to the command."""
     part, *value = title.split(" ")
     for line in section.lines:
         if line.text.startswith("?"):
@@ -235,18 +235,18 @@ def refuse_text(section):
 
 
 def text_of(section, left_out=frozenset()):
-    """The text of a section without the lines of these numbers, from 0."""
+    """Returns the text of a section without the lines of these numbers, from 0."""
     return b"".join(bytes_of(line) for at, line in enumerate(section.lines) if at not in left_out)
 
 
 def rows_in(file):
-    """The rows of a file of the repository."""
+    """Returns the golden tests of a file of the repository."""
     return rows_of(file, (TOP / file).read_bytes())
 
 
 @functools.lru_cache(None)
 def read_rows():
-    """The rows of all files, and a line for each fault that keeps some from being tried."""
+    """Returns the golden tests of all files, and a line for each fault that keeps some from being tried."""
     rows, faults = [], []
     for path in sorted(ROWS.iterdir()):
         file = path.relative_to(TOP)
@@ -263,7 +263,7 @@ def read_rows():
 
 
 def named_once(rows):
-    """The first row of each name, and a line for each further one."""
+    """Returns the first golden test of each name, and a line for each further one."""
     first, kept, faults = {}, [], []
     for row in rows:
         once = first.setdefault(row.title, row)
@@ -275,5 +275,5 @@ def named_once(rows):
 
 
 def input_named(name):
-    """The input of a row of tests/rows."""
+    """Returns the input of a golden test of tests/rows."""
     return next(row.input for row in read_rows()[0] if row.name == name)

@@ -1,4 +1,4 @@
-"""Running programs: whole texts, texts in pieces or without end, and files that can't be read or written."""
+"""Runs programs on whole texts, on texts in pieces or without end, and on files that can't be read or written."""
 
 import os
 import resource
@@ -14,7 +14,7 @@ SECONDS = 120
 
 
 def run(words, text=b"", seconds=SECONDS, **how):
-    """The status, the output and the notes of a program that gets this text."""
+    """Returns the status, the output and the notes of a program that gets this text."""
     how = {"stdout": subprocess.PIPE, "stderr": subprocess.PIPE, "timeout": seconds, "check": False, **how}
     if "stdin" not in how:
         how["input"] = text
@@ -23,7 +23,7 @@ def run(words, text=b"", seconds=SECONDS, **how):
 
 
 class Program:
-    """A program. What comes of it are its status, its output and its notes."""
+    """A program. The result of a run is its status, its output and its notes."""
 
     def __init__(self, path, seconds=SECONDS):
         self.path, self.seconds = os.path.abspath(path), seconds
@@ -32,12 +32,12 @@ class Program:
         return run([self.path, *words], text, self.seconds, **how)
 
     def says(self, *words, text):
-        """The same, as strings."""
+        """Returns the same, as strings."""
         status, output, notes = self.ends(words, text)
         return status, output.decode("latin-1"), notes.decode("latin-1")
 
     def output(self, words, text):
-        """The output of a command that has to go well."""
+        """Returns the output of a command that has to go well."""
         status, output, notes = self.ends(words, text)
         need(status == 0, f"{words[0]} ended with status {status}: {notes[:200]}")
         return output
@@ -47,7 +47,7 @@ class Program:
         return subprocess.Popen([self.path, *words], **{**pipes, **how})
 
     def ends_in_pieces(self, words, text, most):
-        """What comes of a text if each read gives at most so many bytes: a socket of packets gives one at a time."""
+        """Returns the result if each read gives at most so many bytes: a socket of packets gives one at a time."""
         near, far = socket.socketpair(socket.AF_UNIX, socket.SOCK_SEQPACKET)
         with near, self.begun(words, stdin=far) as begun:
             far.close()
@@ -61,7 +61,7 @@ class Program:
         return begun.returncode, output, notes
 
     def ends_of_endless(self, words, head, more):
-        """What comes of a text that goes on and on after its head."""
+        """Returns the result for a text that repeats some lines without end after its beginning."""
         with self.begun(words, bufsize=0) as begun:
             try:
                 begun.stdin.write(head)
@@ -74,7 +74,7 @@ class Program:
         return begun.returncode, output, notes
 
     def ends_of_folder(self, words, folder=TOP):
-        """What comes of a folder in the place of a text."""
+        """Returns the result for a folder instead of a text."""
         room = os.open(folder, os.O_RDONLY)
         try:
             return self.ends(words, stdin=room)
@@ -82,24 +82,24 @@ class Program:
             os.close(room)
 
     def ends_of_file(self, words, text):
-        """What comes of a file with this text, and how many bytes of it were read."""
+        """Returns the result for a file with this text, and how many bytes of it were read."""
         with tempfile.TemporaryFile() as file:
             file.write(text)
             file.seek(0)
             return *self.ends(words, stdin=file), os.lseek(file.fileno(), 0, os.SEEK_CUR)
 
     def ends_at_full(self, words, text, place="stdout"):
-        """What comes of a text if the output, or what this names, goes to a device that is full."""
+        """Returns the result if the output, or another stream named by `place`, is a device that is full."""
         with open("/dev/full", "wb") as full:
             return self.ends(words, text, **{place: full})
 
     def ends_into(self, words, text, most):
-        """What comes of a text if the output is a file that takes at most so many bytes: it stands for the output."""
+        """Returns the result if the output is a file that takes at most so many bytes: its contents are the output."""
         before = resource.getrlimit(resource.RLIMIT_FSIZE)
         with tempfile.TemporaryFile() as file:
             resource.setrlimit(resource.RLIMIT_FSIZE, (most, before[1]))
             try:
-                # (the signal that says that such a bound was met is not restored, so that the write fails)
+                # (the signal for reaching this limit stays ignored, so that the write fails)
                 status, _, notes = self.ends(words, text, stdout=file, restore_signals=False)
             finally:
                 resource.setrlimit(resource.RLIMIT_FSIZE, before)
@@ -108,12 +108,12 @@ class Program:
 
 
 def differing(found, right):
-    """What is wrong where something else was found."""
+    """Returns what is wrong if something else was found."""
     return [] if found == right else [f"{found}, and right is {right}"]
 
 
 def toolchain():
-    """The folder of the kit."""
+    """Returns the folder of the kit."""
     return os.path.dirname(run(["rt", "doc"])[1].decode().strip())
 
 

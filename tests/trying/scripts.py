@@ -1,4 +1,4 @@
-"""Scripts that tests play: one of two workers, and random ones."""
+"""Scripts that tests run: one of two workers, and random ones."""
 
 # A worker that advances twice, and one that waits for one more than its ticket.
 TICKET_AND_AWAIT = b"""evc-script 1
@@ -24,7 +24,7 @@ def some(draw, names, least=1):
 
 
 def commands_of(draw, worker, rights):
-    """Random commands of a worker, who has these rights: (right, object, how many)."""
+    """Returns random commands of a worker, who has these rights: (right, object, how many)."""
     commands, awaited = [], 0
     for _ in range(draw.randrange(8)):
         if not rights[worker]:
@@ -46,7 +46,7 @@ def commands_of(draw, worker, rights):
 
 
 def random_script(draw):
-    """A script of eventcounts, sequencers and cells, and now and then of groups and hands."""
+    """Returns a random script of eventcounts, sequencers and cells, and sometimes of groups and hands."""
     workers = ["a", "b", "c", "d"][: draw.randint(1, 4)]
     rights = {worker: [] for worker in workers}
     version = draw.choice([1, 2])
@@ -92,7 +92,7 @@ def random_script(draw):
 
 
 def trace_of_script(evc, text):
-    """The trace of a script, played as far as its schedule has turns for workers that go on."""
+    """Returns the trace of a script, whose schedule is cut before the first turn of a worker that has ended."""
     while True:
         status, trace, notes = evc.ends(["sim"], text)
         if status == 0:

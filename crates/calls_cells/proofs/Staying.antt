@@ -18,7 +18,7 @@ use Rattle.calls_cells.specs.declared.outcome.Undecided.{Undecided}
 use Rattle.calls_cells.specs.Faults.{ShowsUndecided}
 use Rattle.calls_distinct.proofs.Earlier.{count_without}
 
--- no event makes a value less often put
+-- no event makes the number of puts of a value smaller
 times_more : (v : ℕ) (x : Event) (past : List Event) (a : Action) (o : Option PendingCall)
     → pending_of x.worker (pending_calls past) ≡ o → IsNextOf Cell a o
     → times (completed_calls past) (pending_calls past) v

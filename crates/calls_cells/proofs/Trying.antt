@@ -1,4 +1,4 @@
--- What is found of a beginning, and what it says of all events.
+-- What is found of a prefix, and what it says of all events.
 use Rattle.std.proofs.Common.{◌≡◌, ℕ, zero, suc, ◌+◌, ◌<◌, ◌≤◌, List, [], ◌∷◌, ◌++◌, length, take}
 use Rattle.std.proofs.Common.{drop, reverse}
 use Rattle.std.proofs.Common.{None, refl, ap, sym, arith, subst}
@@ -17,7 +17,7 @@ use Rattle.calls_serial.specs.Outcomes.{AreOverlapping}
 use Rattle.calls_cells.specs.Faults.{DoOverlap}
 use Rattle.calls_distinct.proofs.Earlier.{clock_earlier}
 
--- two puts that overlap at a moment of the events do so in their past
+-- two puts that overlap at a moment of the events do so in the reversed history
 pub overlap_shown : (events : List Event) (o p : PendingCall) → AreOverlapping events o p
     → DoOverlap (reverse events) o p
 overlap_shown events o p h = record {
@@ -56,7 +56,7 @@ taken_same (suc n) (suc j) [] le = refl
 taken_same (suc n) (suc j) (x ∷ xs) le =
     ap (λ zs. x ∷ zs) (taken_same n j xs (omega arith))
 
--- what is faulty in a beginning is so in all events
+-- what is a first fault of a prefix is one of all events
 pub fault_longer : (Shows : List Event → Type 0) (kind : Kind) (n i : ℕ) (events : List Event)
     → IsFirstFault Shows kind (take n events) i → IsFirstFault Shows kind events i
 fault_longer Shows kind n i events f =
@@ -69,7 +69,7 @@ fault_longer Shows kind n i events f =
           (f.before j le);
     }
 
--- puts that overlap are in some events
+-- if puts overlap, there are events
 pub some_events : (events : List Event) (o p : PendingCall) → DoOverlap (reverse events) o p
     → 0 < length events
 some_events [] o p h = absurd (none h.late h.earlier h.is h.both.one)

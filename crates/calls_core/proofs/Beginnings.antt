@@ -1,4 +1,4 @@
--- A beginning of a history that has a linearization has one.
+-- A prefix of a history that has a linearization has one.
 use Rattle.std.proofs.Common.{◌≡◌, ℕ, zero, suc, ◌+◌, ◌<◌, ◌≤◌, ◌⊎◌, inl, inr, true, false, ◌==◌}
 use Rattle.std.proofs.Common.{cond, Bool}
 use Rattle.std.proofs.Common.{List, [], ◌∷◌, ◌++◌, map, Option, Some, None, refl, ap, sym}
@@ -47,7 +47,7 @@ use Rattle.calls_core.proofs.Settling.{all_begun, order_settled}
 -- ANOTHER ANSWER
 
 module _ (o : PendingCall) (z : Option Reply) (a : PendingCall → Option Reply) where
-  -- the answers, but z for the call that was invoked with o
+  -- the answers, except that the pending call o has the answer z
   abbrev pub changed : PendingCall → Option Reply
   changed p = cond (p.first == o.first) z (a p)
 
@@ -77,7 +77,7 @@ answered_append t a (x ∷ xs) ys = ap (λ zs. answered_one t x (a x) ++ zs)
     (answered_append t a xs ys) ∙ sym (append_assoc (answered_one t x (a x)) (answered_calls t a xs)
     (answered_calls t a ys))
 
--- THE ANSWERS THAT ARE IN FRONT
+-- THE ANSWERS IN A PREFIX
 
 abbrev pub Returned : ℕ → Call → Type 0
 Returned m c = m ≤ c.last
@@ -123,8 +123,8 @@ module _ (u m : ℕ) (answer : PendingCall → Option Reply) (done : List Call)
         (IsPermutation-sym _ _ (IsPermutation-middle f (completion u r o) w))),
   )
 
-  -- of a list of all answered and completed calls a beginning that has all completed ones: of the
-  -- answers it has some
+  -- if the calls after a prefix of all answered and completed calls return at m or later, the
+  -- prefix has all completed calls and some of the answered ones
   pub answers_in_front : (os : List PendingCall) (prefix back : List Call) → EachPair Earlier os
       → Each (Returned m) back → IsPermutation (answered_calls u answer os ++ done) (prefix ++ back)
       → Answers os prefix
@@ -210,7 +210,7 @@ module _ (t w : ℕ) (o : PendingCall) (r : Reply) (a : PendingCall → Option R
 
 -- ONE EVENT LESS
 
--- who responds has a pending call
+-- a worker that responds has a pending call
 abbrev pub HasCall : Action → Option PendingCall → Type 0
 HasCall (Invoke k op) o = Unit {0}
 HasCall (Respond r) None = ⊥
@@ -229,7 +229,7 @@ module _ (Run : List Call → Type 0) (still : (m t : ℕ) (cs : List Call) → 
         le (omega arith) b (still m m l.0) l.1,
   )
 
-  -- without the call that was invoked last
+  -- an order without the call that was invoked last
   invoked : (m u : ℕ) (o : PendingCall) (done : List Call) (pending : List PendingCall)
       (cs : List Call) → m ≤ o.first → m ≤ u → AreBefore m done pending
       → IsLinearOrder Run done (pending ++ o ∷ []) u cs → HasOrder done pending u
@@ -292,7 +292,7 @@ module _ (Run : List Call → Type 0) (still : (m t : ℕ) (cs : List Call) → 
           let d = drawn c (answered_calls u l.answer pending ++ done) cs prefix in
           in_front_of c d.prefix d.back refl d.is d.rest)
 
-  -- if the call that responded last has none yet
+  -- an order in which the call that responded last is still pending
   responded : (m u n w : ℕ) (o : PendingCall) (r : Reply) (done : List Call)
       (pending : List PendingCall) (cs : List Call) → m ≤ n → m ≤ u → pending_of w pending ≡ Some o
       → AreBefore m done pending
@@ -340,7 +340,7 @@ module _ (Run : List Call → Type 0) (still : (m t : ℕ) (cs : List Call) → 
   order_before x (Respond r) m (Some o) done pending le e f b l =
       responded m (x.at + 1) x.at x.worker o r done pending l.0 le (omega arith) e b l.1
 
--- RUNS
+-- PREFIXES OF LEGAL SEQUENTIAL HISTORIES
 
 pub run_left : (s : ℕ → ℕ → ℕ) (xs ys : List Call) → IsRun s (xs ++ ys) → IsRun s xs
 run_left s [] ys h = tt
@@ -426,7 +426,7 @@ take_shorter (suc j) zero xs le = absurd (omega arith)
 take_shorter (suc j) (suc i) [] le = refl
 take_shorter (suc j) (suc i) (x ∷ xs) le = ap (λ zs. x ∷ zs) (take_shorter j i xs (omega arith))
 
--- the events after the first i, the newest first
+-- the reversed history, split into the events after the first i and these
 pub past_split : (i : ℕ) (events : List Event) → reverse events ≡ reverse (drop i events)
     ++ past_at i events
 past_split i events = ap reverse (sym (take-append-drop i events)) ∙ reverse-append (take i events)
@@ -445,7 +445,7 @@ order_at_beginning kind i events h l =
     (subst (IsHistoryOf kind) (past_split i events) h)
     (subst (HasOrderOf kind) (past_split i events) l)
 
--- each beginning of the first i events
+-- each prefix of the first i events has an order
 pub orders_before : (kind : Kind) (i j : ℕ) (events : List Event) → j ≤ i
     → IsHistoryOf kind (past_at i events) → HasOrderOf kind (past_at i events)
     → HasOrderOf kind (past_at j events)

@@ -1,4 +1,4 @@
--- Counts, splits and pairs of lists.
+-- Counts of elements, lists split at an element, and pairs of elements.
 use Rattle.std.proofs.Common.{◌≡◌, ℕ, zero, suc, ◌+◌, ◌<◌, ◌≤◌, ◌⊎◌, inl, inr, Bool, true, false}
 use Rattle.std.proofs.Common.{List, [], ◌∷◌, ◌++◌, length, refl, ap, arith, cond, subst, count_by}
 use Rattle.std.proofs.Common.{get_or, length-append}
@@ -107,7 +107,7 @@ in_either {X} (z ∷ xs) y ys x (suc k, lt, e) =
       | inr r ↦ inr r
     ]
 
--- pairs with one element
+-- the pairs of one element with those before and after it
 length_middle : {X : Type 0} (xs : List X) (x : X) (ys : List X)
     → length (xs ++ x ∷ ys) ≡ length xs + suc (length ys)
 length_middle xs x ys = length-append xs (x ∷ ys)

@@ -1,11 +1,11 @@
--- An element drawn out of a list that has the elements of another.
+-- An element removed from a list that is a permutation of another.
 use Rattle.std.proofs.Common.{◌≡◌, ◌⊎◌, inl, inr, List, [], ◌∷◌, ◌++◌, refl, ap, sym, ◌∙◌, subst}
 use Rattle.std.specs.List.Sorted.{IsPermutation}
 use Rattle.std.proofs.lemmas.List.Sorted.{IsPermutation-refl, IsPermutation-cons}
 use Rattle.std.proofs.lemmas.List.Sorted.{IsPermutation-trans}
 use Rattle.calls_core.proofs.Filters.{along_permutation, permutation_turn}
 
--- ys has x, and but for it the elements of xs
+-- ys has x, and without it the elements of xs
 pub record Drawn {X : Type 0} (x : X) (xs ys : List X) : Type 0 where
   pub prefix : List X
   pub back : List X

@@ -1,4 +1,4 @@
--- What every history keeps: the order of its positions, and which calls its objects take.
+-- Invariants of every history: its positions ascend, and its calls are ones of their objects.
 use Rattle.std.proofs.Common.{◌≡◌, ℕ, ◌+◌, ◌<◌, ◌≤◌, true, false, ◌==◌, cond, List, [], ◌∷◌, ◌++◌}
 use Rattle.std.proofs.Common.{Option, Some, None, refl, arith, subst, slice_get}
 use Rattle.std.proofs.lemmas.Option.{same_Some, none-some}
@@ -18,7 +18,7 @@ use Rattle.calls_core.specs.Calls.{Early, Earlier, Later, IsCompletedCall, Apart
 use Rattle.calls_core.specs.Calls.{IsCallOf, AreCallsOf}
 use Rattle.calls_core.proofs.Lists.{each_weaker, each_append, each_both, each_pair_append}
 
--- A WORKER'S CALL
+-- THE PENDING CALL OF A WORKER
 
 pub each_without : (Q : PendingCall → Type 0) (w : ℕ) (os : List PendingCall) → Each Q os
     → Each Q (without w os)
@@ -45,7 +45,7 @@ each_call_by Q w (y ∷ os) o h e =
       | false ↦ λ is. each_call_by Q w os o h.1 is
     ] e
 
--- HISTORIES, if Fits says what an object takes
+-- HISTORIES, if Fits says which operations an object has
 
 abbrev pub IsNextBy : (ℕ → Op → Type 0) → Action → Option PendingCall → Type 0
 IsNextBy Fits (Invoke k op) None = Fits k op

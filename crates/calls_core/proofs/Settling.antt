@@ -23,7 +23,7 @@ use Rattle.calls_core.proofs.Lists.{each_weaker, each_append, all_from_each, all
 use Rattle.calls_core.proofs.Filters.{each_from_all}
 use Rattle.calls_core.proofs.Positions.{are_calls_of, histories_have_calls}
 
--- WHAT IS KNOWN OF THE POSITIONS
+-- POSITIONS
 
 abbrev pub Spans : ℕ → Call → Type 0
 Spans m c = (c.first < c.last) × (c.last < m)
@@ -157,8 +157,8 @@ all_begun m u answer done pending cs early begun moved =
     (each_append (Begun m) (answered_calls u answer pending) done
     (answered_begun m u answer pending early) begun)))
 
--- an order in which the pending calls that took effect have their responses at u, as one in which
--- they have them at t
+-- an order in which the pending calls that took effect respond at u, as one in which they respond
+-- at t
 pub order_settled : (Run : List Call → Type 0) (m u t : ℕ) (done : List Call)
     (pending : List PendingCall) (cs : List Call) → m ≤ u → m ≤ t → AreBefore m done pending
     → (Run cs → Run (map (settle_call m t) cs)) → IsLinearOrder Run done pending u cs
@@ -179,7 +179,7 @@ order_settled Run m u t done pending cs le later b still l =
       run = still l.run;
     }
 
--- of one object
+-- the same for one object
 pub order_at : (kind : Kind) (past : List Event) (u t : ℕ) (cs : List Call) → IsHistoryOf kind past
     → clock past ≤ u → clock past ≤ t → IsOrderOf kind past u cs
     → IsOrderOf kind past t (map (settle_call (clock past) t) cs)

@@ -1,4 +1,4 @@
--- What is decided of one object, whatever its kind.
+-- What is decided about one object, whatever its kind.
 use Rattle.std.specs.Prelude.{ℕ, ◌+◌, ◌<◌, ◌≤◌, List, length, Some}
 use Rattle.calls_core.specs.declared.history.Kind.{Kind}
 use Rattle.calls_core.specs.declared.history.Event.{Event}
@@ -17,7 +17,7 @@ IsOrderOf kind past t cs =
 abbrev pub HasOrderOf : Kind → List Event → Type 0
 HasOrderOf kind past = (cs : List Call) × IsOrderOf kind past (clock past) cs
 
--- the event at index i is the first faulty one: with it the events show a fault, and each beginning
+-- the event at index i is the first faulty one: with it the events show a fault, and each prefix
 -- before it has a linearization
 pub record IsFirstFault (Shows : List Event → Type 0) (kind : Kind) (events : List Event)
     (i : ℕ) : Type 0 where

@@ -73,7 +73,7 @@ noted_next : (prefix : List NotedCall) (u : NotedCall)
     ++ u.call ∷ []
 noted_next prefix u = map-append (λ (z : NotedCall). z.call) prefix (u ∷ [])
 
--- the calls before a pending call were invoked earlier
+-- the pending calls before u were invoked before it
 pub ahead_early : (prefix : List NotedCall) (u : NotedCall) (back : List NotedCall)
     → EachPair Earlier (noted_calls (prefix ++ u ∷ back))
     → Each (λ p. Earlier p u.call) (noted_calls prefix)
@@ -234,7 +234,7 @@ completed start end calls begun slots reads pending k =
     all_taken (takers k.kept) 0 0 slots (no_takers 0 slots k.kept k.idle)
     (subst (λ zs. Enough (takers zs) 0 0 slots) (append-nil k.kept) k.state.enough)
 
--- WHAT THE LOOP KEEPS
+-- THE LOOP INVARIANT
 
 abbrev pub Completing : List Slot → List ℕ → List NotedCall → ℕ → List Slot → List ℕ
     → List NotedCall

@@ -38,7 +38,7 @@ use Rattle.calls_counts.proofs.Completing.{ahead_early, completing_none, complet
 use Rattle.calls_counts.proofs.Completing.{completing_passed, completed}
 use Rattle.calls_counts.proofs.Ordering.{legal_order}
 
--- THE PAST OF EACH EVENT
+-- THE HISTORY BEFORE EACH EVENT
 
 history_of : (start : ℕ) (late past : List Event) → IsHistoryOf (Eventcount start) (late ++ past)
     → IsHistoryOf (Eventcount start) past
@@ -55,7 +55,7 @@ pub past_part : (events : List Event) (i : ℕ) → reverse events ≡ reverse (
 past_part events i = ap reverse (sym (take-append-drop i events)) ∙ reverse-append (take i events)
     (drop i events)
 
--- each beginning of a history is one
+-- each prefix of a history is a history
 pub history_upto : (start : ℕ) (events : List Event) (i : ℕ)
     → IsHistoryOf (Eventcount start) (reverse events) → IsHistoryOf (Eventcount start)
     (past_at i events)
@@ -150,9 +150,9 @@ ordered start past end begun slots reads pending cs history is k o =
           (initial (Some kind)) legal.run;
     }
 
--- THE END OF EACH BEGINNING
+-- THE LINEARIZATION OF EACH PREFIX
 
--- the first slot that is free from place n on, if the first of these is at place i
+-- the first slot that is free from index n on, if the first of these slots has index i
 pub record First (n i : ℕ) (slots : List Slot) : Type 0 where
   pub prefix : List Slot
   pub slot : Slot

@@ -1,4 +1,4 @@
--- What one more event does to the pending and to the completed calls.
+-- What one more event changes in the pending and the completed calls.
 use Rattle.std.proofs.Common.{◌≡◌, ℕ, ◌+◌, ◌<◌, ◌≤◌, Bool, true, false, ◌&&◌, ◌==◌, nat_le, List}
 use Rattle.std.proofs.Common.{[], ◌∷◌, ◌++◌, Option, Some, None, refl, ap, ◌∙◌, arith, cond, subst}
 use Rattle.std.proofs.Common.{count_by}
@@ -25,9 +25,9 @@ use Rattle.calls_counts.specs.Faults.{is_advance, invokes_advance, invoked_upto}
 use Rattle.calls_core.proofs.Counting.{one, count_cons, count_append}
 use Rattle.calls_core.proofs.Positions.{each_call_by as each_pending_of, each_pair_without as pairs_without}
 
--- ONE WORKER'S CALL
+-- THE PENDING CALL OF A WORKER
 
--- a count over all is that of it and the others
+-- a count of all pending calls is that of one and of the others
 pub count_without : (p : PendingCall → Bool) (w : ℕ) (os : List PendingCall) (o : PendingCall)
     → pending_of w os ≡ Some o → count_by p os ≡ one (p o) + count_by p (without w os)
 count_without p w [] o e = absurd (none-some o e)

@@ -37,7 +37,7 @@ use Rattle.calls_counts.proofs.Stepping.{observed_into, refused_into, noted_in, 
 use Rattle.calls_counts.proofs.Deciding.{starts, first_free, kept_has_order}
 use Rattle.calls_counts.proofs.Lasting.{shows_next}
 
--- A WORKER'S CALL
+-- THE PENDING CALL OF A WORKER
 
 call_at : (w : ℕ) (pending : List NotedCall) (o : PendingCall)
     → pending_of w (noted_calls pending) ≡ Some o → (i : ℕ) × IsCallAt pending w i
@@ -121,7 +121,7 @@ find_fewer slots (p ∷ reads) call number = go (fewer_or_not slots p.call call 
             (sym (same_Some p q e)) f)
         at (suc k) lt = h k (omega arith)
 
--- A READ OR AN AWAIT HAS ITS RESPONSE
+-- THE RESPONSE OF A READ OR AN AWAIT
 
 below_or_not : (op : Op) (r : Reply) → Contradicts op r ⊎ (Contradicts op r → ⊥)
 below_or_not (Await v) Done = inr (λ b. b)

@@ -1,4 +1,4 @@
--- An advance has its response.
+-- The response of an advance.
 use Rattle.std.proofs.Common.{◌≡◌, ℕ, ◌+◌, ◌<◌, ◌≤◌, true, nat_le, List, [], ◌∷◌, ◌++◌, length}
 use Rattle.std.proofs.Common.{None, refl, ap, sym, ◌∙◌, arith, cond, subst, append_assoc}
 use Rattle.std.proofs.Common.{length-append}
@@ -95,7 +95,7 @@ front_rises n f m c i (z ∷ xs) e k a le = (
   front_rises n f m c (i + 1) xs e k.1 a.1 le.1,
 )
 
--- as many advances as before may take the free slots before it
+-- a free slot before index u.noted may be taken by the same pending advances without u
 front_takers : (u : NotedCall) (f g : ℕ → ℕ) (i : ℕ) (xs : List Slot)
     → ((j : ℕ) → f j ≡ one (may_take j u) + g j) → EachFrom (FreeBelow u.noted) i xs
     → EachFrom (λ j (s : Slot). s.taken ≡ None → f j ≡ g j) i xs
@@ -118,7 +118,7 @@ fits_returned t m c f op reply first lt le e = record {
   early = omega arith;
 }
 
--- the first free slot from the place that the advance noted
+-- the advance takes the first free slot from the index noted at its invocation on
 pub state_filled_by : (start : ℕ) (calls : List Call) (t v a : ℕ) (xs : List Slot) (s : Slot)
     (ys : List Slot) (before : List NotedCall) (u : NotedCall) (behind : List NotedCall)
     (reads : List PlacedRead) (c : Call)
@@ -229,7 +229,7 @@ state_filled_by start calls t v a xs s ys before u behind reads c le past moment
     both [] y z ys h k = tt
     both (x ∷ xs) y z ys h k = ((h.0, k.0.1), both xs y z ys h.1 k.1)
 
--- the same, if the advance has its response after all moments
+-- the same, if the advance returns after all moments
 pub state_filled : (start : ℕ) (calls : List Call) (t a : ℕ) (xs : List Slot) (s : Slot)
     (ys : List Slot) (before : List NotedCall) (u : NotedCall) (behind : List NotedCall)
     (reads : List PlacedRead) (c : Call)
@@ -246,7 +246,7 @@ state_filled start calls t a xs s ys before u behind reads c le op reply first a
     state_filled_by start calls t (c.last + 1) a xs s ys before u behind reads c (omega arith)
     (omega arith) (omega arith) op reply first advance none low below h
 
--- THE ADVANCE TAKES EFFECT NOW
+-- THE ADVANCE TAKES EFFECT AT ITS RESPONSE
 
 pub state_forced : (start : ℕ) (calls : List Call) (t a : ℕ) (slots : List Slot)
     (before : List NotedCall) (u : NotedCall) (behind : List NotedCall) (reads : List PlacedRead) (c : Call)

@@ -1,4 +1,4 @@
--- The reads by their places, among the slots.
+-- The reads, sorted by their places, merged with the slots.
 use Rattle.std.proofs.Common.{◌≡◌, ◌≢◌, ℕ, ◌+◌, ◌<◌, ◌≤◌, inl, inr, Bool, true, false, not, ◌&&◌}
 use Rattle.std.proofs.Common.{◌==◌, List, [], ◌∷◌, ◌++◌, length, refl, ap, sym, ◌∙◌, arith, cond}
 use Rattle.std.proofs.Common.{get_or, take, drop, append_assoc, append-nil}
@@ -68,7 +68,7 @@ same_places old new h k =
     tied k x q refl) new) ∙ h x ∙ filter_agree (ties lt_place x)
     (λ (p : PlacedRead). p.place == k) (λ q. tied k x q refl) old
 
--- A RUN OF ONE PLACE
+-- THE READS OF ONE PLACE
 
 none_kept : (k : ℕ) (ps : List PlacedRead) → All (λ (p : PlacedRead). p.place ≢ k) ps
     → filter (λ (p : PlacedRead). p.place == k) ps ≡ []
@@ -98,7 +98,7 @@ none_before k j reads le h =
     let low = h i d (omega arith) within in
     let same = ap (λ (p : PlacedRead). p.place) (get_or-take j reads i d within) in omega arith))))
 
--- so far: what is pushed, and what is to come
+-- the loop invariant: the reads pushed so far, and those to come
 pub record IsPushed (reads : List PlacedRead) (k : ℕ) (start out : List Call) (j : ℕ) : Type 0 where
   pub within : j ≤ length reads
   pub all : out ++ reads_at k (drop j reads) ≡ start ++ reads_at k reads

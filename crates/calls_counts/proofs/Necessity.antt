@@ -61,7 +61,7 @@ pub after_one : (n : ℕ) (op : Op) → count_after n op ≡ n + one (is_advance
 after_one n Advance = refl
 after_one n op = omega arith
 
--- what is given at a place of a run
+-- a call in a legal sequential history returns what the count before it gives
 run_at : (n m : ℕ) (xs : List Call) (c : Call) (ys : List Call) → m ≡ n + advances xs
     → IsCountRun n (xs ++ c ∷ ys) → CountGives m c.op c.reply
 run_at n m [] c ys e run = (let same : n ≡ m = omega arith in
@@ -74,7 +74,7 @@ run_at n m (x ∷ xs) c ys e run =
           (λ (y : Call). is_advance y.op) x xs,
     )) run.1
 
--- A CALL AT ITS PLACE IN AN ORDER
+-- A CALL IN AN ORDER, AND THE CALLS BEFORE AND AFTER IT
 
 record Placing (start : ℕ) (calls : List Call) (c : Call) (xs ys : List Call) : Type 0 where
   pub gives : CountGives (start + advances xs) c.op c.reply

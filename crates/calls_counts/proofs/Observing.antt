@@ -1,4 +1,4 @@
--- What a read or an await says.
+-- What a read or an await says about the count.
 use Rattle.std.proofs.Common.{max, ◌≡◌, ℕ, zero, suc, ◌+◌, ◌<◌, ◌≤◌, inl, inr, false, List, [], ◌∷◌}
 use Rattle.std.proofs.Common.{◌++◌, length, Some, None, refl, ap, sym, ◌∙◌, arith, subst, slice_get}
 use Rattle.std.proofs.Common.{get_or, append_assoc, append-nil, length-append, ◌↔◌, ◌-◌, nat_lt}
@@ -110,7 +110,7 @@ fewer_by slots firsts s call number n m invocations before is le count = (
 
 -- WHAT IS GIVEN
 
--- between the least and the greatest, unless the call is wrong by itself
+-- a count between the least and the greatest gives the reply, unless the call is wrong by itself
 pub reply_gives : (op : Op) (r : Reply) (n : ℕ) → is_advance op ≡ false → Suits op r
     → (Contradicts op r → ⊥) → least op r ≤ n → ((m : ℕ) → most op r ≡ Some m → n ≤ m)
     → CountGives n op r
@@ -138,7 +138,7 @@ least_most (Await v) (Number k) m e = (let same : k ≡ m = grind arith in omega
 least_most (Await v) Timeout m e = omega arith
 least_most op r m e = cc
 
--- the place of a read: not before the place noted at its invocation
+-- the count at the place of a read gives its reply
 pub placed_gives : (start : ℕ) (op : Op) (r : Reply) (noted place : ℕ) → is_advance op ≡ false
     → Suits op r → (Contradicts op r → ⊥) → ((m : ℕ) → most op r ≡ Some m → start + noted ≤ m)
     → place ≡ max (least op r - start) noted → CountGives (start + place) op r

@@ -1,4 +1,4 @@
--- A read or an await has its response.
+-- The response of a read or an await.
 use Rattle.std.proofs.Common.{◌≡◌, ℕ, zero, suc, ◌+◌, ◌<◌, ◌≤◌, Bool, true, false, ◌&&◌, nat_le}
 use Rattle.std.proofs.Common.{List, [], ◌∷◌, ◌++◌, length, Option, Some, None, refl, ap, sym, ◌∙◌}
 use Rattle.std.proofs.Common.{arith, cond, subst, append_assoc, append-nil, length-append}
@@ -86,7 +86,7 @@ takers_all start calls t ms j (w ∷ pending) le h =
     same_one true b e = ap one e
     same_one false b e = refl
 
--- after the response of a read or an await the count is at least the number of slots, old and new
+-- the state after the response of a read or an await, with its place and the new free slots
 pub state_raised : (start : ℕ) (calls : List Call) (t a : ℕ) (slots new : List Slot)
     (before : List NotedCall) (u : NotedCall) (behind : List NotedCall) (reads : List PlacedRead) (c : Call)
     (place : ℕ)

@@ -1,4 +1,4 @@
--- A run of an eventcount by its one number is one by the numbers of any object.
+-- A legal sequential history of an eventcount by its count is one by the numbers of an object.
 use Rattle.std.proofs.Common.{ℕ, ◌+◌, List, [], ◌∷◌, Some}
 use Rattle.std.specs.List.Sorted.{IsPermutation}
 use Rattle.std.proofs.lemmas.List.Sorted.{All-permutation}
@@ -21,7 +21,7 @@ pub each_moved : {X : Type 0} (Q : X → Type 0) (xs ys : List X) → IsPermutat
     → Each Q ys
 each_moved Q xs ys m h = each_from_all Q ys (All-permutation Q xs ys m (all_from_each Q xs h))
 
--- one step each way
+-- one step, in each direction
 step_to : (start : ℕ) (m : ℕ → ℕ) (op : Op) (r : Reply) (cs : List Call)
     → Takes (Some (Eventcount start)) op
     → ((n : ℕ → ℕ) → IsCountRun (n 0) cs → IsSequentialRun n cs)

@@ -1,4 +1,4 @@
--- Searches.
+-- Searches for pending calls and free slots, and counts of invocations.
 use Rattle.std.proofs.Common.{◌≡◌, ℕ, zero, suc, ◌+◌, ◌<◌, ◌≤◌, Bool, true, false, not, ◌&&◌}
 use Rattle.std.proofs.Common.{nat_le, nat_lt, ◌==◌, List, [], ◌∷◌, ◌++◌, length, Option, Some, None}
 use Rattle.std.proofs.Common.{refl, ap, sym, ◌∙◌, arith, cond, subst, slice_get, get_or, take, drop}
@@ -20,7 +20,7 @@ use Rattle.calls_counts.specs.Scanning.{IsFilled, invoked_before, AreInvocations
 use Rattle.calls_core.proofs.Counting.{one, one_yes, one_no, count_cons}
 use Rattle.calls_core.proofs.Lists.{each_from_get}
 
--- A WORKER'S CALL
+-- THE PENDING CALL OF A WORKER
 
 abbrev pub NotHis : List NotedCall → ℕ → ℕ → Type 0
 NotHis pending w k = (u : NotedCall) → slice_get pending k ≡ Some u → (u.call.worker == w) ≡ false
@@ -103,7 +103,7 @@ get_front (z ∷ slots) (suc k) zero s h = (omega arith, h)
 get_front (z ∷ slots) (suc k) (suc j) s h = (let r = get_front slots k j s h in let lt : j < k =
     r.0 in (omega arith, r.1))
 
--- a list at one of its places
+-- a list split at an element
 pub parted : {X : Type 0} (xs : List X) (k : ℕ) (x : X) → slice_get xs k ≡ Some x
     → xs ≡ take k xs ++ x ∷ drop (suc k) xs
 parted xs k x at =
@@ -188,7 +188,7 @@ are_invocations [] d = λ a. refl
 are_invocations (s ∷ slots) d = λ a. invocation_one a d s.taken (taken_calls slots)
     (filter_map (λ (z : Slot). invoked_before d z.taken) slots) (are_invocations slots d a)
 
--- in ascending order
+-- the numbers that are at least a, in ascending order
 pub count_behind : (a i : ℕ) (fs : List ℕ) → i ≤ length fs → ((k : ℕ) (d : ℕ) → 0 ≤ k → k < i
     → nat_lt (get_or fs k d) a ≡ true) → ((k : ℕ) (d : ℕ) → i ≤ k → k < length fs
     → nat_lt (get_or fs k d) a ≡ false) → count_by (λ f. nat_le a f) fs + i ≡ length fs

@@ -10,12 +10,12 @@ use Rattle.calls_counts.specs.declared.state.Slot.{Slot}
 use Rattle.calls_counts.specs.Scanning.{slot_of_call, IsFilled, Skips}
 use Rattle.calls_counts.proofs.Searching.{FreeAt}
 
--- no slot is free from a place up to another
+-- no slot is free from one index up to another
 abbrev pub NoneBetween : List Slot → ℕ → ℕ → Type 0
 NoneBetween slots low high = (j : ℕ) (s : Slot) → low ≤ j → j < high → slice_get slots j ≡ Some s
     → s.taken ≡ None → ⊥
 
--- what is known of slot i is set
+-- the skip of slot i is set
 pub skips_set : (slots : List Slot) (next : List ℕ) (i to : ℕ) → to ≤ length slots
     → NoneBetween slots i to → Skips slots next → Skips slots (set next i to)
 skips_set slots next i to le none k = record {
@@ -69,7 +69,7 @@ pub further_within : (slots : List Slot) (next : List ℕ) (i far : ℕ) → i <
     → max (get_or next far 0) far ≤ length slots
 further_within slots next i far lt k is = omega (arith, k.within i, k.within far)
 
--- no slot is free that was skipped
+-- no skipped slot is free
 pub passed_more : (slots : List Slot) (n i to : ℕ) → NoneBetween slots i to
     → ((k : ℕ) → k < i → FreeAt slots n k) → (k : ℕ) → k < to → FreeAt slots n k
 passed_more slots n i to none h k lt = λ s at free.

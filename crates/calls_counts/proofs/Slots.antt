@@ -1,4 +1,4 @@
--- What is kept, with later events.
+-- The state at a later position, with more calls.
 use Rattle.std.proofs.Common.{◌≡◌, ℕ, ◌+◌, ◌<◌, ◌≤◌, inl, inr, Bool, List, [], ◌∷◌, ◌++◌, length}
 use Rattle.std.proofs.Common.{Option, Some, None, refl, ap, ◌∙◌, arith, cond, subst, count_by}
 use Rattle.std.specs.List.{Contains, cons_option}

@@ -1,4 +1,4 @@
--- What is kept after one more event.
+-- The state after one more event.
 use Rattle.std.proofs.Common.{◌≡◌, ℕ, zero, suc, ◌+◌, ◌<◌, ◌≤◌, inl, inr, Bool, true, false, ◌&&◌}
 use Rattle.std.proofs.Common.{nat_le, List, [], ◌∷◌, ◌++◌, length, Option, Some, None, refl, ap}
 use Rattle.std.proofs.Common.{sym, ◌∙◌, arith, subst, take, drop, get_or, Result, Ok, Err, IfOk}
@@ -104,7 +104,7 @@ holds_invoked start past x j op a b slots pending reads e more =
 
 -- A RESPONSE
 
--- the pending call u of a worker has the response r
+-- worker w's pending call u returns r
 pub record IsReturned (past : List Event) (at w : ℕ) (r : Reply) (pending : List NotedCall) (i : ℕ)
     (u : NotedCall) : Type 0 where
   pub is : pending ≡ take i pending ++ u ∷ drop (suc i) pending
@@ -140,7 +140,7 @@ suits_done Advance (Number n) e s = absurd s
 suits_done Advance Timeout e s = absurd s
 suits_done op r e s = cc
 
--- what is kept of the others
+-- the other pending calls after the response
 module _ (start : ℕ) (past : List Event) (at w : ℕ) (r : Reply) (a : ℕ) (slots : List Slot)
     (pending : List NotedCall) (reads : List PlacedRead) (i : ℕ) (u : NotedCall)
     (returned : IsReturned past at w r pending i u) (h : Holds start past a slots pending reads)
@@ -409,7 +409,7 @@ module _ (start : ℕ) (past : List Event) (at w : ℕ) (r : Reply) (a : ℕ) (s
         returned.is h.state.call) in
         omega (arith, own.within, length-map slots (λ (s : Slot). s.moment)))
 
--- AS THE CODE HAS IT
+-- THE STEPS AS THE CODE TAKES THEM
 
 pub invoked_into : (start : ℕ) (past : List Event) (x : Event) (j : ℕ) (op : Op) (a b : ℕ)
     (slots : List Slot) (pending later : List NotedCall) (reads : List PlacedRead) (noted : ℕ)
@@ -422,7 +422,7 @@ invoked_into start past x j op a b slots pending later reads noted e more long i
     (sym (is ∙ ap (λ n. pending ++ record { call = invoked_by x j op; noted = n } ∷ []) long))
     (holds_invoked start past x j op a b slots pending reads e more history h)
 
--- a worker's pending call has its response r
+-- the event x is the response r of a worker's pending call
 pub record Turn (past : List Event) (x : Event) (r : Reply) (pending rest : List NotedCall) (i : ℕ)
     (u : NotedCall) : Type 0 where
   pub returned : IsReturned past x.at x.worker r pending i u

@@ -1,4 +1,4 @@
--- A monitor keeps the number of the slots and the places of the free ones.
+-- The steps of a monitor, which has the number of the slots and the indices of the free ones.
 use Rattle.std.proofs.Common.{Bool, true, false, ◌&&◌, cond, ◌≡◌, ℕ, zero, suc, ◌+◌, ◌-◌, ◌<◌, ◌≤◌}
 use Rattle.std.proofs.Common.{inl, List, [], ◌∷◌, ◌++◌, length, Option, Some, None, refl, ap, sym}
 use Rattle.std.proofs.Common.{◌∙◌, arith, subst, get_or, Result, Ok, Err, append_assoc, append-nil}
@@ -38,7 +38,7 @@ use Rattle.calls_counts.proofs.Stepping.{observed_into, refused_into, noted_in, 
 use Rattle.calls_counts.proofs.Deciding.{starts, First, kept_has_order}
 use Rattle.calls_counts.proofs.Exactly.{too_few, seen_by}
 
--- PLACES
+-- INDICES OF FREE SLOTS
 
 pub places_length : (p n : ℕ) → length (places p n) ≡ n
 places_length p zero = refl
@@ -87,7 +87,7 @@ pub free_forced : (slots : List Slot) (m : ℕ) (c : Call)
 free_forced slots m c = free_append 0 (length slots) slots (slot_of_call m c ∷ []) (omega arith)
     ∙ append-nil (free_places 0 slots)
 
--- THE FIRST FREE PLACE FROM n ON
+-- THE FIRST FREE SLOT FROM INDEX n ON
 
 pub record Pick (n i k : ℕ) (slots : List Slot) (ps : List ℕ) : Type 0 where
   pub first : First n i slots
@@ -190,7 +190,7 @@ none_from n i (s ∷ slots) ps e below = go s.taken refl (λ qs. none_from n (i 
               (below (suc l) (omega (arith, ap length is)))),
         ))
 
--- NO MORE PLACES THAN PENDING ADVANCES
+-- NO MORE FREE SLOTS THAN PENDING ADVANCES
 
 enough_few : (f : ℕ → ℕ) (b : ℕ) → ((i : ℕ) → f i ≤ b) → (n i : ℕ) (slots : List Slot)
     → Enough f n i slots → 0 < frees slots → n + frees slots ≤ b

@@ -1,4 +1,4 @@
--- What the scan keeps. Only the proofs use this.
+-- The invariant of the scan. Only the proofs and the private contracts use this.
 use Rattle.std.specs.Prelude.{◌≡◌, ℕ, ◌+◌, ◌<◌, ◌≤◌, Bool, true, false, ◌&&◌, nat_le, count_by}
 use Rattle.std.specs.Prelude.{List, [], ◌∷◌, ◌++◌, length, map, Option, Some, None, IfSome}
 use Rattle.std.specs.Prelude.{if◌then◌else◌}
@@ -77,7 +77,7 @@ pub record IsNotedCall (start : ℕ) (calls : List Call) (t : ℕ) (ms : List �
     pub around : EachFrom (IsAround u.noted u.call.first) 0 ms
     pub reached : Reached start calls u.call.first (start + u.noted)
 
--- a pending advance that may take the slot at place i
+-- whether a pending advance may take the slot at index i
 abbrev pub may_take : ℕ → NotedCall → Bool
 may_take i u = is_advance u.call.op && nat_le u.noted i
 
@@ -87,8 +87,8 @@ takers pending i = count_by (may_take i) pending
 abbrev pub advancing : List NotedCall → ℕ
 advancing pending = count_by (λ (u : NotedCall). is_advance u.call.op) pending
 
--- for each free slot as many pending advances may take it as there are free slots up to it; n are
--- free before
+-- each free slot may be taken by at least as many pending advances as there are free slots up to
+-- it; n are free before
 abbrev pub Enough : (ℕ → ℕ) → ℕ → ℕ → List Slot → Type 0
 Enough f n i [] = Unit {0}
 Enough f n i (s ∷ slots) = (s.taken ≡ None → n < f i) × Enough f ((if free s.taken then 1 else 0)
@@ -109,7 +109,7 @@ pub record IsReadAt (start t : ℕ) (ms : List ℕ) (p : PlacedRead) : Type 0 wh
   pub gives : CountGives (start + p.place) p.call.op p.call.reply
   pub around : EachFrom (IsPlaced p.place p.call.first p.call.last) 0 ms
 
--- THE WHOLE
+-- THE WHOLE STATE
 
 -- after some events: the completed calls, the first position after the events, and how many
 -- advances were invoked

@@ -1,4 +1,4 @@
-//! Histories of the calls of one eventcount: whether they have a linearization.
+//! Decides and monitors whether a history of the calls of one eventcount is linearizable.
 #![tactic(auto)]
 
 mod fault;

@@ -1,4 +1,4 @@
--- What is known if each get was put once, and what sorted zones give.
+-- The calls of the distinct class satisfy the tests, and their sorted zones decide them.
 use Rattle.std.proofs.Common.{◌≡◌, ◌≢◌, ℕ, zero, suc, ◌+◌, ◌<◌, ◌≤◌, ◌⊎◌, inl, inr, Bool, true}
 use Rattle.std.proofs.Common.{false, not, cond, ◌&&◌, ◌==◌, nat_le, List, [], ◌∷◌, ◌++◌, length}
 use Rattle.std.proofs.Common.{Option, Some, None, refl, ap, sym, ◌∙◌, arith, subst, count_by}
@@ -164,7 +164,7 @@ module _ (done : List Call) (pending : List PendingCall) (t : ℕ)
     | inr h ↦ inl h
   ]
 
-  -- one that passes a test that looks at neither reply nor response
+  -- a call that passes test p is counted, if p looks at neither reply nor response
   counted_one : (p : Call → Bool) (q : PendingCall → Bool) → ((o : PendingCall) (r : Reply)
       → p (completion t r o) ≡ q o) → (c : Call) → Contains (all_of done pending t) c → p c ≡ true
       → 0 < count_by p done + count_by q pending
@@ -337,7 +337,7 @@ module _ (done : List Call) (pending : List PendingCall) (t : ℕ)
                 ))
           ]
 
-  -- THE WHOLE
+  -- THE SORTED ZONES
 
   module _ (order : List Zone) (s : AreSorted (all_of done pending t) done order) where
     pub ordered : (m : ℕ → ℕ) → m 0 ≡ 0 → EachPair (λ (x z : Zone). KeepsOrder x.call z.call) order

@@ -1,4 +1,4 @@
--- Beginnings of a history: their class, their clock, and the first fault.
+-- Prefixes of a history: their class, their clock, and the first fault.
 use Rattle.std.proofs.Common.{◌≡◌, ℕ, ◌+◌, ◌-◌, ◌/◌, ◌<◌, ◌≤◌, Bool, true}
 use Rattle.std.proofs.Common.{false, ◌==◌, cond, Option, Some, None, List, [], ◌∷◌, ◌++◌}
 use Rattle.std.proofs.Common.{length, drop, reverse, get_or, refl, ap, sym, ◌∙◌, arith, subst}
@@ -157,9 +157,9 @@ first_fault_is events low high fault h lt le within order shows kind store =
           (order kind store);
     }
 
--- THE SEARCH
+-- THE BISECTION
 
--- a beginning that has an order, and a longer one with a fault
+-- a prefix that has an order, and a longer one with a fault
 pub record IsSearched (events : List Event) (low high : ℕ) (fault : Fault) : Type 0 where
   pub apart : low < high
   pub within : high ≤ length events

@@ -290,7 +290,7 @@ none_or_one p (x ∷ xs) =
       ]
     ]
 
--- THE WHOLE
+-- EVERY HISTORY
 
 pub every_one_decided : (kind : Kind) (past : List Event) (t : ℕ) → IsStore kind
     → IsHistoryOf kind past → IsDistinctHistory past → clock past ≤ t

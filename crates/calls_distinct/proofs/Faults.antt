@@ -1,4 +1,4 @@
--- What shows a fault has no linear order.
+-- A history that shows a fault has no linearization.
 use Rattle.std.proofs.Common.{◌≡◌, ◌≢◌, ℕ, zero, suc, ◌+◌, ◌<◌, ◌≤◌, ◌⊎◌, inl, inr, Bool, true}
 use Rattle.std.proofs.Common.{false, not, ◌&&◌, ◌==◌, nat_le, List, [], ◌∷◌, ◌++◌, length}
 use Rattle.std.proofs.Common.{Option, Some, None, refl, ap, sym, ◌∙◌, arith, subst, count_by}
@@ -33,7 +33,7 @@ use Rattle.calls_distinct.specs.Cells.{ShowsOf}
 use Rattle.calls_distinct.proofs.Accesses.{IsAccess, IsCompletedAccess, IsPendingAccess}
 use Rattle.calls_distinct.proofs.Accesses.{AreAccesses}
 
--- A RUN
+-- LEGAL SEQUENTIAL HISTORIES
 
 abbrev Access : Call → Type 0
 Access c = IsAccess c.op
@@ -95,7 +95,7 @@ put_value v (P i) r p = (let no : false ≡ true = p in cc)
 put_value v (V i) r p = (let no : false ≡ true = p in cc)
 put_value v (PBoth i j) r p = (let no : false ≡ true = p in cc)
 
--- if v is not stored and not put, nothing has it
+-- if v is not stored and not put, no call has this value
 never : (v s k : ℕ) (d : Call) (cs : List Call) → s ≢ v → count_by (put_call v) cs ≡ 0 → Stores s cs
     → k < length cs → value (get_or cs k d) ≡ v → ⊥
 never v s k d [] ne none run lt e = omega arith
@@ -346,7 +346,7 @@ module _ (done : List Call) (pending : List PendingCall) (t u : ℕ)
         count_append (put_by (value g) g.last) s.prefix (g ∷ s.back),
       )
 
-  -- a call is before those that it precedes
+  -- in an order, a call is before a call of another value that it precedes
   stands_before : (a b : Call) (i j : ℕ) → i < length cs → j < length cs → get_or cs i a ≡ a
       → get_or cs j b ≡ b → Precedes a b → value a ≢ value b → i < j
   stands_before a b i j li lj ea eb fb ne =
@@ -380,7 +380,7 @@ module _ (done : List Call) (pending : List PendingCall) (t u : ℕ)
             (λ o r. refl),
       )) lt lg vg (λ e. f.other (sym vc ∙ e))
 
-  -- a call of that value that was invoked no sooner
+  -- a call of b's value that was not invoked before b
   record Found (b : Call) : Type 0 where
     x : Call
     there : Contains cs x

@@ -148,7 +148,7 @@ module _ (seen : List Call) (call : Call) (g : Group) (h : IsGroup seen (value c
             absurd (false≢true (sym p ∙ (put_value v c.op c.reply e).0))
       ]
 
--- a call of another value
+-- a call of another value leaves the group as it is
 pub other_more : (seen : List Call) (call : Call) (v : ℕ) (g : Option Group) → value call ≢ v
     → IsGroupOf seen v g → IsGroupOf (seen ++ call ∷ []) v g
 other_more seen call v None ne h = each_append (λ (c : Call). value c ≡ v → ⊥) seen (call ∷ []) h

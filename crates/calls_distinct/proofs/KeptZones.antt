@@ -1,4 +1,4 @@
--- One more zone, in order with those before it.
+-- One more zone, whose call keeps the order with those before it.
 use Rattle.std.proofs.Common.{◌≡◌, ℕ, zero, suc, ◌+◌, ◌<◌, ◌≤◌, true, false, cond, nat_lt}
 use Rattle.std.proofs.Common.{Option, Some, None, List, [], ◌∷◌, ◌++◌, length, take, drop, get_or}
 use Rattle.std.proofs.Common.{refl, ap, sym, ◌∙◌, arith, subst}

@@ -191,7 +191,7 @@ module _ (done : List Call) (pending : List PendingCall) (t : ℕ) where
         | inr h ↦ absurd (false≢true (sym get ∙ answered_puts pending c h))
       ]
 
-  -- THOSE THAT TAKE EFFECT
+  -- THE CALLS THAT TAKE EFFECT
 
   abbrev pub keeps : Call → Bool
   keeps c = nat_lt c.last t || is_got done (value c)

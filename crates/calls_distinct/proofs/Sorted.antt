@@ -1,4 +1,4 @@
--- Calls sorted by zones are a run.
+-- Calls sorted by zones are a legal sequential history.
 use Rattle.std.proofs.Common.{◌≡◌, ◌≢◌, ℕ, zero, suc, ◌<◌, ◌⊎◌, inl, inr, min}
 use Rattle.std.proofs.Common.{true, false, List, [], ◌∷◌, ◌++◌, length, refl, ap, sym}
 use Rattle.std.proofs.Common.{◌∙◌, arith, subst, append_assoc}
@@ -80,7 +80,7 @@ middle (u ∷ us) x ws = (let r = middle us x ws in (
 of_split : {X : Type 0} (xs : List X) (x : X) → Split xs x → Contains xs x
 of_split xs x s = subst (λ zs. Contains zs x) (sym s.is) (middle s.prefix x s.back)
 
--- s is what is stored after these
+-- s is the value that is stored after these calls
 record IsLast (xs : List Zone) (s : ℕ) : Type 0 where
   prefix : List Zone
   w : Zone
@@ -94,7 +94,7 @@ module _ (all done : List Call) (pending : List PendingCall) (t : ℕ)
   one_zone : (z : Zone) → Contains order z → IsZone all done z
   one_zone z k = each_of (IsZone all done) order z zones k
 
-  -- a get returns what is stored
+  -- a get returns the value that is stored before it
   stored : (xs : List Zone) (z : Zone) (ys : List Zone) (s : ℕ) → order ≡ xs ++ z ∷ ys
       → ((xs ≡ []) × (s ≡ 0)) ⊎ IsLast xs s → is_put z.call.op ≡ false → value z.call ≡ s
   stored xs z ys s is last get =

@@ -1,4 +1,4 @@
--- Zones that were sorted.
+-- Zones that are sorted by key, value and rank.
 use Rattle.std.proofs.Common.{◌≡◌, ℕ, suc, ◌≤◌, Bool, true, false}
 use Rattle.std.proofs.Common.{cond, ◌==◌, nat_lt, List, [], ◌∷◌, get_or, refl, ap, sym, ◌∙◌}
 use Rattle.std.proofs.Common.{arith}

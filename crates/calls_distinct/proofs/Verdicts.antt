@@ -1,4 +1,4 @@
--- What the code's tests give of a history.
+-- What the code's tests show about a history.
 use Rattle.std.proofs.Common.{◌≡◌, ◌≢◌, ℕ, ◌+◌, ◌<◌, ◌≤◌, ◌⊎◌, inl, inr, Bool, true}
 use Rattle.std.proofs.Common.{false, cond, not, ◌&&◌, ◌||◌, ◌==◌, nat_lt, nat_le, List, [], ◌∷◌}
 use Rattle.std.proofs.Common.{map, refl, ap, sym, ◌∙◌, arith, subst, count_by}
@@ -130,7 +130,7 @@ module _ (done : List Call) (pending : List PendingCall) (t : ℕ) (zs : List Gr
         there = put_of z k some;
       }
 
-  -- IN TIME
+  -- PUT BEFORE THE RESPONSE
 
   pub in_time : Each (λ (z : GroupedCall). lacks_put z ≡ false) zs → (g : Call) → Contains done g
       → is_put g.op ≡ false → value g ≢ 0 → 0 < count_by (put_by (value g) g.last) done + count_by

@@ -1,5 +1,5 @@
 -- The calls of a cell by their values: Put v stores v, and Get returns what is stored, at first 0.
--- A database goes by the same words: there a value represents a list.
+-- The same definitions serve for a database: there a value represents a list.
 use Rattle.std.specs.Prelude.{◌≡◌, ◌≢◌, ◌⊎◌, ℕ, ◌+◌, ◌≤◌, Bool, true, false, ◌&&◌, not, ◌==◌}
 use Rattle.std.specs.Prelude.{nat_le, count_by, List}
 use Rattle.std.specs.List.{Contains}
@@ -17,7 +17,7 @@ use Rattle.calls_core.specs.Linearizations.{Precedes}
 use Rattle.calls_distinct.specs.declared.cell.Fault.{Fault}
 use Rattle.calls_distinct.specs.declared.cell.Fault.TheVariants.{Nowhere, Stale, Alternate}
 
--- WHAT IS GIVEN
+-- STORES
 
 -- a cell, or a database
 abbrev pub IsStore : Kind → Type 0

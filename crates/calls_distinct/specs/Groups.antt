@@ -1,4 +1,4 @@
--- What only the code's own representation needs: what is known of the calls of each value.
+-- The calls, grouped by value. Only the proofs and the private contracts use this.
 use Rattle.std.specs.Prelude.{◌≡◌, ℕ, ◌+◌, ◌<◌, ◌≤◌, Bool, true, false, ◌&&◌, ◌||◌, not}
 use Rattle.std.specs.Prelude.{◌==◌, nat_lt, count_by, List, map, Option, Some, None}
 use Rattle.std.specs.Prelude.{if◌then◌else◌}
@@ -11,7 +11,7 @@ use Rattle.calls_distinct.specs.declared.zone.Zone.{Zone}
 use Rattle.calls_distinct.specs.Cells.{is_put, value, put_call, is_got}
 use Rattle.calls_distinct.specs.Outcomes.{is_put_at}
 
--- these calls of v
+-- g is the group of value v, of the calls seen so far
 pub record IsGroup (seen : List Call) (v : ℕ) (g : Group) : Type 0 where
   pub got : g.got ≡ is_got seen v
   pub puts : g.puts ≡ count_by (put_call v) seen
@@ -74,7 +74,7 @@ abbrev pub lacks_put : GroupedCall → Bool
 lacks_put z = (not (is_put z.call.op) && not (value z.call == 0)) &&
     ((z.group.puts == 0) || nat_lt z.call.last z.group.put)
 
--- the first that passes a test
+-- a call that passes a test, or none does
 abbrev pub IsFirst : (GroupedCall → Bool) → List GroupedCall → Option GroupedCall → Type 0
 IsFirst test zs None = Each (λ (z : GroupedCall). test z ≡ false) zs
 IsFirst test zs (Some z) = Contains zs z × (test z ≡ true)

@@ -1,4 +1,4 @@
--- What is decided of a cell or a database.
+-- What the outcome of a decision about a cell or a database says.
 use Rattle.std.specs.Prelude.{◌≡◌, ℕ, ◌+◌, ◌<◌, true, Bool, ◌&&◌, ◌==◌, count_by, List, reverse}
 use Rattle.calls_core.specs.declared.history.Kind.{Kind}
 use Rattle.calls_core.specs.declared.history.Event.{Event}

@@ -1,4 +1,5 @@
--- What only the code's own representation needs: what its parts give of one history.
+-- The grouped calls of a history, and its verdict. Only the proofs and the private contracts use
+-- this.
 use Rattle.std.specs.Prelude.{ℕ, List}
 use Rattle.calls_core.specs.declared.history.Kind.{Kind}
 use Rattle.calls_core.specs.declared.history.Event.{Event}

@@ -1,4 +1,4 @@
-//! Whether the calls of a cell make sense.
+//! Decides whether the calls of a cell are linearizable.
 ghost use Rattle.std.specs.Prelude.{◌≡◌, ◌<◌, ◌≤◌, ◌+◌, length, reverse, IfOk};
 ghost use Rattle.calls_core.specs.declared.history.Kind.{Kind};
 ghost use Rattle.calls_core.specs.Histories.{clock};
@@ -35,7 +35,9 @@ fn judge_beginning(alloc: Global, events: &Part<'_, '_>, n: usize) -> Result<Ver
     judge(alloc, &zs, end)
 }
 
-/// Finds the first event with which the events show a fault, if all of them show one.
+/// Finds, by bisection, the first event with which a prefix shows a fault.
+///
+/// The whole history shows `fault`.
 fn first_fault(
     alloc: Global,
     events: &Part<'_, '_>,
@@ -64,7 +66,7 @@ fn first_fault(
     Ok((low, fault))
 }
 
-/// Decides the calls of some events, of which each is given with those of its value.
+/// Decides the calls of the events, each given with the group of its value.
 fn decide_grouped(
     alloc: Global,
     events: &Part<'_, '_>,
@@ -89,10 +91,10 @@ fn decide_grouped(
     }
 }
 
-/// Decides whether the calls of one cell, or of one database, have a linearization. It says
-/// nothing if a value was got that was put twice, or 0 was put and got.
+/// Decides whether the calls of one cell, or of one database, have a linearization.
 ///
-/// The events are those of its calls, in order, and `end` is a position after all of them.
+/// It returns `Repeated` if a value was got that was put twice, or 0 was put and got. The events
+/// are those of its calls, in order, and `end` is a position after all of them.
 pub fn decide(alloc: Global, events: &Part<'_, '_>, end: usize) -> Result<Outcome, AllocError>
     requires history { IsStoreHistory (reverse events.now) }
     requires end { clock (reverse events.now) ≤ end }

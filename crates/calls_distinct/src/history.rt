@@ -9,7 +9,7 @@ use crate::reading::is_put;
 use calls_core::{Action, Call, Event, Part, PendingCall, Reply};
 use std::alloc::{AllocError, Global};
 
-/// Takes out the pending call of this worker, if it has one.
+/// Removes and returns the pending call of this worker, if it has one.
 fn take_pending(pending: &mut Vec<PendingCall>, worker: usize) -> Option<PendingCall>
     ensures result { result ≡ pending_of worker pending.old.items }
     ensures rest { pending.new.items ≡ without worker pending.old.items }
@@ -22,7 +22,7 @@ fn take_pending(pending: &mut Vec<PendingCall>, worker: usize) -> Option<Pending
     None
 }
 
-/// Gives a pending call its response.
+/// Returns a pending call completed by a response.
 fn completion(pending: &PendingCall, reply: Reply, last: usize) -> Call
     ensures { result ≡ Rattle.calls_core.specs.Histories.completion last reply pending.now }
 {
@@ -36,7 +36,7 @@ fn completion(pending: &PendingCall, reply: Reply, last: usize) -> Call
     }
 }
 
-/// Takes note of one more event.
+/// Adds one event: it makes a call pending, or completes it.
 fn note(calls: &mut Vec<Call>, pending: &mut Vec<PendingCall>, x: &Event) -> Result<(), AllocError>
     ensures calls { OnOk result (calls.new.items ≡ calls.old.items ++ ended_call x.now x.now.action
         (pending_of x.now.worker pending.old.items)) }
@@ -61,7 +61,7 @@ fn note(calls: &mut Vec<Call>, pending: &mut Vec<PendingCall>, x: &Event) -> Res
     Ok(())
 }
 
-/// Adds the pending puts, with a response at the end.
+/// Adds the pending puts, with a response at `end`.
 fn add_puts(calls: &mut Vec<Call>, pending: &[PendingCall], end: usize) -> Result<(), AllocError>
     ensures { OnOk result (calls.new.items ≡ calls.old.items ++ answered_calls end put_answer
         pending.now) }
@@ -74,7 +74,7 @@ fn add_puts(calls: &mut Vec<Call>, pending: &[PendingCall], end: usize) -> Resul
     Ok(())
 }
 
-/// Lists the completed calls, and the pending puts with a response at the end.
+/// Lists the completed calls, and the pending puts with a response at `end`.
 pub(crate) fn calls_in(
     alloc: Global,
     events: &Part<'_, '_>,

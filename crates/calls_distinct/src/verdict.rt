@@ -14,16 +14,16 @@ use crate::zones::sort_zones;
 use calls_core::PlacedCalls;
 use std::alloc::{AllocError, Global};
 
-/// A linearization, or what shows that there is none.
+/// A linearization, or the fault that shows that there is none.
 #[derive(Debug, Drop)]
 pub(crate) enum Verdict {
-    /// This is one.
+    /// The calls have this linearization.
     Ordered(PlacedCalls),
-    /// This fault is shown.
+    /// The calls show this fault.
     Faulty(Fault),
 }
 
-/// Lists the calls of some zones.
+/// Lists the calls of the zones, in their order.
 fn calls_of(alloc: Global, zs: &[Zone]) -> Result<PlacedCalls, AllocError>
     ensures { IfOk result (λ v. v ≡ zone_calls zs.now) }
 {

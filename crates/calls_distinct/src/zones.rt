@@ -11,7 +11,9 @@ use calls_core::Call;
 use std::alloc::{AllocError, Global};
 use std::cmp::Ordering;
 
-/// Returns when the zone of a call takes effect.
+/// Returns the key of a zone: the earlier of its first response and its last invocation.
+///
+/// The key of a get of 0 is 0.
 fn key(z: &Zone) -> usize
     ensures { result ≡ key z.now }
 {
@@ -22,7 +24,7 @@ fn key(z: &Zone) -> usize
     }
 }
 
-/// Returns the place of a call in its zone.
+/// Returns the rank of a call in its zone: the put is first, then the gets by invocations.
 fn rank(call: &Call) -> usize
     ensures { result ≡ rank call.now }
 {
@@ -33,7 +35,7 @@ fn rank(call: &Call) -> usize
     }
 }
 
-/// Compares two calls by their zones, and by their places in one.
+/// Compares two calls by the keys and values of their zones, then by their ranks in one zone.
 fn compare(x: &Zone, y: &Zone) -> Ordering
     ensures { result ≡ zone_cmp x.now y.now }
 {

@@ -78,7 +78,7 @@ check_says : (text : List ℕ) (status : Status) (old new : Outlets) → ChecksW
 check_says text status old new (inl c) = text_says status text old new c.1
 check_says text status old new (inr c) = large_says status text old new c
 
--- WHERE NOTHING HAD BEEN SAID
+-- WHERE NOTHING HAD BEEN WRITTEN
 
 abbrev made : ℕ → Option (List ℕ) → List ℕ → Bool → OutputModel
 made w contents waiting failed =
@@ -92,7 +92,7 @@ at_is o w contents writer holds none works =
     ∙ ap (λ x. made w contents x o.failed) none
     ∙ ap (λ x. made w contents [] x) works
 
--- what is said to a writer that held nothing goes to that writer
+-- a check that begins with an empty writer ends with the same writer
 pub writer_stays : (text : List ℕ) (status : Status) (before after : Option (List ℕ)) (w : ℕ)
     (new : OutputModel) → ChecksWhole status text
     (record { out = before; notes = at_first w (Some []) }) (record { out = after; notes = new })
@@ -104,7 +104,7 @@ writer_stays text status before after w new checks =
     (record { out = after; notes = new }) checks in
     (said.1 old [] (refl, ([], refl, refl))).0
 
--- and is a note there, if all of it was written
+-- and it is a note there, if all of it was written
 pub noted : (text : List ℕ) (status : Status) (before after : Option (List ℕ)) (w : ℕ)
     (new : OutputModel) (note : List ℕ) → ChecksWhole status text
     (record { out = before; notes = at_first w (Some []) }) (record { out = after; notes = new })
@@ -122,7 +122,7 @@ noted text status before after w new note checks holds none works =
           (record { out = after; notes = o })) is checks,
     )
 
--- if what was said left nothing waiting and the writer finished well, all of it was written to that
+-- if nothing is left in the buffer and the writer finished well, the whole note was written to that
 -- writer
 pub finished : (text : List ℕ) (status : Status) (before after : Option (List ℕ)) (w : ℕ)
     (items note : List ℕ) (old mid new : OutputModel) (done : Result (Unit {0}) WriteFault)
@@ -156,7 +156,7 @@ finished text status before after w items note old mid new done u is empty check
           )
     ] refl
 
--- what was said of a text that has no history to draw, which is then not good
+-- what was reported on a text that has no history to draw; such a text is not good
 pub nothing_drawn : {A : Type 0} (Chosen : Type 0) (text : List ℕ) (found status : Status)
     (old new : Outlets) (last : Option A) → last ≡ None → (found ≡ Done → IsSome last)
     → status ≡ found → Keeps old.out new.out → SaysAsCheck text status old.notes new.notes

@@ -1,4 +1,4 @@
-//! What shows that a history is refused, in the panel of its object.
+//! The evidence that a history is rejected, in the panel of its object.
 use crate::curves::put_level;
 use crate::grid::LEFT;
 use crate::panels::{Panel, Subject, said_by};
@@ -10,7 +10,7 @@ use crate::sink::{
 use calls_core::{Call, Op, Reply};
 use calls_shapes::{CountFilter, Portion, Stair};
 
-/// Returns what shows that a history is refused, if this is the panel of its object.
+/// Returns the evidence that the history is rejected, if this panel shows the object of the fault.
 pub(crate) fn evidence_in<'a, 'b>(
     picture: &'b Picture<'a>,
     panel: &Panel,
@@ -34,7 +34,7 @@ fn number_at_end(stair: &Stair) -> usize {
     stair.course.base.saturating_add(stair.rises.len())
 }
 
-/// Returns the range with the numbers of what shows that a history is refused.
+/// Returns the range, extended to the numbers of the evidence.
 pub(crate) fn evidence_range(
     picture: &Picture<'_>,
     range: Range,
@@ -56,7 +56,7 @@ fn missed_threshold(call: &Call) -> Option<usize> {
     }
 }
 
-/// Returns the range with the numbers of stairs.
+/// Returns the range, extended to the numbers of these stairs.
 fn stairs_range(picture: &Picture<'_>, range: Range, stairs: &[Stair]) -> Range {
     let mut range = range;
     for stair in stairs {
@@ -66,7 +66,7 @@ fn stairs_range(picture: &Picture<'_>, range: Range, stairs: &[Stair]) -> Range 
     range
 }
 
-/// Returns how a stair is drawn.
+/// Returns the style class of a stair.
 fn stair_class(stair: &Stair) -> &'static [u8] {
     match stair.course.counted {
         CountFilter::Adding(_) => b"given",
@@ -123,7 +123,7 @@ fn put_stairs(out: &mut Pen<'_>, picture: &Picture<'_>, scale: &Scale, stairs: &
     }
 }
 
-/// Puts what a call said in words.
+/// Puts the number that a call says, with a word before it.
 fn put_said_words(out: &mut Pen<'_>, picture: &Picture<'_>, scale: &Scale, call: &Call) {
     let Some(n) = said_by(call.op, call.reply) else {
         return;
@@ -138,7 +138,7 @@ fn put_said_words(out: &mut Pen<'_>, picture: &Picture<'_>, scale: &Scale, call:
     end_text(out);
 }
 
-/// Returns the words before what a call said.
+/// Returns the word before the number that a call says.
 fn said_words(call: &Call) -> &'static [u8] {
     match (call.op, call.reply) {
         (Op::Await(_), Reply::Done) => b"reached ",
@@ -147,7 +147,7 @@ fn said_words(call: &Call) -> &'static [u8] {
     }
 }
 
-/// Puts what the calls said that are named, a number that several said once.
+/// Puts the numbers that these calls say, each number in words only once.
 fn put_all_said(out: &mut Pen<'_>, picture: &Picture<'_>, scale: &Scale, calls: &[Call]) {
     for (i, call) in calls.iter().enumerate() {
         let said = said_by(call.op, call.reply);
@@ -162,7 +162,7 @@ fn put_all_said(out: &mut Pen<'_>, picture: &Picture<'_>, scale: &Scale, calls: 
     }
 }
 
-/// Puts a tie from the end of a stair to what the first call said.
+/// Puts a line from the end of the first stair to the number that the first faulty call says.
 fn put_tie(out: &mut Pen<'_>, picture: &Picture<'_>, scale: &Scale, evidence: &Evidence<'_>) {
     let (Some(stair), Some(call)) = (evidence.stairs.first(), evidence.faulty.first()) else {
         return;
@@ -175,7 +175,8 @@ fn put_tie(out: &mut Pen<'_>, picture: &Picture<'_>, scale: &Scale, evidence: &E
     put_line(out, b"tie", from, xy(x, scale.y(n)));
 }
 
-/// Puts a tie from the end of a ticket to the beginning of another, which it precedes.
+/// Puts a line from the response of the first ticket to the invocation of the second, if their
+/// numbers differ.
 fn put_turn(out: &mut Pen<'_>, picture: &Picture<'_>, scale: &Scale, calls: &[Call]) {
     let [one, other] = calls else {
         return;
@@ -190,7 +191,7 @@ fn put_turn(out: &mut Pen<'_>, picture: &Picture<'_>, scale: &Scale, calls: &[Ca
     }
 }
 
-/// Puts the threshold below which an await returned a number.
+/// Puts the threshold of the first call, if that is an await that returned a number below it.
 fn put_missed(out: &mut Pen<'_>, picture: &Picture<'_>, scale: &Scale, calls: &[Call]) {
     let Some(call) = calls.first() else {
         return;
@@ -209,7 +210,7 @@ fn put_missed(out: &mut Pen<'_>, picture: &Picture<'_>, scale: &Scale, calls: &[
     end_text(out);
 }
 
-/// Puts what shows that a history is refused.
+/// Puts the evidence that a history is rejected.
 pub(crate) fn put_evidence(
     out: &mut Pen<'_>,
     picture: &Picture<'_>,

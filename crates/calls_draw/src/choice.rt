@@ -13,9 +13,9 @@ use std::alloc::{AllocError, Global};
 pub(crate) enum Chosen {
     /// A worker.
     Worker(usize),
-    /// So many objects from this index on.
+    /// Some objects: the index of the first, and how many they are.
     Objects(usize, usize),
-    /// The semaphore at this place among the groups.
+    /// The semaphore with this index among the groups.
     Semaphore(usize),
 }
 
@@ -26,7 +26,7 @@ pub(crate) struct Choice {
     objects: Vec<Chosen>,
 }
 
-/// Returns what the group at a place is, if calls can be of it.
+/// Returns what the group at an index chooses, `None` if a history has no calls of it.
 fn group_chosen(heading: &Heading, place: usize) -> Option<Chosen> {
     match heading.groups().get(place) {
         Some(Group::Semaphore(_)) => Some(Chosen::Semaphore(place)),
@@ -45,7 +45,7 @@ fn worker_chosen(heading: &Heading, name: &[u8]) -> Option<Chosen> {
     }
 }
 
-/// Returns what is chosen by the name of this.
+/// Returns what the name of a target chooses, `None` if it is a worker.
 fn target_chosen(heading: &Heading, target: Target) -> Option<Chosen> {
     match target {
         Target::Worker(_) => None,
@@ -81,7 +81,7 @@ fn cell_chosen(heading: &Heading, name: &[u8]) -> Option<Chosen> {
     }
 }
 
-/// Returns what each of these names chooses; of a name that is not declared nothing.
+/// Returns what each of these names of workers chooses. A name that is not declared is skipped.
 fn workers_chosen(
     alloc: Global,
     heading: &Heading,
@@ -93,7 +93,7 @@ fn workers_chosen(
         .collect(alloc)
 }
 
-/// Returns what each of these names of objects chooses; of one that is not declared nothing.
+/// Returns what each of these names of objects chooses. A name that is not declared is skipped.
 fn objects_chosen(
     alloc: Global,
     heading: &Heading,
@@ -105,7 +105,7 @@ fn objects_chosen(
         .collect(alloc)
 }
 
-/// Returns the first of these names that is not a worker's.
+/// Returns the first of these names that is not that of a worker.
 pub(crate) fn unknown_worker<'a>(heading: &Heading, names: &[&'a str]) -> Option<&'a str>
     ensures { IsSome result → 0 < length names.now }
 {
@@ -117,7 +117,7 @@ pub(crate) fn unknown_worker<'a>(heading: &Heading, names: &[&'a str]) -> Option
     None
 }
 
-/// Returns the first of these names that is not an object's.
+/// Returns the first of these names that is not that of an object.
 pub(crate) fn unknown_object<'a>(heading: &Heading, names: &[&'a str]) -> Option<&'a str>
     ensures { IsSome result → 0 < length names.now }
 {
@@ -129,7 +129,7 @@ pub(crate) fn unknown_object<'a>(heading: &Heading, names: &[&'a str]) -> Option
     None
 }
 
-/// Returns whether a call with this operation uses the semaphore at a place.
+/// Returns whether a call with this operation uses the semaphore at an index.
 pub(crate) fn uses_semaphore(op: Op, place: usize) -> bool {
     match op {
         Op::P(i) | Op::V(i) => i == place,
@@ -139,7 +139,7 @@ pub(crate) fn uses_semaphore(op: Op, place: usize) -> bool {
 }
 
 impl Chosen {
-    /// Returns whether a call of this object with this operation is among what was chosen.
+    /// Returns whether a call of this object with this operation is chosen.
     fn has(self, object: usize, op: Op) -> bool {
         match self {
             Chosen::Worker(_) => false,

@@ -1,4 +1,4 @@
-//! A text of histories of calls in, a picture of one of them out.
+//! Draws a picture of one history of a text.
 ghost use Rattle.std.specs.Prelude.{◌≡◌, ◌⊎◌, ◌<◌, List, [], ℕ, length, codes, nat_eq};
 ghost use Rattle.std.specs.Prelude.{false, IfOk, IsTrue, IsSome};
 ghost use Rattle.std.specs.List.{starts_with};
@@ -32,8 +32,8 @@ struct CheckReport {
     note: Vec<u8>,
 }
 
-/// Puts what `check` says of a text into an empty note, and returns the status with which that ends.
-/// Keeps the history at which it ends.
+/// Writes what `check` says of a text to an empty note, and returns its status. Stores the history
+/// at which it ends in `last`.
 fn put_verdict<'a>(
     alloc: Global,
     text: &'a [u8],
@@ -54,7 +54,7 @@ fn put_verdict<'a>(
     }
 }
 
-/// Returns what `check` says of a text, and keeps the history at which it ends.
+/// Returns what `check` says of a text, and stores the history at which it ends in `last`.
 fn note_on<'a>(
     alloc: Global,
     text: &'a [u8],
@@ -68,7 +68,7 @@ fn note_on<'a>(
     Ok(CheckReport { status, note })
 }
 
-/// Says of a text what `check` says.
+/// Reports what `check` says of a text, and returns its status.
 fn report_as_check<N: Write>(noted: &CheckReport, notes: &mut Output<'_, N>) -> Status
     ensures says { (text : List ℕ) → IsNoteOn text noted.now.status noted.now.note.items
         → SaysAsCheck text result notes.old notes.new }
@@ -79,7 +79,7 @@ fn report_as_check<N: Write>(noted: &CheckReport, notes: &mut Output<'_, N>) -> 
     noted.status
 }
 
-/// Says that memory ran out.
+/// Reports that memory ran out.
 fn report_no_memory<N: Write>(notes: &mut Output<'_, N>) -> Status
     ensures status { result ≡ Memory }
     ensures puts { Puts notes.old notes.new (codes "no memory\n") }
@@ -89,7 +89,7 @@ fn report_no_memory<N: Write>(notes: &mut Output<'_, N>) -> Status
     Status::Memory
 }
 
-/// Says a name of the sort of this word that is not declared.
+/// Reports a name that is not declared, after the word for its sort.
 fn report_unknown<N: Write>(sort: &[u8], name: &str, notes: &mut Output<'_, N>)
     ensures { IsWrittenOut notes.new }
 {
@@ -110,7 +110,7 @@ fn is_empty(view: &CallsView<'_>, count: usize) -> bool
     is_chosen && (to < from || count <= from)
 }
 
-/// Says that no event is chosen.
+/// Reports that no event is chosen.
 fn report_empty<N: Write>(view: &CallsView<'_>, count: usize, notes: &mut Output<'_, N>)
     ensures { IsWrittenOut notes.new }
 {
@@ -128,7 +128,7 @@ fn report_empty<N: Write>(view: &CallsView<'_>, count: usize, notes: &mut Output
     notes.say(b" events\n");
 }
 
-/// Says what is wrong with what was chosen, and returns whether something is.
+/// Reports the first thing that is wrong with the choice, and returns whether there is one.
 fn report_wrong_choice<N: Write>(
     view: &CallsView<'_>,
     found: &FoundHistory<'_>,
@@ -171,7 +171,7 @@ fn put_picture(
     Ok(())
 }
 
-/// Returns the picture of a history, with what is said of the text.
+/// Returns the bytes of the picture of a history, with this note on its text.
 fn draw_picture(
     alloc: Global,
     view: &CallsView<'_>,
@@ -191,7 +191,7 @@ fn draw_picture(
     }
 }
 
-/// Writes a picture, and says of its text what `check` says.
+/// Writes a picture, and reports what `check` says of its text.
 fn write_picture<W: Write, N: Write>(
     noted: &CheckReport,
     picture: &[u8],
@@ -213,7 +213,7 @@ fn write_picture<W: Write, N: Write>(
     }
 }
 
-/// Draws a history of a text, and says of the text what `check` says.
+/// Draws a history of a text, and reports what `check` says of the text.
 fn draw_found<W: Write, N: Write>(
     alloc: Global,
     view: &CallsView<'_>,
@@ -237,10 +237,10 @@ fn draw_found<W: Write, N: Write>(
     }
 }
 
-/// Draws the first history of a text that is refused or not decided, or else the last one, and says
-/// of the text what `check` says.
+/// Draws the first history of a text that is rejected or not decided, otherwise the last one.
+/// Reports what `check` says of the text.
 ///
-/// Nothing is written unless the picture is whole in memory.
+/// Nothing is written before the whole picture is in memory.
 pub fn draw_calls<W: Write, N: Write>(
     alloc: Global,
     view: &CallsView<'_>,

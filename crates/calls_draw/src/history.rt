@@ -5,7 +5,7 @@ use calls_report::LastHistory;
 use calls_verdict::{Refusal, Verdict};
 use std::alloc::{AllocError, Global};
 
-/// A history of a text, and what is found of it.
+/// A history of a text, and its verdict.
 #[derive(Drop)]
 pub(crate) struct FoundHistory<'a> {
     pub(crate) judged: LastHistory<'a>,
@@ -21,7 +21,7 @@ impl<'a> FoundHistory<'a> {
         }
     }
 
-    /// Returns the refusal, if it is refused.
+    /// Returns the refusal, `None` if the history is not rejected.
     pub(crate) fn refusal(&self) -> Option<&Refusal> {
         match &self.judged.verdict {
             Verdict::Refused(refusal) => Some(refusal),

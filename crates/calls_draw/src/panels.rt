@@ -13,20 +13,20 @@ pub(crate) enum Subject {
     Count(usize),
     /// The numbers of the sequencer with this index.
     Numbers(usize),
-    /// The units of the semaphore at this place, of the object with this index.
+    /// The units of a semaphore: the index of its object, and its own among the groups.
     Units(usize, usize),
     /// The values of the cell or database with this index.
     Values(usize),
 }
 
-/// The least and the greatest number at each moment that is shown.
+/// The least and the greatest number at a moment.
 #[derive(Clone, Copy, Debug, PartialEq, Eq)]
 pub(crate) struct Bounds {
     pub(crate) least: usize,
     pub(crate) most: usize,
 }
 
-/// What a number is from the point of a call on that is shown.
+/// A step of a curve: the number from the linearization point of a shown call on.
 #[derive(Clone, Copy, Debug, PartialEq, Eq)]
 pub(crate) struct CurveStep {
     pub(crate) point: usize,
@@ -41,14 +41,14 @@ pub(crate) struct Panel {
     pub(crate) subject: Subject,
     /// The number at the first column.
     pub(crate) before: usize,
-    /// What it is from the point of each call of the object on.
+    /// Its steps: one for each call that it shows and whose point is in the window.
     pub(crate) spots: Vec<CurveStep>,
-    /// Its bounds at each moment that is shown, none of a cell.
+    /// Its bounds at each moment that is shown; empty if it shows values.
     pub(crate) bounds: Vec<Bounds>,
 }
 
 impl Subject {
-    /// Returns the number of the object that it shows.
+    /// Returns the track of the object that it shows.
     fn track(self) -> Track {
         match self {
             Subject::Count(object) | Subject::Numbers(object) | Subject::Values(object) => Track {
@@ -72,7 +72,8 @@ impl Subject {
         }
     }
 
-    /// Returns whether a certificate on this object speaks of what it shows.
+    /// Returns whether a certificate on this object is about what it shows. One on semaphores is,
+    /// if it has a stair of the units added to this one.
     pub(crate) fn is_of(self, object: usize, courses: &[calls_shapes::Stair]) -> bool {
         match self {
             Subject::Units(_, place) => {
@@ -155,13 +156,13 @@ fn bounds_of(
     }
 }
 
-/// Returns the last of these values before a position, or else the first one.
+/// Returns the last of these values before a position, `start` if there is none.
 fn value_before(start: usize, steps: &[Step], position: usize) -> usize {
     let before = steps.iter().rev().find(|step| step.point < position);
     before.map_or(start, |step| step.value)
 }
 
-/// Returns where the calls of an object are in an order, by their indices there.
+/// Returns the indices of the calls of an object in a linearization.
 fn indices_of(alloc: Global, order: &[Placed], object: usize) -> Result<Vec<usize>, AllocError> {
     let mut indices = Vec::new(alloc);
     for (i, placed) in order.iter().enumerate() {
@@ -172,7 +173,7 @@ fn indices_of(alloc: Global, order: &[Placed], object: usize) -> Result<Vec<usiz
     Ok(indices)
 }
 
-/// Returns what a number is from the point of each call on that is shown.
+/// Returns the steps of a number: one for each of its calls whose point is in the window.
 fn spots_of(
     alloc: Global,
     picture: &Picture<'_>,
@@ -210,7 +211,7 @@ fn panel_of(alloc: Global, picture: &Picture<'_>, subject: Subject) -> Result<Pa
     })
 }
 
-/// Returns whether a drawn call is one of what this shows.
+/// Returns whether a panel shows what some drawn call does.
 fn is_shown(picture: &Picture<'_>, subject: Subject) -> bool {
     picture
         .shown
@@ -218,7 +219,7 @@ fn is_shown(picture: &Picture<'_>, subject: Subject) -> bool {
         .any(|bar| subject.shows(bar.object, bar.op))
 }
 
-/// Adds the panel of what this shows, if a drawn call is one of it.
+/// Adds the panel of what this shows, if it shows what some drawn call does.
 fn add_panel(
     alloc: Global,
     panels: &mut Vec<Panel>,
@@ -231,7 +232,7 @@ fn add_panel(
     Ok(())
 }
 
-/// Adds the panels of the semaphores.
+/// Adds the panels of the semaphores that are chosen.
 fn add_semaphores(
     alloc: Global,
     panels: &mut Vec<Panel>,
@@ -265,7 +266,8 @@ pub(crate) fn panels_of(alloc: Global, picture: &Picture<'_>) -> Result<Vec<Pane
     Ok(panels)
 }
 
-/// Returns the number that a call says of its object.
+/// Returns the number that a call says of its object. An await says its threshold if it is done,
+/// and one less if it gave up.
 pub(crate) fn said_by(op: Op, reply: Reply) -> Option<usize> {
     match (op, reply) {
         (_, Reply::Number(n)) => Some(n),

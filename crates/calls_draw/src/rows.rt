@@ -1,4 +1,4 @@
-//! The rows of the workers: bars, and marks at the points.
+//! The rows of the workers: bars, and marks at the linearization points.
 use crate::grid::{LEFT, TOP, below, row};
 use crate::lines::parts_of;
 use crate::picture::{Bar, BarOutline, Picture};
@@ -13,7 +13,8 @@ use std::alloc::Global;
 /// Half the height of a bar.
 const HALF: u64 = 11;
 
-/// Puts what stands above the columns, and of how many events, if not all are shown.
+/// Puts the titles of the numbers above the columns, and how many events there are if not all are
+/// shown.
 pub(crate) fn put_column_names(out: &mut Pen<'_>, picture: &Picture<'_>) {
     let x = LEFT - 14;
     start_text(out, b"scale", xy(x, 20));
@@ -40,7 +41,7 @@ pub(crate) fn put_columns(out: &mut Pen<'_>, picture: &Picture<'_>, rows: usize)
     }
 }
 
-/// Puts the class that makes a text small if it has more room than this.
+/// Puts a text, in smaller letters if it needs more than this room.
 fn put_squeezed(out: &mut Pen<'_>, class: &[u8], at: Pixel, text: &[u8], room: u64) {
     let letters = text.len() as u64;
     out.put(b"<text class='");
@@ -60,7 +61,7 @@ fn put_squeezed(out: &mut Pen<'_>, class: &[u8], at: Pixel, text: &[u8], room: u
     end_text(out);
 }
 
-/// Puts as much of a text as there is room for in small letters.
+/// Puts as much of a text as this room has in small letters, and `~` if that is not all.
 fn put_cut(out: &mut Pen<'_>, text: &[u8], room: u64) {
     let most = (room.saturating_mul(2) / 7).max(2) as usize;
     if text.len() <= most {
@@ -100,7 +101,7 @@ fn put_bar_rect(out: &mut Pen<'_>, bar: &Bar, at: Pixel, width: u64) {
     out.put(b"/>\n");
 }
 
-/// Puts a bar with its texts. The next bar of the row begins at this position.
+/// Puts a bar with its texts. The next bar of the row begins at the position `next`.
 fn put_bar(out: &mut Pen<'_>, picture: &Picture<'_>, bar: &Bar, next: usize, y: u64) {
     let x = picture.grid.x(bar.first);
     let end = picture.grid.x(bar.last());
@@ -130,7 +131,7 @@ fn put_returned(out: &mut Pen<'_>, picture: &Picture<'_>, bar: &Bar, at: Pixel, 
     put_squeezed(out, b"reply", place, text, room.max(40));
 }
 
-/// Puts what a call asks for above its bar, and of which object if there are several.
+/// Puts the operation of a call above its bar, and the object if there are several.
 fn put_labels(out: &mut Pen<'_>, picture: &Picture<'_>, bar: &Bar, at: Pixel, room: u64) {
     let x = at.x.saturating_add(2);
     let low = xy(x, at.y.saturating_sub(18));
@@ -152,7 +153,7 @@ fn put_labels(out: &mut Pen<'_>, picture: &Picture<'_>, bar: &Bar, at: Pixel, ro
     }
 }
 
-/// Puts a verb and what a call asks for besides its object.
+/// Puts a verb, and the arguments of a call other than its object.
 fn put_act(out: &mut Pen<'_>, at: Pixel, verb: &[u8], rest: &[u8], room: u64) {
     let letters = (verb.len() as u64).saturating_add(1);
     let used = letters.saturating_mul(6);
@@ -198,7 +199,7 @@ pub(crate) fn put_rows(alloc: Global, out: &mut Pen<'_>, picture: &Picture<'_>) 
     Ok(())
 }
 
-/// Puts the marks at the points of the calls that are drawn.
+/// Puts the marks at the linearization points of the calls that are drawn.
 pub(crate) fn put_marks(out: &mut Pen<'_>, picture: &Picture<'_>) {
     for (i, placed) in picture.order.iter().enumerate() {
         let call = &placed.call;

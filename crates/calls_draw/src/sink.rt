@@ -2,26 +2,26 @@
 use ec_text::Output;
 use std::alloc::AllocError;
 
-/// The bytes of a picture so far.
+/// The writer of a picture, to a list of bytes.
 pub(crate) type Pen<'a> = Output<'a, Vec<u8>>;
 
-/// Whether there was memory for what was put.
+/// The outcome of a function that puts something: an error if memory ran out.
 pub(crate) type PutResult = Result<(), AllocError>;
 
-/// A place in a picture.
+/// The coordinates of a pixel in a picture.
 #[derive(Clone, Copy, Debug, PartialEq, Eq)]
 pub(crate) struct Pixel {
     pub(crate) x: u64,
     pub(crate) y: u64,
 }
 
-/// Returns the place with these coordinates.
+/// Returns the pixel with these coordinates.
 pub(crate) fn xy(x: u64, y: u64) -> Pixel {
     Pixel { x, y }
 }
 
-/// Puts a byte of a text, escaped if XML needs it; what is no plain character is a question
-/// mark.
+/// Puts a byte of a text, escaped if XML needs it. One that is not printable ASCII becomes a
+/// question mark.
 fn put_escaped_byte(out: &mut Pen<'_>, byte: u8) {
     match byte {
         b'<' => out.put(b"&lt;"),
@@ -48,7 +48,7 @@ pub(crate) fn put_attribute(out: &mut Pen<'_>, name: &[u8], n: u64) {
     out.put(b"'");
 }
 
-/// Puts the name of an element and its class.
+/// Puts the beginning of an element: its name and its class.
 fn put_open(out: &mut Pen<'_>, name: &[u8], class: &[u8]) {
     out.put(b"<");
     out.put(name);
@@ -86,7 +86,7 @@ pub(crate) fn put_circle(out: &mut Pen<'_>, class: &[u8], at: Pixel, r: u64) {
     out.put(b"/>\n");
 }
 
-/// Puts the mark of a point: a diamond.
+/// Puts the mark of a linearization point: a diamond.
 pub(crate) fn put_diamond(out: &mut Pen<'_>, at: Pixel) {
     out.put(b"<path class='mark' d='M ");
     out.put_number(at.x);

@@ -8,16 +8,17 @@ use calls_shapes::Stair;
 use ec_text::CachedDecimal;
 use std::alloc::Global;
 
-/// How many places a name has.
+/// The width of the column of names, in letters.
 const NAME: usize = 18;
 
-/// How many places an event has: one for itself, and those before it for the moment before it.
+/// The width of the column of an event, in letters: the last is that of the event, those before it
+/// are the moment before the event.
 #[derive(Clone, Copy, Debug, PartialEq, Eq)]
 struct Places {
     count: usize,
 }
 
-/// Returns the places that the events of a picture need.
+/// Returns the width that the columns of a picture need.
 fn places_of(picture: &Picture<'_>) -> Places {
     let last = picture
         .window()
@@ -30,26 +31,27 @@ fn places_of(picture: &Picture<'_>) -> Places {
     }
 }
 
-/// Puts so many times a byte.
+/// Puts a byte `count` times.
 fn put_times(out: &mut Pen<'_>, byte: u8, count: usize) {
     for _place in 0..count {
         out.put_byte(byte);
     }
 }
 
-/// Puts a number at the end of so many places.
+/// Puts a number, right-aligned in a width.
 fn put_padded(out: &mut Pen<'_>, n: u64, places: usize) {
     let digits = CachedDecimal::new(n).digits();
     put_times(out, b' ', places.saturating_sub(digits.bytes().len()));
     out.put_number(n);
 }
 
-/// Puts what fills the name's places after so many letters.
+/// Puts the spaces that fill the column of names after this many letters.
 fn put_rest_of_name(out: &mut Pen<'_>, letters: usize) {
     put_times(out, b' ', NAME.saturating_sub(letters));
 }
 
-/// Puts a number for each event that is shown, after a word: its position and this number.
+/// Puts a row of numbers after a word: for each event that is shown, `first` and its position
+/// added.
 fn put_heads(out: &mut Pen<'_>, word: &[u8], picture: &Picture<'_>, first: u64, places: Places) {
     let window = picture.window();
     out.put(word);
@@ -60,7 +62,7 @@ fn put_heads(out: &mut Pen<'_>, word: &[u8], picture: &Picture<'_>, first: u64, 
     out.put(b"\n");
 }
 
-/// Puts the moment before a position: dashes within a call, with a star at its point.
+/// Puts the moment before a position: dashes within a call, with a star at its linearization point.
 fn put_moment(
     out: &mut Pen<'_>,
     picture: &Picture<'_>,
@@ -84,7 +86,7 @@ fn put_moment(
     }
 }
 
-/// Puts the mark of the event at a position, if it is one of these bars.
+/// Puts the mark at a position: of an invocation, a response, the inside of a bar, or nothing.
 fn put_event(out: &mut Pen<'_>, bars: &[Bar], position: usize) {
     if bars.iter().any(|bar| bar.first == position) {
         out.put(b"(");
@@ -134,13 +136,13 @@ fn put_rows(alloc: Global, out: &mut Pen<'_>, picture: &Picture<'_>, places: Pla
     Ok(())
 }
 
-/// Returns the number of a panel when the event at a position comes.
+/// Returns the number of a panel immediately before the event at a position.
 fn number_at(panel: &Panel, position: usize) -> usize {
     let last = panel.spots.iter().rev().find(|spot| spot.point <= position);
     last.map_or(panel.before, |spot| spot.value)
 }
 
-/// Puts the number of an object along the order, before each event.
+/// Puts the number of an object along the linearization, before each event.
 fn put_numbers(out: &mut Pen<'_>, picture: &Picture<'_>, panel: &Panel, places: Places) {
     let window = picture.window();
     put_rest_of_name(out, 5);
@@ -152,7 +154,7 @@ fn put_numbers(out: &mut Pen<'_>, picture: &Picture<'_>, panel: &Panel, places: 
     out.put(b"\n");
 }
 
-/// Puts bounds, before each event.
+/// Puts a row of bounds after a word, before each event.
 fn put_bounds(out: &mut Pen<'_>, word: &[u8], numbers: &[usize], places: Places) {
     out.put(word);
     put_rest_of_name(out, word.len());
@@ -184,7 +186,8 @@ fn put_panel_rows(
     Ok(())
 }
 
-/// Puts a value of a cell or a database, and from which point on it has it.
+/// Puts a value of a cell or a database, and the linearization point from which on it has that
+/// value.
 fn put_later(out: &mut Pen<'_>, picture: &Picture<'_>, panel: &Panel, spot: &CurveStep) {
     let object = panel.subject.object();
     put_subject(out, picture, panel.subject);
@@ -195,7 +198,7 @@ fn put_later(out: &mut Pen<'_>, picture: &Picture<'_>, panel: &Panel, spot: &Cur
     out.put(b"\n");
 }
 
-/// Puts the values of a cell or a database along the order.
+/// Puts the values of a cell or a database along the linearization.
 fn put_values(out: &mut Pen<'_>, picture: &Picture<'_>, panel: &Panel) {
     let object = panel.subject.object();
     put_subject(out, picture, panel.subject);

@@ -83,7 +83,7 @@ unread_so bytes left faults.TooLarge old new returned out note = (
 unread_so bytes left faults.Read old new returned out note = inr (returned, out, note)
 unread_so bytes left faults.Memory old new returned out note = (out, note)
 
--- what was not written to
+-- an output that was not written to
 pub stays : (a : Option (List ℕ)) → Keeps a a
 stays None = tt
 stays (Some xs) = refl

@@ -34,7 +34,7 @@ past_first m q = omega arith
 past_second : (m n x : ℕ) → ((m + n) + x) - m - n ≡ x
 past_second m n x = omega arith
 
--- the act that begins a call is found again from the object and what is asked of it
+-- the object and the operation of a call give the act that begins it
 act_found : (h : HeadingModel) (act : Act) → is_call act ≡ true
     → act_on h.setup (outside_object h.setup act) (outside_op act) ≡ act
 act_found h (acts.Advance e) c = refl
@@ -55,7 +55,7 @@ joined : (w v : List ℕ) (u : List ℕ) (us : List (List ℕ))
     → join_with_byte 32 (w ∷ v ∷ u ∷ us) ≡ (w ++ (32 ∷ v)) ++ 32 ∷ join_with_byte 32 (u ∷ us)
 joined w v u us = sym (append_assoc w (32 ∷ v) (32 ∷ join_with_byte 32 (u ∷ us)))
 
--- the words of an act are at least one
+-- an act has at least one word
 call_joined : (names : NameTable) (w : List ℕ) (act : Act)
     → join_with_byte 32 (w ∷ codes "calls" ∷ act_words names act)
     ≡ (w ++ codes " calls") ++ 32 ∷ join_with_byte 32 (act_words names act)

@@ -1,4 +1,4 @@
--- Which entries keep a trace from having a history of calls, and what a note says of it.
+-- Which entries keep a trace from having a history of calls, and what a note says about it.
 use Rattle.std.specs.Prelude.{◌≡◌, ℕ, ◌<◌, Bool, false, List, [], ◌++◌, Option, Some, None, slice_get, codes}
 use Rattle.std.specs.Prelude.{if◌then◌else◌, decimal}
 use Rattle.std.specs.Option.{option_and_then, option_map_or}
@@ -35,7 +35,7 @@ cause_at gs entries i = option_and_then (λ (x : Entry). cause_of gs x.act) (sli
 abbrev pub HasNoneBefore : List Group → List Entry → ℕ → Type 0
 HasNoneBefore gs entries n = (i : ℕ) → i < n → cause_at gs entries i ≡ None
 
--- the entry at position i is the first that does, and this is why
+-- the entry at position i is the first that keeps it from that, and this is why
 abbrev pub IsFirstCause : List Group → List Entry → ℕ → Cause → Type 0
 IsFirstCause gs entries i why = (cause_at gs entries i ≡ Some why) × HasNoneBefore gs entries i
 

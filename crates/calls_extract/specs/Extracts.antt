@@ -23,7 +23,7 @@ use Rattle.calls_extract.specs.Lines.{calls_text}
 abbrev pub HasCalls : TraceModel → Type 0
 HasCalls t = HasNoneBefore t.heading.groups t.entries (length t.entries)
 
--- the first entry that does is named
+-- the note names the first entry that keeps the trace from that
 pub record NamesFirstCause (t : TraceModel) (old new : Outlets) : Type 0 where
   pub at : ℕ
   pub why : Cause
@@ -31,7 +31,7 @@ pub record NamesFirstCause (t : TraceModel) (old new : Outlets) : Type 0 where
   pub out : Keeps old.out new.out
   pub note : Notes old new (cause_note (name_at t.heading.words t.entries at) at why)
 
--- how the writing of the calls of a trace ended, whatever outline is behind its heading
+-- how the writing of the calls of a trace ended, for any syntax tree of its header
 abbrev pub WritesCalls : TraceModel → Status → Outlets → Outlets → Type 0
 WritesCalls t Done old new =
     HasCalls t × HasOutsideHistory t.heading.setup t.entries
@@ -48,18 +48,18 @@ WritesCalls t status old new = ⊥
 
 -- THE END OF THE COMMAND
 
--- the bytes are a trace of which each entry has a place in a history of calls, and this is the text
--- of its calls under the lines of its heading
+-- the bytes are a trace whose entries can all be in a history of calls, and this is the text of its
+-- calls, after the lines of its header
 pub record IsExtracted (bytes text : List ℕ) (t : TraceModel) : Type 0 where
   pub from : ReadsAs bytes t
   pub all : HasCalls t
   pub is : text ≡ calls_text from.trace.outline t.entries
 
 -- how the command ended, for an input that had these bytes and has those left. The bytes are a
--- trace and its calls were written, which are linearizable; or an entry has no place in a history of
--- calls, and nothing was written but the note of the first such; or they are no trace, and nothing
--- was written but the note of the first fault; or a failed read is reported, and what the reader had
--- given until then has no fault; or a failed write, or that memory ran out
+-- trace, and its calls, which are linearizable, were written; or an entry cannot be in a history of
+-- calls, and only the note on the first such entry was written; or the bytes are no trace, and only
+-- the note on the first fault was written; or a failed read is reported, and the bytes read until
+-- then have no fault; or a failed write is reported, or a failed allocation
 abbrev pub Extracts : List ℕ → Option (List ℕ) → Status → Outlets → Outlets → Type 0
 Extracts bytes left Done old new =
     (t : TraceModel) × (text : List ℕ) × IsExtracted bytes text t

@@ -1,5 +1,5 @@
--- The text of a history of calls of eventcounts, sequencers and cells. Its heading has the lines of
--- a trace's heading, and a call has the words of the act that begins it.
+-- The text of a history of calls of eventcounts, sequencers and cells. Its header has the lines of
+-- a trace's header, and a call has the words of the act that begins it.
 use Rattle.std.specs.Prelude.{ℕ, List, [], ◌∷◌, ◌++◌, map, codes, decimal}
 use Rattle.std.specs.List.{join_with_byte}
 use Rattle.ec_count.specs.declared.target.Target.TheVariants.{Worker}

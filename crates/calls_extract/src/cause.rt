@@ -14,12 +14,12 @@ use ec_text::Output;
 use ec_trace::Spellings;
 use std::io::Write;
 
-/// Why an entry has no place in a history of calls.
+/// Why an entry cannot be in a history of calls.
 #[derive(Clone, Copy, Debug, PartialEq, Eq)]
 pub enum Cause {
-    /// Its object belongs to a group, whose calls a history has whole.
+    /// Its object belongs to a group, and a history has only calls of whole groups.
     OfGroup,
-    /// It hands a component over, and the rights of a history stay.
+    /// It hands a component over, but the rights of a history don't change.
     HandsOver,
 }
 
@@ -51,7 +51,7 @@ fn of_group(is_owned: bool) -> Option<Cause>
     if is_owned { Some(Cause::OfGroup) } else { None }
 }
 
-/// Returns why an act has no place in a history of calls.
+/// Returns why an act cannot be in a history of calls, or `None` if it can.
 fn cause_of(groups: &[Group], act: &Act) -> Option<Cause>
     ensures { result ≡ cause_of groups.now act.now }
 {
@@ -67,7 +67,7 @@ fn cause_of(groups: &[Group], act: &Act) -> Option<Cause>
     }
 }
 
-/// Returns why the entry at a place has no place in a history of calls.
+/// Returns why the entry at index `place` cannot be in a history of calls.
 fn cause_at(groups: &[Group], run: &Run, place: usize) -> Option<Cause>
     ensures { result ≡ cause_at groups.now run.now.entries place }
 {
@@ -75,7 +75,7 @@ fn cause_at(groups: &[Group], run: &Run, place: usize) -> Option<Cause>
     cause_of(groups, &entry.act)
 }
 
-/// Returns the place of the first entry that has no place in a history of calls, and why.
+/// Returns the index of the first entry that cannot be in a history of calls, and why.
 pub(crate) fn first_cause(groups: &[Group], run: &Run) -> Option<(usize, Cause)>
     ensures some { IfSome result (λ found. IsFirstCause groups.now run.now.entries found.0 found.1) }
     ensures none { IfNone result (HasNoneBefore groups.now run.now.entries
@@ -89,7 +89,7 @@ pub(crate) fn first_cause(groups: &[Group], run: &Run) -> Option<(usize, Cause)>
     None
 }
 
-/// Returns what a note says of a cause.
+/// Returns what a note says about a cause.
 fn cause_words(cause: Cause) -> &'static [u8]
     ensures { result.now ≡ cause_words cause }
 {
@@ -99,7 +99,7 @@ fn cause_words(cause: Cause) -> &'static [u8]
     }
 }
 
-/// Puts which entry keeps a trace from having a history of calls.
+/// Writes which entry keeps a trace from having a history of calls.
 fn put_entry<N: Write>(notes: &mut Output<'_, N>, worker: &[u8], place: u64)
     ensures { Puts notes.old notes.new (entry_words worker.now place) }
 {
@@ -109,7 +109,7 @@ fn put_entry<N: Write>(notes: &mut Output<'_, N>, worker: &[u8], place: u64)
     notes.put_number(place);
 }
 
-/// Puts why a trace has no history of calls.
+/// Writes why a trace has no history of calls.
 fn put_cause<N: Write>(notes: &mut Output<'_, N>, worker: &[u8], place: u64, cause: Cause)
     ensures { Puts notes.old notes.new (cause_note worker.now place cause) }
 {
@@ -117,7 +117,7 @@ fn put_cause<N: Write>(notes: &mut Output<'_, N>, worker: &[u8], place: u64, cau
     notes.put(cause_words(cause));
 }
 
-/// Says why a trace has no history of calls: the entry, with its worker, and what is wrong with it.
+/// Reports why a trace has no history of calls: the entry, with its worker, and the cause.
 pub(crate) fn report_cause<N: Write>(
     notes: &mut Output<'_, N>,
     spellings: &Spellings<'_>,

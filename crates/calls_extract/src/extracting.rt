@@ -1,4 +1,4 @@
-//! `of`: a trace of steps in, the history of its calls out.
+//! The command `of`: it reads a trace of steps, and writes the history of its calls.
 ghost use Rattle.std.specs.Prelude.{◌≡◌, IfSome};
 ghost use Rattle.ec_text.specs.Puts.{IsWrittenOut};
 ghost use Rattle.calls_extract.specs.Extracts.{Extracts, WritesCalls};
@@ -12,7 +12,7 @@ use evc_engine::{Status, note_unread};
 use std::alloc::Global;
 use std::io::{Read, Write};
 
-/// Writes the calls of a trace, or notes which entry has no place in a history of calls.
+/// Writes the calls of a trace, or notes which entry cannot be in a history of calls.
 fn write_calls_of_trace<W: Write, N: Write>(
     traced: &Traced,
     out: &mut W,
@@ -39,11 +39,10 @@ fn write_calls_of_trace<W: Write, N: Write>(
     }
 }
 
-/// Reads a trace of steps, and writes its calls as a history of calls, which is linearizable; notes
-/// say what is wrong.
+/// Reads a trace of steps, and writes its calls as a history of calls, which is linearizable.
 ///
-/// Nothing is written to `out` before the trace was read to its end and each of its entries has a
-/// place in a history of calls.
+/// A note says what is wrong. Nothing is written to `out` unless the whole trace was read, and all
+/// its entries can be in a history of calls.
 #[tactic(auto, using(crate::proofs::Ends::extracted_so))]
 pub fn extract_calls<R: Read, W: Write, N: Write>(
     alloc: Global,

@@ -1,4 +1,4 @@
-//! Writes the calls of a run.
+//! Writes the calls of a run of steps.
 ghost use Rattle.std.specs.Prelude.{◌≡◌, ◌++◌, ◌∷◌, [], codes, OnOk, OnErr};
 ghost use Rattle.std.specs.Io.KnownBytes.{Appends};
 ghost use Rattle.std.specs.List.{flat_map};
@@ -37,7 +37,7 @@ fn is_of_call(act: &Act) -> bool
     }
 }
 
-/// Puts the line of the call that an entry begins, if it begins one.
+/// Writes the line of the call that an entry begins, if it begins one.
 #[inline(always)]
 fn put_call<W: Write>(
     out: &mut Output<'_, W>,
@@ -55,7 +55,7 @@ fn put_call<W: Write>(
     }
 }
 
-/// Puts the line of a response.
+/// Writes the line of a response.
 #[inline(always)]
 fn put_response<W: Write>(out: &mut Output<'_, W>, worker: &[u8], reply: &Reply)
     ensures { Puts out.old out.new (worker.now ++ codes " returns " ++ reply_word reply.now
@@ -67,7 +67,7 @@ fn put_response<W: Write>(out: &mut Output<'_, W>, worker: &[u8], reply: &Reply)
     out.put_byte(b'\n');
 }
 
-/// Puts the line of the call that an entry ends, if it ends one.
+/// Writes the line of the response to the call that an entry ends, if it ends one.
 #[inline(always)]
 fn put_return<W: Write>(out: &mut Output<'_, W>, spellings: &Spellings<'_>, entry: &Entry)
     ensures { Puts out.old out.new (return_text spellings.now entry.now) }
@@ -82,7 +82,7 @@ fn put_return<W: Write>(out: &mut Output<'_, W>, spellings: &Spellings<'_>, entr
     }
 }
 
-/// Puts the lines of an entry.
+/// Writes the lines of an entry.
 #[inline(always)]
 #[tactic(auto, unfolding(crate::specs::kept::Entries::entry_text))]
 fn put_lines<W: Write>(
@@ -97,7 +97,7 @@ fn put_lines<W: Write>(
     put_return(out, spellings, entry);
 }
 
-/// Puts the lines of the entry at a place of a run, if there is one.
+/// Writes the lines of the entry at an index of a run, if there is one.
 fn put_lines_at<W: Write>(
     out: &mut Output<'_, W>,
     spellings: &Spellings<'_>,
@@ -112,7 +112,7 @@ fn put_lines_at<W: Write>(
     }
 }
 
-/// Puts the lines of a run's entries.
+/// Writes the lines of a run's entries.
 #[tactic(auto, using(crate::proofs::Events::one_more_entry))]
 fn put_events<W: Write>(out: &mut Output<'_, W>, spellings: &Spellings<'_>, run: &Run)
     ensures { Puts out.old out.new (flat_map (entry_text spellings.now) run.now.entries) }
@@ -123,7 +123,7 @@ fn put_events<W: Write>(out: &mut Output<'_, W>, spellings: &Spellings<'_>, run:
     }
 }
 
-/// Puts the calls of a run.
+/// Writes the calls of a run, with the header.
 fn put_history<W: Write>(
     out: &mut Output<'_, W>,
     spellings: &Spellings<'_>,
@@ -139,11 +139,12 @@ fn put_history<W: Write>(
     out.put(b"end\n");
 }
 
-/// Writes the calls of a run, seen from outside, as a history under the heading whose declarations
-/// the run is on: of the entry that begins a call its invocation, and of the entry that ends one its
-/// response. A hand leaves no line.
+/// Writes the calls of a run, seen from outside, as a history of calls.
 ///
-/// A WriteFault comes only if a write failed or wrote none of its bytes. It takes no memory.
+/// `heading` is the header whose declarations the run uses. The entry that begins a call gives its
+/// invocation, and the entry that ends it gives its response. A hand gives no line.
+///
+/// Returns a `WriteFault` only if a write failed or wrote none of its bytes. Nothing is allocated.
 pub fn write_calls<W: Write>(run: &Run, heading: &Heading, writer: &mut W) -> Result<(), WriteFault>
     ensures ok { (o : HeaderTree) → IsHeaderTree o → heading_of_tree o ≡ heading.now → OnOk result
         (Appends (W.contents writer.old) (W.contents writer.new) (calls_text o run.now.entries)) }

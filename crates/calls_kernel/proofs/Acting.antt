@@ -1,4 +1,4 @@
--- Advances, tickets, puts and gets that are made if no call is under way.
+-- Advances, tickets, puts and gets, made while no other call is pending.
 use Rattle.std.proofs.Common.{◌≡◌, ℕ, ◌+◌, ◌-◌, ◌<◌, ◌≤◌, true, false, ◌&&◌, ◌==◌}
 use Rattle.std.proofs.Common.{cond, List, [], ◌∷◌, length, Option, Some, None, is_some, refl, ap}
 use Rattle.std.proofs.Common.{sym}
@@ -39,7 +39,7 @@ put_next x y v g = elim (x == y) as (λ b. cond b v (g y) ≡ unwrap_or (cond b 
 ]
 
 module _ (t : Tables) where
-  -- an entry that makes the call leaves room for the others
+  -- an entry that makes the call leaves room for the other calls under the limit
   room_after : (past : List Entry) (n m : ℕ → ℕ → ℕ) (c : Call) (left : List Call) (act : Act)
       (given : StepReply) → HasRoom t past n (c ∷ left) → act ≡ act_of_call t c
       → ((e : ℕ) (ws : List ℕ) → signallers_after e c.worker act ws ≡ ws)
@@ -86,7 +86,7 @@ module _ (t : Tables) where
     abbrev Clear : Op → Reply → Type 0
     Clear op reply = IsClear t past n (call op reply ∷ left)
 
-    -- the worker has a component with room
+    -- the worker has a component below the limit
     advance_room : (reply : Reply) → Clear Advance reply
         → has_right t [] w (acts.Advance k) ≡ true
         → is_at_limit t past w (acts.Advance k) ≡ false

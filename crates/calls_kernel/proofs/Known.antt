@@ -1,4 +1,4 @@
--- The finished calls of an accepted history are on declared objects.
+-- The completed calls of an accepted history are on declared objects.
 use Rattle.std.proofs.Common.{◌≡◌, true, false, cond, List, [], ◌∷◌}
 use Rattle.std.proofs.Common.{length, Option, Some, None}
 use Rattle.std.specs.List.{All}

@@ -96,7 +96,7 @@ module _ (t : Tables) where
         (all_known t past acc)) good.legal.run;
   }
 
-  -- the same of events of any spelling
+  -- the same for a list that equals these events
   seen_of : (h : List Entry) (es : List Event) → es ≡ events_past t (reverse h)
       → IsAccepted t (reverse h) → IsGood t (reverse h) (ordered_by_points t (reverse h))
       → IsHistory (kinds_of t) es × (completed_calls es

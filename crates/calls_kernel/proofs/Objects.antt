@@ -1,4 +1,4 @@
--- The objects that are declared, in one numbering.
+-- The declared objects, in one numbering.
 use Rattle.std.proofs.Common.{◌≡◌, ℕ, zero, suc, ◌+◌, ◌<◌, true, false}
 use Rattle.std.proofs.Common.{List, [], ◌∷◌, ◌++◌, length, map, Some}
 use Rattle.std.proofs.Common.{slice_get, refl, ap, ◌∙◌, arith}
@@ -59,7 +59,7 @@ module _ (t : Tables) where
       (omega (arith, length_all t.takers Sequencer))
       ∙ get_all t.cells Cell x h
 
-  -- each object takes the calls on it
+  -- each object has the operations that are called on it
   pub object_takes : (act : Act) → is_call act ≡ true → names_unknown_object t act ≡ false
       → Takes (slice_get (kinds_of t) (outside_object t act)) (outside_op act)
   object_takes (acts.Advance e) c h = rw (event_kind e (leb-false (length t.events) e h)) tt

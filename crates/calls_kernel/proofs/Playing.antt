@@ -1,4 +1,4 @@
--- A call that is made if no other is under way.
+-- A call, made while no other call is pending.
 use Rattle.std.proofs.Common.{◌≡◌, ℕ, ◌+◌, ◌<◌, ◌≤◌, Bool, true, false, not, ◌&&◌, ◌==◌}
 use Rattle.std.proofs.Common.{cond, List, [], ◌∷◌, ◌++◌, length, Option, Some, None, is_some, Ok}
 use Rattle.std.proofs.Common.{refl, ap, sym, ◌∙◌, arith, count_by, slice_get}
@@ -42,7 +42,7 @@ answered t past w act reply a is =
     (not_that _ _ _ a.handable (not_that _ _ _ a.fresh refl)))))))) in
     ap (λ o. refused_or o (reply_of t past w act)) none ∙ ap Ok is
 
--- WHERE NO CALL IS UNDER WAY
+-- WHILE NO CALL IS PENDING
 
 abbrev pub numbers_of : List Entry → SequentialState
 numbers_of past = record {
@@ -57,8 +57,8 @@ advances_by t e w c = is_advance e (act_of_call t c) && (c.worker == w)
 abbrev pub draws : Tables → ℕ → Call → Bool
 draws t q c = is_ticket q (act_of_call t c)
 
--- what is known of the counts after a past: the objects have the numbers n, nothing was handed
--- over, and there is room for the calls that are left
+-- the counts after the history so far: the objects have the numbers n, no right was handed over,
+-- and the limit leaves room for the calls that are left
 pub record HasRoom (t : Tables) (past : List Entry) (n : ℕ → ℕ → ℕ) (left : List Call) : Type 0
   where
     pub still : (e : ℕ) → signallers_at t e past ≡ signallers t e
@@ -73,7 +73,7 @@ pub record IsClear (t : Tables) (past : List Entry) (n : ℕ → ℕ → ℕ) (l
     pub free : (w : ℕ) → under_way w past ≡ None
     pub room : HasRoom t past n left
 
--- the call c was made after a past
+-- the call c was made after the history so far
 pub record IsPlayed (t : Tables) (past : List Entry) (c : Call) (n : ℕ → ℕ → ℕ)
     (left : List Call) : Type 0 where
   pub late : List Entry
@@ -85,7 +85,7 @@ pub record IsPlayed (t : Tables) (past : List Entry) (c : Call) (n : ℕ → ℕ
   pub rises : made.first ≤ made.last
   pub last : made.last + 1 ≡ length late
 
--- the rights of a past with no hand are the declared ones
+-- the rights after a history without hands are the declared ones
 pub right_kept : (t : Tables) (past : List Entry) (w : ℕ) (act : Act)
     → ((e : ℕ) → signallers_at t e past ≡ signallers t e)
     → has_right t past w act ≡ has_right t [] w act
@@ -150,7 +150,7 @@ module _ (t : Tables) where
         last = omega arith;
       }
 
-  -- WHAT IT CHANGES
+  -- THE NUMBERS AFTER THE CALL
 
   pub agrees_same : (s r : SequentialState) (n : ℕ → ℕ → ℕ) → ((e : ℕ) → s.events e ≡ r.events e)
       → ((q : ℕ) → s.sequencers q ≡ r.sequencers q) → ((x : ℕ) → s.cells x ≡ r.cells x)
@@ -168,7 +168,7 @@ module _ (t : Tables) where
         | false ↦ λ e. omega arith
       ] refl
 
-  -- a worker has its place alone
+  -- no two workers have the same index
   pub same_place : (ws : List ℕ) (w v c : ℕ) → index_of w ws ≡ Some c → index_of v ws ≡ Some c
       → w ≡ v
   same_place ws w v c a b =

@@ -1,5 +1,4 @@
--- Reads and awaits that are made if no call is under way: one round, whose entries follow one
--- another.
+-- Reads and awaits, made while no other call is pending: one round, with its entries in a row.
 use Rattle.std.proofs.Common.{◌≡◌, ℕ, zero, suc, ◌+◌, ◌-◌, ◌<◌, ◌≤◌, Bool, true, false, not, ◌&&◌}
 use Rattle.std.proofs.Common.{◌==◌, cond, List, [], ◌∷◌, ◌++◌, length, Some, None, is_some}
 use Rattle.std.proofs.Common.{refl, ap, sym, ◌∙◌, arith, subst, nat_le, append-nil, length-append}
@@ -36,7 +35,7 @@ use Rattle.calls_kernel.proofs.Playing.{numbers_of, advances_by, draws, HasRoom,
 use Rattle.calls_kernel.proofs.Playing.{allowed_first, answered, agrees_same}
 
 module _ (t : Tables) where
-  -- the counts of two pasts are the same
+  -- the signallers and counts after two histories are the same
   pub record SameCounts (early late : List Entry) : Type 0 where
     pub signallers_are : (e : ℕ) → signallers_at t e late ≡ signallers_at t e early
     pub totals : (e : ℕ) → total e late ≡ total e early
@@ -89,7 +88,7 @@ module _ (t : Tables) where
   }
   same_next early past w act given look h = absurd look
 
-  -- a call that reads leaves room for the others
+  -- a call that reads leaves room for the other calls under the limit
   look_room : (early late : List Entry) (n : ℕ → ℕ → ℕ) (k : ℕ) (c : Call) (left : List Call)
       → SameCounts early late → HasRoom t early n (c ∷ left)
       → HasRoom t late (set_at k (n k) n) left
@@ -114,7 +113,7 @@ module _ (t : Tables) where
     abbrev wide : ℕ
     wide = component_count t (event_or op)
 
-    -- the next entry is act, after a past with the entries whose pasts are these
+    -- amid a round: act is next, and ms are the histories before the entries of the round so far
     record IsAmid (now : List Entry) (ms : List (List Entry)) (act : Act) : Type 0 where
       pub accepted : IsAccepted t now
       pub allowed : IsAllowed t now w act
@@ -159,7 +158,7 @@ module _ (t : Tables) where
       fresh = refl;
     }
 
-    -- an entry with the reply pending
+    -- after an entry whose reply is pending
     amid_next : (now : List Entry) (ms : List (List Entry)) (act : Act) → IsAmid now ms act
         → read_reply t op now ms ≡ replies.Pending
         → IsAmid (entry w act replies.Pending ∷ now) (now ∷ ms) acts.Go

@@ -53,7 +53,7 @@ pairs_back R f xs h = λ i j d lt le.
     subst (λ a. R a (f (get_or xs j d))) (sym (get_map f xs i d))
     (subst (λ b. R (get_or (map f xs) i (f d)) b) (sym (get_map f xs j d)) pair)
 
--- A RUN WITHOUT ITS HANDS
+-- A LEGAL SEQUENTIAL HISTORY WITHOUT ITS HANDS
 
 abbrev is_of : FinishedCall → Bool
 is_of d = is_call d.op
@@ -78,14 +78,14 @@ calls_run (d ∷ ds) s run =
     kept_run s d d.op (filter is_of ds) refl run.0
     (calls_run ds (sequential_after s d.op) run.1)
 
--- A RUN OF WHAT WAS RECORDED
+-- THE RECORDED CALLS ARE A LEGAL SEQUENTIAL HISTORY
 
 module _ (t : Tables) where
   some_is : (a b : StepReply) → Some a ≡ Some b → a ≡ b
   some_is a b h = cc
 
   module _ (s : SequentialState) (n : ℕ → ℕ → ℕ) (k : ℕ) (same : Agrees t s n) where
-    -- what the call gives, and what the objects show after it
+    -- the object gives this reply to the call, and the numbers agree after it
     abbrev Steps : Act → Op → Reply → Type 0
     Steps act op reply = Gives (n k) op reply
         × Agrees t (sequential_after s act) (set_at k (after (n k) op reply) n)
@@ -180,7 +180,7 @@ module _ (t : Tables) where
     steps_of (V i) reply given fits h reply_as = cc
     steps_of (PBoth i j) reply given fits h reply_as = cc
 
-  -- a call of the kernel and what was recorded of it
+  -- a call of the kernel, and the call that was recorded of it
   pub record Pair : Type 0 where
     pub made : FinishedCall
     pub call : Call
@@ -215,7 +215,7 @@ module _ (t : Tables) where
               (All-tail IsSound p ps sound) run.1,
         )
 
-    -- what was recorded keeps the order of the kernel's calls
+    -- the order of the kernel's calls keeps the real-time order of the record
     kept_pair : ((i j : ℕ) → i ≤ j → moment i ≤ moment j) → (p q : Pair) → IsSound p → IsSound q
         → NotAfter t p.made q.made → KeepsOrder p.call q.call
     kept_pair rises p q a b h before =
@@ -238,7 +238,7 @@ module _ (t : Tables) where
         (λ i j d lt le. kept_pair rises (get_or ps i d) (get_or ps j d) (sound i d (omega arith))
         (sound j d le) (pairs_back (NotAfter t) (λ (p : Pair). p.made) ps kept i j d lt le))
 
-    -- each of the kernel's calls with what was recorded of it
+    -- each of the kernel's calls, with the call that was recorded of it
     record Zipped (ds : List FinishedCall) (cs : List Call) : Type 0 where
       pub pairs : List Pair
       pub mades_are : mades pairs ≡ ds

@@ -1,4 +1,4 @@
--- A run of the sequential object is a run of the objects in their numbering.
+-- A legal sequential history of the kernel is one of the numbered objects.
 use Rattle.std.proofs.Common.{◌≡◌, ℕ, ◌+◌, ◌<◌, ◌≤◌, Bool, true, false, ◌==◌, cond, List, []}
 use Rattle.std.proofs.Common.{◌∷◌, length, Some, None, refl, ap, sym, ◌∙◌, arith, subst, nat_le}
 use Rattle.std.specs.List.{All}
@@ -19,7 +19,7 @@ use Rattle.calls_kernel.proofs.Steps.{set_same}
 use Rattle.calls_kernel.proofs.Known.{IsKnown}
 
 module _ (t : Tables) where
-  -- the numbers of the objects are those of the sequential object
+  -- the numbers of the objects are those of the sequential state
   pub record Agrees (s : SequentialState) (n : ℕ → ℕ → ℕ) : Type 0 where
     pub events : (e : ℕ) → e < length t.events → n e 0 ≡ s.events e
     pub sequencers : (q : ℕ) → q < length t.takers → n (length t.events + q) 0 ≡ s.sequencers q
@@ -29,7 +29,7 @@ module _ (t : Tables) where
   set_off : (k j : ℕ) (f : ℕ → ℕ) (n : ℕ → ℕ → ℕ) → (k ≡ j → ⊥) → set_at k f n j 0 ≡ n j 0
   set_off k j f n h = ap (λ b. cond b f (n j) 0) (ne_eqb k j h)
 
-  -- one number of the same part that is changed in both
+  -- the same number is changed in both
   set_both : (k i j m : ℕ) (f : ℕ → ℕ) (n : ℕ → ℕ → ℕ) (g : ℕ → ℕ) → f 0 ≡ m
       → n (k + j) 0 ≡ g j → set_at (k + i) f n (k + j) 0 ≡ update_at g i m j
   set_both k i j m f n g is same =

@@ -31,7 +31,7 @@ use Rattle.calls_kernel.specs.Laws.{LinearizableHistoriesAreRecords}
 use Rattle.calls_kernel.proofs.Fitting.{FitsCall, fitting, linearized_fit}
 use Rattle.calls_kernel.proofs.Played.{linearizations_are_accepted}
 
--- CALLS LAST
+-- RESPONSES AFTER INVOCATIONS
 
 abbrev Lasts : Call → Type 0
 Lasts c = c.first ≤ c.last
@@ -208,7 +208,7 @@ module _ (t : Tables) (moment : ℕ → ℕ) where
             (lt-leb j d.last (omega arith))),
       )
 
--- NO HAND IS AMONG THEM
+-- NO HAND IS AMONG THE CALLS
 
 module _ (t : Tables) where
   calls_alone : (ds : List FinishedCall) (cs : List Call) → AreMadeAs t ds cs

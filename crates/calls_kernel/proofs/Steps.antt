@@ -56,9 +56,9 @@ set_same w f v =
       | false ↦ λ e. refl
     ] refl
 
--- CALLS UNDER WAY
+-- PENDING CALLS
 
--- the call of w after its entry
+-- the pending call of w after its entry
 abbrev pub left : ℕ → Act → StepReply → List Entry → Option CallSoFar
 left w act reply past = cond (is_pending reply) (call_with_act act past (under_way w past)) None
 
@@ -87,7 +87,7 @@ left_moments : (b : Bool) (o : Option CallSoFar) → HasMoments o → HasMoments
 left_moments true o h = h
 left_moments false o h = tt
 
--- a call under way has an entry
+-- a pending call has an entry
 way_moments : (w : ℕ) (past : List Entry) → HasMoments (under_way w past)
 unfolding under_way
 way_moments w [] = tt
@@ -100,7 +100,7 @@ way_moments w (x ∷ past) =
       | false ↦ way_moments w past
     ]
 
--- an entry more leaves its first position
+-- one more entry leaves the first position as it is
 first_kept : (past : List Entry) (ms : List (List Entry)) → 0 < length ms
     → position_of (past ∷ ms) (length (past ∷ ms) - 1) ≡ position_of ms (length ms - 1)
 first_kept past [] h = absurd (omega arith)
@@ -114,7 +114,7 @@ free_is : (o : Option CallSoFar) (act : Act) → is_go act ≡ false
 free_is None act g h = refl
 free_is (Some call) act g h = (let no = ap (λ b. true && not b) g in cc)
 
--- WHAT IS KNOWN OF A HISTORY OF STEPS
+-- A HISTORY OF STEPS AND ITS EVENTS
 
 module _ (t : Tables) where
   -- the pending call of each worker

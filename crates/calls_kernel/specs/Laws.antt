@@ -1,4 +1,4 @@
--- What histories of steps and histories of calls have to do with each other.
+-- Theorems about histories of steps and histories of calls.
 use Rattle.std.specs.Prelude.{◌↔◌, List, reverse}
 use Rattle.ec_count.specs.Tables.{Tables, IsDeclared}
 use Rattle.ec_core.specs.declared.act.Entry.{Entry}

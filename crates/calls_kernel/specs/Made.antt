@@ -32,7 +32,7 @@ act_on t k _ = acts.Go
 abbrev pub act_of_call : Tables → Call → Act
 act_of_call t c = act_on t c.object c.op
 
--- WHAT IS ASKED OF CALLS
+-- CALLS WITHIN RIGHTS AND LIMIT
 
 -- the worker is declared and has the right to the call, the value or threshold is not too large,
 -- and the call did not give up
@@ -51,8 +51,8 @@ pub record KeepsLimit (t : Tables) (cs : List Call) : Type 0 where
 
 -- HOW THEY ARE MADE
 
--- what a call of this op returned, and the reply to its last entry. If an await returned no
--- number, the reply is a number that reaches its threshold
+-- the reply to a call of this op, and the reply to its last entry. If an await returned no number,
+-- the latter is a number that reaches its threshold
 abbrev pub IsReplyOf : Op → Reply → StepReply → Type 0
 IsReplyOf (Await v) Done (replies.Number n) = v ≤ n
 IsReplyOf op Done replies.Done = Unit {0}
@@ -70,7 +70,7 @@ AreMadeAs t [] [] = Unit {0}
 AreMadeAs t (d ∷ ds) (c ∷ cs) = IsMadeAs t d c × AreMadeAs t ds cs
 AreMadeAs t _ _ = ⊥
 
--- each begins right after the last entry of the one before it, from position i up to position n
+-- each call begins right after the last entry of the call before it, from position i to position n
 abbrev pub AreInARow : ℕ → List FinishedCall → ℕ → Type 0
 AreInARow i [] n = i ≡ n
 AreInARow i (d ∷ ds) n = (d.first ≡ i) × (d.first ≤ d.last) × AreInARow (d.last + 1) ds n

@@ -41,8 +41,7 @@ kinds_of t =
     map (λ (r : Rights). Eventcount 0) t.events
     ++ (map (λ (ws : List ℕ). Sequencer) t.takers ++ map (λ (a : Access). Cell) t.cells)
 
--- whether an act begins a call. A go goes on with one; a hand is no call, since it changes no
--- object
+-- whether an act begins a call. A go continues one; a hand is no call, since it changes no object
 abbrev pub is_call : Act → Bool
 is_call acts.Go = false
 is_call (acts.Hand e b) = false
@@ -63,7 +62,7 @@ outside_object t (acts.Put x v) = length t.events + length t.takers + x
 outside_object t (acts.Get x) = length t.events + length t.takers + x
 outside_object t _ = 0
 
--- what that call asks of it
+-- the operation of that call
 abbrev pub outside_op : Act → Op
 outside_op (acts.Advance e) = Advance
 outside_op (acts.Read e) = Read
@@ -73,7 +72,7 @@ outside_op (acts.Put x v) = Put v
 outside_op (acts.Get x) = Get
 outside_op _ = Read
 
--- what a call returns whose last entry has this reply
+-- the reply to a call whose last entry has this reply
 abbrev pub outside_reply : StepReply → Reply
 outside_reply (replies.Number n) = Number n
 outside_reply _ = Done
@@ -91,7 +90,7 @@ invocation_at t i x =
     } ∷ []
     else []
 
--- the response of the call that it ends: none if its reply is pending
+-- the response of the call that this entry ends: none if its reply is pending
 abbrev pub response_at : ℕ → Entry → List Event
 response_at i x =
     if is_pending x.reply then [] else (
@@ -122,11 +121,11 @@ outside_call t c = record {
   last = 2 * c.last + 1;
 }
 
--- completed calls, seen from outside, in the order in which they stand. The hands are left out
+-- completed calls, seen from outside, in the same order. The hands are left out
 abbrev pub outside_calls : Tables → List FinishedCall → List Call
 outside_calls t cs = map (outside_call t) (filter (λ (c : FinishedCall). is_call c.op) cs)
 
--- a call of w that is pending, seen from outside
+-- a pending call of w, seen from outside
 abbrev pub outside_pending : Tables → ℕ → CallSoFar → PendingCall
 outside_pending t w call = record {
   worker = w;
@@ -135,9 +134,9 @@ outside_pending t w call = record {
   first = 2 * position_of call.moments (length call.moments - 1);
 }
 
--- seen from outside, a history of steps is a history of calls. Its completed calls are the finished
--- ones, and its pending calls are those pending. The order by points is a linearization of it, in
--- which no pending call takes effect; so it is linearizable, as Herlihy and Wing define it
+-- seen from outside, a history of steps is a history of calls, with the same completed and pending
+-- calls. The order by points is a linearization of it, in which no pending call takes effect. So it
+-- is linearizable, as Herlihy and Wing define it
 pub record HasOutsideHistory (t : Tables) (h : List Entry) : Type 0 where
   pub history : IsHistory (kinds_of t) (reverse (events_of t h))
   pub completed : completed_calls (reverse (events_of t h))

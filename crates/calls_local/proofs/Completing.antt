@@ -76,7 +76,7 @@ module _ (t w : ℕ) (o : PendingCall) (r : Reply) (a : PendingCall → Option R
   Answered os = (unanswered more os ≡ without w (unanswered a os))
       × IsPermutation (answered_calls t more os) (completion t r o ∷ answered_calls t a os)
 
-  -- the rest, if the first of it is y
+  -- the same with one more pending call in front, which has no answer
   kept_answered : (y : PendingCall) (os : List PendingCall) (z : Option Reply) → a y ≡ z
       → more y ≡ a y → (y.worker == w) ≡ false → z ≡ None → Answered os → Answered (y ∷ os)
   kept_answered y os z e same other is h =
@@ -163,7 +163,7 @@ known_all m t (c ∷ cs) le h = ap (λ d. d ∷ map (known_at t) cs)
     (known_early t c (let lt : c.last < m = h.0.1 in omega arith)) ∙ ap (λ zs.
     c ∷ zs) (known_all m t cs le h.1)
 
--- at the end it is the same
+-- at the end of the history, a settled call is the call as it is known
 same_last : (m n : ℕ) → settled_last m m n ≡ min n m
 same_last m n = elim (cases_lt n m) [
   | inl lt ↦ early_last m m n lt ∙ omega arith

@@ -165,7 +165,7 @@ module _ (kinds : List Kind) (done : List Call) (pending : List PendingCall) (t 
   takes_none : (kind : Option Kind) (op : Op) → kind ≡ None → Takes kind op → ⊥
   takes_none kind op e h = subst (λ k. Takes k op) e h
 
-  -- of an index that no object has
+  -- the empty order, for an index that no object has
   pub placed_nothing : (k : ℕ) → AreCalls kinds done pending t → slice_get kinds k ≡ None
       → IsPlacedOrder (IsSequentialRun (start kinds k)) (calls_on k done) (pending_on k pending) t
       []

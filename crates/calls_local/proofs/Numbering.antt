@@ -11,7 +11,7 @@ use Rattle.calls_core.specs.Linearizations.{Gives, after, set_at, IsSequentialRu
 use Rattle.calls_local.specs.Databases.{ListCall, Write, Snapshot, IsListRun, AreNumbered}
 use Rattle.calls_local.specs.Databases.{AreDistinctNumbers, ListsGoByNumbers, DatabasesGoByNumbers}
 
--- the first call is possible, and so are the ones after it
+-- a call and the ones after it are a legal sequential history
 abbrev Goes : (ℕ → ℕ) → List Call → Op → Reply → Type 0
 Goes m cs op r = Gives m op r × IsSequentialRun (after m op r) cs
 

@@ -1,4 +1,4 @@
--- An order of the calls of all objects from one for each object, and the other way.
+-- An order of the calls of all objects from one for each object, and conversely.
 use Rattle.std.proofs.Common.{◌≡◌, ℕ, Bool, true, false, ◌==◌, cond, List, [], ◌∷◌, ◌++◌}
 use Rattle.std.proofs.Common.{Option, Some, None, refl, ap, sym, ◌∙◌, subst}
 use Rattle.std.specs.List.{filter}
@@ -21,7 +21,7 @@ use Rattle.calls_core.proofs.Filters.{permutation_by_parts}
 use Rattle.calls_core.proofs.Lists.{each_pair_map, all_pairs_from_each}
 use Rattle.calls_local.proofs.Merges.{rising_keeps, each_by_points, by_points_rise, by_points_part}
 
--- RUNS
+-- LEGAL SEQUENTIAL HISTORIES
 
 pub run_part : (k : ℕ) (s : ℕ → ℕ → ℕ) (cs : List Call) → IsRun s cs
     → IsSequentialRun (s k) (calls_on k cs)
@@ -68,7 +68,7 @@ one_part t k o (Some r) rest true e = filter_yes (λ (c : Call). c.object == k)
 one_part t k o (Some r) rest false e = filter_no (λ (c : Call). c.object == k)
     (completion t r o) rest e
 
--- those of object k, if the answers are given by objects
+-- the answered calls of object k, if f k has the answers of object k
 pub answered_part : (t : ℕ) (f : ℕ → PendingCall → Option Reply) (k : ℕ) (os : List PendingCall)
     → calls_on k (answered_calls t (λ o. f o.object o) os) ≡ answered_calls t (f k)
     (pending_on k os)
@@ -119,15 +119,14 @@ module _ (s : ℕ → ℕ → ℕ) (done : List Call) (pending : List PendingCal
         run = run_part k s cs l.run;
       }
 
-  -- the calls of object k of a list that is put in the order of points
+  -- the calls of object k in a list that is sorted by points
   pub points_part : (ps : List Placed) (k : ℕ) → IsPlacedOrder (IsSequentialRun (s k))
       (calls_on k done) (pending_on k pending) t (placed_on k ps)
       → calls_on k (calls_of (by_points ps)) ≡ calls_of (placed_on k ps)
   points_part ps k h = filter_map_of (λ (c : Call). c.object == k) (λ (p : Placed). p.call)
       (by_points ps) ∙ ap calls_of (by_points_part (λ (p : Placed). p.call.object == k) ps h.rises)
 
-  -- calls with points that are in order for each object are in order for all when they are put in
-  -- the order of their points
+  -- calls that are a placed order for each object are one for all objects, once sorted by points
   pub order_of_placed : (ps : List Placed) → ((k : ℕ) → IsPlacedOrder (IsSequentialRun (s k))
       (calls_on k done) (pending_on k pending) t (placed_on k ps))
       → IsPlacedOrder (IsRun s) done pending t (by_points ps)

@@ -28,7 +28,7 @@ use Rattle.calls_local.specs.Laws.{PartsAreLinearized, PartsMakeWhole, OrderHasP
 use Rattle.calls_local.specs.Laws.{OrderOnHasPoints, PlacedPartsMakeWhole, PointsKeepTheOrder}
 use Rattle.calls_local.proofs.Objects.{part_of_order, points_part, order_of_placed}
 
--- WHAT IS KNOWN OF THE POSITIONS
+-- POSITIONS
 
 -- no response has the position of an invocation
 pub record AreTimed (t : ℕ) (done : List Call) (pending : List PendingCall) : Type 0 where
@@ -138,8 +138,8 @@ each_moved Q xs ys moved h = each_from_all Q ys (All-permutation Q xs ys moved
 
 -- POINTS
 
--- each call is returned after the latest invocation up to it, if m is right after the latest one
--- before
+-- each call responds after the latest invocation of the calls up to it; m is right after the latest
+-- invocation of earlier calls
 abbrev pub Timely : ℕ → List Call → Type 0
 Timely m [] = Unit {0}
 Timely m (c ∷ cs) = (max m (c.first + 1) ≤ c.last) × Timely (max m (c.first + 1)) cs
@@ -194,7 +194,7 @@ points_rise n (c ∷ cs) = (
       cs,
 )
 
--- an order, whatever its run, with a point for each call
+-- an order, whatever Run requires, with a point for each call
 pub order_with_points : (Run : List Call → Type 0) (done : List Call) (pending : List PendingCall)
     (t : ℕ) (cs : List Call) → AreTimed t done pending → IsLinearOrder Run done pending t cs
     → IsPlacedOrder Run done pending t (placed_one 0 cs)
@@ -256,7 +256,7 @@ placed_parts_make_whole = λ kinds done pending t ps h. order_of_placed (start k
 
 -- MANY OBJECTS
 
--- the points of the calls of object k are those that they have alone
+-- the points of the calls of object k don't depend on other objects
 pub placed_part : (k : ℕ) (s : ℕ → ℕ) (cs : List Call) → placed_on k (with_points s cs) ≡ placed_one
     (s k) (calls_on k cs)
 placed_part k s [] = refl

@@ -1,4 +1,4 @@
--- What other numbers for values leave as it is.
+-- What new numbers for values leave unchanged.
 use Rattle.std.proofs.Common.{◌≡◌, ℕ, ◌+◌, ◌-◌, ◌<◌, ◌≤◌, Bool, true, false, ◌==◌, cond, List, []}
 use Rattle.std.proofs.Common.{◌∷◌, ◌++◌, map, Option, Some, None, refl, ap, sym, ◌∙◌, arith, subst}
 use Rattle.std.proofs.Common.{slice_get}
@@ -161,7 +161,7 @@ module _ (f : ℕ → ℕ → ℕ) where
     last = c.last;
   }
 
--- RUNS
+-- LEGAL SEQUENTIAL HISTORIES
 
 module _ (kinds : List Kind) (f : ℕ → ℕ → ℕ) where
   abbrev Fits : Call → Type 0
@@ -205,7 +205,7 @@ module _ (kinds : List Kind) (f : ℕ → ℕ → ℕ) where
             fits.1 (matched_next s u o c.op c.reply fits.0 m) h.1,
       )
 
-  -- its operation is a renamed one
+  -- the operation of d is a renamed one, of its object
   abbrev IsRenamed : Call → Type 0
   IsRenamed d = (op : Op) × (renamed_op (f d.object) op ≡ d.op)
       × Takes (slice_get kinds d.object) op
@@ -254,7 +254,7 @@ module _ (kinds : List Kind) (f : ℕ → ℕ → ℕ) where
       was.1 next h.1 in
       (c ∷ r.0, ap (λ z. z ∷ map (renamed_call f) r.0) same ∙ ap (λ zs. d ∷ zs) r.1, (b.2, r.2))
 
--- RENAMED ALIKE, THE SAME
+-- RENAMING IS ONE TO ONE
 
 same_op : (g : ℕ → ℕ) → ((u v : ℕ) → g u ≡ g v → u ≡ v) → (op other : Op)
     → renamed_op g op ≡ renamed_op g other → op ≡ other

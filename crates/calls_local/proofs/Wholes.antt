@@ -1,4 +1,4 @@
--- Linearizations of the whole from those of the parts, and the other way; and beginnings.
+-- Linearizations of the whole from those of the parts, and conversely; and of prefixes.
 use Rattle.std.proofs.Common.{◌≡◌, ℕ, zero, suc, ◌≤◌, ◌==◌, true, false, cond, List, [], ◌∷◌, ◌++◌}
 use Rattle.std.proofs.Common.{map, Option, Some, None, refl, ap, sym, ◌∙◌, arith, subst, slice_get}
 use Rattle.std.proofs.lemmas.Option.{same_Some, none-some}
@@ -152,7 +152,7 @@ linearizable_by_orders = λ kinds past h. (
       orders_make_whole kinds past h l,
 )
 
--- BEGINNINGS
+-- PREFIXES
 
 pub a_beginning_is_linearizable : ABeginningIsLinearizable
 a_beginning_is_linearizable = λ kinds late past h l.

@@ -1,4 +1,4 @@
--- Theorems on every history.
+-- Theorems about every history.
 use Rattle.std.specs.Prelude.{◌≡◌, ◌↔◌, ℕ, ◌≤◌, List, [], ◌∷◌, ◌++◌, map, Some, slice_get}
 use Rattle.std.specs.List.{AllPairs}
 use Rattle.calls_core.specs.declared.history.Kind.{Kind}
@@ -19,7 +19,7 @@ use Rattle.calls_core.specs.Outcomes.{HasOrderOf}
 use Rattle.calls_core.specs.Points.{placed_one, by_points, merge_calls, IsPlacedOrder, placed_on}
 use Rattle.calls_core.specs.Points.{Within, NoLater, calls_of}
 
--- the completed and pending calls of a history are as every history has them
+-- what holds of the completed and pending calls of every history
 abbrev pub HistoriesHaveCalls : Type 0
 HistoriesHaveCalls = (kinds : List Kind) (past : List Event) → IsHistory kinds past
     → AreCalls kinds (completed_calls past) (pending_calls past) (clock past)
@@ -33,14 +33,14 @@ APartIsAHistory = (kinds : List Kind) (k : ℕ) (past : List Event) → IsHistor
     × (clock (part k past) ≤ clock past)
     × ((kind : Kind) → slice_get kinds k ≡ Some kind → IsHistoryOf kind (part k past))
 
--- what a linearization has of one object is a linearization of that object's calls
+-- a linearization, restricted to one object, is a linearization of that object's calls
 abbrev pub PartsAreLinearized : Type 0
 PartsAreLinearized = (kinds : List Kind) (past : List Event) (cs : List Call)
     → IsAnsweredLinearization kinds past cs → (k : ℕ) → IsAnsweredLinearizationOn kinds k past
     (calls_on k cs)
 
--- a list that has of each object a linearization of that object's calls, merged by its points, is
--- one of all calls, in which each object keeps its order
+-- a list that is a linearization of each object's calls, if restricted to them, is one of all calls
+-- once it is merged by points; the calls of each object keep their order
 abbrev pub PartsMakeWhole : Type 0
 PartsMakeWhole = (kinds : List Kind) (past : List Event) (cs : List Call) → IsHistory kinds past
     → ((k : ℕ) → IsAnsweredLinearizationOn kinds k past (calls_on k cs))
@@ -53,7 +53,7 @@ ResponsesBecomeAnswers = (kinds : List Kind) (past : List Event) (cs : List Call
     → IsHistory kinds past → IsLinearization kinds past cs
     → IsAnsweredLinearization kinds past (map (known_at (clock past)) cs)
 
--- and each linearization by answers is one by later responses, as it is known at the end
+-- and a linearization by answers is one by later responses, which count as ones at the end
 abbrev pub AnswersBecomeResponses : Type 0
 AnswersBecomeResponses = (kinds : List Kind) (past : List Event) (cs : List Call)
     → IsHistory kinds past → IsAnsweredLinearization kinds past cs
@@ -65,32 +65,32 @@ abbrev pub Locality : Type 0
 Locality = (kinds : List Kind) (past : List Event) → IsHistory kinds past
     → IsLinearizable kinds past ↔ ((k : ℕ) → IsLinearizableOn kinds k past)
 
--- the same by answers: exactly when the part on each object has an order of its kind
+-- the same by answers: exactly when the part of each object has an order of its kind
 abbrev pub LinearizableByOrders : Type 0
 LinearizableByOrders = (kinds : List Kind) (past : List Event) → IsHistory kinds past
     → IsLinearizable kinds past ↔ ((k : ℕ) (kind : Kind) → slice_get kinds k ≡ Some kind
     → HasOrderOf kind (part k past))
 
--- the same of a history of one object
+-- the same for a history of one object
 abbrev pub OneObject : Type 0
 OneObject = (kind : Kind) (past : List Event) → IsHistory (kind ∷ []) past
     → IsLinearizable (kind ∷ []) past ↔ HasOrderOf kind past
 
--- a beginning of a linearizable history is linearizable
+-- a prefix of a linearizable history is linearizable
 abbrev pub ABeginningIsLinearizable : Type 0
 ABeginningIsLinearizable = (kinds : List Kind) (late past : List Event)
     → IsHistory kinds (late ++ past) → IsLinearizable kinds (late ++ past)
     → IsLinearizable kinds past
 
--- in an order of the calls of one object each call has a point of its own time, and the points
--- ascend
+-- in an order of the calls of one object each call has a point between its invocation and its
+-- response, and the points never fall
 abbrev pub OrderHasPoints : Type 0
 OrderHasPoints = (kind : Kind) (m : ℕ → ℕ) (done : List Call) (pending : List PendingCall) (t : ℕ)
     (cs : List Call) → AreCallsOf kind done pending t → IsLinearOrder (IsSequentialRun m) done
     pending t cs
     → IsPlacedOrder (IsSequentialRun m) done pending t (placed_one 0 cs)
 
--- the same of the calls of object k among those of many
+-- the same for the calls of object k among those of many
 abbrev pub OrderOnHasPoints : Type 0
 OrderOnHasPoints = (kinds : List Kind) (k : ℕ) (done : List Call) (pending : List PendingCall)
     (t : ℕ) (cs : List Call) → AreCalls kinds done pending t
@@ -98,14 +98,13 @@ OrderOnHasPoints = (kinds : List Kind) (k : ℕ) (done : List Call) (pending : L
     → IsPlacedOrder (IsSequentialRun (start kinds k)) (calls_on k done) (pending_on k pending) t
     (placed_one 0 cs)
 
--- and the converse: if each call has a point of its own time and the points ascend, the calls
--- stand in real-time order
+-- and the converse: if each call has a point between its invocation and its response, and the
+-- points never fall, the calls keep the real-time order
 abbrev pub PointsKeepTheOrder : Type 0
 PointsKeepTheOrder = (ps : List Placed) → Each Within ps → EachPair NoLater ps
     → AllPairs KeepsOrder (calls_of ps)
 
--- a list that has a placed order for each object, in the order of all points, is a placed order of
--- all calls
+-- a list that has a placed order for each object, sorted by points, is a placed order of all calls
 abbrev pub PlacedPartsMakeWhole : Type 0
 PlacedPartsMakeWhole = (kinds : List Kind) (done : List Call) (pending : List PendingCall) (t : ℕ)
     (ps : List Placed)

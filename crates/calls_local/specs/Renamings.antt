@@ -13,7 +13,7 @@ use Rattle.calls_core.specs.Histories.{pending_of, pending_calls, IsHistory}
 use Rattle.calls_core.specs.Completions.{IsLinearizable}
 
 -- f k v is the new number of the value v of object k: equal only for equal values, and 0 for the
--- value at first
+-- initial value
 pub record IsNaming (f : ℕ → ℕ → ℕ) : Type 0 where
   pub first : (k : ℕ) → f k 0 ≡ 0
   pub one_to_one : (k u v : ℕ) → f k u ≡ f k v → u ≡ v
@@ -26,7 +26,7 @@ abbrev pub renamed_reply : (ℕ → ℕ) → Op → Reply → Reply
 renamed_reply f Get (Number n) = Number (f n)
 renamed_reply f op r = r
 
--- where the worker has this pending call
+-- the action of an event whose worker has this pending call
 abbrev pub renamed_action : (ℕ → ℕ → ℕ) → Action → Option PendingCall → Action
 renamed_action f (Invoke k op) o = Invoke k (renamed_op (f k) op)
 renamed_action f (Respond r) None = Respond r

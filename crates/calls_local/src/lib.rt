@@ -1,5 +1,5 @@
-//! Histories of the calls of many objects, one object at a time: a history has a linearization
-//! exactly when the calls of each object have one.
+//! Locality: a history of the calls of many objects has a linearization exactly when the calls of
+//! each object have one.
 #![tactic(auto)]
 
 mod laws;

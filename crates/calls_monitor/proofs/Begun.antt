@@ -1,4 +1,4 @@
--- How many calls were begun: no more than the positions of their events allow.
+-- How many calls were invoked: no more than the positions of their events allow.
 use Rattle.std.proofs.Common.{◌≡◌, ℕ, ◌+◌, ◌-◌, ◌^◌, ◌<◌, ◌≤◌, Bool, true, false, ◌==◌, cond, arith}
 use Rattle.std.proofs.Common.{List, [], ◌∷◌, length, Option, Some, None, refl}
 use Rattle.std.proofs.lemmas.List.{length-append}
@@ -17,7 +17,7 @@ use Rattle.calls_counts.specs.Faults.{is_advance, invokes_advance, advances_invo
 use Rattle.calls_monitor.specs.kept.Watching.{call_count}
 use Rattle.calls_tickets.proofs.Histories.{without_long as without_length}
 
--- how many calls an event begins
+-- how many calls an event invokes
 abbrev pub one : Action → ℕ
 one (Invoke k op) = 1
 one (Respond r) = 0
@@ -80,7 +80,7 @@ invokes_one : (a : Action) → cond (invokes_advance a) 1 0 ≤ one a
 invokes_one (Invoke k op) = advance_one (is_advance op)
 invokes_one (Respond r) = omega arith
 
--- no more advances were invoked
+-- no more advances than calls were invoked
 pub advances_few : (kind : Kind) (past : List Event) → IsHistoryOf kind past
     → advances_invoked past ≤ call_count past
 advances_few kind [] h = omega arith

@@ -1,4 +1,4 @@
--- What is kept of one object, kind by kind.
+-- The monitor of one object, kind by kind.
 use Rattle.std.proofs.Common.{◌≡◌, ℕ, ◌+◌, ◌-◌, ◌^◌, ◌≤◌, arith, List, [], ◌∷◌, length}
 use Rattle.std.proofs.Common.{None, Result, Ok, Err, MatchResult, IsErrAnd, ap, sym, ◌∙◌, subst}
 use Rattle.std.proofs.lemmas.List.{length-map}
@@ -179,7 +179,7 @@ units_taken x past old new u judges grows (Semaphores units) h w few = (
 units_taken x past old new u judges grows Cell h w few = absurd w
 units_taken x past old new u judges grows (Database n) h w few = absurd w
 
--- it explains what it refuses
+-- the monitor of semaphores explains what it rejects
 units_explained : (x : Event) (past : List Event) (old new : UnitMonitor) (f : Fault)
     → UnitJudges old new x (Err f) → (kind : Kind) → IsHistoryOf kind (x ∷ past)
     → WatchesOf kind past (Units old) → call_count past ≤ 2 ^ 64 - 2

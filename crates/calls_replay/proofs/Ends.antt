@@ -26,7 +26,7 @@ use Rattle.calls_replay.specs.Replays.{Begins, ReplaysText, Replays}
 use Rattle.calls_replay.specs.kept.Ends.{WritesSteps, WritesOrder, FindsNone, IsHindered}
 use Rattle.calls_replay.specs.kept.Ends.{ReplaysRead, ReplaysWhole}
 
--- what was not written to
+-- an output to which nothing was written
 pub stays : (a : Option (List ℕ)) → Keeps a a
 stays None = tt
 stays (Some xs) = refl

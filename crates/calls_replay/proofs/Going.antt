@@ -16,7 +16,7 @@ use Rattle.calls_kernel.specs.Outside.{is_call}
 use Rattle.calls_replay.specs.kept.Going.{IsFree, IsGoing, HasGone, Goes}
 use Rattle.ec_core.proofs.shared.Stepping.{entry}
 
--- the call of w after its entry
+-- the pending call of w after its entry
 abbrev left : ℕ → Act → Reply → List Entry → Option CallSoFar
 left w act reply past = cond (is_pending reply) (call_with_act act past (under_way w past)) None
 
@@ -39,7 +39,7 @@ way_other v w act reply past other =
     ∙ ap (λ b. cond b (left v act reply past) (under_way v past))
     (ne_eqb w v (λ e. other (sym e)))
 
--- the act that begins a call begins one whatever was under way
+-- the act that begins a call begins one, whatever call was pending
 begins : (act : Act) (past : List Entry) (o : Option CallSoFar) → is_call act ≡ true
     → call_with_act act past o ≡ Some (record { op = act; moments = past ∷ [] })
 begins (acts.Advance e) past o c = refl
@@ -115,7 +115,7 @@ module _ (t : Tables) where
 
   -- THE OTHERS
 
-  -- an entry more leaves the first position
+  -- one more entry does not change the first position
   first_kept : (late : List Entry) (ms : List (List Entry)) → 0 < length ms
       → position_of (late ∷ ms) (length (late ∷ ms) - 1) ≡ position_of ms (length ms - 1)
   first_kept late [] h = absurd (omega arith)

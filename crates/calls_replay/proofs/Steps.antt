@@ -24,7 +24,7 @@ begun t es late w act reply is c free =
     (sym (ap reverse is ∙ newest es (entry w act reply)))
     (first_step t (reverse es) w act reply c free)
 
--- one more
+-- one more step
 pub gone_on : (t : Tables) (es now late : List Entry) (w : ℕ) (act : Act) (before reply : Reply)
     → late ≡ now ++ entry w acts.Go reply ∷ [] → before ≡ replies.Pending
     → Goes t (reverse es) w act (reverse now) before

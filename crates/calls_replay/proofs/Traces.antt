@@ -62,7 +62,7 @@ trace_of_order r order run keeps same accepted made =
       spells = refl;
     }
 
--- the writing of the trace of a run, under a heading
+-- the writing of the trace of a run, with a header
 module _ (r : RecordingModel) (order : List Placed) (run : runs.RunModel) (h : HeadingModel) (is : h ≡ r.heading)
     (keeps : KeepsRules r) (same : run.setup ≡ h.setup)
     (accepted : IsAccepted run.setup (reverse run.entries))

@@ -29,13 +29,13 @@ pub record IsPlain (r : RecordingModel) (rest : List ℕ) : Type 0 where
   pub zeros : HasZeros r
   pub plain : first_of_group r ≡ None
 
--- the first eventcount that has a count at the beginning
+-- the first eventcount whose initial count is not 0
 pub record IsFirstBegun (r : RecordingModel) (e : ℕ) : Type 0 where
   pub declared : e < length r.heading.setup.events
   pub begun : start_count r.from e ≡ 0 → ⊥
   pub first : (f : ℕ) → f < e → start_count r.from f ≡ 0
 
--- why it is not so: the first of these that holds
+-- why a history has no trace: the first of these that holds
 abbrev pub IsObstacle : RecordingModel → ℕ → List ℕ → Obstacle → Type 0
 IsObstacle r n rest (Second line) = (rest ≡ [] → ⊥) × (line ≡ n)
 IsObstacle r n rest (Begun e) = (rest ≡ []) × IsFirstBegun r e
@@ -43,7 +43,7 @@ IsObstacle r n rest (OfGroup i) = (rest ≡ []) × HasZeros r × (first_of_group
 
 -- THE NOTE
 
--- the number of the line of the event at a position; it does not go past the greatest of 64 bits
+-- the number of the line of the event at a position, at most 2 ^ 64 - 1
 abbrev pub line_of : RecordingModel → ℕ → ℕ → ℕ
 line_of r n i = min (n - 1 - length r.events + i) (2 ^ 64 - 1)
 

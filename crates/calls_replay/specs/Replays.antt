@@ -32,7 +32,7 @@ abbrev pub is_invocation : Action → Bool
 is_invocation (Invoke k op) = true
 is_invocation (Respond reply) = false
 
--- how many calls of a history are not made: they gave up, or are pending and took no effect
+-- how many calls of a history are not made: they timed out, or are pending and took no effect
 abbrev pub left_out : RecordingModel → List Placed → ℕ
 left_out r order =
     count_by (λ (e : events.Event). is_invocation e.action) r.events
@@ -51,9 +51,9 @@ differs_note n =
 
 -- THE TRACE OF AN ORDER
 
--- the trace of an accepted history of steps under the heading of r: its completed calls are the
--- calls of the order that are made, in this order, each with its steps next to each other, and there
--- is no other step
+-- the trace of an accepted history of steps, with the header of r. Its completed calls are the
+-- calls of the order that are made, in this order, each with its steps next to each other, and
+-- there is no other step
 pub record IsTraceOfOrder (r : RecordingModel) (order : List Placed) (text : List ℕ) : Type 0 where
   pub outline : HeaderTree
   pub is : IsHeaderTree outline
@@ -87,11 +87,11 @@ SaysDiffers text old new =
     (read : OneRead) × (order : List Placed) × (index : ℕ) × Begins text read
     × HasOrder read.recorded order × Puts old.notes new.notes (differs_note index)
 
--- a text within the bound. Its only history is linearizable, and the trace was written; a note says
--- how many calls leave no step. Or nothing was written, and a note says why: the text is no history,
--- its history is not linearizable or not decided, as `check` says it; the history has no trace; a
--- call was not made as it was recorded; or memory ran out. Or a write failed, and a beginning was
--- written
+-- how the command ended, for a text within the bound. Done: its only history is linearizable, and
+-- the trace was written; a note says how many calls leave no step. InputOutput: a write failed
+-- after a prefix of the trace. Otherwise nothing was written, and a note says why: the text is not
+-- a history, its history is not linearizable or not decided, as `check` says it; the history has no
+-- trace; a call was not made as it was recorded; or memory ran out
 abbrev pub ReplaysText : Status → List ℕ → Outlets → Outlets → Type 0
 ReplaysText Done text old new =
     (read : OneRead) × (order : List Placed) × (trace : List ℕ)
@@ -121,8 +121,8 @@ Replays bytes left status old new =
 
 -- THE TRACE IS ACCEPTED
 
--- the trace of an order, if it is within the bound of a trace, is read again as its heading and its
--- steps: so `evc check` accepts it
+-- the trace of an order, if it is within the bound of a trace, is read as its header and its steps:
+-- so `evc check` accepts it
 abbrev pub TracesOfOrdersAreRead : Type 0
 TracesOfOrdersAreRead = (text : List ℕ) (read : OneRead) (order : List Placed) (trace : List ℕ)
     → (x : IsReplayed text read order trace) → length trace ≤ TRACE_MAX

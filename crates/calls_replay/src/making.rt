@@ -22,7 +22,8 @@ const ROUND: usize = 16;
 /// Why calls were not made.
 #[derive(Clone, Copy, Debug, PartialEq, Eq)]
 pub enum Stop {
-    /// The kernel refuses the call at this index, or returns otherwise.
+    /// The kernel has no such call as that at this index of the order, refuses it, or returns
+    /// another reply.
     Differs(usize),
     /// An allocation failed.
     Memory,
@@ -54,7 +55,7 @@ fn opening_act(heading: &Heading, call: &Call) -> Option<Act>
     }
 }
 
-/// Returns whether this is a number that reaches a threshold.
+/// Returns whether the reply is a number that reaches a threshold.
 fn is_at_least(given: Reply, threshold: usize) -> bool
     ensures { IsTrue result → IsReplyOf (Op.Await threshold) answers.Done given }
 {
@@ -64,7 +65,7 @@ fn is_at_least(given: Reply, threshold: usize) -> bool
     }
 }
 
-/// Returns whether this is the number.
+/// Returns whether the reply is this number.
 fn is_number(given: Reply, n: usize) -> bool
     ensures { IsTrue result → given ≡ Reply.Number n }
 {
@@ -74,7 +75,7 @@ fn is_number(given: Reply, n: usize) -> bool
     }
 }
 
-/// Returns whether this is no number.
+/// Returns whether the reply is `Done`.
 fn is_done(given: Reply) -> bool
     ensures { IsTrue result → given ≡ Reply.Done }
 {
@@ -84,7 +85,7 @@ fn is_done(given: Reply) -> bool
     }
 }
 
-/// Returns whether a call of this op that returned nothing has the reply as that of its last step.
+/// Returns whether the reply of the last step suits a call that returned `done`.
 fn is_done_by(op: Op, given: Reply) -> bool
     ensures { IsTrue result → IsReplyOf op answers.Done given }
 {
@@ -94,7 +95,7 @@ fn is_done_by(op: Op, given: Reply) -> bool
     }
 }
 
-/// Returns whether a call of this op that returned this has the reply as that of its last step.
+/// Returns whether the reply of the last step, `given`, suits a call that returned `reply`.
 fn is_reply_of(op: Op, reply: calls_core::Reply, given: Reply) -> bool
     ensures { IsTrue result → IsReplyOf op reply given }
 {
@@ -105,7 +106,7 @@ fn is_reply_of(op: Op, reply: calls_core::Reply, given: Reply) -> bool
     }
 }
 
-/// Makes a step of the call at an index.
+/// Makes a step of the call at this index of the order.
 fn step(run: &mut Run, worker: WorkerId, act: Act, index: usize) -> Result<Reply, Stop>
     ensures { IfOk result (λ reply. run.new ≡ record run.old {
       entries = run.old.entries
@@ -119,7 +120,7 @@ fn step(run: &mut Run, worker: WorkerId, act: Act, index: usize) -> Result<Reply
     }
 }
 
-/// Makes all steps of a call, and returns the reply to the last. It is pending if the call waits.
+/// Makes all steps of a call, and returns the reply of the last. It is pending if the call waits.
 fn make(run: &mut Run, worker: WorkerId, act: Act, index: usize) -> Result<Reply, Stop>
     ensures setup { IfOk result (λ reply. run.new.setup ≡ run.old.setup) }
     ensures goes { IfOk result (λ reply. is_call act ≡ true → IsFree (reverse run.old.entries)
@@ -135,7 +136,7 @@ fn make(run: &mut Run, worker: WorkerId, act: Act, index: usize) -> Result<Reply
     Ok(reply)
 }
 
-/// Makes a call, which has to return what it returned.
+/// Makes a call, which must return what was recorded.
 fn make_call(run: &mut Run, heading: &Heading, call: &Call, index: usize) -> Result<(), Stop>
     requires { run.old.setup ≡ heading.now.setup }
     ensures setup { OnOk result (run.new.setup ≡ run.old.setup) }
@@ -157,8 +158,9 @@ fn make_call(run: &mut Run, heading: &Heading, call: &Call, index: usize) -> Res
     }
 }
 
-/// Returns whether a call is made: it did not give up, and is no ticket past the limit, which only a
-/// pending call can be.
+/// Returns whether a call is made: it did not time out, and is not a ticket past the limit.
+///
+/// Only a pending ticket can be past the limit.
 pub(crate) fn is_made(limit: u64, call: &Call) -> bool
     ensures { result ≡ is_made limit call.now }
 {
@@ -191,8 +193,10 @@ fn make_next(
     Ok(())
 }
 
-/// Makes the calls of a linearization on the declarations of a heading, one after another, but for
-/// those that timed out, and for pending tickets past the limit.
+/// Makes the calls of a linearization on a kernel, one after another.
+///
+/// The kernel has the declarations of the header. Calls that timed out, and pending tickets past
+/// the limit, are left out.
 pub fn replay(alloc: Global, heading: &Heading, order: &[Placed]) -> Result<Run, Stop>
     ensures setup { IfOk result (λ run. run.setup ≡ heading.now.setup) }
     ensures made { IfOk result (λ run. AreMadeIn heading.now.setup

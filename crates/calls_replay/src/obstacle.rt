@@ -15,7 +15,7 @@ use std::io::Write;
 /// Why a history has no trace of steps.
 #[derive(Clone, Copy, Debug, PartialEq, Eq)]
 pub enum Obstacle {
-    /// An eventcount has a count at the beginning, which no step made.
+    /// The initial count of an eventcount is not 0, and no step made it.
     Begun(EventId),
     /// The event at this position is on a semaphore or a database.
     OfGroup(usize),
@@ -23,7 +23,7 @@ pub enum Obstacle {
     Second(u64),
 }
 
-/// Returns the first eventcount that has a count at the beginning.
+/// Returns the first eventcount whose initial count is not 0.
 fn first_begun(recording: &Recording) -> Option<EventId>
     ensures some { IfSome result (λ e. IsFirstBegun recording.now e) }
     ensures none { IfNone result (HasZeros recording.now) }
@@ -79,7 +79,7 @@ fn line_of(read: &Read<'_>, position: usize) -> u64
     first.saturating_add(position as u64)
 }
 
-/// Puts that an eventcount has a count at the beginning.
+/// Puts that the initial count of an eventcount is not 0.
 fn put_begun<N: Write>(notes: &mut Output<'_, N>, name: &[u8])
     ensures { Puts notes.old notes.new (codes "no trace: the count of " ++ name.now
         ++ codes " is not 0 at the beginning\n") }
@@ -89,7 +89,7 @@ fn put_begun<N: Write>(notes: &mut Output<'_, N>, name: &[u8])
     notes.put(b" is not 0 at the beginning\n");
 }
 
-/// Puts what stands in the way in a line.
+/// Puts the number of a line, and why there is no trace.
 fn put_at_line<N: Write>(notes: &mut Output<'_, N>, line: u64, words: &[u8])
     ensures { Puts notes.old notes.new (codes "line " ++ decimal line ++ words.now) }
 {
@@ -120,7 +120,7 @@ fn put_obstacle<N: Write>(notes: &mut Output<'_, N>, read: &Read<'_>, obstacle: 
     }
 }
 
-/// Says why a history has no trace of steps.
+/// Reports why a history has no trace of steps.
 pub(crate) fn report_obstacle<N: Write>(
     notes: &mut Output<'_, N>,
     read: &Read<'_>,

@@ -1,4 +1,4 @@
-//! `trace`: a history of calls in, a trace of steps out.
+//! `trace`: reads a history of calls, and writes a trace of steps.
 ghost use Rattle.std.specs.Prelude.{◌≡◌, ◌≤◌, length, count_by, IfSome};
 ghost use Rattle.ec_text.specs.Puts.{Puts, IsWrittenOut};
 ghost use Rattle.calls_text.specs.Rules.{KeepsRules};
@@ -53,7 +53,7 @@ fn left_out(read: &OneRead<'_>, order: &[Placed]) -> usize
     invoked.saturating_sub(count_made(limit, order))
 }
 
-/// Says that calls leave no step.
+/// Reports how many calls leave no step, if there are any.
 fn report_left_out<N: Write>(notes: &mut Output<'_, N>, count: usize)
     ensures puts { Puts notes.old notes.new (left_note count) }
     ensures written { IsWrittenOut notes.old → IsWrittenOut notes.new }
@@ -69,7 +69,7 @@ fn report_left_out<N: Write>(notes: &mut Output<'_, N>, count: usize)
     notes.say(b" calls leave no step: they timed out, or are pending and took no effect\n");
 }
 
-/// Says that the kernel makes a call otherwise.
+/// Reports that the kernel does not make a call as it was recorded.
 fn report_difference<N: Write>(notes: &mut Output<'_, N>, index: usize)
     ensures puts { Puts notes.old notes.new (differs_note index) }
     ensures written { IsWrittenOut notes.new }
@@ -161,7 +161,7 @@ fn replay_text<W: Write, N: Write>(
     }
 }
 
-/// Writes the trace of a text that was read whole, or more of it than a text may have.
+/// Writes the trace of a text that may be too large.
 fn replay_whole<W: Write, N: Write>(
     alloc: Global,
     text: &[u8],
@@ -180,11 +180,12 @@ fn replay_whole<W: Write, N: Write>(
     replay_text(alloc, text, out, notes)
 }
 
-/// Reads a history of calls, and writes a trace of steps with the calls of a linearization, one
-/// after another; notes say what is wrong, and how many calls leave no step.
+/// Reads a history of calls, and writes a trace of steps with the calls of a linearization.
 ///
-/// A text of more than 67108864 bytes is too large, whatever is in it. The trace may have more bytes
-/// than that, and then `evc check` takes it for too large.
+/// The calls come one after another. Notes say what is wrong, and how many calls leave no step.
+///
+/// A text of more than 67108864 bytes is too large, whatever is in it. The trace may have more
+/// bytes than that, and then `evc check` reports that it is too large.
 pub fn replay_calls<R: Read, W: Write, N: Write>(
     alloc: Global,
     reader: &mut R,

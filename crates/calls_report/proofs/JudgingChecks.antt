@@ -9,7 +9,7 @@ use Rattle.calls_report.specs.declared.status.Status.TheVariants.{Done, Refused,
 use Rattle.calls_report.specs.declared.status.Status.TheVariants.{InputOutput, Memory, NotDecided}
 use Rattle.calls_report.specs.Checks.{Outlets, ChecksText, ChecksWhole, IsTooLarge, Checks}
 
--- a text that is within its bound is all that there is
+-- if what was read is within the bound, it is the whole text
 pub all_of_it : (max : ℕ) (bytes : List ℕ) → length (looked_at max bytes) ≤ max
     → looked_at max bytes ≡ bytes
 all_of_it max bytes short =

@@ -1,4 +1,4 @@
--- How histories are judged in turn.
+-- How histories are judged, one after another.
 use Rattle.std.proofs.Common.{◌≡◌, ◌<◌, ◌≤◌, inl, inr, ℕ, ◌+◌, List, [], ◌∷◌, ◌++◌, Result, Ok, Err}
 use Rattle.std.proofs.Common.{Bool, true, false, cond, eqb, if◌then◌else◌, refl, ap, sym, ◌∙◌, subst, arith}
 use Rattle.std.proofs.Common.{codes}
@@ -82,7 +82,7 @@ either_way : (b : Bool) (n m : ℕ) → (if b then n else n + 1) ≤ m → n ≤
 either_way true n m most = most
 either_way false n m most = omega arith
 
--- a history ends behind where it begins, unless it is over there
+-- a history ends on a later line than it begins, unless it has ended there
 goes_on : (b : Bool) (ps : List (List ℕ)) (n : ℕ) (s : Stage) (o : OneRead) → is_ended s ≡ b
     → goes n s ps ≡ Ok o → (if b then n else n + 1) ≤ o.number
 goes_on true ps n s o over is = at_end n s ps o over is
@@ -137,7 +137,7 @@ by_bytes : (rest : List ℕ) → 0 < length rest → lines_of_text rest ≡ [] �
 by_bytes [] some none = omega (arith, some)
 by_bytes (b ∷ bytes) some none = more_parts b bytes none
 
--- where bytes are left after a history
+-- if bytes are left after a history, the text does not end there
 pub no_end : (n : ℕ) (rest : List ℕ) → (1 < n → 0 < length rest) → IsNoEnd n (lines_of_text rest)
 no_end n rest left = λ past none. by_bytes rest (left past) none
 

@@ -50,7 +50,7 @@ no_list [] k none = refl
 no_list (l ∷ lists) zero none = cc
 no_list (l ∷ lists) (suc k) none = no_list lists k none
 
--- a list that is not kept has zeros
+-- a list that is not stored has zeros
 pub no_number : (lists : List (List ℕ)) (cells n m i : ℕ) → n ≡ m → (n ≡ 0 → ⊥)
     → None ≡ slice_get lists (n - 1) → 0 ≡ get_or (numbers_of_list lists cells m) i 0
 no_number lists cells n m i is some none =
@@ -61,7 +61,7 @@ no_number lists cells n m i is some none =
 
 -- CELLS
 
--- the line of the cell at a place of a block, if there is one
+-- the line of the cell at an index of a block, if there is one
 abbrev line_at : RecordingModel → List Placed → List ℕ → ℕ → ℕ → List ℕ
 line_at r order word first i =
     if nat_lt (first + i) 256 then cell_line word i (cell_total r order (first + i)) else []

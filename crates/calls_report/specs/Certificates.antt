@@ -1,4 +1,4 @@
--- What shows a fault, by counting over the events up to it.
+-- The certificate of a fault, by counting over the events up to it.
 use Rattle.std.specs.Prelude.{◌≡◌, ℕ, ◌+◌, nat_lt, count_by, List, reverse, take, slice_get}
 use Rattle.std.specs.Prelude.{Bool, true, false, if◌then◌else◌}
 use Rattle.std.specs.Option.{option_map_or}
@@ -43,7 +43,7 @@ tickets_for k n m events =
     count_by (is_counted (Tickets k n)) (completed_calls (reverse events))
     + count_by (is_counted_pending k m) (pending_calls (reverse events))
 
--- the count of the eventcount k at the beginning
+-- the initial count of the eventcount k
 abbrev pub start_at : RecordingModel → ℕ → ℕ
 start_at r k = if nat_lt k 32 then start_count r.from k else 0
 
@@ -51,8 +51,8 @@ abbrev pub is_timeout : Reply → Bool
 is_timeout Timeout = true
 is_timeout _ = false
 
--- what shows a fault of the eventcount k. An earlier await that gave up says nothing of a least
--- count, so the advances alone show it
+-- the certificate of a fault of the eventcount k. An earlier await that gave up shows no least
+-- count, so only the advances show the fault
 abbrev pub count_certificate : RecordingModel → ℕ → List Event → counts.Fault → Certificate
 count_certificate r k events (count.Below c) = shows.Below c
 count_certificate r k events (count.Few c) =
@@ -63,18 +63,18 @@ count_certificate r k events (count.Since c s) =
     if is_timeout s.reply then shows.Many c (advances_between k 0 c.first events) (start_at r k)
     else shows.Since c s (advances_between k s.last c.first events)
 
--- what shows a fault of the sequencer k
+-- the certificate of a fault of the sequencer k
 abbrev pub ticket_certificate : ℕ → List Event → tickets.Fault → Certificate
 ticket_certificate k events (ticket.Twice a b) = shows.Twice a b
 ticket_certificate k events (ticket.Turned a b) = shows.Turned a b
 ticket_certificate k events (ticket.Drawn c) = shows.Drawn c
     (tickets_for k (number c) c.last events)
 
--- the units of the semaphore at a place at first
+-- the initial units of the semaphore at an index among the groups
 abbrev pub units_of : HeadingModel → ℕ → ℕ
 units_of h i = option_map_or initial_of (slice_get h.groups i) 0
 
--- what shows a fault of a semaphore
+-- the certificate of a fault of a semaphore
 abbrev pub unit_certificate : HeadingModel → List Event → units.Fault → Certificate
 unit_certificate h events f = shows.Units
     f.index
@@ -82,7 +82,7 @@ unit_certificate h events f = shows.Units
     (units_of h f.index)
     (count_by (is_up_of f.index) events)
 
--- what shows a fault of a cell or a database
+-- the certificate of a fault of a cell or a database
 abbrev pub distinct_certificate : distincts.Fault → Certificate
 distinct_certificate (distinct.Nowhere c) = shows.Nowhere c
 distinct_certificate (distinct.Stale c d) = shows.Stale c d
@@ -99,7 +99,7 @@ ShowsFault r k events (faults.Ticket f) shown = shown ≡ ticket_certificate k e
 ShowsFault r k events (faults.Units f) shown = shown ≡ unit_certificate r.heading events f
 ShowsFault r k events (faults.Value f) shown = IsValueCertificate f shown
 
--- this is what the calls of the object show, up to the first faulty event
+-- the certificate of a refusal: what the calls of the object show, up to the first faulty event
 abbrev pub IsCertificate : RecordingModel → Refusal → Certificate → Type 0
 IsCertificate r refusal shown =
     ShowsFault r refusal.object (events_upto refusal.at r.events) refusal.fault shown

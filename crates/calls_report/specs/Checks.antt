@@ -1,4 +1,4 @@
--- What `check` answered and wrote, for an input whose bytes are known.
+-- What `check` returned and wrote, for an input whose bytes are known.
 use Rattle.std.specs.Prelude.{◌≡◌, ◌⊎◌, ℕ, ◌<◌, ◌≤◌, List, [], ◌∷◌, ◌++◌, length, reverse, Option}
 use Rattle.std.specs.Prelude.{Ok, codes}
 use Rattle.std.specs.List.{flat_map}
@@ -30,13 +30,14 @@ use Rattle.calls_report.specs.Remarks.{remarks_text}
 
 -- ONE HISTORY
 
--- the text of a history and an order of its calls
+-- the output for a history, with an order of its calls and the totals
 abbrev pub history_text : RecordingModel → List Placed → List ℕ
 history_text r order =
     codes "evc-order 1\n" ++ order_lines r.heading r.lists (length r.events) order
     ++ codes "totals\n" ++ totals_text r order ++ codes "end\n"
 
--- the calls of the history in a linear order, each with a point of its own time
+-- the order is a linearization of the history: each call has a point between its invocation and its
+-- response
 abbrev pub HasOrder : RecordingModel → List Placed → Type 0
 HasOrder r order =
     (ks : List Kind) × IsRecording r ks
@@ -53,15 +54,15 @@ IsRefused r x =
 abbrev pub IsOpen : RecordingModel → Undecided → Type 0
 IsOpen r u = (ks : List Kind) × IsRecording r ks × IsNotDecided ks (reverse r.events) u
 
--- HISTORIES IN TURN
+-- HISTORIES, ONE AFTER ANOTHER
 
--- a history that was read, and an order of its calls
+-- a history that was read, and a linearization of it
 pub record JudgedHistory : Type 0 where
   pub read : OneRead
   pub order : List Placed
 
--- from line n on, if the lines are these, the text has these histories, each linearizable, and
--- then come these lines, from line m on
+-- ps are the lines of the text from line n on: first these histories, each linearizable, and then
+-- the lines qs, from line m on
 abbrev pub AreJudged : ℕ → List (List ℕ) → List JudgedHistory → ℕ → List (List ℕ) → Type 0
 AreJudged n ps [] m qs = (n ≡ m) × (ps ≡ qs)
 AreJudged n ps (j ∷ js) m qs =
@@ -78,7 +79,7 @@ remarks_on js = flat_map (λ (j : JudgedHistory). remarks_text j.read.number j.r
 
 -- WHAT STOPS THE CHECK
 
--- the lines from line m on are no history, and this note says why
+-- the lines from line m on are not a history, and this note says why
 abbrev pub IsUnread : ℕ → List (List ℕ) → List ℕ → Type 0
 IsUnread m qs note =
     (n : ℕ) × (kind : kinds.Kind) × (line : List ℕ) × (goes m Opening qs ≡ fault_in n kind line)
@@ -106,8 +107,9 @@ SaysOpen m qs old new =
     × IsOpen read.recorded u
     × Puts old new (undecided_note (scene_of read.number read.recorded u.object 0) u.cause)
 
--- the end of the text, after a history at least; or it is no text of histories, or a history has no
--- linearization, and a note says why; or a history is not decided; or memory ran out
+-- the status after these histories, at the lines from line m on. Done: the text ends, after at
+-- least one history; Refused: it is not a text of histories, or a history has no linearization, and
+-- a note says why; NotDecided: a history is not decided; Memory: memory ran out
 abbrev pub Ends : Status → ℕ → List (List ℕ) → OutputModel → OutputModel → Type 0
 Ends Done m qs old new = (1 < m) × (qs ≡ [] ∷ []) × (new ≡ old)
 Ends Refused m qs old new = SaysUnread m qs old new ⊎ SaysRefused m qs old new
@@ -116,8 +118,9 @@ Ends Memory m qs old new = Puts old new (codes "no memory\n")
 Ends Usage m qs old new = ⊥
 Ends InputOutput m qs old new = ⊥
 
--- the text was judged so: its first histories are linearizable, and then this came. The notes have
--- the remarks on these histories, in turn, and then the note that says why there are no more
+-- the text was judged so: its first histories are linearizable, and then it ended with this status.
+-- The notes have the remarks on these histories, in order, and then the note that says why there
+-- are no more
 pub record IsJudged (status : Status) (text : List ℕ) (judged : List JudgedHistory) (old new : OutputModel)
     : Type 0 where
   pub number : ℕ
@@ -129,13 +132,13 @@ pub record IsJudged (status : Status) (text : List ℕ) (judged : List JudgedHis
 
 -- ALL OF IT
 
--- where the texts and the notes go
+-- the bytes of the output, and the notes
 pub record Outlets : Type 0 where
   pub out : Option (List ℕ)
   pub notes : OutputModel
 
--- a text within the bound: the texts of the histories that were judged were written; or a write
--- failed, and so far only a beginning of them
+-- a text within the bound: the linearizations of the histories that were judged were written, or a
+-- write failed after a prefix of them
 abbrev pub ChecksText : Status → List ℕ → Outlets → Outlets → Type 0
 ChecksText InputOutput text old new =
     (status : Status) × (judged : List JudgedHistory) × (notes : OutputModel)

@@ -18,7 +18,7 @@ use Rattle.calls_report.specs.Refusals.{SiteModel, line_of, is_cell, certificate
 
 -- FAULTS OF TEXTS
 
--- what a kind of fault says
+-- the text for a kind of fault
 abbrev pub kind_text : Kind → List ℕ
 kind_text kinds.BadHeader = codes "evc-calls 1 is expected"
 kind_text kinds.BadLine = codes "no line of this form may stand here"
@@ -37,7 +37,7 @@ kind_text kinds.Idle = codes "the worker has no pending call"
 kind_text kinds.Unsuited = codes "the reply does not suit the call"
 kind_text kinds.AtLimit = codes "the limit is passed"
 
--- what is wrong with a line
+-- the text that says what is wrong with a line
 abbrev pub cause_text : Kind → Cause → List ℕ
 cause_text kind causes.Long = codes "more than 8192 bytes"
 cause_text kind causes.Mark = codes "a byte order mark"
@@ -91,7 +91,7 @@ abbrev pub refusal_note : SiteModel → Certificate → List ℕ
 refusal_note s shown =
     (codes "line " ++ line_of s s.at ++ codes ": ") ++ certificate_text s shown ++ codes "\n"
 
--- a note is put of what the calls of the object show, up to the first faulty event
+-- a note is put with a certificate of the refusal
 abbrev pub SaysRefusal : ℕ → RecordingModel → Refusal → OutputModel → OutputModel → Type 0
 SaysRefusal n r refusal old new =
     (shown : Certificate) × IsCertificate r refusal shown

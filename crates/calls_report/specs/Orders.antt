@@ -1,4 +1,4 @@
--- The order of the calls of a history, as text.
+-- A linearization of a history, as text.
 use Rattle.std.specs.Prelude.{ℕ, ◌==◌, List, ◌++◌, codes, decimal, if◌then◌else◌}
 use Rattle.std.specs.List.{flat_map}
 use Rattle.ec_heading.specs.HeadingModel.{HeadingModel}
@@ -20,7 +20,7 @@ head_text h p = decimal p.point ++ codes " " ++ worker_word h p.call.worker ++ c
 abbrev pub tail_text : HeadingModel → List (List ℕ) → ℕ → Call → List ℕ
 tail_text h lists n c = codes " =" ++ shown_reply h lists n c ++ codes "\n"
 
--- the line of a call: its point, its worker, what it asked for, and what it returned
+-- the line of a call: its point, its worker, its operation, and what it returned
 abbrev pub order_line : HeadingModel → List (List ℕ) → ℕ → Placed → List ℕ
 order_line h lists n p =
     head_text h p ++ call_text h lists p.call.object p.call.op ++ tail_text h lists n p.call

@@ -17,7 +17,7 @@ use Rattle.calls_text.specs.Spelling.{numbers_after_spaces}
 use Rattle.calls_report.specs.declared.certificate.Certificate.{Certificate}
 use Rattle.calls_report.specs.declared.certificate.Certificate.TheVariants as shows
 
--- where a certificate stands: what is declared, the lists of numbers, the object, the number of the
+-- the site of a certificate: what is declared, the lists of numbers, the object, the number of the
 -- line of the event at position 0, and the position of the first faulty event
 pub record SiteModel : Type 0 where
   pub heading : HeadingModel
@@ -26,7 +26,7 @@ pub record SiteModel : Type 0 where
   pub first : ℕ
   pub at : ℕ
 
--- the number of the line of a position; it does not go past the greatest of 64 bits
+-- the number of the line of the event at a position, at most 2 ^ 64 - 1
 abbrev pub line_of : SiteModel → ℕ → List ℕ
 line_of s n = decimal (min (s.first + n) (2 ^ 64 - 1))
 
@@ -38,7 +38,7 @@ advances_word n = if n == 1 then codes " advance of " else codes " advances of "
 abbrev pub advances_text : SiteModel → ℕ → List ℕ
 advances_text s n = decimal n ++ advances_word n ++ event_word s.heading s.object
 
--- the count at the beginning, if it is not 0
+-- the initial count, if it is not 0
 abbrev pub start_text : ℕ → List ℕ
 start_text n = if n == 0 then [] else codes ", from " ++ decimal n
 
@@ -60,14 +60,14 @@ abbrev pub returned_text : Reply → List ℕ
 returned_text (replies.Number n) = codes "returned " ++ decimal n
 returned_text _ = codes "returned timeout"
 
--- an await returned this, and awaited more, or 0
+-- an await returned a number below its threshold, or gave up on 0
 abbrev pub below_text : Call → List ℕ
 below_text c = returned_text c.reply ++ (codes ", but it awaited " ++ decimal (threshold c.op))
 
 abbrev pub only_text : SiteModel → ℕ → List ℕ
 only_text s n = codes ", but only " ++ advances_text s n ++ codes " had been called"
 
--- so many advances are too few
+-- there were too few advances for the count
 abbrev pub few_text : SiteModel → Call → ℕ → ℕ → List ℕ
 few_text s c n start = count_text c ++ only_text s n ++ start_text start
 
@@ -77,7 +77,7 @@ when_text s c = codes ", but when it was called (line " ++ line_of s c.first ++ 
 abbrev pub made_text : SiteModel → ℕ → ℕ → List ℕ
 made_text s n start = advances_text s n ++ codes " had returned" ++ start_text start
 
--- so many advances are too many
+-- there were too many advances for the count
 abbrev pub many_text : SiteModel → Call → ℕ → ℕ → List ℕ
 many_text s c n start = count_text c ++ when_text s c ++ made_text s n start
 
@@ -100,11 +100,11 @@ between_text s c n = if n == 0 then before_text s c else among_text s c n
 abbrev pub had_text : SiteModel → Call → List ℕ
 had_text s d = but_line s d.last ++ codes " had " ++ count_text d
 
--- an earlier call says more, with the advances between
+-- an earlier call shows a greater count, with the advances between the two
 abbrev pub since_text : SiteModel → Call → Call → ℕ → List ℕ
 since_text s c d n = count_text c ++ had_text s d ++ between_text s c n
 
--- so many advances had surely taken effect
+-- how many advances had surely taken effect
 abbrev pub surely_text : SiteModel → ℕ → ℕ → List ℕ
 surely_text s n start =
     advances_text s n ++ codes " had surely taken effect" ++ start_text start
@@ -155,7 +155,7 @@ unordered_text s c =
 
 -- SEMAPHORES
 
--- what stands after the digits of an ordinal number
+-- the suffix of an ordinal number, such as `th`
 abbrev pub ordinal : ℕ → List ℕ
 ordinal n =
     if nat_le 11 (n % 100) && nat_le (n % 100) 13 then codes "th"
@@ -170,7 +170,7 @@ abbrev pub units_text : ℕ → ℕ → List ℕ
 units_text units added =
     codes ", with " ++ decimal units ++ codes " at first and " ++ decimal added
 
--- so many units were taken, of so many
+-- more units were taken than there were
 abbrev pub unit_text : SiteModel → ℕ → ℕ → ℕ → ℕ → List ℕ
 unit_text s place taken units added =
     nth_text taken ++ (codes " p of " ++ group_word s.heading place) ++ units_text units added
@@ -243,7 +243,7 @@ is_get _ = false
 abbrev pub ends_second : SiteModel → Call → Call → Bool
 ends_second s b c = (c.last == s.at) || (is_get b.op && (b.last == s.at))
 
--- of the values of a and c that which was returned last comes first
+-- the values of a and c: the one that was returned last comes first
 abbrev pub values_text : SiteModel → Call → Call → Call → List ℕ
 values_text s a b c = if ends_second s b c then two_text s c a else two_text s a c
 

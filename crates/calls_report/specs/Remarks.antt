@@ -1,4 +1,4 @@
--- The remarks: awaits that are pending although their thresholds were surely passed.
+-- The remarks: awaits that are pending although their thresholds were surely reached.
 use Rattle.std.specs.Prelude.{ℕ, ◌+◌, ◌==◌, nat_le, nat_lt, max, ◌&&◌, count_by, List, [], ◌∷◌}
 use Rattle.std.specs.Prelude.{◌++◌, reverse, codes, decimal, if◌then◌else◌}
 use Rattle.std.specs.List.{flat_map}
@@ -23,14 +23,14 @@ abbrev pub returned_advances : ℕ → List Event → ℕ
 returned_advances k events =
     count_by (λ (c : Call). (c.object == k) && is_advance c.op) (completed_calls (reverse events))
 
--- and how many of those that were invoked after position p
+-- how many of those that were invoked after position p
 abbrev pub returned_after : ℕ → ℕ → List Event → ℕ
 returned_after k p events =
     count_by (λ (c : Call). nat_lt p c.first && ((c.object == k) && is_advance c.op))
     (completed_calls (reverse events))
 
 -- the count that a completed call of the eventcount k shows: the least at which it gives its reply,
--- and the advances that were invoked after its response and have returned
+-- plus the advances that were invoked after its response and have returned
 abbrev pub shown_count : ℕ → List Event → Call → ℕ
 shown_count k events c =
     if c.object == k then least c.op c.reply + returned_after k c.last events else 0
@@ -55,7 +55,7 @@ remark_by n o (Await v) =
     if nat_le v n then record { call = o; threshold = v; count = n } ∷ [] else []
 remark_by n o _ = []
 
--- the remark on a pending call, if it is an await whose threshold was surely passed
+-- the remark on a pending call, if it is an await whose threshold was surely reached
 abbrev pub remark_on : RecordingModel → PendingCall → List Remark
 remark_on r o = remark_by (sure_count r o.object) o o.op
 

@@ -9,8 +9,8 @@ use Rattle.calls_report.specs.declared.status.Status.TheVariants.{Refused, NotDe
 use Rattle.calls_report.specs.Notes.{scene_of, SaysRefusal, undecided_note}
 use Rattle.calls_report.specs.Checks.{IsRefused, IsOpen}
 
--- a command ends with this status, since the history has no linearization, is not decided, or memory
--- ran out, and a note says so; n is the line after the `end` of the history
+-- a command ends with this status: the history has no linearization, is not decided, or memory ran
+-- out, and a note says so; n is the line after the `end` of the history
 abbrev pub StopsAs : ℕ → RecordingModel → OutputModel → OutputModel → Status → Type 0
 StopsAs n r old new Refused = (x : Refusal) × IsRefused r x × SaysRefusal n r x old new
 StopsAs n r old new NotDecided =

@@ -1,4 +1,4 @@
-//! `check`: histories of calls in, an order of the calls of each out.
+//! `check`: reads histories of calls, and writes a linearization of each.
 ghost use Rattle.std.specs.Prelude.{◌≡◌, ◌≤◌, IfSome, IsSome, IfOk, OnOk, OnErr, IfErr, length};
 ghost use Rattle.ec_text.specs.Puts.{Puts, IsWrittenOut};
 ghost use Rattle.calls_report.specs.declared.status.Status.TheVariants.{Done};
@@ -28,8 +28,10 @@ use std::io::{Read, Write};
 /// The most bytes that a text may have.
 pub const TEXT_MAX: usize = 67_108_864;
 
-/// A history at which a check ended: the first that has no linearization or is not decided, or else
-/// the last one of the text.
+/// The history at which a check ended, with its verdict.
+///
+/// It is the first that has no linearization or is not decided, or otherwise the last one of the
+/// text.
 #[derive(Drop)]
 pub struct LastHistory<'a> {
     /// The text from the history's first line on.
@@ -40,7 +42,7 @@ pub struct LastHistory<'a> {
     pub verdict: Verdict,
 }
 
-/// Why no text of a history is put.
+/// Why no linearization of a history is put.
 #[derive(Clone, Copy, Debug, PartialEq, Eq)]
 pub(crate) enum Stop {
     /// It has no linearization.
@@ -51,7 +53,7 @@ pub(crate) enum Stop {
     Memory,
 }
 
-/// Puts the text of a linearizable history.
+/// Puts the output for a linearizable history: a linearization, and the totals.
 fn put_text<W: Write>(out: &mut Output<'_, W>, recording: &Recording, order: &[Placed], sums: &Sums)
     requires { AreSums order.now sums.now }
     ensures { Puts out.old out.new (history_text recording.now order.now) }
@@ -65,7 +67,9 @@ fn put_text<W: Write>(out: &mut Output<'_, W>, recording: &Recording, order: &[P
     out.put(b"end\n");
 }
 
-/// Returns a linearization of a history, or says why there is none and keeps the verdict.
+/// Returns a linearization of a history, or reports why there is none.
+///
+/// In the second case `kept` gets the verdict. If memory runs out, nothing is reported or stored.
 fn find_order<N: Write>(
     alloc: Global,
     read: &OneRead<'_>,
@@ -98,8 +102,9 @@ fn find_order<N: Write>(
     }
 }
 
-/// Judges a history: puts its text and says the remarks on it, or says why there is no text; and
-/// keeps the verdict.
+/// Judges a history: puts its linearization and reports the remarks, or reports why there is none.
+///
+/// `kept` gets the verdict. If memory runs out, nothing is put or reported.
 fn judge<W: Write, N: Write>(
     alloc: Global,
     read: &OneRead<'_>,
@@ -131,7 +136,7 @@ fn judge<W: Write, N: Write>(
     Ok(())
 }
 
-/// Returns how a check ends that was stopped, and says that memory ran out.
+/// Returns the status of a check that was stopped, and reports if memory ran out.
 fn end_by<N: Write>(stop: Stop, notes: &mut Output<'_, N>) -> Status
     ensures status { result ≡ status_by stop }
     ensures stops { result ≡ Done → ⊥ }
@@ -148,8 +153,7 @@ fn end_by<N: Write>(stop: Stop, notes: &mut Output<'_, N>) -> Status
     }
 }
 
-/// Returns a linearization of a history, or says why there is none and returns how a command ends
-/// then.
+/// Returns a linearization of a history, or reports why there is none and returns the status.
 pub fn linearize<N: Write>(
     alloc: Global,
     read: &OneRead<'_>,
@@ -167,7 +171,7 @@ pub fn linearize<N: Write>(
     }
 }
 
-/// Says why a text is no history, and returns how a command ends then.
+/// Reports why a text is not a history, and returns the status.
 pub fn note_unread<N: Write>(fault: TextFault, notes: &mut Output<'_, N>) -> Status
     ensures status { result ≡ fault_status fault }
     ensures stops { result ≡ Done → ⊥ }
@@ -198,7 +202,9 @@ fn judged<'a>(
     })
 }
 
-/// Judges the histories of a text, up to the first that is rejected, and keeps the last of them.
+/// Judges the histories of a text, up to the first that is faulty, not linearizable or not decided.
+///
+/// `last` gets the history at which this ends, if it was read and has a verdict.
 fn judge_all<'a, W: Write, N: Write>(
     alloc: Global,
     text: &'a [u8],
@@ -232,7 +238,9 @@ fn judge_all<'a, W: Write, N: Write>(
     }
 }
 
-/// Judges a text within the bound, writes what was found, and keeps the last history.
+/// Judges the histories of a text within the bound, and writes their linearizations.
+///
+/// `last` gets the history at which this ends, if it was read and has a verdict.
 fn check_text<'a, W: Write, N: Write>(
     alloc: Global,
     text: &'a [u8],
@@ -260,8 +268,10 @@ fn check_text<'a, W: Write, N: Write>(
     }
 }
 
-/// Checks a text that was read whole, or more of it than a text may have, and keeps the history at
-/// which that ended, if there is one: of a good text its last one.
+/// Checks a text that is given at once.
+///
+/// `last` gets the history at which this ends, if it was read and has a verdict: of a good text its
+/// last one. A text of more than `TEXT_MAX` bytes is too large.
 pub fn check_whole<'a, W: Write, N: Write>(
     alloc: Global,
     text: &'a [u8],
@@ -282,11 +292,11 @@ pub fn check_whole<'a, W: Write, N: Write>(
     check_text(alloc, text, last, out, notes)
 }
 
-/// Reads histories of calls, and writes an order of the calls of each, up to the first that has no
-/// linearization; then a note says why.
+/// Reads histories of calls, and writes a linearization of each.
 ///
-/// The notes begin with the remarks on the histories that have one: of each await that is pending
-/// although its threshold was surely passed.
+/// It ends at the first history that is faulty, not linearizable or not decided, and a note says
+/// why. Before that come the remarks on the histories so far: one for each await that is pending
+/// although its threshold was surely reached.
 ///
 /// A text of more than 67108864 bytes is too large, whatever is in it. A read that fails is not
 /// tried again.

@@ -1,4 +1,4 @@
-//! Calls, counted.
+//! Counts calls of a history.
 ghost use Rattle.std.specs.Prelude.{◌≡◌, ◌≤◌, [], count_by, reverse, IfOk, IfSome};
 ghost use Rattle.std.specs.List.{cons_option};
 ghost use Rattle.calls_core.specs.Histories.{ended_call, pending_of};
@@ -18,7 +18,7 @@ pub(crate) enum CountFilter {
     Advances(usize, usize, usize),
     /// The tickets of this object that returned at most this number.
     Tickets(usize, usize),
-    /// The calls that took a unit of the semaphore at this place.
+    /// The calls that took a unit of the semaphore at this index among the groups.
     Taken(usize),
 }
 
@@ -74,7 +74,7 @@ pub fn completed_call(pending: &[PendingCall], event: &Event) -> Option<Call>
     })
 }
 
-/// Returns how many of one call or none are counted.
+/// Returns 1 if there is a call that is counted, and otherwise 0.
 fn count_one(counted: CountFilter, call: Option<Call>) -> usize
     ensures count { result ≡ count_by (is_counted counted) (cons_option call []) }
     ensures few { result ≤ 1 }
@@ -158,7 +158,7 @@ pub(crate) fn count_advances(events: &[Event], object: usize) -> usize
         .count()
 }
 
-/// Returns how many v of the semaphore at a place were invoked.
+/// Returns how many `v` of a semaphore were invoked. `place` is its index among the groups.
 pub(crate) fn count_ups(events: &[Event], place: usize) -> usize
     ensures { result ≡ count_by (is_up_of place) events.now }
 {

@@ -1,5 +1,5 @@
-//! What is found of histories of calls, as texts: an order of the calls, or a note that says why
-//! there is none.
+//! Checks histories of calls, and writes a linearization of each, or a note that says why there is
+//! none.
 #![tactic(auto)]
 
 mod certificate;

@@ -1,4 +1,4 @@
-//! The notes. A write of notes that fails is not reported, and none is tried after it.
+//! The notes. A failed write of a note is not reported, and no write is tried after it.
 ghost use Rattle.std.specs.Prelude.{◌≡◌, ◌++◌, codes, OnOk, OnErr};
 ghost use Rattle.ec_text.specs.Puts.{Puts, IsWrittenOut};
 ghost use Rattle.calls_report.specs.Refusals.{line_of};
@@ -17,7 +17,7 @@ use ec_text::Output;
 use std::alloc::{AllocError, Global};
 use std::io::Write;
 
-/// Returns what a kind of fault says.
+/// Returns the text for a kind of fault.
 fn kind_text(kind: Kind) -> &'static [u8]
     ensures { result.now ≡ kind_text kind }
 {
@@ -41,7 +41,7 @@ fn kind_text(kind: Kind) -> &'static [u8]
     }
 }
 
-/// Returns what is wrong with a line.
+/// Returns the text that says what is wrong with a line.
 fn cause_text(kind: Kind, cause: Cause) -> &'static [u8]
     ensures { result.now ≡ cause_text kind cause }
 {
@@ -58,7 +58,7 @@ fn cause_text(kind: Kind, cause: Cause) -> &'static [u8]
     }
 }
 
-/// Puts the beginning of a note on a line.
+/// Puts the number of a line, at the beginning of a note.
 fn put_line<W: Write>(out: &mut Output<'_, W>, line: u64)
     ensures { Puts out.old out.new (line_words line) }
 {
@@ -85,7 +85,7 @@ fn put_cause<W: Write>(out: &mut Output<'_, W>, kind: Kind, cause: Cause)
     out.put(b"\n");
 }
 
-/// Puts why a text is no history.
+/// Puts why a text is not a history.
 fn put_fault<W: Write>(out: &mut Output<'_, W>, fault: TextFault)
     ensures { Puts out.old out.new (fault_note fault) }
 {
@@ -99,7 +99,7 @@ fn put_fault<W: Write>(out: &mut Output<'_, W>, fault: TextFault)
     }
 }
 
-/// Says why a text is no history.
+/// Reports why a text is not a history.
 pub fn report_fault<N: Write>(notes: &mut Output<'_, N>, fault: TextFault)
     ensures puts { Puts notes.old notes.new (fault_note fault) }
     ensures written { IsWrittenOut notes.new }
@@ -116,7 +116,7 @@ fn first_line(read: &Read<'_>) -> u64
     read.number.saturating_sub(1).saturating_sub(events)
 }
 
-/// Returns where the certificate of an object stands.
+/// Returns the site of a certificate in a history that was read.
 pub(crate) fn site_of<'a>(read: &'a Read<'_>, object: usize, at: usize) -> Site<'a>
     ensures { result ≡ scene_of read.now.number read.now.recording object at }
 {
@@ -128,7 +128,7 @@ pub(crate) fn site_of<'a>(read: &'a Read<'_>, object: usize, at: usize) -> Site<
     }
 }
 
-/// Puts the line of the first faulty event.
+/// Puts the number of the line of the first faulty event.
 fn put_site<W: Write>(out: &mut Output<'_, W>, site: &Site<'_>)
     ensures { Puts out.old out.new (codes "line " ++ line_of site.now site.now.at ++ codes ": ") }
 {
@@ -146,7 +146,7 @@ fn put_refusal<W: Write>(out: &mut Output<'_, W>, site: &Site<'_>, shown: Certif
     out.put(b"\n");
 }
 
-/// Says why a history has no linearization.
+/// Reports why a history has no linearization.
 pub fn report_refusal<N: Write>(
     alloc: Global,
     notes: &mut Output<'_, N>,
@@ -165,7 +165,7 @@ pub fn report_refusal<N: Write>(
     Ok(())
 }
 
-/// Returns where a certificate stands, by the number of the line of the event at position 0.
+/// Returns the site of a certificate. `first` is the number of the line of the event at position 0.
 fn site_at(recording: &Recording, object: usize, first: u64, at: usize) -> Site<'_>
     ensures { result ≡ scene_at recording.now object first at }
 {
@@ -177,8 +177,9 @@ fn site_at(recording: &Recording, object: usize, first: u64, at: usize) -> Site<
     }
 }
 
-/// Says why the calls of an object have no linearization from the event at a position on, by the
-/// number of the line of the event at position 0.
+/// Reports why the calls of an object have no linearization from the event at position `at` on.
+///
+/// `first` is the number of the line of the event at position 0.
 pub fn report_certificate<N: Write>(
     notes: &mut Output<'_, N>,
     recording: &Recording,
@@ -195,7 +196,7 @@ pub fn report_certificate<N: Write>(
     notes.flush();
 }
 
-/// Puts that something was put more than once.
+/// Puts the words on a value that was put or written more than once.
 #[tactic(auto, unfolding(crate::specs::Notes::repeated_words))]
 fn put_repeated_words<W: Write>(out: &mut Output<'_, W>, site: &Site<'_>)
     ensures { Puts out.old out.new (repeated_words site.now) }
@@ -207,14 +208,14 @@ fn put_repeated_words<W: Write>(out: &mut Output<'_, W>, site: &Site<'_>)
     }
 }
 
-/// Puts which value is not decided.
+/// Puts that an object is not decided, and a value.
 fn put_undecided<W: Write>(out: &mut Output<'_, W>, site: &Site<'_>, value: usize)
     ensures { Puts out.old out.new (undecided_text site.now value) }
 {
     site.put_with(out, b" is not decided:", value);
 }
 
-/// Puts what was put more than once.
+/// Puts that an object is not decided, as a value was put more than once.
 fn put_repeated<W: Write>(out: &mut Output<'_, W>, site: &Site<'_>, value: usize)
     ensures { Puts out.old out.new (repeated_text site.now value) }
 {
@@ -223,7 +224,7 @@ fn put_repeated<W: Write>(out: &mut Output<'_, W>, site: &Site<'_>, value: usize
     put_repeated_words(out, site);
 }
 
-/// Puts which puts overlap.
+/// Puts the lines of two puts that overlap.
 fn put_overlap<W: Write>(out: &mut Output<'_, W>, site: &Site<'_>, cause: &calls_cells::Undecided)
     ensures { Puts out.old out.new (overlap_text site.now cause.now) }
 {
@@ -233,7 +234,7 @@ fn put_overlap<W: Write>(out: &mut Output<'_, W>, site: &Site<'_>, cause: &calls
     out.put(b" overlap\n");
 }
 
-/// Says why a history is not decided.
+/// Reports why a history is not decided.
 pub fn report_undecided<N: Write>(notes: &mut Output<'_, N>, read: &Read<'_>, undecided: &Undecided)
     ensures puts { Puts notes.old notes.new (undecided_note (scene_of read.now.number
         read.now.recording undecided.now.object 0) undecided.now.cause) }

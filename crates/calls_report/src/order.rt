@@ -1,4 +1,4 @@
-//! The order of the calls of a history, as text.
+//! A linearization of a history, as text.
 ghost use Rattle.std.specs.Prelude.{◌≡◌, List};
 ghost use Rattle.std.specs.List.{flat_map};
 ghost use Rattle.ec_text.specs.Puts.{Puts};
@@ -10,8 +10,7 @@ use calls_core::{Call, Placed};
 use ec_text::Output;
 use std::io::Write;
 
-/// Puts what a call returned, after a space: of a pending one that it is pending. The number is
-/// that of the events.
+/// Puts what a call returned, after a space, or that it is pending. `end` is the number of events.
 fn put_reply<W: Write>(out: &mut Output<'_, W>, speaker: &Speaker<'_>, end: usize, call: &Call)
     ensures { Puts out.old out.new (shown_reply speaker.now.heading speaker.now.lists end call.now) }
 {
@@ -52,7 +51,7 @@ fn put_line<W: Write>(out: &mut Output<'_, W>, speaker: &Speaker<'_>, end: usize
     put_tail(out, speaker, end, call);
 }
 
-/// Puts the lines of calls.
+/// Puts the lines of a linearization.
 pub fn put_order<W: Write>(
     out: &mut Output<'_, W>,
     speaker: &Speaker<'_>,

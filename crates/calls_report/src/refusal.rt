@@ -28,7 +28,7 @@ use ec_text::Output;
 use std::io::Write;
 use std::marker::Model;
 
-/// Where a certificate stands: the words of the history, its object, the number of the line of the
+/// The site of a certificate: the words of the history, its object, the number of the line of the
 /// event at position 0, and the position of the first faulty event.
 #[derive(Drop)]
 pub(crate) struct Site<'a> {
@@ -53,7 +53,7 @@ impl<'a> Model for Site<'a> {
     } };
 }
 
-/// Returns what stands after the digits of an ordinal number.
+/// Returns the suffix of an ordinal number, such as `th`.
 fn ordinal(n: usize) -> &'static [u8]
     ensures { result.now ≡ ordinal n }
 {
@@ -69,7 +69,7 @@ fn ordinal(n: usize) -> &'static [u8]
     }
 }
 
-/// Puts the count at the beginning, if it is not 0.
+/// Puts the initial count, if it is not 0.
 fn put_start<W: Write>(out: &mut Output<'_, W>, start: u64)
     ensures { Puts out.old out.new (start_text start) }
 {
@@ -131,7 +131,7 @@ fn threshold(op: Op) -> usize
     }
 }
 
-/// Puts that an await could not return this.
+/// Puts that an await returned a number below its threshold, or gave up on 0.
 fn put_below<W: Write>(out: &mut Output<'_, W>, call: &Call)
     ensures { Puts out.old out.new (below_text call.now) }
 {
@@ -169,7 +169,7 @@ fn put_number<W: Write>(out: &mut Output<'_, W>, call: &Call)
     out.put_number(ticket_number(call) as u64);
 }
 
-/// Puts up to which number tickets can have drawn.
+/// Puts the range of numbers that tickets can have drawn.
 fn put_can<W: Write>(out: &mut Output<'_, W>, call: &Call)
     ensures { Puts out.old out.new (codes " can have drawn 0 to " ++ decimal (number call.now)) }
 {
@@ -185,7 +185,7 @@ fn put_nth<W: Write>(out: &mut Output<'_, W>, n: usize)
     out.put(ordinal(n));
 }
 
-/// Puts the units of a semaphore at first, and those added.
+/// Puts the initial units of a semaphore, and the number of its `v`.
 fn put_units<W: Write>(out: &mut Output<'_, W>, units: u64, added: usize)
     ensures { Puts out.old out.new (units_text units added) }
 {
@@ -223,7 +223,7 @@ fn stored_value(call: &Call) -> usize
 }
 
 impl<'a> Site<'a> {
-    /// Puts the number of the line of a position.
+    /// Puts the number of the line of the event at a position.
     pub(crate) fn put_line<W: Write>(&self, out: &mut Output<'_, W>, position: usize)
         ensures { Puts out.old out.new (line_of self.now position) }
     {
@@ -253,7 +253,7 @@ impl<'a> Site<'a> {
         self.speaker.put_event(out, self.object);
     }
 
-    /// Puts that only so many advances had been called.
+    /// Puts that only `n` advances had been called.
     fn put_only<W: Write>(&self, out: &mut Output<'_, W>, n: usize)
         ensures { Puts out.old out.new (only_text self.now n) }
     {
@@ -430,7 +430,7 @@ impl<'a> Site<'a> {
         }
     }
 
-    /// Puts that only so many tickets can have drawn something.
+    /// Puts that only `n` tickets can have drawn some numbers.
     fn put_tickets<W: Write>(&self, out: &mut Output<'_, W>, n: usize)
         ensures { Puts out.old out.new (tickets_text self.now n) }
     {
@@ -450,7 +450,7 @@ impl<'a> Site<'a> {
         put_can(out, call);
     }
 
-    /// Puts the semaphore at a place.
+    /// Puts the word `p` and a semaphore. `place` is its index among the groups.
     fn put_p_of<W: Write>(&self, out: &mut Output<'_, W>, place: usize)
         ensures { Puts out.old out.new (codes " p of " ++ group_word self.now.heading place) }
     {
@@ -595,7 +595,7 @@ impl<'a> Site<'a> {
         c.last == self.at || (matches!(b.op, Op::Get) && b.last == self.at)
     }
 
-    /// Puts two values that alternate, of which that comes first that was returned last.
+    /// Puts two values that alternate: the one that was returned last comes first.
     fn put_values<W: Write>(&self, out: &mut Output<'_, W>, a: &Call, b: &Call, c: &Call)
         ensures { Puts out.old out.new (values_text self.now a.now b.now c.now) }
     {

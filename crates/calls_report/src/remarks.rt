@@ -1,4 +1,4 @@
-//! Remarks on awaits that are pending although their thresholds were surely passed.
+//! Remarks on awaits that are pending although their thresholds were surely reached.
 ghost use Rattle.std.specs.Prelude.{◌≡◌, [], reverse, IfOk};
 ghost use Rattle.std.specs.List.{cons_option};
 ghost use Rattle.ec_text.specs.Puts.{Puts, IsWrittenOut};
@@ -39,7 +39,7 @@ fn remark_by(count: usize, call: &PendingCall) -> Option<Remark>
     }
 }
 
-/// Returns the remark on a pending call, if it is an await whose threshold was surely passed.
+/// Returns the remark on a pending call, if it is an await whose threshold was surely reached.
 fn remark_on(
     alloc: Global,
     recording: &Recording,
@@ -70,7 +70,7 @@ pub(crate) fn remarks_of(alloc: Global, recording: &Recording) -> Result<Vec<Rem
     Ok(remarks)
 }
 
-/// Puts the line of an invocation.
+/// Puts the number of the line of an invocation.
 fn put_head<W: Write>(out: &mut Output<'_, W>, site: &Site<'_>, call: &PendingCall)
     ensures { Puts out.old out.new (remark_head site.now call.now) }
 {
@@ -122,7 +122,7 @@ fn put_remarks<W: Write>(out: &mut Output<'_, W>, site: &Site<'_>, remarks: &[Re
     }
 }
 
-/// Says the remarks on a history.
+/// Reports the remarks on a history.
 pub(crate) fn report_remarks<N: Write>(
     notes: &mut Output<'_, N>,
     read: &Read<'_>,

@@ -26,7 +26,7 @@ fn least(op: Op, reply: Reply) -> usize
     }
 }
 
-/// Returns how many of these are advances of an object.
+/// Returns how many pending calls are advances of an object.
 fn count_open(pending: &[PendingCall], object: usize) -> usize
     ensures { result ≡ count_by (is_open object) pending.now }
 {
@@ -36,7 +36,7 @@ fn count_open(pending: &[PendingCall], object: usize) -> usize
         .count()
 }
 
-/// Returns how many of these are advances of an object that were invoked after a position.
+/// Returns how many pending calls are advances of an object that were invoked after a position.
 fn count_open_after(pending: &[PendingCall], object: usize, position: usize) -> usize
     ensures { result ≡ count_by (is_open_after object position) pending.now }
 {
@@ -48,7 +48,7 @@ fn count_open_after(pending: &[PendingCall], object: usize, position: usize) -> 
         .count()
 }
 
-/// Returns how many advances come after an event, of so many that come from it on.
+/// Returns how many of the `left` advances from an event on come after it.
 fn left_after(left: usize, event: &Event, object: usize) -> usize
     ensures { result ≡ left_after object left event.now }
 {
@@ -59,10 +59,10 @@ fn left_after(left: usize, event: &Event, object: usize) -> usize
     }
 }
 
-/// Returns the greater of a count and of what a call shows, if one of the object was completed.
+/// Returns the greater of a count and of that which a completed call of the object shows.
 ///
-/// So many advances were invoked after its response, of which those among `pending` have not
-/// returned.
+/// `left` advances were invoked after the response of the call; of these, the ones in `pending`
+/// have not returned.
 fn max_with_call(
     greatest: usize,
     call: Option<Call>,
@@ -85,7 +85,8 @@ fn max_with_call(
     }
 }
 
-/// Returns the greatest of a count and of those that the completed calls of an object show.
+/// Returns the greatest of the count `first` and of those that the completed calls of an object
+/// show.
 fn greatest_shown(
     alloc: Global,
     recording: &Recording,
@@ -117,7 +118,7 @@ fn greatest_shown(
     Ok(greatest)
 }
 
-/// Returns the count at the beginning and the advances that have returned.
+/// Returns the sum of the initial count and the advances that have returned.
 fn returned_count(
     recording: &Recording,
     pending: &[PendingCall],
@@ -135,8 +136,9 @@ fn returned_count(
     }
 }
 
-/// Returns the count that an eventcount has surely reached at the end, by the calls that are pending
-/// then.
+/// Returns the count that an eventcount has surely reached at the end.
+///
+/// `pending` are the calls that are pending then.
 pub(crate) fn sure_count(
     alloc: Global,
     recording: &Recording,

@@ -1,4 +1,4 @@
-//! What each object has by the calls of a linearization, as text.
+//! The totals of the objects after the calls of a linearization, as text.
 ghost use Rattle.std.specs.Prelude.{◌≡◌, ◌+◌, ◌<◌, length, List, slice_get, slice_index_or};
 ghost use Rattle.std.specs.Prelude.{[], Some, None, if◌then◌else◌, nat_lt};
 ghost use Rattle.std.specs.Option.{option_map_or};
@@ -20,14 +20,14 @@ use ec_heading::Group;
 use ec_text::Output;
 use std::io::Write;
 
-/// A history, and the sums over an order of its calls.
+/// A history, and the sums over a linearization.
 #[derive(Drop)]
 pub(crate) struct Totals<'a> {
     pub(crate) recording: &'a Recording,
     pub(crate) sums: &'a Sums,
 }
 
-/// Returns the cell at a place of a block, if there is one.
+/// Returns the cell at index `i` of a block, if there is one.
 fn cell_at(first: CellId, i: usize) -> Option<CellId>
     ensures { result ≡ (if nat_lt (first + i) 256 then Some (first + i) else None) }
 {
@@ -35,7 +35,7 @@ fn cell_at(first: CellId, i: usize) -> Option<CellId>
 }
 
 impl<'a> Totals<'a> {
-    /// Returns how many writes of the database at a place there are.
+    /// Returns how many writes of a database there are. `place` is its index among the groups.
     fn writes(&self, place: usize) -> usize
         requires { place < length self.now.recording.now.heading.groups }
         ensures { (order : List Placed) → AreSums order self.now.sums.now → result ≡ effects order
@@ -49,7 +49,7 @@ impl<'a> Totals<'a> {
         )
     }
 
-    /// Returns what an eventcount has by the calls of a group, if it belongs to that.
+    /// Returns the count of an eventcount by the calls of a group, if it belongs to the group.
     fn of_group_event(&self, event: EventId, place: usize, group: &Group) -> Option<usize>
         requires { place < length self.now.recording.now.heading.groups }
         ensures { (order : List Placed) → AreSums order self.now.sums.now → result ≡ group_event
@@ -66,7 +66,7 @@ impl<'a> Totals<'a> {
         }
     }
 
-    /// Returns what a sequencer has by the calls of a group, if it belongs to that.
+    /// Returns how many numbers the calls of a group drew, if the sequencer belongs to the group.
     fn of_group_sequencer(&self, sequencer: SeqId, place: usize, group: &Group) -> Option<usize>
         requires { place < length self.now.recording.now.heading.groups }
         ensures { (order : List Placed) → AreSums order self.now.sums.now → result ≡ group_sequencer
@@ -83,7 +83,7 @@ impl<'a> Totals<'a> {
         }
     }
 
-    /// Returns the number of a cell of the database at a place.
+    /// Returns the final number of cell `i` of a database. `place` is its index among the groups.
     fn of_database_cell(&self, place: usize, cells: usize, i: usize) -> u64
         requires { place < length self.now.recording.now.heading.groups }
         ensures { (order : List Placed) → AreSums order self.now.sums.now → result ≡ slice_index_or
@@ -102,7 +102,7 @@ impl<'a> Totals<'a> {
         }
     }
 
-    /// Returns what a cell has as one of a group, if it is one.
+    /// Returns the final number of a cell of a group, if it belongs to the group.
     fn of_group_cell(&self, cell: CellId, place: usize, group: &Group) -> Option<u64>
         requires { place < length self.now.recording.now.heading.groups }
         ensures { (order : List Placed) → AreSums order self.now.sums.now → result ≡ group_cell
@@ -120,7 +120,7 @@ impl<'a> Totals<'a> {
         }
     }
 
-    /// Returns the count of an eventcount.
+    /// Returns the final count of an eventcount.
     fn of_event(&self, event: EventId) -> u64
         ensures { (order : List Placed) → AreSums order self.now.sums.now → result ≡ event_total
             self.now.recording.now order event }
@@ -134,7 +134,7 @@ impl<'a> Totals<'a> {
         self.recording.start(event).saturating_add(own as u64)
     }
 
-    /// Returns how many tickets of a sequencer were drawn.
+    /// Returns how many numbers of a sequencer were drawn.
     fn of_sequencer(&self, sequencer: SeqId) -> u64
         ensures { (order : List Placed) → AreSums order self.now.sums.now → result ≡ sequencer_total
             self.now.recording.now order sequencer }
@@ -152,7 +152,7 @@ impl<'a> Totals<'a> {
         ) as u64
     }
 
-    /// Returns what a cell stores.
+    /// Returns the final number of a cell.
     fn of_cell(&self, cell: CellId) -> u64
         ensures { (order : List Placed) → AreSums order self.now.sums.now → result ≡ cell_total
             self.now.recording.now order cell }
@@ -208,7 +208,7 @@ impl<'a> Totals<'a> {
         }
     }
 
-    /// Puts the line of a count.
+    /// Puts the line of an eventcount or a sequencer.
     fn put_count<W: Write>(&self, out: &mut Output<'_, W>, sort: &[u8], word: &[u8], n: u64)
         ensures { Puts out.old out.new (count_line sort.now word.now n) }
     {
@@ -219,7 +219,7 @@ impl<'a> Totals<'a> {
         out.put(b"\n");
     }
 
-    /// Puts the lines of what a word spells.
+    /// Puts the lines of the objects that a word names.
     fn put_word<W: Write>(&self, out: &mut Output<'_, W>, word: &[u8], target: Target)
         ensures { (order : List Placed) → AreSums order self.now.sums.now → Puts out.old out.new
             (word_totals self.now.recording.now order word.now target) }
@@ -236,7 +236,7 @@ impl<'a> Totals<'a> {
         }
     }
 
-    /// Puts the lines of what the word at a place spells, if there is one.
+    /// Puts the lines of the objects that the word at an index names, if there is one.
     fn put_place<W: Write>(&self, out: &mut Output<'_, W>, words: &SymbolTable, place: usize)
         ensures { (order : List Placed) → AreSums order self.now.sums.now → Puts out.old out.new
             (totals_at self.now.recording.now order (slice_get words.now place)) }

@@ -1,4 +1,4 @@
-//! Calls and replies, as they are spelled.
+//! Calls and replies, as text.
 ghost use Rattle.std.specs.Prelude.{◌≡◌, ◌-◌, [], nat_lt, replicate, slice_index_or};
 ghost use Rattle.ec_text.specs.Puts.{Puts};
 ghost use Rattle.calls_text.specs.Recordings.{first_sequencer, first_group};
@@ -18,7 +18,7 @@ use ec_trace::{Spellings, put_cell};
 use std::io::Write;
 use std::marker::Model;
 
-/// The words of a history: those of its workers and objects, and its lists.
+/// What the text of calls depends on: the words of workers and objects, and the lists of numbers.
 #[derive(Drop)]
 pub struct Speaker<'a> {
     pub(crate) heading: &'a Heading,
@@ -38,7 +38,7 @@ impl<'a> Model for Speaker<'a> {
 }
 
 impl<'a> Speaker<'a> {
-    /// Returns the words of a heading, and these lists.
+    /// Returns the words of a header, and these lists.
     pub fn new(heading: &'a Heading, lists: &'a Lists) -> Speaker<'a>
         ensures heading { result.heading ≡ heading.now }
         ensures lists { result.lists ≡ lists.now }
@@ -133,7 +133,7 @@ impl<'a> Speaker<'a> {
         }
     }
 
-    /// Puts so many zeros, each after a space.
+    /// Puts `count` zeros, each after a space.
     fn put_zeros<W: Write>(&self, out: &mut Output<'_, W>, count: usize)
         ensures { Puts out.old out.new (numbers_after_spaces (replicate count 0)) }
     {

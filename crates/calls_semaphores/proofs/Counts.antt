@@ -96,7 +96,7 @@ pub taken_invoke : (x : Event) (past : List Event) (k : ℕ) (op : Op) (i : ℕ)
     → units_taken i (x ∷ past) ≡ units_taken i past
 taken_invoke x past k op i e = ap (count_by (took_of i)) (completed_invoke x past k op e)
 
--- a test of a pending call is one of its rest and of itself
+-- a count of the pending calls is that of one of them and of the rest
 pub count_found : (q : PendingCall → Bool) (w : ℕ) (os : List PendingCall) (o : PendingCall)
     (rest : List PendingCall) → IsFound w os o rest
     → count_by q os ≡ count_by q rest + one (q o)

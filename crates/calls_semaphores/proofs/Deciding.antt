@@ -129,7 +129,7 @@ module _ (units : Vec ℕ Global) where
 
   -- FAULTS
 
-  -- the call that takes a unit more than there are shows a fault
+  -- a call that takes a unit of a semaphore that has none left shows a fault
   pub shows_new : (x : Event) (past : List Event) → IsHistoryOf (Semaphores units) (x ∷ past)
       → (r : Reply) (o : PendingCall) → x.action ≡ Respond r
       → pending_of x.worker (pending_calls past) ≡ Some o
@@ -171,7 +171,7 @@ module _ (units : Vec ℕ Global) where
         );
       }
 
-  -- and it stays so when the history grows
+  -- a fault that a history shows, it shows with one more event too
   module _ (x : Event) (past : List Event) (h : IsHistoryOf (Semaphores units) (x ∷ past))
       (f : Fault) (s : Shows (Semaphores units) past f) where
     abbrev n : ℕ
@@ -309,7 +309,7 @@ module _ (units : Vec ℕ Global) where
                 (subst (IsLinearizationSoFar units past t) s.is k.1),
           )
 
-      -- with the units that it takes it is at the end
+      -- a call that is no v, if the units that it takes are left, is added at the end
       pub has_other : is_v o.op ≡ false → ((i : ℕ) → took i o.op r ≡ true
           → units_taken i past < first i + units_added i past) → HasKept past → HasKept (x ∷ past)
       has_other v units_are kept = λ t le.
@@ -376,7 +376,7 @@ module _ (units : Vec ℕ Global) where
         inr s
   ]
 
-  -- from any linearization
+  -- a history that has any linearization has one of this form
   pub kept_of_order : (past : List Event) → IsHistoryOf (Semaphores units) past → (t : ℕ)
       → clock past ≤ t → (cs : List Call) → IsOrderOf (Semaphores units) past t cs → HasKept past
   kept_of_order past h t le cs l = elim (kept_or_fault past h) [

@@ -1,4 +1,4 @@
--- What shows a fault has no linearization.
+-- A history that shows a fault has no linearization.
 use Rattle.std.proofs.Common.{◌≡◌, ℕ, ◌+◌, ◌<◌, ◌≤◌, inl, inr, Bool, true, false, nat_le, List, []}
 use Rattle.std.proofs.Common.{◌∷◌, ◌++◌, Option, Some, None, refl, ap, sym, ◌∙◌, arith, subst}
 use Rattle.std.proofs.Common.{count_by, append_assoc, Vec}
@@ -34,7 +34,7 @@ use Rattle.calls_semaphores.specs.Faults.{Shows}
 use Rattle.calls_semaphores.proofs.Runs.{IsOp, took_of, added_of, took_in, added_in, run_count}
 use Rattle.calls_semaphores.proofs.Runs.{run_left}
 
--- THE LAST ONE THAT PASSES A TEST
+-- THE LAST ELEMENT THAT PASSES A TEST
 
 record LastOne {X : Type 0} (q : X → Bool) (cs : List X) : Type 0 where
   prefix : List X
@@ -84,7 +84,7 @@ one_late n t i o (Some r) lt =
           (took_by n i (completion t r o)) (and_right (took i o.op r) (nat_le t n) (lt-leb t n lt)),
     )
 
--- none of them has its response up to n
+-- no answered pending call has its response up to n
 answered_late : (n t i : ℕ) (answer : PendingCall → Option Reply) (os : List PendingCall) → n < t
     → count_by (took_by n i) (answered_calls t answer os) ≡ 0
 answered_late n t i answer [] lt = refl
@@ -117,7 +117,7 @@ answered_pending n t i answer (o ∷ os) =
       count_cons (pending_added_by n i) o os,
     )
 
--- who takes adds nothing
+-- a call that took a unit adds none
 took_adds_none : (i : ℕ) (op : Op) (r : Reply) → took i op r ≡ true → adds i op ≡ false
 took_adds_none i (P j) r e = refl
 took_adds_none i (V j) r e = cc

@@ -1,4 +1,4 @@
--- Runs of a bank, by counting.
+-- Legal sequential histories of a bank, by counting.
 use Rattle.std.proofs.Common.{◌≡◌, ℕ, ◌+◌, ◌-◌, ◌<◌, ◌==◌, Bool, true, false, List, [], ◌∷◌, ◌++◌}
 use Rattle.std.proofs.Common.{Some, refl, arith, count_by, Vec, cond, ◌&&◌, ◌||◌, subst, ap}
 use Rattle.std.specs.declared.alloc.Global.{Global}
@@ -111,7 +111,7 @@ pub run_more : (m : ℕ → ℕ) (xs : List Call) (c : Call) → IsSequentialRun
 run_more m [] c run g = (g, tt)
 run_more m (x ∷ xs) c run g = (run.0, run_more (after m x.op x.reply) xs c run.1 g)
 
--- a call gives way to one with the same operation and reply
+-- a call is replaced by one with the same operation and reply
 pub run_changed : (m : ℕ → ℕ) (xs : List Call) (c d : Call) (ys : List Call) → c.op ≡ d.op
     → c.reply ≡ d.reply
     → IsSequentialRun m (xs ++ c ∷ ys) → IsSequentialRun m (xs ++ d ∷ ys)

@@ -1,4 +1,4 @@
--- The steps of the code.
+-- The steps of the scan.
 use Rattle.std.proofs.Common.{◌≡◌, ℕ, zero, suc, ◌+◌, ◌<◌, ◌≤◌, ◌==◌, Bool, true, false, ◌||◌, List}
 use Rattle.std.proofs.Common.{[], ◌∷◌, ◌++◌, length, set, map, get_or, Some, None, refl, ap, sym}
 use Rattle.std.proofs.Common.{◌∙◌, arith, subst, Vec, cond, slice_get, slice_index}
@@ -172,7 +172,7 @@ distinct_op units Ticket h = tt
 distinct_op units (Put v) h = tt
 distinct_op units Get h = tt
 
--- who takes a unit takes one of the bank
+-- a call takes units only of semaphores of the bank
 in_bank : (units : Vec ℕ Global) (op : Op) (i : ℕ) → IsOp units op → takes i op ≡ true
     → i < length units.items
 in_bank units (P j) i h e = subst (λ k. k < length units.items) (eqb-true j i e) h
@@ -272,7 +272,7 @@ module _ (units : Vec ℕ Global) (x : Event) (past : List Event) (h : IsHistory
     one_yes (took i o.op r) e,
   )
 
--- WHAT THE SCAN KEEPS
+-- THE INVARIANT OF THE SCAN
 
 pub scan_start : (units : Vec ℕ Global) (s : Scan) → IsOpened units.items s.bank
     → s.pending.items ≡ [] → s.order.items ≡ [] → Holds units [] s

@@ -69,7 +69,7 @@ pairs_changed R (a ∷ us) c d bs h k f = (
   pairs_changed R us c d bs h.1 k.1 f,
 )
 
--- A CALL THAT GETS ITS RESPONSE
+-- A CALL IN THE LINEARIZATION GETS ITS RESPONSE
 
 -- a call that was invoked at position m and has no response before t
 abbrev is_open : ℕ → ℕ → Call → Bool
@@ -140,7 +140,7 @@ it_is_open : (t : ℕ) (o : PendingCall) → is_open t o.first (completion t Don
 it_is_open t o = and_from (t == t) (o.first == o.first) (eq-eqb t t refl)
     (eq-eqb o.first o.first refl)
 
--- WHAT A BANK GIVES
+-- WHICH REPLIES A BANK GIVES
 
 next_takes : (units : Vec ℕ Global) (k : ℕ) (op : Op) (o : Option PendingCall)
     → IsNextOf (Semaphores units) (Invoke k op) o → IsOp units op
@@ -165,7 +165,7 @@ or_right : (x y : Bool) → y ≡ true → (x || y) ≡ true
 or_right true y e = refl
 or_right false y e = e
 
--- a bank gives what has the units that it takes
+-- a bank gives a reply, if it has the units that the call takes
 pub bank_gives : (units : Vec ℕ Global) (m : ℕ → ℕ) (op : Op) (r : Reply) → IsOp units op
     → Suits op r → ((i : ℕ) → took i op r ≡ true → 0 < m i) → Gives m op r
 bank_gives units m (V i) Done h s f = refl
@@ -360,7 +360,7 @@ module _ (units : Vec ℕ Global) (x : Event) (past : List Event) (t : ℕ)
         omega arith) split.back
         (each_pair_right Earlier split.prefix (o ∷ split.back) pairs).0
 
-    -- the others of the pending calls were invoked elsewhere
+    -- the other pending calls were invoked at other positions
     pub apart_rest : Each (λ (p : PendingCall). p.first ≡ o.first → ⊥) (without x.worker os)
     apart_rest = subst (Each (λ (p : PendingCall). p.first ≡ o.first → ⊥)) (sym split.rest_is)
         (each_append (λ (p : PendingCall). p.first ≡ o.first

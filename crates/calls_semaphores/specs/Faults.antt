@@ -9,7 +9,7 @@ use Rattle.calls_semaphores.specs.declared.fault.Fault.{Fault}
 use Rattle.calls_semaphores.specs.Banks.{took, taken_units, added_units}
 
 -- up to the response of a call that took a unit of a semaphore, more units of it were taken than it
--- had at first and were added by the invocations up to there
+-- had at first, plus those that invocations up to there add
 pub record Shows (kind : Kind) (past : List Event) (f : Fault) : Type 0 where
   pub completed : Contains (completed_calls past) f.call
   pub took : took f.index f.call.op f.call.reply ≡ true

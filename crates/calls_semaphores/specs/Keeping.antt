@@ -1,4 +1,4 @@
--- What only the code's representation needs: no theorem of the bank is stated by these.
+-- The state of a bank and of the scan. Only the proofs and the private contracts use this.
 use Rattle.std.specs.Prelude.{◌≡◌, ℕ, ◌+◌, ◌-◌, ◌<◌, ◌≤◌, ◌==◌, Bool, true, false, List, ◌∷◌, ◌++◌}
 use Rattle.std.specs.Prelude.{length, map, Option, Some, None, if◌then◌else◌, slice_index}
 use Rattle.std.specs.Prelude.{slice_get, Vec}
@@ -91,7 +91,7 @@ abbrev pub answer : PendingCall → Option Reply
 answer o = if is_v o.op then Some Done else None
 
 -- a linearization in which a pending v has its response at t, and in which every call was invoked
--- before the end of the past
+-- in the history so far
 pub record IsLinearizationSoFar (units : Vec ℕ Global) (past : List Event) (t : ℕ) (cs : List Call)
     : Type 0 where
   pub each_once :
@@ -101,7 +101,7 @@ pub record IsLinearizationSoFar (units : Vec ℕ Global) (past : List Event) (t 
   pub early : Each (λ (c : Call). c.first < clock past) cs
   pub fits : Each (λ (c : Call). Takes (Some (Semaphores units)) c.op) cs
 
--- a pending v is at its place
+-- a pending v is in the linearization at its place
 abbrev pub IsPlaced : ℕ → List Call → PendingUnits → Type 0
 IsPlaced t cs o = is_v o.call.op ≡ true → slice_get cs o.place ≡ Some (completion t Done o.call)
 

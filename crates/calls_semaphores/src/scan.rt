@@ -13,7 +13,7 @@ use crate::{Bank, Fault, Outcome};
 use calls_core::{Action, Call, Event, Op, Part, PendingCall, PlacedCalls, Reply};
 use std::alloc::{AllocError, Global};
 
-/// A pending call.
+/// A pending call, and its index in the linearization so far.
 #[derive(Clone, Copy)]
 pub(crate) struct PendingUnits {
     /// The call.
@@ -22,7 +22,7 @@ pub(crate) struct PendingUnits {
     pub(crate) place: usize,
 }
 
-/// What is known of the events so far.
+/// The state of the scan after the events so far.
 #[derive(Drop)]
 pub(crate) struct Scan {
     /// The units that are left.
@@ -76,7 +76,7 @@ fn find(pending: &[PendingUnits], worker: usize) -> Option<usize>
 }
 
 impl Scan {
-    /// Begins with a bank of semaphores that have these units.
+    /// Returns the scan of no events, for a bank of semaphores that have these units.
     fn new(alloc: Global, units: &Vec<usize>, end: usize) -> Result<Self, AllocError>
         ensures { IfOk result (λ s. (s.end ≡ end) × IsOpened units.now.items s.bank
             × (s.pending.items ≡ []) × (s.order.items ≡ [])) }
@@ -89,7 +89,7 @@ impl Scan {
         })
     }
 
-    /// Takes in an invocation.
+    /// Adds an invocation.
     fn invoke(&mut self, event: Event, object: usize, op: Op) -> Result<(), AllocError>
         requires { UpTo (usize.MAX - 1) self.old.bank.added.items }
         ensures end { self.new.end ≡ self.old.end }
@@ -108,7 +108,7 @@ impl Scan {
         Ok(())
     }
 
-    /// Takes in a response.
+    /// Adds a response, and returns the fault that it shows, if any.
     fn respond(&mut self, event: Event, reply: Reply) -> Result<Option<Fault>, AllocError>
         ensures end { self.new.end ≡ self.old.end }
         ensures grows { GrowsByOne self.old.bank.added.items self.new.bank.added.items }
@@ -131,7 +131,7 @@ impl Scan {
         Ok(None)
     }
 
-    /// Takes in an event, and returns what it shows if there is no linearization.
+    /// Adds an event, and returns the fault that it shows, if any.
     fn event(&mut self, event: Event) -> Result<Option<Fault>, AllocError>
         requires { UpTo (usize.MAX - 1) self.old.bank.added.items }
         ensures end { self.new.end ≡ self.old.end }
@@ -148,7 +148,7 @@ impl Scan {
     }
 }
 
-/// Returns calls with their points.
+/// Returns the calls with their linearization points.
 fn place_calls(alloc: Global, calls: &[Call]) -> Result<PlacedCalls, AllocError>
     ensures { IfOk result (λ order. order ≡ calls.now) }
 {
@@ -159,8 +159,9 @@ fn place_calls(alloc: Global, calls: &[Call]) -> Result<PlacedCalls, AllocError>
     Ok(order)
 }
 
-/// Decides whether the calls of a bank of semaphores have a linearization. `end` is a position
-/// after all events.
+/// Decides whether the calls of a bank of semaphores have a linearization.
+///
+/// `end` is a position after all events.
 pub fn decide(
     alloc: Global,
     units: &Vec<usize>,

@@ -1,4 +1,4 @@
--- A database is a cell whose values go by numbers.
+-- A history of a database, whose values are numbers of lists, is one of a cell.
 use Rattle.std.proofs.Common.{ℕ, List, [], ◌∷◌, Option, Some, None}
 use Rattle.calls_core.specs.declared.history.Kind.TheVariants.{Cell, Database}
 use Rattle.calls_core.specs.declared.history.Op.{Op}

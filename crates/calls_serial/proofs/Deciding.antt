@@ -246,7 +246,7 @@ pub if_ok : {X Y : Type 0} (P Q : X → Type 0) (res : Result X Y) → ((r : X) 
 if_ok P Q (Ok r) f h = f r h
 if_ok P Q (Err e) f h = tt
 
--- the order of all
+-- the order of all calls, at the end
 pub order_all : (end i : ℕ) (events : List Event) (pass : Pass) → length events ≤ i
     → Holds end (past_at i events) pass
     → IsOrderOf Cell (reverse events) end (all_calls (helds pass.stages.items))

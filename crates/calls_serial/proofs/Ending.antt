@@ -1,4 +1,4 @@
--- A get's response, from what the search says to what the pass holds.
+-- A get's response, from the result of the search to the invariant of the pass.
 use Rattle.std.proofs.Common.{◌≡◌, ℕ, zero, suc, ◌+◌, ◌<◌, ◌≤◌, ◌⊎◌, List, []}
 use Rattle.std.proofs.Common.{◌∷◌, ◌++◌, length, Option, Some, None, refl, ap, sym, ◌∙◌}
 use Rattle.std.proofs.Common.{arith, subst, take, drop, slice_get, length-append}
@@ -227,7 +227,7 @@ module _ (end t : ℕ) (done : List Call) (pending : List PendingCall) (w at : �
             here [] h = refl
             here (a ∷ prefix) h = here prefix h
 
-    -- the same of a get that is known by an equation
+    -- the same for a get that is given by an equation
     pub placed_for : (z : Call) → z ≡ completion at r o → (i : ℕ) (more : List StageView)
         → IsAt hs m z.first x i
         → ((prefix : List StageView) (h : StageView) (back : List StageView) → length prefix ≡ i

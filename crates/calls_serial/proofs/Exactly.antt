@@ -1,4 +1,4 @@
--- Every history whose puts do not overlap has a linearization or shows a fault, without any code.
+-- Every history whose puts do not overlap has a linearization or shows a fault, whatever the code.
 use Rattle.std.proofs.Common.{◌≡◌, ℕ, zero, suc, ◌+◌, ◌-◌, ◌<◌, ◌≤◌, ◌⊎◌, inl, inr, false}
 use Rattle.std.proofs.Common.{List, [], ◌∷◌, ◌++◌, length, Option, Some, None, refl, ap}
 use Rattle.std.proofs.Common.{sym, ◌∙◌, arith, subst, take, drop, slice_get, get_or}
@@ -151,7 +151,7 @@ module _ (hs : List StageView) (n first x : ℕ) (le : n ≤ length hs) where
   sought begins = seek n (omega arith) begins
       (subst (Each (IsPassed first x)) (sym (taken_none hs n)) tt)
 
--- WHAT IS SHOWN STAYS SHOWN
+-- A FAULT STAYS
 
 shown_invoked : (x : Event) (k : ℕ) (op : Op) (past : List Event) → IsHistoryOf Cell past
     → clock past ≤ x.at → (gets : List Call) → HasNoneLeft past gets

@@ -27,7 +27,7 @@ use Rattle.calls_serial.specs.kept.Passing.{IsCallAt, first_of, IsLate}
 use Rattle.std.specs.Prelude.{IsTrue, ◌↔◌}
 use Rattle.calls_serial.proofs.Growing.{puts_yes, puts_no}
 
--- A WORKER'S CALL
+-- THE PENDING CALL OF A WORKER
 
 abbrev pub NotHis : List PendingCall → ℕ → ℕ → Type 0
 NotHis pending w k = (u : PendingCall) → slice_get pending k ≡ Some u → (u.worker == w) ≡ false
@@ -194,7 +194,7 @@ chain_on links i j next gets rest le e other h =
         sym (ap (λ o. option_eq (λ a b. a == b) o (Some j)) same ∙ eq-eqb j j refl) ∙ other in
         cc)
 
--- WHAT A SEARCH SAYS
+-- THE RESULT OF A SEARCH
 
 pub stage_is : (xs : List Stage) (i : ℕ) (d : Stage) (h : StageView) → i < length xs
     → slice_get (helds xs) i ≡ Some h → stage_view (get_or xs i d) ≡ h

@@ -1,4 +1,4 @@
--- What one more event leaves true.
+-- What stays true with one more event.
 use Rattle.std.proofs.Common.{◌≡◌, ℕ, suc, ◌<◌, ◌≤◌, ◌⊎◌, inl, inr, Bool, true, false, ◌==◌}
 use Rattle.std.proofs.Common.{cond, List, [], ◌∷◌, ◌++◌, length, Option, Some, None, refl, ap, sym}
 use Rattle.std.proofs.Common.{◌∙◌, arith, subst}
@@ -35,7 +35,7 @@ pub puts_append : (os ps : List PendingCall)
     → pending_puts (os ++ ps) ≡ pending_puts os ++ pending_puts ps
 puts_append = filter-append (λ (o : PendingCall). is_put o.op)
 
--- another call than a put is taken out
+-- a call that is no put is removed
 pub puts_without : (w : ℕ) (os : List PendingCall) (o : PendingCall) → pending_of w os ≡ Some o
     → is_put o.op ≡ false → pending_puts (without w os) ≡ pending_puts os
 puts_without w [] o e is_no = absurd (none-some o e)
@@ -47,7 +47,7 @@ puts_without w (y ∷ os) o e is_no =
       | false ↦ λ is. ap (λ zs. cond (is_put y.op) (y ∷ zs) zs) (puts_without w os o is is_no)
     ] e
 
--- a put with the others
+-- a pending put among the others
 pub record IsAmong (os rest : List PendingCall) (o : PendingCall) : Type 0 where
   pub prefix : List PendingCall
   pub back : List PendingCall
@@ -85,7 +85,7 @@ among w (y ∷ os) o e yes' =
       | false ↦ λ is. among_more y os (without w os) o (is_put y.op) refl (among w os o is yes')
     ] e
 
--- the only put is taken out
+-- the only pending put is removed
 pub only_put : (w : ℕ) (os : List PendingCall) (o p : PendingCall) → pending_of w os ≡ Some o
     → is_put o.op ≡ true → pending_puts os ≡ p ∷ []
     → (o ≡ p) × (pending_puts (without w os) ≡ [])
@@ -99,7 +99,7 @@ only_put w os o p e yes' one = (let s = among w os o e yes' in
     by (y ∷ []) back is left = absurd (let no : o ∷ back ≡ [] = cc in cc)
     by (y ∷ z ∷ prefix) back is left = absurd (let no : z ∷ (prefix ++ o ∷ back) ≡ [] = cc in cc)
 
--- and there is no other
+-- if a worker has a pending put, there are pending puts
 pub no_put : (w : ℕ) (os : List PendingCall) (o : PendingCall) → pending_of w os ≡ Some o
     → is_put o.op ≡ true → pending_puts os ≡ [] → ⊥
 no_put w os o e yes' none = (let s = among w os o e yes' in by s.prefix s.back (sym s.is ∙ none))

@@ -48,7 +48,7 @@ StartsBy n c = c.first ≤ n
 abbrev pub EndsFrom : ℕ → Call → Type 0
 EndsFrom n c = n ≤ c.last
 
--- calls that began by a moment may be before those that ended from it on
+-- calls invoked up to position n may be before calls that respond from n on
 across : (n : ℕ) (xs ys : List Call) → Each (StartsBy n) xs → Each (EndsFrom n) ys
     → Each (λ (x : Call). Each (KeepsOrder x) ys) xs
 across n [] ys h k = tt
@@ -123,7 +123,7 @@ keeps t (a ∷ hs) h f =
     (own_keep a.value a.moment t a.put a.gets h.0.put h.0.gets h.0.sorted)
     (keeps t hs h.1 f.1) (across_all t a hs h.0 f.0 h.1)
 
--- THE RUN
+-- THE ORDER IS A LEGAL SEQUENTIAL HISTORY
 
 get_runs : (m : ℕ → ℕ) (v : ℕ) (op : Op) (r : Reply) → op ≡ Get → r ≡ Number v → m 0 ≡ v
     → Gives m op r × (after m op r ≡ m)
@@ -154,7 +154,7 @@ held_runs m v n t (Some p) gs rest s h z run =
     let k = put_runs m v p.op p.reply s.op s.reply in
     (k.0, gets_run (after m p.op p.reply) v n t gs rest k.1 h (run (after m p.op p.reply)))
 
--- with a put at first the run goes from any state
+-- the calls of stages that all have a put are legal from any state
 rest_runs : (t : ℕ) (m : ℕ → ℕ) (hs : List StageView) → Each (IsHeld t) hs
     → Each (λ (h : StageView). (p : Call) × (h.put ≡ Some p)) hs → IsSequentialRun m (all_calls hs)
 rest_runs t m [] h p = tt

@@ -1,4 +1,4 @@
--- What each response leaves of the stages.
+-- The stages after each response.
 use Rattle.std.proofs.Common.{◌≡◌, ℕ, ◌+◌, ◌<◌, ◌≤◌, ◌⊎◌, inl, inr, true}
 use Rattle.std.proofs.Common.{cond, List, [], ◌∷◌, ◌++◌, length, Option, Some, None, refl, ap, sym}
 use Rattle.std.proofs.Common.{◌∙◌, arith, subst}
@@ -66,7 +66,7 @@ module _ (end t : ℕ) (done : List Call) (os : List PendingCall) (ls : List Lin
   own : Call
   own = completion at r o
 
-  -- a get of the value of a completed put, or of the value at first
+  -- a get of the value of a completed put, or of the initial value
   module _ (prefix : List StageView) (h : StageView) (back : List StageView) (now : Option Current) (x : ℕ)
       (op : o.op ≡ Get) (is : r ≡ Number x) (value : h.value ≡ x)
       (may : (IsOver o.first h.put → ⊥) ⊎ NextLater o.first (back ++ current now))
@@ -185,7 +185,7 @@ module _ (end t : ℕ) (done : List Call) (os : List PendingCall) (ls : List Lin
     link_is : IsLinked done os ls now.stage.moment (completion end Done now.call) now.stage.link
     link_is = now_linked end t done os stages ls now s
 
-    -- with no link there was no get
+    -- a stage without a link has no get yet
     moment_held : (l : Option ℕ) → IsLinked done os ls now.stage.moment
         (completion end Done now.call) l
         → Each (IsGot now.stage.value (moment_bound l now.stage.moment at) (at + 1)) now.stage.gets
@@ -205,7 +205,7 @@ module _ (end t : ℕ) (done : List Call) (os : List PendingCall) (ls : List Lin
           after = j.after;
         }) now.stage.gets held.gets
 
-    -- a get that a link has was completed
+    -- the get of a link is completed
     moment_early : (l : Option ℕ) → IsLinked done os ls now.stage.moment
         (completion end Done now.call) l → moment_bound l now.stage.moment at ≤ at
     moment_early None k = omega arith
@@ -242,7 +242,7 @@ module _ (end t : ℕ) (done : List Call) (os : List PendingCall) (ls : List Lin
     stages_later = later end t done os stages ls w at r o ours early waiting le lt stages
         (each_left (IsHeld t) stages (now.stage ∷ []) s.each)
 
-    -- a get has its value from the pending put
+    -- a get returns the value of the pending put
     module _ (x : ℕ) (op : o.op ≡ Get) (is : r ≡ Number x) (value : now.stage.value ≡ x)
         (because : Option ℕ) (leaves : Leaves (completion at r o ∷ done) (without w os)
         (completion at r o ∷ gets_of_link because ls) (Some now.call.first)) where

@@ -1,4 +1,4 @@
--- A get that no completed put leaves a value to.
+-- A get that can return the value of no completed put.
 use Rattle.std.proofs.Common.{◌≡◌, ℕ, zero, ◌<◌, ◌≤◌, ◌⊎◌, inl, inr, true, List}
 use Rattle.std.proofs.Common.{[]}
 use Rattle.std.proofs.Common.{◌∷◌, ◌++◌, Option, Some, None, refl, ap, sym, ◌∙◌, arith}
@@ -121,7 +121,7 @@ module _ (end t : ℕ) (done : List Call) (os : List PendingCall) (prefix : List
   over_of : (p : Call) → e.put ≡ Some p → p.last < o.first
   over_of p is = subst (IsOver o.first) is over
 
-  -- WHY THE VALUE THAT WAS THERE IS SHUT
+  -- WHY THE GET CANNOT RETURN THE VALUE AT ITS INVOCATION
 
   pub record IsClosing : Type 0 where
     pub bound : Option ℕ
@@ -201,7 +201,7 @@ module _ (end t : ℕ) (done : List Call) (os : List PendingCall) (prefix : List
       by_next (n ∷ hs) p f b v =
           by_chain n f.0 v.0 (λ q is lt. p.0.over (subst (IsOver o.first) (sym is) lt)) b.0 v.1
 
-  -- WHAT IS LEFT
+  -- WHICH PUT IS LEFT
 
   overwritten : (h : StageView) → Follows h e → (p : Call) → h.put ≡ Some p → IsShut more None own p
   overwritten h f p is = inr (inl (record {

@@ -1,4 +1,4 @@
--- What a fault shows leaves no linearization: the put that a get returns the value of.
+-- A history that shows a fault has no linearization: where the value of each get comes from.
 use Rattle.std.proofs.Common.{◌≡◌, ℕ, zero, suc, ◌<◌, ◌≤◌, ◌⊎◌, inl, inr, List, [], ◌∷◌, ◌++◌}
 use Rattle.std.proofs.Common.{length, Option, Some, None, refl, ap, sym, ◌∙◌, arith, subst, get_or}
 use Rattle.std.specs.List.{Contains}
@@ -29,9 +29,9 @@ use Rattle.calls_serial.proofs.Shutting.{same_put as put_is}
 abbrev pub Access : Call → Type 0
 Access c = Takes (Some Cell) c.op
 
--- A RUN
+-- LEGAL SEQUENTIAL HISTORIES
 
--- the get at index k returns the value at first, and no put is before it
+-- the get at index k returns the initial value m, and no put is before it
 record FromFirst (m v k : ℕ) (cs : List Call) (d : Call) : Type 0 where
   value : v ≡ m
   none : (j w : ℕ) → j < k → (get_or cs j d).op ≡ Put w → ⊥
@@ -202,7 +202,7 @@ module _ (done : List Call) (pending : List PendingCall) (u t : ℕ)
   Before None k = Unit {0}
   Before (Some b) k = IsBefore b k
 
-  -- what p was overwritten by, or a put that took effect after p, would be between them
+  -- no fault shuts c out from the put at index i, if no other put is between them in the order
   shut : (c : Call) (b : Option ℕ) (i k v : ℕ) → (at : k < length cs) → get_or cs k d ≡ c → i < k
       → Before b k → ((j w : ℕ) → i < j → j < k → (get_or cs j d).op ≡ Put w → ⊥)
       → IsShut done b c (get_or cs i d) → ⊥
@@ -225,7 +225,7 @@ module _ (done : List Call) (pending : List PendingCall) (u t : ℕ)
       (in_order i before.index (omega arith) within
       (let same = before.at in omega arith)) before.before before.put)
 
-  -- if the value at first is gone, some put is before
+  -- the initial value is not gone, if no put is before c in the order
   gone : (c : Call) (b : Option ℕ) (k : ℕ) → k < length cs → get_or cs k d ≡ c → Before b k
       → IsGone done b c → ((j w : ℕ) → j < k → (get_or cs j d).op ≡ Put w → ⊥) → ⊥
   gone c None k at is before g none =

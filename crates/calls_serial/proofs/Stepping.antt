@@ -1,4 +1,4 @@
--- What each event leaves of the stages.
+-- The stages after each event.
 use Rattle.std.proofs.Common.{◌≡◌, ℕ, ◌+◌, ◌<◌, ◌≤◌, ◌⊎◌, inl, inr, false}
 use Rattle.std.proofs.Common.{List, [], ◌∷◌, ◌++◌, Option, Some, None, refl, ap, sym}
 use Rattle.std.proofs.Common.{◌∙◌, arith, subst}
@@ -181,7 +181,7 @@ module _ (end t : ℕ) (done : List Call) (os : List PendingCall) (stages : List
     overs h = each_weaker (IsOverAt t) (IsOverAt (at + 1))
         (λ a k. over_later t (at + 1) a.put (omega arith) k) stages h
 
-  -- the stage at the end of the stages is changed
+  -- the last stage, of the pending put, is changed
   module _ (now : Current) (s : AreStages end t done os stages (Some now) ls) where
     pub before_now : Each (λ (a : StageView). Follows a now.stage) stages
     before_now = each_weaker (λ (a : StageView). Each (Follows a) (now.stage ∷ []))

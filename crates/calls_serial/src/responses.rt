@@ -1,4 +1,4 @@
-//! Responses.
+//! The responses of gets and puts.
 ghost use Rattle.std.specs.Prelude.{◌≡◌, ◌∷◌, reverse, IfOk};
 ghost use Rattle.calls_serial.specs.kept.Stages.{pending_puts, gets_of_link};
 ghost use Rattle.calls_serial.specs.kept.Passing.{first_of, completed_of, EndsGet, EndsCall};
@@ -10,7 +10,7 @@ use crate::stage::{Link, Pass};
 use calls_core::{Call, PendingCall, Reply};
 use std::alloc::{AllocError, Global};
 
-/// Gives a get with those by which it can return no value, the latest first.
+/// Returns a get, and the gets of the links by which it can return no value, the latest first.
 fn chain(
     alloc: Global,
     links: &[Link],
@@ -33,7 +33,7 @@ fn chain(
     Ok(gets)
 }
 
-/// Gives how many of `n` stages have a completed put, or none.
+/// Returns how many of `n` stages have a completed put, or the initial value.
 fn completed_stages(pending: &[PendingCall], n: usize) -> usize
     ensures { result ≡ completed_of (first_of (pending_puts pending.now)) n }
 {
@@ -43,7 +43,7 @@ fn completed_stages(pending: &[PendingCall], n: usize) -> usize
     }
 }
 
-/// Takes in the response of a get.
+/// Adds the response of a get, or returns the fault that it shows.
 fn end_get(
     alloc: Global,
     pass: &mut Pass,
@@ -70,7 +70,7 @@ fn end_get(
     }
 }
 
-/// Takes in the response of a call that was taken from the pending ones.
+/// Adds the response of a call that was removed from the pending ones, or returns its fault.
 pub fn respond(alloc: Global, pass: &mut Pass, call: Call) -> Result<Option<Fault>, AllocError>
     ensures { IfOk result (EndsCall pass.old pass.new call) }
 {

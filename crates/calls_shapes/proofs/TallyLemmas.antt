@@ -5,7 +5,7 @@ use Rattle.std.proofs.Common.{zero, suc, refl, arith, ap, ◌∙◌, subst, belo
 use Rattle.ec_core.proofs.shared.Joining.{get_front as get_left}
 use Rattle.ec_heading.proofs.shared.AddedObjects.{at_end as get_last}
 
--- each element is what it should be, and so is one more
+-- if each element is what it should be, so is each one after one more is added
 each_more : {X : Type 0} (P : ℕ → X) (xs : List X) (n : ℕ) (x : X) → length xs ≡ n
     → ((p : ℕ) → p < n → slice_get xs p ≡ Some (P p)) → x ≡ P n
     → (p : ℕ) → p < n + 1 → slice_get (xs ++ x ∷ []) p ≡ Some (P p)
@@ -20,7 +20,7 @@ tally_is t u e f =
     ap (λ n. let x : Tally = record { called = n; returned = t.returned } in x) e
     ∙ ap (λ n. let x : Tally = record { called = u.called; returned = n } in x) f
 
--- each tally is that of its moment, and so is one more
+-- if each tally is that of its moment, so is each one after one more is added
 pub tallies_more : (P : ℕ → Tally) (old new : List Tally) (n : ℕ) (t : Tally)
     → new ≡ old ++ t ∷ [] → length old ≡ n
     → ((p : ℕ) → p < n → slice_get old p ≡ Some (P p)) → t.called ≡ (P n).called

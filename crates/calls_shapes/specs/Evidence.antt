@@ -1,4 +1,4 @@
--- What shows a fault, as shapes.
+-- The evidence of a fault: the calls that it names, and the courses of its stairs.
 use Rattle.std.specs.Prelude.{ℕ, Bool, true, false, List, [], ◌∷◌, if◌then◌else◌}
 use Rattle.calls_core.specs.declared.history.Kind.{Kind}
 use Rattle.calls_core.specs.declared.history.Call.{Call}
@@ -52,7 +52,8 @@ faulty_calls (faults.Value f) = stored_calls f
 
 -- THE COURSES OF ITS STAIRS
 
--- the advances of the eventcount k, of which start is the count at first, up to the response of c
+-- the advances of the eventcount k, whose initial count is start, that were invoked before the
+-- response of c
 abbrev pub few_course : ℕ → ℕ → Call → Course
 few_course start k c = record {
   counted = Advances k;
@@ -90,7 +91,7 @@ count_courses start k (count.Few c) = few_course start k c ∷ []
 count_courses start k (count.Many c) = many_course start k c ∷ []
 count_courses start k (count.Since c s) = since_course start k c s ∷ []
 
--- the units that were given, and those that were taken
+-- the units that were added, and those that were taken
 abbrev pub unit_courses : ℕ → units.Fault → List Course
 unit_courses n f =
     record {

@@ -22,19 +22,19 @@ lies_in (Between from before) c = nat_le from c.first && nat_lt c.last before
 abbrev pub has_completed : CountFilter → Portion → Call → Bool
 has_completed counted portion c = is_counted counted c && lies_in portion c
 
--- and with a pending one
+-- whether a stair rises with a pending call
 abbrev pub has_pending : CountFilter → Portion → PendingCall → Bool
 has_pending counted Called o = counts counted o.object o.op
 has_pending counted Returned o = false
 has_pending counted (Between from before) o = false
 
--- the positions of the responses of these calls, in order
+-- the positions of the responses of the completed calls with which a stair rises, in order
 abbrev pub responses_in : CountFilter → Portion → List Event → List ℕ
 responses_in counted portion events =
     map (λ (c : Call). c.last) (filter (has_completed counted portion)
     (reverse (completed_calls (reverse events))))
 
--- the positions at which it rises, in order
+-- the positions at which a stair rises, in order
 abbrev pub rises_of : CountFilter → Portion → List Event → List ℕ
 rises_of counted Called events =
     map (λ (x : Event). x.at) (filter (calls_counted counted) events)

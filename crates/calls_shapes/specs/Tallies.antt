@@ -1,4 +1,4 @@
--- How many calls had been called and had returned, at each moment.
+-- How many calls had been invoked and had returned, at each moment.
 use Rattle.std.specs.Prelude.{ℕ, ◌==◌, Bool, true, false, ◌&&◌, List, count_by, reverse, take}
 use Rattle.calls_core.specs.declared.history.Op.{Op}
 use Rattle.calls_core.specs.declared.history.Op.TheVariants.{Ticket}
@@ -43,7 +43,7 @@ invokes_counted c (Respond r) = false
 abbrev pub calls_counted : CountFilter → Event → Bool
 calls_counted c x = invokes_counted c x.action
 
--- how many had been called, and how many had returned, after the first p events
+-- how many counted calls had been invoked, and how many had returned, after the first p events
 abbrev pub tally_at : CountFilter → List Event → ℕ → Tally
 tally_at c events p = record {
   called = count_by (calls_counted c) (take p events);

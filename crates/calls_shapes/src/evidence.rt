@@ -1,4 +1,4 @@
-//! What shows a fault, as shapes: the calls that it names, and the courses of its stairs.
+//! The evidence of a fault: the calls that it names, and the courses of its stairs.
 ghost use Rattle.std.specs.Prelude.{◌≡◌, IfOk};
 ghost use Rattle.calls_counts.specs.Faults.{least};
 ghost use Rattle.calls_shapes.specs.Evidence.{faulty_calls, courses_of};
@@ -12,7 +12,7 @@ use calls_core::{Call, Kind, Op, Reply};
 use calls_verdict::Fault;
 use std::alloc::{AllocError, Global};
 
-/// Returns the least count at which an eventcount gives a reply.
+/// Returns the least count of an eventcount with which a call can have a reply.
 fn least(op: Op, reply: Reply) -> usize
     ensures { result ≡ least op reply }
 {
@@ -59,7 +59,7 @@ pub fn faulty_calls(alloc: Global, fault: &Fault) -> Result<Vec<Call>, AllocErro
     }
 }
 
-/// Returns the course of the advances that had returned before a call.
+/// Returns the course of the advances that had returned before the invocation of a call.
 fn of_many(start: usize, object: usize, call: &Call) -> Course
     ensures { result ≡ many_course start object call.now }
 {
@@ -72,7 +72,7 @@ fn of_many(start: usize, object: usize, call: &Call) -> Course
     }
 }
 
-/// Returns the course of the advances that were called before a call returned.
+/// Returns the course of the advances that were invoked before the response of a call.
 fn of_few(start: usize, object: usize, call: &Call) -> Course
     ensures { result ≡ few_course start object call.now }
 {
@@ -85,8 +85,8 @@ fn of_few(start: usize, object: usize, call: &Call) -> Course
     }
 }
 
-/// Returns the course of the advances between two calls, from what the earlier one says on. One
-/// that gave up says nothing of a least count.
+/// Returns the course of the advances between two calls, from the count that the earlier one says.
+/// An await that gave up says no least count: then all advances before the later call are counted.
 fn of_since(start: usize, object: usize, call: &Call, earlier: &Call) -> Course
     ensures { result ≡ since_course start object call.now earlier.now }
 {
@@ -121,8 +121,8 @@ fn count_courses(
     Ok(courses)
 }
 
-/// Returns the courses of a fault of a semaphore with so many units at first: of those that were
-/// given, and of those that were taken.
+/// Returns the courses of a fault of a semaphore with `units` units at first: of those that were
+/// added, and of those that were taken.
 fn unit_courses(
     alloc: Global,
     units: usize,

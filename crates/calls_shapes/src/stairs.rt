@@ -10,7 +10,7 @@ use calls_report::completed_call;
 use calls_verdict::follow;
 use std::alloc::{AllocError, Global};
 
-/// Which of the counted calls a stair rises with, and when.
+/// Which of the counted calls raise a stair, and when.
 #[derive(Clone, Copy, Debug, PartialEq, Eq)]
 pub enum Portion {
     /// With each at its invocation.
@@ -85,8 +85,7 @@ fn invocations_of(
     Ok(positions)
 }
 
-/// Returns the positions of the responses of the calls with which a course rises that goes by
-/// responses.
+/// Returns the positions of the responses of the completed calls with which a course rises.
 fn responses_of(alloc: Global, events: &[Event], course: Course) -> Result<Vec<usize>, AllocError>
     ensures { IfOk result (λ v. v.items ≡ responses_in course.counted course.portion events.now) }
 {

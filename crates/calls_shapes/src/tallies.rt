@@ -1,4 +1,4 @@
-//! How many calls had been called and had returned, at each moment.
+//! How many calls had been invoked and had returned, at each moment.
 ghost use Rattle.std.specs.Prelude.{◌≡◌, ℕ, ◌+◌, ◌≤◌, Some, IfOk, length, slice_get};
 ghost use Rattle.std.specs.List.{cons_option};
 ghost use Rattle.std.specs.Prelude.{[], ◌∷◌, count_by};
@@ -25,9 +25,9 @@ pub enum CountFilter {
 /// How many calls are counted at a moment.
 #[derive(Clone, Copy, Debug, PartialEq, Eq)]
 pub struct Tally {
-    /// Those that had been called.
+    /// Those that had been invoked.
     pub called: usize,
-    /// Those that had returned, but for those that gave up.
+    /// Those that had returned, except those that gave up.
     pub returned: usize,
 }
 
@@ -67,7 +67,7 @@ pub(crate) fn calls_counted(counted: CountFilter, event: &Event) -> bool
     }
 }
 
-/// Returns how many of one call or none are counted.
+/// Returns 1 if there is a call and it is counted, otherwise 0.
 fn count_one(counted: CountFilter, call: Option<Call>) -> usize
     ensures count { result ≡ count_by (is_counted counted) (cons_option call []) }
     ensures few { result ≤ 1 }
@@ -78,7 +78,7 @@ fn count_one(counted: CountFilter, call: Option<Call>) -> usize
     }
 }
 
-/// Returns 1 if an event is the invocation of a call that is counted, else 0.
+/// Returns 1 if an event is the invocation of a call that is counted, otherwise 0.
 fn count_call(counted: CountFilter, event: &Event) -> usize
     ensures count { result ≡ count_by (calls_counted counted) (event.now ∷ []) }
     ensures few { result ≤ 1 }

@@ -1,4 +1,4 @@
--- Objects are added in turn.
+-- Objects are added, one sort after another.
 use Rattle.std.proofs.Common.{◌≡◌, ◌<◌, ◌≤◌, ℕ, zero, suc, ◌+◌, List, [], ◌∷◌, ◌++◌, length, map}
 use Rattle.std.proofs.Common.{Some, slice_get, refl, ap, sym, ◌∙◌, subst, arith, ⊎_elim}
 use Rattle.std.proofs.Common.{length-append}
@@ -56,7 +56,7 @@ from_push kinds n count kind one long is has = λ i lt.
     get_last kinds one (n + i) (omega arith) ∙ ap Some (is ∙ ap kind (sym same))))
     (cases_lt i count)
 
--- what was there stays
+-- these kinds are unchanged after objects are added
 pub from_grows : (old new : List Kind) (n count more : ℕ) (kind : ℕ → Kind)
     → n + count ≤ length old → HasFrom old n count kind → Grows old new more
     → HasFrom new n count kind

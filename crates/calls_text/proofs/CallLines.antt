@@ -1,4 +1,4 @@
--- The words of a call are those that spell it.
+-- The words that are read as a call are its text.
 use Rattle.std.proofs.Common.{◌≡◌, ℕ, ◌+◌, ◌-◌, ◌<◌, List, [], ◌∷◌, ◌++◌, length, Bool, true}
 use Rattle.std.proofs.Common.{false, eqb, nat_lt, not, Option, Some, None}
 use Rattle.std.proofs.Common.{refl, sym, ap, ap₂, ◌∙◌, subst, arith, codes, decimal, append-nil}
@@ -60,7 +60,7 @@ followed prefix o word s t same tail =
 
 -- CELLS AND DATABASES BY THEIR INDEX
 
--- how calls of a cell are spelled
+-- the text of the calls of a cell
 record IsCellAt (h : HeadingModel) (k x : ℕ) : Type 0 where
   put : put_word h k ≡ codes "put "
   get : get_word h k ≡ codes "get "
@@ -79,7 +79,7 @@ cell_at h x small =
       value = λ lists n. rw before refl;
     }
 
--- how calls of a database are spelled
+-- the text of the calls of a database
 pub record IsStoreAt (h : HeadingModel) (k i cells : ℕ) : Type 0 where
   pub put : put_word h k ≡ codes "write "
   pub get : get_word h k ≡ codes "snapshot "
@@ -100,7 +100,7 @@ database_at h i d there =
       value = λ lists n. rw (after, place, there) refl;
     }
 
--- CALLS IN TURN
+-- THE OPERATIONS, ONE BY ONE
 
 -- the words of the call, joined, are its text
 abbrev pub IsCallText : HeadingModel → List (List ℕ) → CallWord → List ℕ → List (List ℕ) → Object
@@ -110,7 +110,7 @@ IsCallText h lists v o ws obj n =
     verb_word v ++ 32 ∷ (o ++ spaced_words ws)
     ≡ call_text h lists (index_of h obj) (op_of_word v obj n)
 
--- the call names this object, and its tail is in order
+-- the call names this object, and its tail has no fault
 record Names (h : HeadingModel) (v : CallWord) (o : List ℕ) (ws : List (List ℕ)) (obj : Object)
     : Type 0 where
   heading : HasHeaderTree h
@@ -310,7 +310,7 @@ named_is h lists more verbs.Write o ws obj c = write_is h lists more o ws obj c
 named_is h lists more verbs.Snapshot o ws obj c =
     snapshot_is h (lists ++ more) o ws obj (only_number ws) c
 
--- whatever lists are added after the call
+-- the words of a call are its text, whatever lists are added after it
 pub call_is : (h : HeadingModel) (lists more : List (List ℕ)) (v : CallWord) (o : List ℕ)
     (ws : List (List ℕ)) (obj : Object) → HasHeaderTree h
     → object_in h v o (other_word v ws) ≡ Some obj → is_tail (tail_of v) ws ≡ true

@@ -1,4 +1,4 @@
--- A word that spells a cell is the one that spells it.
+-- A word that is read as a cell is the word of that cell.
 use Rattle.std.proofs.Common.{◌≡◌, ℕ, ◌+◌, ◌<◌, List, [], ◌∷◌, ◌++◌, cond, eqb, true, false, Option}
 use Rattle.std.proofs.Common.{None, Some, refl, sym, ap, ◌∙◌, decimal, append_assoc, nat_lt}
 use Rattle.std.specs.Prelude.{option_map}

@@ -187,14 +187,14 @@ may_add run w e v o is of none declared =
     let below : tally_at run.tally w e < run.recording.heading.setup.limit = leb-false _ _ more in
     omega (arith, declared.limit.1)
 
--- the call is not one too many
+-- a call without a fault is below the limit
 not_spent : (run : Running) (w : ℕ) (v : CallWord) (o : Object) (ws : List (List ℕ))
     → fault_by run w v o ws ≡ None → spent_by run w v o ≡ false
 not_spent run w v o ws none =
     (no_fault run.recording.heading w v o ws (is_some (pending_by run w)) (spent_by run w v o)
     none).more
 
--- of the lists that takes nothing
+-- this does not depend on the lists
 pub still_not_spent : (old new : Running) (mid : RecordingModel) (w : ℕ) (v : CallWord) (o : Object)
     (ws lists : List (List ℕ)) → mid ≡ record old.recording { lists = lists }
     → new.recording ≡ mid → new.tally ≡ old.tally → fault_by old w v o ws ≡ None
@@ -269,7 +269,7 @@ tallied h old new w verbs.Write o n at fits after =
 tallied h old new w verbs.Snapshot o n at fits after =
     λ u f few some. other_call old new w (index_of h o) ops.Get refl after u f
 
--- WHAT A CALL LEAVES
+-- THE STATE AFTER A CALL
 
 abbrev pub happening : ℕ → Action → List (List ℕ) → Happening
 happening w a lists = record { worker = w; action = a; lists = lists }

@@ -1,4 +1,4 @@
--- A line that is read as an event is the one that spells it.
+-- A line that is read as an event is the text of that event.
 use Rattle.std.proofs.Common.{◌≡◌, inl, inr, ℕ, List, [], ◌∷◌, ◌++◌, length, Bool, true, false}
 use Rattle.std.proofs.Common.{cond, Option, Some}
 use Rattle.std.proofs.Common.{Ok, refl, sym, ap, ap₂, ◌∙◌, subst, codes}
@@ -79,7 +79,7 @@ reply_extends r o answers.Timeout ws = same_lists r.lists
 
 -- WHAT A LINE ADDS
 
--- one event, spelled by the line whatever lists are added after it
+-- one event, whose text is the line, whatever lists are added after it
 pub record Adds (r : RecordingModel) (line : List ℕ) (s : RecordingModel) : Type 0 where
   pub event : Event
   pub heading : s.heading ≡ r.heading
@@ -181,7 +181,7 @@ return_adds r s line has c =
 
 -- ANY EVENT
 
--- a line that is taken adds the event that it spells
+-- an accepted line adds the event whose text it is
 pub line_adds : (r s : RecordingModel) (line : List ℕ) → HasHeaderTree r.heading
     → event_step r line ≡ Ok s → Adds r line s
 line_adds r s line has is =

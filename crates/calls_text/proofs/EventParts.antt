@@ -1,4 +1,4 @@
--- What a line that is taken as an event says: a call or a return, by which worker.
+-- The parts of a line that is accepted as an event: an invocation or a response, and its worker.
 use Rattle.std.proofs.Common.{◌≡◌, ◌⊎◌, inl, inr, ℕ, List, [], ◌∷◌, Bool, true, false, cond, Option}
 use Rattle.std.proofs.Common.{Some}
 use Rattle.std.proofs.Common.{None, Ok, Err, refl, codes, not}
@@ -31,7 +31,7 @@ no_fault (Some kind) x y is = cc
 
 -- INVOCATIONS
 
--- a call that a line says
+-- the line is an invocation, with which history r becomes s
 pub record IsCall (r : RecordingModel) (line : List ℕ) (s : RecordingModel) : Type 0 where
   pub name : List ℕ
   pub object : List ℕ
@@ -70,7 +70,7 @@ called_parts r s line w o v ws (Some i) (Some obj) words formed who which is =
 called_parts r s line w o v ws (Some i) None words formed who which is = cc
 called_parts r s line w o v ws None obj words formed who which is = cc
 
--- what is asked of an invocation after its numbers
+-- the tests of an invocation after that of its numbers
 abbrev later_tests : RecordingModel → ℕ → CallWord → Object → List (Bool × Kind)
 later_tests r w v o =
     (is_owned r.heading.groups o, kinds.Hidden)
@@ -87,7 +87,7 @@ good_tail r w v o ws none =
 
 -- RESPONSES
 
--- a return that a line says
+-- the line is a response, with which history r becomes s
 pub record IsReturn (r : RecordingModel) (line : List ℕ) (s : RecordingModel) : Type 0 where
   pub name : List ℕ
   pub answer : ReplyWord

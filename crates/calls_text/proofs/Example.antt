@@ -24,7 +24,7 @@ use Rattle.calls_text.specs.Grammar.{history_text}
 event : ℕ → ℕ → Action → Event
 event at worker action = record { at = at; worker = worker; action = action }
 
--- NUMBERS, SPELLED BY THEIR DIGITS
+-- THE DIGITS OF NUMBERS
 
 hundred : decimal 100 ≡ codes "100"
 hundred =
@@ -108,7 +108,7 @@ declared : DeclKind → List ℕ → ℕ → List ℕ → List ℕ → Declarati
 declared sort name number first second =
     record { sort = sort; name = name; number = number; first = first; second = second }
 
--- the list 4 5 goes by 1, and the list of zeros by 0
+-- the list 4 5 has the number 1, and the list of zeros 0
 pairs : RecordingModel
 pairs = record {
   heading = heading_of_tree (record {

@@ -1,4 +1,4 @@
--- The words of what is declared are found as what they spell.
+-- The word of each declared worker, object and group names it.
 use Rattle.std.proofs.Common.{◌≡◌, ℕ, ◌+◌, ◌-◌, ◌<◌, List, [], ◌∷◌, ◌++◌, length, true, false, eqb}
 use Rattle.std.proofs.Common.{nat_lt, Some, refl, sym, ap, ◌∙◌, subst, arith, decimal}
 use Rattle.std.proofs.Common.{append_assoc, slice_get, length-append, eq-eqb, ne_eqb}
@@ -35,7 +35,7 @@ use Rattle.calls_text.proofs.ObjectWords.{sound_of}
 
 -- WORDS BY NAMES
 
--- the word is found as the target, and can stand in a line
+-- the word names the target, and may be a word of a line
 pub record IsFound (words : NameTable) (t : Target) (word : List ℕ) : Type 0 where
   pub found : find_name word words ≡ Some t
   pub fine : IsFine word
@@ -87,7 +87,7 @@ sequencer_found h q has lt =
 
 -- CELLS
 
--- a word is cut at a byte that does not stand before
+-- a word is cut at the first such byte
 cut_there : (c : ℕ) (prefix rest : List ℕ) → Lacks c prefix
     → cut_at c (prefix ++ c ∷ rest) ≡ Some (prefix, rest)
 unfolding cut_at

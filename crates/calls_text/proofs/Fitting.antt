@@ -1,4 +1,4 @@
--- The object of a call is of the sort that the call asks for.
+-- The object of a call is of the sort that the call needs.
 use Rattle.std.proofs.Common.{◌≡◌, ℕ, List, Option, Some, None, slice_get, refl, subst}
 use Rattle.std.proofs.lemmas.Option.{slice_get_within}
 use Rattle.std.specs.Prelude.{option_map}

@@ -1,4 +1,4 @@
--- A line that is followed, by what it builds.
+-- A line that is followed, by the stage after it.
 use Rattle.std.proofs.Common.{◌≡◌, ◌⊎◌, inl, inr, ℕ, true, false, cond, List, [], ◌∷◌, ◌++◌}
 use Rattle.std.proofs.Common.{length, Option, Some, None, Result, Ok, Err, refl, ap, sym, ◌∙◌, subst, arith}
 use Rattle.std.proofs.Common.{length-append, bytes_eq, codes}
@@ -33,7 +33,7 @@ use Rattle.calls_text.specs.Following.{IsEvent, IsRun, IsHeading, PassesIn, foll
 
 -- AN EVENT IS ADDED
 
--- one event more, under the same heading
+-- one event more, with the same header
 pub record IsGrown (r q : RecordingModel) : Type 0 where
   pub heading : r.heading ≡ q.heading
   pub from : r.from ≡ q.from
@@ -108,7 +108,7 @@ no_draft : {P : Type 0} (x : Result Draft Kind) (q : RecordingModel) → drafted
 no_draft (Ok d) q is = absurd (let never : ⊥ = cc in never)
 no_draft (Err kind) q is = absurd (let never : ⊥ = cc in never)
 
--- if events may come they may have come before, or there is none
+-- after `run` there are no events; later the stage before had one event fewer
 abbrev pub IsFrom : Stage → RecordingModel → Type 0
 IsFrom s q = (q.events ≡ []) ⊎ ((r : RecordingModel) × (s ≡ Running r) × IsGrown r q)
 
@@ -165,7 +165,7 @@ step_ends (Running r) line q is =
     ] is
 step_ends (Ended r) line q is = cc
 
--- THE STAGES AS THE CODE HOLDS THEM
+-- THE STAGES AS THE CODE REPRESENTS THEM
 
 seen_events : (events : List Event) (s : held.Stage) (r : RecordingModel)
     → seen_with events s ≡ Running r → r.events ≡ events
@@ -229,7 +229,7 @@ passes_event line events x old (holds.Running r) adds =
     adds.0 adds.1 (holds.Running r) refl adds.2
 passes_event line events x old (holds.Ended r) adds = absurd adds
 
--- the line is none
+-- the line is no event
 abbrev pub NoEvent : List ℕ → List Event → held.Stage → held.Stage → Type 0
 NoEvent line events old new =
     (step (seen_with events old) line ≡ Ok (seen_with events new)) × IsFollowing events new
@@ -285,7 +285,7 @@ pub passes_fault : (n : ℕ) (line : List ℕ) (s : Stage) (fault : LineFault)
 passes_fault n line s line_faults.Memory fails = tt
 passes_fault n line s (line_faults.Of kind) fails = (refl, fails, refl)
 
--- a line that was taken
+-- an accepted line
 pub took : (o : Option Event) (stepped : Result Stage Kind) (events : List Event) (new : held.Stage)
     → Follows (Ok o) stepped events new → (t : Stage) × (stepped ≡ Ok t)
 took None stepped events new is = (seen_with events new, is.0)

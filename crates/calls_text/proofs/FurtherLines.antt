@@ -1,4 +1,4 @@
--- A history whose events come: what it is in the end.
+-- A history after some events and at its end: the same header, and perhaps more events.
 use Rattle.std.proofs.Common.{◌≡◌, ℕ, ◌+◌, true, false, cond, List, [], ◌∷◌, ◌++◌, Result, Ok, Err}
 use Rattle.std.proofs.Common.{refl, ap, sym, ◌∙◌, append_assoc, append-nil, bytes_eq, codes}
 use Rattle.calls_core.specs.declared.history.Event.{Event}
@@ -10,7 +10,7 @@ use Rattle.calls_text.specs.Outcomes.{OneRead, ParseResult, goes, after_line, pa
 use Rattle.calls_text.proofs.TextParts.{not_at_end as rest_ends, by_line, by_rest}
 use Rattle.calls_text.proofs.FollowingLines.{IsGrown, event_grown}
 
--- the same heading, and the events with perhaps more after them
+-- the same header, and the events with perhaps more after them
 pub record GoesFurther (r t : RecordingModel) : Type 0 where
   pub heading : r.heading ≡ t.heading
   pub from : r.from ≡ t.from

@@ -1,4 +1,4 @@
--- Each semaphore and each database of a heading has a name, and no word is empty.
+-- Each semaphore and each database of a header has a name, and no word is empty.
 use Rattle.std.proofs.Common.{◌≡◌, ◌⊎◌, inl, inr, ℕ, zero, suc, ◌+◌, ◌<◌, ◌≤◌, List, [], ◌∷◌, ◌++◌}
 use Rattle.std.proofs.Common.{length}
 use Rattle.std.proofs.Common.{Bool, true, false, cond, eqb, if◌then◌else◌, Option, Some, None, refl}
@@ -64,7 +64,7 @@ abbrev pub is_named : Group → Bool
 is_named (groups.Both s) = false
 is_named g = true
 
--- the group at this place has a name
+-- the group at this index has a name
 record IsCalledBy (names : NameTable) (i : ℕ) : Type 0 where
   word : List ℕ
   found : find_name word names ≡ Some (target.Group i)

@@ -1,4 +1,4 @@
--- Each group of a heading that has a name has one.
+-- A group of a header has at most one name.
 use Rattle.std.proofs.Common.{◌≡◌, ◌⊎◌, inl, inr, ℕ, ◌+◌, ◌≤◌, List, [], ◌∷◌, ◌++◌, true}
 use Rattle.std.proofs.Common.{false, cond, if◌then◌else◌, Option, Some, None, unwrap_or, refl}
 use Rattle.std.proofs.Common.{sym, ap, ◌∙◌, subst, arith, bytes_eq, codes, ne_eqb, eq-eqb}

@@ -1,4 +1,4 @@
--- The lines of a history are those that spell it.
+-- The lines that are read as a history are its text.
 use Rattle.std.proofs.Common.{◌≡◌, ℕ, ◌<◌, ◌≤◌, List, [], ◌∷◌, ◌++◌, true, false, cond, Result, Ok}
 use Rattle.std.proofs.Common.{Err}
 use Rattle.std.proofs.Common.{length, refl, sym, ap, ap₂, ◌∙◌, subst, codes, append_assoc}
@@ -148,7 +148,7 @@ lines_same h g from counts events xs lists p q s =
     ap (λ (k : HeadingModel). lines_with k from events lists) (sym p)
     ∙ ap₂ (λ (c : List (ℕ × ℕ)) (es : List Event). lines_with g c es lists) (sym q) (sym s)
 
--- what the lines after a limit say: a heading, counts and events
+-- the lines after that of the limit: a header, initial counts and events
 record HasBody (limit : ℕ) (lines : List (List ℕ)) (t : RecordingModel) : Type 0 where
   keeps : KeepsRules t
   spelled : codes "evc-calls 1" ∷ limit_line limit ∷ lines ≡ history_lines t

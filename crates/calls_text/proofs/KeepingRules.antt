@@ -1,4 +1,4 @@
--- What a line says that is taken as an event keeps the rules.
+-- An event whose line is accepted keeps the rules.
 use Rattle.std.proofs.Common.{◌≡◌, ℕ, ◌<◌, List, [], ◌∷◌, length, Bool, true, false, cond, eqb}
 use Rattle.std.proofs.Common.{not, Option, Some, None, refl, ap, ◌∙◌, subst, arith}
 use Rattle.std.proofs.Common.{◌||◌}
@@ -103,7 +103,7 @@ call_small verbs.Put ws o good = (only_small ws good, tt)
 call_small verbs.Write ws o good = words_small ws (or_parts (list_any is_no_number ws) _ good).0
 call_small _ ws o good = tt
 
--- the object is declared, of the sort that the call asks for, and takes these numbers
+-- the object is declared, of the sort that the call needs, and takes these numbers
 abbrev IsKept : HeadingModel → CallWord → List (List ℕ) → Object → Type 0
 IsKept h v ws o = IsDeclaredIn h o × TakesNumbers v o (called_numbers v ws)
 

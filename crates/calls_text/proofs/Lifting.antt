@@ -1,4 +1,4 @@
--- What is judged by the pending calls and by the advances is what the events so far say.
+-- Judging an event by the pending calls and the tally agrees with judging it by all events so far.
 use Rattle.std.proofs.Common.{◌≡◌, ◌<◌, ◌≤◌, ◌==◌, ℕ, zero, suc, ◌+◌, Bool, true, false, not, cond}
 use Rattle.std.proofs.Common.{List, [], ◌∷◌, ◌++◌, length, reverse, Option, Some, None, Result, Ok, Err}
 use Rattle.std.proofs.Common.{slice_get, refl, ap, sym, ◌∙◌, subst, arith, length-append}
@@ -101,7 +101,7 @@ spent_agrees events run w verbs.PBoth o is right = refl
 spent_agrees events run w verbs.Write o is right = refl
 spent_agrees events run w verbs.Snapshot o is right = refl
 
--- who lacks the right is told that, whether it may call more or not
+-- a worker that lacks the right gets `NoRight`, whether it may call more or not
 by_right : (a b c d busy s t : Bool) → (d ≡ true → s ≡ t) → first_that (
     (a, faults.BadNumber) ∷ (b, faults.Hidden) ∷ (c, faults.TwoRoles) ∷ (not d, faults.NoRight)
     ∷ (busy, faults.Busy) ∷ (s, faults.AtLimit) ∷ [])
@@ -128,7 +128,7 @@ fault_agrees events run w v o ws is =
 
 -- EVENTS
 
--- the history with what happened
+-- the history with the next event
 abbrev pub lifted : RecordingModel → Result Happening Kind → Result RecordingModel Kind
 lifted r (Ok x) = Ok (with_event r x.worker x.action x.lists)
 lifted r (Err kind) = Err kind
@@ -204,7 +204,7 @@ event_agrees events run line is =
       | false ↦ phrase_agrees events run (phrase_in (words_of line)) is
     ]
 
--- WHAT COMES OF IT
+-- THE STATE AFTER AN EVENT
 
 pending_then : (events : List Event) (x : Event) → pending_calls (reverse (events ++ x ∷ []))
     ≡ pending_after x x.action (pending_calls (reverse events))
@@ -273,7 +273,7 @@ unfolding step
 by_event r line other =
     ap (λ b. cond b (Ok (reading.Ended r)) (ran_on (event_step r line))) other
 
--- if these were the events, the line is no event
+-- if these were the events, the step fails as the event does
 pub event_failed : (events : List Event) (run : Running) (line : List ℕ) (fault : LineFault)
     → bytes_eq line (codes "end") ≡ false → IsRunning events run
     → StepFails fault (event_by run line)
@@ -284,7 +284,7 @@ event_failed events run line (lines.Of kind) other is failed =
     by_event r line other
     ∙ ap ran_on (event_agrees events run line is ∙ ap (lifted r) failed)
 
--- or it is this one
+-- or it adds this event
 pub event_follows : (events : List Event) (old new : Running) (line : List ℕ) (x : Event)
     → bytes_eq line (codes "end") ≡ false → IsRunning events old
     → Answers old new (Ok x) (event_by old line)
@@ -295,7 +295,7 @@ event_follows events old new line x other is given =
     let added : IsAdded events new line x r = event_added events old new line x is given in
     (by_event r line other ∙ ap ran_on added.stepped, added.next, added.run)
 
--- WITH THE EVENTS THAT ARE KEPT
+-- WITH THE EVENTS THAT ARE STORED
 
 pub seen_kept : (s : held.Stage) → seen_with (kept_events s) s ≡ stage_with_all s
 seen_kept holds.Opening = refl
@@ -329,7 +329,7 @@ kept_none old new stepped same is =
     let now : P (kept_events new) = subst P (sym same) is in
     (now.0 ∙ ap Ok (seen_kept new), sound new now.1)
 
--- the line was this event, which may be kept
+-- the line was this event, which may be stored
 pub kept_next : (old mid : held.Stage) (stepped : Result Stage Kind) (x : Event)
     → kept_events mid ≡ kept_events old → Adds x stepped (kept_events old) mid → IsNextIn mid x
 kept_next old (holds.Running r) stepped x same adds =
@@ -339,7 +339,7 @@ kept_next old holds.Limiting stepped x same adds = absurd adds
 kept_next old (holds.Declaring d) stepped x same adds = absurd adds
 kept_next old (holds.Ended r) stepped x same adds = absurd adds
 
--- and is kept
+-- and the event is stored
 pub kept_then : (old mid new : held.Stage) (stepped : Result Stage Kind) (x : Event)
     → kept_events mid ≡ kept_events old → Adds x stepped (kept_events old) mid → Keeps mid new x
     → (stepped ≡ Ok (stage_with_all new)) × IsSound new

@@ -51,7 +51,7 @@ pub goes_rest : (n : ℕ) (s : Stage) (rest : List ℕ) → is_ended s ≡ false
     → goes n s (lines_of_text rest) ≡ parse_end n s rest
 goes_rest n s rest going none = ap (goes n s) (parts_rest rest none) ∙ by_rest n s rest going
 
--- behind a line that is taken
+-- after an accepted line
 pub goes_on : (n : ℕ) (s t : Stage) (line more rest : List ℕ) (o : ParseResult) → is_ended s ≡ false
     → All (λ b. b ≢ 10) line → rest ≡ line ++ 10 ∷ more → goes n s (lines_of_text rest) ≡ o
     → step s line ≡ Ok t → goes (n + 1) t (lines_of_text more) ≡ o
@@ -67,7 +67,7 @@ returned n line r others o faults.Memory is fails = tt
 returned n line r others o (faults.Of kind) is fails =
     (line, sym is ∙ ap (λ x. after_line n line x others) fails, refl)
 
--- a line at fault
+-- a faulty line
 pub fails_line : (n : ℕ) (s : Stage) (line more rest : List ℕ) (o : ParseResult) (fault : LineFault)
     → is_ended s ≡ false → All (λ b. b ≢ 10) line → rest ≡ line ++ 10 ∷ more
     → goes n s (lines_of_text rest) ≡ o → StepFails fault (step s line)
@@ -82,7 +82,7 @@ ends_rest n s t [] some steps = absurd (some refl)
 ends_rest n s t (b ∷ bs) some steps =
     (b ∷ bs, ap (λ r. after_line n (b ∷ bs) r (λ u. fault_in n kinds.Unfinished (b ∷ bs))) steps, refl)
 
--- BY THE STAGE AS IT IS HELD
+-- BY THE STAGE AS THE CODE REPRESENTS IT
 
 pub ended_goes : (n : ℕ) (s : held.Stage) (r : Recording) (parts : List (List ℕ))
     → s ≡ holds.Ended r
@@ -104,7 +104,7 @@ pub is_over : (s : held.Stage) (r : Recording) → s ≡ holds.Ended r
 unfolding is_ended
 is_over s r is = ap (λ (x : held.Stage). is_ended (stage_with_all x)) is
 
--- a history is told of a stage that ended
+-- a history is returned only for a stage that has ended
 pub never : {A E : Type 0} (r : Result A E) (P : A → Type 0) (s : held.Stage)
     → IfOk r (λ x. is_ended (stage_with_all s) ≡ true) → is_ended (stage_with_all s) ≡ false
     → IfOk r P

@@ -1,4 +1,4 @@
--- The words of workers, objects and groups, found again.
+-- A word that names a worker, an object or a group is the word of that.
 use Rattle.std.proofs.Common.{◌≡◌, ℕ, ◌+◌, ◌<◌, ◌≤◌, List, length, true}
 use Rattle.std.proofs.Common.{nat_lt, Option, Some, None, refl, subst, arith}
 use Rattle.std.proofs.Common.{slice_get}
@@ -134,7 +134,7 @@ place_found None i is = cc
 place_found (Some (target.Group j)) i is = cc
 place_found (Some _) i is = cc
 
--- the word names the group at this place
+-- the word names the group at this index
 record IsGroup (h : HeadingModel) (w : List ℕ) (p : ℕ × Group) : Type 0 where
   there : slice_get h.groups p.0 ≡ Some p.1
   word : group_word h p.0 ≡ w
@@ -149,7 +149,7 @@ group_named h w p has is =
     place_found (find_name w h.names) b.0 b.1 in
     subst (IsGroup h w) m.2 (record { there = m.1; word = group_back h w b.0 has named })
 
--- the word names the semaphore at this place
+-- the word names the semaphore at this index
 pub record IsSemaphoreAt (h : HeadingModel) (w : List ℕ) (p : ℕ × Semaphore) : Type 0 where
   pub there : slice_get h.groups p.0 ≡ Some (groups.Semaphore p.1)
   pub word : group_word h p.0 ≡ w
@@ -169,7 +169,7 @@ semaphore_named h w p has is =
     let b = and_then_back placed_semaphore (group_in h w) p is in
     one_semaphore h w b.0.0 b.0.1 p (group_named h w b.0 has b.1) b.2
 
--- the word names the database at this place
+-- the word names the database at this index
 pub record IsDatabaseAt (h : HeadingModel) (w : List ℕ) (p : ℕ × databases.Database) : Type 0 where
   pub there : slice_get h.groups p.0 ≡ Some (groups.Database p.1)
   pub word : group_word h p.0 ≡ w

@@ -1,4 +1,4 @@
--- The lines before `run` are those that spell what they declare.
+-- The lines that are read before `run` are the text of what they declare.
 use Rattle.std.proofs.Common.{◌≡◌, ◌⊎◌, inl, inr, ℕ, ◌<◌, ◌≤◌, List, [], ◌∷◌, ◌++◌, length}
 use Rattle.std.proofs.Common.{Bool, true, false, cond, nat_lt, nat_le, not, ◌&&◌, ◌||◌, Option}
 use Rattle.std.proofs.Common.{Some}
@@ -50,7 +50,7 @@ same_word v w same = (bytes_eq-Decides v w).0 same
 
 -- THE LIMIT
 
--- the line says this limit, which texts may have
+-- the line says this limit, which is in range
 pub record SaysLimit (line : List ℕ) (d : Draft) : Type 0 where
   pub limit : ℕ
   pub low : 1 ≤ limit
@@ -109,9 +109,9 @@ limit_said line d is =
       | false ↦ λ good. said line (limit_digits (words_of line)) d refl good
     ] is
 
--- A COUNT AT THE BEGINNING
+-- AN INITIAL COUNT
 
--- the line says this count
+-- the line says this initial count
 pub record SaysStart (d : Draft) (line : List ℕ) (e : Draft) : Type 0 where
   pub event : ℕ
   pub count : ℕ
@@ -138,7 +138,7 @@ from_words_back (w ∷ e ∷ n ∷ []) p is =
     ] refl is
 from_words_back (w ∷ e ∷ n ∷ v ∷ ws) p is = cc
 
--- the count is one that may be at the beginning
+-- the number may be an initial count
 record IsStartOf (h : HeadingModel) (o : Option ℕ) (n : ℕ) : Type 0 where
   is : o ≡ Some n
   low : 1 ≤ n
@@ -159,7 +159,7 @@ count_back d e k None is = cc
 count_back d e k (Some n) is =
     let f = no_fault (from_fault d k) (with_start d k n) e is in (n, refl, f.1, f.0)
 
--- the eventcount may have a count at the beginning, after those before it
+-- the eventcount may have an initial count, after those before it
 free_back : (d : Draft) (k : ℕ) → from_fault d k ≡ None
     → (is_owned d.heading.groups (objects.Event k) ≡ false) × (is_later d.from k ≡ true)
 free_back d k none =
@@ -212,13 +212,13 @@ start_said d e line is =
 
 -- ALL LINES BEFORE `run`
 
--- lines of counts, each in its turn
+-- lines of initial counts, one after another
 abbrev pub StartsLead : Draft → List (List ℕ) → Draft → Type 0
 StartsLead d [] e = d ≡ e
 StartsLead d (line ∷ lines) e =
     (next : Draft) × (from_step d line ≡ Ok next) × StartsLead next lines e
 
--- lines of counts, `run`, and what follows
+-- lines of initial counts, `run`, and what follows
 record StartsRun (d : Draft) (lines : List (List ℕ)) (t : RecordingModel) : Type 0 where
   starts : List (List ℕ)
   rest : List (List ℕ)
@@ -228,7 +228,7 @@ record StartsRun (d : Draft) (lines : List (List ℕ)) (t : RecordingModel) : Ty
   some : 0 < last.heading.setup.workers
   runs : Leads (Running (recorded_of last)) rest (Ended t)
 
--- lines of a heading, lines of counts, `run`, and what follows
+-- lines of a header, lines of initial counts, `run`, and what follows
 pub record HeadsRun (h : HeadingModel) (lines : List (List ℕ)) (t : RecordingModel) : Type 0 where
   pub heads : List (List ℕ)
   pub starts : List (List ℕ)
@@ -241,7 +241,7 @@ pub record HeadsRun (h : HeadingModel) (lines : List (List ℕ)) (t : RecordingM
   pub some : 0 < last.heading.setup.workers
   pub runs : Leads (Running (recorded_of last)) rest (Ended t)
 
--- what a line does if it is not `run`
+-- a line that is not `run` leads to another draft
 pub drafted_back : (r : Result Draft Kind) (s : Stage) → drafted_on r ≡ Ok s
     → (e : Draft) × (r ≡ Ok e) × (s ≡ Declaring e)
 drafted_back (Ok e) s is = (e, refl, cc)
@@ -261,7 +261,7 @@ run_is d line is =
     let p = and_parts (bytes_eq line (codes "run")) (nat_lt 0 d.heading.setup.workers) is in
     (same_word line (codes "run") p.0, ltb-true _ _ p.1)
 
--- `run` here, or a line of the draft
+-- the line is `run`, or it leads to another draft
 step_cases : (d : Draft) (line : List ℕ) (s : Stage) → step (Declaring d) line ≡ Ok s
     → ((line ≡ codes "run") × (0 < d.heading.setup.workers) × (s ≡ Running (recorded_of d)))
     ⊎ ((e : Draft) × (draft_step d line ≡ Ok e) × (s ≡ Declaring e))
@@ -276,7 +276,7 @@ step_cases d line s is =
       | false ↦ λ q drafts. inr (drafted_back (draft_step d line) s drafts)
     ] refl is
 
--- a line of a count here, or one of the heading
+-- the line is that of an initial count, or one of the header
 draft_cases : (d e : Draft) (line : List ℕ) → draft_step d line ≡ Ok e
     → (from_step d line ≡ Ok e)
     ⊎ ((h : HeadingModel) × (head_step d.heading line ≡ Ok h) × (e ≡ record d { heading = h }))
@@ -333,7 +333,7 @@ start_here d e line lines t is rest = record {
   runs = rest.runs;
 }
 
--- after a line of a count
+-- after a line of an initial count
 starts_back : (d : Draft) (lines : List (List ℕ)) (t : RecordingModel) → 0 < length d.from
     → Leads (Declaring d) lines (Ended t) → StartsRun d lines t
 starts_back d [] t some leads = cc
@@ -401,9 +401,9 @@ heads_back h (line ∷ lines) t (next, taken, leads) =
       ]
     ]
 
--- WHAT THEY SPELL
+-- THEIR TEXT
 
--- the lines of counts are those of these counts
+-- the lines are those of these initial counts
 pub record StartsSpelled (d : Draft) (lines : List (List ℕ)) (e : Draft) : Type 0 where
   pub counts : List (ℕ × ℕ)
   pub heading : e.heading ≡ d.heading
@@ -443,7 +443,7 @@ starts_spelled d e (line ∷ lines) has (next, taken, leads) =
     start_spelled d next e line lines has one
     (starts_spelled next e lines (subst HasHeaderTree same has) leads)
 
--- counts leave the heading as it is
+-- lines of initial counts leave the header as it is
 pub starts_heading : (d e : Draft) (lines : List (List ℕ)) → StartsLead d lines e
     → e.heading ≡ d.heading
 starts_heading d e [] leads = ap (λ (x : Draft). x.heading) (sym leads)
@@ -451,7 +451,7 @@ starts_heading d e (line ∷ lines) (next, taken, leads) =
     starts_heading next e lines leads
     ∙ ap (λ (x : Draft). x.heading) (start_said d next line taken).adds
 
--- the lines of a heading are those of its outline
+-- the lines of a header are those of its syntax tree
 pub record HeadingSpelled (limit : ℕ) (lines : List (List ℕ)) (h : HeadingModel) : Type 0 where
   pub has : HasHeaderTree h
   pub version : h.version ≡ Two

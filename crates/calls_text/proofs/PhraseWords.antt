@@ -1,4 +1,4 @@
--- The words of a phrase are found again.
+-- The words of a phrase are read as that phrase.
 use Rattle.std.proofs.Common.{◌≡◌, ◌≤◌, ℕ, List, [], ◌∷◌, length, Bool, true, false, cond, ◌&&◌}
 use Rattle.std.proofs.Common.{Option, Some, None, if◌then◌else◌, refl, sym, ap, ◌∙◌, bytes_eq}
 use Rattle.std.proofs.Common.{codes}
@@ -55,7 +55,7 @@ verb_back w m =
     either_verb w m (object_verb_of w) (group_verb_of w) (object_verb_back w m)
     (group_verb_back w m)
 
--- ANSWERS
+-- REPLIES
 
 only_back : (word : List ℕ) (ws : List (List ℕ)) → is_word word ws ≡ true → ws ≡ word ∷ []
 only_back word [] is = cc

@@ -85,7 +85,7 @@ is_led r keeps =
     let l : Lead Opening (Ended r) = all_taken r keeps in
     led_by r l.lines (lines_back l.lines r l.taken.leads) l.taken.each l.taken.leads
 
--- WHAT IS SPELLED IS READ
+-- THE TEXT OF A HISTORY IS READ
 
 pub led_is_read : (r : RecordingModel) (n : ℕ) (rest : List ℕ) → IsLed r
     → goes n Opening (lines_of_text (history_text r ++ rest))
@@ -98,7 +98,7 @@ led_is_read r n rest led =
 pub spelled_is_read : SpelledIsRead
 spelled_is_read r n rest keeps = led_is_read r n rest (is_led r keeps)
 
--- NO TEXT BEGINS ANOTHER
+-- NO TEXT IS A PROPER PREFIX OF ANOTHER
 
 one_read : (r s : RecordingModel) (m n : ℕ) (x y : List (List ℕ))
     → ◌≡◌ {A = ParseResult} (Ok (record { recorded = r; number = m; rest = x }))
@@ -119,7 +119,7 @@ no_text_begins_another r s x y one other same =
 
 -- WHERE A TEXT IS CUT
 
--- one of two lists with one ending begins the other
+-- of two prefixes of one list, one is a prefix of the other
 append_cases : (xs ys zs ws : List ℕ) → xs ++ ys ≡ zs ++ ws
     → ((t : List ℕ) × (zs ≡ xs ++ t) × (ys ≡ t ++ ws))
     ⊎ ((t : List ℕ) × (xs ≡ zs ++ t) × (ws ≡ t ++ ys) × (t ≢ []))
@@ -140,7 +140,7 @@ append_cases (x ∷ xs) ys (z ∷ zs) ws is =
           )
     ]
 
--- what is left of a line with its LF, if some bytes follow
+-- a proper prefix of a line with its LF is a prefix of the line
 short_of : (line prefix t : List ℕ) → line ++ 10 ∷ [] ≡ prefix ++ t → t ≢ []
     → (tail : List ℕ) × (line ≡ prefix ++ tail)
 short_of line [] t is some = (line, refl)
@@ -152,7 +152,7 @@ short_of (a ∷ line) (b ∷ prefix) t is some =
     let k = short_of line prefix t tail some in
     (k.0, ap₂ (λ (x : ℕ) (xs : List ℕ). x ∷ xs) head k.1)
 
--- whole lines, and a part of the next one
+-- whole lines, and a prefix of the next one
 record IsCut (lines : List (List ℕ)) (prefix : List ℕ) : Type 0 where
   whole : List (List ℕ)
   line : List ℕ
@@ -228,7 +228,7 @@ each_there : (xs : List (List ℕ)) (y : List ℕ) (ys : List (List ℕ))
 each_there [] y ys all = all.0
 each_there (x ∷ xs) y ys all = each_there xs y ys all.1
 
--- what stands after the last LF is at fault, as unfinished if nothing does
+-- the bytes after the last LF are at fault, as unfinished if there are none
 taken_refused : (n : ℕ) (line : List ℕ) (r : Result Stage Kind)
     → (kind : Kind)
     × (after_line n line r (λ t. fault_in n kinds.Unfinished line) ≡ fault_in n kind line)

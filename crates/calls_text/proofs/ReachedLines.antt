@@ -1,4 +1,4 @@
--- Where a text has been read to, and what it comes to.
+-- How far a text has been read, and its outcome.
 use Rattle.std.proofs.Common.{◌≡◌, ℕ, ◌+◌, true, false, List, [], ◌∷◌, ◌++◌, length, Result, Ok, Err}
 use Rattle.std.proofs.Common.{refl, ap, sym, ◌∙◌, subst, arith, append_assoc, length-append, bytes_eq, codes, cond}
 use Rattle.calls_text.specs.declared.fault.Kind.{Kind}
@@ -47,7 +47,7 @@ lines_go n s t (line ∷ lines) q qs (next, steps, leads) =
     ∙ lines_go (n + 1) next t lines q qs leads
     ∙ ap (λ (k : ℕ). goes k t (q ∷ qs)) same
 
--- what is left says what the text comes to
+-- the outcome of what is left is that of the text
 pub reached_goes : (n : ℕ) (ps : List (List ℕ)) (s : Stage) (m : ℕ) (q : List ℕ)
     (qs : List (List ℕ)) → IsReached n ps s m (q ∷ qs) → goes n Opening ps ≡ goes m s (q ∷ qs)
 reached_goes n ps s m q qs at =
@@ -69,7 +69,7 @@ leads_more s t u [] line leads steps =
 leads_more s t u (l ∷ ls) line (next, is, leads) steps =
     (next, is, leads_more next t u ls line leads steps)
 
--- a line that is taken
+-- an accepted line
 pub reached_more : (n : ℕ) (ps : List (List ℕ)) (s t : Stage) (m : ℕ) (line : List ℕ)
     (qs : List (List ℕ)) → IsReached n ps s m (line ∷ qs) → step s line ≡ Ok t
     → IsReached n ps t (m + 1) qs
@@ -84,7 +84,7 @@ reached_more n ps s t m line qs at steps =
       number = count;
     }
 
--- WHAT A TEXT COMES TO
+-- THE OUTCOME OF A TEXT
 
 -- the end of a history
 pub reached_end : (n : ℕ) (ps : List (List ℕ)) (r : RecordingModel) (m : ℕ) (q : List ℕ)
@@ -108,7 +108,7 @@ fault_goes m s (b ∷ bs) [] kind some going fails =
     by_rest m s (b ∷ bs) going
     ∙ ap (λ r. after_line m (b ∷ bs) r (λ t. fault_in m kinds.Unfinished (b ∷ bs))) fails
 
--- a line at fault
+-- a faulty line
 pub reached_fault : (n : ℕ) (ps : List (List ℕ)) (s : Stage) (m : ℕ) (line : List ℕ)
     (qs : List (List ℕ)) (kind : Kind) → IsReached n ps s m (line ∷ qs)
     → (line ≡ [] → qs ≡ [] → ⊥) → is_ended s ≡ false → step s line ≡ Err kind
@@ -116,7 +116,7 @@ pub reached_fault : (n : ℕ) (ps : List (List ℕ)) (s : Stage) (m : ℕ) (line
 reached_fault n ps s m line qs kind at some going fails =
     reached_goes n ps s m line qs at ∙ fault_goes m s line qs kind some going fails
 
--- NOTHING CAME
+-- NO LINE WAS READ
 
 no_opening : {P : Type 0} (x : Result Draft Kind) → drafted_on x ≡ Ok Opening → P
 no_opening (Ok d) is = absurd (let never : ⊥ = cc in never)
@@ -155,7 +155,7 @@ none_lead : (s : Stage) (lines : List (List ℕ)) → Leads s lines Opening → 
 none_lead s [] leads = refl
 none_lead s (line ∷ lines) leads = absurd (leads_never s line lines leads)
 
--- if no line came, nothing was read
+-- at the first stage no line was read
 pub reached_opening : (n : ℕ) (ps : List (List ℕ)) (m : ℕ) (qs : List (List ℕ))
     → IsReached n ps Opening m qs → (n ≡ m) × (ps ≡ qs)
 reached_opening n ps m qs at =

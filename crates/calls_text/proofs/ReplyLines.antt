@@ -1,4 +1,4 @@
--- The words of a reply are those that spell it.
+-- The words that are read as a reply are its text.
 use Rattle.std.proofs.Common.{◌≡◌, ℕ, ◌-◌, ◌<◌, ◌≤◌, List, [], ◌∷◌, ◌++◌, length, Bool, true, false}
 use Rattle.std.proofs.Common.{cond}
 use Rattle.std.proofs.Common.{eqb, nat_lt, nat_le, refl, sym, ap, ◌∙◌, arith, slice_get}

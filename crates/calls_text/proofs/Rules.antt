@@ -46,7 +46,7 @@ end_taken : (r : RecordingModel) → step (Running r) (codes "end") ≡ Ok (Ende
 unfolding step
 end_taken r = refl
 
--- lines, if only that of the end, lead from a history to one that it grows to
+-- some lines lead from one stage to the other
 pub record Lead (s : Stage) (t : Stage) : Type 0 where
   pub lines : List (List ℕ)
   pub taken : AreTaken s lines t

@@ -1,4 +1,4 @@
--- Each event that the rules allow has a line that is taken as it.
+-- Each event that the rules allow has a line that is accepted as it.
 use Rattle.std.proofs.Common.{◌≡◌, ℕ, ◌-◌, ◌<◌, ◌≤◌, List, [], ◌∷◌, length, map}
 use Rattle.std.proofs.Common.{Bool, true, false, cond, eqb, nat_lt, nat_le, not, ◌&&◌, ◌||◌, Option}
 use Rattle.std.proofs.Common.{Some, None, Ok, refl, sym, ap, ap₂, ◌∙◌, arith, codes}
@@ -218,7 +218,7 @@ names r verbs.Snapshot (objects.Database i d) ns has there takes small =
     (ap (option_map as_database) f.0) refl refl (λ i. refl)
 names r v o ns has there takes small = absurd takes
 
--- a line that is taken
+-- an accepted line
 pub record IsTaken (r s : RecordingModel) : Type 0 where
   pub line : List ℕ
   pub part : IsPart line
@@ -318,7 +318,7 @@ call_taken r w v o ns has may =
 
 -- RETURNS
 
--- words by which a return says its answer
+-- words of the reply in a response
 record Says (r : RecordingModel) (c : PendingCall) (a : ReplyWord) (ns : List ℕ) : Type 0 where
   first : List ℕ
   others : List (List ℕ)
@@ -455,7 +455,7 @@ never_over limit (ops.PBoth i j) ws = (refl, refl)
 never_over limit (ops.Put v) ws = (refl, refl)
 never_over limit ops.Get ws = (refl, refl)
 
--- ANSWERS IN TURN
+-- THE REPLIES, ONE BY ONE
 
 reply_given : (r : RecordingModel) (w : ℕ) (b : Bool) (ns : List ℕ) → AreSmall ns
     → (b ≡ false → length ns ≡ 1)

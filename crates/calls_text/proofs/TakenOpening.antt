@@ -1,4 +1,4 @@
--- The lines before `run` of a history that keeps the rules are taken.
+-- The lines before `run` of a history that keeps the rules are accepted.
 use Rattle.std.proofs.Common.{◌≡◌, ℕ, zero, suc, ◌<◌, ◌≤◌, List, [], ◌∷◌, ◌++◌, length, map, Bool}
 use Rattle.std.proofs.Common.{true}
 use Rattle.std.proofs.Common.{false, cond, eqb, nat_lt, nat_le, ◌&&◌, Option, Some, None}
@@ -53,7 +53,7 @@ use Rattle.calls_text.proofs.FineWords.{Lacks, lacks_join, decimal_lacks, litera
 use Rattle.calls_text.proofs.FineWords.{IsFine, literal_fine, number_fine, IsLineOf, fine_line}
 use Rattle.calls_text.proofs.Finding.{event_found}
 
--- LINES THAT ARE TAKEN
+-- LINES THAT ARE ACCEPTED
 
 -- lines without an LF lead from one stage to another
 pub record AreTaken (s : Stage) (lines : List (List ℕ)) (t : Stage) : Type 0 where
@@ -118,9 +118,9 @@ limit_taken n low high =
     let may : is_limit Two n ≡ true = limit_from Two n low high in
     rw short (rw l.words (rw form (rw number (rw may refl))))
 
--- THE HEADING
+-- THE HEADER
 
--- `run` is no line of a heading
+-- `run` is no line of a header
 not_heading : (h : HeadingModel) → head_step h (codes "run") ≡ Err heads.BadLine
 unfolding head_step parts_in
 not_heading h =
@@ -138,7 +138,7 @@ not_run h next line e =
     sym (not_heading h) ∙ ap (head_step h) (sym ((bytes_eq-Decides line (codes "run")).0 same)) ∙ e
     in cc))
 
--- nor is a line that begins with `from`, if the workers came
+-- nor is a line that begins with `from`, once the workers are declared
 words_fail : (h : HeadingModel) (ws : List (List ℕ)) → opens_from ws ≡ true → 0 < h.setup.workers
     → words_step h ws ≡ Err heads.BadLine
 unfolding parts_in
@@ -185,7 +185,7 @@ heading_leads h end [] leads = ap (λ (g : HeadingModel). Declaring (draft_of g)
 heading_leads h end (line ∷ lines) (next, is, leads) =
     (Declaring (draft_of next), heading_step h next line is, heading_leads next end lines leads)
 
--- none of its lines has an LF
+-- no line of a header has an LF
 
 bytes_clean : (word : List ℕ) → AllByRecursion (λ b. is_name_byte b ≡ true) word → Lacks 10 word
 bytes_clean [] all = tt
@@ -272,7 +272,7 @@ outline_parts o is =
           is.declarations,
     )
 
--- COUNTS
+-- INITIAL COUNTS
 
 start_words : (h : HeadingModel) (p : ℕ × ℕ) → HasHeaderTree h → p.0 < length h.setup.events
     → p.1 < 1000000000000000000

@@ -151,7 +151,7 @@ line_read n s t line parts read is rest = record {
   leads = (t, is, rest.leads);
 }
 
--- a stage that is over, or one that is not
+-- a stage that has ended, or one that has not
 ended_or_not : (P : Stage → Type 0) → ((r : RecordingModel) → P (Ended r))
     → ((s : Stage) → is_ended s ≡ false → P s) → (s : Stage) → P s
 unfolding is_ended

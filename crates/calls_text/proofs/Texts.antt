@@ -1,4 +1,4 @@
--- What is read is spelled.
+-- A history is read from its own text.
 use Rattle.std.proofs.Common.{◌≡◌, ℕ, ◌+◌, sym, List, ◌++◌, length, ap, ◌∙◌}
 use Rattle.std.specs.List.{join_with_byte}
 use Rattle.ec_heading.specs.Spelling.{lines_text}

@@ -1,4 +1,4 @@
--- Numbers and lists of numbers are found again.
+-- Words that are read as numbers are their digits, and a list is found by its number.
 use Rattle.std.proofs.Common.{◌≡◌, ℕ, suc, ◌+◌, ◌-◌, List, [], ◌∷◌, ◌++◌, length, map, Bool, true}
 use Rattle.std.proofs.Common.{false, cond, eqb, not, ◌||◌, Option, Some, None, refl, sym, ap, ◌∙◌}
 use Rattle.std.proofs.Common.{arith, decimal, replicate, get_or, append-nil, ap₂}
@@ -70,7 +70,7 @@ next_at : {A : Type 0} (x : A) (xs : List A) (i : ℕ) (d : A)
     → get_or (x ∷ xs) (1 + i) d ≡ get_or xs i d
 next_at x xs i d = let next : 1 + i ≡ suc i = omega arith in ap (λ j. get_or (x ∷ xs) j d) next
 
--- a list that is there stands at its place, whatever lists are added
+-- a stored list is found at its index, whatever lists are added
 there_at : (l : List ℕ) (lists more : List (List ℕ)) → list_any (bytes_eq l) lists ≡ true
     → get_or (lists ++ more) (position_or_len (bytes_eq l) lists) [] ≡ l
 there_at l [] more there = cc
@@ -85,7 +85,7 @@ there_at l (x ∷ lists) more there =
           ∙ there_at l lists more g
     ] refl there
 
--- a list that is not there stands at its place once it is added
+-- a new list is found at its index once it is added
 new_at : (l : List ℕ) (lists more : List (List ℕ)) → list_any (bytes_eq l) lists ≡ false
     → get_or ((lists ++ l ∷ []) ++ more) (position_or_len (bytes_eq l) lists) [] ≡ l
 new_at l [] more none = refl
@@ -121,7 +121,7 @@ found l cells lists more false is long =
     (cond (list_any (bytes_eq l) lists) lists (lists ++ l ∷ []) ++ more)
     ∙ placed l lists more (list_any (bytes_eq l) lists) refl
 
--- a list goes by its number, whatever lists are added after it
+-- a list is found by its number, whatever lists are added after it
 pub list_found : (l : List ℕ) (cells : ℕ) (lists more : List (List ℕ)) → length l ≡ cells
     → numbers_of_list (lists_after lists l ++ more) cells (list_number lists l) ≡ l
 list_found l cells lists more long = found l cells lists more (is_zeros l) refl long

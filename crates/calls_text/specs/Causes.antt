@@ -21,7 +21,7 @@ has_space line = list_any (λ w. length w == 0) (words_of line)
 abbrev pub last_byte : List ℕ → List ℕ
 last_byte line = drop (length line - 1) line
 
--- what is wrong with the form of a line, wherever it stands
+-- what is wrong with the form of a line, whichever line is expected
 abbrev pub line_cause : List ℕ → Cause
 line_cause line = unwrap_or (first_that (
     (nat_lt 8192 (length line), causes.Long)
@@ -32,7 +32,7 @@ line_cause line = unwrap_or (first_that (
     ∷ (has_space line, causes.Space)
     ∷ [])) causes.Other
 
--- what is wrong with a line in the place of the first one
+-- what is wrong with a line that must be `evc-calls 1`
 abbrev pub header_cause : List ℕ → Cause
 header_cause line = unwrap_or (first_that (
     (bytes_eq line (codes "evc-trace 1") || bytes_eq line (codes "evc-trace 2"), causes.Trace)

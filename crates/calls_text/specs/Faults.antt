@@ -1,4 +1,4 @@
--- The kinds of faults, by number and by name, and those of headings among them.
+-- The kinds of faults, by number and by name, and those of headers among them.
 use Rattle.std.specs.Prelude.{ℕ, List, codes}
 use Rattle.calls_text.specs.declared.fault.Kind.{Kind}
 use Rattle.calls_text.specs.declared.fault.Kind.TheVariants as kinds
@@ -43,8 +43,8 @@ kind_name kinds.Idle = codes "Idle"
 kind_name kinds.Unsuited = codes "Unsuited"
 kind_name kinds.AtLimit = codes "AtLimit"
 
--- the kind of a fault of a line of a heading. No line is at fault if memory runs out, of which the
--- last case speaks
+-- the kind of a fault of a header line. `line_fault` passes no `Memory`, which is no fault of a
+-- line
 abbrev pub kind_of_head : HeadFault → Kind
 kind_of_head heads.BadLine = kinds.BadLine
 kind_of_head heads.BadName = kinds.BadName
@@ -55,7 +55,7 @@ kind_of_head heads.TooMany = kinds.TooMany
 kind_of_head heads.TwoRoles = kinds.TwoRoles
 kind_of_head heads.Memory = kinds.BadLine
 
--- why a line was not taken that a heading rejected
+-- the error of a line, given that of the header
 abbrev pub line_fault : HeadFault → LineFault
 line_fault heads.Memory = faults.Memory
 line_fault fault = faults.Of (kind_of_head fault)

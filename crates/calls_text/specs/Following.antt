@@ -1,4 +1,4 @@
--- A history that is read line by line, and whose events need not be kept.
+-- A history that is read line by line, and whose events need not be stored.
 use Rattle.std.specs.Prelude.{◌≡◌, ◌<◌, ◌+◌, ℕ, false, List, [], ◌∷◌, ◌++◌, length, Option, Some, None, Result, Ok, Err}
 use Rattle.std.specs.Borrow.{Bor}
 use Rattle.calls_core.specs.declared.history.Kind as sorts
@@ -20,7 +20,7 @@ use Rattle.calls_text.specs.Reading.{with_events}
 use Rattle.calls_text.specs.kept.Stages.{seen_with, IsFollowing}
 use Rattle.calls_text.specs.kept.Leading.{Leads}
 
--- what the lines so far have built, if these were the events
+-- the stage of reading, if these were the events
 abbrev pub stage_with_events : List Event → Follower → Stage
 stage_with_events events f = seen_with events f.stage
 
@@ -28,10 +28,10 @@ stage_with_events events f = seen_with events f.stage
 abbrev pub HasEvents : List Event → Follower → Type 0
 HasEvents events f = IsFollowing events f.stage
 
--- WHERE A TEXT HAS BEEN READ TO
+-- HOW FAR A TEXT HAS BEEN READ
 
--- from line n on, if the parts of the text are ps, the lines of one history have led to this
--- stage; line m is the next, if the parts are qs
+-- ps are the parts of the text from line n on: first lines of one history, which lead to stage s,
+-- and then qs, from line m on
 pub record IsReached (n : ℕ) (ps : List (List ℕ)) (s : Stage) (m : ℕ) (qs : List (List ℕ))
     : Type 0 where
   pub lines : List (List ℕ)
@@ -74,7 +74,7 @@ pub record IsEnd (line : List ℕ) (events : List Event) (old : held.Stage) : Ty
   pub events_are : whole.events ≡ events
   pub steps : step (seen_with events old) line ≡ Ok (Ended whole)
 
--- a line before the events
+-- a line before `run`
 pub record IsHeading (line : List ℕ) (events : List Event) (old new : held.Stage) : Type 0 where
   pub none : events ≡ []
   pub steps : step (seen_with events old) line ≡ Ok (seen_with [] new)
@@ -93,13 +93,13 @@ PassesIn lines.Run line events old new = IsRun line events old new
 PassesIn (lines.Event x) line events old new = IsEvent line events x old new
 PassesIn lines.End line events old new = IsEnd line events old
 
--- the line is at fault; if memory ran out, that says nothing of it
+-- the error is that of the line; if memory ran out, nothing is said of the line
 abbrev pub IsFaulty : TextFault → ℕ → List ℕ → Stage → Type 0
 IsFaulty (faults.At m kind cause) n line s =
     (m ≡ n) × (step s line ≡ Err kind) × (cause ≡ cause_of kind line)
 IsFaulty faults.Memory n line s = Unit {0}
 
--- what was answered to a line
+-- what was returned for a line
 abbrev pub Passes : Result HistoryLine TextFault → ℕ → List ℕ → List Event → Follower → Follower
     → Type 0
 Passes (Ok followed) n line events old new = PassesIn followed line events old.stage new.stage
@@ -109,7 +109,7 @@ abbrev pub long_kind : held.Stage → Kind
 long_kind holds.Opening = kinds.BadHeader
 long_kind _ = kinds.BadLine
 
--- so each line of more than 8192 bytes is at fault, unless the history has ended
+-- the error is that of each line of more than 8192 bytes, unless the history has ended
 abbrev pub IsLong : TextFault → ℕ → List Event → Follower → Type 0
 IsLong fault n events f = (line : List ℕ) → 8192 < length line
     → is_ended (stage_with_events events f) ≡ false

@@ -14,8 +14,8 @@ use Rattle.calls_text.specs.declared.form.ReplyWord.TheVariants as answers
 use Rattle.calls_text.specs.declared.form.Parts.{Parts}
 use Rattle.calls_text.specs.declared.form.Parts.TheVariants as parts
 
--- the words of an event: an invocation by its worker, what it does, its object and what stands
--- after that; a response by its worker, what it says, and its words
+-- the words of the line of an event. An invocation has its worker, its operation, its object and
+-- the words after that; a response has its worker, the form of its reply, and the words of that
 pub data Phrase : Type 0 where
   Calls : List ℕ → CallWord → List ℕ → List (List ℕ) → Phrase
   Returns : List ℕ → ReplyWord → List (List ℕ) → Phrase
@@ -26,14 +26,14 @@ only_in [] = None
 only_in (w ∷ []) = Some w
 only_in (w ∷ v ∷ ws) = None
 
--- whether these words are such a tail
+-- whether these words have the form of this tail
 abbrev pub is_tail : Tail → List (List ℕ) → Bool
 is_tail tails.Nothing ws = length ws == 0
 is_tail tails.Digits ws = option_map_or is_number_form (only_in ws) false
 is_tail tails.ManyDigits ws = nat_le 1 (length ws) && list_all is_number_form ws
 is_tail tails.Word ws = length ws == 1
 
--- an invocation, from the word of the call on
+-- the invocation of worker w, given its operation and the words after that
 abbrev pub called_in : List ℕ → Option CallWord → List (List ℕ) → Option Phrase
 called_in w None ws = None
 called_in w (Some v) [] = None
@@ -47,7 +47,7 @@ call_in w (v ∷ ws) = called_in w (parse_verb v) ws
 abbrev pub is_word : List ℕ → List (List ℕ) → Bool
 is_word word ws = option_map_or (λ w. bytes_eq w word) (only_in ws) false
 
--- what a response says
+-- the form of a reply, given the words after `returns`
 abbrev pub answer_of : List (List ℕ) → Option ReplyWord
 answer_of ws =
     if is_word (codes "done") ws then Some answers.Done
@@ -55,7 +55,7 @@ answer_of ws =
     else (if nat_le 1 (length ws) && list_all is_number_form ws then Some answers.Numbers
     else None))
 
--- a response, from what it says on
+-- the response of worker w, given the words after `returns`
 abbrev pub return_in : List ℕ → List (List ℕ) → Option Phrase
 return_in w ws = option_map (λ a. Returns w a ws) (answer_of ws)
 
@@ -69,7 +69,7 @@ phrase_in (w ∷ c ∷ v ∷ ws) =
     if bytes_eq c (codes "calls") then call_in w (v ∷ ws)
     else (if bytes_eq c (codes "returns") then return_in w (v ∷ ws) else None)
 
--- AS THE CODE HOLDS THEM
+-- AS THE CODE REPRESENTS THEM
 
 -- the words of what is left of a line, none if nothing is
 abbrev pub rest_words : Option (Bor (List ℕ)) → List (List ℕ)

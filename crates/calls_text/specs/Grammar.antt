@@ -12,9 +12,9 @@ use Rattle.calls_core.specs.Histories.{pending_of, pending_calls}
 use Rattle.calls_text.specs.Recordings.{RecordingModel}
 use Rattle.calls_text.specs.Spelling.{worker_word, event_word, call_text, spaced_reply}
 
--- THE COUNTS AT THE BEGINNING
+-- THE INITIAL COUNTS
 
--- the count of an eventcount
+-- the line of the initial count of an eventcount
 abbrev pub from_line : HeadingModel → ℕ × ℕ → List ℕ
 from_line h p = codes "from " ++ event_word h p.0 ++ 32 ∷ decimal p.1
 
@@ -30,13 +30,13 @@ action_text h lists (Some call) (Respond reply) =
     codes " returns" ++ spaced_reply h lists call.object call.op reply
 action_text h lists None (Respond reply) = []
 
--- an event after these; values of databases go by these lists
+-- the line of an event after these; the values of databases are the numbers of these lists
 abbrev pub event_line : HeadingModel → List (List ℕ) → List Event → Event → List ℕ
 event_line h lists before x =
     worker_word h x.worker
     ++ action_text h lists (pending_of x.worker (pending_calls (reverse before))) x.action
 
--- events after these, in order
+-- the lines of events after these, in order
 abbrev pub event_lines : HeadingModel → List (List ℕ) → List Event → List Event → List (List ℕ)
 event_lines h lists before [] = []
 event_lines h lists before (x ∷ xs) =

@@ -1,5 +1,5 @@
--- Laws of the format: exactly the histories that keep the rules are read, each from its own text,
--- and no text begins another.
+-- Theorems on the format: exactly the histories that keep the rules are read, each from its own
+-- text, and no text is a proper prefix of another.
 use Rattle.std.specs.Prelude.{◌≡◌, ◌≢◌, ℕ, ◌+◌, ◌==◌, List, [], ◌++◌, length, count_by}
 use Rattle.std.specs.Prelude.{Ok}
 use Rattle.calls_text.specs.declared.fault.Kind.{Kind}
@@ -10,10 +10,10 @@ use Rattle.calls_text.specs.Outcomes.{OneRead, lines_of_text, goes, fault_in}
 use Rattle.calls_text.specs.Rules.{KeepsRules}
 use Rattle.calls_text.specs.Grammar.{history_lines, history_text}
 
--- WHAT IS READ IS SPELLED
+-- WHAT IS READ IS THE TEXT OF A HISTORY
 
--- the history keeps the rules, and the bytes are its text and what is left: no other bytes have the
--- parts that are left
+-- the history keeps the rules, and the bytes are its text and the rest: no other bytes have the
+-- parts of the rest
 pub record IsSpelled (bytes : List ℕ) (n : ℕ) (read : OneRead) : Type 0 where
   pub keeps : KeepsRules read.recorded
   pub rest : List ℕ
@@ -26,7 +26,7 @@ abbrev pub ReadIsSpelled : Type 0
 ReadIsSpelled = (bytes : List ℕ) (n : ℕ) (read : OneRead)
     → goes n Opening (lines_of_text bytes) ≡ Ok read → IsSpelled bytes n read
 
--- WHAT IS SPELLED IS READ
+-- THE TEXT OF A HISTORY IS READ
 
 -- a history that keeps the rules is read from its text, whatever follows
 abbrev pub SpelledIsRead : Type 0
@@ -38,14 +38,14 @@ SpelledIsRead = (r : RecordingModel) (n : ℕ) (rest : List ℕ) → KeepsRules 
       rest = lines_of_text rest;
     })
 
--- NO TEXT BEGINS ANOTHER
+-- NO TEXT IS A PROPER PREFIX OF ANOTHER
 
 -- no text of a history is a proper prefix of another, and different histories have different texts
 abbrev pub NoTextBeginsAnother : Type 0
 NoTextBeginsAnother = (r s : RecordingModel) (x y : List ℕ) → KeepsRules r → KeepsRules s
     → history_text r ++ x ≡ history_text s ++ y → (r ≡ s) × (x ≡ y)
 
--- a text is refused at what stands after its last LF: as unfinished if nothing does
+-- a text is rejected at the bytes after its last LF: as unfinished if there are none
 pub record IsRefusedAtItsEnd (n : ℕ) (bytes : List ℕ) : Type 0 where
   pub line : List ℕ
   pub kind : Kind

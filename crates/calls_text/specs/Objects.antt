@@ -1,4 +1,4 @@
--- What the word of an object stands for, which objects belong to groups, and who may call what.
+-- Which object a word names, which objects belong to groups, and who may call what.
 use Rattle.std.specs.Prelude.{ℕ, ◌+◌, Bool, false, ◌&&◌, ◌||◌, ◌==◌, nat_le, nat_lt, List, [], ◌∷◌}
 use Rattle.std.specs.Prelude.{Option, Some, None, option_map, is_some, slice_get, if◌then◌else◌}
 use Rattle.std.specs.Option.{option_and_then}
@@ -25,11 +25,11 @@ abbrev pub group_place : targets.Target → Option ℕ
 group_place (target.Group i) = Some i
 group_place _ = None
 
--- the group at a place, with the place
+-- the group at an index, with the index
 abbrev pub group_at : List kinds.Group → ℕ → Option (ℕ × kinds.Group)
 group_at gs i = option_map (λ g. (i, g)) (slice_get gs i)
 
--- the group of this name, with its place among the groups
+-- the group of this name, with its index among the groups
 abbrev pub group_in : HeadingModel → List ℕ → Option (ℕ × kinds.Group)
 group_in h w =
     option_and_then (group_at h.groups) (option_and_then group_place (find_name w h.names))
@@ -40,7 +40,7 @@ placed_semaphore p = option_map (λ s. (p.0, s)) (semaphore_of p.1)
 abbrev pub placed_database : ℕ × kinds.Group → Option (ℕ × databases.Database)
 placed_database p = option_map (λ d. (p.0, d)) (database_of p.1)
 
--- a semaphore by its name, with its place: `both` has none
+-- the semaphore of this name, with its index among the groups; `both` has no name
 abbrev pub semaphore_in : HeadingModel → List ℕ → Option (ℕ × Semaphore)
 semaphore_in h w = option_and_then placed_semaphore (group_in h w)
 
@@ -61,8 +61,8 @@ as_semaphore s = objects.Semaphore s.0 s.1
 abbrev pub as_database : ℕ × databases.Database → Object
 as_database d = objects.Database d.0 d.1
 
--- what a call is of: the declared object, of the sort that the call asks for, that the word spells;
--- the other word is that of the second semaphore of a pair
+-- the declared object that the word of a call names, if it is of the sort that the call needs; the
+-- other word is that of the second semaphore of a pair
 abbrev pub object_in : HeadingModel → CallWord → List ℕ → Option (List ℕ) → Option Object
 object_in h verbs.Advance w other = option_map objects.Event (event_in h.words w)
 object_in h verbs.Read w other = option_map objects.Event (event_in h.words w)
@@ -91,8 +91,8 @@ is_owned gs o = list_any (owns o) gs
 
 -- RIGHTS
 
--- whether a worker may make a call of the object: one that advances or writes, or else one that
--- observes or reads. Who uses a group may draw from its sequencer
+-- whether the declarations allow a worker a call of the object; giving: whether it is an advance, a
+-- put or a write. A worker that uses a semaphore may draw from its sequencer
 abbrev pub has_right : Tables → ℕ → Bool → Object → Bool
 has_right t w giving (objects.Event e) =
     if giving then is_some (component_of t e w) else may_observe t e w

@@ -1,4 +1,4 @@
--- What a text comes to: a function of its lines.
+-- The outcome of reading a text: a function of its lines.
 use Rattle.std.specs.Prelude.{◌≡◌, ℕ, ◌+◌, ◌==◌, List, [], ◌∷◌, Result, Ok, Err}
 use Rattle.std.specs.List.{slice_split}
 use Rattle.calls_text.specs.declared.fault.Kind.{Kind}
@@ -34,19 +34,19 @@ ParseResult = Result OneRead LineAt
 abbrev pub fault_in : ℕ → Kind → List ℕ → ParseResult
 fault_in n kind line = Err (record { number = n; kind = kind; line = line })
 
--- goes on if the line was taken
+-- goes on if the line was accepted
 abbrev pub after_line : ℕ → List ℕ → Result Stage Kind → (Stage → ParseResult) → ParseResult
 after_line n line (Ok s) others = others s
 after_line n line (Err kind) others = fault_in n kind line
 
--- what stands after the last LF is judged like every line, and then it lacks its LF
+-- bytes after the last LF are judged like a line; if that has no fault, it is unfinished
 abbrev pub parse_end : ℕ → Stage → List ℕ → ParseResult
 parse_end n s [] = fault_in n kinds.Unfinished []
 parse_end n s (b ∷ bs) =
     after_line n (b ∷ bs) (step s (b ∷ bs)) (λ t. fault_in n kinds.Unfinished (b ∷ bs))
 
--- the first history of a text from line n on, in this stage: the lines in turn up to the line `end`
--- or to the first fault
+-- the first history of a text from line n on, in this stage: one line after another, up to `end` or
+-- to the first fault
 unfoldable pub goes : ℕ → Stage → List (List ℕ) → ParseResult
 goes n (Ended r) parts = Ok (record { recorded = r; number = n; rest = parts })
 goes n s [] = parse_end n s []
@@ -54,13 +54,13 @@ goes n s (rest ∷ []) = parse_end n s rest
 goes n s (line ∷ next ∷ others) =
     after_line n line (step s line) (λ t. goes (n + 1) t (next ∷ others))
 
--- the fault that was reported for a text; if memory ran out, that says nothing of it
+-- the error that was returned is that of the text; if memory ran out, nothing is said of the text
 abbrev pub ReturnsFault : ParseResult → TextFault → Type 0
 ReturnsFault o (faults.At n kind cause) =
     (line : List ℕ) × (o ≡ fault_in n kind line) × (cause ≡ cause_of kind line)
 ReturnsFault o faults.Memory = Unit {0}
 
--- what was answered for a text
+-- what was returned for a text
 abbrev pub Returns : ParseResult → Result Read TextFault → Type 0
 Returns o (Ok read) =
     o ≡ Ok (record {
@@ -70,7 +70,7 @@ Returns o (Ok read) =
     })
 Returns o (Err fault) = ReturnsFault o fault
 
--- why a line was not taken, with its number
+-- the error of a text at a line, with the number of the line
 abbrev pub fault_at : ℕ → List ℕ → LineFault → TextFault
 fault_at n line lines.Memory = faults.Memory
 fault_at n line (lines.Of kind) = faults.At n kind (cause_of kind line)

@@ -1,4 +1,4 @@
--- What the lines of a history build, line by line.
+-- How a history is read, line by line: the stage after each line.
 use Rattle.std.specs.Prelude.{◌≡◌, ℕ, ◌+◌, Bool, true, false, ◌&&◌, ◌||◌, ◌==◌, not, nat_le, nat_lt}
 use Rattle.std.specs.Prelude.{List, [], ◌∷◌, ◌++◌, length, map, reverse, Option, Some, None}
 use Rattle.std.specs.Prelude.{is_none, is_some}
@@ -90,8 +90,8 @@ is_spent r w verbs.Advance (objects.Event e) = nat_le r.heading.setup.limit
     (advances_by w e r.events)
 is_spent r w _ _ = false
 
--- the least fault of an invocation by a worker, of an object; busy: whether its call is pending;
--- spent: whether it may call no more
+-- the lowest kind of fault of an invocation of worker w, of an object. busy: whether the worker has
+-- a pending call; spent: whether it may call no more advances of the object
 abbrev pub call_fault_by : HeadingModel → ℕ → CallWord → Object → List (List ℕ) → Bool → Bool
     → Option Kind
 call_fault_by h w v o ws busy spent = first_that (
@@ -116,7 +116,7 @@ index_of h (objects.Semaphore i s) = semaphores h
 index_of h (objects.Pair i one j other common) = semaphores h
 index_of h (objects.Database i d) = first_group h + i
 
--- the place of the group, and that of the second one
+-- the index of a semaphore among the groups, and that of the second one of a pair
 abbrev pub place_in : Object → ℕ
 place_in (objects.Semaphore i s) = i
 place_in (objects.Pair i one j other common) = i
@@ -126,7 +126,7 @@ abbrev pub second_place_in : Object → ℕ
 second_place_in (objects.Pair i one j other common) = j
 second_place_in _ = 0
 
--- what is asked for; n is the number that is given, or that of the list
+-- the operation of a call; n is its number, or that of its list
 abbrev pub op_of_word : CallWord → Object → ℕ → Op
 op_of_word verbs.Advance o n = ops.Advance
 op_of_word verbs.Read o n = ops.Read
@@ -140,7 +140,7 @@ op_of_word verbs.PBoth o n = ops.PBoth (place_in o) (second_place_in o)
 op_of_word verbs.Write o n = ops.Put n
 op_of_word verbs.Snapshot o n = ops.Get
 
--- the number that is given
+-- the number in a call, or that of its list; and the lists after it
 abbrev pub number_in : List (List ℕ) → CallWord → List (List ℕ) → ℕ
 number_in lists verbs.Write ws = list_number lists (numbers_in ws)
 number_in lists _ ws = only_number ws
@@ -188,7 +188,7 @@ abbrev pub is_bad_answer : ReplyWord → List (List ℕ) → Bool
 is_bad_answer answers.Numbers ws = list_any is_no_number ws
 is_bad_answer _ ws = false
 
--- whether what is asked for takes this for an answer: nothing, that it gave up, or so many numbers
+-- whether this is a reply to the operation: `done`, `timeout`, or n numbers
 abbrev pub takes_done : Op → Bool
 takes_done ops.Read = false
 takes_done ops.Ticket = false
@@ -224,7 +224,7 @@ suit_fault h o a ws = first_that (
     ∷ (is_over h.setup.limit o.op a ws, kinds.AtLimit)
     ∷ [])
 
--- whether a get of this object returns a list
+-- whether this is a snapshot, whose reply is a list of numbers
 abbrev pub gives_list : HeadingModel → PendingCall → Op → Bool
 gives_list h o ops.Get = nat_le (first_group h) o.object
 gives_list h o _ = false
@@ -270,19 +270,19 @@ after_phrase r (Some (Calls w v o ws)) =
     after_invocation r (worker_in r.heading.words w) v (object_in r.heading v o (other_word v ws)) ws
 after_phrase r (Some (Returns w a ws)) = after_response r (worker_in r.heading.words w) a ws
 
--- the history after a line of an event, or the least kind of fault of the line
+-- the history after a line of an event, or the lowest kind of fault of the line
 unfoldable pub event_step : RecordingModel → List ℕ → Result RecordingModel Kind
 event_step r line = if is_no_line line then Err kinds.BadLine
     else after_phrase r (phrase_in (words_of line))
 
 -- BEFORE THE EVENTS
 
--- what is declared, and the counts at the beginning so far
+-- what is declared so far, and the initial counts
 pub record Draft : Type 0 where
   pub heading : HeadingModel
   pub from : List (ℕ × ℕ)
 
--- what the lines so far have built: nothing; the first line came; a heading; a history; all of one
+-- the stages of reading: before the first line, after it, after the limit, after `run`, after `end`
 pub data Stage : Type 0 where
   Opening : Stage
   Limiting : Stage
@@ -293,7 +293,7 @@ pub data Stage : Type 0 where
 abbrev pub draft_of : HeadingModel → Draft
 draft_of h = record { heading = h; from = [] }
 
--- the digits after the word `limit`, and nothing else
+-- the digits of a line `limit n`
 abbrev pub limit_digits : List (List ℕ) → Option (List ℕ)
 limit_digits (w ∷ n ∷ []) = if bytes_eq w (codes "limit") && is_number_form n then Some n else None
 limit_digits _ = None
@@ -311,7 +311,7 @@ unfoldable pub limit_step : List ℕ → Result Draft Kind
 limit_step line = if nat_lt 8192 (length line) then Err kinds.BadLine
     else limit_or (limit_digits (words_of line))
 
--- THE COUNTS AT THE BEGINNING
+-- THE INITIAL COUNTS
 
 -- the words of a line `from E n`: an eventcount, and digits
 abbrev pub from_words : List (List ℕ) → Option (List ℕ × List ℕ)
@@ -319,12 +319,12 @@ from_words (w ∷ e ∷ n ∷ []) = if bytes_eq w (codes "from") && is_number_fo
     else None
 from_words _ = None
 
--- the count, if it may be one at the beginning: from 1 to the limit
+-- the number, if it may be an initial count: from 1 to the limit
 abbrev pub start_in : HeadingModel → Option ℕ → Option ℕ
 start_in h None = None
 start_in h (Some n) = if nat_le 1 n && nat_le n h.setup.limit then Some n else None
 
--- whether an eventcount is declared after those that have a count already
+-- whether an eventcount is declared after those that have an initial count already
 abbrev pub is_later : List (ℕ × ℕ) → ℕ → Bool
 is_later [] e = true
 is_later (p ∷ []) e = nat_lt p.0 e
@@ -360,8 +360,8 @@ abbrev pub opens_from : List (List ℕ) → Bool
 opens_from [] = false
 opens_from (w ∷ ws) = bytes_eq w (codes "from")
 
--- whether it is a line on counts at the beginning: it begins with `from` and the workers came, or
--- such a line came before
+-- whether a line must be of the form `from E n`: it begins with `from` and the workers are
+-- declared, or such a line came before
 abbrev pub is_from : Draft → List ℕ → Bool
 is_from d line =
     nat_lt 0 (length d.from) || (opens_from (words_of line) && nat_lt 0 d.heading.setup.workers)
@@ -370,18 +370,18 @@ abbrev pub headed_on : Draft → Result HeadingModel HeadFault → Result Draft 
 headed_on d (Ok h) = Ok (record d { heading = h })
 headed_on d (Err fault) = Err (kind_of_head fault)
 
--- the draft after a line, or the least kind of fault of the line
+-- the draft after a line, or the lowest kind of fault of the line
 abbrev pub draft_step : Draft → List ℕ → Result Draft Kind
 draft_step d line = if is_from d line then from_step d line
     else headed_on d (head_step d.heading line)
 
 -- ANY LINE
 
--- a history of this heading, before its events
+-- a history of this draft, before its first event
 abbrev pub recorded_of : Draft → RecordingModel
 recorded_of d = record { heading = d.heading; from = d.from; events = []; lists = [] }
 
--- the line may be the last before the events
+-- whether the line is `run`, and the workers are declared
 abbrev pub is_run : Draft → List ℕ → Bool
 is_run d line = bytes_eq line (codes "run") && nat_lt 0 d.heading.setup.workers
 
@@ -393,7 +393,7 @@ abbrev pub ran_on : Result RecordingModel Kind → Result Stage Kind
 ran_on (Ok r) = Ok (Running r)
 ran_on (Err kind) = Err kind
 
--- the stage after a line, or the least kind of fault of the line
+-- the stage after a line, or the lowest kind of fault of the line
 unfoldable pub step : Stage → List ℕ → Result Stage Kind
 step Opening line = if bytes_eq line (codes "evc-calls 1") then Ok Limiting else Err kinds.BadHeader
 step Limiting line = drafted_on (limit_step line)
@@ -403,7 +403,8 @@ step (Running r) line = if bytes_eq line (codes "end") then Ok (Ended r)
     else ran_on (event_step r line)
 step (Ended r) line = Err kinds.BadLine
 
--- what a call answered and left is what the step gives, unless memory ran out
+-- a function returned, and left, what the step gives; if memory ran out, nothing is said of the
+-- step
 abbrev pub StepFails : {S : Type 0} → LineFault → Result S Kind → Type 0
 StepFails faults.Memory stepped = Unit {0}
 StepFails (faults.Of kind) stepped = stepped ≡ Err kind

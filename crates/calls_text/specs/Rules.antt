@@ -1,4 +1,5 @@
--- The rules by which a history grows, over objects and numbers: which histories texts may tell.
+-- The rules by which a history grows, over objects and numbers: which histories can be read from a
+-- text.
 use Rattle.std.specs.Prelude.{◌≡◌, ◌⊎◌, ℕ, zero, suc, ◌<◌, ◌≤◌, true, false, List, [], ◌∷◌, ◌++◌}
 use Rattle.std.specs.Prelude.{length, slice_get, Some, None, if◌then◌else◌}
 use Rattle.std.specs.List.{AllByRecursion}
@@ -28,9 +29,9 @@ use Rattle.calls_text.specs.Reading.{with_event, takes_done, takes_timeout, take
 use Rattle.calls_text.specs.Reading.{gives_list}
 use Rattle.calls_text.specs.Reading.{is_later}
 
--- THE COUNTS AT THE BEGINNING
+-- THE INITIAL COUNTS
 
--- a count of a declared eventcount of no group, after the eventcounts before it
+-- an initial count of a declared eventcount of no group; it is declared after those before it
 pub record IsStart (h : HeadingModel) (before : List (ℕ × ℕ)) (p : ℕ × ℕ) : Type 0 where
   pub declared : p.0 < length h.setup.events
   pub free : is_owned h.groups (objects.Event p.0) ≡ false
@@ -67,7 +68,7 @@ IsDeclaredIn h (objects.Pair i one j other common) =
     × (both_of h.groups ≡ Some common)
 IsDeclaredIn h (objects.Database i d) = slice_get h.groups i ≡ Some (groups.Database d)
 
--- the object is of the sort that the call asks for, and the numbers are as many as it takes
+-- the object is of the sort that the call needs, and the numbers are as many as the call takes
 abbrev pub TakesNumbers : CallWord → Object → List ℕ → Type 0
 TakesNumbers verbs.Advance (objects.Event e) ns = ns ≡ []
 TakesNumbers verbs.Read (objects.Event e) ns = ns ≡ []
@@ -82,7 +83,7 @@ TakesNumbers verbs.Write (objects.Database i d) ns = length ns ≡ d.cells
 TakesNumbers verbs.Snapshot (objects.Database i d) ns = ns ≡ []
 TakesNumbers v o ns = ⊥
 
--- the worker may make this call: it has the right and no pending call, and it keeps the limit
+-- the worker may make this call: it has the right and no pending call, and is below the limit
 pub record MayCall (r : RecordingModel) (w : ℕ) (v : CallWord) (o : Object) (ns : List ℕ) : Type 0 where
   pub worker : w < r.heading.setup.workers
   pub declared : IsDeclaredIn r.heading o
@@ -94,7 +95,7 @@ pub record MayCall (r : RecordingModel) (w : ℕ) (v : CallWord) (o : Object) (n
   pub idle : pending_in r.events w ≡ None
   pub within : is_spent r w v o ≡ false
 
--- the number that is given, or that of the list
+-- the number in a call, or that of its list; and the lists after it
 abbrev pub given_number : List (List ℕ) → CallWord → List ℕ → ℕ
 given_number lists verbs.Write ns = list_number lists ns
 given_number lists v ns = only ns
@@ -111,7 +112,7 @@ after_call r w v o ns =
 
 -- RETURNS
 
--- the call takes such an answer
+-- such a reply suits the call
 abbrev pub SuitsCall : HeadingModel → PendingCall → ReplyWord → List ℕ → Type 0
 SuitsCall h c answers.Done ns = (takes_done c.op ≡ true) × (ns ≡ [])
 SuitsCall h c answers.Timeout ns = (takes_timeout c.op ≡ true) × (ns ≡ [])
@@ -156,12 +157,12 @@ GrowsByOne r s =
     ⊎ ((w : ℕ) × (c : PendingCall) × (a : ReplyWord) × (ns : List ℕ) × MayReturn r w c a ns
     × (s ≡ after_return r w c a ns))
 
--- so many events more
+-- k more events
 abbrev pub GrowsBy : ℕ → RecordingModel → RecordingModel → Type 0
 GrowsBy zero r t = r ≡ t
 GrowsBy (suc k) r t = (s : RecordingModel) × GrowsByOne r s × GrowsBy k s t
 
--- the history keeps the rules: its heading is one of version 2, and it grows event by event
+-- the history keeps the rules: its header is one of version 2, and it grows event by event
 pub record KeepsRules (t : RecordingModel) : Type 0 where
   pub heading : HasHeaderTree t.heading
   pub version : t.heading.version ≡ Two

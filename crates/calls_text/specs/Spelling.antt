@@ -1,4 +1,4 @@
--- How calls and replies are spelled. Words are separated by one space.
+-- The text of calls and replies. Words are separated by one space.
 use Rattle.std.specs.Prelude.{ℕ, ◌-◌, ◌==◌, nat_lt, List, [], ◌∷◌, ◌++◌, replicate, codes, decimal}
 use Rattle.std.specs.Prelude.{unwrap_or, slice_index_or, if◌then◌else◌}
 use Rattle.std.specs.List.{flat_map}
@@ -12,7 +12,7 @@ use Rattle.calls_core.specs.declared.history.Reply.{Reply}
 use Rattle.calls_core.specs.declared.history.Reply.TheVariants as replies
 use Rattle.calls_text.specs.Recordings.{first_sequencer, first_cell, first_group, numbers_of}
 
--- WORDS: those of workers and objects within the bounds of headings, nothing for others
+-- WORDS: those of workers and objects within the bounds of a header, nothing for others
 
 abbrev pub worker_word : HeadingModel → ℕ → List ℕ
 worker_word h w = if nat_lt w 16 then target_name h.words (Worker w) else []
@@ -38,7 +38,7 @@ store_word h k =
 
 -- VALUES
 
--- the list that goes by a number, of a database with so many cells
+-- the list with this number, as the value of a database with so many cells
 abbrev pub numbers_of_list : List (List ℕ) → ℕ → ℕ → List ℕ
 numbers_of_list lists cells n =
     if n == 0 then replicate cells 0 else slice_index_or lists (n - 1) []

@@ -1,4 +1,4 @@
--- The words for calls, as a table.
+-- The words for operations, as a table.
 use Rattle.std.specs.Prelude.{ℕ, Bool, true, false, List, Option, Some, None, if◌then◌else◌}
 use Rattle.std.specs.Prelude.{bytes_eq, codes}
 use Rattle.calls_text.specs.declared.verb.CallWord.{CallWord}
@@ -6,7 +6,7 @@ use Rattle.calls_text.specs.declared.verb.CallWord.TheVariants as verbs
 use Rattle.calls_text.specs.declared.verb.Tail.{Tail}
 use Rattle.calls_text.specs.declared.verb.Tail.TheVariants as tails
 
--- the word for a call
+-- the word for an operation
 abbrev pub verb_word : CallWord → List ℕ
 verb_word verbs.Advance = codes "advance"
 verb_word verbs.Read = codes "read"
@@ -20,7 +20,7 @@ verb_word verbs.PBoth = codes "pboth"
 verb_word verbs.Write = codes "write"
 verb_word verbs.Snapshot = codes "snapshot"
 
--- the call of an object of no group that a word stands for
+-- the operation on an object of no group that a word names
 abbrev pub object_verb_of : List ℕ → Option CallWord
 object_verb_of w =
     if bytes_eq w (codes "advance") then Some verbs.Advance
@@ -30,7 +30,7 @@ object_verb_of w =
     else (if bytes_eq w (codes "put") then Some verbs.Put
     else (if bytes_eq w (codes "get") then Some verbs.Get else None)))))
 
--- the call of a group that a word stands for
+-- the operation on a group that a word names
 abbrev pub group_verb_of : List ℕ → Option CallWord
 group_verb_of w =
     if bytes_eq w (codes "p") then Some verbs.P
@@ -43,11 +43,11 @@ abbrev pub or_else : Option CallWord → Option CallWord → Option CallWord
 or_else None other = other
 or_else (Some v) other = Some v
 
--- the call that a word stands for
+-- the operation that a word names
 abbrev pub parse_verb : List ℕ → Option CallWord
 parse_verb w = or_else (object_verb_of w) (group_verb_of w)
 
--- what stands after the object
+-- the form of what follows the object
 abbrev pub tail_of : CallWord → Tail
 tail_of verbs.Await = tails.Digits
 tail_of verbs.Put = tails.Digits
@@ -55,7 +55,8 @@ tail_of verbs.Write = tails.ManyDigits
 tail_of verbs.PBoth = tails.Word
 tail_of _ = tails.Nothing
 
--- whether it advances or writes; else it observes or reads
+-- whether it is an advance, a put or a write, which need another right than the other calls of
+-- their object
 abbrev pub is_giving : CallWord → Bool
 is_giving verbs.Advance = true
 is_giving verbs.Put = true

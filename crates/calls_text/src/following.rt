@@ -1,4 +1,4 @@
-//! A history of calls that is read line by line, and whose events are handed out.
+//! Reads a history of calls line by line, and returns its events without storing them.
 ghost use Rattle.std.specs.Prelude.{◌≡◌, ◌↔◌, [], List, IsTrue, length, reverse, false};
 ghost use Rattle.calls_core.specs.declared.history.Event.{Event};
 ghost use Rattle.calls_core.specs.Histories.{pending_calls};
@@ -15,10 +15,10 @@ use crate::stage::Stage;
 use calls_core::Event;
 use std::alloc::Global;
 
-/// What a line of a history is.
+/// The kind of a line of a history.
 #[derive(Clone, Copy, Debug, PartialEq, Eq)]
 pub enum HistoryLine {
-    /// A line before the events.
+    /// A line before `run`.
     Heading,
     /// The line `run`: events may follow.
     Run,
@@ -28,13 +28,13 @@ pub enum HistoryLine {
     End,
 }
 
-/// A history whose lines come one by one. Its events are handed out, and not kept.
+/// A reader of one history, line by line. It returns each event and does not store it.
 #[derive(Drop)]
 pub struct Follower {
     pub(crate) stage: Stage,
 }
 
-/// Returns what a line was that led to this stage and was no event.
+/// Returns the kind of the line that led to this stage, if it was no event.
 fn what_led_to(stage: &Stage) -> HistoryLine
     ensures { result ≡ followed_in stage.now }
 {
@@ -45,7 +45,7 @@ fn what_led_to(stage: &Stage) -> HistoryLine
     }
 }
 
-/// Returns the least kind of fault of a line of more than 8192 bytes.
+/// Returns the lowest kind of fault of a line of more than 8192 bytes.
 fn long_kind(stage: &Stage) -> Kind
     ensures { result ≡ long_kind stage.now }
 {
@@ -56,7 +56,7 @@ fn long_kind(stage: &Stage) -> Kind
 }
 
 impl Follower {
-    /// Returns a history of which no line came yet.
+    /// Returns a follower before the first line.
     pub fn new() -> Follower
         ensures opening { stage_with_events [] result ≡ reading.Opening }
         ensures seen { HasEvents [] result }
@@ -66,7 +66,9 @@ impl Follower {
         }
     }
 
-    /// Takes the line of this number, given without its LF. After a fault the history has no use.
+    /// Reads the next line, given without its LF, and returns what it is.
+    ///
+    /// `number` is the number of the line. After an error no further line may be read.
     pub fn line(
         &mut self,
         alloc: Global,
@@ -83,7 +85,7 @@ impl Follower {
         }
     }
 
-    /// Returns why the line of this number is rejected, if it has more than 8192 bytes.
+    /// Returns the error of a next line that has more than 8192 bytes.
     pub fn long_line(&self, number: u64) -> TextFault
         ensures { (events : List Event) → IsLong result number events self.now }
     {
@@ -94,7 +96,7 @@ impl Follower {
         }
     }
 
-    /// Returns what a text comes to that ends here, with these bytes after its last LF.
+    /// Returns the error of a text that ends here, with these bytes after its last LF.
     pub fn cut_off(&mut self, alloc: Global, number: u64, rest: &[u8]) -> TextFault
         ensures { (events : List Event) → HasEvents events self.old
             → is_ended (stage_with_events events self.old) ≡ false
@@ -109,14 +111,14 @@ impl Follower {
         }
     }
 
-    /// Returns whether no line came yet.
+    /// Returns whether no line was read yet.
     pub fn is_opening(&self) -> bool
         ensures { (events : List Event) → IsTrue result ↔ (stage_with_events events self.now ≡ reading.Opening) }
     {
         matches!(self.stage, Stage::Opening)
     }
 
-    /// Returns what is declared, while events may come. It has no events.
+    /// Returns what is declared, after `run` and before `end`. No event is stored in it.
     pub fn recording(&self) -> Option<&Recording>
         ensures { (events : List Event) → Records result events self.now }
     {
@@ -126,7 +128,7 @@ impl Follower {
         }
     }
 
-    /// Returns how many calls are pending, while events may come.
+    /// Returns how many calls are pending, after `run` and before `end`, and otherwise 0.
     pub fn pending(&self) -> usize
         ensures { (events : List Event) (r : RecordingModel) → HasEvents events self.now
             → stage_with_events events self.now ≡ reading.Running r

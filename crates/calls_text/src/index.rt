@@ -31,7 +31,7 @@ pub fn first_group(heading: &Heading) -> usize
     first_cell(heading) + setup.cells() + 1
 }
 
-/// Returns how many cells a database has, 0 of another group.
+/// Returns how many cells a database has, or 0 for another group.
 pub(crate) fn cells_of(group: &Group) -> usize
     ensures { result ≡ cells_of group.now }
 {

@@ -1,4 +1,4 @@
-//! What the word of an object stands for.
+//! Finds the object that the words of a call name, and says who may call it.
 ghost use Rattle.std.specs.Prelude.{◌≡◌, option_map};
 ghost use Rattle.std.specs.Option.{option_and_then};
 ghost use Rattle.ec_heading.specs.Groups.{both_of};
@@ -12,19 +12,19 @@ use ec_database::DatabaseShape;
 use ec_heading::{Group, Heading, both_of};
 use ec_semaphore::SemaphoreShape;
 
-/// What a call is of. Groups go by their places among the groups, too.
+/// The object of a call. A semaphore or a database comes with its index among the groups.
 #[derive(Clone, Copy)]
 pub(crate) enum Object {
     Event(EventId),
     Sequencer(SeqId),
     Cell(CellId),
     Semaphore(usize, SemaphoreShape),
-    /// The two semaphores, and the common one.
+    /// The two semaphores of a `pboth`, and the semaphore `both`.
     Pair(usize, SemaphoreShape, usize, SemaphoreShape, SemaphoreShape),
     Database(usize, DatabaseShape),
 }
 
-/// Returns the place of the group of a name, and the group.
+/// Returns the group of this name, with its index among the groups.
 fn group_in(heading: &Heading, word: &[u8]) -> Option<(usize, Group)>
     ensures { result ≡ group_in heading.now word.now }
 {
@@ -44,7 +44,7 @@ fn semaphore_in(heading: &Heading, word: &[u8]) -> Option<(usize, SemaphoreShape
     Some((place, shape))
 }
 
-/// Returns the database of a name, with its place.
+/// Returns the database of this name, with its index among the groups.
 fn database_in(heading: &Heading, word: &[u8]) -> Option<(usize, DatabaseShape)>
     ensures { result ≡ database_in heading.now word.now }
 {
@@ -65,8 +65,9 @@ fn pair_in(heading: &Heading, word: &[u8], other: Option<&[u8]>) -> Option<Objec
     Some(Object::Pair(i, one, j, other, common))
 }
 
-/// Returns what a call is of: the declared object, of the sort that the call asks for, that its
-/// word spells. The second word is that of a pair's second semaphore.
+/// Returns the declared object that a call names, if it is of the sort that the call needs.
+///
+/// `other` is the name of the second semaphore of a `pboth`.
 pub(crate) fn object_in(
     heading: &Heading,
     verb: CallWord,
@@ -112,7 +113,9 @@ pub(crate) fn is_owned(groups: &[Group], object: &Object) -> bool
     groups.iter().any(|group| owns(object, group))
 }
 
-/// Returns whether a worker may make such a call of the object.
+/// Returns whether the declarations allow a worker such a call of the object.
+///
+/// `giving` says whether the call is an advance, a put or a write.
 pub(crate) fn has_right(setup: &Setup, worker: WorkerId, giving: bool, object: &Object) -> bool
     ensures { result ≡ has_right setup.now worker giving object.now }
 {

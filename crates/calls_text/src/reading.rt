@@ -1,4 +1,4 @@
-//! The first history of a text.
+//! Reads the first history of a text.
 ghost use Rattle.std.specs.Prelude.{◌≡◌, ◌≢◌, ◌<◌, ◌≤◌, ◌+◌, ◌^◌, All, IfOk, true, false, length};
 ghost use Rattle.calls_text.specs.Outcomes.{Returns, ReturnsFault, goes, parse_end, lines_of_text};
 ghost use Rattle.calls_text.specs.Outcomes.{fault_at};
@@ -12,7 +12,7 @@ use crate::stage::Stage;
 use ec_text::cut_line;
 use std::alloc::Global;
 
-/// A history of a text, and what stands after it.
+/// A history of a text, and the text after it.
 #[derive(Drop)]
 pub struct Read<'a> {
     /// The history.
@@ -23,7 +23,7 @@ pub struct Read<'a> {
     pub rest: &'a [u8],
 }
 
-/// Returns why a line was not taken, with its number.
+/// Returns the error of a text at a line, with the number of the line.
 pub(crate) fn fault_at(line: u64, text: &[u8], fault: LineFault) -> TextFault
     ensures { result ≡ fault_at line text.now fault }
 {
@@ -36,7 +36,7 @@ pub(crate) fn fault_at(line: u64, text: &[u8], fault: LineFault) -> TextFault
     }
 }
 
-/// Returns what a text comes to whose last line, of number n, lacks its LF.
+/// Returns the error of a text that ends before `end`, with these bytes after its last LF.
 fn cut_off(alloc: Global, stage: &mut Stage, line: u64, rest: &[u8]) -> TextFault
     requires sound { IsSound stage.old }
     requires going { is_ended (stage_with_all stage.old) ≡ false }
@@ -51,7 +51,7 @@ fn cut_off(alloc: Global, stage: &mut Stage, line: u64, rest: &[u8]) -> TextFaul
     }
 }
 
-/// Returns the history of an ended stage, or what a text comes to that ends in this one.
+/// Returns the history if its `end` was read, or otherwise the error of a text that ends here.
 fn finish<'a>(
     alloc: Global,
     stage: Stage,
@@ -75,9 +75,10 @@ fn finish<'a>(
     }
 }
 
-/// Reads the first history of a text, whose first line has this number, up to its first fault.
+/// Reads the first history of a text, up to its first faulty line.
 ///
-/// What stands after the last LF is judged like every line, and then the text is unfinished.
+/// `number` is the number of the first line. Bytes after the last LF are judged like a line; if
+/// that has no fault, the text is `Unfinished`.
 pub fn read_history(alloc: Global, text: &[u8], number: u64) -> Result<Read<'_>, TextFault>
     requires { number + length text.now < 2 ^ 64 }
     ensures tells { Returns (goes number reading.Opening (lines_of_text text.now)) result }

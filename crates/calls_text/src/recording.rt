@@ -1,4 +1,4 @@
-//! A history of calls under a heading.
+//! A history of calls: what its header declares, and its events.
 ghost use Rattle.std.specs.Prelude.{◌≡◌, ◌≤◌, ◌<◌, ◌+◌, ◌++◌, ◌∷◌, [], ℕ, length, map, slice_get};
 ghost use Rattle.std.specs.Prelude.{IfOk};
 ghost use Rattle.std.specs.Prelude.{OnOk, Some};
@@ -21,7 +21,7 @@ use std::marker::Model;
 /// A history of calls: what is declared, and the events.
 #[derive(Drop)]
 pub struct Recording {
-    /// In a box, since a heading is large and a history is moved.
+    /// Boxed, since a `Heading` is large and a history is moved.
     pub(crate) heading: Box<Heading>,
     pub(crate) from: Vec<(EventId, u64)>,
     pub(crate) kinds: Vec<Kind>,
@@ -49,7 +49,7 @@ impl Model for Recording {
     }) r.kinds.items };
 }
 
-/// Returns the count of an eventcount at the beginning.
+/// Returns the initial count of an eventcount.
 fn start_count(from: &[(EventId, u64)], event: usize) -> u64
     ensures { result ≡ start_count from.now event }
 {
@@ -65,7 +65,7 @@ fn start_count(from: &[(EventId, u64)], event: usize) -> u64
     }
 }
 
-/// Adds so many eventcounts, with their counts at the beginning.
+/// Adds `count` eventcounts, with their initial counts.
 fn add_events(
     kinds: &mut Vec<Kind>,
     from: &[(EventId, u64)],
@@ -81,7 +81,7 @@ fn add_events(
     Ok(())
 }
 
-/// Adds so many sequencers.
+/// Adds `count` sequencers.
 fn add_sequencers(kinds: &mut Vec<Kind>, count: usize) -> Result<(), AllocError>
     ensures grows { OnOk result (Grows kinds.old.items kinds.new.items count) }
     ensures are { OnOk result (HasFrom kinds.new.items (length kinds.old.items) count
@@ -93,7 +93,7 @@ fn add_sequencers(kinds: &mut Vec<Kind>, count: usize) -> Result<(), AllocError>
     Ok(())
 }
 
-/// Adds so many cells.
+/// Adds `count` cells.
 fn add_cells(kinds: &mut Vec<Kind>, count: usize) -> Result<(), AllocError>
     ensures grows { OnOk result (Grows kinds.old.items kinds.new.items count) }
     ensures are { OnOk result (HasFrom kinds.new.items (length kinds.old.items) count (λ x. Cell)) }
@@ -104,7 +104,7 @@ fn add_cells(kinds: &mut Vec<Kind>, count: usize) -> Result<(), AllocError>
     Ok(())
 }
 
-/// Returns the units of a semaphore at first, 0 of another group.
+/// Returns the initial units of a semaphore, or 0 for another group.
 fn initial_of(group: &Group) -> usize
     ensures { result ≡ initial_of group.now }
 {
@@ -114,14 +114,14 @@ fn initial_of(group: &Group) -> usize
     }
 }
 
-/// Returns the units of the semaphores at first, by the places of their groups.
+/// Returns the initial units of the semaphores, by the indices of their groups.
 fn start_units(alloc: Global, groups: &[Group]) -> Result<Vec<usize>, AllocError>
     ensures { IfOk result (λ units. units.items ≡ map initial_of groups.now) }
 {
     groups.iter().map(|group| initial_of(group)).collect(alloc)
 }
 
-/// Adds the semaphores.
+/// Adds the semaphores, as one object.
 fn add_semaphores(alloc: Global, kinds: &mut Vec<Kind>, groups: &[Group]) -> Result<(), AllocError>
     ensures grows { OnOk result (Grows kinds.old.items kinds.new.items 1) }
     ensures are { OnOk result (HasUnits kinds.new.items (length kinds.old.items) groups.now) }
@@ -131,7 +131,7 @@ fn add_semaphores(alloc: Global, kinds: &mut Vec<Kind>, groups: &[Group]) -> Res
     Ok(())
 }
 
-/// Adds the groups.
+/// Adds the groups, each as a database; one that is none has 0 cells.
 fn add_groups(kinds: &mut Vec<Kind>, groups: &[Group]) -> Result<(), AllocError>
     ensures grows { OnOk result (Grows kinds.old.items kinds.new.items (length groups.now)) }
     ensures are { OnOk result (HasGroups kinds.new.items (length kinds.old.items) groups.now) }
@@ -142,7 +142,7 @@ fn add_groups(kinds: &mut Vec<Kind>, groups: &[Group]) -> Result<(), AllocError>
     Ok(())
 }
 
-/// Returns the objects of a heading.
+/// Returns the kinds of the objects that a header declares, by index.
 fn kinds_of(
     alloc: Global,
     heading: &Heading,
@@ -197,15 +197,17 @@ impl Recording {
         &self.heading
     }
 
-    /// Returns the count of an eventcount at the beginning.
+    /// Returns the initial count of an eventcount.
     pub fn start(&self, event: EventId) -> u64
         ensures { result ≡ start_count self.now.from event }
     {
         start_count(&self.from, event.get())
     }
 
-    /// Returns the objects: the eventcounts, the sequencers, the cells, the semaphores as one, and
-    /// the groups, of which databases take calls.
+    /// Returns the kinds of the objects, by index.
+    ///
+    /// These are the eventcounts, the sequencers, the cells, the semaphores as one object, and the
+    /// groups. Of the groups only databases are called.
     pub fn kinds(&self) -> &[Kind]
         ensures { IsRecording self.now result.now }
     {
@@ -219,7 +221,7 @@ impl Recording {
         self.events.as_slice()
     }
 
-    /// Returns the lists by whose numbers databases go.
+    /// Returns the lists of numbers that databases store.
     pub fn lists(&self) -> &Lists
         ensures { result.now ≡ self.now.lists }
     {

@@ -1,4 +1,4 @@
-//! The events of a history, as their lines come.
+//! Reads the lines of the events of a history.
 ghost use Rattle.std.specs.Prelude.{◌≡◌, ◌+◌, ◌++◌, ◌==◌, ◌||◌, [], not, length, map, None, Some, false};
 ghost use Rattle.std.specs.Prelude.{Ok, IfOk, OnOk, option_map};
 ghost use Rattle.std.specs.List.{list_any};
@@ -37,10 +37,10 @@ use ec_heading::{Heading, LINE_MAX, count_words};
 use ec_text::{cut_word, has_blank, number};
 use std::alloc::{AllocError, Global};
 
-/// A history while its events come. Whoever reads it may keep them, or not.
+/// A history while its events are read. Its user may store them in the recording, or not.
 #[derive(Drop)]
 pub(crate) struct Running {
-    /// What is declared, the lists so far, and the events that are kept.
+    /// What is declared, the lists so far, and the events that are stored.
     pub(crate) recording: Recording,
     pending: Vec<PendingCall>,
     tally: Tally,
@@ -102,7 +102,7 @@ fn push_numbers(list: &[u8], numbers: &mut Vec<u64>) -> Result<(), AllocError>
     }
 }
 
-/// Returns the number of the list that words spell.
+/// Returns the number of the list that words spell, which is added if it is new.
 fn list_number(alloc: Global, lists: &mut Lists, list: &[u8]) -> Result<usize, AllocError>
     ensures number { IfOk result (λ n. n ≡ list_number lists.old (numbers_in (words_of list.now))) }
     ensures after { OnOk result
@@ -123,7 +123,7 @@ fn cells_in(object: &Object) -> usize
     }
 }
 
-/// Returns whether numbers are out of range, or not so many.
+/// Returns whether a number is out of range, or there are not as many numbers as cells.
 fn are_bad_numbers(rest: Option<&[u8]>, cells: usize) -> bool
     ensures { result ≡ list_any is_no_number (rest_words rest.entry)
         || not (length (rest_words rest.entry) == cells) }
@@ -134,7 +134,7 @@ fn are_bad_numbers(rest: Option<&[u8]>, cells: usize) -> bool
     }
 }
 
-/// Returns whether a number is out of range, or numbers are not as many as the cells.
+/// Returns whether a number of a call is out of range, or a write has not one number for each cell.
 fn is_bad_tail(tail: Tail, rest: Option<&[u8]>, object: &Object) -> bool
     ensures { result ≡ is_bad_tail tail (rest_words rest.entry) object.now }
 {
@@ -178,7 +178,7 @@ fn index_of(recording: &Recording, object: &Object) -> usize
     }
 }
 
-/// Returns the place of the group, and that of the second one.
+/// Returns the index of a semaphore among the groups, and that of the second one of a pair.
 fn places_in(object: &Object) -> (usize, usize)
     ensures first { result.0 ≡ place_in object.now }
     ensures second { result.1 ≡ second_place_in object.now }
@@ -190,7 +190,7 @@ fn places_in(object: &Object) -> (usize, usize)
     }
 }
 
-/// Returns what is asked for, with the number that is given, or that of the list.
+/// Returns the operation of a call. `n` is its number, or that of its list.
 fn op_of_word(verb: CallWord, object: &Object, n: usize) -> Op
     ensures { result ≡ op_of_word verb object.now n }
 {
@@ -208,7 +208,7 @@ fn op_of_word(verb: CallWord, object: &Object, n: usize) -> Op
     }
 }
 
-/// Returns the number that is given to a call, or that of its list.
+/// Returns the number in a call, or that of its list, which is added if it is new.
 fn number_in(
     alloc: Global,
     recording: &mut Recording,
@@ -227,21 +227,21 @@ fn number_in(
     }
 }
 
-/// Returns whether what is asked for takes no number for a reply.
+/// Returns whether `done` is a reply to the operation.
 fn takes_done(op: Op) -> bool
     ensures { result ≡ takes_done op }
 {
     !matches!(op, Op::Read | Op::Ticket | Op::Get)
 }
 
-/// Returns whether the call may give up.
+/// Returns whether `timeout` is a reply to the operation.
 fn takes_timeout(op: Op) -> bool
     ensures { result ≡ takes_timeout op }
 {
     matches!(op, Op::Await(_) | Op::P(_) | Op::PBoth(_, _))
 }
 
-/// Returns whether the call takes so many numbers for a reply.
+/// Returns whether `n` numbers are a reply to the call.
 fn takes_numbers(heading: &Heading, call: &PendingCall, n: usize) -> bool
     ensures { result ≡ takes_numbers heading.now call.now call.now.op n }
 {
@@ -273,7 +273,7 @@ fn is_over(limit: u64, op: Op, answer: ReplyWord, list: &[u8]) -> bool
     }
 }
 
-/// Returns the least fault of a reply to a call.
+/// Returns the lowest kind of fault of a reply to a call.
 fn suit_fault(heading: &Heading, call: &PendingCall, answer: ReplyWord, list: &[u8]) -> Option<Kind>
     ensures { result ≡ suit_fault heading.now call.now answer (words_of list.now) }
 {
@@ -286,7 +286,7 @@ fn suit_fault(heading: &Heading, call: &PendingCall, answer: ReplyWord, list: &[
     None
 }
 
-/// Returns whether the call returns a list.
+/// Returns whether the call is a snapshot, whose reply is a list of numbers.
 fn gives_list(heading: &Heading, call: &PendingCall) -> bool
     ensures { result ≡ gives_list heading.now call.now call.now.op }
 {
@@ -322,8 +322,10 @@ fn reply_of_word(
     }
 }
 
-/// Returns the least fault of an invocation, by a worker whose call is pending or not, and who may
-/// call no more advances or may.
+/// Returns the lowest kind of fault of an invocation.
+///
+/// `is_busy` says whether the worker has a pending call, and `is_spent` whether it may call no more
+/// advances of the object.
 fn call_fault(
     heading: &Heading,
     worker: WorkerId,
@@ -358,7 +360,7 @@ fn call_fault(
 }
 
 impl Running {
-    /// Returns a history before its events.
+    /// Returns a history before its first event.
     pub(crate) fn new(alloc: Global, recording: Recording) -> Running
         requires { recording.events ≡ [] }
         ensures recording { result.recording ≡ recording }
@@ -390,7 +392,8 @@ impl Running {
         }
     }
 
-    /// Returns whether the worker has called as many advances of it as the limit allows.
+    /// Returns whether the call is an advance, and the worker has called as many as the limit
+    /// allows.
     fn is_spent(&self, worker: WorkerId, verb: CallWord, object: &Object) -> bool
         ensures { result ≡ spent_by self.now worker verb object.now }
     {
@@ -402,7 +405,7 @@ impl Running {
         }
     }
 
-    /// Returns the next event, after which other calls are pending.
+    /// Returns the next event, and updates the pending calls.
     fn event(&mut self, worker: WorkerId, action: Action) -> Result<Event, AllocError>
         ensures at { IfOk result (λ x. x ≡ record {
           at = self.old.count;
@@ -440,7 +443,7 @@ impl Running {
         }
     }
 
-    /// Returns an invocation.
+    /// Returns the event of an invocation without a fault, and counts it.
     fn call(
         &mut self,
         alloc: Global,
@@ -462,7 +465,7 @@ impl Running {
         Ok(event)
     }
 
-    /// Takes an invocation.
+    /// Judges an invocation, and returns its event.
     fn take_call(
         &mut self,
         alloc: Global,
@@ -495,7 +498,7 @@ impl Running {
         }
     }
 
-    /// Returns a response.
+    /// Returns the event of a response without a fault.
     fn respond(
         &mut self,
         alloc: Global,
@@ -514,7 +517,7 @@ impl Running {
         self.event(worker, Action::Respond(reply))
     }
 
-    /// Takes a response.
+    /// Judges a response, and returns its event.
     fn take_return(
         &mut self,
         alloc: Global,
@@ -543,7 +546,7 @@ impl Running {
         }
     }
 
-    /// Takes the line of an event, without its LF, and returns the event.
+    /// Reads the line of an event, given without its LF, and returns the event.
     #[tactic(auto, unfolding(crate::specs::kept::Judging::event_by))]
     pub(crate) fn line(&mut self, alloc: Global, line: &[u8]) -> Result<Event, LineFault>
         ensures { Answers self.old self.new result (event_by self.old line.now) }

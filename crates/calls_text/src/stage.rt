@@ -1,4 +1,4 @@
-//! What the lines of a history so far have built.
+//! The stages of reading a history line by line.
 ghost use Rattle.std.specs.Prelude.{◌≡◌, [], List, Ok, IfOk, OnOk, true};
 ghost use Rattle.calls_core.specs.declared.history.Event.{Event};
 ghost use Rattle.calls_text.specs.Reading.{step, recorded_of, is_ended};
@@ -16,22 +16,22 @@ use calls_core::Event;
 use std::alloc::{AllocError, Global};
 use std::mem;
 
-/// What the lines so far have built.
+/// The state of reading a history, after the lines so far.
 #[derive(Drop)]
 pub(crate) enum Stage {
-    /// Nothing.
+    /// No line was read.
     Opening,
-    /// The first line came.
+    /// The first line was read.
     Limiting,
-    /// The limit came, and the lines of a heading may.
+    /// The limit was read. Declarations and `from` lines may follow.
     Declaring(Draft),
-    /// The line `run` came, and events may.
+    /// The line `run` was read. Events may follow.
     Running(Running),
-    /// The line `end` came.
+    /// The line `end` was read.
     Ended(Recording),
 }
 
-/// Takes the first line.
+/// Returns the stage after the first line.
 #[tactic(auto, unfolding(crate::specs::Reading::step))]
 fn after_first(line: &[u8]) -> Result<Stage, LineFault>
     ensures goes { GoesTo result (step reading.Opening line.now) [] }
@@ -44,7 +44,7 @@ fn after_first(line: &[u8]) -> Result<Stage, LineFault>
     }
 }
 
-/// Takes the line of the limit.
+/// Returns the stage after the line of the limit.
 #[tactic(auto, unfolding(crate::specs::Reading::step))]
 fn after_limit(alloc: Global, line: &[u8]) -> Result<Stage, LineFault>
     ensures goes { GoesTo result (step reading.Limiting line.now) [] }
@@ -56,7 +56,7 @@ fn after_limit(alloc: Global, line: &[u8]) -> Result<Stage, LineFault>
     }
 }
 
-/// Goes on from the declarations to the events.
+/// Returns the stage after the line `run`, given the declarations.
 fn running(alloc: Global, draft: Draft) -> Result<Stage, LineFault>
     ensures goes { GoesTo result (Ok (reading.Running (recorded_of draft))) [] }
     ensures kept { IfOk result (λ s. kept_events s ≡ []) }
@@ -69,10 +69,9 @@ fn running(alloc: Global, draft: Draft) -> Result<Stage, LineFault>
 }
 
 impl Stage {
-    /// Takes a line, given without its LF, and returns the event if it is one. The event is not
-    /// kept.
+    /// Reads a line, given without its LF, and returns the event if it is one.
     ///
-    /// A stage is large, and most lines leave it if it is.
+    /// The event is not stored. A stage is large, so it is changed in place: only `turn` moves it.
     #[tactic(auto, unfolding(crate::specs::Reading::step))]
     pub(crate) fn follow(&mut self, alloc: Global, line: &[u8]) -> Result<Option<Event>, LineFault>
         ensures follows { (events : List Event) → IsFollowing events self.old
@@ -98,7 +97,7 @@ impl Stage {
         }
     }
 
-    /// Keeps the event that came.
+    /// Stores an event, while events may come.
     fn keep(&mut self, event: Event) -> Result<(), AllocError>
         requires { IsNextIn self.old event }
         ensures { OnOk result (Keeps self.old self.new event) }
@@ -109,7 +108,7 @@ impl Stage {
         }
     }
 
-    /// Takes a line, given without its LF, and keeps the event if it is one.
+    /// Reads a line, given without its LF, and stores the event if it is one.
     pub(crate) fn take(&mut self, alloc: Global, line: &[u8]) -> Result<(), LineFault>
         requires { IsSound self.old }
         ensures { Takes result (step (stage_with_all self.old) line.now) self.new }
@@ -135,8 +134,8 @@ impl Stage {
         }
     }
 
-    /// Goes on to the next stage. What it moves is large, and takes no room in the callers, which
-    /// mostly turn nothing.
+    /// Replaces the stage by the next one. The value that it moves is large: out of line, it takes
+    /// no room in the stack frames of the callers, which rarely come here.
     #[cold]
     #[inline(never)]
     fn turn(&mut self, alloc: Global, line: &[u8]) -> Result<(), LineFault>
@@ -172,7 +171,7 @@ impl Stage {
         }
     }
 
-    /// Returns whether the line `end` came.
+    /// Returns whether the line `end` was read.
     #[tactic(auto, unfolding(crate::specs::Reading::is_ended))]
     pub(crate) fn is_ended(&self) -> bool
         ensures { result ≡ is_ended (stage_with_all self.now) }

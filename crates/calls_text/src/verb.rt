@@ -1,9 +1,9 @@
-//! The words for calls.
+//! The words for operations, such as `advance`.
 ghost use Rattle.std.specs.Prelude.{◌≡◌};
 ghost use Rattle.calls_text.specs.Verbs.{object_verb_of, group_verb_of, parse_verb, tail_of};
 ghost use Rattle.calls_text.specs.Verbs.{is_giving};
 
-/// What a call does.
+/// The operation of a call.
 #[derive(Clone, Copy, Debug, PartialEq, Eq)]
 pub(crate) enum CallWord {
     Advance,
@@ -19,7 +19,7 @@ pub(crate) enum CallWord {
     Snapshot,
 }
 
-/// What stands after the object of a call.
+/// The form of what follows the object of a call.
 #[derive(Clone, Copy, Debug, PartialEq, Eq)]
 pub(crate) enum Tail {
     Nothing,
@@ -31,7 +31,7 @@ pub(crate) enum Tail {
     Word,
 }
 
-/// Returns the call of an object of no group that a word stands for.
+/// Returns the operation on an object of no group that a word names.
 fn object_verb_of(word: &[u8]) -> Option<CallWord>
     ensures { result ≡ object_verb_of word.now }
 {
@@ -56,7 +56,7 @@ fn object_verb_of(word: &[u8]) -> Option<CallWord>
     None
 }
 
-/// Returns the call of a group that a word stands for.
+/// Returns the operation on a group that a word names.
 fn group_verb_of(word: &[u8]) -> Option<CallWord>
     ensures { result ≡ group_verb_of word.now }
 {
@@ -78,7 +78,7 @@ fn group_verb_of(word: &[u8]) -> Option<CallWord>
     None
 }
 
-/// Returns the call that a word stands for.
+/// Returns the operation that a word names.
 pub(crate) fn parse_verb(word: &[u8]) -> Option<CallWord>
     ensures { result ≡ parse_verb word.now }
 {
@@ -89,7 +89,7 @@ pub(crate) fn parse_verb(word: &[u8]) -> Option<CallWord>
 }
 
 impl CallWord {
-    /// Returns what stands after the object.
+    /// Returns the form of what follows the object.
     pub(crate) fn tail(self) -> Tail
         ensures { result ≡ tail_of self }
     {
@@ -101,7 +101,8 @@ impl CallWord {
         }
     }
 
-    /// Returns whether it advances or writes, and else observes or reads.
+    /// Returns whether it is an advance, a put or a write, which need another right than the other
+    /// calls of their object.
     pub(crate) fn is_giving(self) -> bool
         ensures { result ≡ is_giving self }
     {

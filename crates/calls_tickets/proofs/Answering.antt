@@ -1,4 +1,4 @@
--- What is answered at an event, for both monitors.
+-- The verdict on an event, for `Monitor` and `RecordedTickets`.
 use Rattle.std.proofs.Common.{◌≡◌, ℕ, ◌≤◌, Bool, true, List, ◌∷◌, length, get_or, Some, slice_get}
 use Rattle.std.proofs.Common.{ap, sym, ◌∙◌, arith, subst}
 use Rattle.std.specs.List.{remove}

@@ -1,4 +1,4 @@
--- The calls so far are gathered.
+-- The recorded tickets represent the history so far.
 use Rattle.std.proofs.Common.{◌≡◌, ℕ, ◌≤◌, Bool, true, false, List, [], ◌∷◌, ◌++◌, length, reverse}
 use Rattle.std.proofs.Common.{get_or, ap, sym, ◌∙◌, subst}
 use Rattle.std.specs.List.{remove}

@@ -1,4 +1,4 @@
--- Histories of tickets, and their beginnings.
+-- Histories of tickets, and their prefixes.
 use Rattle.std.proofs.Common.{◌≡◌, ℕ, ◌+◌, ◌<◌, ◌≤◌, ◌==◌, cond, true, false, List, [], ◌∷◌, ◌++◌}
 use Rattle.std.proofs.Common.{length, take, drop, get_or, reverse, Option, Some, None, refl, ap}
 use Rattle.std.proofs.Common.{◌∙◌, arith, subst, length-append}

@@ -1,4 +1,4 @@
--- Numbers that were returned, and those that are missing.
+-- The numbers that were returned, and the missing ones.
 use Rattle.std.proofs.Common.{◌≡◌, ℕ, zero, suc, ◌+◌, ◌-◌, ◌<◌, ◌≤◌, ◌⊎◌, inl, inr, ◌==◌, Bool}
 use Rattle.std.proofs.Common.{true, false, nat_le, List, [], ◌∷◌, ◌++◌, length, Some, slice_get}
 use Rattle.std.proofs.Common.{refl, ap, sym, ◌∙◌, arith, subst, count_by, length-append}
@@ -201,14 +201,14 @@ each_to done top holes a (suc k) lt =
       each_to done top holes a k (omega arith),
     )
 
--- none with this number
+-- no element has this number
 pub none_is : {X : Type 0} (f : X → ℕ) (k : ℕ) (xs : List X) → Each (λ x. f x ≡ k → ⊥) xs
     → count_by (λ x. f x == k) xs ≡ 0
 none_is f k xs h =
     count_none (λ x. f x == k) xs (all_from_each (λ x. (f x == k) ≡ false) xs (each_weaker (λ x.
     f x ≡ k → ⊥) (λ x. (f x == k) ≡ false) (λ x n. ne_eqb (f x) k n) xs h))
 
--- PLACES
+-- RANGES OF NUMBERS
 
 pub places_long : (p n : ℕ) → length (places p n) ≡ n
 places_long p zero = refl

@@ -1,4 +1,4 @@
--- The whole decision, by what is gathered.
+-- The whole decision, by the recorded tickets.
 use Rattle.std.proofs.Common.{◌≡◌, ℕ, ◌+◌, ◌<◌, ◌≤◌, List, ◌∷◌, length, reverse, get_or, sym, arith}
 use Rattle.std.proofs.Common.{subst, below_more}
 use Rattle.calls_core.specs.declared.history.Kind.TheVariants.{Sequencer}
@@ -18,7 +18,7 @@ use Rattle.calls_tickets.proofs.Histories.{tickets_until, past_next, past_all, h
 use Rattle.calls_tickets.proofs.Refuting.{no_order}
 use Rattle.calls_tickets.proofs.Answering.{watching_order, shown_no_order}
 
--- what is gathered are the calls of the past
+-- the recorded tickets are the calls of the history so far
 pub tickets_gathered : (past : List Event) (r : RecordedTickets) (t : ℕ)
     → IsHistoryOf Sequencer past
     → clock past ≤ t + 1 → AreGathered past r → AreTickets (reverse r.done.items)

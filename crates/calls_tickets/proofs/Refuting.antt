@@ -30,7 +30,7 @@ use Rattle.calls_core.proofs.Counting.{in_either, pairs_left}
 abbrev pub IsTicket : Call → Type 0
 IsTicket c = c.op ≡ Ticket
 
--- A RUN OF TICKETS
+-- LEGAL SEQUENTIAL HISTORIES OF TICKETS
 
 abbrev empty : ℕ → ℕ
 empty = initial (Some Sequencer)
@@ -80,7 +80,7 @@ answered_tickets t answer (o ∷ os) h = each_append IsTicket (answered_one t o 
 -- COUNTS
 
 module _ (k m : ℕ) where
-  -- may be among the first k + 1, if the last of these was returned at m
+  -- a call that may be among the first k + 1, if the last of these was returned at m
   abbrev pub early_number : Call → Bool
   early_number x = nat_le (number x) k && nat_le x.first m
 
@@ -137,7 +137,7 @@ module _ (done : List Call) (pending : List PendingCall) (t : ℕ) (given : AreT
       run_number empty xs c ys (subst (Each IsTicket) is tickets)
       (subst (IsSequentialRun empty) is l.run) ∙ omega arith
 
-  -- b is before a, or they are the same, or b is after a
+  -- in the order b is before a, or they are the same, or b is after a
   standing : (a b : Call) → Contains done a → Contains done b
       → ((number b < number a) × KeepsOrder b a) ⊎ ((a ≡ b) ⊎ (number a < number b))
   standing a b ka kb =

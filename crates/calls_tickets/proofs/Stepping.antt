@@ -1,4 +1,4 @@
--- One event more.
+-- The state after one more event.
 use Rattle.std.proofs.Common.{◌≡◌, ℕ, zero, suc, ◌+◌, ◌<◌, ◌≤◌, ◌⊎◌, inl, inr, ◌==◌, true, List, []}
 use Rattle.std.proofs.Common.{◌∷◌, ◌++◌, length, Some, slice_get, refl, ap, sym, ◌∙◌, arith, subst}
 use Rattle.std.proofs.Common.{count_by}
@@ -37,7 +37,7 @@ use Rattle.calls_tickets.proofs.Judging.{each_unmap}
 
 -- TOPS
 
--- what was returned before p was returned before q
+-- the top at position p is the top at q, if all tickets returned before p
 top_later : (done : List Call) (p q n : ℕ) → Each (λ (d : Call). d.last < p) done → p ≤ q
     → IsTop done p n → IsTop done q n
 top_later done p q n early le t = record {
@@ -51,7 +51,7 @@ top_later done p q n early le t = record {
     go (inl e) = inl e
     go (inr (d, known, lt, e)) = inr (d, known, omega arith, e)
 
--- a response from p on changes nothing
+-- a response from p on doesn't change the top at p
 top_kept : (done : List Call) (c : Call) (p n : ℕ) → p ≤ c.last → IsTop done p n
     → IsTop (c ∷ done) p n
 top_kept done c p n le t = record {
@@ -161,7 +161,7 @@ module _ (past : List Event) (x : Event) (r : Reply) (top : ℕ) (holes : List �
   last_early d h = each_contains (λ (d : Call). d.last < clock past) (completed_calls past) d early
       h
 
-  -- it was not invoked after a greater number was returned
+  -- no greater number was returned before the ticket's invocation
   straight_more : u.noted ≤ ticket_number r → (a b : Call) → FromTurned
       (completion x.at r u.call ∷ completed_calls past) a b → ⊥
   straight_more low a b t = go t.first t.second
@@ -238,7 +238,7 @@ module _ (past : List Event) (x : Event) (r : Reply) (top : ℕ) (holes : List �
   rest_long : length rest + 1 ≡ length us
   rest_long = ap (λ zs. length zs + 1) is ∙ remove_long us i u read
 
-  -- THE NUMBER IS TAKEN
+  -- THE NUMBER IS POSSIBLE
 
   filled : (later : ℕ) (more : List ℕ) → ticket_number r < top → later ≡ top
       → Fills holes more u.noted (ticket_number r) → Following (x ∷ past) later more rest
@@ -267,7 +267,7 @@ module _ (past : List Event) (x : Event) (r : Reply) (top : ℕ) (holes : List �
   u_low = tops_rise (completed_calls past) u.call.first (clock past) u.noted top u_noted f.top_is
       (omega (arith, u_early))
 
-  -- no number is greater than the positions
+  -- the number is less than the position of its response
   small : top ≤ ticket_number r → length holes + ticket_number r ≤ length rest + top
       → ticket_number r + 1 ≤ x.at
   small high few =
@@ -307,7 +307,7 @@ module _ (past : List Event) (x : Event) (r : Reply) (top : ℕ) (holes : List �
   taken later more fits (inl (lt, same, g)) = filled later more lt same g
   taken later more fits (inr m) = raised later more fits m
 
-  -- IT CAN'T BE
+  -- THE NUMBER IS IMPOSSIBLE
 
   shows_here : (g : Fault) → ShowsIn (completion x.at r u.call ∷ completed_calls past)
       (calls_in rest) g → Shows (x ∷ past) g

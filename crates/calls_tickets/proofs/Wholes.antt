@@ -1,4 +1,4 @@
--- The same without code: tickets have a linearization or show a fault.
+-- Tickets have a linearization or show a fault, whatever the code.
 use Rattle.std.proofs.Common.{◌≡◌, ℕ, zero, suc, ◌+◌, ◌-◌, ◌<◌, ◌≤◌, ◌⊎◌, inl, inr, List, [], ◌∷◌}
 use Rattle.std.proofs.Common.{◌++◌, length, take, get_or, set, replicate, Option, Some, None, refl}
 use Rattle.std.proofs.Common.{sym, ◌∙◌, arith, subst, length-set}

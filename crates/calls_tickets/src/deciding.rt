@@ -1,4 +1,4 @@
-//! The decision for a whole history.
+//! Decides a whole history of tickets.
 ghost use Rattle.std.specs.Prelude.{◌≡◌, ◌+◌, ◌≤◌, length, reverse, IfOk};
 ghost use Rattle.calls_core.specs.declared.history.Kind.TheVariants.{Sequencer};
 ghost use Rattle.calls_core.specs.Histories.{IsHistoryOf, clock};
@@ -20,8 +20,9 @@ pub enum Outcome {
     Refused(usize, Fault),
 }
 
-/// Decides whether the tickets of a history have a linearization, if the responses that pending
-/// tickets get are at position `end`.
+/// Decides whether the tickets of a history have a linearization.
+///
+/// In a linearization, pending tickets that took effect have their responses at position `end`.
 pub fn decide(alloc: Global, events: &Part<'_, '_>, end: usize) -> Result<Outcome, AllocError>
     requires history { IsHistoryOf Sequencer (reverse events.now) }
     requires ends { clock (reverse events.now) ≤ end }

@@ -1,4 +1,4 @@
-//! Pending tickets, and searches among them and among the numbers that are missing.
+//! Pending tickets, and searches among them and among the missing numbers.
 ghost use Rattle.std.specs.Prelude.{◌≡◌, None, MatchOption};
 ghost use Rattle.calls_core.specs.Histories.{completion, pending_of};
 ghost use Rattle.calls_tickets.specs.Faults.{ticket_number};
@@ -66,7 +66,7 @@ pub fn hole_index(holes: &[usize], n: usize) -> Option<usize>
     None
 }
 
-/// Returns whether there is a pending ticket for each missing number, in turn, that may return it.
+/// Returns whether each missing number may be returned by the pending ticket with the same index.
 pub fn are_paired(holes: &[usize], pending: &[PendingTicket]) -> bool
     ensures { IsPaired holes.now pending.now result }
 {

@@ -106,7 +106,7 @@ pub what_is_shown_is_a_fault : WhatIsShownIsAFault
 what_is_shown_is_a_fault = λ kinds past k f h.
     record { kind = h.kind; is = h.is; faulty = shown h.kind (part k past) f h.shows }
 
--- what stands before an earlier position stands before a later one
+-- the events before an earlier position are among those before a later one
 until_twice : (n m : ℕ) (past : List Event) → n ≤ m → until n (until m past) ≡ until n past
 until_twice n m [] le = refl
 until_twice n m (x ∷ past) le =

@@ -1,4 +1,4 @@
--- A worker's call among the pending ones.
+-- The search for a worker's pending call.
 use Rattle.std.proofs.Common.{◌≡◌, ℕ, zero, suc, ◌+◌, ◌<◌, true, false, ◌==◌, cond}
 use Rattle.std.proofs.Common.{List, [], ◌∷◌, length, get_or, take, reverse}
 use Rattle.std.proofs.Common.{Option, Some, None, refl, ap, sym, ◌∙◌, arith}

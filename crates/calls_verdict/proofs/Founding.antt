@@ -1,4 +1,4 @@
--- What is found of the objects, with one object more, and the verdict at the end.
+-- The findings with one more object, and the verdict at the end.
 use Rattle.std.proofs.Common.{◌≡◌, ℕ, ◌+◌, ◌<◌, ◌≤◌, ◌⊎◌, inl, inr, true}
 use Rattle.std.proofs.Common.{List, [], ◌++◌, length, Option, Some, None, refl, ap, sym}
 use Rattle.std.proofs.Common.{◌∙◌, arith, subst, slice_get, reverse, get_or}
@@ -107,7 +107,7 @@ module _ (kinds : List Kind) (past : List Event) (h : IsHistory kinds past) wher
   abbrev refusal_at : ℕ → Event → Fault → Refusal
   refusal_at n x fault = record { at = x.at; object = n; fault = fault }
 
-  -- one that shows a fault
+  -- an object that shows a fault
   pub found_refused : (n : ℕ) (kind : Kind) (own : List Event) (i : ℕ) (d : Event) (fault : Fault)
       (old new : Findings) (before : Option Refusal) (kept : Refusal)
       → before ≡ old.refusal → slice_get kinds n ≡ Some kind → reverse own ≡ part n past
@@ -189,7 +189,7 @@ module _ (kinds : List Kind) (past : List Event) (h : IsHistory kinds past) wher
       lower (Some o) (inr e) of_kind = (let same : kept.at ≡ (get_or own i d).at =
           ap (λ (z : Refusal). z.at) e.0 in omega (arith, e.1))
 
-  -- one that isn't decided
+  -- an object that isn't decided
   pub found_open : (n : ℕ) (kind : Kind) (own : List Event) (i : ℕ) (d : Event)
       (u : cause.Undecided) (old new : Findings) (kept : Undecided)
       → slice_get kinds n ≡ Some kind → reverse own ≡ part n past

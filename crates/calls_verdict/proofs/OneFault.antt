@@ -1,4 +1,4 @@
--- The first faulty event is one.
+-- There is only one first faulty event.
 use Rattle.std.proofs.Common.{◌≡◌, ◌+◌, ◌≤◌, inl, inr, List, [], ◌∷◌, ◌++◌, cond}
 use Rattle.std.proofs.Common.{ap, sym, ◌∙◌, arith, subst}
 use Rattle.std.proofs.lemmas.Bool.{cases_lt, le-ltb}

@@ -50,9 +50,9 @@ use Rattle.calls_watch.proofs.SameKinds.{all_alike, linearizable_alike, AllAlike
 use Rattle.calls_watch.proofs.Uncalled.{part_watched, uncalled, cell_begins}
 use Rattle.calls_watch.proofs.Uncalled.{database_begins}
 
--- WHERE BOTH HAVE COME TO
+-- HOW FAR BOTH HAVE READ
 
--- at one place, or `check` went on by one history, or `watch` did
+-- both are at the same line, or `check` went on by one history, or `watch` did
 abbrev Meets : ℕ → List (List ℕ) → ℕ → List (List ℕ) → Type 0
 Meets m qs k rs =
     ((m ≡ k) × (qs ≡ rs))
@@ -81,7 +81,7 @@ meets n ps (r ∷ reads) m qs (j ∷ js) k rs good judged =
     meets r.number r.rest reads m qs js k rs good.2
     (subst (λ (x : OneRead). AreJudged x.number x.rest js k rs) (sym same) judged.2)
 
--- no history is behind the last LF
+-- there is no history after the last LF
 end_none : (m : ℕ) (o : OneRead) → goes m Opening ([] ∷ []) ≡ Ok o → ⊥
 unfolding goes
 end_none m o is = cc
@@ -140,9 +140,9 @@ good_not_open r g u open_one =
     are_decided open_one.0 (reverse r.events) open_one.1.history g.watched u.object shown.kind
     shown.is u.cause shown.shows
 
--- HISTORIES THAT ARE REFUSED
+-- HISTORIES THAT ARE REJECTED
 
--- a whole history that begins with the events up to the one that is refused
+-- a whole history, whose prefix are the events up to the one at which it is rejected
 record IsLonger (past : List Event) (x : Event) (r t : RecordingModel) : Type 0 where
   late : List Event
   heading : r.heading ≡ t.heading

@@ -42,7 +42,7 @@ pub fed_stop : (o now : Option (List ℕ)) (stop : Stop) (f : Feeder) → FedBy 
 fed_stop None now stop f fed = tt
 fed_stop (Some bytes) now stop f fed = fed
 
--- what was answered to the end of the input
+-- what was returned at the end of the input
 abbrev pub ends_as : Result (Unit {0}) Stop → Result (Unit {0}) EarlyEnd
 ends_as (Ok u) = Ok u
 ends_as (Err stop) = Err (cuts.Stop stop)

@@ -1,4 +1,4 @@
--- Histories in turn, and how they load.
+-- Histories one after another, and their load.
 use Rattle.std.proofs.Common.{◌≡◌, ℕ, ◌+◌, List, [], ◌∷◌, ◌++◌}
 use Rattle.std.proofs.Common.{Ok, refl, ap, ◌∙◌, arith}
 use Rattle.std.proofs.Common.{reverse}
@@ -7,7 +7,7 @@ use Rattle.calls_text.specs.Reading.{Opening}
 use Rattle.calls_watch.specs.Loads.{calls_of, others_of, calls_in, others_in}
 use Rattle.calls_watch.specs.Watches.{IsGood, AreGood}
 
--- one more
+-- one history more
 pub good_more : (n : ℕ) (ps : List (List ℕ)) (rs : List OneRead) (m : ℕ) (qs : List (List ℕ))
     (r : OneRead) → AreGood n ps rs m qs → goes m Opening qs ≡ Ok r → IsGood r.recorded
     → AreGood n ps (rs ++ r ∷ []) r.number r.rest

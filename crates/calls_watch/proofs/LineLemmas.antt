@@ -1,4 +1,4 @@
--- What a line leaves of what is kept of a text.
+-- The state of `watch` after a line.
 use Rattle.std.proofs.Common.{◌≡◌, ◌<◌, ◌≤◌, inl, inr, ℕ, ◌+◌, true, false, List, [], ◌∷◌, ◌++◌, length}
 use Rattle.std.proofs.Common.{reverse, Option, Some, None, Result, Ok, Err, refl, ap, sym, ◌∙◌, subst, arith}
 use Rattle.std.proofs.Common.{length-append}
@@ -52,7 +52,7 @@ not_running (Declaring d) events o none = tt
 not_running (Running r) events o none = absurd (none r refl)
 not_running (Ended r) events o none = tt
 
--- while events may come
+-- while events may come, there is a monitor
 record HasMonitor (r : RecordingModel) (events : List Event) (o : Option Monitor) : Type 0 where
   monitor : Monitor
   is : o ≡ Some monitor
@@ -91,7 +91,7 @@ built_state ps qs w reads start begun events s n good is number reached going se
       load = load;
     }
 
--- the load before an event, if there is none
+-- the load before the first event
 none_loaded : (reads : List OneRead) (events : List Event) (l k : Load) → events ≡ [] → k ≡ l
     → IsLoad reads (reverse events) l → IsLoad reads [] k
 none_loaded reads events l k none same load =
@@ -373,7 +373,7 @@ module _ (ps qs : List (List ℕ)) (q line : List ℕ) (old mid new : Watcher)
       event_goes x e result (by (has x e).monitor (monitor ∙ (has x e).is))
   line_goes lines.End result e by = end_goes e result by
 
--- A LINE AT FAULT
+-- A FAULTY LINE
 
 -- if the parts are one empty part, that is all that is left
 pub one_part : (n : ℕ) (ps : List (List ℕ)) (s : Stage) (m : ℕ) (line : List ℕ) (qs : List (List ℕ))
@@ -481,7 +481,7 @@ over_all ps rest old w may =
       load = none_loaded w.reads w.events old.load old.load none refl w.load;
     }
 
--- the beginning of a text
+-- before the first line of a text
 pub begins : (ps : List (List ℕ)) (w : Watcher) → stage_with_events [] w.follower ≡ Opening
     → HasEvents [] w.follower → w.number ≡ 1 → w.monitor ≡ None → w.load.histories ≡ 0
     → w.load.calls ≡ 0 → w.load.others ≡ 0 → IsWatching ps ps w

@@ -110,7 +110,7 @@ line_in ps line behind left rest old new result is none w goes =
     (subst (λ (xs : List ℕ). IsWatching ps (lines_of_text xs) old) (joined line behind left rest is) w)
     goes
 
--- a line whose beginning was gathered
+-- a line whose prefix was gathered
 pub line_done : (ps : List (List ℕ)) (rest : List ℕ) (mid new : Feeder)
     (result : Result (Unit {0}) Stop) → GoesOn result ps (lines_of_text rest) mid.watcher
     → new.watcher ≡ mid.watcher → new.part.items ≡ [] → Feeds result ps rest new
@@ -147,7 +147,7 @@ fed_to_the_end ps f fed =
 
 -- BYTES THAT ARE KNOWN
 
--- what was answered to bytes that were read
+-- what was returned for bytes that were read
 abbrev pub FedBy : Result (Unit {0}) Stop → Option (List ℕ) → Option (List ℕ) → Feeder → Type 0
 FedBy (Ok u) old now f = FedFrom old now f
 FedBy (Err stop) None now f = Unit {0}

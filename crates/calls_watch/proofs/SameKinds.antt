@@ -1,5 +1,5 @@
--- The objects of one heading are the same, whichever list they are in: a list of units may be held in
--- two ways.
+-- The objects of one header are the same, whichever list they are in: a list of units may be
+-- represented in two ways.
 use Rattle.std.proofs.Common.{◌≡◌, ℕ, zero, suc, ◌+◌, ◌-◌, ◌<◌, ◌≤◌, inl, inr, List, [], ◌∷◌, ◌++◌, length}
 use Rattle.std.proofs.Common.{slice_get, slice_index, Option, Some, None, refl, ap, sym, ◌∙◌, subst, arith}
 use Rattle.std.proofs.lemmas.Bool.{cases_lt}
@@ -132,7 +132,7 @@ module _ (h : HeadingModel) (from : List (ℕ × ℕ)) (ks ls : List Kind) (one 
     | inr ge ↦ among_sequencers k ge
   ]
 
--- WHAT THEY TAKE, AND WHAT THEY ARE AT FIRST
+-- WHAT THEY TAKE, AND THEIR INITIAL STATE
 
 units_take : (u v : Vec ℕ) → u.items ≡ v.items → (op : Op) → Takes (Some (Semaphores u)) op
     → Takes (Some (Semaphores v)) op

@@ -29,7 +29,7 @@ part_watched k (x ∷ past) w =
       | false ↦ part_watched k past w.1
     ]
 
--- no first event of the calls of a cell or a database
+-- the first event of the calls of such an object invokes a call of a cell or a database
 abbrev pub BeginsWithNone : Kind → Type 0
 BeginsWithNone kind = (a : Action) → IsNextOf kind a None → invokes_cells a ≡ false → ⊥
 

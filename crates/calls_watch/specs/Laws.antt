@@ -13,9 +13,9 @@ use Rattle.calls_report.specs.declared.status.Status.TheVariants.{InputOutput, M
 use Rattle.calls_report.specs.Checks.{Outlets, JudgedHistory, AreJudged, IsJudged, IsRefused}
 use Rattle.calls_watch.specs.Watches.{AreGood, IsStopped, IsWatchedTo}
 
--- what the two may answer to one text, that of `watch` first: where it came to the end, `check` finds
--- no fault, and where it stopped at a fault, `check` finds one. If memory ran out, or a call was not
--- watched, that says nothing of the other answer
+-- which statuses the two may have for one text, that of `watch` first. If `watch` read the text to
+-- its end, `check` finds no fault; if it stopped at a fault, `check` finds one. If memory ran out,
+-- or a call was not watched, nothing is said of the other status
 abbrev pub Agree : Status → Status → Type 0
 Agree Done Done = Unit {0}
 Agree Done Memory = Unit {0}
@@ -33,7 +33,7 @@ WatchAgreesWithCheck =
     (before after : OutputModel) → IsWatchedTo watched text old new
     → IsJudged checked text judged before after → Agree watched checked
 
--- if both refuse an event, it is the same one of the same history
+-- if both reject a history at an event, it is the same event of the same history
 abbrev pub BothRefuseOneEvent : Type 0
 BothRefuseOneEvent =
     (text : List ℕ) (reads : List OneRead) (n : ℕ) (ps : List (List ℕ)) (m : ℕ) (r : RecordingModel)

@@ -1,4 +1,4 @@
--- What `watch` answered and wrote, for an input whose bytes are known.
+-- What `watch` returned and wrote, for an input whose bytes are known.
 use Rattle.std.specs.Prelude.{◌≡◌, ◌<◌, ◌⊎◌, ℕ, ◌-◌, List, [], ◌∷◌, length, reverse}
 use Rattle.std.specs.Prelude.{Ok, Bool, true, false, codes, ◌++◌}
 use Rattle.std.specs.Io.KnownBytes.{Appends}
@@ -47,7 +47,7 @@ abbrev pub AreWatched : List Event → Type 0
 AreWatched [] = Unit {0}
 AreWatched (x ∷ past) = (invokes_cells x.action ≡ false) × AreWatched past
 
--- HISTORIES IN TURN
+-- HISTORIES, ONE AFTER ANOTHER
 
 -- these are the objects of the history, no cell and no database is called, and it has a
 -- linearization
@@ -57,8 +57,8 @@ pub record IsGood (r : RecordingModel) : Type 0 where
   pub watched : AreWatched (reverse r.events)
   pub linearizable : IsLinearizable kinds (reverse r.events)
 
--- from line n on, if the parts are these, the text has these histories, each linearizable, and
--- then come these parts, from line m on
+-- ps are the parts of the text from line n on: first these histories, each linearizable, and then
+-- the parts qs, from line m on
 abbrev pub AreGood : ℕ → List (List ℕ) → List OneRead → ℕ → List (List ℕ) → Type 0
 AreGood n ps [] m qs = (n ≡ m) × (ps ≡ qs)
 AreGood n ps (r ∷ rs) m qs =
@@ -66,7 +66,7 @@ AreGood n ps (r ∷ rs) m qs =
 
 -- WHAT STOPS IT
 
--- what the calls of an object show, by what is kept of them
+-- the certificate of what the monitor of an object reports
 abbrev pub shown_by : RecordingModel → ℕ → Refusal → Certificate
 shown_by r k (refusals.Count (counts.Below c)) = shows.Below c
 shown_by r k (refusals.Count (counts.Few c low invoked)) = shows.Few c invoked (start_at r k)
@@ -131,7 +131,7 @@ SaysUnwatched n ps old new =
 
 -- ALL OF IT
 
--- after these histories, at the parts from line m on
+-- how `watch` ended after these histories, at the parts from line m on
 abbrev pub Ends : Status → List OneRead → ℕ → List (List ℕ) → Outlets → Outlets → Type 0
 Ends Done reads m qs old new =
     (0 < length reads) × (qs ≡ [] ∷ []) × Appends old.out new.out (summary_of reads)
@@ -148,7 +148,7 @@ Ends InputOutput reads m qs old new =
     × Puts old.notes new.notes (codes "write fault\n")
 Ends Usage reads m qs old new = ⊥
 
--- the text was watched so: its first histories are linearizable, and then this came
+-- the text was watched so: its first histories are linearizable, and then it ended with this status
 pub record IsWatchedTo (status : Status) (text : List ℕ) (old new : Outlets) : Type 0 where
   pub reads : List OneRead
   pub number : ℕ

@@ -1,4 +1,4 @@
-//! Histories of calls, judged while their lines come.
+//! Judges histories of calls line by line, in bounded memory.
 #![tactic(auto)]
 
 mod feeder;

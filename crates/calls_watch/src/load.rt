@@ -1,4 +1,4 @@
-//! How many calls were watched, and how far they overlap.
+//! How many calls were watched, and how much they overlap.
 ghost use Rattle.std.specs.Prelude.{◌≡◌, ◌+◌, ◌*◌, ◌%◌, ◌≤◌, ◌++◌, codes, OnOk, IfErr};
 ghost use Rattle.ec_text.specs.Puts.{Puts};
 ghost use Rattle.calls_watch.specs.declared.stop.Stop.TheVariants.{Memory};
@@ -10,10 +10,10 @@ use calls_core::Action;
 use ec_text::Output;
 use std::io::Write;
 
-/// The most calls that are counted.
+/// The most calls for which an overlap is computed. For more calls it is written as 0.00.
 const CALLS_MAX: u64 = 1_000_000_000_000_000_000;
 
-/// Histories that were watched to their ends, and the calls so far.
+/// The numbers of histories and of calls so far, and how much the calls overlap.
 #[derive(Clone, Copy, Debug, PartialEq, Eq)]
 pub struct Load {
     /// How many histories have ended.
@@ -45,7 +45,7 @@ fn others_at(action: Action, pending: usize) -> u64
     }
 }
 
-/// Puts a digit of a fraction, and returns what is left of it. The rest is less than the whole.
+/// Puts the next decimal digit of `rest / whole`, and returns the remainder.
 fn put_digit<W: Write>(out: &mut Output<'_, W>, rest: u64, whole: u64) -> u64
     requires some { 1 ≤ whole }
     requires less { rest + 1 ≤ whole }
@@ -58,7 +58,7 @@ fn put_digit<W: Write>(out: &mut Output<'_, W>, rest: u64, whole: u64) -> u64
     rest * 10 % whole
 }
 
-/// Puts how many others are pending on average, with two decimals, cut off.
+/// Puts how many other calls are pending on average at an invocation, with two decimals, cut off.
 fn put_overlap<W: Write>(out: &mut Output<'_, W>, calls: u64, others: u64)
     ensures { Puts out.old out.new (overlap_text calls others) }
 {
@@ -73,7 +73,7 @@ fn put_overlap<W: Write>(out: &mut Output<'_, W>, calls: u64, others: u64)
 }
 
 impl Load {
-    /// Returns nothing.
+    /// Returns a load of zeros.
     pub(crate) fn none() -> Load
         ensures histories { result.histories ≡ 0 }
         ensures calls { result.calls ≡ 0 }
@@ -86,7 +86,7 @@ impl Load {
         }
     }
 
-    /// Adds an event, after which so many calls are pending.
+    /// Adds an event. `pending` is the number of pending calls after it.
     pub(crate) fn add_event(&mut self, action: Action, pending: usize) -> Result<(), Stop>
         ensures calls { OnOk result (self.new.calls ≡ self.old.calls + invocation_count action) }
         ensures others { OnOk result (self.new.others ≡ self.old.others + others_at action pending) }
@@ -106,7 +106,7 @@ impl Load {
         Ok(())
     }
 
-    /// Adds a history.
+    /// Adds one to the number of histories.
     pub(crate) fn add_history(&mut self) -> Result<(), Stop>
         ensures histories { OnOk result (self.new.histories ≡ self.old.histories + 1) }
         ensures calls { self.new.calls ≡ self.old.calls }
@@ -117,7 +117,7 @@ impl Load {
         Ok(())
     }
 
-    /// Puts it as a line.
+    /// Puts the load as a line, such as `2 histories, 1200 calls, overlap 1.37`.
     pub(crate) fn put<W: Write>(&self, out: &mut Output<'_, W>)
         ensures { Puts out.old out.new (load_text self.now.histories self.now.calls self.now.others) }
     {
@@ -127,7 +127,7 @@ impl Load {
         self.put_rest(out);
     }
 
-    /// Puts what stands after the number of calls.
+    /// Puts the rest of the line, after the number of calls.
     fn put_rest<W: Write>(&self, out: &mut Output<'_, W>)
         ensures { Puts out.old out.new (codes " calls, overlap "
             ++ overlap_text self.now.calls self.now.others ++ codes "\n") }

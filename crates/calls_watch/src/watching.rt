@@ -1,4 +1,4 @@
-//! `watch`: histories of calls in, each judged while it comes.
+//! `watch`: reads histories of calls, and judges each event when its line comes.
 ghost use Rattle.std.specs.Prelude.{◌≡◌, ◌≤◌, ◌++◌, List, ℕ, Option, IfSome, length, take};
 ghost use Rattle.ec_text.specs.Puts.{Puts, IsWrittenOut};
 ghost use Rattle.calls_core.specs.declared.history.Event.{Event};
@@ -36,7 +36,7 @@ pub(crate) enum EarlyEnd {
     Stop(Stop),
 }
 
-/// Takes the first bytes of the table.
+/// Feeds the first `n` bytes of the table.
 fn feed_prefix(
     alloc: Global,
     table: &ArrayVec<u8, 8192>,
@@ -51,7 +51,7 @@ fn feed_prefix(
     feeder.feed(alloc, &bytes[..n])
 }
 
-/// Reads a piece and takes it. Returns whether the text may go on.
+/// Reads a piece of the text and feeds it. Returns `false` at the end of the text.
 fn read_on<R: Read>(
     alloc: Global,
     reader: &mut R,
@@ -95,7 +95,7 @@ fn read_all<R: Read>(alloc: Global, reader: &mut R, feeder: &mut Feeder) -> Resu
     Err(EarlyEnd::Stop(Stop::Memory))
 }
 
-/// Writes how many calls came.
+/// Writes the line of the load.
 fn write_load<W: Write, N: Write>(load: Load, out: &mut W, notes: &mut Output<'_, N>) -> Status
     ensures writes { WritesLoad result (load_text load.histories load.calls load.others)
         (record { out = W.contents out.old; notes = notes.old })
@@ -115,14 +115,16 @@ fn write_load<W: Write, N: Write>(load: Load, out: &mut W, notes: &mut Output<'_
     }
 }
 
-/// Returns the number of the line of the event at position 0, by that of the line after another.
+/// Returns the number of the line of the event at position 0.
+///
+/// `number` is that of the line after the event at position `at`.
 fn line_of_first(number: u64, at: usize) -> u64
     ensures { result ≡ line_of_first number at }
 {
     number.saturating_sub(1).saturating_sub(at as u64)
 }
 
-/// Says that a history has no linearization from an event on.
+/// Reports that a history has no linearization from an event on.
 fn report_refused<N: Write>(
     watcher: &Watcher,
     event: Event,
@@ -145,7 +147,7 @@ fn report_refused<N: Write>(
     Status::Refused
 }
 
-/// Says why a line is at fault.
+/// Reports the error of a text.
 fn report_unread<N: Write>(fault: TextFault, notes: &mut Output<'_, N>) -> Status
     ensures status { result ≡ fault_status fault }
     ensures puts { Puts notes.old notes.new (fault_note fault) }
@@ -158,7 +160,7 @@ fn report_unread<N: Write>(fault: TextFault, notes: &mut Output<'_, N>) -> Statu
     }
 }
 
-/// Says that a call is not watched, by the number of the line after it.
+/// Reports that a call is not watched. `number` is that of the line after it.
 fn report_unwatched<N: Write>(number: u64, notes: &mut Output<'_, N>) -> Status
     ensures status { result ≡ NotDecided }
     ensures puts { Puts notes.old notes.new (unwatched_note number) }
@@ -171,7 +173,7 @@ fn report_unwatched<N: Write>(number: u64, notes: &mut Output<'_, N>) -> Status
     Status::NotDecided
 }
 
-/// Says why a text is not watched further.
+/// Reports why a text is not watched further, and returns the status.
 pub fn report_stop<N: Write>(watcher: &Watcher, stop: Stop, notes: &mut Output<'_, N>) -> Status
     ensures says { (ps : List (List ℕ)) → Stops stop ps watcher.now
         → SaysStop ps result notes.old notes.new }
@@ -188,11 +190,13 @@ pub fn report_stop<N: Write>(watcher: &Watcher, stop: Stop, notes: &mut Output<'
     }
 }
 
-/// Reads histories of calls and judges each event when its line comes, up to the first history that
-/// has no linearization; then a note says why. At the end it writes how many histories and calls
-/// there were, and how many other calls are pending on average when one is invoked.
+/// Reads histories of calls, and judges each event when its line comes.
 ///
-/// What is kept does not grow with the text. Calls of cells and databases are not watched: the first
+/// It ends at the first event with which a history has no linearization, and a note says why. At
+/// the end of the text it writes how many histories and calls there were. It also writes how many
+/// other calls are pending on average when one is invoked.
+///
+/// The state does not grow with the text. Calls of cells and databases are not watched: the first
 /// one ends it. A read that fails is not tried again.
 pub fn watch<R: Read, W: Write, N: Write>(
     alloc: Global,

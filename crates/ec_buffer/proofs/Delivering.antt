@@ -1,4 +1,4 @@
--- What the audit of a buffer keeps, entry by entry.
+-- The state of the audit of a buffer, entry by entry.
 use Rattle.std.proofs.Common.{◌≡◌, ℕ, Bool, false, List, [], ◌∷◌, ap, ◌∙◌, replicate}
 use Rattle.ec_core.specs.declared.act.Entry.{Entry}
 use Rattle.ec_core.specs.Scanning.{IsTrackerModel}
@@ -14,12 +14,12 @@ pub delivering_first : (a : DeliveryAuditModel) → a.writers ≡ replicate 256 
 unfolding writers_of collected
 delivering_first a writers list tracked = record { tracked = tracked; writers = writers; list = λ ok. list }
 
--- who put what stands in each cell, after one more entry
+-- the last writer of each cell, after one more entry
 pub writers_next : (b : Buffer) (x : Entry) (past : List Entry) (old new : List ℕ) → old ≡ writers_of b past → new ≡ writers_after (put_place b x.act) x.worker old → new ≡ writers_of b (x ∷ past)
 unfolding writers_of
 writers_next b x past old new was is = is ∙ ap (writers_after (put_place b x.act) x.worker) was
 
--- the deliveries after one more entry, if memory was never refused
+-- the deliveries after one more entry, if no allocation failed
 pub list_next : (b : Buffer) (x : Entry) (past : List Entry) (writers : List ℕ) (old new : List Delivery) (lacked lacks : Bool)
     → writers ≡ writers_of b past → (lacked ≡ false → old ≡ collected b past)
     → (lacks ≡ false → lacked ≡ false) → (lacks ≡ false → new ≡ list_after (get_place b x.act) x writers old)

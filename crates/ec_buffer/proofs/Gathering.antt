@@ -24,7 +24,7 @@ use Rattle.ec_buffer.proofs.Moves.{gets, Moved, standing}
 use Rattle.ec_buffer.proofs.Handing.{is_cell_at}
 use Rattle.ec_buffer.proofs.InTime.{gets_count, entry_at, get_told, get_next, finds}
 
--- WHO PUT WHAT STANDS IN A CELL
+-- THE LAST WRITER OF A CELL
 
 set_length : (o : Option ℕ) (w : ℕ) (writers : List ℕ) → length (writers_after o w writers) ≡ length writers
 set_length None w writers = refl
@@ -81,7 +81,7 @@ writer_stands b (x ∷ past) j s lt =
 
 -- GETS
 
--- an act that gets names a cell of the buffer, at this place
+-- an act that gets names a cell of the buffer, at this index
 record IsGet (b : Buffer) (act : Act) (o : Option CallSoFar) (place : ℕ) : Type 0 where
   on : is_get_on b act ≡ true
   within : place < b.cells

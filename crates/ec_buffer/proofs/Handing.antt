@@ -1,4 +1,4 @@
--- A buffer that is followed hands over its items in the order of their numbers.
+-- A buffer that is followed delivers its items in the order of their numbers.
 use Rattle.std.proofs.Common.{◌≡◌, ℕ, ◌+◌, ◌<◌, ◌≤◌, Bool, true, false, List, [], ◌∷◌, length, Option, Some, None, is_some, nat_le, nat_lt, unwrap_or, refl, ap, sym, ◌∙◌, arith, subst, cond, ◌==◌}
 use Rattle.std.proofs.lemmas.Bool.{ne_eqb, or_parts, and_from, le-leb, lt-ltb}
 use Rattle.std.specs.Option.{option_map_or}
@@ -21,7 +21,7 @@ use Rattle.ec_buffer.proofs.Moves.{puts, gets, Moved, moved_if, produced, delive
 use Rattle.ec_buffer.specs.Shapes.{IsShape}
 use Rattle.ec_buffer.proofs.Stock.{IsStocked, stock_same}
 
--- SEATS
+-- POSITIONS IN THE QUEUES
 
 abbrev pub seat_of : List CompletedCall → Seat
 seat_of calls = record { stage = length calls; turn = drawn_ticket calls }
@@ -41,7 +41,7 @@ put_elsewhere b produces x past v h = ap (λ calls. cond (produces v) (seat_of c
 pub get_elsewhere : (b : Buffer) (produces : ℕ → Bool) (x : Entry) (past : List Entry) → IsElsewhereSame x.worker (get_seat b produces past) (get_seat b produces (x ∷ past))
 get_elsewhere b produces x past v h = ap (λ calls. cond (produces v) nobody (seat_of calls)) (other_block (consume_rule b) v x past h)
 
--- who has waited for the other count: its turn and one more is at most a limit
+-- a worker that has waited for the other count: its turn and one more is at most a limit
 abbrev pub IsReady : (ℕ → Seat) → ℕ → Type 0
 IsReady seat limit = (w : ℕ) → (seat w).stage ≡ 3 → (seat w).turn + 1 ≤ limit
 
@@ -121,7 +121,7 @@ unfolding delivered
 delivered_same b produces t x past op acc is none i =
     ap (λ g. moved_if (drawn_ticket (block (role_rules b produces x.worker) x.worker past) == i) x.worker (cond g (Some (reply_number x.reply)) None) (delivered b produces i past)) (get_on_op b t x past acc ∙ ap (is_get_on b) is ∙ none)
 
--- what stands in a cell after one more entry, by the act that began its call
+-- what is in a cell after one more entry, by the act that began its call
 pub standing_step : (t : Tables) (y : ℕ) (x : Entry) (past : List Entry) → IsAccepted t (x ∷ past)
     → standing y (x ∷ past) ≡ option_map_or (λ (v : ℕ). record { worker = x.worker; item = v }) (put_in y (op_at x past)) (standing y past)
 unfolding standing
@@ -136,7 +136,7 @@ standing_last : (x : Entry) (o : Option ℕ) (m : Moved) (c : ℕ) → m.item �
 standing_last x None m c h = h
 standing_last x (Some v) m c h = refl
 
--- it is what the cell holds
+-- its item is the value of the cell
 pub standing_item : (y : ℕ) (past : List Entry) → (standing y past).item ≡ cell_value y past
 unfolding standing cell_value
 standing_item y [] = refl
@@ -220,7 +220,7 @@ quiet_counted : (b : Buffer) (produces : ℕ → Bool) (t : Tables) (x : Entry) 
 quiet_counted b produces t x past op s is q =
     counted b t x past op false false false false false false s.accepted is q.ticket_put q.advance_in (ap is_some q.put_one) q.ticket_take q.advance_out q.get_one
 
--- a quiet call, if the seats are as they were but for a move of the worker's
+-- a quiet call, if the positions are unchanged except the worker's
 pub quiet_next : (b : Buffer) (produces : ℕ → Bool) (t : Tables) (x : Entry) (past : List Entry) (op : Act) → IsStep b produces t x past → op_at x past ≡ op → IsQuiet b op
     → IsQueue (put_seat b produces (x ∷ past)) (issued b.put_seq past) (total b.in_count past) (puts b past)
     → IsQueue (get_seat b produces (x ∷ past)) (issued b.take_seq past) (total b.out_count past) (gets b past)
@@ -232,7 +232,7 @@ quiet_next b produces t x past op s is q putting getting put_ready get_ready =
     built b produces x past false false false false false false n putting getting put_ready get_ready
     (stock_quiet b produces t x past op s.accepted is q.put_one q.get_one q.cells s.shape.some n.puts_one n.gets_one s.before)
 
--- a seat that stays
+-- a position that is unchanged
 pub put_still : (b : Buffer) (produces : ℕ → Bool) (t : Tables) (x : Entry) (past : List Entry) → IsStep b produces t x past → put_seat b produces (x ∷ past) x.worker ≡ put_seat b produces past x.worker
     → IsQueue (put_seat b produces (x ∷ past)) (issued b.put_seq past) (total b.in_count past) (puts b past)
 put_still b produces t x past s same = still _ _ _ _ _ x.worker s.before.putting (put_elsewhere b produces x past) same
@@ -249,7 +249,7 @@ pub get_ready_still : (b : Buffer) (produces : ℕ → Bool) (t : Tables) (x : E
     → total b.in_count past ≤ more → IsReady (get_seat b produces (x ∷ past)) more
 get_ready_still b produces t x past more s same le = ready_still _ _ (total b.in_count past) more x.worker (get_elsewhere b produces x past) same s.before.get_ready le
 
--- nothing moves
+-- no position changes
 pub quiet_same : (b : Buffer) (produces : ℕ → Bool) (t : Tables) (x : Entry) (past : List Entry) (op : Act) → IsStep b produces t x past → op_at x past ≡ op → IsQuiet b op
     → put_seat b produces (x ∷ past) x.worker ≡ put_seat b produces past x.worker → get_seat b produces (x ∷ past) x.worker ≡ get_seat b produces past x.worker
     → IsHanding b produces (x ∷ past)
@@ -257,7 +257,7 @@ quiet_same b produces t x past op s is q same same' =
     quiet_next b produces t x past op s is q (put_still b produces t x past s same) (get_still b produces t x past s same')
     (put_ready_still b produces t x past _ s same (omega arith)) (get_ready_still b produces t x past _ s same' (omega arith))
 
--- the seat of a producer, and of a consumer
+-- the position of a producer, and of a consumer
 pub put_seat_is : (b : Buffer) (produces : ℕ → Bool) (past : List Entry) (w : ℕ) (calls : List CompletedCall) → produces w ≡ true → block (produce_rule b) w past ≡ calls → put_seat b produces past w ≡ seat_of calls
 put_seat_is b produces past w calls role is = rw role (ap seat_of is)
 

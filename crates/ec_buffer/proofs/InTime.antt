@@ -96,7 +96,7 @@ told_get b t past Go o reply h on = cc
 told_get b t past (Ticket q) o reply h on = cc
 told_get b t past (Hand e c) o reply h on = cc
 
--- a get is told a number
+-- a get returns a number
 pub get_told : (b : Buffer) (t : Tables) (x : Entry) (past : List Entry) → IsDeclared t → IsAccepted t (x ∷ past) → is_get_on b x.act ≡ true → x.reply ≡ Number (reply_number x.reply)
 get_told b t x past d acc on = told_get b t past x.act (under_way x.worker past) x.reply (step_told t x past d acc) on
 
@@ -202,7 +202,7 @@ delivered_before t b h (suc k) n m f e =
 
 -- DELIVERED IS PRODUCED
 
--- what a get finds: who put it stands in the cell that it names, and put it before
+-- what a get finds: what is in the cell that it names is its item, and was put before
 pub record FindsItem (t : Tables) (b : Buffer) (h : List Entry) (k n : ℕ) (x : Entry) : Type 0 where
   pub found : Moved
   pub represents : standing (b.first_cell + n % b.cells) (past_at k h) ≡ found

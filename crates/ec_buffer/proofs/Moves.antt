@@ -1,4 +1,4 @@
--- Who put and who got what, as functions of a past.
+-- Who put and who got what, as functions of a history so far.
 use Rattle.std.proofs.Common.{ℕ, ◌+◌, Bool, ◌==◌, List, [], ◌∷◌, Option, Some, None, is_some}
 use Rattle.std.specs.Prelude.{if◌then◌else◌}
 use Rattle.std.specs.Option.{option_map_or}

@@ -33,7 +33,7 @@ seat_kept b produces x past e = ap (λ calls. cond (produces x.worker) (seat_of 
 pub get_seat_kept : (b : Buffer) (produces : ℕ → Bool) (x : Entry) (past : List Entry) → block (consume_rule b) x.worker (x ∷ past) ≡ block (consume_rule b) x.worker past → get_seat b produces (x ∷ past) x.worker ≡ get_seat b produces past x.worker
 get_seat_kept b produces x past e = ap (λ calls. cond (produces x.worker) nobody (seat_of calls)) e
 
--- an await that is not finished changes nothing
+-- an await that is not completed changes nothing
 await_cases : (b : Buffer) (produces : ℕ → Bool) (t : Tables) (x : Entry) (past : List Entry) (e v : ℕ) → IsStep b produces t x past → op_at x past ≡ Await e v
     → (x.reply ≡ Pending) ⊎ ((s : ℕ) × (v ≤ s) × (s ≤ total e past) × (x.reply ≡ Number s))
     → ((is_pending x.reply ≡ false) × (v ≤ total e past) → IsHanding b produces (x ∷ past)) → IsHanding b produces (x ∷ past)

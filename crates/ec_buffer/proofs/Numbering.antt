@@ -1,4 +1,4 @@
--- The deliveries of a buffer that is followed stand in the order of their numbers.
+-- The deliveries of a buffer that is followed are in the order of their numbers.
 use Rattle.std.proofs.Common.{◌≡◌, ℕ, ◌+◌, ◌-◌, ◌%◌, ◌<◌, ◌≤◌, Bool, true, false, List, [], ◌∷◌, length, Some, None, is_some, refl, ap, sym, ◌∙◌, arith, cond, ◌==◌, inl, inr}
 use Rattle.std.proofs.lemmas.Bool.{ne_eqb}
 use Rattle.ec_count.specs.Tables.{Tables, IsDeclared}
@@ -21,7 +21,7 @@ use Rattle.ec_buffer.proofs.Handing.{seat_of, put_seat, get_seat, put_seat_is, g
 use Rattle.ec_buffer.proofs.Moving.{rules_put, rules_get, produced_now, delivered_now}
 use Rattle.ec_buffer.proofs.Followed.{on_of, handing}
 
--- a get stands fourth in its list, and names the cell of its ticket
+-- a get is the fourth call of its list, and names the cell of its ticket
 get_place : (b : Buffer) (calls : List CompletedCall) (op : Act) → is_due (consume_call b calls) (without_value op) ≡ true → is_get_on b op ≡ true → (length calls ≡ 3) × (op ≡ Get (b.first_cell + drawn_ticket calls % b.cells))
 get_place b [] op due get = (let k = due_is (Ticket b.take_seq) op due in let no : is_get_on b op ≡ false = ap (is_get_on b) k.1 in cc)
 get_place b (c ∷ []) op due get = (let k = due_is (Await b.out_count (reply_number c.reply)) op due in let no : is_get_on b op ≡ false = ap (is_get_on b) k.1 in cc)
@@ -38,7 +38,7 @@ no_get_there b (c ∷ d ∷ e ∷ []) op due get = (let k = due_is (Put (b.first
 no_get_there b (c ∷ d ∷ e ∷ f ∷ []) op due get = (let k = due_is (Advance b.in_count) op due in let no : is_get_on b op ≡ false = ap (is_get_on b) k.1 in cc)
 no_get_there b (c ∷ d ∷ e ∷ f ∷ g ∷ rest) op due get = cc
 
--- a put stands fourth in its list
+-- a put is the fourth call of its list
 put_place : (b : Buffer) (calls : List CompletedCall) (op : Act) → is_due (produce_call b 0 calls) (without_value op) ≡ true → is_some (put_on b op) ≡ true → length calls ≡ 3
 put_place b [] op due put = (let k = due_is (Ticket b.put_seq) op due in let no : is_some (put_on b op) ≡ false = ap (λ a. is_some (put_on b a)) k.1 in cc)
 put_place b (c ∷ []) op due put = (let k = due_is (Await b.in_count (reply_number c.reply)) op due in let no : is_some (put_on b op) ≡ false = ap (λ a. is_some (put_on b a)) k.1 in cc)
@@ -55,7 +55,8 @@ no_put_there b (c ∷ d ∷ e ∷ []) op due put = (let k = due_is (Get (b.first
 no_put_there b (c ∷ d ∷ e ∷ f ∷ []) op due put = (let k = due_is (Advance b.out_count) op due in let no : is_some (put_on b op) ≡ false = ap (λ a. is_some (put_on b a)) k.1 in cc)
 no_put_there b (c ∷ d ∷ e ∷ f ∷ g ∷ rest) op due put = cc
 
--- the get that is made is the next one: its ticket is the number of gets so far, an item stands in its cell, and that is the cell it names
+-- the get that is made is the next one: its ticket is the number of gets so far, an item is in its
+-- cell, and that is the cell it names
 pub record IsNextGet (b : Buffer) (produces : ℕ → Bool) (x : Entry) (past : List Entry) : Type 0 where
   pub turn : drawn_ticket (block (role_rules b produces x.worker) x.worker past) ≡ gets b past
   pub put : gets b past < puts b past
@@ -122,7 +123,7 @@ no_get_of_put b Go h = cc
 no_get_of_put b (Ticket q) h = cc
 no_get_of_put b (Hand e c) h = cc
 
--- the put with ticket i + n stands after the get with ticket i
+-- the put with ticket i + n comes after the get with ticket i
 pub put_after_get : (b : Buffer) (produces : ℕ → Bool) (t : Tables) (x : Entry) (past : List Entry) (i : ℕ) → IsShape b → IsDeclared t → IsAccepted t (x ∷ past) → Follow (role_rules b produces) (x ∷ past)
     → is_some (put_on b x.act) ≡ true → drawn_ticket (block (role_rules b produces x.worker) x.worker past) ≡ i + b.cells → (c : Moved) × (delivered b produces i past ≡ Some c)
 unfolding puts gets

@@ -15,7 +15,7 @@ pub rest_at_start : (list : ℕ → List Act) (at turn : ℕ) (calls : List Comp
 rest_at_start list at turn calls e =
     ap (λ (n : ℕ). rest_of list n turn calls) e ∙ ap (slice_get (list (drawn_ticket calls))) (zero-add (length calls))
 
--- a reply that ends nothing leaves what was left
+-- a reply that ends no call leaves what was left
 pub rest_pending : (list : ℕ → List Act) (at turn at' turn' : ℕ) (reply : Reply) (calls : List CompletedCall) → is_pending reply ≡ true
     → at' ≡ place_after at reply → turn' ≡ turn_after at turn reply → rest_of list at' turn' calls ≡ rest_of list at turn calls
 rest_pending list at turn at' turn' reply calls h ea et =

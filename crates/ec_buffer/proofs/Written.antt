@@ -41,7 +41,7 @@ comes_of on list calls op n = record {
   goes_on = goes_on on list calls op n;
 }
 
--- the call at a place comes next after those before it, or stands there in the list
+-- the call that the list has next after the first k calls is the one at index k of the list
 turn_kept : (list : ℕ → List Act) (calls : List CompletedCall) (k : ℕ) (c : CompletedCall) → IsList list → slice_get calls k ≡ Some c
     → slice_get (list (drawn_ticket (take k calls))) (length (take k calls)) ≡ slice_get (list (drawn_ticket calls)) k
 turn_kept list [] k c l at = cc
@@ -55,7 +55,7 @@ begun_of on list calls l h k c at = sym (turn_kept list calls k c l at) ∙ next
 beginning_of : (on : Act → Bool) (list : ℕ → List Act) (calls : List CompletedCall) → IsList list → IsBegun list calls → IsBeginning (rule on list) calls
 beginning_of on list calls l h k c at = comes_of on list (take k calls) c.op (turn_kept list calls k c l at ∙ h k c at)
 
--- nothing stands where a list is at its end
+-- a list that has nothing at an index ends before it
 at_end : (acts : List Act) (n : ℕ) → not (is_some (slice_get acts n)) ≡ true → length acts ≤ n
 at_end [] n h = omega arith
 at_end (a ∷ acts) zero h = cc

@@ -6,7 +6,8 @@ use Rattle.ec_core.specs.CallLists.{reply_number}
 use Rattle.ec_core.specs.Following.{CompletedCall}
 use Rattle.ec_buffer.specs.Shapes.{Buffer}
 
--- one item is put: after the items of earlier tickets, and once the item that stood in its cell was got
+-- one item is put: after the items of earlier tickets, and once the item that was in its cell was
+-- got
 abbrev pub produce_list : Buffer → ℕ → ℕ → List Act
 produce_list b item t =
     Ticket b.put_seq
@@ -26,7 +27,7 @@ consume_list b t =
     ∷ Advance b.out_count
     ∷ []
 
--- the ticket that the first of these completed calls drew; 0 before any is finished
+-- the ticket that the first of these completed calls drew; 0 before any is completed
 abbrev pub drawn_ticket : List CompletedCall → ℕ
 drawn_ticket [] = 0
 drawn_ticket (first ∷ others) = reply_number first.reply

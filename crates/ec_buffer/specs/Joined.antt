@@ -1,5 +1,5 @@
--- Following a buffer, said of each worker's calls by the written lists alone. What is put is left out of them, since
--- items are free.
+-- Following a buffer in terms of each worker's calls and the written lists only. The value of a put
+-- is left out of them, since an item may be any value.
 use Rattle.std.specs.Prelude.{◌≡◌, ◌↔◌, ℕ, List, ◌++◌, All, length, reverse, Option, Some, IfSome, if◌then◌else◌, slice_get}
 use Rattle.std.specs.List.{flat_map}
 use Rattle.ec_count.specs.Tables.{Tables, IsDeclared, may_take}
@@ -18,7 +18,7 @@ use Rattle.ec_buffer.specs.Follows.{is_on, FollowsBuffer}
 abbrev pub acts_by_ticket : Tables → Buffer → ℕ → ℕ → List Act
 acts_by_ticket t b w = if may_take t b.put_seq w then produce_list b 0 else consume_list b
 
--- each call is the one that stands at its place in the list, for the ticket that the first one drew
+-- each call is the one at its index in the list, for the ticket that the first one drew
 abbrev pub IsBegun : (ℕ → List Act) → List CompletedCall → Type 0
 IsBegun list calls = (k : ℕ) (c : CompletedCall) → slice_get calls k ≡ Some c → slice_get (list (drawn_ticket calls)) k ≡ Some (without_value c.op)
 
@@ -32,7 +32,8 @@ abbrev pub IsNext : (ℕ → List Act) → List CompletedCall → Act → Type 0
 IsNext list calls op =
     slice_get (list (drawn_ticket calls)) (length calls) ≡ Some (without_value op)
 
--- the calls are whole lists joined end to end, and the beginning of one more, in which a call that is pending is next
+-- the calls are whole lists joined end to end, and a prefix of one more, in which a call that is
+-- pending is next
 pub record AreLists (list : ℕ
     → List Act) (calls : List CompletedCall) (going : Option Act) : Type 0 where
   pub lists : List (List CompletedCall)
@@ -42,7 +43,8 @@ pub record AreLists (list : ℕ
   pub begun : IsBegun list last
   pub next : IfSome going (IsNext list last)
 
--- an accepted history follows a buffer exactly if each worker's calls on it are its lists joined end to end
+-- an accepted history follows a buffer exactly if each worker's calls on it are its lists joined
+-- end to end, and a prefix of one more
 abbrev pub FollowingMeansLists : Type 0
 FollowingMeansLists = (t : Tables) (b : Buffer) (h : List Entry) → IsDeclared t → IsAccepted t (reverse h)
     → FollowsBuffer t b (reverse h)

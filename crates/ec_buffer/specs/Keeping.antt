@@ -1,4 +1,4 @@
--- What is kept of a list of calls, to judge the next call of its worker or to ask for it.
+-- What is kept of a call list, to check the next call of its worker or to ask for it.
 use Rattle.std.specs.Prelude.{◌≡◌, ℕ, ◌+◌, ◌<◌, ◌==◌, Bool, List, length, Option, Some, slice_get, if◌then◌else◌}
 use Rattle.ec_count.specs.Tables.{Tables, may_take}
 use Rattle.ec_core.specs.declared.act.Act.{Act}
@@ -10,11 +10,11 @@ use Rattle.ec_core.specs.Following.{CompletedCall}
 use Rattle.ec_buffer.specs.CallLists.{drawn_ticket}
 use Rattle.ec_buffer.specs.Shapes.{Buffer}
 
--- the place in the list, and the ticket
+-- the index in the list, and the ticket
 abbrev pub list_progress : List CompletedCall → ListProgress
 list_progress calls = record { at = length calls; first = drawn_ticket calls; second = 0 }
 
--- how many calls are finished after a reply
+-- how many calls are completed after a reply
 abbrev pub place_after : ℕ → Reply → ℕ
 place_after at reply = if is_pending reply then at else at + 1
 
@@ -22,7 +22,8 @@ place_after at reply = if is_pending reply then at else at + 1
 abbrev pub turn_after : ℕ → ℕ → Reply → ℕ
 turn_after at turn reply = if is_pending reply then turn else (if at == 0 then reply_number reply else turn)
 
--- the call that comes after further calls, if so many are finished and the first of them drew this ticket
+-- the call that comes after further calls, if so many are completed and the first of them drew this
+-- ticket
 abbrev pub rest_of : (ℕ → List Act) → ℕ → ℕ → List CompletedCall → Option Act
 rest_of list at turn calls = slice_get (list (if at == 0 then drawn_ticket calls else turn)) (at + length calls)
 

@@ -15,7 +15,7 @@ use ec_count::{CellId, Setup, WorkerId};
 use std::alloc::{AllocError, Global};
 use std::marker::Model;
 
-/// Returns the place of a cell in the buffer, counted from 0.
+/// Returns the index of a cell in the buffer, counted from 0, if it is one of the buffer's cells.
 fn cell_index(shape: &BufferShape, cell: CellId) -> Option<usize>
     ensures value { result ≡ cell_index shape.now cell }
     ensures few { IfSome result (λ place. place < 256) }
@@ -56,7 +56,7 @@ fn note_put(shape: &BufferShape, entry: &Entry, writers: &mut [WorkerId; 256])
     }
 }
 
-/// Returns the same writer for each cell, of whom nothing is said before a put.
+/// Returns the last writers before the first put: an arbitrary worker for each cell.
 fn no_writers() -> [WorkerId; 256]
     ensures { result ≡ replicate 256 0 }
 {
@@ -64,7 +64,7 @@ fn no_writers() -> [WorkerId; 256]
     [first; 256]
 }
 
-/// Adds the delivery of a get.
+/// Adds the delivery of a get, if the entry is one.
 fn add_get(
     shape: &BufferShape,
     entry: &Entry,
@@ -84,8 +84,8 @@ fn add_get(
     Ok(())
 }
 
-/// Adds the delivery of a get, unless there was no memory for an earlier one. The answer is whether
-/// one is lacking.
+/// Adds the delivery of a get, unless an allocation has failed before. Returns whether one has
+/// failed.
 fn lacks_after(
     lacks: bool,
     shape: &BufferShape,
@@ -99,7 +99,7 @@ fn lacks_after(
     lacks || add_get(shape, entry, writers, list).is_err()
 }
 
-/// The audit of a buffer in a walk over a run. An entry whose call is not on the buffer may be left
+/// The audit of a buffer in a pass over a run. An entry whose call is not on the buffer may be left
 /// out.
 #[derive(Drop)]
 pub struct DeliveryAudit<'a> {
@@ -133,7 +133,7 @@ impl<'a> Audit for DeliveryAudit<'a> {
 }
 
 impl<'a> DeliveryAudit<'a> {
-    /// Makes the audit before the first entry of a run on this setup. It takes no memory.
+    /// Makes the audit before the first entry of a run on this setup. Allocates nothing.
     pub fn new(alloc: Global, shape: &'a BufferShape, setup: &'a Setup) -> Self
         ensures shape { result.shape ≡ shape.now }
         ensures setup { result.setup ≡ setup.now }
@@ -186,9 +186,8 @@ impl<'a> DeliveryAudit<'a> {
     }
 }
 
-/// Returns the deliveries of a buffer in a run, by number: one for each get that was made. If
-/// the workers don't follow the buffer's call lists, the first entry that breaks them is told. The
-/// run is as before, whatever is answered.
+/// Returns the deliveries of a buffer in a run, by number: one for each get that was made. If the
+/// workers don't follow the buffer's call lists, the error has the first entry that breaks them.
 pub fn deliveries(
     alloc: Global,
     run: &Run,

@@ -9,8 +9,8 @@ use crate::BufferShape;
 use crate::place::ListPhase;
 use ec_core::{Act, Procedure, Reply, VALUE_MAX};
 
-/// Gets one item from a buffer: draws a ticket, waits for its turn and for the item, gets it and
-/// tells the producers. The number that its fourth call is told is the item.
+/// The procedure that gets one item from a buffer. It draws a ticket, waits for its turn and for
+/// the item, gets the item, and advances the count of the gets. Its fourth call returns the item.
 #[derive(Clone, Copy, Debug, PartialEq, Eq)]
 pub struct Consume {
     shape: BufferShape,
@@ -18,7 +18,7 @@ pub struct Consume {
 }
 
 impl Consume {
-    /// Returns the whole list.
+    /// Makes a procedure that has made no call.
     pub fn new(shape: BufferShape) -> Self
         ensures whole { (calls : List CompletedCall) → ⟦<Consume as Procedure>⟧.rest result calls ≡ consume_call shape calls }
         ensures fresh { ⟦<Consume as Procedure>⟧.is_going result ≡ false }

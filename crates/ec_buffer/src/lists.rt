@@ -19,7 +19,7 @@ use ec_count::{EventId, SeqId, Setup, WorkerId};
 pub(crate) struct Lists<'a> {
     pub(crate) shape: &'a BufferShape,
     pub(crate) setup: &'a Setup,
-    /// Which workers are producers, since each entry of a run asks that.
+    /// Which workers are producers; it is looked up for each entry of a run.
     producers: [bool; 16],
     ghost known: { AreProducers setup.now shape.now 16 producers },
 }
@@ -52,8 +52,8 @@ pub fn is_on(shape: &BufferShape, act: &Act) -> bool
     }
 }
 
-/// Returns whether an act awaits the put of the item with this number. The number and one may be
-/// too large for their type.
+/// Returns whether an act awaits the put of the item with this number. No sum is computed, since
+/// the number plus one may overflow.
 fn is_wait(shape: &BufferShape, number: u64, act: &Act) -> bool
     ensures { result ≡ is_due (Some (Act.Await shape.now.in_count (number + 1))) (without_value act.now) }
 {
@@ -65,7 +65,7 @@ fn is_wait(shape: &BufferShape, number: u64, act: &Act) -> bool
     }
 }
 
-/// Returns whether the worker of a number is a producer; false if there is no such worker.
+/// Returns whether the worker with this number is a producer; false if there is no such worker.
 fn is_producer(shape: &BufferShape, setup: &Setup, number: usize) -> bool
     requires { number < 16 }
     ensures { result ≡ may_take setup.now shape.now.put_seq number }
@@ -129,7 +129,7 @@ impl<'a> Protocol for Lists<'a> {
     }
 
     fn is_right(&self, worker: WorkerId, kept: &ListProgress, act: &Act) -> bool {
-        // (the call that comes next is asked for first, since in a run that follows most are that)
+        // (the call that is next is checked first, since in a run that follows most calls are that)
         self.is_next(worker, kept, act) || !is_on(self.shape, act)
     }
 

@@ -1,4 +1,4 @@
-//! How far a worker has come in a list of calls.
+//! The progress of a worker in a call list.
 ghost use Rattle.std.specs.Prelude.{◌≡◌, ◌≤◌, ◌+◌, true, false};
 ghost use Rattle.ec_core.specs.declared.act.TheConstants.{VALUE_MAX};
 ghost use Rattle.ec_core.specs.Calls.{is_pending};
@@ -7,7 +7,7 @@ ghost use Rattle.ec_buffer.specs.Keeping.{place_after, turn_after};
 
 use ec_core::{Reply, VALUE_MAX};
 
-/// How many calls of a list of five are finished, the ticket that the first one drew (0 before),
+/// How many calls of a list of five are completed, the ticket that the first one drew (0 before),
 /// and whether a call is pending.
 #[derive(Clone, Copy, Debug, PartialEq, Eq)]
 pub(crate) struct ListPhase {

@@ -9,8 +9,8 @@ use crate::BufferShape;
 use crate::place::ListPhase;
 use ec_core::{Act, Procedure, Reply, VALUE_MAX};
 
-/// Puts one item into a buffer: draws a ticket, waits for its turn and for a free cell, puts the
-/// item and tells the consumers.
+/// The procedure that puts one item into a buffer. It draws a ticket, waits for its turn and for a
+/// free cell, puts the item, and advances the count of the puts.
 #[derive(Clone, Copy, Debug, PartialEq, Eq)]
 pub struct Produce {
     shape: BufferShape,
@@ -19,7 +19,7 @@ pub struct Produce {
 }
 
 impl Produce {
-    /// Returns the whole list, for this item.
+    /// Makes a procedure for this item that has made no call.
     pub fn new(shape: BufferShape, item: u64) -> Self
         requires { item ≤ VALUE_MAX }
         ensures whole { (calls : List CompletedCall) → ⟦<Produce as Procedure>⟧.rest result calls ≡ produce_call shape item calls }

@@ -115,8 +115,8 @@ impl BufferShape {
             && !shares_worker(produce, consume)
     }
 
-    /// Returns whether the objects are declared there, with the rights of a buffer and fixed
-    /// eventcounts, for producers and consumers that share no worker.
+    /// Returns whether the objects are declared there, with the rights of a buffer. The components
+    /// of the eventcounts are not transferable, and producers and consumers share no worker.
     pub fn fits(&self, setup: &Setup) -> bool
         ensures { IsTrue result ↔ Fits self.now setup.now }
     {
@@ -127,9 +127,10 @@ impl BufferShape {
     }
 }
 
-/// Declares a buffer of n cells for these producers and consumers. TooMany: a table has no room
-/// for 2 more eventcounts, 2 more sequencers or n more cells, or a list has more than 16 entries.
-/// Empty: there is no producer, no consumer, or n is 0. TwoRoles: a worker is in both lists.
+/// Declares a buffer of n cells for these producers and consumers. Reports `TooMany` if a table has
+/// no room for 2 more eventcounts, 2 more sequencers or n more cells, or if a list has more than 16
+/// entries. Reports `Empty` if there is no producer or no consumer, or n is 0. Reports `TwoRoles`
+/// if a worker is in both lists.
 pub fn declare_buffer(
     setup: &mut Setup,
     n: usize,

@@ -1,4 +1,4 @@
--- A call that is under way is what the worker's latest entries are cut into, and its rounds add their components.
+-- A pending call consists of the worker's latest entries, and its rounds add their components.
 use Rattle.std.proofs.Common.{◌≡◌, ℕ, zero, suc, ◌+◌, ◌-◌, ◌<◌, ◌≤◌, Bool, true, false, ◌&&◌, List, [], ◌∷◌, length, Option, Some, None, get_or, nat_le, refl, ap, sym, ◌∙◌, arith, cond, subst, ◌==◌, ◌≢◌, slice_get}
 use Rattle.std.specs.Option.{option_map_or}
 use Rattle.std.proofs.lemmas.Bool.{eqb-true, eqb-false, eq-eqb, le-leb, lt-leb}
@@ -24,7 +24,7 @@ moments_kept w h first k off =
     ap (λ b. cond (nat_le first k && b) (past_at k h ∷ own_moments w h first k) (own_moments w h first k)) off
     ∙ (elim (nat_le first k) as (λ b. cond (b && false) (past_at k h ∷ own_moments w h first k) (own_moments w h first k) ≡ own_moments w h first k) [ true ↦ refl | false ↦ refl ])
 
--- and where it is, they have one more
+-- and if it is, they have one more
 pub moments_more : (w : ℕ) (h : List Entry) (first k : ℕ) → first ≤ k → is_own_at w h k ≡ true → own_moments w h first (suc k) ≡ past_at k h ∷ own_moments w h first k
 unfolding own_moments
 moments_more w h first k le own =
@@ -40,7 +40,7 @@ moments_none w h first (suc k) le =
 pub own_is : (w : ℕ) (h : List Entry) (k : ℕ) (x : Entry) (b : Bool) → slice_get h k ≡ Some x → (x.worker == w) ≡ b → is_own_at w h k ≡ b
 own_is w h k x b at own = ap (λ o. option_map_or (λ (y : Entry). y.worker == w) o false) at ∙ own
 
--- an entry of w's before moment k + 1 stands before moment k, if entry k is not w's
+-- an entry of w's before moment k + 1 is before moment k, if entry k is not w's
 own_below : (w : ℕ) (h : List Entry) (k i : ℕ) (x : Entry) → is_own_at w h k ≡ false → i < suc k → slice_get h i ≡ Some x → x.worker ≡ w → i < k
 own_below w h k i x off lt at own =
     elim (i == k) as (λ b. (i == k) ≡ b → i < k) [
@@ -97,7 +97,7 @@ begun w h k x at own returned begins = record {
   moments = sym (moments_more w h k k (omega arith) (own_is w h k x true at (eq-eqb x.worker w own)) ∙ ap (λ ps. past_at k h ∷ ps) (moments_none w h k k (omega arith)));
 }
 
--- entry k goes on with a call
+-- entry k continues a call
 went_on : (w : ℕ) (h : List Entry) (k : ℕ) (x : Entry) (call : CallSoFar) → slice_get h k ≡ Some x → x.worker ≡ w → x.reply ≡ Pending → x.act ≡ Go
     → IsUnderWay w h k call → IsUnderWay w h (suc k) (made call.op (past_at k h ∷ call.moments))
 went_on w h k x call at own returned goes c = record {
@@ -260,7 +260,7 @@ rounds_add t e (suc n) (p ∷ moments) le =
     let rest : sum_read t e n moments ≡ sum_to f n = rounds_add t e n moments (omega arith) ∙ sum_same n (λ c. component_total t e c (get_or moments (n - 1 - c) [])) f each in
     ap (λ m. m + sum_read t e n moments) here ∙ ap (λ m. f n + m) rest
 
--- WHAT IS UNDER WAY
+-- WHAT IS PENDING
 
 reads : (t : Tables) (op : Act) → IsReading t op → (e : ℕ) × (read_of op ≡ Some e) × (e < length t.events)
 reads t (Read e) h = (e, refl, h)

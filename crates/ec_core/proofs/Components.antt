@@ -14,14 +14,14 @@ use Rattle.ec_core.proofs.shared.Answering.{place_within}
 use Rattle.ec_core.proofs.shared.Handing.{no_member}
 use Rattle.ec_core.proofs.shared.Places.{get_set}
 
--- who is no member has no place
+-- who is not a member has no position
 no_place : (w : ℕ) (ws : List ℕ) (low : ℕ) → is_member w ws ≡ false → position_from (λ v. v == w) low ws ≡ None
 no_place w [] low h = refl
 no_place w (x ∷ xs) low h =
     let n = or_parts (x == w) (is_member w xs) h in
     ap (λ b. cond b (Some low) (position_from (λ v. v == w) (low + 1) xs)) n.0 ∙ no_place w xs (low + 1) n.1
 
--- a place counted from low is at least that
+-- a position counted from low is at least low
 place_from : (w : ℕ) (ws : List ℕ) (low c : ℕ) → position_from (λ v. v == w) low ws ≡ Some c → low ≤ c
 place_from w [] low c h = cc
 place_from w (v ∷ ws) low c h =
@@ -92,7 +92,8 @@ kept_apart true t x o = refl
 kept_apart false true x o = refl
 kept_apart false false x o = refl
 
--- once a hands its component to b, which had none, the signallers and the components of workers still fit
+-- after a transferred its component to b, which had none, the components of workers are still those
+-- of the signallers
 pub handed_still : (ws : List ℕ) (components : List (Option ℕ)) (a b c : ℕ) → AreSignallers ws components → a < 16 → b < 16
     → index_of a ws ≡ Some c → is_member b ws ≡ false
     → AreSignallers (slice_set ws c b) (slice_set (slice_set components a None) b (Some c))
@@ -108,20 +109,20 @@ handed_still ws components a b c s small_a small_b at new = record {
       ∙ ap Some (sym (place_set_at w a b c ws at s.different new)));
 }
 
--- a place is within the list
+-- a position is within the list
 pub place_below : (w : ℕ) (ws : List ℕ) (c : ℕ) → index_of w ws ≡ Some c → c < length ws
 place_below w ws c is = (let lt : c < 0 + length ws = place_within w ws 0 c is in omega arith)
 
--- a place among at most 16 is below 16
+-- a position among at most 16 is below 16
 pub place_few : (w : ℕ) (ws : List ℕ) (o : Option ℕ) → length ws ≤ 16 → o ≡ index_of w ws → IfSome o (λ c. c < 16)
 place_few w ws None few is = tt
 place_few w ws (Some c) few is = omega (arith, place_below w ws c (sym is), few)
 
--- the component that is kept for a worker is its place
+-- the component that is stored for a worker is its position
 pub component_is : (ws : List ℕ) (components : List (Option ℕ)) (w : ℕ) → AreSignallers ws components → w < 16 → get_or components w None ≡ index_of w ws
 component_is ws components w s small = get_or_from_slice_get components w (index_of w ws) None (s.places w small)
 
--- so what is kept is the place, where there is one
+-- so what is stored is the position, if there is one
 pub place_kept : (ws : List ℕ) (components : List (Option ℕ)) (w i c : ℕ) → AreSignallers ws components → i < 16 → i ≡ w
     → get_or components i None ≡ Some c → index_of w ws ≡ Some c
 place_kept ws components w i c s small is at = ap (λ v. index_of v ws) (sym is) ∙ sym (component_is ws components i s small) ∙ at
@@ -130,13 +131,13 @@ some_or_none : (o : Option ℕ) → ((c : ℕ) → o ≡ Some c → ⊥) → o �
 some_or_none None h = refl
 some_or_none (Some c) h = absurd (h c refl)
 
--- and where nothing is kept there is none
+-- and if nothing is stored there is none
 pub none_kept : (ws : List ℕ) (components : List (Option ℕ)) (w i : ℕ) → AreSignallers ws components → i < 16 → i ≡ w
     → ((c : ℕ) → get_or components i None ≡ Some c → ⊥) → index_of w ws ≡ None
 none_kept ws components w i s small is none =
     ap (λ v. index_of v ws) (sym is) ∙ sym (component_is ws components i s small) ∙ some_or_none (get_or components i None) none
 
--- if the receiver signals the eventcount, nothing is handed
+-- if the receiver signals the eventcount, nothing is transferred
 pub present_stays : (w b : ℕ) (ws : List ℕ) (o : Option ℕ) → o ≡ index_of b ws → is_some o ≡ true → ws ≡ replace_unless_member (index_of w ws) b ws
 present_stays w b ws o is some =
     elim (is_member b ws) as (λ m. is_member b ws ≡ m → ws ≡ cond m ws (replace_at (index_of w ws) b ws)) [
@@ -150,12 +151,12 @@ pub nothing_handed : (b : ℕ) (ws : List ℕ) (o : Option ℕ) → o ≡ None
 nothing_handed b ws o none =
     subst (λ p. ws ≡ replace_unless_member p b ws) (sym none) (elim (is_member b ws) as (λ m. ws ≡ cond m ws ws) [ true ↦ refl | false ↦ refl ])
 
--- who has no place is no member
+-- who has no position is not a member
 pub absent : (b : ℕ) (ws : List ℕ) (o : Option ℕ) → o ≡ index_of b ws → is_some o ≡ false → is_member b ws ≡ false
 absent b ws None is none = no_member b ws 0 (sym is)
 absent b ws (Some c) is none = cc
 
--- a hand to a worker that signals nothing puts it in the giver's place
+-- a hand to a worker that signals nothing replaces the giver by it
 pub handed_over : (b c : ℕ) (ws : List ℕ) (o : Option ℕ) → is_member b ws ≡ false → o ≡ Some c → slice_set ws c b ≡ replace_unless_member o b ws
 handed_over b c ws o new is =
     subst (λ p. slice_set ws c b ≡ replace_unless_member p b ws) (sym is) (ap (λ m. cond m ws (slice_set ws c b)) (sym new))

@@ -27,7 +27,8 @@ use Rattle.ec_core.proofs.shared.Stepping.{entry}
 
 -- THE END OF A ROUND
 
--- the entries of a read under way never make whole rounds, and an await under way whose entries do fell short in the last one
+-- the entries of a pending read never make whole rounds, and a pending await whose entries do fell
+-- short in the last one
 abbrev FellShort : Tables → Act → List (List Entry) → Type 0
 FellShort t (Read e) moments = length moments % component_count t e ≡ 0 → ⊥
 FellShort t (Await e v) moments = length moments % component_count t e ≡ 0
@@ -149,7 +150,7 @@ some_moment w h first k own lt =
     let one = ap length (one_moment w h first own) in
     omega arith
 
--- an entry of w's from which on there are n of them
+-- an entry of w's, from which on w has n entries
 record IsRoundOf (w : ℕ) (h : List Entry) (first n k : ℕ) : Type 0 where
   round : ℕ
   own : is_own_at w h round ≡ true
@@ -202,7 +203,7 @@ sum_front t e zero ps qs le = refl
 sum_front t e (suc n) [] qs le = absurd (omega arith)
 sum_front t e (suc n) (p ∷ ps) qs le = ap (λ m. component_total t e n p + m) (sum_front t e n ps qs (omega arith))
 
--- whole rounds that are some are one at least
+-- some entries that make whole rounds of n are at least n
 round_within : (n k : ℕ) → 0 < k → k % n ≡ 0 → n ≤ k
 round_within n k some whole =
     elim (nat_le n k) as (λ b. nat_le n k ≡ b → n ≤ k) [
@@ -316,7 +317,7 @@ back t h w k e v sum r none =
 pub index_zero : IndexZeroMeansFallenShort
 index_zero t h w k e v sum d acc = (forth t h w k e v sum d acc, λ r. back t h w k e v sum r.0 r.1)
 
--- A READ IS NEVER THERE
+-- A PENDING READ IS NEVER AT THE FIRST COMPONENT
 
 await_of : (t : Tables) (op : Act) (moments : List (List Entry)) → IsReading t op → FellShort t op moments → next_component t (event_or op) moments ≡ 0
     → (e : ℕ) × (v : ℕ) × (op ≡ Await e v)

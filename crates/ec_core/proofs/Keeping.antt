@@ -1,4 +1,4 @@
--- How entries are kept beside the words of their numbers.
+-- How entries are packed, and the words of their numbers stored.
 use Rattle.std.proofs.Common.{◌≡◌, ℕ, zero, suc, ◌+◌, ◌-◌, ◌*◌, ◌/◌, ◌%◌, ◌^◌, ◌<◌, ◌≤◌, true, false, cond, List, [], ◌∷◌, ◌++◌, append-nil, drop, take, length, length-append, nat_lt, slice_get, Some, refl, ap, sym, ◌∙◌, arith}
 use Rattle.std.proofs.lemmas.Bool.{lt-ltb}
 use Rattle.std.proofs.lemmas.List.{drop-append-le, drop-drop, length-drop, nil_from_length, take-append-le, take_all}
@@ -80,7 +80,7 @@ past_front [] more (suc n) h = absurd (omega arith)
 past_front (w ∷ prefix) more zero h = absurd (omega arith)
 past_front (w ∷ prefix) more (suc n) h = past_front prefix more n (omega arith)
 
--- an entry whose words are these is the one that was kept
+-- an entry that was packed is unpacked from its words
 entry_again : (e : Entry) → receiver_in e.act < 16 → unpack_entry (words_in e) (pack_entry e) ≡ e
 entry_again e h =
     let vs = words_of_option (value_in e.act) in

@@ -63,7 +63,7 @@ kind_told t past w (Put x v) reply small is = is
 kind_told t past w (Get x) reply small is = number_told reply (cell_value x past) small is
 kind_told t past w (Hand e b) reply small is = is
 
--- what an act is told, if it is not refused
+-- the reply to an act, if it is not refused
 pub kind_is : (t : Tables) (past : List Entry) (w : ℕ) (act : Act) (reply : Reply) → IsDeclared t → IsAccepted t past
     → answer_of t past w act ≡ Ok reply → IsReply act reply
 kind_is t past w act reply d acc h =

@@ -1,4 +1,4 @@
--- What silent workers did leaves no trace in what the others are told.
+-- The entries of read-only workers leave no trace in the replies to the others.
 use Rattle.std.proofs.Common.{◌≡◌, ℕ, zero, suc, ◌+◌, ◌%◌, Bool, true, false, not, ◌&&◌, ◌||◌, List, [], ◌∷◌, ◌++◌, length, reverse, take, subst, All, ◌<◌, Option, Some, None, is_some, unwrap_or, nat_le, Ok, arith, refl, ap, sym, ◌∙◌, cond, ◌==◌, map, slice_get, slice_set}
 use Rattle.std.specs.Option.{option_map, option_map_or}
 use Rattle.std.proofs.lemmas.Bool.{eqb-true, eq-eqb, or_parts}
@@ -27,7 +27,8 @@ use Rattle.ec_core.proofs.shared.Totals.{some_of}
 use Rattle.ec_core.proofs.shared.Pasts.{past_itself, past_of_past, past_later, call_before, IsCallBefore}
 use Rattle.ec_core.proofs.shared.Signalling.{handed_by_none}
 
--- a worker that signals nothing at any moment of a past, takes from no sequencer and writes no cell
+-- a worker that signals nothing at any moment of a reversed history, takes from no sequencer and
+-- writes no cell
 pub record IsQuiet (t : Tables) (past : List Entry) (w : ℕ) : Type 0 where
   pub signals : (early : List Entry) → IsPastOf early past → (e : ℕ) → component_at t e early w ≡ None
   pub takes : (q : ℕ) → may_take t q w ≡ false
@@ -36,7 +37,7 @@ pub record IsQuiet (t : Tables) (past : List Entry) (w : ℕ) : Type 0 where
 abbrev pub AreQuiet : Tables → (ℕ → Bool) → List Entry → Type 0
 AreQuiet t s past = (w : ℕ) → s w ≡ true → IsQuiet t past w
 
--- who is quiet in a past was so before
+-- who is quiet in a reversed history is so in each suffix of it
 quiet_earlier : (t : Tables) (s : ℕ → Bool) (early past : List Entry) → IsPastOf early past → AreQuiet t s past → AreQuiet t s early
 quiet_earlier t s early past is silent w h =
     let q = silent w h in
@@ -230,7 +231,7 @@ already_without t s past (Ticket q) silent = refl
 already_without t s past (Put x v) silent = refl
 already_without t s past (Get x) silent = refl
 
--- the others are answered alike
+-- the others get the same answers
 pub answer_without : (t : Tables) (s : ℕ → Bool) (past : List Entry) (w : ℕ) (act : Act) → IsAccepted t past → AreQuiet t s past → s w ≡ false
     → answer_of t (without s past) w act ≡ answer_of t past w act
 unfolding answer_of
@@ -244,7 +245,7 @@ answer_without t s past w act acc silent kept =
     ∙ ap (λ b. refused_or (refusal_in t w act (is_some (under_way w past)) (has_right t past w act) (is_at_limit t past w act) b) r) (already_without t s past act silent)
     ∙ ap (refused_or (refusal_of t past w act)) (reply_without t s past w act acc silent kept)
 
--- what is left is accepted
+-- the other entries are accepted
 pub accepted_without : (t : Tables) (s : ℕ → Bool) (past : List Entry) → IsAccepted t past → AreQuiet t s past → IsAccepted t (without s past)
 accepted_without t s [] acc silent = tt
 accepted_without t s (x ∷ past) acc silent =
@@ -257,7 +258,7 @@ or_member : (a b : Bool) (P : Type 0) → (a ≡ true → P) → (b ≡ true →
 or_member true b P f g h = f refl
 or_member false b P f g h = g h
 
--- each of the listed workers is silent
+-- each of the listed workers is read-only
 pub members_silent : (t : Tables) (h : List Entry) (ws : List ℕ) → All (λ w. IsSilent t h w) ws → (w : ℕ) → is_member w ws ≡ true → IsSilent t h w
 members_silent t h [] all w is = cc
 members_silent t h (v ∷ vs) all w is =
@@ -265,7 +266,7 @@ members_silent t h (v ∷ vs) all w is =
     (λ e. subst (IsSilent t h) (eqb-true v w e) (all 0 v (omega arith)))
     (λ e. members_silent t h vs (λ k d lt. all (suc k) d (omega arith)) w e) is
 
--- what came first is the past at a moment
+-- a suffix of a reversed history is that at the moment of its length
 past_is : (h since early : List Entry) → reverse h ≡ since ++ early → past_at (length early) h ≡ early
 past_is h since early is =
     let whole : h ≡ reverse early ++ reverse since = sym (reverse-reverse h) ∙ ap reverse is ∙ reverse-append since early in
@@ -304,7 +305,7 @@ none_replaced : (w b : ℕ) (ws : List ℕ) (o : Option ℕ) → (b == w) ≡ fa
 none_replaced w b ws None other h = h
 none_replaced w b ws (Some c) other h = set_none w b ws 0 c other h
 
--- an act that hands nothing to a worker leaves it no signaller
+-- an act that transfers nothing to a worker leaves it no signaller
 not_handed : (e v w : ℕ) (act : Act) (ws : List ℕ) → hands_to w act ≡ false → index_of w ws ≡ None → index_of w (signallers_after e v act ws) ≡ None
 not_handed e v w (Advance f) ws other h = h
 not_handed e v w (Read f) ws other h = h
@@ -338,7 +339,7 @@ received t past v w (Ticket q) reply answered is = cc
 received t past v w (Put x u) reply answered is = cc
 received t past v w (Get x) reply answered is = cc
 
--- a worker that something was handed to is not silent
+-- a worker that received a component is not read-only
 pub receiver_speaks : (t : Tables) (h done others : List Entry) (x : Entry) (w : ℕ) → IsAccepted t (reverse h) → done ++ x ∷ others ≡ h → hands_to w x.act ≡ true
     → IsSilent t h w → ⊥
 unfolding signallers_at
@@ -364,19 +365,19 @@ none_signalled : (t : Tables) (h : List Entry) (w : ℕ) → list_any (λ (x : E
 none_signalled t h w off e none zero = none
 none_signalled t h w off e none (suc k) = handed_none t e w k h (slice_get h k) refl (none_at w h k off) (none_signalled t h w off e none k)
 
--- who is silent by the declarations, and to whom nothing was handed, is silent
+-- a worker that is read-only by the declarations, and received no component, is read-only
 pub silent_by_entries : (t : Tables) (h : List Entry) (w : ℕ) → is_silent t w ≡ true → list_any (λ (x : Entry). hands_to w x.act) h ≡ false → IsSilent t h w
 unfolding signallers_at
 silent_by_entries t h w is off =
     let r = silent_has_none t w is in
     record { declared = r.0; signals = λ k e. none_signalled t h w off e (r.1.signals e) k; takes = r.1.takes; writes = r.1.writes }
 
--- who is silent is so by the declarations
+-- a read-only worker is so by the declarations
 pub silent_declared : (t : Tables) (h : List Entry) (w : ℕ) → IsSilent t h w → is_silent t w ≡ true
 unfolding signallers_at
 silent_declared t h w q = silent_from_none t w q.declared (record { signals = λ e. q.signals 0 e; takes = q.takes; writes = q.writes })
 
--- the silent workers of a history are quiet in its past
+-- the read-only workers of a history are quiet in it
 quiet_all : (t : Tables) (s : ℕ → Bool) (h : List Entry) → ((w : ℕ) → s w ≡ true → IsSilent t h w) → AreQuiet t s (reverse h)
 quiet_all t s h silent w is =
     let q = silent w is in
@@ -393,14 +394,14 @@ turned_end : (s : ℕ → Bool) (b : Bool) (h : List Entry) (x : Entry) → reve
 turned_end s true h x = sym (reverse-append (x ∷ []) h)
 turned_end s false h x = append-nil (reverse h)
 
--- the past without some workers is that of the history without them
+-- without some workers, the reversed history is the reverse of the history
 pub without_reverse : (s : ℕ → Bool) (h : List Entry) → without s (reverse h) ≡ reverse (without s h)
 without_reverse s [] = refl
 without_reverse s (x ∷ h) =
     ap (without s) (reverse-append (x ∷ []) h) ∙ filter_end s (reverse h) x
     ∙ ap (λ r. r ++ cond (not (s x.worker)) (x ∷ []) []) (without_reverse s h) ∙ turned_end s (not (s x.worker)) (without s h) x
 
--- a kept entry is answered as it was
+-- an entry of another worker gets the same answer
 pub kept_answer : (t : Tables) (s : ℕ → Bool) (h done others : List Entry) (x : Entry) → IsAccepted t (reverse h) → ((w : ℕ) → s w ≡ true → IsSilent t h w)
     → done ++ x ∷ others ≡ h → s x.worker ≡ false → answer_of t (reverse (without s done)) x.worker x.act ≡ Ok x.reply
 kept_answer t s h done others x acc silent is kept =

@@ -1,4 +1,5 @@
--- Following, said of a worker's calls alone: they are whole lists joined end to end, and then the beginning of one more.
+-- Conformance in terms of a worker's calls: they are whole lists joined end to end, then a prefix
+-- of one more.
 use Rattle.std.specs.Prelude.{◌≡◌, ℕ, ◌⊎◌, Bool, true, false, ◌==◌, ◌&&◌, not, List, [], ◌∷◌, ◌++◌, All, take, Option, Some, None, IfSome, if◌then◌else◌, slice_get}
 use Rattle.std.specs.List.{flat_map, filter}
 use Rattle.std.specs.Option.{option_map}
@@ -7,7 +8,7 @@ use Rattle.ec_core.specs.declared.act.Entry.{Entry}
 use Rattle.ec_core.specs.Calls.{CallSoFar, under_way, is_pending}
 use Rattle.ec_core.specs.Following.{CompletedCall, Rule, opening_act}
 
--- the completed calls of w after a past, in order: an entry that is told more than Pending ends one
+-- the completed calls of w after past, in order: an entry whose reply is not Pending ends one
 unfoldable pub finished_by : ℕ → List Entry → List CompletedCall
 finished_by w [] = []
 finished_by w (x ∷ past) =
@@ -26,7 +27,7 @@ pub record ComesNext (r : Rule) (calls : List CompletedCall) (op : Act) : Type 0
   pub fits : r.fits calls op ≡ true
   pub goes_on : is_whole r calls ≡ false
 
--- each call is next after those before it: the calls are a list, or the beginning of one
+-- each call is next after those before it: the calls are a list, or a prefix of one
 abbrev pub IsBeginning : Rule → List CompletedCall → Type 0
 IsBeginning r calls = (k : ℕ) (c : CompletedCall) → slice_get calls k ≡ Some c → ComesNext r (take k calls) c.op
 
@@ -34,7 +35,8 @@ pub record IsWholeList (r : Rule) (calls : List CompletedCall) : Type 0 where
   pub each : IsBeginning r calls
   pub whole : is_whole r calls ≡ true
 
--- the calls are whole lists joined end to end, and the beginning of one more, in which a call that is pending comes next
+-- the calls are whole lists joined end to end, then a prefix of one more, in which a call that is
+-- pending comes next
 pub record IsJoined (r : Rule) (calls : List CompletedCall) (going : Option Act) : Type 0 where
   pub lists : List (List CompletedCall)
   pub last : List CompletedCall
@@ -43,7 +45,7 @@ pub record IsJoined (r : Rule) (calls : List CompletedCall) (going : Option Act)
   pub begun : IsBeginning r last
   pub next : IfSome going (ComesNext r last)
 
--- the rule speaks of the calls on a group, wherever they stand
+-- the rule concerns exactly the calls on a group, at any position in a list
 abbrev pub SpeaksOf : Rule → (Act → Bool) → Type 0
 SpeaksOf r is_on = (calls : List CompletedCall) (op : Act) → r.concerns calls op ≡ is_on op
 
@@ -56,13 +58,13 @@ abbrev pub going_on : (Act → Bool) → Option CallSoFar → Option Act
 going_on is_on None = None
 going_on is_on (Some call) = if is_on call.op then Some call.op else None
 
--- LISTS WHOSE CALLS STAND NEXT TO EACH OTHER AMONG ALL CALLS
+-- LISTS WITHIN WHICH THE WORKER MAKES NO OTHER CALL
 
 -- the act that began the pending call
 abbrev pub op_of : Option CallSoFar → Option Act
 op_of o = option_map (λ (call : CallSoFar). call.op) o
 
--- one call by itself that is not on the group
+-- a single call that is not on the group
 pub record IsOther (is_on : Act → Bool) (calls : List CompletedCall) : Type 0 where
   pub call : CompletedCall
   pub is : calls ≡ call ∷ []
@@ -73,8 +75,8 @@ abbrev pub MayComeNext : Rule → (Act → Bool) → List CompletedCall → Act 
 MayComeNext r is_on [] op = (is_on op ≡ false) ⊎ ComesNext r [] op
 MayComeNext r is_on (c ∷ calls) op = ComesNext r (c ∷ calls) op
 
--- the calls, those on other objects with them, are whole lists with calls on other objects between them, and the
--- beginning of one more list
+-- all calls, also those on other objects, are whole lists with calls on other objects between them,
+-- then a prefix of one more list
 pub record IsSideBySide (r : Rule) (is_on : Act → Bool) (calls : List CompletedCall) (going : Option Act) : Type 0 where
   pub pieces : List (List CompletedCall)
   pub last : List CompletedCall

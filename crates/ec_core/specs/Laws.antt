@@ -30,7 +30,7 @@ IssuedCountsTickets = (q k : ℕ) (h : List Entry) → issued q (past_at k h) �
 abbrev pub CellsHoldTheLastPut : Type 0
 CellsHoldTheLastPut = (x k : ℕ) (h : List Entry) → IsLastPut x h k (cell_value x (past_at k h)) ⊎ IsUntouched x h k (cell_value x (past_at k h))
 
--- a call of w is pending at moment k exactly if one is that began, went on and has not ended
+-- a call of w is pending at moment k exactly if it began, was continued and has not ended
 abbrev pub CallsUnderWayAreCutInOrder : Type 0
 CallsUnderWayAreCutInOrder = (w k : ℕ) (h : List Entry) (call : CallSoFar) → (under_way w (past_at k h) ≡ Some call) ↔ IsUnderWay w h k call
 
@@ -53,13 +53,14 @@ ComponentsAddUp = (t : Tables) (e k : ℕ) (h : List Entry) → IsAccepted t (re
 abbrev pub TotalsRiseByOne : Type 0
 TotalsRiseByOne = (e k : ℕ) (h : List Entry) → (total e (past_at k h) ≤ total e (past_at (k + 1) h)) × (total e (past_at (k + 1) h) ≤ total e (past_at k h) + 1)
 
--- no component, and no number of tickets drawn, passes the limit
+-- no component, and no number of tickets drawn, exceeds the limit
 abbrev pub CountsKeepTheLimit : Type 0
 CountsKeepTheLimit = (t : Tables) (k : ℕ) (h : List Entry) → IsAccepted t (reverse h)
     → ((e c : ℕ) → component_total t e c (past_at k h) ≤ t.limit) × ((q : ℕ) → issued q (past_at k h) ≤ t.limit)
 
--- a list of pasts, as many as e has components, of which each came after early and before late: the sum of their
--- components is at least the total at early and at most the total at late
+-- a list of reversed histories, as many as e has components, none of them earlier than early or
+-- later than late: the sum of their components is at least the total at early and at most that at
+-- late
 abbrev pub RoundsLieBetween : Type 0
 RoundsLieBetween = (t : Tables) (e : ℕ) (early late : List Entry) (moments : List (List Entry)) → IsAccepted t early → IsAccepted t late
     → length moments ≡ component_count t e → IsPastOfEach early moments → EachIsPastOf moments late
@@ -72,11 +73,11 @@ RoundsOfCallsLieBetween = (t : Tables) (h : List Entry) (k e : ℕ) (x : Entry) 
     → slice_get h k ≡ Some x → call_with x (past_at k h) ≡ Some call → read_of call.op ≡ Some e → length call.moments % component_count t e ≡ 0
     → (total e (past_at (round_start t e call.moments) h) ≤ round_sum t e call.moments) × (round_sum t e call.moments ≤ total e (past_at k h))
 
--- every beginning of an accepted history is accepted
+-- every prefix of an accepted history is accepted
 abbrev pub BeginningsAreAccepted : Type 0
 BeginningsAreAccepted = (t : Tables) (k : ℕ) (h : List Entry) → IsAccepted t (reverse h) → IsAccepted t (past_at k h)
 
--- a history is accepted exactly if each entry is the answer to its act at its own moment
+-- a history is accepted exactly if each entry has the answer to its act at its own moment
 abbrev pub AcceptedMeansAnswered : Type 0
 AcceptedMeansAnswered = (t : Tables) (h : List Entry)
     → IsAccepted t (reverse h) ↔ ((k : ℕ) (x : Entry) → slice_get h k ≡ Some x → answer_of t (past_at k h) x.worker x.act ≡ Ok x.reply)
@@ -101,8 +102,8 @@ abbrev pub FixedEventsKeepTheirSignallers : Type 0
 FixedEventsKeepTheirSignallers = (t : Tables) (e k : ℕ) (h : List Entry) → IsAccepted t (reverse h) → may_hand t e ≡ false
     → signallers_at t e (past_at k h) ≡ signallers t e
 
--- the signaller of a component at moment k is the receiver of the last hand of it before k, and the declared one if
--- there is none
+-- the signaller of a component at moment k is the receiver of its last hand before k, or the
+-- declared one if there is none
 abbrev pub SignallersAreTheLastReceivers : Type 0
 SignallersAreTheLastReceivers = (t : Tables) (e c k : ℕ) (h : List Entry)
     → IsLastHand t e c h k (signaller_at t e (past_at k h) c) ⊎ IsUnhanded t e c h k (signaller_at t e (past_at k h) c)
@@ -115,8 +116,8 @@ HandsChangeNoNumber = (t : Tables) (h : List Entry) (k e b : ℕ) (x : Entry) �
     × ((q : ℕ) → issued q (past_at (k + 1) h) ≡ issued q (past_at k h))
     × ((y : ℕ) → cell_value y (past_at (k + 1) h) ≡ cell_value y (past_at k h))
 
--- an accepted history without some read-only workers is accepted, and each entry that is kept is, at the moment that
--- it then has, the answer to its act
+-- an accepted history without the entries of some read-only workers is accepted, and each other
+-- entry has the answer to its act at the moment that it then has
 abbrev pub OthersStand : Type 0
 OthersStand = (t : Tables) (s : ℕ → Bool) (h : List Entry) → IsAccepted t (reverse h) → ((w : ℕ) → s w ≡ true → IsSilent t h w)
     → IsAccepted t (reverse (without s h))

@@ -1,4 +1,4 @@
--- The calls of a history, as a walk over its entries meets them.
+-- The calls of a history, in a pass over its entries.
 use Rattle.std.specs.Prelude.{◌≡◌, ℕ, ◌+◌, ◌-◌, ◌%◌, ◌<◌, nat_le, List, ◌∷◌, length, Option, Some, None, if◌then◌else◌, slice_get}
 use Rattle.std.specs.Option.{option_map}
 use Rattle.ec_count.specs.Tables.{Tables}
@@ -20,7 +20,7 @@ call_after_act t Go None i = None
 call_after_act t Go (Some c) i = Some (call_after_go t c i)
 call_after_act t act o i = Some (record { op = act; first = i; round = i; index = 0 })
 
--- what a reply leaves of a call
+-- the pending call after a reply
 abbrev pub call_after_reply : Reply → Option PendingCall → Option PendingCall
 call_after_reply reply o = if is_pending reply then o else None
 
@@ -33,11 +33,12 @@ pending_call t call = record {
   index = (length call.moments - 1) % component_count t (event_or call.op);
 }
 
--- these are the pending calls after a past, by worker
+-- these are the pending calls after past, by worker
 abbrev pub AreCalls : Tables → List (Option PendingCall) → List Entry → Type 0
 AreCalls t calls past = (w : ℕ) → w < 16 → slice_get calls w ≡ Some (option_map (pending_call t) (under_way w past))
 
--- what is given of an entry after a past is its call, and these are the calls after it
+-- the call that is returned for an entry after past is its call so far, and these are the pending
+-- calls after the entry
 pub record Takes (t : Tables) (past : List Entry) (x : Entry) (given : Option PendingCall) (calls : List (Option PendingCall)) : Type 0 where
   pub call : given ≡ option_map (pending_call t) (call_with x past)
   pub after : AreCalls t calls (x ∷ past)

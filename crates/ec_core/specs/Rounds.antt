@@ -10,7 +10,7 @@ use Rattle.ec_core.specs.declared.act.Entry.{Entry}
 use Rattle.ec_core.specs.Counts.{component_total}
 use Rattle.ec_core.specs.Calls.{CallSoFar}
 
--- the eventcount that an act names
+-- the eventcount that an advance, a read or an await names
 abbrev pub event_of : Act → Option ℕ
 event_of (Advance e) = Some e
 event_of (Read e) = Some e
@@ -34,7 +34,8 @@ component_count t e = length (signallers t e)
 abbrev pub next_component : Tables → ℕ → List (List Entry) → ℕ
 next_component t e moments = length moments % component_count t e
 
--- the sum of components 0 to i - 1 of e, of which the last was read at the first of the moments, and so on back
+-- the sum of components 0 to i - 1 of e; the last was read at the first of the moments, and so on
+-- back
 unfoldable pub sum_read : Tables → ℕ → ℕ → List (List Entry) → ℕ
 sum_read t e zero moments = 0
 sum_read t e (suc i) [] = 0
@@ -52,12 +53,13 @@ position_of moments i = length (slice_index_or moments i [])
 abbrev pub round_start : Tables → ℕ → List (List Entry) → ℕ
 round_start t e moments = position_of moments ((length moments - 1) % component_count t e)
 
--- what the end of a round of sum s tells: an await that falls short is told Pending
+-- the reply at the end of a round of sum s: Pending to an await that falls short
 abbrev pub round_reply : Act → ℕ → Reply
 round_reply (Await e v) s = if nat_le v s then Number s else Pending
 round_reply _ s = Number s
 
--- the reply to an entry that reads for op at the end of a past, if earlier entries of the call were at these moments
+-- the reply to an entry that reads for op after past, if earlier entries of the call were at these
+-- moments
 unfoldable pub read_reply : Tables → Act → List Entry → List (List Entry) → Reply
 read_reply t op past moments =
     let e = event_or op in
@@ -69,7 +71,7 @@ abbrev pub go_reply : Tables → List Entry → Option CallSoFar → Reply
 go_reply t past None = Pending
 go_reply t past (Some call) = read_reply t call.op past call.moments
 
--- the one past is an end of the other: it came first
+-- the one reversed history is a suffix of the other: it came first
 pub record IsPastOf (early late : List Entry) : Type 0 where
   pub since : List Entry
   pub is : late ≡ since ++ early

@@ -1,4 +1,4 @@
--- What a world is, as a contract sees it, and which histories it stands for.
+-- What a world is in contracts, and which histories it represents.
 use Rattle.std.specs.Prelude.{◌≡◌, ℕ, ◌<◌, List, Option, Some, slice_get, reverse}
 use Rattle.std.specs.Option.{option_map, option_and_then}
 use Rattle.ec_count.specs.Tables.{Tables, IsDeclared}
@@ -22,7 +22,7 @@ abbrev pub count_at : List (List CountModel) → ℕ → ℕ → Option CountMod
 count_at counts e c =
     option_and_then (λ (row : List CountModel). slice_get row c) (slice_get counts e)
 
--- what is kept of a pending call
+-- the progress of a pending call
 abbrev pub call_progress : Tables → CallSoFar → Progress
 call_progress t call =
     let e = event_or call.op in
@@ -32,7 +32,7 @@ call_progress t call =
 abbrev pub progress_of : Tables → ℕ → List Entry → Option Progress
 progress_of t w past = option_map (call_progress t) (under_way w past)
 
--- the state is that after a past
+-- the state is that after past, a reversed history
 pub record Represents (s : State) (past : List Entry) : Type 0 where
   pub declared : IsDeclared s.setup
   pub accepted : IsAccepted s.setup past

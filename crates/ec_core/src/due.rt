@@ -21,7 +21,7 @@ fn is_act(a: &Act, b: &Act) -> bool
     }
 }
 
-/// Returns whether the act is the one that is due. The value of a put is free.
+/// Returns whether the act is the one that is due. A put may have any value.
 pub fn is_due(due: &Option<Act>, act: &Act) -> bool
     ensures { result ≡ is_due due.now (without_value act.now) }
 {

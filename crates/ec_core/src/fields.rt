@@ -1,4 +1,4 @@
-//! What a step asks of a setup and of the arrays of a world, and what it does to them.
+//! What a step reads of a setup and of the arrays of a world, and how it changes them.
 ghost use Rattle.std.specs.Prelude.{◌≡◌, ℕ, false, ◌<◌, ◌≤◌, length, slice_get, Some};
 ghost use Rattle.ec_count.specs.CountModel.{count_up};
 ghost use Rattle.ec_count.specs.Tables.{signallers};
@@ -52,7 +52,7 @@ pub(crate) fn component_count(setup: &Setup, event: EventId) -> usize
     setup.components(event).unwrap_or(0)
 }
 
-/// Returns component c of eventcount e.
+/// Returns the count of a component of an eventcount.
 pub(crate) fn count_in(counts: &[[Count; 16]; 32], event: usize, component: usize) -> Count
     requires event { event < 32 }
     requires component { component < 16 }
@@ -62,7 +62,7 @@ pub(crate) fn count_in(counts: &[[Count; 16]; 32], event: usize, component: usiz
     row[component]
 }
 
-/// Adds one at a place, if there is such a place.
+/// Adds one to the count at a position, if there is one and it is below its limit.
 pub(crate) fn raise_at(counts: &mut [Count], place: usize)
     ensures { counts.new ≡ map_at count_up counts.old place }
 {
@@ -72,7 +72,7 @@ pub(crate) fn raise_at(counts: &mut [Count], place: usize)
     }
 }
 
-/// Adds one to component c of eventcount e.
+/// Adds one to a component of an eventcount, if it is below its limit.
 pub(crate) fn raise_in(counts: &mut [[Count; 16]; 32], event: usize, component: usize)
     requires { event < 32 }
     ensures { counts.new ≡ map_at (λ row. map_at count_up row component) counts.old event }
@@ -89,7 +89,7 @@ pub(crate) fn ticket_count(counts: &[Count; 32], sequencer: usize) -> Count
     counts[sequencer]
 }
 
-/// Returns the sum of the first counts of an eventcount.
+/// Returns the sum of the first `width` components of an eventcount.
 pub(crate) fn component_sum(counts: &[[Count; 16]; 32], event: usize, width: usize) -> u64
     requires event { event < 32 }
     requires width { width ≤ 16 }

@@ -1,4 +1,4 @@
-//! Entries as a run keeps them.
+//! Entries as a run stores them.
 ghost use Rattle.std.specs.Prelude.{◌≡◌, ◌+◌, ◌^◌, ◌<◌, ◌≤◌, ℕ, List, ◌++◌, drop, length, vec_len, vec_capacity};
 ghost use Rattle.ec_core.specs.Packed.{act_tag, reply_tag, value_in, number_in, receiver_in, receiver_of, words_of_option, pack_entry, word_number, two_word_number, unpack_act, unpack_reply, value_word_count, number_word_count, word_count, total_word_count, unpack_entry};
 
@@ -9,8 +9,10 @@ use std::marker::Model;
 /// The least number that takes two words.
 const LONG: u64 = 1 << 32;
 
-/// An act without its value. Of the acts whose value may be long, there are two kinds: those whose value takes one word of 32
-/// bits, and those whose value takes two. The value of a hand is the number of its receiver.
+/// An act without its value.
+///
+/// An act whose value may be long has two tags: one for a value of one word of 32 bits, and one for
+/// a value of two. The value of a hand is the number of its receiver.
 #[derive(Clone, Copy)]
 pub(crate) enum ActTag {
     Advance(EventId),
@@ -34,7 +36,7 @@ pub(crate) enum ReplyTag {
     Pending,
 }
 
-/// Words that are left to read. A contract sees it as the list of them.
+/// Words that are left to read. In contracts it is the list of them.
 #[derive(Drop)]
 pub(crate) struct WordReader<'a> {
     left: &'a [u32],
@@ -49,7 +51,7 @@ impl<'a> Model for WordReader<'a> {
 }
 
 impl<'a> WordReader<'a> {
-    /// Returns these, from a place on.
+    /// Returns a reader of these words, from a position on.
     #[inline(always)]
     pub(crate) fn of(words: &'a [u32], start: usize) -> Self
         requires { start ≤ length words.now }
@@ -60,7 +62,7 @@ impl<'a> WordReader<'a> {
         }
     }
 
-    /// Returns the same words again.
+    /// Returns a copy of the reader.
     #[inline(always)]
     pub(crate) fn copy(&self) -> Self
         ensures { result ≡ self.now }
@@ -68,7 +70,7 @@ impl<'a> WordReader<'a> {
         WordReader { left: self.left }
     }
 
-    /// Takes the number of one word off the front. Where there is none it is 0.
+    /// Reads a number of one word; 0 if no word is left.
     #[inline(always)]
     fn take_word(&mut self) -> u64
         ensures value { result ≡ word_number self.old }
@@ -82,7 +84,7 @@ impl<'a> WordReader<'a> {
         *first as u64
     }
 
-    /// Takes the number of two words off the front, the low one first.
+    /// Reads a number of two words, the low one first.
     #[inline(always)]
     fn take_two_words(&mut self) -> u64
         ensures value { result ≡ two_word_number self.old }
@@ -93,8 +95,10 @@ impl<'a> WordReader<'a> {
     }
 }
 
-/// An entry without its numbers, the value of its act and the number of its reply. They stand in a list of words for many
-/// entries, one entry behind another, and take none there if the entry has none. So this takes 4 bytes, if an `Entry` takes 40.
+/// An entry without its numbers, which are the value of its act and the number of its reply.
+///
+/// The numbers of many entries are in one list of words, one entry after another. So a packed entry
+/// takes 4 bytes; an `Entry` takes 40.
 #[derive(Clone, Copy)]
 pub(crate) struct PackedEntry {
     worker: WorkerId,
@@ -124,8 +128,7 @@ impl PackedEntry {
         value_word_count(self.verb) + number_word_count(self.answer)
     }
 
-    /// Returns the entry that is kept. Its numbers are the first of these words, and are taken off
-    /// them.
+    /// Returns the entry, and reads its numbers from the words.
     #[inline(always)]
     pub(crate) fn entry(&self, words: &mut WordReader<'_>) -> Entry
         ensures value { result ≡ unpack_entry words.old self.now }
@@ -141,7 +144,7 @@ impl PackedEntry {
     }
 }
 
-/// Returns how many words some entries take.
+/// Returns how many words the numbers of some entries take.
 pub(crate) fn total_word_count(stored: &[PackedEntry]) -> usize
     requires { length stored.now < 2 ^ 32 }
     ensures { result ≡ total_word_count stored.now }
@@ -153,7 +156,7 @@ pub(crate) fn total_word_count(stored: &[PackedEntry]) -> usize
     sum
 }
 
-/// Returns how many words the value of an act of this kind takes.
+/// Returns how many words the value of an act with this tag takes.
 #[inline(always)]
 fn value_word_count(verb: ActTag) -> usize
     ensures value { result ≡ value_word_count verb }
@@ -166,7 +169,7 @@ fn value_word_count(verb: ActTag) -> usize
     }
 }
 
-/// Returns how many words the number of a reply of this kind takes.
+/// Returns how many words the number of a reply with this tag takes.
 #[inline(always)]
 fn number_word_count(answer: ReplyTag) -> usize
     ensures value { result ≡ number_word_count answer }
@@ -179,7 +182,7 @@ fn number_word_count(answer: ReplyTag) -> usize
     }
 }
 
-/// Returns the act of a kind. Its value is taken off the words.
+/// Returns the act with a tag, and reads its value from the words.
 #[inline(always)]
 fn unpack_act(verb: ActTag, words: &mut WordReader<'_>) -> Act
     ensures value { result ≡ unpack_act verb words.old }
@@ -199,7 +202,7 @@ fn unpack_act(verb: ActTag, words: &mut WordReader<'_>) -> Act
     }
 }
 
-/// Returns the worker of a number.
+/// Returns the worker of a number; worker 0 if there is none.
 #[inline(always)]
 fn receiver_of(number: u64) -> WorkerId
     ensures { result ≡ receiver_of number }
@@ -207,7 +210,7 @@ fn receiver_of(number: u64) -> WorkerId
     WorkerId::new(number as usize).unwrap_or_default()
 }
 
-/// Returns the reply of a kind. Its number is taken off the words.
+/// Returns the reply with a tag, and reads its number from the words.
 #[inline(always)]
 fn unpack_reply(answer: ReplyTag, words: &mut WordReader<'_>) -> Reply
     ensures value { result ≡ unpack_reply answer words.old }

@@ -1,4 +1,4 @@
-//! The calls of a run, as a walk over its entries meets them.
+//! The calls of a run, in a pass over its entries.
 ghost use Rattle.std.specs.Prelude.{◌≡◌, ◌<◌, ◌≤◌, List, [], ◌∷◌, length};
 ghost use Rattle.ec_count.specs.Tables.{Tables};
 ghost use Rattle.ec_core.specs.declared.act.Entry.{Entry};
@@ -17,15 +17,15 @@ use std::marker::Model;
 pub struct PendingCall {
     /// The act that began it.
     pub op: Act,
-    /// The position of its first entry.
+    /// The position of its invocation.
     pub first: usize,
     /// The position at which its last round began.
     pub round: usize,
-    /// The component that its last entry read, if it is a read or an await; else 0.
+    /// The component that its last entry read, if it is a read or an await; otherwise 0.
     pub index: usize,
 }
 
-/// Takes one more entry into a read or an await, at this position.
+/// Adds one more entry, at this position, to a read or an await.
 #[inline(always)]
 fn read_on(setup: &Setup, call: &mut PendingCall, at: usize)
     ensures { call.new ≡ call_after_go setup.now call.old at }
@@ -39,8 +39,9 @@ fn read_on(setup: &Setup, call: &mut PendingCall, at: usize)
     }
 }
 
-/// Makes of a worker's pending call the call that its next act is part of, with it. Of one that
-/// goes on it changes no more than its numbers.
+/// Replaces a worker's pending call by the call that its next act is part of, with this act.
+///
+/// If the act continues the call, only the numbers of the call change.
 #[inline(always)]
 fn go_on(setup: &Setup, act: Act, call: &mut Option<PendingCall>, place: usize)
     ensures { call.new ≡ call_after_act setup.now act call.old place }
@@ -89,7 +90,7 @@ impl Model for PendingCalls {
 }
 
 impl PendingCalls {
-    /// Returns the calls before the first entry.
+    /// Returns the pending calls before the first entry: there are none.
     pub fn new() -> Self
         ensures { (t : Tables) → AreCalls t result [] }
     {
@@ -98,8 +99,9 @@ impl PendingCalls {
         }
     }
 
-    /// Takes the next entry in, at this position, and gives the call that it is part of, up to it; None if it is a Go that
-    /// goes on with no call.
+    /// Adds the next entry, at this position, and returns the call that it is part of, up to it.
+    ///
+    /// It is `None` if the entry is a Go without a pending call.
     #[inline(always)]
     pub fn take(&mut self, setup: &Setup, place: usize, entry: &Entry) -> Option<PendingCall>
         ensures { (past : List Entry) → IsAccepted setup.now past → place ≡ length past → AreCalls setup.now self.old past

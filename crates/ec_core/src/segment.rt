@@ -10,14 +10,16 @@ use std::marker::Model;
 /// How many entries a full segment has.
 pub(crate) const SEGMENT: usize = 4096;
 
-/// The place among the words at which the numbers of each entry of so many begin is kept.
+/// Each entry whose position is a multiple of this has a start: the position of its first word.
 const STRIDE: usize = 16;
 
-/// The most words that so many entries have.
+/// The greatest number of words that `STRIDE` entries have.
 const WORDS: usize = 4 * STRIDE;
 
-/// Some entries in order, as a run keeps them, and the words of their numbers beside them. There is room for a full segment from the
-/// beginning, so that no entry in it ever moves, and for a word of each entry, so that most words don't either.
+/// Some entries in order, as a run stores them, and the words of their numbers.
+///
+/// From the beginning there is room for a full segment, so that no entry in it ever moves, and for
+/// one word of each entry, so that most words don't either.
 #[derive(Drop)]
 pub(crate) struct Segment {
     stored: Vec<PackedEntry>,
@@ -66,7 +68,7 @@ impl Segment {
         self.stored.len()
     }
 
-    /// Returns the entry at a place, counted from 0.
+    /// Returns the entry at a position, counted from 0.
     #[inline(always)]
     pub(crate) fn get(&self, i: usize) -> Option<Entry>
         ensures value { result ≡ slice_get self.now i }
@@ -91,8 +93,10 @@ impl Segment {
         }
     }
 
-    /// Adds one entry at the end of a segment that isn't full, or changes nothing. All memory that this wants is taken before
-    /// anything is changed.
+    /// Adds an entry at the end of a segment that isn't full; if an allocation fails, changes
+    /// nothing.
+    ///
+    /// All memory for it is allocated before anything is changed.
     #[inline(always)]
     pub(crate) fn push(&mut self, entry: &Entry) -> Result<(), AllocError>
         requires { length self.old < 4096 }
@@ -107,8 +111,10 @@ impl Segment {
     }
 }
 
-/// Makes room for the words of the next entry. If it is a sixteenth, that is for those of all before the next such entry, and where
-/// its own begin is kept.
+/// Makes room for the words of the next entry.
+///
+/// If this entry has a start, the start is stored, and the room is for the words of all entries
+/// before the next one with a start.
 #[inline(always)]
 fn reserve(
     stored: &[PackedEntry],
@@ -130,7 +136,7 @@ fn reserve(
     Ok(())
 }
 
-/// Makes room for the words of so many entries, and keeps where they begin; or changes no list.
+/// Makes room for the words of `STRIDE` entries, and stores where they begin; or changes no list.
 #[cold]
 #[inline(never)]
 fn begin(words: &mut Vec<u32>, starts: &mut Vec<u16>) -> Result<(), AllocError>
@@ -146,7 +152,7 @@ fn begin(words: &mut Vec<u32>, starts: &mut Vec<u16>) -> Result<(), AllocError>
     Ok(())
 }
 
-/// Returns where the words of the entry at a place begin.
+/// Returns where the words of the entry at a position begin.
 fn word_start(stored: &[PackedEntry], starts: &[u16], i: usize) -> usize
     requires starts { AreStarts stored.now starts.now }
     requires within { i < length stored.now }
@@ -156,7 +162,7 @@ fn word_start(stored: &[PackedEntry], starts: &[u16], i: usize) -> usize
     starts[mark] as usize + total_word_count(&stored[mark * STRIDE..i])
 }
 
-/// Entries of a segment, in order, and the words of their numbers. A contract sees it as the list of those that are left.
+/// An iterator over the entries of a segment. In contracts it is the list of those that are left.
 #[derive(Drop)]
 pub(crate) struct EntryIter<'a> {
     stored: &'a [PackedEntry],
@@ -174,7 +180,7 @@ impl<'a> Model for EntryIter<'a> {
 }
 
 impl<'a> EntryIter<'a> {
-    /// Returns no entries.
+    /// Returns an iterator over no entries.
     pub(crate) fn none() -> Self
         ensures { result ≡ [] }
     {
@@ -184,7 +190,7 @@ impl<'a> EntryIter<'a> {
         }
     }
 
-    /// Returns the same entries again.
+    /// Returns a copy of the iterator.
     #[inline(always)]
     pub(crate) fn copy(&self) -> Self
         ensures { result ≡ self.now }

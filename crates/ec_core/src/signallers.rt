@@ -6,8 +6,9 @@ ghost use Rattle.ec_core.specs.Fields.{replace_unless_member};
 use ec_count::{Members, WorkerId};
 use std::marker::Model;
 
-/// The workers that signal an eventcount, in order of component, and beside them the component of each worker: so neither is
-/// searched for.
+/// The signallers of an eventcount in order of component, and the component of each worker.
+///
+/// So neither is searched for.
 #[derive(Clone, Drop)]
 pub(crate) struct Signallers {
     members: Members,
@@ -26,7 +27,7 @@ impl Model for Signallers {
     ghost invariant = { λ s. AreSignallers s.members s.components };
 }
 
-/// Returns the place of a worker among others, in one byte.
+/// Returns the position of a worker among others, in one byte.
 fn place_in(members: &Members, worker: WorkerId) -> Option<u8>
     ensures { result ≡ index_of worker members.now }
 {
@@ -36,7 +37,7 @@ fn place_in(members: &Members, worker: WorkerId) -> Option<u8>
     }
 }
 
-/// Returns the place of each worker among these.
+/// Returns the position of each worker among these.
 fn places_in(members: &Members) -> [Option<u8>; 16]
     ensures { (w : ℕ) → w < 16 → slice_get result w ≡ Some (index_of w members.now) }
 {
@@ -50,7 +51,7 @@ fn places_in(members: &Members) -> [Option<u8>; 16]
 }
 
 impl Signallers {
-    /// Returns these workers, of which none stands twice.
+    /// Returns the signallers of a list in which no worker is twice.
     pub(crate) fn new(list: &[WorkerId]) -> Self
         requires few { length list.now ≤ 16 }
         requires different { has_repeat list.now ≡ false }
@@ -83,7 +84,7 @@ impl Signallers {
         }
     }
 
-    /// Hands the one worker's component to the other, unless that one signals one too.
+    /// Transfers the component of `from` to `to`, unless `to` signals one already.
     pub(crate) fn hand(&mut self, from: WorkerId, to: WorkerId)
         ensures { self.new ≡ replace_unless_member (index_of from self.old) to self.old }
     {

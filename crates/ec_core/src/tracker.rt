@@ -1,4 +1,4 @@
-//! What a walk over a run keeps of a group.
+//! The state of a pass over a run for one group.
 ghost use Rattle.std.specs.Prelude.{◌≡◌, ℕ, List, [], ◌∷◌, length, reverse};
 ghost use Rattle.ec_core.specs.declared.act.Entry.{Entry};
 ghost use Rattle.ec_core.specs.declared.protocol.ListProgress.{ListProgress};
@@ -10,8 +10,9 @@ use crate::{Act, AuditFault, Entry, ListProgress, Protocol};
 use ec_count::{WorkerId, filled};
 use std::marker::Model;
 
-/// How far each worker has come in the lists of calls on a group, and the first entry that breaks
-/// them. An entry whose call is not on the group changes neither, so it may be left out.
+/// The progress of each worker in the call lists of a group, and the first violation.
+///
+/// An entry whose call is not on the group changes neither, so it may be left out.
 #[derive(Drop)]
 pub struct Tracker {
     kept: [ListProgress; 16],
@@ -27,7 +28,7 @@ impl Model for Tracker {
 }
 
 impl Tracker {
-    /// Returns what is kept before the first entry.
+    /// Returns the state before the first entry.
     pub fn new<P: Protocol>(protocol: &P) -> Self
         ensures { IsTrackerModel (P.rules protocol.now) (P.keeps protocol.now) result [] }
     {
@@ -37,7 +38,7 @@ impl Tracker {
         }
     }
 
-    /// Returns what is kept of the list that the worker is in.
+    /// Returns the progress of the worker in its current call list.
     #[inline(always)]
     pub fn list_progress(&self, worker: WorkerId) -> ListProgress
         ensures { (rules : ℕ → Rule) (keeps : List CompletedCall → ListProgress) (past : List Entry) → IsTrackerModel rules keeps self.now past
@@ -46,8 +47,9 @@ impl Tracker {
         self.kept[worker.get()]
     }
 
-    /// Returns whether the workers follow these lists, after the entries so far. `Err` is
-    /// `NotFollowed` with the first entry that breaks them.
+    /// Returns whether the entries so far conform to the call lists.
+    ///
+    /// `Err` is `NotFollowed` with the first violation.
     pub fn finding(&self) -> Result<(), AuditFault>
         ensures { (rules : ℕ → Rule) (keeps : List CompletedCall → ListProgress) (entries : List Entry) → IsTrackerModel rules keeps self.now (reverse entries)
             → Finds rules entries result }
@@ -58,7 +60,7 @@ impl Tracker {
         }
     }
 
-    /// Takes an entry in, given its place in the run and the act that began its call.
+    /// Adds an entry, given its position in the run and the act that began its call.
     #[inline(always)]
     pub fn take<P: Protocol>(&mut self, protocol: &P, place: usize, op: &Act, entry: &Entry)
         ensures { (past : List Entry) → place ≡ length past → op.now ≡ opening_act entry.now.act (under_way entry.now.worker past)

@@ -1,4 +1,4 @@
-//! Pending calls, as a world keeps them.
+//! Pending calls, as a world stores them.
 ghost use Rattle.std.specs.Prelude.{◌≡◌, ◌+◌, ◌*◌, ◌^◌, ◌<◌, ◌≤◌, IsSome, slice_get};
 ghost use Rattle.ec_core.specs.Rounds.{event_or, read_of};
 ghost use Rattle.ec_core.specs.Fields.{new_progress, with_round, read_component, count_value};
@@ -8,7 +8,7 @@ use crate::effect::Effect;
 use ec_count::{Count, EventId};
 use std::marker::Model;
 
-/// How far the round of a call has come: the component that the next Go reads, and the sum of those
+/// The progress of the round of a call: the component that the next Go reads, and the sum of those
 /// before it.
 #[derive(Clone, Copy)]
 pub(crate) struct Round {
@@ -29,8 +29,10 @@ impl Model for Round {
     ghost inverse = { λ r. record { index = r.index; sum = r.sum } };
 }
 
-/// A pending call: the act that began it, the component that the next Go reads, and the sum of its
-/// round so far.
+/// A pending call, with the progress of its round.
+///
+/// It has the act that began it, the component that the next Go reads, and the sum of the round so
+/// far.
 #[derive(Clone, Copy, Debug, PartialEq, Eq)]
 pub struct UnderWay {
     op: Act,
@@ -65,7 +67,7 @@ impl UnderWay {
         }
     }
 
-    /// Returns the same call, whose round has come so far.
+    /// Returns the same call, whose round has this progress.
     #[inline(always)]
     pub(crate) fn at(&self, round: Round) -> Self
         ensures { result ≡ with_round round self.now }
@@ -77,7 +79,7 @@ impl UnderWay {
         }
     }
 
-    /// Goes on: its round has come so far.
+    /// Sets the progress of its round.
     #[inline(always)]
     pub(crate) fn go_on(&mut self, round: Round)
         ensures { self.new ≡ with_round round self.old }
@@ -104,7 +106,7 @@ impl UnderWay {
         }
     }
 
-    /// Returns the component that the next Go reads. An Await with index 0 has just fallen short.
+    /// Returns the component that the next Go reads. If it is 0, an Await just fell short.
     pub fn index(&self) -> usize
         ensures value { result ≡ self.now.index }
         ensures small { result < 16 }
@@ -122,9 +124,11 @@ impl UnderWay {
         self.sum
     }
 
-    /// Returns what a Go comes to that reads its component of so many, whose counts are these: the
-    /// call goes on until the component is the last, and then the sum is told, unless it falls
-    /// short of a threshold.
+    /// Returns the effect of reading its next component, given how many there are, and their
+    /// counts.
+    ///
+    /// The call stays pending until its last component is read. Then the sum is returned, unless it
+    /// falls short of a threshold.
     #[inline(always)]
     pub(crate) fn read(&self, width: usize, counts: &[Count; 16]) -> Effect
         requires { width ≤ 16 }

@@ -31,7 +31,7 @@ fn refuse_if(test: bool, refusal: Refusal) -> Result<(), Refusal>
     if test { Err(refusal) } else { Ok(()) }
 }
 
-/// Goes on with the call, if there is one, whose round has come so far.
+/// Sets the progress of the round of the call, if there is one.
 #[inline(always)]
 fn go_on(call: &mut Option<UnderWay>, round: Round)
     ensures { call.new ≡ option_map (with_round round) call.old }
@@ -41,14 +41,14 @@ fn go_on(call: &mut Option<UnderWay>, round: Round)
     }
 }
 
-/// A step that was made: the act that began the call that it is part of, and what the worker was told.
+/// A step that was made: the act that began the call that it is part of, and the reply.
 #[derive(Clone, Copy, Debug, PartialEq, Eq)]
 pub struct Step {
     pub op: Act,
     pub reply: Reply,
 }
 
-/// The state of a kernel: who signals now, its counts, cells and pending calls.
+/// The state of a kernel: its signallers now, its counts, cells and pending calls.
 #[derive(Drop)]
 pub struct World {
     setup: Setup,
@@ -68,8 +68,9 @@ impl Model for World {
 }
 
 impl World {
-    /// Returns the state before any step, on these declarations. It takes no memory, nor does any
-    /// other call of a world.
+    /// Returns the state before any step, on these declarations.
+    ///
+    /// It allocates nothing, nor does any other function of a world.
     pub fn open(setup: Setup) -> Self
         ensures history { StandsFor result [] }
         ensures setup { result.setup ≡ setup }
@@ -94,7 +95,7 @@ impl World {
         &self.setup
     }
 
-    /// Returns the same state again.
+    /// Returns a copy of the state.
     pub(crate) fn copy(&self) -> Self
         ensures { result ≡ self.now }
     {
@@ -108,8 +109,9 @@ impl World {
         }
     }
 
-    /// Returns the one worker that signals a component now; `None` if there is no such component,
-    /// and so if the eventcount is not declared.
+    /// Returns the worker that signals a component now; `None` if there is no such component.
+    ///
+    /// There is none if the eventcount is not declared.
     pub fn signaller(&self, event: EventId, component: usize) -> Option<WorkerId>
         ensures { (h : List Entry) → StandsFor self.now h → result ≡ signaller_at self.now.setup event (reverse h) component }
     {
@@ -117,8 +119,10 @@ impl World {
         signallers.signaller(component)
     }
 
-    /// Returns the component of an eventcount that the worker signals now. `None` if it signals
-    /// none of it, as if either is not declared.
+    /// Returns the component of an eventcount that the worker signals now; `None` if it signals
+    /// none.
+    ///
+    /// It signals none if either is not declared.
     pub fn component_of(&self, event: EventId, worker: WorkerId) -> Option<usize>
         ensures { (h : List Entry) → StandsFor self.now h → result ≡ component_at self.now.setup event (reverse h) worker }
     {
@@ -134,7 +138,7 @@ impl World {
         signallers.component(worker)
     }
 
-    /// Returns the total of an eventcount: how many advances of it there were. `None` if it is not
+    /// Returns the total of an eventcount, the number of its advances; `None` if it is not
     /// declared.
     pub fn total(&self, event: EventId) -> Option<u64>
         ensures { (h : List Entry) → StandsFor self.now h
@@ -147,9 +151,8 @@ impl World {
         Some(component_sum(&self.counts, event.get(), width))
     }
 
-    /// Returns a component of an eventcount: how many advances were made by who signalled it at
-    /// their moment. `None` if there is no such component, and so if the eventcount is not
-    /// declared.
+    /// Returns the count of a component: how many advances were made by its signaller at that time.
+    /// `None` if there is no such component, and so if the eventcount is not declared.
     pub fn component(&self, event: EventId, component: usize) -> Option<u64>
         ensures { (h : List Entry) → StandsFor self.now h
             → result ≡ (if nat_lt component (component_count self.now.setup event) then Some (component_total self.now.setup event component (reverse h)) else None) }
@@ -184,7 +187,7 @@ impl World {
         Some(self.cells[cell.get()])
     }
 
-    /// Returns the worker's read or await that has not ended, if there is one.
+    /// Returns the worker's pending read or await, if there is one.
     pub fn under_way(&self, worker: WorkerId) -> Option<UnderWay>
         ensures { (h : List Entry) → StandsFor self.now h → result ≡ progress_of self.now.setup worker (reverse h) }
     {
@@ -192,7 +195,7 @@ impl World {
         self.calls[place]
     }
 
-    /// Returns what a call comes to that reads its next component.
+    /// Returns the effect of reading the next component of a call.
     #[inline(always)]
     fn read(&self, call: &UnderWay) -> Effect
         ensures { result ≡ read_effect self.now call.now }
@@ -219,8 +222,10 @@ impl World {
         refuse_if(cell.get() >= self.setup.cells(), Refusal::UnknownObject)
     }
 
-    /// Returns what an act comes to that begins a call, or the first refusal after those that ask
-    /// for the worker and its call.
+    /// Returns the effect of an act that begins a call, or its first refusal.
+    ///
+    /// The worker is declared and has no pending call, so the refusal comes after `Idle` in their
+    /// order.
     #[inline(always)]
     fn begin(&self, worker: WorkerId, act: &Act) -> Result<Effect, Refusal>
         requires declared { worker < self.now.setup.workers }
@@ -279,7 +284,7 @@ impl World {
         }
     }
 
-    /// Returns the first refusal that holds, else what the step comes to.
+    /// Returns the effect of a step, or the first refusal that applies.
     #[inline(always)]
     fn effect(&self, worker: WorkerId, act: Act) -> Result<Effect, Refusal>
         ensures named { IsNamed act }
@@ -294,8 +299,8 @@ impl World {
         }
     }
 
-    /// Returns what a step of the worker comes to after the history: the first refusal that holds,
-    /// or the reply and the change.
+    /// Returns the effect of a step of the worker after the history, or the first refusal that
+    /// applies.
     #[inline(always)]
     pub(crate) fn plan(&self, worker: WorkerId, act: &Act) -> Result<Effect, Refusal>
         ensures { (h : List Entry) → StandsFor self.now h
@@ -304,7 +309,7 @@ impl World {
         self.effect(worker, *act)
     }
 
-    /// Makes the change that a step of the worker comes to.
+    /// Makes the change that is the effect of a step of the worker.
     #[inline(always)]
     pub(crate) fn apply(&mut self, worker: WorkerId, effect: &Effect)
         ensures { self.new ≡ apply_effect self.old worker effect.now }
@@ -341,8 +346,10 @@ impl World {
         }
     }
 
-    /// Makes that change, and tells what began the call. It is asked if it costs least: a call that goes on keeps in place
-    /// what began it, so whoever has no use for it has it read in vain nowhere.
+    /// Makes that change, and returns the act that began the call.
+    ///
+    /// This act is read before the change only if the change ends the call. Otherwise it is read
+    /// after it, so that a caller that ignores it does not pay for reading it.
     #[inline(always)]
     fn make(&mut self, worker: WorkerId, act: &Act, effect: &Effect) -> Act
         ensures change { self.new ≡ apply_effect self.old worker effect.now }
@@ -361,7 +368,7 @@ impl World {
         }
     }
 
-    /// Returns what `step` would answer, and no change.
+    /// Returns what `step` would return, and changes nothing.
     #[inline(always)]
     pub fn answer(&self, worker: WorkerId, act: &Act) -> Result<Reply, Refusal>
         ensures answer { (h : List Entry) → StandsFor self.now h → result ≡ answer_of self.now.setup (reverse h) worker act.now }
@@ -374,8 +381,8 @@ impl World {
         }
     }
 
-    /// Makes one step and returns the right reply, or returns the first refusal that holds and
-    /// changes nothing.
+    /// Makes one step and returns the right reply, or returns the first refusal and changes
+    /// nothing.
     #[inline(always)]
     pub fn step(&mut self, worker: WorkerId, act: Act) -> Result<Reply, Refusal>
         ensures answer { (h : List Entry) → StandsFor self.old h → result ≡ answer_of self.old.setup (reverse h) worker act }

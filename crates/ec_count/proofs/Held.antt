@@ -1,4 +1,4 @@
--- Whoever has a right is declared, and so is what the right is on.
+-- Only declared workers have rights, and only on declared objects.
 use Rattle.std.proofs.Common.{◌≡◌, ℕ, ◌<◌, ◌==◌, true, false, ◌||◌, List, [], ◌∷◌, length, slice_get, Some, None, refl, arith}
 use Rattle.std.specs.List.{All}
 use Rattle.std.specs.Option.{option_map_or}
@@ -20,7 +20,7 @@ member_below n w (v ∷ vs) all h =
       | false ↦ λ e g. member_below n w vs (All-tail (λ u. u < n) v vs all) g
     ] refl h
 
--- if w stands in the list of row i, both are declared
+-- if w is in the list of row i, both are declared
 listed : {X : Type 0} (list : X → List ℕ) (n w i : ℕ) (rows : List X) → ((x : X) → slice_get rows i ≡ Some x → AreWorkers n (list x))
     → option_map_or (λ x. is_member w (list x)) (slice_get rows i) false ≡ true → (i < length rows) × (w < n)
 listed {X} list n w i rows each h =

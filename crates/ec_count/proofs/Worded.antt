@@ -23,7 +23,7 @@ by_word-append (e ∷ es) k t = ap (λ (r : List (List ℕ × Target)). (e.0.byt
 pub by_word-take : (n : ℕ) (es : List (Word × Target)) → by_word (take n es) ≡ take n (by_word es)
 by_word-take n es = sym (take-map (λ (e : Word × Target). (e.0.bytes.items, e.1)) n es)
 
--- a long word is no word of the table
+-- a long word is not in the table
 none_long : (word : List ℕ) (names : List (List ℕ × Target)) → 24 < length word → AllByRecursion (λ e. length e.0 ≤ 24) names → find_name word names ≡ None
 none_long word [] long short = refl
 none_long word (e ∷ es) long short =

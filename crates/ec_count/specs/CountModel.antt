@@ -1,6 +1,6 @@
 use Rattle.std.specs.Prelude.{ℕ, ◌+◌, ◌==◌, if◌then◌else◌}
 
--- a count and how far it may go
+-- a count and its limit
 pub record CountModel : Type 0 where
   pub value : ℕ
   pub limit : ℕ

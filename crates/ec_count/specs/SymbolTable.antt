@@ -1,4 +1,4 @@
--- Words and what each stands for, in the order in which they were added.
+-- Words and their targets, in the order in which they were added.
 use Rattle.std.proofs.Common.{◌≡◌, ℕ, ◌≤◌, Bool, List, [], ◌∷◌, length, map, IsTrue, ap}
 use Rattle.std.specs.Prelude.{bytes_eq}
 use Rattle.std.specs.List.{All}
@@ -12,7 +12,7 @@ use Rattle.ec_count.specs.declared.symbol_table.Word.{Word}
 abbrev pub by_word : List (Word × Target) → List (List ℕ × Target)
 by_word es = map (λ e. (e.0.bytes.items, e.1)) es
 
--- what is true of each word
+-- each word has at most 24 bytes
 abbrev pub AreShort : List (List ℕ × Target) → Type 0
 AreShort words = All (λ e. length e.0 ≤ 24) words
 

@@ -1,4 +1,4 @@
-//! Words, in the order in which they were added.
+//! Words with their targets, in the order in which they were added.
 ghost use Rattle.std.specs.Prelude.{◌≡◌, ◌≤◌, ◌<◌, ◌++◌, ◌∷◌, [], None, Some, IfOk, IfSome, OnErr, OnOk, MatchOption, length, option_map, slice_get, take};
 ghost use Rattle.ec_count.specs.Names.{find_name};
 
@@ -9,10 +9,10 @@ use std::alloc::{AllocError, Global};
 use std::hash::{Hash, Hasher};
 use std::marker::Model;
 
-/// The most bytes that a word of a vocabulary may have.
+/// The greatest length of a word of a symbol table, in bytes.
 pub const WORD_MAX: usize = 24;
 
-/// A word, held in place.
+/// A word, stored inline.
 #[derive(Drop)]
 pub(crate) struct Word {
     bytes: ArrayVec<u8, 24>,
@@ -49,7 +49,7 @@ impl Hash for Word {
 }
 
 impl Word {
-    /// Makes a table of no words, with room for a few.
+    /// Returns the word of these bytes; `None` if there are more than 24.
     fn new(bytes: &[u8]) -> Option<Self>
         ensures { MatchOption result (24 < length bytes.now) (λ word. word.bytes.items ≡ bytes.now) }
     {
@@ -60,12 +60,14 @@ impl Word {
     }
 }
 
-/// Different words and what each stands for, in the order in which they were added. A look-up by
-/// word costs about the same at any number of words, and takes no memory.
+/// Different words with their targets, in the order in which they were added.
+///
+/// A look-up by word costs about the same at any number of words, and does not allocate.
 #[derive(Drop)]
 pub struct SymbolTable {
     table: IndexMap<Word, Target>,
-    /// For each mark the place of the last word with that mark: where a look-up looks first. Any places do.
+    /// For each mark the position at which a look-up looks first: that of the word with this mark
+    /// that was added last. Any positions would be correct.
     hints: [usize; 256],
 }
 
@@ -83,7 +85,7 @@ impl Model for SymbolTable {
 }
 
 impl SymbolTable {
-    /// Makes a table of no words, with room for a few.
+    /// Makes an empty table, with room for a few words.
     pub fn new(alloc: Global) -> Result<Self, AllocError>
         ensures { IfOk result (λ words. words ≡ []) }
     {
@@ -101,7 +103,7 @@ impl SymbolTable {
         self.table.len()
     }
 
-    /// Returns what the word stands for.
+    /// Returns the target of the word; `None` if it was not added.
     pub fn find(&self, word: &[u8]) -> Option<Target>
         ensures { result ≡ find_name word.now self.now }
     {
@@ -111,7 +113,7 @@ impl SymbolTable {
         }
     }
 
-    /// Returns what the word stands for, if it is the word at the place that is looked at first.
+    /// Returns the target of the word, if the word is at the position of its hint.
     #[inline(always)]
     fn find_at_hint(&self, word: &[u8]) -> Option<Target>
         ensures { IfSome result (λ target. find_name word.now self.now ≡ Some target) }
@@ -129,7 +131,7 @@ impl SymbolTable {
         }
     }
 
-    /// Returns what the word stands for, by the table alone.
+    /// Returns the target of the word, without the hints.
     #[cold]
     #[inline(never)]
     fn find_in_table(&self, word: &[u8]) -> Option<Target>
@@ -140,7 +142,7 @@ impl SymbolTable {
         table.get(&key).copied()
     }
 
-    /// Returns the word at a place, and what it stands for.
+    /// Returns the word at a position, and its target.
     pub fn at(&self, place: usize) -> Option<(&[u8], Target)>
         ensures { option_map (λ e. (e.0.now, e.1)) result ≡ slice_get self.now place }
     {
@@ -168,7 +170,7 @@ impl SymbolTable {
         Ok(())
     }
 
-    /// Keeps the first words, and drops the others.
+    /// Keeps the first `len` words, and drops the others.
     pub fn truncate(&mut self, len: usize)
         ensures { self.new ≡ take len self.old }
     {
@@ -176,8 +178,9 @@ impl SymbolTable {
     }
 }
 
-/// Returns a mark of a word, made of four of its bytes. Two words mostly have different marks; a
-/// search compares marks first, for speed.
+/// Returns a mark of a word, made of at most four of its bytes.
+///
+/// Two words usually have different marks. A look-up finds the hint of a word by its mark.
 fn mark(word: &[u8]) -> u8 {
     let n = word.len();
     if n < 2 {

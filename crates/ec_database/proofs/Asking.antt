@@ -1,4 +1,4 @@
--- What a snapshot asks for are tries.
+-- The calls of a snapshot are tries.
 use Rattle.std.proofs.Common.{◌≡◌, ℕ, suc, ◌+◌, ◌-◌, ◌<◌, ◌≤◌, Bool, true, false, not, ◌&&◌, List, [], ◌∷◌, ◌++◌, append_assoc, length, take, Some, is_some, nat_lt, refl, ap, sym, ◌∙◌, arith, subst, cond, inl, inr, slice_get}
 use Rattle.std.specs.Prelude.{All}
 use Rattle.std.specs.List.{flat_map}
@@ -17,7 +17,7 @@ use Rattle.ec_core.proofs.shared.Joining.{last_get}
 abbrev state : ℕ → List CompletedCall → TryState
 state left calls = record { left = left; calls = calls }
 
--- a try is asked for further
+-- one more call of a try
 asked_more : (d : Database) (calls : List CompletedCall) (c : CompletedCall) → IsWritten (try_call d) calls → try_call d calls ≡ Some c.op → IsWritten (try_call d) (calls ++ c ∷ [])
 asked_more d calls c h next k z at =
     elim (last_get calls c z k at) [
@@ -28,7 +28,7 @@ asked_more d calls c h next k z at =
 none_asked : (d : Database) → IsWritten (try_call d) []
 none_asked d k c at = cc
 
--- the tries of a snapshot from where it stands
+-- the tries of a snapshot from its current state on
 record TriesFrom (d : Database) (left : ℕ) (begun calls : List CompletedCall) : Type 0 where
   disturbed : List (List CompletedCall)
   last : List CompletedCall

@@ -1,4 +1,4 @@
--- How many calls on a group a worker has finished.
+-- How many calls on a group a worker has completed.
 use Rattle.std.proofs.Common.{◌≡◌, ℕ, ◌+◌, ◌≤◌, Bool, true, false, List, [], ◌∷◌, ◌++◌, length, append_assoc, refl, ap, sym, ◌∙◌, arith, subst, cond, ◌==◌}
 use Rattle.std.proofs.lemmas.Bool.{eqb-true}
 use Rattle.std.proofs.lemmas.List.{length-append, append-nil}
@@ -60,7 +60,7 @@ after_all b (c ∷ calls) = after_all (b ++ c ∷ []) calls ∙ append_assoc b (
 all_finished : (w : ℕ) (past : List Entry) → block all_calls w past ≡ finished_by w past
 all_finished w past = block_is all_calls w past ∙ after_all [] (finished_by w past)
 
--- as many as when the call that an entry is part of began
+-- as many are completed as when the call that an entry is part of began
 pub number_began : (on : Act → Bool) (x : Entry) (past : List Entry) → number on x.worker (began x past) ≡ number on x.worker past
 number_began on x past =
     ap (λ cs. length (calls_on on cs)) (sym (all_finished x.worker (began x past)) ∙ began_block all_calls x past ∙ all_finished x.worker past)

@@ -1,4 +1,4 @@
--- Where the calls of the list that a worker is in stand.
+-- The responses of the calls of the list that a worker is in.
 use Rattle.std.proofs.Common.{◌≡◌, ◌≢◌, ℕ, suc, ◌+◌, ◌<◌, Bool, true, false, List, [], ◌∷◌, ◌++◌, length, take, reverse, append_assoc, Some, refl, ap, sym, ◌∙◌, arith, subst, cond, ◌==◌, inl, inr, slice_get, get_or}
 use Rattle.std.proofs.lemmas.Bool.{eqb-true, eqb-false, eq-eqb, ne_eqb}
 use Rattle.std.proofs.lemmas.List.{length-append, take-append-le, reverse-append, reverse-reverse, length-reverse}
@@ -18,7 +18,8 @@ use Rattle.ec_core.proofs.shared.CallRounds.{past_by_length}
 use Rattle.ec_core.proofs.shared.Following.{op_at, other_block, own_block}
 use Rattle.ec_database.proofs.CallNumbers.{number, number_other, number_pending, number_on, number_off}
 
--- an entry of w ends the call, which comes after these in its list; early is the past of that entry
+-- an entry of w ends the call, which comes after these in its list; early is the history before
+-- that entry
 pub record CallEnds (r : Rule) (w : ℕ) (past : List Entry) (before : List CompletedCall) (c : CompletedCall) (early : List Entry) : Type 0 where
   pub since : List Entry
   pub entry : Entry
@@ -56,7 +57,7 @@ none_stand r on w past = record { place = λ i. []; each = λ i c at. cc; order 
 pub ends_before : (r : Rule) (w : ℕ) (past : List Entry) (before : List CompletedCall) (c : CompletedCall) (early : List Entry) → CallEnds r w past before c early → length early < length past
 ends_before r w past before c early h = (let whole : length past ≡ length h.since + suc (length early) = ap length h.is ∙ length-append h.since (h.entry ∷ early) in omega arith)
 
--- the call of an entry stands at its own past
+-- the call of an entry ends after the history before that entry
 call_here : (r : Rule) (x : Entry) (past : List Entry) (calls : List CompletedCall) (c : CompletedCall) → block r x.worker past ≡ calls → op_at x past ≡ c.op → x.reply ≡ c.reply → is_pending x.reply ≡ false
     → r.concerns calls c.op ≡ true → CallEnds r x.worker (x ∷ past) calls c past
 call_here r x past calls c at began returned done on = record { since = []; entry = x; is = refl; by = refl; began = began; returned = returned; done = done; on = on; after = at }
@@ -143,7 +144,7 @@ none_first : (r : Rule) (on : Act → Bool) (w : ℕ) → CallsStand r on w [] (
 unfolding block
 none_first r on w = none_stand r on w []
 
--- the calls of a worker's list stand in its past
+-- the calls of a worker's list end in its history so far
 pub calls_stand : (r : Rule) (on : Act → Bool) (w : ℕ) (past : List Entry) → SpeaksOf r on → CallsStand r on w past (block r w past)
 calls_stand r on w [] speaks = none_first r on w
 calls_stand r on w (x ∷ past) speaks =
@@ -165,7 +166,7 @@ calls_stand r on w (x ∷ past) speaks =
 turned : (since early : List Entry) (x : Entry) → reverse (since ++ x ∷ early) ≡ reverse early ++ x ∷ reverse since
 turned since early x = reverse-append since (x ∷ early) ∙ ap (λ z. z ++ reverse since) (reverse-append (x ∷ []) early) ∙ append_assoc (reverse early) (x ∷ []) (reverse since)
 
--- an entry of a past stands at the place that its own past's length says
+-- the index of an entry is the length of the history before it
 pub entry_at : (h : List Entry) (x : Entry) (early : List Entry) → IsPastOf (x ∷ early) (reverse h) → (slice_get h (length early) ≡ Some x) × (past_at (length early) h ≡ early)
 entry_at h x early is =
     let whole : reverse early ++ x ∷ reverse is.since ≡ h = sym (turned is.since early x) ∙ ap reverse (sym is.is) ∙ reverse-reverse h in

@@ -1,4 +1,5 @@
--- What an audit keeps of each reader is what the reader got, and the tries that it tells are the accepting ones.
+-- What an audit keeps of each reader is what the reader got, and the tries that it lists are the
+-- accepted ones.
 use Rattle.std.proofs.Common.{◌≡◌, ℕ, ◌+◌, ◌-◌, ◌<◌, ◌≤◌, Bool, true, false, not, ◌&&◌, ◌||◌, List, [], ◌∷◌, ◌++◌, length, map, take, drop, Option, Some, None, nat_le, nat_lt, refl, ap, sym, ◌∙◌, arith, subst, cond, ◌==◌, slice_get, slice_set}
 use Rattle.std.proofs.lemmas.Bool.{eqb-true, eq-eqb, ne_eqb, ltb-true, ltb-false, lt-ltb, le-ltb, le-leb, and_from, not-true}
 use Rattle.std.proofs.lemmas.List.{length-append, length-map, map-append}
@@ -58,7 +59,7 @@ short d w (x ∷ past) =
       | false ↦ short d w past
     ]
 
--- FINISHED CALLS
+-- COMPLETED CALLS
 
 -- what an entry that finishes no call of a reader leaves: it is a writer's, or its reader's calls stay
 stays : (d : Database) (x : Entry) (past : List Entry) → is_pending x.reply || not (is_on d (op_at x past)) ≡ true → block (try_rule d) x.worker (x ∷ past) ≡ block (try_rule d) x.worker past
@@ -88,7 +89,7 @@ held_none d writers rows x past kept op at none h w lt role =
       | false ↦ λ e. subst P (sym (other_block (try_rule d) w x past e)) (h w lt role)
     ] refl
 
--- nor does an entry whose call is not on the database
+-- an entry whose call is not on the database changes no reader's values
 pub held_off : (d : Database) (writers : ℕ → Bool) (rows : List (List ℕ)) (x : Entry) (past : List Entry) → is_on d (op_at x past) ≡ false → HoldsGot d writers rows past → HoldsGot d writers rows (x ∷ past)
 held_off d writers rows x past off h w lt role =
     let P : List CompletedCall → Type 0 = λ calls. HasRow rows w (got_so_far calls) in
@@ -191,7 +192,7 @@ try_whole d w row (r ∷ a ∷ gets) c call worker at version number prefix full
 and_false : (a b : Bool) → a ≡ false → (a && b) ≡ false
 and_false a b h = rw h refl
 
--- the accepting try that the call ends is told
+-- the accepted try that the call ends is found
 pub try_is : (d : Database) (w : ℕ) (row : List ℕ) (calls : List CompletedCall) (c : CompletedCall) (call : ReaderCall) → call.worker ≡ w → call.at ≡ length calls → call.version ≡ first_number calls → call.number ≡ reply_number c.reply
     → take (length (got_so_far calls)) row ≡ got_so_far calls → length calls ≤ d.cells + 2 → try_ended d.cells (row_after d.cells row call) call ≡ accepted_of d w (calls ++ c ∷ [])
 try_is d w row calls c call worker at version number prefix short =
@@ -210,7 +211,7 @@ try_is d w row calls c call worker at version number prefix short =
 
 -- ENTRIES
 
--- a finished call is on the database, and a reader's
+-- a completed call is on the database, and a reader's
 pub record IsFinished (d : Database) (writer : Bool) (kept : ListProgress) (op : Act) (x : Entry) (call : ReaderCall) : Type 0 where
   pub reader : writer ≡ false
   pub done : is_pending x.reply ≡ false
@@ -280,7 +281,7 @@ held_some d writers rows rows' x past kept op call few small keeps at some after
           }))
     ] refl)
 
--- what is so of the try that the reader's row tells is so of the one that the entry ends
+-- what holds of the try that the reader's row gives holds of the one that the entry ends
 pub ended_is : (d : Database) (writers : ℕ → Bool) (rows rows' : List (List ℕ)) (x : Entry) (past : List Entry) (kept : ListProgress) (op : Act) (call : ReaderCall) (P : Option AcceptedTry → Type 0)
     → x.worker < 16 → kept ≡ list_progress (block (rules d writers x.worker) x.worker past) → op ≡ op_at x past → finished_call d (writers x.worker) kept op x ≡ Some call
     → ((row : List ℕ) → slice_get rows call.worker ≡ Some row → rows' ≡ rows_after d.cells rows row call)

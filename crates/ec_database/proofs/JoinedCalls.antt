@@ -17,7 +17,8 @@ use Rattle.ec_database.specs.Joined.{acts_by_replies, IsBegun, IsWhole, IsNext, 
 use Rattle.ec_database.proofs.Spelled.{writing, a_try}
 use Rattle.ec_database.proofs.shared.LeftOut.{speaks}
 
--- the call that comes next is that of the list, at whose places nothing changes once they were reached
+-- the call that comes next is that of the list, in which nothing changes at an index that was
+-- reached
 record IsList (call : List CompletedCall → Option Act) (list : List CompletedCall
     → List Act) : Type 0 where
   is : (calls : List CompletedCall) → call calls ≡ slice_get (list calls) (length calls)
@@ -42,7 +43,7 @@ comes_of on call list calls op l n = (let is : call calls ≡ Some (without_valu
   goes_on = goes_on on call calls (without_value op) is;
 })
 
--- the call at a place comes next after those before it, or stands there in the list
+-- the call that the list has next after the first k calls is the one at index k of the list
 place_kept : (call : List CompletedCall → Option Act) (list : List CompletedCall → List Act) (calls : List CompletedCall) (k : ℕ) (c : CompletedCall) → IsList call list → slice_get calls k ≡ Some c
     → slice_get (list (take k calls)) (length (take k calls)) ≡ slice_get (list calls) k
 place_kept call list calls k c l at =
@@ -55,7 +56,7 @@ begun_of on call list calls l h k c at = sym (place_kept call list calls k c l a
 beginning_of : (on : Act → Bool) (call : List CompletedCall → Option Act) (list : List CompletedCall → List Act) (calls : List CompletedCall) → IsList call list → IsBegun list calls → IsBeginning (rule_of on call) calls
 beginning_of on call list calls l h k c at = comes_of on call list (take k calls) c.op l (place_kept call list calls k c l at ∙ h k c at)
 
--- nothing stands where a list is at its end
+-- a list that has nothing at an index ends before it
 at_end : (acts : List Act) (n : ℕ) → not (is_some (slice_get acts n)) ≡ true → length acts ≤ n
 at_end [] n h = omega arith
 at_end (a ∷ acts) zero h = cc

@@ -1,4 +1,4 @@
--- The accepting tries are listed in the order of their last steps.
+-- The accepted tries are listed in the order of their last steps.
 use Rattle.std.proofs.Common.{◌≡◌, ℕ, Bool, true, false, ◌||◌, not, cond, List, [], ◌∷◌, ◌++◌, append_assoc, length, reverse, Option, Some, None, refl, ap, sym, ◌∙◌, arith, ◌⊎◌, inl, inr, slice_get}
 use Rattle.std.specs.Prelude.{option_to_list}
 use Rattle.std.proofs.lemmas.List.{append-nil}
@@ -22,7 +22,7 @@ tries_step : (d : Database) (writers : ℕ → Bool) (x : Entry) (past : List En
 unfolding accepted_tries
 tries_step d writers x past = refl
 
--- those of a past come first
+-- those of an earlier history come first
 record TriesMore (d : Database) (writers : ℕ → Bool) (since early : List Entry) : Type 0 where
   more : List AcceptedTry
   is : accepted_tries d writers (since ++ early) ≡ accepted_tries d writers early ++ more
@@ -37,7 +37,7 @@ tries_more d writers (x ∷ since) early =
       is = tries_step d writers x (since ++ early) ∙ ap (λ l. l ++ o) rest.is ∙ append_assoc (accepted_tries d writers early) rest.more o;
     }
 
--- where an entry of a past ends a try
+-- an entry of a history so far ends a try
 record TryStands (d : Database) (writers : ℕ → Bool) (past : List Entry) (i : ℕ) (a : AcceptedTry) : Type 0 where
   since : List Entry
   entry : Entry
@@ -96,13 +96,13 @@ ends_none false true o call returned h = refl
 ends_none false false false call returned h = refl
 ends_none false false true call returned h = cc
 
--- one more entry, whose accepting try is added if it ends one
+-- one more entry, whose accepted try is added if it ends one
 pub next_tries : (d : Database) (writers : ℕ → Bool) (x : Entry) (past : List Entry) (list list' : List AcceptedTry) (o : Option AcceptedTry)
     → list ≡ accepted_tries d writers past → list' ≡ list ++ option_to_list o → o ≡ ended_at d writers x past → list' ≡ accepted_tries d writers (x ∷ past)
 next_tries d writers x past list list' o h added returned =
     added ∙ ap (λ l. l ++ option_to_list o) h ∙ ap (λ z. accepted_tries d writers past ++ option_to_list z) returned ∙ sym (tries_step d writers x past)
 
--- one more entry that finishes no call of a reader on the database
+-- one more entry that completes no call of a reader on the database
 pub same_tries : (d : Database) (writers : ℕ → Bool) (x : Entry) (past : List Entry) (list : List AcceptedTry) (kept : ListProgress)
     → finished_call d (writers x.worker) kept (op_at x past) x ≡ None → list ≡ accepted_tries d writers past → list ≡ accepted_tries d writers (x ∷ past)
 same_tries d writers x past list kept none h =

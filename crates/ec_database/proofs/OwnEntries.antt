@@ -1,4 +1,5 @@
--- An accepting try has one first read and one get of each value: no two entries end calls of one number.
+-- An accepted try has one first read and one get of each value: no two entries end calls of one
+-- number.
 use Rattle.std.proofs.Common.{◌≡◌, ℕ, zero, suc, ◌+◌, ◌-◌, ◌<◌, ◌≤◌, Bool, true, false, ◌||◌, List, ◌∷◌, Option, Some, None, refl, ap, ◌∙◌, arith, subst, ◌==◌, nat_lt, slice_get}
 use Rattle.std.proofs.lemmas.Bool.{eq-eqb, ltb-true, ltb-false}
 use Rattle.ec_core.specs.declared.act.Act.{Act}

@@ -1,4 +1,4 @@
--- The call lists by place are the call lists.
+-- The call lists by index are the call lists.
 use Rattle.std.proofs.Common.{◌≡◌, ◌≢◌, ℕ, zero, suc, ◌+◌, ◌-◌, ◌<◌, ◌≤◌, true, false, List, [], ◌∷◌, length, Some, None, nat_lt, get_or, refl, ap, sym, ◌∙◌, arith, cond, ◌==◌}
 use Rattle.std.proofs.lemmas.Bool.{eqb-true, eqb-false, eq-eqb, ne_eqb, ltb-true, ltb-false, lt-ltb, le-ltb}
 use Rattle.ec_core.specs.declared.act.Act.TheVariants.{Advance, Put}
@@ -8,7 +8,7 @@ use Rattle.ec_database.specs.Shapes.{Database}
 use Rattle.ec_database.specs.Calls.{drawn_turn, write_call}
 use Rattle.ec_database.specs.Places.{write_at, turn_after, write_rest}
 
--- WRITINGS
+-- WRITES
 
 -- the turn after one more call
 turn_next : (at turn : ℕ) (c : CompletedCall) (calls : List CompletedCall) → turn_after at turn (c ∷ calls) ≡ turn_after (at + 1) (cond (at == 1) (reply_number c.reply) turn) calls
@@ -22,7 +22,7 @@ turn_next (suc (suc k)) turn c calls =
     let none : (suc (suc k) == 0) ≡ false = ne_eqb (suc (suc k)) 0 (λ e. omega arith) in
     rw (zeroth, first, now, none) refl
 
--- what is left of a writing once a call has answered
+-- what is left of a write once a call has returned
 pub write_next : (d : Database) (values : List ℕ) (at turn : ℕ) (c : CompletedCall) (calls : List CompletedCall)
     → write_rest d values (at + 1) (cond (at == 1) (reply_number c.reply) turn) calls ≡ write_rest d values at turn (c ∷ calls)
 write_next d values at turn c calls =
@@ -64,7 +64,7 @@ write_at_put d n turn =
     let back : suc (suc (suc n)) - 3 ≡ n = omega arith in
     rw (zeroth, first, second, lt_three n d.cells, eq_three n d.cells, back) refl
 
--- a writing's call of no values is the one by place
+-- a write's call of no values is the one by index
 pub write_call_at : (d : Database) (calls : List CompletedCall) → write_call d [] calls ≡ write_at d [] (length calls) (drawn_turn calls)
 write_call_at d [] = refl
 write_call_at d (a ∷ []) = refl

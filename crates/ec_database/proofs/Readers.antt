@@ -1,5 +1,5 @@
--- What a reader knows in its try: so many writings were done when it went on to its gets, and as long as no more are
--- started, the cells are as it got them.
+-- What a reader knows in its try: so many writes were done when it went on to its gets, and as long
+-- as no more are started, the cells are as it got them.
 use Rattle.std.proofs.Common.{◌≡◌, ℕ, zero, suc, ◌+◌, ◌<◌, ◌≤◌, Bool, true, false, not, List, [], ◌∷◌, ◌++◌, length, Some, None, is_some, nat_lt, unwrap_or, refl, ap, sym, ◌∙◌, arith, subst, cond, ◌==◌, ◌⊎◌, inl, inr, slice_get}
 use Rattle.std.proofs.lemmas.Bool.{eqb-true, eq-eqb, ne_eqb, ltb-true, ltb-false, le-ltb}
 use Rattle.std.proofs.lemmas.List.{length-append}
@@ -21,7 +21,7 @@ use Rattle.ec_database.specs.Tries.{is_put_on}
 use Rattle.ec_database.proofs.Steady.{on_of, lead_less, writing, no_put, off_put}
 use Rattle.ec_core.proofs.shared.Joining.{last_get}
 
--- the first number read, and what is known once that many writings were done
+-- the first number read, and what is known once that many writes were done
 pub record IsSnapshot (d : Database) (past : List Entry) (version : ℕ) (gets : List CompletedCall) : Type 0 where
   pub done : version ≤ total d.done past
   pub same : total d.start past ≡ version → (i : ℕ) (c : CompletedCall) → slice_get gets i ≡ Some c → i < d.cells → reply_number c.reply ≡ cell_value (d.first_cell + i) past
@@ -67,7 +67,7 @@ chosen_none d k gt = (let p : nat_lt k d.cells ≡ false = le-ltb k d.cells (ome
 
 -- EACH CALL OF A READER
 
--- what is true after the step of a reader whose list is then such
+-- what is true after the step of a reader whose calls are then these
 reader_at : (d : Database) (x : Entry) (past : List Entry) (calls : List CompletedCall) → block (try_rule d) x.worker (x ∷ past) ≡ calls → IsReader d (x ∷ past) calls → IsReader d (x ∷ past) (block (try_rule d) x.worker (x ∷ past))
 reader_at d x past calls is h = (let P : List CompletedCall → Type 0 = λ c. IsReader d (x ∷ past) c in subst P (sym is) h)
 

@@ -34,7 +34,7 @@ front_at [] ys n x h = cc
 front_at (y ∷ xs) ys zero x h = h
 front_at (y ∷ xs) ys (suc n) x h = front_at xs ys n x h
 
--- an act at a place of a list of m acts and one more
+-- an act at an index of a list of m acts and one more
 at_place : (acts : List Act) (last here : Act) (m n : ℕ) → length acts ≡ m → (n < m → slice_get acts n ≡ Some here)
     → cond (nat_lt n m) (Some here) (cond (n == m) (Some last) None) ≡ slice_get (acts ++ last ∷ []) n
 at_place acts last here m n long at =

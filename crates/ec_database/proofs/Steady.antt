@@ -1,4 +1,5 @@
--- Writers keep their queues at each step, and where no more writings were started than are done, nothing is put.
+-- Writers keep their queues at each step, and if no more writes were started than are done, nothing
+-- is put.
 use Rattle.std.proofs.Common.{◌≡◌, ℕ, zero, suc, ◌+◌, ◌<◌, ◌≤◌, Bool, true, false, List, [], ◌∷◌, length, Some, None, nat_lt, get_or, refl, ap, ◌∙◌, arith, cond, ◌==◌, ◌⊎◌, inl, inr}
 use Rattle.std.proofs.lemmas.Bool.{ltb-true, leb-false}
 use Rattle.ec_count.specs.Tables.{Tables, IsDeclared}

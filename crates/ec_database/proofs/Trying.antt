@@ -1,4 +1,4 @@
--- Where a snapshot stands by place is where it stands by its calls.
+-- The phase of a snapshot by index is its state by calls.
 use Rattle.std.proofs.Common.{◌≡◌, ◌≢◌, ℕ, suc, ◌+◌, ◌-◌, ◌<◌, ◌≤◌, Bool, true, false, not, ◌&&◌, List, [], ◌∷◌, ◌++◌, length, map, take, drop, Some, None, is_some, nat_lt, refl, ap, sym, ◌∙◌, arith, subst, cond, ◌==◌}
 use Rattle.std.proofs.lemmas.Bool.{eqb-true, eqb-false, eq-eqb, ne_eqb, ltb-true, ltb-false, lt-ltb, le-ltb}
 use Rattle.std.proofs.lemmas.List.{length-append, map-append, take_all, take-append-le}
@@ -28,7 +28,7 @@ whole_is d (w ∷ a ∷ gets) =
           ] refl)
     ] refl
 
--- the place is that of the calls
+-- the phase is that of the calls
 pub record IsPlaced (d : Database) (p : SnapshotPhase) (s : TryState) : Type 0 where
   pub left : p.left ≡ s.left
   pub at : p.at ≡ length s.calls

@@ -59,7 +59,7 @@ puts_later d j (x ∷ since) past = (let a = puts_grow d j x (since ++ past) in 
 
 -- WHERE A VALUE WAS PUT
 
--- an entry puts v into cell j in the writing of this turn; early is its past
+-- an entry puts v into cell j in the write of this turn; early is the history before it
 pub record PutStands (d : Database) (writers : ℕ → Bool) (past : List Entry) (j turn v : ℕ) : Type 0 where
   pub since : List Entry
   pub entry : Entry

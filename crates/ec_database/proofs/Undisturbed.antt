@@ -1,5 +1,6 @@
--- An accepting try holds one version, and no put came between its gets: when its last read began, no more writings were
--- started than were done when its gets began, so no writer was at work all that time.
+-- An accepted try has the values of one version, and no put came between its gets: when its last
+-- read began, no more writes were started than were done when its gets began, so no writer was
+-- active all that time.
 use Rattle.std.proofs.Common.{◌≡◌, ℕ, zero, suc, ◌+◌, ◌-◌, ◌<◌, ◌≤◌, Bool, true, false, ◌&&◌, ◌||◌, List, [], ◌∷◌, ◌++◌, length, map, take, drop, reverse, append_assoc, Option, Some, None, refl, ap, sym, ◌∙◌, arith, subst, cond, ◌==◌, inl, inr, slice_get, get_or}
 use Rattle.std.specs.Option.{option_map}
 use Rattle.std.proofs.lemmas.Bool.{eqb-true, eq-eqb, ltb-true, lt-ltb, le-ltb}
@@ -42,7 +43,7 @@ use Rattle.ec_core.proofs.shared.Breaks.{follow_before}
 use Rattle.ec_database.proofs.CallsStand.{CallEnds, CallsStand, calls_stand, ends_before, entry_at}
 use Rattle.ec_database.proofs.CallNumbers.{number, number_began}
 
--- PASTS OF A HISTORY
+-- PREFIXES OF A HISTORY
 
 pub follow_of : (t : Tables) (d : Database) (h p : List Entry) → FollowsDatabase t d (reverse h) → IsPastOf p (reverse h) → FollowsDatabase t d p
 follow_of t d h p f is = follow_before (database_rules t d) is.since p (let P : List Entry → Type 0 = λ z. FollowsDatabase t d z in subst P is.is f)
@@ -50,7 +51,7 @@ follow_of t d h p f is = follow_before (database_rules t d) is.since p (let P : 
 past_past : (a b c : List Entry) → IsPastOf a b → IsPastOf b c → IsPastOf a c
 past_past a b c p q = record { since = q.since ++ p.since; is = q.is ∙ ap (λ z. q.since ++ z) p.is ∙ sym (append_assoc q.since p.since a) }
 
--- entry k with its own past
+-- entry k with the history before it
 pub here : (h : List Entry) (k : ℕ) (x : Entry) → slice_get h k ≡ Some x → IsPastOf (x ∷ past_at k h) (reverse h)
 here h k x at = (let P : List Entry → Type 0 = λ p. IsPastOf p (reverse h) in subst P (past_next h k x at) (moment_before h (suc k)))
 
@@ -71,7 +72,8 @@ total_later h e i j le = (let P : ℕ → Type 0 = λ k. total e (past_at i h) �
 
 -- A CALL OF A READER'S TRY
 
--- a call of a try ends at a place of the history, with the act that is due and an answer that it can get
+-- a call of a try ends at an entry of the history, with the act that is due and a reply that it can
+-- get
 record StandsAt (t : Tables) (d : Database) (h : List Entry) (w : ℕ) (before : List CompletedCall) (c : CompletedCall) (early : List Entry) : Type 0 where
   entry : Entry
   is : slice_get h (length early) ≡ Some entry
@@ -159,7 +161,7 @@ get_entry t x early w y v acc by op returned =
 
 -- THE WHOLE TRY
 
--- an accepting try, and what is known of it when its last read began
+-- an accepted try, and what is known of it when its last read began
 record IsTry (t : Tables) (d : Database) (h : List Entry) (k : ℕ) (x : Entry) (a : AcceptedTry) (r i : CompletedCall) (gets : List CompletedCall) : Type 0 where
   at : slice_get h k ≡ Some x
   reader : writes t d x.worker ≡ false
@@ -211,14 +213,14 @@ calm_between t d h k version x first q f is_first is_q done start after before a
     let e : total d.start (past_at (length q) h) ≡ total d.start q = ap (total d.start) (past_by_length h q is_q) in
     put_on_op d t x past acc ∙ no_put d (writes t d) t x past f.shape f.declared acc fol (omega arith)
 
--- THE VERSION THAT IT HOLDS
+-- ITS VERSION
 
 map_at : (f : CompletedCall → ℕ) (xs : List CompletedCall) (j v : ℕ) → slice_get (map f xs) j ≡ Some v → (c : CompletedCall) × (slice_get xs j ≡ Some c) × (f c ≡ v)
 map_at f [] j v h = cc
 map_at f (x ∷ xs) zero v h = (x, refl, (let same : f x ≡ v = cc in same))
 map_at f (x ∷ xs) (suc j) v h = map_at f xs j v h
 
--- a value of a version in a past of the history is put at a place of the history
+-- a value of a version in a prefix of the history is put by an entry of the history
 version_at : (t : Tables) (d : Database) (h q : List Entry) (n j v : ℕ) → IsFollowed t d h → IsPastOf q (reverse h) → j < d.cells → IsVersionIn d (writes t d) n j v q → IsOfVersion t d h n j v
 version_at t d h q zero j v f is lt e = e
 version_at t d h q (suc turn) j v f is lt e =
@@ -240,7 +242,7 @@ version_at t d h q (suc turn) j v f is lt e =
       },
     )
 
--- when the last read began, the cells held the version that it told
+-- when the last read began, the cells held the version that it returned
 version_then : (t : Tables) (d : Database) (h : List Entry) (w version : ℕ) (r i : CompletedCall) (gets : List CompletedCall) (q : List Entry) (j : ℕ) (c : CompletedCall) → IsFollowed t d h → writes t d w ≡ false
     → IsBegun t d h w version r i gets q → version ≡ reply_number r.reply → slice_get gets j ≡ Some c → j < d.cells → IsVersionIn d (writes t d) version j (reply_number c.reply) q
 version_then t d h w version r i gets q j c f role b same in_gets lt =
@@ -291,11 +293,11 @@ got_is t d h w r i gets j c early lt le s =
 past_shorter : (p q : List Entry) → IsPastOf p q → length p ≤ length q
 past_shorter p q is = (let whole : length q ≡ length is.since + length p = ap length is.is ∙ length-append is.since p in omega arith)
 
--- how many calls its reader had finished there
+-- how many calls its reader had completed there
 counted : (d : Database) (h : List Entry) (v w : ℕ) (early : List Entry) → v ≡ w → past_at (length early) h ≡ early → calls_before d h v (length early) ≡ number (is_on d) w early
 counted d h v w early same is = ap (λ u. number (is_on d) u (past_at (length early) h)) same ∙ ap (number (is_on d) w) is
 
--- THE LAW
+-- THE THEOREM
 
 whole_try : (t : Tables) (d : Database) (h : List Entry) (k : ℕ) (x : Entry) (a : AcceptedTry) (r i : CompletedCall) (gets : List CompletedCall) → IsFollowed t d h → IsTry t d h k x a r i gets → IsUndisturbed t d h k a
 whole_try t d h k x a r i gets f e =
@@ -371,7 +373,7 @@ whole_try t d h k x a r i gets f e =
           (subst V (sym e.version) (subst U z.2 (version_then t d h w (reply_number r.reply) r i gets q j z.0 f e.reader b refl z.1 (omega arith)))));
     }
 
--- what an entry that ends an accepting try says
+-- what holds of an entry that ends an accepted try
 parts : (w p on : Bool) (o : Option AcceptedTry) (a : AcceptedTry) → cond (w || p) None (cond on o None) ≡ Some a → (w ≡ false) × (p ≡ false) × (on ≡ true) × (o ≡ Some a)
 parts true p on o a h = cc
 parts false true on o a h = cc

@@ -1,4 +1,4 @@
--- What the audit of a database keeps, entry by entry.
+-- The state of the audit of a database, entry by entry.
 use Rattle.std.proofs.Common.{◌≡◌, ℕ, ◌<◌, [], sym, ◌∙◌}
 use Rattle.ec_core.specs.Scanning.{IsTrackerModel}
 use Rattle.ec_database.specs.Auditing.{HasRow, VersionAuditModel, IsVersioning}

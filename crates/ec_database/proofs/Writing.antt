@@ -24,7 +24,7 @@ use Rattle.ec_database.proofs.Written.{chosen_if, written, IsVersionIn}
 use Rattle.ec_database.proofs.Counting.{puts_at}
 use Rattle.ec_database.specs.Tries.{is_put_on}
 
--- SEATS, one queue for each cell
+-- POSITIONS, one queue for each cell
 
 abbrev pub nobody : Seat
 nobody = record { stage = 0; turn = 0 }
@@ -209,7 +209,7 @@ role_same d writers x past f none h =
 one_plus : (n : ℕ) → 1 + n ≡ suc n
 one_plus n = omega arith
 
--- nothing moves
+-- no position changes
 pub quiet_same : (d : Database) (writers : ℕ → Bool) (t : Tables) (x : Entry) (past : List Entry) (op : Act) → IsStep d writers t x past → op_at x past ≡ op → IsQuiet d op
     → (writers x.worker ≡ true → block (write_rule d) x.worker (x ∷ past) ≡ block (write_rule d) x.worker past) → IsWriting d writers (x ∷ past)
 quiet_same d writers t x past op s is q same =
@@ -246,7 +246,7 @@ moved d writers t x past op a b c calls next s role is at after ea eb ec ls ws q
     (lead_is d writers past x.worker calls role at) (lead_is d writers (x ∷ past) x.worker next role after) ls
     (wait_is d writers past x.worker calls role at) (wait_is d writers (x ∷ past) x.worker next role after) ws latest
 
--- the values stand as they were
+-- the values are unchanged
 unput : (d : Database) (writers : ℕ → Bool) (t : Tables) (x : Entry) (past : List Entry) (op : Act) → IsStep d writers t x past → op_at x past ≡ op → ((y : ℕ) → put_in y op ≡ None)
     → (j : ℕ) → j < d.cells → IsVersionIn d writers (puts_at d j (x ∷ past)) j (cell_value (d.first_cell + j) (x ∷ past)) (x ∷ past)
 unput d writers t x past op s is none j lt = latest_same d writers t x past j s.accepted (ap (put_in (d.first_cell + j)) is ∙ none (d.first_cell + j)) (s.before.latest j lt)
@@ -364,7 +364,7 @@ chosen_none : (d : Database) (values : List ℕ) (k : ℕ) → d.cells < k
     → is_some (cond (nat_lt k d.cells) (Some (Put (d.first_cell + k) (get_or values k 0))) (cond (k == d.cells) (Some (Advance d.done)) None)) ≡ false
 chosen_none d values k gt = (let p : nat_lt k d.cells ≡ false = le-ltb k d.cells (omega arith) in let q : (k == d.cells) ≡ false = ne_eqb k d.cells (λ e. omega arith) in rw (p, q) refl)
 
--- an await that is not finished changes nothing
+-- an await that is not completed changes nothing
 await_cases : (d : Database) (writers : ℕ → Bool) (t : Tables) (x : Entry) (past : List Entry) (e v : ℕ) → IsStep d writers t x past → op_at x past ≡ Await e v
     → (x.reply ≡ Pending) ⊎ ((s : ℕ) × (v ≤ s) × (s ≤ total e past) × (x.reply ≡ Number s))
     → ((is_pending x.reply ≡ false) × (v ≤ total e past) → IsWriting d writers (x ∷ past)) → IsWriting d writers (x ∷ past)

@@ -1,4 +1,4 @@
--- What a writing put into a cell, found in a past.
+-- What a write put into a cell, found in a history so far.
 use Rattle.std.proofs.Common.{◌≡◌, ℕ, zero, suc, ◌+◌, Bool, ◌==◌, List, [], ◌∷◌, Option, Some, None, cond}
 use Rattle.ec_core.specs.declared.act.Entry.{Entry}
 use Rattle.ec_core.specs.Counts.{put_in}
@@ -11,7 +11,7 @@ abbrev pub chosen_if : Bool → Option ℕ → Option ℕ → Option ℕ
 chosen_if mine None others = others
 chosen_if mine (Some v) others = cond mine (Some v) others
 
--- the value put into cell j by the writing of a turn
+-- the value put into cell j by the write of a turn
 unfoldable pub written : Database → (ℕ → Bool) → ℕ → ℕ → List Entry → Option ℕ
 written d writers j turn [] = None
 written d writers j turn (x ∷ past) =

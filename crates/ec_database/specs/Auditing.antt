@@ -1,4 +1,4 @@
--- What an audit of a database keeps, and what it takes from an entry.
+-- The state of the audit of a database, and how it changes with an entry.
 use Rattle.std.specs.Prelude.{◌≡◌, ℕ, ◌+◌, ◌-◌, ◌<◌, Bool, true, false, ◌==◌, ◌&&◌, ◌||◌, not, nat_le, nat_lt, List, [], ◌∷◌, length, map, take, slice_get, slice_set, Option, Some, None, if◌then◌else◌}
 use Rattle.ec_core.specs.declared.act.Act.{Act}
 use Rattle.ec_core.specs.declared.act.Entry.{Entry}
@@ -17,32 +17,32 @@ use Rattle.ec_database.specs.Following.{is_on, try_rule, writes, database_rules}
 use Rattle.ec_database.specs.Places.{list_progress}
 use Rattle.ec_database.specs.Tries.{AcceptedTry, accepted_tries}
 
--- the first n answers of a question about workers, each at its worker's place
+-- the answers of a test for the first n workers, by number
 abbrev pub ArePlaced : (ℕ → Bool) → ℕ → List Bool → Type 0
 ArePlaced asked n table = (w : ℕ) → w < n → slice_get table w ≡ Some (asked w)
 
--- an accepting try, as it is told
+-- an accepted try, as it is returned
 abbrev pub accepted_try : Accepted → AcceptedTry
 accepted_try a = record { worker = a.worker; version = a.version; values = a.values.items }
 
--- the call on the database that an entry of a reader finishes, if it finishes one
+-- the call on the database that an entry of a reader completes, if it completes one
 abbrev pub finished_call : Database → Bool → ListProgress → Act → Entry → Option ReaderCall
 finished_call d is_writer kept op x =
     if is_writer || is_pending x.reply || not (is_on d op)
     then None
     else Some (record { worker = x.worker; at = kept.at; version = kept.first; number = reply_number x.reply })
 
--- what the gets of a try have answered so far
+-- what the gets of a try have returned so far
 abbrev pub got_so_far : List CompletedCall → List ℕ
 got_so_far (w ∷ a ∷ gets) = map (λ c. reply_number c.reply) gets
 got_so_far _ = []
 
--- the rows once a get of a try is kept, given its reader's row
+-- the rows once the value of a get is stored, given its reader's row
 abbrev pub rows_after : ℕ → List (List ℕ) → List ℕ → ReaderCall → List (List ℕ)
 rows_after cells rows row c =
     if nat_le 2 c.at && nat_lt c.at (cells + 2) then slice_set rows c.worker (slice_set row (c.at - 2) c.number) else rows
 
--- the accepting try that the call ends, if it ends one, given its reader's row
+-- the accepted try that the call ends, if it ends one, given its reader's row
 abbrev pub try_ended : ℕ → List ℕ → ReaderCall → Option AcceptedTry
 try_ended cells row c =
     if c.at == cells + 2 && c.number == c.version then Some (record { worker = c.worker; version = c.version; values = take cells row }) else None
@@ -58,13 +58,13 @@ pub record HasRow (rows : List (List ℕ)) (w : ℕ) (values : List ℕ) : Type 
 abbrev pub HoldsGot : Database → (ℕ → Bool) → List (List ℕ) → List Entry → Type 0
 HoldsGot d writers rows past = (w : ℕ) → w < 16 → writers w ≡ false → HasRow rows w (got_so_far (block (try_rule d) w past))
 
--- what is kept of the list that an entry's worker is in, and the act that began the entry's call
+-- the progress of an entry's worker in its list, and the act that began the entry's call
 pub record ReadsOn (t : Tables) (d : Database) (k : ListProgress) (act : Act) (x : Entry) (past : List Entry) : Type 0 where
   pub kept : k ≡ list_progress (block (database_rules t d x.worker) x.worker past)
   pub op : act ≡ opening_act x.act (under_way x.worker past)
 
--- what the audit of a database keeps in a walk: what its readers got in the tries that they are in, and the accepting
--- tries, or that memory was refused for one
+-- the state of the audit of a database: what its readers got in the tries that they are in, and the
+-- accepted tries, or that there was no memory for one
 pub record VersionAuditModel : Type 0 where
   pub shape : Database
   pub setup : Tables
@@ -73,25 +73,26 @@ pub record VersionAuditModel : Type 0 where
   pub list : List AcceptedTry
   pub lacks : Bool
 
--- how many accepting tries were found so far, if memory was not refused for one
+-- how many accepted tries were found so far, if there was memory for each
 abbrev pub found_in : VersionAuditModel → Option ℕ
 found_in a = if a.lacks then None else Some (length a.list)
 
--- it is that after a past
+-- it is the state after this history so far
 pub record IsVersioning (a : VersionAuditModel) (past : List Entry) : Type 0 where
   pub tracked : IsTrackerModel (database_rules a.setup a.shape) list_progress a.tracked past
   pub held : a.lacks ≡ false → HoldsGot a.shape (writes a.setup a.shape) a.rows past
   pub list : a.lacks ≡ false → a.list ≡ accepted_tries a.shape (writes a.setup a.shape) past
 
--- of the same database, after a past
+-- of the same database, after this history so far
 abbrev pub VersionsOn : VersionAuditModel → VersionAuditModel → List Entry → Type 0
 VersionsOn start now past = (now.shape ≡ start.shape) × (now.setup ≡ start.setup) × IsVersioning now past
 
--- the audit of a past is, as it is, that of the past and one more entry whose call is not on the database
+-- the state of the audit after a history so far is also that after one more entry whose call is not
+-- on the database
 abbrev pub OthersMayBeLeftOut : Type 0
 OthersMayBeLeftOut = (a : VersionAuditModel) (x : Entry) (past : List Entry) → is_on a.shape (opening_act x.act (under_way x.worker past)) ≡ false
     → IsVersioning a past → IsVersioning a (x ∷ past)
 
--- and that of the past and a go that ends no call
+-- and that after a go that ends no call
 abbrev pub GoesMayBeLeftOut : Type 0
 GoesMayBeLeftOut = (a : VersionAuditModel) (x : Entry) (past : List Entry) → is_intermediate x ≡ true → IsVersioning a past → IsVersioning a (x ∷ past)

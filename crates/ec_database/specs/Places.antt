@@ -1,4 +1,5 @@
--- The call lists by place: the call at a place of the list, from the numbers that earlier calls answered.
+-- The call lists by index: the call at an index of the list, from the numbers that earlier calls
+-- returned.
 use Rattle.std.specs.Prelude.{ℕ, ◌+◌, ◌-◌, Bool, ◌==◌, ◌&&◌, not, nat_lt, List, [], ◌∷◌, ◌++◌, length, Option, Some, None, if◌then◌else◌, get_or}
 use Rattle.ec_core.specs.declared.act.Act.{Act}
 use Rattle.ec_core.specs.declared.act.Act.TheVariants.{Advance, Read, Await, Ticket, Put, Get}
@@ -10,7 +11,7 @@ use Rattle.ec_database.specs.declared.ending.SnapshotEnd.{SnapshotEnd}
 use Rattle.ec_database.specs.declared.ending.SnapshotEnd.TheVariants.{Accepted, Disturbed}
 use Rattle.ec_database.specs.Calls.{first_number, drawn_turn}
 
--- of a writing, from its turn
+-- of a write, from its turn
 abbrev pub write_at : Database → List ℕ → ℕ → ℕ → Option Act
 write_at d values at turn =
     if at == 0 then Some (Advance d.start)
@@ -24,7 +25,7 @@ write_at d values at turn =
 abbrev pub turn_after : ℕ → ℕ → List CompletedCall → ℕ
 turn_after at turn calls = if at == 0 then drawn_turn calls else (if at == 1 then first_number calls else turn)
 
--- what is left of a writing at a place
+-- what is left of a write at an index
 abbrev pub write_rest : Database → List ℕ → ℕ → ℕ → List CompletedCall → Option Act
 write_rest d values at turn calls = write_at d values (at + length calls) (turn_after at turn calls)
 
@@ -37,8 +38,8 @@ try_at d at version =
     else (if at == d.cells + 2 then Some (Read d.start)
     else None)))
 
--- where a snapshot stands: the tries left, this one among them; the place in this try; what it read so far; and at its
--- end, whether its two reads agree
+-- the phase of a snapshot: the tries left, this one among them; the index in this try; what it read
+-- so far; and at its end, whether its two reads agree
 pub record SnapshotPhase : Type 0 where
   pub left : ℕ
   pub at : ℕ
@@ -53,7 +54,7 @@ place_at_end p agreed =
     then record p { left = p.left - 1; at = 0; values = [] }
     else record p { at = p.at + 1; agreed = agreed }
 
--- once a call has answered n
+-- once a call has returned n
 abbrev pub next_place : Database → SnapshotPhase → ℕ → SnapshotPhase
 next_place d p n =
     if p.at == 0 then record p { at = 1; version = n }
@@ -66,14 +67,15 @@ abbrev pub place_after : Database → SnapshotPhase → List CompletedCall → S
 place_after d p [] = p
 place_after d p (c ∷ calls) = place_after d (next_place d p (reply_number c.reply)) calls
 
--- what is left of a snapshot at a place
+-- what is left of a snapshot in a phase
 abbrev pub snapshot_rest : Database → SnapshotPhase → List CompletedCall → Option Act
 snapshot_rest d p calls = (let q = place_after d p calls in try_at d q.at q.version)
 
 abbrev pub end_at : Database → SnapshotPhase → Option SnapshotEnd
 end_at d p = if p.at == d.cells + 3 then Some (if p.agreed then Accepted p.version (record { items = p.values }) else Disturbed) else None
 
--- what a scan keeps of a list of either kind: a writing's turn is the second number, a try's version the first
+-- the progress in a list of either kind: a write's turn is the second number, a try's version the
+-- first
 abbrev pub list_progress : List CompletedCall → ListProgress
 list_progress calls =
     record { at = length calls; first = first_number calls; second = drawn_turn calls }

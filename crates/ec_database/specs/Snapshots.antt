@@ -1,4 +1,4 @@
--- Snapshots: tries one after another, until one accepts or none is left.
+-- Snapshots: tries one after another, until one is accepted or none is left.
 use Rattle.std.specs.List.{flat_map}
 use Rattle.std.specs.Prelude.{◌≡◌, ℕ, ◌+◌, ◌-◌, ◌<◌, Bool, true, false, ◌==◌, ◌&&◌, not, nat_lt, List, [], ◌∷◌, ◌++◌, All, length, map, take, drop, Option, Some, None, is_some, if◌then◌else◌}
 use Rattle.ec_core.specs.declared.act.Act.{Act}
@@ -30,7 +30,8 @@ values_got d _ = []
 abbrev pub agrees : Database → List CompletedCall → Bool
 agrees d calls = version_again d calls == version_read calls
 
--- how far a snapshot is: the tries left, this one among them, and the completed calls of this try
+-- the progress of a snapshot: the tries left, this one among them, and the completed calls of this
+-- try
 pub record TryState : Type 0 where
   pub left : ℕ
   pub calls : List CompletedCall
@@ -50,7 +51,7 @@ abbrev pub trying_after : Database → TryState → List CompletedCall → TrySt
 trying_after d s [] = s
 trying_after d s (c ∷ calls) = trying_after d (after_call d s c) calls
 
--- how far a snapshot of so many tries is after these calls
+-- the progress of a snapshot of so many tries after these calls
 abbrev pub trying : Database → ℕ → List CompletedCall → TryState
 trying d tries calls = trying_after d (record { left = tries; calls = [] }) calls
 
@@ -77,8 +78,9 @@ pub record IsDisturbed (d : Database) (calls : List CompletedCall) : Type 0 wher
   pub whole : is_whole d calls ≡ true
   pub differ : agrees d calls ≡ false
 
--- the calls are disturbed tries, fewer than the snapshot may make, and the beginning of one more, or the whole of it: it is
--- what the snapshot asks for and ends with, and is itself disturbed only if no try is left
+-- the calls are disturbed tries, fewer than the snapshot may make, and a prefix of one more, or the
+-- whole of it: it is what the snapshot asks for and ends with, and is itself disturbed only if no
+-- try is left
 pub record AreTries (d : Database) (tries : ℕ) (calls : List CompletedCall) : Type 0 where
   pub disturbed : List (List CompletedCall)
   pub last : List CompletedCall

@@ -1,4 +1,4 @@
-//! The accepting tries of a run.
+//! The accepted tries of a run.
 ghost use Rattle.std.specs.Prelude.{◌≡◌, ◌<◌, ◌≤◌, ℕ, false, List, [], ◌∷◌, ◌++◌, option_to_list, length, map, take, reverse, slice_get, slice_set, Some, IfOk, OnOk, IfErr};
 ghost use Rattle.std.specs.Option.{option_map};
 ghost use Rattle.ec_core.specs.declared.act.Entry.{Entry};
@@ -17,8 +17,8 @@ use ec_count::{Setup, WorkerId, filled};
 use std::alloc::{AllocError, Global};
 use std::marker::Model;
 
-/// A call on the database that a reader has finished: its place in the reader's try, the version
-/// that the try read first, and what the call answered.
+/// A call on the database that a reader has completed: its index in the reader's try, the version
+/// that the try read first, and the number that the call returned.
 #[derive(Clone, Copy)]
 struct ReaderCall {
     worker: WorkerId,
@@ -27,7 +27,7 @@ struct ReaderCall {
     number: u64,
 }
 
-/// Returns the call of a reader on the database that an entry finishes, if it finishes one.
+/// Returns the call of a reader on the database that an entry completes, if it completes one.
 fn finished_call(lists: &Lists, kept: &ListProgress, op: &Act, entry: &Entry) -> Option<ReaderCall>
     ensures { result ≡ finished_call lists.now.shape.now (writes lists.now.setup.now lists.now.shape.now entry.now.worker) kept.now op.now entry.now }
 {
@@ -65,7 +65,7 @@ impl Got {
         }
     }
 
-    /// Keeps the value that a reader's call answered, if that is a get.
+    /// Stores the value that a reader's call returned, if the call is a get.
     fn keep(&mut self, cells: usize, call: &ReaderCall)
         requires { cells ≤ 256 }
         ensures { (row : List ℕ) → slice_get self.old.rows call.now.worker ≡ Some row → self.new.rows ≡ rows_after cells self.old.rows row call.now }
@@ -75,7 +75,7 @@ impl Got {
         }
     }
 
-    /// Adds the accepting try that a reader's call ends, if it ends one.
+    /// Adds the accepted try that a reader's call ends, if it ends one.
     fn add(
         &self,
         cells: usize,
@@ -94,8 +94,8 @@ impl Got {
         tries.push(call.worker, call.version, &row[..cells])
     }
 
-    /// Takes in the next entry of a run, given what is kept of its worker's list and the act that
-    /// began its call, and adds the accepting try that it ends.
+    /// Processes the next entry of a run, given the progress of its worker and the act that began
+    /// its call. Adds the accepted try that it ends.
     fn take(
         &mut self,
         lists: &Lists,
@@ -124,7 +124,7 @@ impl Got {
     }
 }
 
-/// The audit of a database in a walk over a run. An entry whose call is not on the database may be
+/// The audit of a database in a pass over a run. An entry whose call is not on the database may be
 /// left out.
 #[derive(Drop)]
 pub struct VersionAudit<'a> {
@@ -146,8 +146,8 @@ impl<'a> Model for VersionAudit<'a> {
     ghost invariant = { λ s. s.tries.cells ≡ s.lists.shape.now.cells };
 }
 
-/// Takes in the next entry, and adds the accepting try that it ends, unless there was no memory for
-/// an earlier one. The answer is whether one is lacking.
+/// Processes the next entry, and adds the accepted try that it ends, unless an allocation has
+/// failed before. Returns whether one has failed.
 fn lacks_after(
     lacks: bool,
     lists: &Lists,
@@ -192,7 +192,7 @@ impl<'a> Audit for VersionAudit<'a> {
 }
 
 impl<'a> VersionAudit<'a> {
-    /// Makes the audit before the first entry of a run on this setup. It takes no memory.
+    /// Makes the audit before the first entry of a run on this setup. Allocates nothing.
     pub fn new(alloc: Global, shape: &'a DatabaseShape, setup: &'a Setup) -> Self
         ensures shape { result.shape ≡ shape.now }
         ensures setup { result.setup ≡ setup.now }
@@ -209,8 +209,7 @@ impl<'a> VersionAudit<'a> {
         }
     }
 
-    /// Returns how many calls of the list that it is in a worker has finished, after the entries so
-    /// far.
+    /// Returns how many calls of its current list a worker has completed, after the entries so far.
     pub fn completed_count(&self, worker: WorkerId) -> usize
         ensures { (past : List Entry) → IsVersioning self.now past → result ≡ length (block (database_rules self.now.setup self.now.shape worker) worker past) }
     {
@@ -218,7 +217,7 @@ impl<'a> VersionAudit<'a> {
         kept.at
     }
 
-    /// Returns how many accepting tries there are so far; `None` if memory was refused for one.
+    /// Returns how many accepted tries there are so far, or `None` if there was no memory for one.
     pub fn accepted_count(&self) -> Option<usize>
         ensures { result ≡ found_in self.now }
     {
@@ -229,14 +228,14 @@ impl<'a> VersionAudit<'a> {
         }
     }
 
-    /// Returns the accepting try with this place among those so far, if there are so many.
+    /// Returns the accepted try at this index among those so far, if there are so many.
     pub fn accepted_at(&self, place: usize) -> Option<TryView<'_>>
         ensures { result ≡ slice_get self.now.list place }
     {
         self.tries.get(place)
     }
 
-    /// Returns the accepting tries after the entries so far, as `versions` lists them.
+    /// Returns the accepted tries after the entries so far, as `versions` lists them.
     pub fn finish(self) -> Result<AcceptedTries, AuditFault>
         ensures followed { (h : List Entry) → EndsAt self.entry.setup (IsVersioning self.entry) h → OnOk result (FollowsDatabase self.entry.setup self.entry.shape (reverse h)) }
         ensures tries { (h : List Entry) → EndsAt self.entry.setup (IsVersioning self.entry) h → IfOk result (λ tries. ListsTries self.entry.setup self.entry.shape h tries.list) }
@@ -260,7 +259,7 @@ impl<'a> VersionAudit<'a> {
         Ok(tries)
     }
 
-    /// Returns the accepting tries after all entries of a run, as `versions` lists them.
+    /// Returns the accepted tries after all entries of a run, as `versions` lists them.
     pub fn versions(self, run: &Run) -> Result<AcceptedTries, AuditFault>
         requires setup { self.setup ≡ run.now.setup }
         requires represents { IsVersioning self (reverse run.now.entries) }
@@ -274,9 +273,8 @@ impl<'a> VersionAudit<'a> {
     }
 }
 
-/// Returns the accepting tries of a database in a run, by their last steps. If the workers don't
-/// follow the database's call lists, the first entry that breaks them is told. The run is as
-/// before, whatever is answered.
+/// Returns the accepted tries of a database in a run, in the order of their last steps. If the
+/// workers don't follow the database's call lists, the error has the first entry that breaks them.
 pub fn versions(
     alloc: Global,
     run: &Run,

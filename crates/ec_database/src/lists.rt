@@ -1,4 +1,4 @@
-//! The lists of calls of the workers on a database.
+//! The call lists of the workers on a database.
 ghost use Rattle.std.specs.Prelude.{◌≡◌, ℕ, ◌+◌, ◌<◌, List, [], ◌∷◌, ◌++◌, length, if◌then◌else◌};
 ghost use Rattle.ec_core.specs.CallLists.{reply_number};
 ghost use Rattle.ec_core.specs.declared.act.Act.{Act};
@@ -13,12 +13,12 @@ use crate::places::{try_at, write_at};
 use ec_core::{Act, ListProgress, Protocol, Reply, is_due};
 use ec_count::{CellId, EventId, SeqId, Setup, WorkerId};
 
-/// The lists of a database's writers and readers, as they are declared in a setup.
+/// The call lists of a database's writers and readers, as they are declared in a setup.
 #[derive(Drop)]
 pub(crate) struct Lists<'a> {
     pub(crate) shape: &'a DatabaseShape,
     pub(crate) setup: &'a Setup,
-    /// Which workers are writers, since each entry of a run asks that.
+    /// Which workers are writers; it is looked up for each entry of a run.
     writers: [bool; 16],
     ghost known: { ArePlaced (writes setup.now shape.now) 16 writers },
 }
@@ -58,7 +58,7 @@ pub fn is_on(shape: &DatabaseShape, act: &Act) -> bool
     }
 }
 
-/// Returns whether the worker of a number is a writer; false if there is no such worker.
+/// Returns whether the worker with this number is a writer; false if there is no such worker.
 fn is_writer(shape: &DatabaseShape, setup: &Setup, number: usize) -> bool
     requires { number < 16 }
     ensures { result ≡ writes setup.now shape.now number }
@@ -104,7 +104,7 @@ impl<'a> Lists<'a> {
         }
     }
 
-    /// Returns the place of the last call of the worker's list.
+    /// Returns the index of the last call of the worker's list.
     fn last(&self, worker: WorkerId) -> usize
         ensures { result ≡ (if writes self.now.setup.now self.now.shape.now worker then self.now.shape.now.cells + 3 else self.now.shape.now.cells + 2) }
     {
@@ -130,7 +130,7 @@ impl Protocol for Lists<'_> {
     }
 
     fn is_right(&self, worker: WorkerId, kept: &ListProgress, act: &Act) -> bool {
-        // (the call that comes next is asked for first, since in a run that follows most are that)
+        // (the call that is next is checked first, since in a run that follows most calls are that)
         self.is_next(worker, kept, act) || !is_on(self.shape, act)
     }
 
@@ -150,7 +150,7 @@ impl Protocol for Lists<'_> {
     }
 }
 
-/// Returns what is kept once one more call has answered.
+/// Returns the progress after one more call, which returned this number.
 fn with_number(kept: &ListProgress, number: u64) -> ListProgress
     requires { kept.now.at < usize.MAX }
     ensures { (calls : List CompletedCall) (c : CompletedCall) → kept.now ≡ list_progress calls → number ≡ reply_number c.reply → result ≡ list_progress (calls ++ c ∷ []) }

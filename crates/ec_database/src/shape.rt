@@ -30,7 +30,7 @@ impl Model for DatabaseShape {
 }
 
 impl DatabaseShape {
-    /// Returns the eventcount of the writings that were started: a writer advances it before it
+    /// Returns the eventcount of the writes that were started: a writer advances it before it
     /// writes.
     pub fn start(&self) -> EventId
         ensures { result ≡ self.now.start }
@@ -38,7 +38,7 @@ impl DatabaseShape {
         self.start
     }
 
-    /// Returns the eventcount of the writings that are done: a writer advances it when it has
+    /// Returns the eventcount of the writes that are done: a writer advances it when it has
     /// written.
     pub fn done(&self) -> EventId
         ensures { result ≡ self.now.done }
@@ -76,7 +76,7 @@ impl DatabaseShape {
         let _cells = self.cells;
     }
 
-    /// Returns a cell by its place, counted from 0.
+    /// Returns a cell by its index, counted from 0.
     pub(crate) fn cell_at(&self, place: usize) -> CellId
         requires { place < self.now.cells }
         ensures { result ≡ self.now.first_cell + place }
@@ -98,8 +98,9 @@ impl DatabaseShape {
             && !shares_worker(write, read)
     }
 
-    /// Returns whether the objects are declared there, with the rights of a database and fixed
-    /// eventcounts, for writers and readers that share no worker, one of each at least.
+    /// Returns whether the objects are declared there, with the rights of a database. The
+    /// components of the eventcounts are not transferable. Writers and readers share no worker, and
+    /// there is one of each at least.
     pub fn fits(&self, setup: &Setup) -> bool
         ensures { IsTrue result ↔ Fits self.now setup.now }
     {
@@ -110,10 +111,11 @@ impl DatabaseShape {
     }
 }
 
-/// Declares a database of n cells for these writers and readers. TooMany: a table has no room for
-/// 2 more eventcounts, a sequencer or n more cells, or a list has more than 16 entries. Empty:
-/// there is no writer, no reader, or n is 0. UnknownWorker: a list names a worker that is not
-/// declared. Repeated: a list names one twice. TwoRoles: a worker is in both lists.
+/// Declares a database of n cells for these writers and readers. Reports `TooMany` if a table has
+/// no room for 2 more eventcounts, a sequencer or n more cells, or if a list has more than 16
+/// entries. Reports `Empty` if there is no writer or no reader, or n is 0. Reports `UnknownWorker`
+/// if a list names a worker that is not declared, `Repeated` if a list names one twice, and
+/// `TwoRoles` if a worker is in both lists.
 pub fn declare_database(
     setup: &mut Setup,
     n: usize,

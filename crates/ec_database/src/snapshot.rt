@@ -12,10 +12,10 @@ use crate::{DatabaseShape, SnapshotEnd};
 use arrayvec::ArrayVec;
 use ec_core::{Act, Procedure, Reply};
 
-/// Reads all cells of a database in tries: each reads how many writings were started, waits until
-/// that many are done, gets each cell, and reads again how many were started. If both reads
-/// agree, it is accepted, and in a history that follows the database its values are those of one
-/// version; else the next try begins, until none is left.
+/// The procedure that reads all cells of a database, in tries. A try reads how many writes were
+/// started, waits until that many are done, gets each cell, and reads again how many were started.
+/// If both reads agree it is accepted, and in a history that follows the database its values are
+/// those of one version. Otherwise the next try begins, until none is left.
 #[derive(Debug, Drop)]
 pub struct Snapshot {
     shape: DatabaseShape,
@@ -54,7 +54,7 @@ impl Snapshot {
         }
     }
 
-    /// Takes in what the call at its place answered.
+    /// Takes the number that the current call returned.
     fn take_reply(&mut self, number: u64)
         requires { self.old.at ≤ self.old.shape.cells + 2 }
         ensures place { try_place self.new ≡ next_place self.old.shape (try_place self.old) number }
@@ -80,7 +80,7 @@ impl Snapshot {
         }
     }
 
-    /// Returns how it has ended: None while `next` is Some.
+    /// Returns how it has ended, or `None` while `next` is `Some`.
     pub fn end(&self) -> Option<SnapshotEnd>
         ensures value { result ≡ ending self.now [] }
         ensures next { IsSome result ↔ (next_of (⟦<Snapshot as Procedure>⟧.is_going self.now) (⟦<Snapshot as Procedure>⟧.rest self.now []) ≡ None) }

@@ -11,8 +11,8 @@ use crate::places::write_at;
 use arrayvec::ArrayVec;
 use ec_core::{Act, Procedure, Reply, VALUE_MAX};
 
-/// Writes all cells of a database: says that a writing starts, draws a turn, waits for it, puts
-/// each value, and says that the writing is done.
+/// The procedure that writes all cells of a database. It advances the count of starts, draws a
+/// turn, waits for it, puts each value, and advances the count of writes that are done.
 #[derive(Debug, Drop)]
 pub struct WriteAll {
     shape: DatabaseShape,
@@ -26,7 +26,7 @@ pub struct WriteAll {
 }
 
 impl WriteAll {
-    /// Makes a writing of as many values as the database has cells, each of at most VALUE_MAX.
+    /// Makes a write of as many values as the database has cells, each of at most VALUE_MAX.
     pub fn new(shape: DatabaseShape, values: ArrayVec<u64, 256>) -> Self
         requires many { array_vec_len values ≡ shape.cells }
         requires small { All (λ v. v ≤ VALUE_MAX) values.items }
@@ -42,7 +42,7 @@ impl WriteAll {
         }
     }
 
-    /// Returns the value that it puts at its place; 0 if that is no put.
+    /// Returns the value that the current call puts, 0 if it is no put.
     fn value(&self) -> u64
         ensures { result ≡ get_or self.now.values.items (self.now.at - 3) 0 }
     {
@@ -50,7 +50,7 @@ impl WriteAll {
         self.values.as_slice().get(put).copied().unwrap_or(0)
     }
 
-    /// Takes in what the call at its place answered.
+    /// Takes the number that the current call returned.
     fn take_reply(&mut self, number: u64)
         requires { self.old.at ≤ self.old.shape.cells + 3 }
         ensures place { self.new.at ≡ self.old.at + 1 }

@@ -1,4 +1,4 @@
--- What is left of a semaphore, entry by entry, and whether it is followed.
+-- The units left of a semaphore, entry by entry, and whether its workers follow its rules.
 use Rattle.std.proofs.Common.{◌≡◌, ◌↔◌, ℕ, suc, ◌+◌, ◌-◌, ◌<◌, ◌≤◌, ◌^◌, ◌&&◌, Bool, true, false}
 use Rattle.std.proofs.Common.{List, [], ◌∷◌, ◌++◌, length, replicate, refl, ap, sym, ◌∙◌, arith}
 use Rattle.std.proofs.Common.{subst, reverse, append-nil, append_assoc}
@@ -46,7 +46,7 @@ follow_no rules past never = decide (follows rules past) refl
     decide true e = absurd (never (yes_follow rules past e))
     decide false e = e
 
--- an answer that says whether a past follows
+-- if a decision is true exactly if the history so far follows the rules, it is `follows`
 pub follow_by : (rules : ℕ → Rule) (past : List Entry) (b : Bool) → (b ≡ true ↔ Follow rules past)
     → b ≡ follows rules past
 follow_by rules past true is = sym (follow_yes rules past (is.0 refl))
@@ -66,7 +66,7 @@ pub small_run : (t : Tables) (s : Semaphore) (past : List Entry) → s.initial �
 small_run t s past few dec acc =
     (let least : total s.count past < 2 ^ 53 = total_small t s.count past dec acc in omega arith)
 
--- before the first entry nothing is kept
+-- before the first entry no number is stored
 pub course_first : (c : Course) → IsCounted c.audit [] → c.heights ≡ []
     → pad c 0 ≡ lefts c.audit.shape c.window []
 unfolding lefts
@@ -81,7 +81,7 @@ course_first c counted none =
     ∙ ap (λ n. replicate (moments w 0 - 0) n) (left_is c.audit [] counted)
     ∙ ap (λ m. replicate m (units_left_after s [])) no_more ∙ told_alike w 0 (units_left_after s [])
 
--- one entry more: first what was left until then is told
+-- one entry more: first the units left until then are added
 pub course_next : (a b : BalanceAuditModel) (w : Window) (x : Entry) (past : List Entry) (place n : ℕ)
     (hs gs : List ℕ) → b.shape ≡ a.shape → IsCounted a past → IsCounted b (x ∷ past)
     → place ≡ length past
@@ -114,7 +114,7 @@ course_next a b w x past place n hs gs same before counted at was small left_now
     ∙ ap (λ k. lefts b.shape w past
     ++ list_if_moment w (length past + 1) k) (left_is b (x ∷ past) counted)
 
--- after the last one, what is left is told up to there
+-- after the last one, the units left are added up to there
 pub course_last : (a : BalanceAuditModel) (w : Window) (s : Semaphore) (past : List Entry) (k n : ℕ)
     (hs gs : List ℕ) → a.shape ≡ s → IsCounted a past → k ≡ length past
     → (IsSmall a.shape past → hs ++ replicate (moments w (length past) - length hs) (left_by a)
@@ -130,7 +130,7 @@ course_last a w s past k n hs gs of counted at was small left_now returned =
     ∙ ap (λ j. hs ++ replicate (moments w (length past) - length hs) j) number ∙ was small_here
     ∙ ap (λ z. lefts z w past) of
 
--- a number is added as often as it is to stand there
+-- a number is added until there are enough
 pub fill_more : (hs gs ks : List ℕ) (k n : ℕ) → length hs ≤ k
     → gs ≡ hs ++ replicate (k - length hs) n → ks ≡ gs ++ n ∷ []
     → ks ≡ hs ++ replicate (k + 1 - length hs) n

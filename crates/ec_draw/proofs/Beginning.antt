@@ -26,7 +26,7 @@ use Rattle.ec_draw.specs.Laws.{BeginsList, ShadesBeginLists}
 use Rattle.ec_draw.proofs.Stepping.{long_past}
 use Rattle.ec_draw.proofs.Telling.{get_either, shade_of}
 
--- what an act is that begins a list
+-- an act that begins a call sequence is no go, and is on the database
 begins_parts : (t : Tables) (d : Database) (w : ℕ) (calls : List CompletedCall) (act : Act)
     → begins_list (database_rules t d w) calls act ≡ true → (calls ≡ []) × (is_go act ≡ false)
     × (is_on d act ≡ true)
@@ -46,11 +46,11 @@ module _ (t : Tables) (d : Database) (h : List Entry) (w : ℕ) where
   abbrev Block : ℕ → List CompletedCall
   Block m = block Rules w (past_at m h)
 
-  -- the list that w is in at moment m was begun where its start says
+  -- the call sequence that w is in at moment m was begun at its start
   abbrev IsStarted : ℕ → Type 0
   IsStarted m = BeginsList t d h w m (list_start Rules w (past_at m h))
 
-  -- at entry m the list begins
+  -- at entry m the call sequence begins
   starts_here : (m : ℕ) (x : Entry) → slice_get h m ≡ Some x → x.worker ≡ w
       → begins_list Rules (Block m) x.act ≡ true → IsStarted (suc m)
   unfolding list_start
@@ -74,7 +74,7 @@ module _ (t : Tables) (d : Database) (h : List Entry) (w : ℕ) where
         none_since = λ j y after until there by. absurd (omega arith);
       })
 
-  -- entry m begins none
+  -- entry m begins no call sequence
   starts_before : (m : ℕ) (x : Entry) → slice_get h m ≡ Some x
       → (x.worker ≡ w → begins_list Rules (Block m) x.act ≡ false) → IsStarted m → IsStarted (suc m)
   unfolding list_start
@@ -115,7 +115,7 @@ module _ (t : Tables) (d : Database) (h : List Entry) (w : ℕ) where
             | false ↦ λ e. refl
           ] refl
 
-  -- behind the last entry
+  -- after the last entry
   starts_end : (m : ℕ) → slice_get h m ≡ None → IsStarted m → IsStarted (suc m)
   starts_end m at was =
       let before : list_start Rules w (past_at m h) < m = was.before in
@@ -137,7 +137,7 @@ module _ (t : Tables) (d : Database) (h : List Entry) (w : ℕ) where
             ] refl;
       })
 
-  -- a list of which a call is finished, or under way, was begun
+  -- a call sequence with a completed call, or with a pending one, was begun
   abbrev HasCalls : ℕ → Type 0
   HasCalls m = (c : CompletedCall) (calls : List CompletedCall) → Block m ≡ c ∷ calls → IsStarted m
 
@@ -145,7 +145,7 @@ module _ (t : Tables) (d : Database) (h : List Entry) (w : ℕ) where
   HasCall m = (call : CallSoFar) → under_way w (past_at m h) ≡ Some call → Block m ≡ []
       → is_on d call.op ≡ true → IsStarted m
 
-  -- an act that begins no list, and is part of a call on the database, goes on with a call
+  -- an act that begins no call sequence, and is part of a call on the database, continues a call
   from_act : (act : Act) (o : Option CallSoFar) → is_on d (opening_act act o) ≡ true
       → begins_list Rules [] act ≡ false → (call : CallSoFar) × (o ≡ Some call)
       × (is_on d call.op ≡ true)
@@ -166,7 +166,7 @@ module _ (t : Tables) (d : Database) (h : List Entry) (w : ℕ) where
       let op : act ≡ call.op = cc in
       absurd (true≢false (sym on ∙ ap (is_on d) (sym op) ∙ sym (concerns_is t d w act) ∙ none)))
 
-  -- a call that begins a list is on the database
+  -- a call that begins a call sequence is on the database
   told_on : (b : Bool) (op : Act) (returned : CompletedCall) (c : CompletedCall) (calls : List CompletedCall)
       → (database_rules t d w).concerns [] op ≡ b
       → cond b (cond (Rules.ends (returned ∷ [])) [] (returned ∷ [])) [] ≡ c ∷ calls
@@ -191,7 +191,7 @@ module _ (t : Tables) (d : Database) (h : List Entry) (w : ℕ) where
   unfolding under_way
   never_yet call is blk on = cc
 
-  -- an entry of w that begins no list
+  -- an entry of w that begins no call sequence
   own_calls : (m : ℕ) (x : Entry) → slice_get h m ≡ Some x → x.worker ≡ w
       → begins_list Rules (Block m) x.act ≡ false → HasCalls m → HasCall m → HasCalls (suc m)
   own_calls m x at own none calls_of call_of c calls is =
@@ -259,7 +259,7 @@ module _ (t : Tables) (d : Database) (h : List Entry) (w : ℕ) where
           ended (under_way w (past_at (suc m) h))
           (way ∙ ap (λ r. cond (is_pending r) (call_with_act x.act p (under_way w p)) None) e) is
 
-  -- each list that has calls was begun
+  -- each call sequence that has calls was begun
   started : (m : ℕ) → HasCalls m × HasCall m
   started zero = (none_yet, never_yet)
   started (suc m) =
@@ -304,7 +304,7 @@ module _ (t : Tables) (d : Database) (h : List Entry) (w : ℕ) where
 
 -- SHADES
 
--- an accepting try ends a list of which calls are finished, of a reader
+-- an accepted try ends a call sequence of a reader with completed calls
 ended_calls : (d : Database) (writers : ℕ → Bool) (x : Entry) (past : List Entry) (a : AcceptedTry)
     → ended_at d writers x past ≡ Some a
     → (a.worker ≡ x.worker) × (writers x.worker ≡ false)

@@ -1,4 +1,4 @@
--- What is kept of lists, element by element.
+-- Filters of lists, and curves, element by element.
 use Rattle.std.proofs.Common.{◌≡◌, ℕ, suc, ◌+◌, Bool, true, false, List, [], ◌∷◌, ◌++◌}
 use Rattle.std.proofs.Common.{Option, Some, None, refl, ap, sym, ◌∙◌, arith, cond, append-nil}
 use Rattle.std.proofs.Common.{append_assoc}

@@ -17,7 +17,7 @@ use Rattle.ec_draw.specs.Open.{begins, begun_at}
 use Rattle.ec_draw.specs.Laws.{PendingBarsBegin}
 use Rattle.ec_draw.proofs.Stepping.{begun_before, begun_here}
 
--- AS THE WORLD KEEPS THE CALL
+-- THE CALL IN THE WORLD
 
 -- the first of a call's moments, if there is one, is that of its worker's latest entry that began
 -- one
@@ -53,7 +53,7 @@ call_begun w (x ∷ past) =
 
 -- IN ORDER OF TIME
 
--- the latest entry of w that began a call is at a place where one did, and after which none does
+-- the latest entry of w that began a call is at a position where one did and after which none does
 latest_is : (w : ℕ) (h : List Entry) (first : ℕ) (x : Entry) → slice_get h first ≡ Some x
     → begins w x ≡ true → (k : ℕ) → first < k
     → ((i : ℕ) (y : Entry) → first < i → i < k → slice_get h i ≡ Some y → begins w y ≡ false)

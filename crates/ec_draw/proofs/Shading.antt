@@ -1,4 +1,4 @@
--- Accepting tries and where they begin, entry by entry.
+-- Accepted tries and where they begin, entry by entry.
 use Rattle.std.proofs.Common.{◌≡◌, ℕ, zero, suc, ◌<◌, ◌==◌, ◌&&◌, not, Bool, true, false, List, []}
 use Rattle.std.proofs.Common.{◌∷◌, ◌++◌, length, Option, Some, None, refl, ap, sym, ◌∙◌, arith}
 use Rattle.std.proofs.Common.{cond, subst, reverse, slice_get, slice_index, slice_set}
@@ -27,7 +27,7 @@ use Rattle.ec_draw.specs.LeftOut.{concerns_is}
 use Rattle.ec_draw.proofs.Filtering.{filter_behind}
 use Rattle.ec_draw.proofs.Balancing.{follow_yes}
 
--- WHERE LISTS BEGIN
+-- WHERE CALL SEQUENCES BEGIN
 
 begins_is : (t : Tables) (d : Database) (w : ℕ) (calls : List CompletedCall) (n : ℕ) (act : Act)
     → n ≡ length calls
@@ -134,7 +134,8 @@ shades_next a b w x past (Some n) span hs gs same on old new is at was adds =
     ∙ ap (λ z. z ++ filter (is_in w) (option_to_list (shade_at t d x past))) was
     ∙ sym (filter_behind (is_in w) (shades_in t d past) (shade_at t d x past))
 
--- the same, in the words of the walk: the list of the entry's worker began if the table says
+-- the same for the state of the pass: the call sequence of the entry's worker began where its
+-- starts say
 pub tries_next : (a b : VersionAuditModel) (d : Database) (w : Window) (x : Entry) (past : List Entry)
     (before : Option ℕ) (count i place : ℕ) (starts : List ℕ) (hs gs : List ShadeModel)
     → x.worker < 16 → i ≡ x.worker → place ≡ length past → a.shape ≡ d → b.shape ≡ a.shape
@@ -165,7 +166,7 @@ tries_next a b d w x past before count i place starts hs gs small who at of same
     (subst (λ n. AddsNewest n w (record { first = slice_index starts i; last = place }) before b hs
     gs) count_is adds) ∙ ap (λ z. shades_shown b.setup z w (x ∷ past)) e
 
--- the shades of a database that is followed, and of one that isn't
+-- the shades of a database whose workers follow its rules, and of one whose workers don't
 pub group_yes : (t : Tables) (d : Database) (w : Window) (h : List Entry) (list : List ShadeModel)
     → FollowsDatabase t d (reverse h) → list ≡ shades_shown t d w (reverse h)
     → list ≡ group_shades t w h (groups.Database d)

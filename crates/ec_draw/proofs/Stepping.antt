@@ -1,4 +1,4 @@
--- One entry more: the calls under way, and the dots.
+-- One entry more: the pending calls, and the dots.
 use Rattle.std.proofs.Common.{◌≡◌, ℕ, zero, suc, ◌+◌, ◌<◌, ◌≤◌, true, false, List, []}
 use Rattle.std.proofs.Common.{◌∷◌, ◌++◌, length, Option, Some, None, refl, ap, sym, ◌∙◌, arith}
 use Rattle.std.proofs.Common.{cond, subst, take, drop, reverse, slice_get, append-nil, min, nat_le}
@@ -44,7 +44,7 @@ next_past h k x at =
 
 -- PENDING CALLS
 
--- a pending call, by what a world knows of it
+-- a pending call, by its progress in the world
 pub open_some : (t : Tables) (w : ℕ) (past : List Entry) (p : Progress) (first : ℕ)
     (o : Option CallSoFar) → Some p ≡ option_map (progress t) o → first ≡ begun_at w past
     → Some (record { worker = w; op = p.op; first = first }) ≡ option_map (open_of w past) o
@@ -60,8 +60,8 @@ pub open_none : (t : Tables) (w : ℕ) (past : List Entry) (o : Option CallSoFar
 open_none t w past None is = refl
 open_none t w past (Some call) is = cc
 
--- before the entry at k, which begins no call of w, the latest is the same as after it; and one
--- that does is the latest
+-- if the entry at k begins no call of w, the latest one that does is the same before and after it;
+-- if it begins one, it is the latest
 pub begun_before : (w : ℕ) (h : List Entry) (k : ℕ) (x : Entry) → slice_get h k ≡ Some x
     → begins w x ≡ false → begun_at w (past_at (k + 1) h) ≡ begun_at w (past_at k h)
 unfolding begun_at
@@ -91,7 +91,7 @@ more_open w past n os is = ap (λ z. z ++ open_bars_of w n past) is
 
 -- DOTS
 
--- the dots after one entry more, if it is shown and where it is not
+-- the dots after one entry more, if it is shown and if it is not
 pub dots_yes : (t : Tables) (w : Window) (h : List Entry) (k : ℕ) (x : Entry) (ds : List Dot)
     (d : Dot) → slice_get h k ≡ Some x → shows w k ≡ true → ds ≡ dots_of t w (past_at k h)
     → d ≡ dot_of t (past_at k h) x → ds ++ d ∷ [] ≡ dots_of t w (past_at (k + 1) h)
@@ -113,7 +113,7 @@ dots_before t w (x ∷ past) few =
     ap (λ z. z ++ cond (shows w (length past)) (dot_of t past x ∷ []) [])
     (dots_before t w past (omega arith)) ∙ ap (λ b. cond b (dot_of t past x ∷ []) []) out
 
--- and after the last one no more
+-- after the last one that is shown there are no more
 dots_after : (t : Tables) (w : Window) (ys past : List Entry) → w.to ≤ length past
     → dots_of t w (ys ++ past) ≡ dots_of t w past
 unfolding dots_of
@@ -124,7 +124,7 @@ dots_after t w (y ∷ ys) past most =
     ap (λ b. dots_of t w (ys ++ past) ++ cond b (dot_of t (ys ++ past) y ∷ []) []) out
     ∙ append-nil (dots_of t w (ys ++ past)) ∙ dots_after t w ys past most
 
--- so the dots up to a moment are all, if it is behind the window or the last one
+-- so the dots up to a moment are all, if it is after the window or the last one
 pub dots_all : (t : Tables) (w : Window) (h : List Entry) (k : ℕ) → min w.to (length h) ≤ k
     → dots_of t w (past_at k h) ≡ dots_of t w (reverse h)
 dots_all t w h k most =
@@ -145,7 +145,7 @@ none_here [] i e lt = omega arith
 none_here (x ∷ h) zero e lt = cc
 none_here (x ∷ h) (suc i) e lt = none_here h i e (omega arith)
 
--- an entry from the window on is shown
+-- an entry in the window is shown
 pub shows_from : (w : Window) (k n : ℕ) → w.from ≤ k → k < min w.to n → shows w k ≡ true
 shows_from w k n low high =
     let below : k < w.to = omega (arith, clamps) in

@@ -195,7 +195,7 @@ options_long : {X Y : Type 0} (f : X → Y) (o : Option X)
 options_long f None = refl
 options_long f (Some x) = refl
 
--- there are as many shades as accepting tries
+-- there are as many shades as accepted tries
 shades_long : (t : Tables) (d : Database) (past : List Entry)
     → length (shades_in t d past) ≡ length (accepted_tries d (writes t d) past)
 unfolding shades_in accepted_tries
@@ -209,7 +209,7 @@ shades_long t d (x ∷ past) =
     ∙ sym (length-append (accepted_tries d (writes t d) past)
     (option_to_list (ended_at d (writes t d) x past)))
 
--- what stands among the shades of a past stands there later too
+-- a shade of an earlier moment has the same index at a later one
 shade_stays : (t : Tables) (d : Database) (h : List Entry) (k m i : ℕ) (s : ShadeModel)
     → slice_get (shades_in t d (past_at k h)) i ≡ Some s → k ≤ m
     → slice_get (shades_in t d (past_at m h)) i ≡ Some s
@@ -292,7 +292,7 @@ places_long m b h (suc k) le =
     ∙ ap (λ n. n + length (cond c (k ∷ []) [])) (places_long m b h k (omega arith))
     ∙ ap (λ n. made m b h k + n) (one_or_none c k) ∙ sym (made_next m b h k x.0 x.1)
 
--- entry j, which is such a move, is the one of its number
+-- the position of entry j, which is such a move, is at the index that its number is
 place_at : (m : Move) (b : Buffer) (h : List Entry) (k j : ℕ) (x : Entry) → k ≤ length h → j < k
     → slice_get h j ≡ Some x → is_move m b x.act ≡ true
     → slice_get (places m b (past_at k h)) (made m b h j) ≡ Some j

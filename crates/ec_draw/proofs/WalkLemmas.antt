@@ -1,4 +1,4 @@
--- What is kept of all groups in one walk.
+-- The states of all groups in one pass over the run.
 use Rattle.std.proofs.Common.{◌≡◌, ℕ, zero, suc, ◌+◌, ◌≤◌, List, [], ◌∷◌, ◌++◌, length, take, Some}
 use Rattle.std.proofs.Common.{refl, ap, sym, ◌∙◌, arith, subst, slice_get, append-nil, append_assoc}
 use Rattle.std.specs.List.{flat_map}
@@ -25,7 +25,7 @@ use Rattle.ec_draw.specs.Findings.{FindsFor, EachFinds, BothOn, group_of, FindsO
 -- ONE ENTRY
 
 module _ (place : ℕ) (op : Act) (x : Entry) where
-  -- what is kept has taken an entry in
+  -- a state has processed an entry
   abbrev Takes : {A : Type 0} → (A → A → List Entry → Type 0) → A → A → Type 0
   Takes {A} represents old new = (start : A) (past : List Entry) → place ≡ length past
       → op ≡ opening_act x.act (under_way x.worker past) → represents start old past
@@ -51,7 +51,7 @@ module _ (place : ℕ) (op : Act) (x : Entry) where
   takes_moves a b take (finds.Moves s) past at is represents = take s past at is represents
   takes_moves a b take start past at is represents = absurd represents
 
--- THE WHOLE WALK
+-- THE WHOLE PASS
 
 module _ (t : Tables) (all : List Semaphore) (w : Window) where
   -- before the first entry
@@ -75,7 +75,7 @@ module _ (t : Tables) (all : List Semaphore) (w : Window) where
       λ i g at. (let here = each i g at in let first = finds_first g here.0 here.2 in
       (here.0, here.0, here.1, here.1, first.0, first.1))
 
-  -- and after the last
+  -- after the last entry
   finds_last : (g : Group) (a b : Finding) (past : List Entry) → FindsFor t all w g a []
       → FindsOn a b past → FindsFor t all w g b past
   finds_last (groups.Buffer s) (finds.Moves a) (finds.Moves b) past is on =
@@ -107,9 +107,9 @@ module _ (t : Tables) (all : List Semaphore) (w : Window) where
         finds_last g was.0 now.1 past was.2 (subst (λ a. FindsOn a now.1 past) same now.5),
       ))
 
--- WHAT IS HANDED OUT
+-- WHAT IS ADDED
 
--- one more of a list
+-- one more element of a list
 pub taken : {X : Type 0} (gs : List X) (n : ℕ) (g : X) → slice_get gs n ≡ Some g
     → take (suc n) gs ≡ take n gs ++ g ∷ []
 taken [] n g at = cc
@@ -128,7 +128,7 @@ found_more f gs n g old mid new at was more =
     ∙ ap (λ l. old ++ flat_map f l) (sym (taken gs n g at))
     ∙ ap (λ k. old ++ flat_map f (take k gs)) one
 
--- and all of it
+-- what is found of all elements
 pub found_all : {X Y : Type 0} (f : X → List Y) (gs : List X) (n : ℕ) (old new : List Y)
     → length gs ≤ n → new ≡ old ++ flat_map f (take n gs) → new ≡ old ++ flat_map f gs
 found_all f gs n old new all was = was ∙ ap (λ l. old ++ flat_map f l) (take_all n gs all)

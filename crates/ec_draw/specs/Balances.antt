@@ -1,5 +1,5 @@
--- The curves of balances: of each semaphore that is followed, how many it has left at each moment
--- that is shown.
+-- The curves of balances: of each semaphore whose workers follow its rules, how many units it has
+-- left at each moment that is shown.
 use Rattle.std.specs.Prelude.{◌≡◌, ℕ, ◌+◌, ◌-◌, ◌<◌, ◌^◌, Bool, false, ◌&&◌, nat_le, min, List, []}
 use Rattle.std.specs.Prelude.{◌∷◌, ◌++◌, length, replicate, reverse, if◌then◌else◌}
 use Rattle.std.specs.List.{flat_map}
@@ -19,8 +19,8 @@ use Rattle.ec_draw.specs.Curves.{CurveModel}
 
 -- WHAT IS LEFT
 
--- how many a semaphore has left after a past: those at first and those given back, without those
--- taken. Where it is followed this is its balance
+-- how many units a semaphore has left after the history so far: those at first and those added,
+-- without those taken. This is its balance if its workers follow its rules
 abbrev pub units_left_after : Semaphore → List Entry → ℕ
 units_left_after s past = s.initial + ups s past - downs s past
 
@@ -31,7 +31,7 @@ has_moment w k = nat_le w.from k && nat_le k w.to
 abbrev pub list_if_moment : Window → ℕ → ℕ → List ℕ
 list_if_moment w k n = if has_moment w k then n ∷ [] else []
 
--- what is left at each moment of a past that is shown, in order
+-- the units left at each moment of the history so far that is shown, in order
 unfoldable pub lefts : Semaphore → Window → List Entry → List ℕ
 lefts s w [] = list_if_moment w 0 (units_left_after s [])
 lefts s w (x ∷ past) = lefts s w past
@@ -39,15 +39,15 @@ lefts s w (x ∷ past) = lefts s w past
 
 -- CURVES
 
--- the curve of a semaphore's balance. A semaphore is told by its eventcount
+-- the curve of a semaphore's balance; its eventcount identifies the semaphore
 abbrev pub balance_line : Window → List Entry → Semaphore → CurveModel
 balance_line w h s = record { object = Balance s.count; heights = lefts s w (reverse h) }
 
 abbrev pub line_if : Bool → CurveModel → List CurveModel
 line_if b l = if b then l ∷ [] else []
 
--- that of a group, if it is a semaphore, or `both`, and is followed; these are all the
--- semaphores
+-- the curve of a group, if it is a semaphore or `both` and its workers follow its rules; these are
+-- all the semaphores
 abbrev pub group_line : List Semaphore → Window → List Entry → Group → List CurveModel
 group_line all w h (groups.Semaphore s) =
     line_if (follows (use_rules s) (reverse h)) (balance_line w h s)
@@ -55,44 +55,44 @@ group_line all w h (groups.Both c) =
     line_if (follows (both_rules c (is_line c all)) (reverse h)) (balance_line w h c)
 group_line all w h _ = []
 
--- those of all groups
+-- the curves of all groups
 abbrev pub balance_lines : List Group → Window → List Entry → List CurveModel
 balance_lines gs w h = flat_map (group_line (semaphores_of gs) w h) gs
 
--- A WALK
+-- A PASS OVER THE RUN
 
 -- how many moments are shown, from the first up to moment k
 abbrev pub moments : Window → ℕ → ℕ
 moments w k = min k w.to + 1 - w.from
 
--- what a walk keeps of a semaphore: its audit, and what was left at the first of the moments that
--- are shown, or that memory was refused
+-- the state of a semaphore: its audit, and the units left at the first of the moments that are
+-- shown, or that an allocation failed
 pub record Course : Type 0 where
   pub audit : BalanceAuditModel
   pub window : Window
   pub heights : List ℕ
   pub lacks : Bool
 
--- how many the semaphore has left by its audit
+-- how many units the semaphore has left by its audit
 abbrev pub left_by : BalanceAuditModel → ℕ
 left_by a = a.shape.initial + a.ups - a.downs
 
--- what was left at each moment that is shown up to moment k: since the latest that is kept nothing
--- was given back or taken
+-- the units left at each moment that is shown up to moment k; none was added or taken since the
+-- latest moment that is stored
 abbrev pub pad : Course → ℕ → List ℕ
 pad c k = c.heights ++ replicate (moments c.window k - length c.heights) (left_by c.audit)
 
--- no count of the semaphore is too large for the code after a past
+-- no count of the semaphore overflows after the history so far
 abbrev pub IsSmall : Semaphore → List Entry → Type 0
 IsSmall s past = s.initial + ups s past < 2 ^ 64
 
--- it is that after a past
+-- it is the state after the history so far
 pub record IsCourse (c : Course) (past : List Entry) : Type 0 where
   pub counted : IsCounted c.audit past
   pub heights : c.lacks ≡ false → IsSmall c.audit.shape past
       → pad c (length past) ≡ lefts c.audit.shape c.window past
 
--- of the same semaphore, after a past
+-- it is the state of the same semaphore after the history so far
 abbrev pub CoursesOn : Course → Course → List Entry → Type 0
 CoursesOn start now past = (now.window ≡ start.window) × (now.audit.shape ≡ start.audit.shape)
     × IsCourse now past

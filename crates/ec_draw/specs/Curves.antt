@@ -1,6 +1,6 @@
 -- The curves of counts: of each eventcount its total, and of each sequencer its tickets, at each
--- moment that is shown. The moment of column j is moment from + j, at which so many of the
--- history's entries have happened.
+-- moment that is shown. The moment of column j is moment from + j: the first from + j entries of
+-- the history have happened.
 use Rattle.std.specs.Prelude.{ℕ, ◌+◌, ◌-◌, ◌<◌, zero, suc, Bool, List, [], ◌∷◌, ◌++◌, length}
 use Rattle.ec_count.specs.Tables.{Tables}
 use Rattle.ec_core.specs.declared.act.Act.{Act}
@@ -13,7 +13,7 @@ use Rattle.ec_draw.specs.declared.curve.CurveSource.{CurveSource}
 use Rattle.ec_draw.specs.declared.curve.CurveSource.TheVariants.{Count}
 use Rattle.ec_draw.specs.declared.curve.Counter.TheVariants.{Event, Sequencer}
 
--- the total of an eventcount, or the tickets of a sequencer, after a past
+-- the total of an eventcount, or the tickets of a sequencer, after the history so far
 abbrev pub count_of : Counter → List Entry → ℕ
 count_of (Event e) past = total e past
 count_of (Sequencer q) past = issued q past
@@ -53,7 +53,7 @@ unfoldable pub event_lines : Window → List Entry → ℕ → List CurveModel
 event_lines w h zero = []
 event_lines w h (suc n) = event_lines w h n ++ curve_of_count w h (Event n) ∷ []
 
--- and of the first n sequencers
+-- the curves of the first n sequencers
 unfoldable pub sequencer_lines : Window → List Entry → ℕ → List CurveModel
 sequencer_lines w h zero = []
 sequencer_lines w h (suc n) = sequencer_lines w h n ++ curve_of_count w h (Sequencer n) ∷ []

@@ -1,5 +1,5 @@
--- What is kept of a group may be left out of an entry whose call is not on it, and of a go that
--- ends no call.
+-- The state of a group stays right if it doesn't process entries whose call is not on the group,
+-- and goes that complete no call.
 use Rattle.std.proofs.Common.{◌≡◌, ℕ, suc, ◌+◌, ◌-◌, ◌<◌, ◌≤◌, ◌==◌, ◌&&◌, ◌||◌, not, nat_le, min}
 use Rattle.std.proofs.Common.{Bool, true, false, List, [], ◌∷◌, ◌++◌, length, replicate, Option}
 use Rattle.std.proofs.Common.{None, Some, is_some, refl, ap, sym, ◌∙◌, arith, cond, subst}
@@ -58,7 +58,7 @@ told_long w k n le =
       | false ↦ λ e. (let above = leb-false w.from k e in omega arith)
     ] refl
 
--- behind the window none is told
+-- after the window no moment is shown
 told_behind : (w : Window) (k n : ℕ) → w.to < k → list_if_moment w k n ≡ []
 told_behind w k n behind =
     elim (nat_le k w.to) as (λ b. nat_le k w.to ≡ b
@@ -71,7 +71,7 @@ told_behind w k n behind =
     none true = refl
     none false = refl
 
--- one moment more
+-- the moments after one more entry
 moments_next : (w : Window) (k n : ℕ)
     → moments w (k + 1) ≡ moments w k + length (list_if_moment w (k + 1) n)
 moments_next w k n =
@@ -97,7 +97,7 @@ told_alike w k n =
     elim (nat_le w.from k && nat_le k w.to) as (λ b. replicate (length (cond b (n ∷ []) [])) n
     ≡ cond b (n ∷ []) []) [ true ↦ refl | false ↦ refl ]
 
--- what is told up to one moment more
+-- the numbers up to one more moment
 pub pad_more : (w : Window) (k n : ℕ) (hs : List ℕ) → length hs ≤ moments w k
     → hs ++ replicate (moments w (k + 1) - length hs) n
     ≡ (hs ++ replicate (moments w k - length hs) n) ++ list_if_moment w (k + 1) n
@@ -135,13 +135,13 @@ small_before s x past small =
     + total s.count past = refl in
     omega arith
 
--- by its audit a semaphore has left what it has
+-- the units left by the audit are those that the semaphore has left
 pub left_is : (a : BalanceAuditModel) (past : List Entry) → IsCounted a past
     → left_by a ≡ units_left_after a.shape past
 left_is a past counted = ap (λ n. a.shape.initial + n - a.downs) counted.ups
     ∙ ap (λ n. a.shape.initial + ups a.shape past - n) counted.downs
 
--- no more is kept than is told
+-- no more numbers are stored than moments are shown
 pub few_kept : (s : Semaphore) (w : Window) (past : List Entry) (n : ℕ) (hs : List ℕ)
     → hs ++ replicate (moments w (length past) - length hs) n ≡ lefts s w past
     → length hs ≤ moments w (length past)
@@ -152,7 +152,7 @@ few_kept s w past n hs was =
     let rest = length-replicate (m - length hs) n in
     omega arith
 
--- it has as much after an entry that its audit leaves out
+-- a state stays right after an entry that its audit does not process
 course_kept : (c : Course) (x : Entry) (past : List Entry) → IsCounted c.audit (x ∷ past)
     → IsCourse c past → IsCourse c (x ∷ past)
 unfolding lefts

@@ -18,8 +18,8 @@ unfoldable pub begun_at : ℕ → List Entry → ℕ
 begun_at w [] = 0
 begun_at w (x ∷ past) = if begins w x then length past else begun_at w past
 
--- the call of w that is pending after a past, if one is. Its first entry is the latest of w that
--- began a call
+-- the call of w that is pending after the history so far, if there is one; its first entry is the
+-- latest of w that began a call
 abbrev pub open_of : ℕ → List Entry → CallSoFar → PendingBar
 open_of w past call = record { worker = w; op = call.op; first = begun_at w past }
 
@@ -33,11 +33,11 @@ is_open_shown w o = nat_lt o.first w.to
 abbrev pub open_bars_of : Window → ℕ → List Entry → List PendingBar
 open_bars_of w n past = filter (is_open_shown w) (option_to_list (open_call n past))
 
--- those of the first n workers
+-- the shown pending calls of the first n workers
 unfoldable pub open_calls : Window → ℕ → List Entry → List PendingBar
 open_calls w zero past = []
 open_calls w (suc n) past = open_calls w n past ++ open_bars_of w n past
 
--- the calls that are pending at the end of a history and are shown, by their workers
+-- the calls that are pending at the end of a history and are shown, in the order of their workers
 abbrev pub open_bars : Tables → Window → List Entry → List PendingBar
 open_bars t w h = open_calls w t.workers (reverse h)

@@ -17,9 +17,9 @@ use Rattle.ec_draw.specs.Balances.{balance_lines}
 use Rattle.ec_draw.specs.Shades.{ShadeModel, shade_model, shades}
 use Rattle.ec_draw.specs.Arrows.{arrows}
 
--- a picture, as a contract sees it: the completed calls with their points, the pending calls, the
--- entries with the components that they read or raised, the curves of counts and of balances, the
--- accepting tries, and the deliveries
+-- a picture, as a contract sees it: the completed calls with their linearization points, the
+-- pending calls, the entries with the components that they read or raised, the curves of counts and
+-- of balances, the accepted tries, and the deliveries
 pub record Shapes : Type 0 where
   pub window : Window
   pub calls : List Placed
@@ -41,7 +41,7 @@ shapes t gs w h = record {
   arrows = arrows t gs w h;
 }
 
--- the shapes that a picture keeps
+-- the shapes that a picture has
 abbrev pub kept_shapes : Picture → Shapes
 kept_shapes p = record {
   window = p.window;

@@ -27,7 +27,7 @@ pub struct Arrow {
     pub delivery: Delivery,
     /// The position of the entry that put it.
     pub put: usize,
-    /// And of the one that got it.
+    /// The position of the entry that got it.
     pub got: usize,
 }
 
@@ -42,7 +42,7 @@ fn is_move(what: Move, shape: &BufferShape, act: &Act) -> bool
     }
 }
 
-/// Notes the position of an act that does so.
+/// Adds the position of an act to the list, if the act is such a move.
 fn note_move(
     list: &mut Vec<usize>,
     what: Move,
@@ -60,8 +60,8 @@ fn note_move(
     Ok(())
 }
 
-/// Returns the same, unless there was no memory for an earlier one. The answer is whether one is
-/// lacking.
+/// Adds a position as `note_move` does, unless an earlier addition failed. Returns whether any has
+/// failed.
 fn lacks_after(
     lacks: bool,
     list: &mut Vec<usize>,
@@ -78,7 +78,7 @@ fn lacks_after(
     lacks || note_move(list, what, shape, place, act).is_err()
 }
 
-/// The audit of a buffer in a walk over a run, and the positions of the puts and of the gets.
+/// The audit of a buffer in a pass over a run, and the positions of the puts and the gets so far.
 #[derive(Drop)]
 pub(crate) struct Moves<'a> {
     audit: DeliveryAudit<'a>,
@@ -122,7 +122,7 @@ impl<'a> Audit for Moves<'a> {
 }
 
 impl<'a> Moves<'a> {
-    /// Makes what is kept before the first entry of a run on this setup. It takes no memory.
+    /// Returns the state before the first entry of a run with this setup. It allocates nothing.
     pub(crate) fn new(alloc: Global, shape: &'a BufferShape, setup: &'a Setup) -> Self
         ensures shape { result.shape ≡ shape.now }
         ensures setup { result.audit.setup ≡ setup.now }
@@ -157,7 +157,7 @@ fn arrow_of(shape: &BufferShape, puts: &[usize], gets: &[usize], delivery: &Deli
     }
 }
 
-/// Adds an arrow, if one of its ends is shown.
+/// Adds an arrow, if at least one of its ends is shown.
 fn add_arrow(arrows: &mut Vec<Arrow>, arrow: Arrow, window: Window) -> Result<(), AllocError>
     ensures { OnOk result
         (arrows.new.items ≡ arrows.old.items ++ filter (is_in window) (arrow ∷ [])) }
@@ -187,8 +187,7 @@ fn add_deliveries(
     Ok(())
 }
 
-/// Adds the arrows of a buffer, if its workers follow it, from what was kept of it in a walk over a
-/// whole run.
+/// Adds the arrows of a buffer from its state after a whole run, if its workers follow its rules.
 pub(crate) fn add_buffer(
     arrows: &mut Vec<Arrow>,
     run: &Run,

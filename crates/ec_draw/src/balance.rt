@@ -14,7 +14,7 @@ use ec_semaphore::{BalanceAudit, PairAudit, SemaphoreShape};
 use std::alloc::{AllocError, Global};
 use std::marker::Model;
 
-/// Returns how many a semaphore has left, by its audit so far.
+/// Returns how many units a semaphore has left, by its audit so far.
 fn units_left(audit: &BalanceAudit) -> u64
     ensures { audit.now.shape.initial + audit.now.ups < 2 ^ 64 → result ≡ left_by audit.now }
 {
@@ -25,7 +25,7 @@ fn units_left(audit: &BalanceAudit) -> u64
         .saturating_sub(parts.downs)
 }
 
-/// Adds a number so often that there are so many.
+/// Adds a number until there are `many` of them.
 fn fill(heights: &mut Vec<u64>, many: usize, number: u64) -> Result<(), AllocError>
     requires { length heights.old.items ≤ many }
     ensures { OnOk result
@@ -38,7 +38,7 @@ fn fill(heights: &mut Vec<u64>, many: usize, number: u64) -> Result<(), AllocErr
     Ok(())
 }
 
-/// Tells a number at each moment that is shown up to this one, and that is not told yet.
+/// Adds a number for each shown moment up to this one that has none yet.
 fn pad(heights: &mut Vec<u64>, window: Window, moment: usize, number: u64) -> Result<(), AllocError>
     ensures { OnOk result
         (heights.new.items ≡ heights.old.items
@@ -56,8 +56,7 @@ fn pad(heights: &mut Vec<u64>, window: Window, moment: usize, number: u64) -> Re
     Ok(())
 }
 
-/// Returns the same, unless there was no memory for an earlier one. The answer is whether one is
-/// lacking.
+/// Adds numbers as `pad` does, unless an earlier addition failed. Returns whether any has failed.
 fn lacks_after(
     lacks: bool,
     heights: &mut Vec<u64>,
@@ -73,7 +72,7 @@ fn lacks_after(
     lacks || pad(heights, window, moment, number).is_err()
 }
 
-/// The audit of a semaphore in a walk over a run, and what was left at the moments that are shown.
+/// The audit of a semaphore in a pass over a run, and the units left at the shown moments so far.
 #[derive(Drop)]
 pub(crate) struct Course {
     audit: BalanceAudit,
@@ -113,7 +112,7 @@ impl Audit for Course {
 }
 
 impl Course {
-    /// Makes what is kept before the first entry. It takes no memory.
+    /// Returns the state before the first entry. It allocates nothing.
     pub(crate) fn new(alloc: Global, shape: SemaphoreShape, window: Window) -> Self
         ensures shape { result.audit.shape ≡ shape }
         ensures window { result.window ≡ window }
@@ -127,7 +126,7 @@ impl Course {
         }
     }
 
-    /// Returns whether the workers follow the semaphore, after all entries of a run.
+    /// Returns whether the workers follow the semaphore's rules, after all entries of a run.
     pub(crate) fn follows(&self, run: &Run) -> bool
         requires { IsCounted self.now.audit (reverse run.now.entries) }
         ensures { result ≡ follows (use_rules self.now.audit.shape) (reverse run.now.entries) }
@@ -135,7 +134,7 @@ impl Course {
         self.audit.balance(run).is_ok()
     }
 
-    /// Returns what was left at the moments that are shown, after all entries of a run.
+    /// Returns the units left at the moments that are shown, after all entries of a run.
     pub(crate) fn heights(self, run: &Run, shape: &SemaphoreShape) -> Result<Vec<u64>, AllocError>
         requires shape { self.audit.shape ≡ shape.now }
         requires represents { IsCourse self (reverse run.now.entries) }
@@ -158,7 +157,7 @@ impl Course {
     }
 }
 
-/// The audits of `both` in a walk over a run: of its common semaphore, with what was left, and of
+/// The audits of `both` in a pass over a run: of its common semaphore, with the units left, and of
 /// its critical sections.
 #[derive(Drop)]
 pub(crate) struct BothCourse<'a> {
@@ -177,8 +176,8 @@ impl<'a> Audit for BothCourse<'a> {
     }
 }
 
-/// Adds the curve of a semaphore, if it is to be drawn, from what was kept of it in a walk over a
-/// whole run.
+/// Adds the curve of a semaphore from its state after a whole run, if `follows` says that its
+/// workers follow its rules.
 pub(crate) fn add_if(
     curves: &mut Vec<Curve>,
     run: &Run,

@@ -54,7 +54,7 @@ fn raises(object: &Counter, act: &Act) -> bool
     }
 }
 
-/// Returns by how much the entry at a position raises a count; 0 past the last entry.
+/// Returns by how much the entry at a position raises a count; 0 if there is no entry.
 fn raise_amount(run: &Run, object: &Counter, position: usize) -> u64
     ensures value { count_at object.now run.now.entries (position + 1)
         ≡ count_at object.now run.now.entries position + result }
@@ -66,7 +66,7 @@ fn raise_amount(run: &Run, object: &Counter, position: usize) -> u64
     }
 }
 
-/// Returns a count in a world; 0 of what is not declared.
+/// Returns a count in a world; 0 if its object is not declared.
 fn count_in(world: &World, object: &Counter) -> u64
     requires { IsCounted world.now.setup object.now }
     ensures { (h : List Entry) → StandsFor world.now h → result ≡ count_of object.now (reverse h) }
@@ -77,7 +77,7 @@ fn count_in(world: &World, object: &Counter) -> u64
     }
 }
 
-/// Returns the counts at the moments that are shown, given the first of them.
+/// Returns the counts at the moments that are shown, given the first count.
 fn heights(
     alloc: Global,
     run: &Run,
@@ -163,8 +163,8 @@ fn add_sequencer(
     Ok(())
 }
 
-/// Returns the curves of all that a run counts, of the eventcounts and then of the sequencers,
-/// given the state before the first entry that is shown.
+/// Returns the curves of a run's eventcounts and then of its sequencers, given the state before the
+/// first entry that is shown.
 pub(crate) fn curves(
     alloc: Global,
     run: &Run,

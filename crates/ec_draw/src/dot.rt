@@ -10,20 +10,19 @@ use ec_core::{Act, Entry, Run, UnderWay, World};
 use ec_count::WorkerId;
 use std::alloc::{AllocError, Global};
 
-/// An entry: whose it is, of which call, where it stands, and the component that it read or raised,
-/// if it did.
+/// An entry: its worker, its call, its position, and the component that it read or raised.
 #[derive(Clone, Copy, Debug, PartialEq, Eq)]
 pub struct Dot {
     pub worker: WorkerId,
-    /// The act that began the call whose entry it is.
+    /// The act that began the entry's call.
     pub op: Act,
     pub position: usize,
     pub component: Option<usize>,
-    /// What it read of the component.
+    /// The number that it read in the component.
     pub number: Option<u64>,
 }
 
-/// Returns the act that began the call whose entry an act makes in a world.
+/// Returns the act that began the call of which an act in a world is a step.
 fn op_in(world: &World, worker: WorkerId, act: Act) -> Act
     ensures { (h : List Entry) → StandsFor world.now h
         → result ≡ op_in worker (reverse h) act }
@@ -37,7 +36,7 @@ fn op_in(world: &World, worker: WorkerId, act: Act) -> Act
     }
 }
 
-/// Returns the component that an act reads or raises in a world.
+/// Returns the component that an act reads or raises in a world, `None` if it does neither.
 fn component_in(world: &World, worker: WorkerId, act: Act) -> Option<usize>
     ensures { (h : List Entry) → StandsFor world.now h
         → result ≡ component_in world.now.setup worker (reverse h) act }
@@ -65,7 +64,7 @@ fn read_by_go(world: &World, call: &UnderWay) -> Option<u64>
     }
 }
 
-/// Returns what an act reads of its component in a world.
+/// Returns what an act reads of its component in a world, `None` if it reads none.
 fn number_in(world: &World, worker: WorkerId, act: Act) -> Option<u64>
     ensures { (h : List Entry) → StandsFor world.now h
         → result ≡ number_in world.now.setup worker (reverse h) act }
@@ -80,7 +79,7 @@ fn number_in(world: &World, worker: WorkerId, act: Act) -> Option<u64>
     }
 }
 
-/// Returns the dot of an entry that comes next in a world.
+/// Returns the dot of the next entry in a world.
 fn dot_of(world: &World, position: usize, entry: &Entry) -> Dot
     ensures { (h : List Entry) → StandsFor world.now h → position ≡ length (reverse h)
         → result ≡ dot_of world.now.setup (reverse h) entry.now }

@@ -1,4 +1,4 @@
-//! What the audits of groups find, in one walk over the entries of a run.
+//! What the audits of groups find, in one pass over the entries of a run.
 ghost use Rattle.std.specs.Prelude.{◌≡◌, ◌++◌, [], IfOk, OnOk, map, reverse};
 ghost use Rattle.std.specs.List.{flat_map};
 ghost use Rattle.ec_semaphore.specs.Auditing.{IsPairing};
@@ -26,7 +26,7 @@ use ec_semaphore::{PairAudit, SemaphoreShape};
 use ec_walk::{GroupAudit, walk_groups};
 use std::alloc::{AllocError, Global};
 
-/// What a walk keeps of a group.
+/// The state of one group in a pass over a run.
 #[derive(Drop)]
 pub(crate) enum Finding<'a> {
     /// Of a semaphore.
@@ -39,7 +39,7 @@ pub(crate) enum Finding<'a> {
     Moves(Moves<'a>),
 }
 
-/// What all that is kept has in common.
+/// What the states of all groups have in common.
 #[derive(Clone, Copy)]
 struct FindingContext<'a> {
     setup: &'a Setup,
@@ -48,7 +48,7 @@ struct FindingContext<'a> {
 }
 
 impl<'a> Finding<'a> {
-    /// Makes what is kept before the first entry.
+    /// Returns the state before the first entry.
     fn new(alloc: Global, group: &'a Group, asked: &FindingContext<'a>) -> Self
         ensures { FindsFor asked.now.setup.now asked.now.semaphores.now asked.now.window group.now
             result [] }
@@ -95,7 +95,7 @@ impl<'a> GroupAudit for Finding<'a> {
     ghost stays = { finds_stay };
 }
 
-/// Returns what is kept of groups before the first entry.
+/// Returns the states of groups before the first entry.
 fn open_findings<'a>(
     alloc: Global,
     groups: &'a [Group],
@@ -112,7 +112,7 @@ fn open_findings<'a>(
     Ok(list)
 }
 
-/// Returns what is kept of groups after all entries of a run, in one walk over them.
+/// Returns the states of groups after all entries of a run, in one pass over them.
 fn find_all<'a>(
     alloc: Global,
     run: &'a Run,
@@ -127,18 +127,19 @@ fn find_all<'a>(
     Ok(walk_groups(run, groups, list))
 }
 
-/// What the audits of the groups find that are followed, if it is shown.
+/// What the audits of groups find, and the window shows. It has nothing of a group whose workers
+/// don't follow its rules.
 #[derive(Drop)]
 pub(crate) struct Findings {
     /// The curves of balances.
     pub(crate) curves: Vec<Curve>,
-    /// The shades over accepting tries.
+    /// The shades over accepted tries.
     pub(crate) shades: Vec<Shade>,
     /// The arrows of deliveries.
     pub(crate) arrows: Vec<Arrow>,
 }
 
-/// Adds what was found of a semaphore.
+/// Adds what the audit found of a semaphore.
 fn add_semaphore(
     curves: &mut Vec<Curve>,
     run: &Run,
@@ -163,7 +164,7 @@ fn add_semaphore(
     }
 }
 
-/// Returns whether the workers follow the critical sections of `both`, after all entries of a run.
+/// Returns whether the workers follow the rules of `both`, after all entries of a run.
 fn follows_both(run: &Run, pairs: PairAudit<'_>) -> Result<bool, AllocError>
     requires { IsPairing pairs (reverse run.now.entries) }
     ensures { IfOk result
@@ -178,7 +179,7 @@ fn follows_both(run: &Run, pairs: PairAudit<'_>) -> Result<bool, AllocError>
     }
 }
 
-/// Adds what was found of `both`.
+/// Adds what the audits found of `both`.
 fn add_both(
     curves: &mut Vec<Curve>,
     run: &Run,
@@ -204,7 +205,7 @@ fn add_both(
     }
 }
 
-/// Adds what was found of a database.
+/// Adds what the audit found of a database.
 fn add_tries(
     shades: &mut Vec<Shade>,
     run: &Run,
@@ -225,7 +226,7 @@ fn add_tries(
     }
 }
 
-/// Adds what was found of a buffer.
+/// Adds what the audit found of a buffer.
 fn add_moves(
     arrows: &mut Vec<Arrow>,
     run: &Run,
@@ -246,7 +247,7 @@ fn add_moves(
     }
 }
 
-/// Adds what was found of a group.
+/// Adds what the audits found of a group.
 fn add_group(
     found: &mut Findings,
     run: &Run,
@@ -273,7 +274,7 @@ fn add_group(
     }
 }
 
-/// Adds what was found of groups.
+/// Adds what the audits found of groups.
 fn add_groups(
     found: &mut Findings,
     run: &Run,
@@ -305,8 +306,8 @@ fn add_groups(
     Ok(())
 }
 
-/// Returns what the audits find of those groups whose workers follow them, in one walk over the
-/// run.
+/// Returns what the audits find of the groups whose workers follow their rules, in one pass over
+/// the run.
 pub(crate) fn findings_of(
     alloc: Global,
     run: &Run,

@@ -1,5 +1,5 @@
-//! The shapes of a picture of a run: a bar for each call, with a mark at its point, a dot for each
-//! entry, and the curves of what is counted.
+//! The shapes of a picture of a run: a bar for each call with a mark at its linearization point, a
+//! dot for each entry, curves of counts and balances, shades of tries, and arrows of deliveries.
 #![tactic(auto)]
 
 mod arrow;

@@ -41,7 +41,7 @@ fn begun_at(run: &Run, worker: WorkerId) -> usize
     0
 }
 
-/// Returns the call of a worker that is pending at the end of a run, if one is.
+/// Returns the call of a worker that is pending at the end of a run, `None` if there is none.
 #[tactic(auto, using(crate::proofs::Stepping::open_some, crate::proofs::Stepping::open_none))]
 fn open_call(run: &Run, worker: WorkerId) -> Option<PendingBar>
     ensures { result ≡ open_call worker (reverse run.now.entries) }
@@ -78,7 +78,8 @@ fn add_open(
     Ok(())
 }
 
-/// Returns the calls that are pending at the end of a run and are shown, by their workers.
+/// Returns the calls that are pending at the end of a run and are shown, in the order of their
+/// workers.
 #[tactic(auto, using(crate::proofs::Stepping::no_open, crate::proofs::Stepping::more_open))]
 pub(crate) fn open_bars(
     alloc: Global,

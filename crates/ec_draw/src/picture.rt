@@ -18,16 +18,16 @@ use std::alloc::{AllocError, Global};
 #[derive(Drop)]
 pub struct Picture {
     pub window: Window,
-    /// The completed calls that are shown, each with its point.
+    /// The completed calls that are shown, each with its linearization point.
     pub calls: Vec<Placed>,
     /// The pending calls that are shown.
     pub begun: Vec<PendingBar>,
     /// The entries that are shown.
     pub dots: Vec<Dot>,
     /// The count of each eventcount and each sequencer at each moment that is shown, and then the
-    /// balance of each semaphore that is followed.
+    /// balance of each semaphore whose workers follow its rules.
     pub curves: Vec<Curve>,
-    /// The accepting tries that are shown.
+    /// The accepted tries that are shown.
     pub shades: Vec<Shade>,
     /// The deliveries that are shown.
     pub arrows: Vec<Arrow>,
@@ -44,8 +44,8 @@ fn add_curves(curves: &mut Vec<Curve>, list: Vec<Curve>) -> Result<(), AllocErro
     Ok(())
 }
 
-/// Returns the picture of a run through a window: its shapes are those of the run's history, with
-/// these groups. The run is as before, with want of memory too.
+/// Returns the picture of a run through a window: the shapes of the run's history, with these
+/// groups. It is an error only if memory runs out.
 pub fn picture_of(
     alloc: Global,
     run: &Run,

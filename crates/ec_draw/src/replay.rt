@@ -4,7 +4,7 @@ ghost use Rattle.ec_core.specs.Standing.{StandsFor};
 
 use ec_core::{Run, World};
 
-/// Returns the state after so many of the first entries of a run.
+/// Returns the state after the first `moment` entries of a run.
 pub(crate) fn world_at(run: &Run, moment: usize) -> World
     ensures setup { result.setup ≡ run.now.setup }
     ensures represents { StandsFor result (take moment run.now.entries) }

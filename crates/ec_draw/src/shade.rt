@@ -1,4 +1,4 @@
-//! The shades over accepting tries.
+//! The shades over accepted tries.
 ghost use Rattle.std.specs.Prelude.{◌≡◌, ◌<◌, ◌++◌, ◌∷◌, [], false, ℕ, IfOk, OnOk, Some, map};
 ghost use Rattle.std.specs.Prelude.{option_to_list, reverse, slice_get};
 ghost use Rattle.std.specs.List.{filter, flat_map};
@@ -16,15 +16,15 @@ use ec_database::{Accepted, DatabaseShape, TryView, VersionAudit, is_on};
 use std::alloc::{AllocError, Global};
 use std::marker::Model;
 
-/// From an entry to a later one, by their positions.
+/// The positions of an entry and of a later one.
 #[derive(Clone, Copy, Debug, PartialEq, Eq)]
 pub struct Span {
     pub first: usize,
     pub last: usize,
 }
 
-/// An accepting try of a database, and where it stands: from the first entry of its first call to
-/// its last entry.
+/// An accepted try of a database, and its span: from the first entry of its first call to its last
+/// entry.
 #[derive(Drop)]
 pub struct Shade {
     /// The eventcount of the database's starts.
@@ -33,21 +33,21 @@ pub struct Shade {
     pub accepted: Accepted,
 }
 
-/// Returns whether an act goes on with a call.
+/// Returns whether an act continues a call.
 fn is_go(act: &Act) -> bool
     ensures { result ≡ is_go act.now }
 {
     matches!(act, Act::Go)
 }
 
-/// Returns that no list has begun before the first entry.
+/// Returns the starts before the first entry of a run: 0 for each worker.
 fn no_starts() -> [usize; 16]
     ensures { (w : ℕ) → w < 16 → slice_get result w ≡ Some 0 }
 {
     [0; 16]
 }
 
-/// Notes where the list of a worker begins, if an entry begins it.
+/// Stores the position at which a worker's call sequence begins, if an entry begins one.
 fn note_start(
     shape: &DatabaseShape,
     finished: usize,
@@ -84,7 +84,8 @@ fn add_shade(
     Ok(())
 }
 
-/// Adds the shade of the try that was found since there were so many, if one was.
+/// Adds the shade of accepted try `before`, counted from 0, if the audit has found it. It is an
+/// error if the audit or the list ran out of memory.
 fn add_newest(
     shades: &mut Vec<Shade>,
     audit: &VersionAudit<'_>,
@@ -109,8 +110,8 @@ fn add_newest(
     Ok(())
 }
 
-/// Returns the same, unless there was no memory for an earlier one. The answer is whether one is
-/// lacking.
+/// Adds a shade as `add_newest` does, unless an earlier addition failed. Returns whether any has
+/// failed.
 fn lacks_after(
     lacks: bool,
     shades: &mut Vec<Shade>,
@@ -128,7 +129,7 @@ fn lacks_after(
     lacks || add_newest(shades, audit, before, count, window, span).is_err()
 }
 
-/// The audit of a database in a walk over a run, where the list began that each worker is in, and
+/// The audit of a database in a pass over a run, where the call sequence of each worker began, and
 /// the shades so far.
 #[derive(Drop)]
 pub(crate) struct Tries<'a> {
@@ -181,7 +182,7 @@ impl<'a> Audit for Tries<'a> {
 }
 
 impl<'a> Tries<'a> {
-    /// Makes what is kept before the first entry of a run on this setup.
+    /// Returns the state before the first entry of a run with this setup.
     pub(crate) fn new(
         alloc: Global,
         shape: &'a DatabaseShape,
@@ -215,8 +216,7 @@ fn add_all(shades: &mut Vec<Shade>, list: Vec<Shade>) -> Result<(), AllocError>
     Ok(())
 }
 
-/// Adds the shades of a database, if its workers follow it, from what was kept of it in a walk over
-/// a whole run.
+/// Adds the shades of a database from its state after a whole run, if its workers follow its rules.
 pub(crate) fn add_database(
     shades: &mut Vec<Shade>,
     run: &Run,

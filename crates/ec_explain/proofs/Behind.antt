@@ -1,4 +1,4 @@
--- What stands behind the first lines of a text.
+-- What follows the first lines of a text.
 use Rattle.std.proofs.Common.{◌≡◌, ℕ, ◌+◌, List, refl, sym, ap, add-one}
 use Rattle.ec_explain.specs.TextLines.{behind, text_after_line}
 

@@ -1,4 +1,4 @@
--- Who asks in a line, and one worker more that has a right.
+-- Which right a line needs, and one more worker that has a right.
 use Rattle.std.proofs.Common.{◌≡◌, ℕ, ◌+◌, List, [], ◌∷◌, ◌++◌, refl, ap, sym, ◌∙◌, cond, add-one}
 use Rattle.std.proofs.Common.{Option, Some, None}
 use Rattle.std.specs.Option.{option_and_then}
@@ -24,7 +24,7 @@ more_holders t past act n ws is =
     ap (λ z. z ++ cond (has_right t past n act) (n ∷ []) []) is
     ∙ ap (λ m. holders_of t past act m) (sym (add-one n))
 
--- WHO ASKS
+-- WHICH RIGHT A LINE NEEDS
 
 asked_for : (h : HeadingModel) (line first : List ℕ) (o : Option ℕ) → first ≡ word_at 0 line
     → o ≡ worker_in h.words first

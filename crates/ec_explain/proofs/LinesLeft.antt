@@ -1,4 +1,4 @@
--- The lines of a text that are left behind one of them.
+-- The lines of a text that are left after one of them.
 use Rattle.std.proofs.Common.{◌≡◌, ◌≢◌, ◌<◌, ◌≤◌, ℕ, ◌+◌, List, [], ◌∷◌, ◌++◌, length, cond}
 use Rattle.std.proofs.Common.{if◌then◌else◌, Bool, true, false, eqb, Option, Some, None, refl, ap}
 use Rattle.std.proofs.Common.{sym, ◌∙◌, ne_eqb, arith, length-append, subst}
@@ -33,7 +33,7 @@ goes_on : (p : List ℕ → Bool) (k : ℕ) (found : Option ℕ) (line : List �
     ≡ last_in p k found (line ∷ lines)
 goes_on p k found line lines first next is = rw is refl
 
--- one line more, of which it was asked whether it passes
+-- one more line, which was tested
 pub lasts_line : (p : List ℕ → Bool) (k m : ℕ) (found now : Option ℕ) (line more rest : List ℕ)
     → All (λ b. b ≢ 10) line → rest ≡ line ++ 10 ∷ more
     → m ≡ k + 1 → now ≡ (if p line then Some m else found) → last_in p m now (lines_of more)

@@ -1,4 +1,4 @@
--- A round with one entry more.
+-- A round with one more entry.
 use Rattle.std.proofs.Common.{◌≡◌, ℕ, zero, suc, ◌+◌, ◌%◌, ◌<◌, Bool, true, false, ◌==◌, List, []}
 use Rattle.std.proofs.Common.{◌∷◌}
 use Rattle.std.proofs.Common.{◌++◌, length, Option, Some, None, refl, ap, sym, ◌∙◌, arith, cond}
@@ -26,7 +26,7 @@ use Rattle.ec_explain.specs.declared.round.Look.{Look}
 use Rattle.ec_explain.specs.Rounds.{look_at, looks_in, looks_of, looks_so_far, looks_with, look_of}
 use Rattle.ec_explain.specs.Rounds.{next_look, has_begun, is_in_round, looks_after_act}
 
--- COUNTING ROUND
+-- COUNTING MODULO THE COMPONENTS
 
 below_next : (b : Bool) (m c : ℕ) → cond b 0 (m + 1) ≡ suc c → m ≡ c
 below_next true m c e = absurd (omega arith)
@@ -44,7 +44,7 @@ next_is (suc n) k c e =
 begun_is : (n c : ℕ) → 1 % n ≡ suc c → 0 ≡ c
 begun_is n c e = sym (zero-mod n) ∙ next_is n 0 c e
 
--- WHAT IS KEPT
+-- WHAT REMAINS OF WHAT WAS FOUND
 
 -- if the next component is m, and k was read
 more : (t : Tables) (e : ℕ) (past : List Entry) (moments : List (List Entry)) (m k : ℕ)
@@ -87,7 +87,7 @@ going t past (Some call) =
     more t e past call.moments (next_component t e (past ∷ call.moments))
     (next_component t e call.moments) (next_is (component_count t e) (length call.moments))
 
--- the call after an act of which more may follow
+-- the call after an act that may leave it pending
 abbrev after : Act → List Entry → Option CallSoFar → Bool → Option CallSoFar
 after act past o pending = cond pending (call_with_act act past o) None
 
@@ -125,7 +125,7 @@ looks_next t w past x own =
     (cond b (after x.act past (under_way w past) (is_pending x.reply)) (under_way w past)) [])
     (sym own) (step t w past x.act (is_pending x.reply))
 
--- an entry of another
+-- an entry of another worker
 pub looks_stay : (t : Tables) (w : ℕ) (past : List Entry) (x : Entry) → (x.worker == w) ≡ false
     → looks_so_far t w past ≡ looks_so_far t w (x ∷ past)
 unfolding under_way
@@ -170,7 +170,7 @@ looks_last t w past (Hand e b) = ended t 0 past
 
 -- A WORLD
 
--- after the entry of a history that comes next
+-- the world after the next entry of a history
 pub stands_next : (s : State) (h : List Entry) (k : ℕ) (x : Entry) → slice_get h k ≡ Some x
     → StandsFor s (take k h ++ x ∷ []) → StandsFor s (take (k + 1) h)
 stands_next s h k x at represents =
@@ -194,7 +194,7 @@ none_here [] i e lt = omega arith
 none_here (x ∷ h) zero e lt = cc
 none_here (x ∷ h) (suc i) e lt = none_here h i e (omega arith)
 
--- what is kept of an entry of the worker, if this is found by the world before and after it
+-- what was found with an entry of the worker, by the world before and after it
 pub take_kept : {A E : Type 0} (r : Result A E) (t now : Tables) (w : ℕ) (h : List Entry)
     (x : Entry)
     (goes_on : Bool) (look : Option Look) (old new : List Look) → (x.worker == w) ≡ true → now ≡ t

@@ -1,5 +1,5 @@
--- What is wrong with a line: each cause is a test of the line and of what came before it, and of
--- those that hold the first is told.
+-- What is wrong with a line: each cause is a test of the line and of what came before it, and the
+-- first that holds is reported.
 use Rattle.std.specs.Prelude.{ℕ, ◌+◌, ◌-◌, ◌==◌, ◌||◌, ◌&&◌, not, Bool, true, false, nat_lt, List}
 use Rattle.std.specs.Prelude.{[], ◌∷◌, length, take, drop, Option, Some, None, is_some, is_none}
 use Rattle.std.specs.Prelude.{unwrap_or, bytes_eq, codes, if◌then◌else◌}
@@ -35,7 +35,7 @@ abbrev pub is_comment : List ℕ → Bool
 is_comment line = begins_with (codes "#") line || begins_with (codes "//") line
     || begins_with (codes ";") line
 
--- what is wrong with the bytes of a line, wherever it stands
+-- what is wrong with the bytes of a line, wherever the line is
 abbrev pub line_cause : List ℕ → Option Cause
 line_cause line = first_that (
     (nat_lt 8192 (length line), causes.Long)
@@ -84,7 +84,7 @@ name_cause w = unwrap_or (first_that (
     ∷ (has_name_form w, causes.ReservedName)
     ∷ [])) causes.BadName
 
--- what is wrong with a line of a heading whose least fault is this, and whose new name is this word
+-- what is wrong with a line of a header, by its lowest fault and its new name
 abbrev pub head_cause : HeadFault → List ℕ → Cause
 head_cause heads.BadLine w = causes.DeclarationForm
 head_cause heads.BadName w = name_cause w
@@ -95,11 +95,11 @@ head_cause heads.TooMany w = causes.TooMany
 head_cause heads.TwoRoles w = causes.TwoRoles
 head_cause heads.Memory w = causes.Other
 
--- the place of the first word that is no name, behind the word `workers`
+-- the index of the first word that is no name, after the word `workers`
 abbrev pub bad_name_place : List ℕ → ℕ
 bad_name_place line = 1 + names_before (behind_first (words_of line))
 
--- the place of the new name in a line of a heading that has one, or of the first word that should
+-- the index of the new name in a line of a header that has one, or of the first word that should
 -- be one
 abbrev pub new_name_place : List ℕ → ℕ
 new_name_place line = if bytes_eq (word_at 0 line) (codes "workers") then bad_name_place line else 1
@@ -128,14 +128,14 @@ act_words verb =
     then Some 2
     else (if is_among (codes "await" ∷ codes "put" ∷ codes "hand" ∷ []) verb then Some 3 else None))
 
--- where the sign of equality stands behind such an act
+-- the index at which a line has the word `=`, by its act
 abbrev pub equals_place : List ℕ → ℕ
 equals_place line = 1 + unwrap_or (act_words (word_at 1 line)) 1
 
 abbrev pub is_hand : List ℕ → Bool
 is_hand verb = bytes_eq verb (codes "hand")
 
--- whether a word is what an act names first: nothing, a sequencer, a cell, or an eventcount
+-- whether a word is an object that the act may name: none, a sequencer, a cell or an eventcount
 abbrev pub has_object : NameTable → List ℕ → List ℕ → Bool
 has_object names verb w =
     if bytes_eq verb (codes "go") then true
@@ -159,7 +159,7 @@ act_cause h line = first_that (
     ∷ (not (has_object h.words (word_at 1 line) (word_at 2 line)), causes.NoObject)
     ∷ [])
 
--- what is wrong with what stands behind it
+-- what is wrong with what follows the object
 abbrev pub reply_cause : HeadingModel → List ℕ → Cause
 reply_cause h line = unwrap_or (first_that (
     (lacks_value (word_at 1 line) (word_at 3 line), causes.NoValue)
@@ -171,9 +171,9 @@ reply_cause h line = unwrap_or (first_that (
 abbrev pub entry_cause : HeadingModel → List ℕ → Cause
 entry_cause h line = unwrap_or (act_cause h line) (reply_cause h line)
 
--- A LINE IN ITS PLACE
+-- A LINE AT ITS SITE
 
--- what is wrong with a line where it stands, if its bytes alone don't show it
+-- what is wrong with a line at its site, if its bytes don't show it by themselves
 abbrev pub site_cause : Site → List ℕ → Cause
 site_cause sites.First line = first_cause line
 site_cause sites.Limit line = limit_cause line
@@ -186,7 +186,7 @@ site_cause sites.Script line = causes.ScriptForm
 site_cause sites.Calls line = causes.CallsForm
 site_cause sites.Unknown line = causes.Other
 
--- what is wrong with a line where it stands
+-- what is wrong with a line at its site
 abbrev pub cause_at : Site → List ℕ → Cause
 cause_at site line = unwrap_or (line_cause line) (site_cause site line)
 
@@ -197,7 +197,7 @@ name_place (sites.Workers fault) line = bad_name_place line
 name_place (sites.Heading fault) line = new_name_place line
 name_place _ line = 1
 
--- the place of the first word behind the name that may not be listed
+-- the index of the first word after a declaration's name that may not follow it
 abbrev pub first_unlisted : NameTable → List ℕ → ℕ
 first_unlisted names line = 2 + listed_before names (behind_first (behind_first (words_of line)))
 
@@ -205,7 +205,7 @@ abbrev pub unknown_place : Site → List ℕ → ℕ
 unknown_place (sites.Declaration h fault) line = first_unlisted h.now.words line
 unknown_place _ line = 2
 
--- the word that shows the cause, by its place
+-- the index of the word that shows the cause
 abbrev pub word_place : Site → Cause → List ℕ → ℕ
 word_place site causes.TwoSpaces line = full_before (words_of line)
 word_place site causes.LimitWords line = 2
@@ -228,8 +228,8 @@ word_place site causes.NoReply line = equals_place line + 1
 word_place site causes.EntryWords line = equals_place line + 2
 word_place site _ line = 0
 
--- if the line shows it, by the bytes before: at a byte that may not stand there, or where a word
--- begins
+-- where a line shows the cause, as the number of bytes before it: at a byte that may not be there,
+-- or where a word begins
 abbrev pub place_at : Site → Cause → List ℕ → ℕ
 place_at site causes.Long line = 8192
 place_at site causes.Return line = length line - 1

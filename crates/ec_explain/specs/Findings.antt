@@ -1,4 +1,4 @@
--- What is found wrong with a text, and how it is told.
+-- What is found wrong with a text, and how it is written.
 use Rattle.std.specs.Prelude.{ℕ, ◌+◌, ◌-◌, ◌&&◌, nat_le, nat_lt, List, [], ◌∷◌, ◌++◌, take, drop}
 use Rattle.std.specs.Prelude.{length, min, Option, Some, None, replicate, bytes_eq, ◌==◌, codes}
 use Rattle.std.specs.Prelude.{decimal, if◌then◌else◌}
@@ -31,13 +31,13 @@ finding_at cause n place =
           None;
     }
 
--- what is wrong with a rejected line, of this number, where it stands
+-- what is wrong with a rejected line of this number, at this site
 abbrev pub finding_of_line : Site → ℕ → List ℕ → Finding
 finding_of_line site n line =
     finding_at (cause_at site line) n (place_at site (cause_at site line) line)
 
--- the cause that the bytes of a line show wherever it stands; or, if they show none, this one, at
--- this place
+-- the cause that the bytes of a line show by themselves; or, if they show none, this one, at this
+-- place
 abbrev pub lined_by : Option Cause → Cause → ℕ → ℕ → List ℕ → Finding
 lined_by None cause n place line = finding_at cause n place
 lined_by (Some c) cause n place line = finding_at c n (place_at sites.Unknown c line)
@@ -90,8 +90,8 @@ finding_of_wrong_reply n right text =
     (word_start (equals_place (line_at n text) + 1) (line_at n text)))
     { right = Some right; see = begun_line n text }
 
--- what is missing from a text that stops too early: all of it; the LF of its last line; or else
--- this
+-- what is missing from a text that stops too early: all of it, the LF of its last line, or
+-- otherwise this
 abbrev pub find_early_end : Cause → List ℕ → Finding
 find_early_end cause text =
     if length text == 0 then finding_of_text causes.EmptyText
@@ -104,15 +104,15 @@ find_missing_end text = find_early_end causes.NoEnd text
 
 -- THE LINE AND THE MARK
 
--- a byte as it is shown: a question mark for each that is no plain letter
+-- a byte as it is shown: a question mark for each that is no printable ASCII
 abbrev pub plain : ℕ → ℕ
 plain b = if nat_le 32 b && nat_lt b 127 then b else 63
 
 abbrev pub plain_byte : ℕ → List ℕ
 plain_byte b = plain b ∷ []
 
--- the first byte that is shown of a line: of a line in which the place stands far behind, some
--- bytes before the place
+-- the index of the first byte that is shown of a line: 0, or 60 bytes before a place that is far
+-- from the beginning
 abbrev pub shown_from : ℕ → ℕ
 shown_from place = if nat_lt place 80 then 0 else place - 60
 
@@ -145,7 +145,7 @@ spot_or_none (Some s) text = spot_text s (line_at s.number text)
 unfoldable pub sentence_text : Cause → List ℕ
 sentence_text cause = sentence cause ++ codes "\n"
 
--- the right reply, if the reply alone is wrong
+-- the right reply, if only the reply is wrong
 abbrev pub right_text : Option Reply → List ℕ
 right_text None = []
 right_text (Some right) = codes "The right reply is " ++ reply_word right ++ codes ".\n"
@@ -153,7 +153,7 @@ right_text (Some right) = codes "The right reply is " ++ reply_word right ++ cod
 unfoldable pub see_front : ℕ → List ℕ
 see_front n = codes "See line " ++ decimal n ++ codes ": "
 
--- another line that shows why, with its number, and what is shown of it for a place
+-- another line that shows why: its number, and what is shown of it for a place
 unfoldable pub line_seen : ℕ → ℕ → List ℕ → List ℕ
 line_seen n place line = see_front n ++ flat_map plain_byte (shown_bytes place line) ++ codes "\n"
 
@@ -169,10 +169,10 @@ remedy_text cause = remedy cause ++ codes "\n"
 unfoldable pub why_text : Finding → List ℕ → List ℕ
 why_text f text = sentence_text f.cause ++ right_text f.right ++ see_text f.see text
 
--- the line where there is one, what is wrong, and why
+-- the line if there is one, what is wrong, and why
 unfoldable pub found_text : Finding → List ℕ → List ℕ
 found_text f text = spot_or_none f.spot text ++ why_text f text
 
--- the line where there is one, what is wrong, why, what more is known of it, and how to mend it
+-- the line if there is one, what is wrong, why, what more is known of it, and how to mend it
 unfoldable pub finding_text : Finding → List ℕ → List ℕ → List ℕ
 finding_text f more text = found_text f text ++ more ++ remedy_text f.cause

@@ -20,11 +20,11 @@ use Rattle.ec_explain.specs.TextLines.{line_at}
 
 -- A SCRIPT
 
--- the place of the number of a line
+-- the index of the word that is the number of a line
 abbrev pub script_number_place : List ℕ → ℕ
 script_number_place line = if length (words_of line) == 2 then 1 else 2
 
--- a line that names one if two are wanted: a pboth, or a declaration
+-- a line that names a semaphore twice, in a `pboth`, or a worker in both lists of a declaration
 abbrev pub script_roles_at : ℕ → List ℕ → Finding
 script_roles_at n line =
     if bytes_eq (word_at 0 line) (codes "pboth")
@@ -55,11 +55,11 @@ script_finding script.Unfinished n text = find_early_end causes.StopsEarly text
 
 -- A HISTORY OF CALLS
 
--- the place of the object of a line: of a call, or of a line of the heading
+-- the index of the word that names the object, in a call or in a line of the header
 abbrev pub calls_object_place : List ℕ → ℕ
 calls_object_place line = if bytes_eq (word_at 1 line) (codes "calls") then 3 else 1
 
--- the place of its number
+-- the index of the word that is the number
 abbrev pub calls_number_place : List ℕ → ℕ
 calls_number_place line =
     if bytes_eq (word_at 1 line) (codes "calls") then 4
@@ -74,7 +74,7 @@ calls_roles_at n line =
 abbrev pub call_line_to_see : ℕ → List ℕ → Option ℕ
 call_line_to_see n text = if is_none (line_cause (line_at n text)) then call_line n text else None
 
--- a line of which the last call of its worker shows the cause too
+-- a line with a cause that the line of its worker's last call shows too
 abbrev pub finding_with_call : Cause → ℕ → ℕ → List ℕ → Finding
 finding_with_call cause place n text =
     record (finding_by_bytes cause n (word_start place (line_at n text)) (line_at n text))

@@ -17,7 +17,7 @@ begins_by worker line = bytes_eq (word_at 0 line) worker
 abbrev pub declares : List ℕ → List ℕ → Bool
 declares name line = bytes_eq (word_at 1 line) name || bytes_eq (word_at 0 line) name
 
--- whether the worker hands its component of what is called so to another by the line
+-- whether the worker transfers its component of the eventcount called so by the line
 abbrev pub hands_by : List ℕ → List ℕ → List ℕ → Bool
 hands_by worker name line =
     bytes_eq (word_at 0 line) worker
@@ -28,12 +28,12 @@ fits (Call worker) line = begins_by worker.now line
 fits (Declaration name) line = declares name.now line
 fits (Hand worker name) line = hands_by worker.now name.now line
 
--- the lines of a text, and what stands behind the last LF
+-- the lines of a text, and what follows the last LF
 abbrev pub lines_of : List ℕ → List (List ℕ)
 lines_of text = slice_split (λ b. b == 10) text
 
--- the number of the last of these lines that passes a test, if k lines come before them, of
--- which this one passed; what stands behind the last LF is no line
+-- the number of the last of these lines that passes a test, if k lines come before them, and
+-- `found` is the last of those that passes; what follows the last LF is no line
 abbrev pub last_before : (List ℕ → Bool) → ℕ → Option ℕ → List ℕ → List (List ℕ) → Option ℕ
 last_before p k found line [] = found
 last_before p k found line (next ∷ lines) =
@@ -43,12 +43,12 @@ abbrev pub last_in : (List ℕ → Bool) → ℕ → Option ℕ → List (List �
 last_in p k found [] = found
 last_in p k found (line ∷ lines) = last_before p k found line lines
 
--- the line by which the worker of line n began its last call before
+-- the line by which the worker of line n began its last call before it
 abbrev pub call_line : ℕ → List ℕ → Option ℕ
 call_line n text = last_in (begins_by (word_at 0 (line_at n text))) 0 None
     (lines_of (text_before_line n text))
 
--- what the word of an object begins with, before a dot or a bracket: the name of its declaration
+-- the name of an object's declaration: what its word has before a dot or a bracket
 abbrev pub base_of : List ℕ → List ℕ
 base_of w = take (min (position_or_end 46 w) (position_or_end 91 w)) w
 
@@ -57,8 +57,7 @@ abbrev pub declaration_line : ℕ → List ℕ → Option ℕ
 declaration_line n text =
     last_in (declares (base_of (word_at 2 (line_at n text)))) 0 None (lines_of (text_before_line n text))
 
--- the line by which the worker of line n last handed its component of the object of line n to
--- another
+-- the line by which the worker of line n last transferred its component of the object of line n
 abbrev pub hand_line : ℕ → List ℕ → Option ℕ
 hand_line n text =
     last_in (hands_by (word_at 0 (line_at n text)) (word_at 2 (line_at n text))) 0 None

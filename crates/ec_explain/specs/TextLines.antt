@@ -3,16 +3,16 @@ use Rattle.std.specs.Prelude.{ℕ, ◌+◌, ◌-◌, zero, suc, ◌==◌, nat_lt
 use Rattle.std.specs.Prelude.{unwrap_or, count_by, if◌then◌else◌}
 use Rattle.std.specs.List.{position_from}
 
--- where a byte stands first; behind the last byte if it doesn't
+-- the index of the first such byte; the length if there is none
 abbrev pub position_or_end : ℕ → List ℕ → ℕ
 position_or_end sign xs = unwrap_or (position_from (λ b. b == sign) 0 xs) (length xs)
 
--- what stands behind the first line, which ends with its LF
+-- what follows the first line, which ends with its LF
 abbrev pub text_after_line : List ℕ → List ℕ
 text_after_line xs =
     if nat_lt (position_or_end 10 xs) (length xs) then drop (position_or_end 10 xs + 1) xs else []
 
--- what stands behind the first n lines
+-- what follows the first n lines
 unfoldable pub behind : ℕ → List ℕ → List ℕ
 behind zero xs = xs
 behind (suc n) xs = text_after_line (behind n xs)
@@ -21,7 +21,7 @@ behind (suc n) xs = text_after_line (behind n xs)
 abbrev pub first_line : List ℕ → List ℕ
 first_line xs = take (position_or_end 10 xs) xs
 
--- line n of a text, and all that stands before it
+-- line n of a text, and all that precedes it
 abbrev pub line_at : ℕ → List ℕ → List ℕ
 line_at n xs = first_line (behind (n - 1) xs)
 

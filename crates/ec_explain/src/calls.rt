@@ -13,7 +13,7 @@ use crate::words::{is_same, word_at, word_start};
 use calls_text::Kind;
 use ec_heading::{HeadFault, count_words};
 
-/// Returns the place of the object of a line: of a call, or of a line of the heading.
+/// Returns the index of the word that names the object, in a call or in a line of the header.
 fn object_place(line: &[u8]) -> usize
     ensures { result ≡ calls_object_place line.now }
 {
@@ -24,7 +24,7 @@ fn object_place(line: &[u8]) -> usize
     }
 }
 
-/// Returns the place of the number of a line.
+/// Returns the index of the word that is the number of a line.
 fn number_place(line: &[u8]) -> usize
     ensures { result ≡ calls_number_place line.now }
 {
@@ -34,7 +34,7 @@ fn number_place(line: &[u8]) -> usize
     if count_words(line) == 2 { 1 } else { 2 }
 }
 
-/// Returns what is wrong with a line that names one if two are wanted.
+/// Returns what is wrong with a line that names a semaphore twice, or a worker in both lists.
 fn roles_at(number: u64, line: &[u8]) -> Finding
     ensures { result ≡ calls_roles_at number line.now }
 {
@@ -55,7 +55,7 @@ fn call_line_to_see(number: u64, text: &[u8]) -> Option<usize>
     }
 }
 
-/// Returns what is wrong with a line, which the last call of its worker shows.
+/// Returns what is wrong with a line, and the line of its worker's last call, which shows why.
 fn finding_with_call(cause: Cause, place: usize, number: u64, text: &[u8]) -> Finding
     ensures { result ≡ finding_with_call cause place number text.now }
 {
@@ -66,8 +66,9 @@ fn finding_with_call(cause: Cause, place: usize, number: u64, text: &[u8]) -> Fi
     }
 }
 
-/// Returns what is wrong with a text whose first faulty line has this number and this least kind of
-/// fault as one of histories of calls.
+/// Returns what is wrong with histories of calls.
+///
+/// The first faulty line has this number, and this is the lowest kind of its errors.
 pub fn calls_finding(kind: Kind, number: u64, text: &[u8]) -> Finding
     ensures { result ≡ calls_finding kind number text.now }
 {

@@ -30,7 +30,7 @@ pub struct LinePosition {
 pub struct Finding {
     pub cause: Cause,
     pub spot: Option<LinePosition>,
-    /// The right reply, if the reply alone is wrong.
+    /// The right reply, if only the reply is wrong.
     pub right: Option<Reply>,
     /// The number of another line that shows why.
     pub see: Option<usize>,
@@ -48,8 +48,8 @@ pub fn finding_at(cause: Cause, number: u64, place: usize) -> Finding
     }
 }
 
-/// Returns the cause that the bytes of a line show wherever it stands; if they show none, this one,
-/// at this place.
+/// Returns the cause that the bytes of a line show by themselves; if they show none, this one, at
+/// this place.
 pub(crate) fn finding_by_bytes(cause: Cause, number: u64, place: usize, line: &[u8]) -> Finding
     ensures { result ≡ finding_by_bytes cause number place line.now }
 {
@@ -71,7 +71,7 @@ pub fn finding_of_text(cause: Cause) -> Finding
     }
 }
 
-/// Returns what is wrong with a rejected line, of this number, where it stands.
+/// Returns what is wrong with a rejected line of this number, at this site.
 pub fn finding_of_line(site: &Site<'_>, number: u64, line: &[u8]) -> Finding
     ensures { result ≡ finding_of_line site.now number line.now }
 {
@@ -133,7 +133,7 @@ fn begun_line(number: u64, text: &[u8]) -> Option<usize>
     }
 }
 
-/// Returns what is wrong with the line of an act that has this reply and tells another.
+/// Returns what is wrong with the line of an act that has another reply than this right one.
 pub fn finding_of_wrong_reply(number: u64, right: Reply, text: &[u8]) -> Finding
     ensures { result ≡ finding_of_wrong_reply number right text.now }
 {
@@ -149,8 +149,8 @@ pub fn finding_of_wrong_reply(number: u64, right: Reply, text: &[u8]) -> Finding
     }
 }
 
-/// Returns what is missing from a text that stops too early: all of it; the LF of its last line; or
-/// else this.
+/// Returns what is missing from a text that stops too early: all of it, the LF of its last line, or
+/// otherwise `cause`.
 pub(crate) fn find_early_end(cause: Cause, text: &[u8]) -> Finding
     ensures { result ≡ find_early_end cause text.now }
 {

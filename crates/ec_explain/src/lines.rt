@@ -5,7 +5,7 @@ ghost use Rattle.ec_explain.specs.TextLines.{text_before_line, behind, text_afte
 ghost use Rattle.ec_explain.specs.TextLines.{line_at};
 ghost use Rattle.ec_explain.specs.TextLines.{lines_in, position_or_end};
 
-/// Returns where a byte stands first.
+/// Returns the index of the first such byte.
 fn position_of(sign: u8, bytes: &[u8]) -> Option<usize>
     ensures value { result ≡ position_from (λ b. b == sign) 0 bytes.now }
     ensures within { IfSome result (λ place. place < length bytes.now) }
@@ -24,7 +24,7 @@ pub fn position_or_end(sign: u8, bytes: &[u8]) -> usize
     }
 }
 
-/// Returns what stands after the first line.
+/// Returns what follows the first line.
 fn text_after_line(text: &[u8]) -> &[u8]
     ensures { result.now ≡ text_after_line text.now }
 {
@@ -36,7 +36,7 @@ fn text_after_line(text: &[u8]) -> &[u8]
     }
 }
 
-/// Returns what stands after so many lines.
+/// Returns what follows the first `lines` lines.
 fn behind(lines: u64, text: &[u8]) -> &[u8]
     ensures { result.now ≡ behind lines text.now }
 {
@@ -61,7 +61,7 @@ pub fn line_at(number: u64, text: &[u8]) -> &[u8]
     first_line(behind(number.saturating_sub(1), text))
 }
 
-/// Returns all that stands before a line.
+/// Returns all that precedes a line.
 pub fn text_before_line(number: u64, text: &[u8]) -> &[u8]
     ensures { result.now ≡ text_before_line number text.now }
 {
@@ -69,7 +69,7 @@ pub fn text_before_line(number: u64, text: &[u8]) -> &[u8]
     &text[..text.len().saturating_sub(rest.len())]
 }
 
-/// Returns how many lines a text has, a last one without its LF not among them.
+/// Returns how many lines a text has, without a last one that has no LF.
 pub(crate) fn lines_in(text: &[u8]) -> usize
     ensures value { result ≡ lines_in text.now }
     ensures few { result ≤ length text.now }

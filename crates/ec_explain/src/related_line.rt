@@ -15,11 +15,11 @@ enum Target<'a> {
     Call(&'a [u8]),
     /// The line that declares what is called so.
     Declaration(&'a [u8]),
-    /// A line by which this worker hands its component of what is called so to another.
+    /// A line by which this worker transfers its component of the eventcount called so.
     Hand(&'a [u8], &'a [u8]),
 }
 
-/// Returns whether a line is looked for.
+/// Returns whether a line is one that is looked for.
 fn fits(sought: &Target<'_>, line: &[u8]) -> bool
     ensures { result ≡ fits sought.now line.now }
 {
@@ -38,7 +38,7 @@ fn fits(sought: &Target<'_>, line: &[u8]) -> bool
     }
 }
 
-/// Returns the number of a line if it is looked for, else that of an earlier one.
+/// Returns the number of a line if it is looked for, otherwise that of an earlier one.
 fn found_or(sought: &Target<'_>, line: &[u8], number: usize, found: Option<usize>) -> Option<usize>
     ensures { result ≡ (if fits sought.now line.now then Some number else found) }
 {
@@ -72,7 +72,7 @@ pub(crate) fn call_line(number: u64, text: &[u8]) -> Option<usize>
     last_in(&Target::Call(worker), text_before_line(number, text))
 }
 
-/// Returns what a word of an object begins with: the name of its declaration.
+/// Returns the name of an object's declaration, with which the object's word begins.
 fn base_of(word: &[u8]) -> &[u8]
     ensures { result.now ≡ base_of word.now }
 {
@@ -87,8 +87,8 @@ pub(crate) fn declaration_line(number: u64, text: &[u8]) -> Option<usize>
     last_in(&Target::Declaration(name), text_before_line(number, text))
 }
 
-/// Returns the number of the line by which the worker of a line last handed its component of the
-/// line's object to another.
+/// Returns the number of the line by which the worker of a line last transferred its component of
+/// the line's object.
 fn hand_line(number: u64, text: &[u8]) -> Option<usize>
     ensures { result ≡ hand_line number text.now }
 {
@@ -100,7 +100,7 @@ fn hand_line(number: u64, text: &[u8]) -> Option<usize>
 }
 
 /// Returns the number of the line by which the worker of a line lost its right to the line's
-/// object, or else of the line that declares the object and who has the right.
+/// object. If there is none, it is the line that declares the object and who has the right.
 pub(crate) fn right_line(number: u64, text: &[u8]) -> Option<usize>
     ensures { result ≡ right_line number text.now }
 {

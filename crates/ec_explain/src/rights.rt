@@ -1,4 +1,4 @@
-//! Who asks for what in a line, and who has the right to it.
+//! Which right the act of a line needs, and who has it.
 ghost use Rattle.std.specs.Prelude.{◌≡◌, ◌<◌, ◌++◌, ◌∷◌, [], IfOk, OnOk, reverse, if◌then◌else◌};
 ghost use Rattle.ec_core.specs.Acceptance.{has_right};
 ghost use Rattle.ec_explain.specs.Rights.{parse_act, asked_by, asked_in, holders};
@@ -13,7 +13,7 @@ static SIGNALLING: [&str; 2] = ["advance", "hand"];
 
 static OBSERVING: [&str; 2] = ["read", "await"];
 
-/// Who asks for what.
+/// A worker, and the right that it needs.
 #[derive(Clone, Copy, Debug, PartialEq, Eq)]
 pub struct Asked {
     pub worker: WorkerId,
@@ -46,7 +46,7 @@ fn parse_act(heading: &Heading, verb: &[u8], word: &[u8]) -> Option<Act>
     None
 }
 
-/// Returns who asks for an act, if there is one.
+/// Returns a worker with its act, if there is an act.
 fn asked_by(act: Option<Act>, worker: WorkerId) -> Option<Asked>
     ensures { result ≡ asked_by act worker }
 {
@@ -56,7 +56,7 @@ fn asked_by(act: Option<Act>, worker: WorkerId) -> Option<Asked>
     }
 }
 
-/// Returns who asks in a line, and for what.
+/// Returns the worker of a line, and the right that its act needs.
 pub fn asked_in(heading: &Heading, line: &[u8]) -> Option<Asked>
     ensures { result ≡ asked_in heading.now line.now }
 {

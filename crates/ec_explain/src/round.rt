@@ -13,14 +13,14 @@ use ec_core::{Act, Entry, Run, World};
 use ec_count::{EventId, WorkerId};
 use std::alloc::{AllocError, Global};
 
-/// What an entry found that read a component.
+/// What an entry found when it read a component.
 #[derive(Clone, Copy, Debug, PartialEq, Eq)]
 pub struct Look {
     /// The number of the component, from 0.
     pub component: usize,
-    /// What it had counted.
+    /// The count of the component.
     pub number: u64,
-    /// Who signalled it.
+    /// The worker that signalled it.
     pub signaller: Option<WorkerId>,
     /// The position of the entry in the history.
     pub position: usize,
@@ -102,7 +102,7 @@ fn add_look(looks: &mut Vec<Look>, look: Option<Look>) -> Result<(), AllocError>
     }
 }
 
-/// Keeps what an act found, if its round goes on.
+/// Adds what an act found, if its round goes on; otherwise drops what the round found.
 fn update_looks(
     looks: &mut Vec<Look>,
     goes_on: bool,
@@ -129,7 +129,7 @@ fn enter(world: &mut World, entry: &Entry)
     let _reply = world.step(entry.worker, entry.act);
 }
 
-/// Makes the step of an entry, and keeps what it finds, if it is one of this worker.
+/// Makes the step of an entry, and adds what it finds, if it is one of this worker.
 fn take(
     looks: &mut Vec<Look>,
     world: &mut World,
@@ -174,8 +174,9 @@ fn looks_so_far(alloc: Global, run: &Run, worker: WorkerId) -> Result<Vec<Look>,
     Ok(looks)
 }
 
-/// Returns what the round of a worker has found with its act at the end of a run: a read or an
-/// await, or a go of one.
+/// Returns what the round of a worker has found, with its act at the end of a run.
+///
+/// The act is a read or an await, or a `go` of one.
 pub fn looks_with(
     alloc: Global,
     run: &Run,

@@ -10,14 +10,14 @@ use crate::words::{is_same, word_at, word_start};
 use ec_heading::{HeadFault, count_words};
 use ec_script::Kind;
 
-/// Returns the place of the number of a line.
+/// Returns the index of the word that is the number of a line.
 fn number_place(line: &[u8]) -> usize
     ensures { result ≡ script_number_place line.now }
 {
     if count_words(line) == 2 { 1 } else { 2 }
 }
 
-/// Returns what is wrong with a line that names one if two are wanted.
+/// Returns what is wrong with a line that names a semaphore twice, or a worker in both lists.
 fn roles_at(number: u64, line: &[u8]) -> Finding
     ensures { result ≡ script_roles_at number line.now }
 {
@@ -27,8 +27,9 @@ fn roles_at(number: u64, line: &[u8]) -> Finding
     finding_by_bytes(Cause::TwoRoles, number, 0, line)
 }
 
-/// Returns what is wrong with a script whose first faulty line has this number and this least kind
-/// of fault.
+/// Returns what is wrong with a script.
+///
+/// Its first faulty line has this number, and this is the lowest kind of its errors.
 pub fn script_finding(kind: Kind, number: u64, text: &[u8]) -> Finding
     ensures { result ≡ script_finding kind number text.now }
 {

@@ -16,7 +16,7 @@ use ec_core::Reply;
 use ec_text::Output;
 use std::io::Write;
 
-/// Returns a byte as it is shown.
+/// Returns a byte as it is shown: `?` if it is no printable ASCII.
 fn plain(byte: u8) -> u8
     ensures { result ≡ plain byte }
 {
@@ -48,14 +48,14 @@ fn put_spaces<W: Write>(out: &mut Output<'_, W>, count: usize)
     }
 }
 
-/// Returns the first byte that is shown of a line.
+/// Returns the index of the first byte that is shown of a line.
 fn shown_from(place: usize) -> usize
     ensures { result ≡ shown_from place }
 {
     if place < 80 { 0 } else { place - 60 }
 }
 
-/// Returns the bytes that are shown of a line.
+/// Returns the bytes that are shown of a line, at most 100.
 fn shown_bytes(place: usize, line: &[u8]) -> &[u8]
     ensures { result.now ≡ shown_bytes place line.now }
 {
@@ -115,7 +115,7 @@ fn put_reply<W: Write>(out: &mut Output<'_, W>, reply: Reply)
     }
 }
 
-/// Puts the right reply, if the reply alone is wrong.
+/// Puts the right reply, if only the reply is wrong.
 fn put_right<W: Write>(out: &mut Output<'_, W>, right: &Option<Reply>)
     ensures { Puts out.old out.new (right_text right.now) }
 {
@@ -185,9 +185,11 @@ fn put_found<W: Write>(out: &mut Output<'_, W>, finding: &Finding, text: &[u8])
     put_why(out, finding, text);
 }
 
-/// Puts what is found wrong with a text: the line with a mark under the place, if a line shows it;
-/// a sentence on what is wrong, the right reply, and another line that shows why, if there are
-/// such; what more is known of it; and a sentence on how to mend it.
+/// Puts what is found wrong with a text, and how to mend it.
+///
+/// First comes the line with a mark under the place, if a line shows it. Then come a sentence on
+/// what is wrong, the right reply and another line that shows why, if there are such, and what more
+/// is known. A sentence on how to mend it is last.
 #[tactic(auto, unfolding(crate::specs::Findings::finding_text))]
 pub fn put_finding<W: Write>(out: &mut Output<'_, W>, finding: &Finding, more: &[u8], text: &[u8])
     ensures { Puts out.old out.new (finding_text finding.now more.now text.now) }

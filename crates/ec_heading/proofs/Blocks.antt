@@ -1,4 +1,4 @@
--- The blocks of cells of a heading end within the bound.
+-- The blocks of cells of a header end within the bound.
 use Rattle.std.proofs.Common.{◌≡◌, ℕ, ◌+◌, ◌<◌, ◌≤◌, List, [], ◌∷◌, ◌++◌, length, Bool, true, false, cond, Option, Some, None, option_and_then, sym, ap, subst, ◌∙◌, arith, inl, inr, bytes_eq, zero-le, IsSome, IfSome, ◌↔◌, lt-ltb, nat_lt}
 use Rattle.std.proofs.lemmas.Bool.{ltb-false, or_parts, cond-true, true≢false}
 use Rattle.ec_count.specs.Names.{find_name}
@@ -80,7 +80,7 @@ small_found (d ∷ es) w first n small e =
     let go : P (bytes_eq w d.0) = elim (bytes_eq w d.0) as P [ true ↦ λ f. end_found d.1 first n small.0 f | false ↦ λ f. small_found es w first n small.1 f ] in
     go e
 
--- a block that a name stands for ends at cell 256 or before
+-- a block that a name denotes ends at cell 256 or before
 pub block_ends : (h : HeadingModel) (w : List ℕ) (first n : ℕ) → IsHeading h → option_and_then block_of (find_name w h.words) ≡ Some (first, n) → first + n ≤ 256
 block_ends h w first n is e = small_found h.words w first n (small_heading h is) e
 

@@ -1,4 +1,4 @@
--- What is spelled is read: the line of the workers, and a declaration's.
+-- Encodings are read: the line of the workers, and that of a declaration.
 use Rattle.std.proofs.Common.{◌≡◌, ◌≢◌, ℕ, ◌+◌, ◌*◌, ◌≤◌, List, [], ◌∷◌, ◌++◌, length, get_or, Bool, true, false, ◌&&◌, eqb, Option, Some, None, unwrap_or, Ok, refl, sym, ap, ap₂, subst, ◌∙◌, arith, append_assoc, decimal, codes, not, if◌then◌else◌, ne_eqb, eqb-true, zero-le}
 use Rattle.std.specs.List.{list_all, AllByRecursion}
 use Rattle.std.specs.Char.{is_ascii_digit}
@@ -52,7 +52,7 @@ workers_read version limit ws are =
     line_read (empty_heading version limit []) (codes "workers") ws (literal_fit (codes "workers") refl refl, names_fit ws n) short
     ∙ workers_words version limit ws are
 
--- THE PHRASE THAT A DECLARATION IS SPELLED BY
+-- THE PHRASE OF A DECLARATION
 
 number_text : DeclKind → ℕ → List ℕ
 number_text s n = if has_number s then decimal n else []
@@ -134,7 +134,7 @@ ends_right : (o : Option (List ℕ)) (ws : List (List ℕ)) → is_stop o ≡ tr
 ends_right None ws good named = tt
 ends_right (Some stop) ws good named = no_stop stop ws (and_parts (is_literal stop) (is_reserved stop) good).1 named
 
--- the phrase makes the declaration again
+-- the phrase is read as the declaration
 number_back : (s : DeclKind) (n : ℕ) → is_in_range s n ≡ true → unwrap_or (number_in_word (number_text s n)) 0 ≡ n
 number_back s n range = elim (has_number s) as (λ b. has_number s ≡ b → unwrap_or (number_in_word (number_text s n)) 0 ≡ n) [
   | true ↦ λ q. ap (λ (w : List ℕ). unwrap_or (number_in_word w) 0) (text_if s n true q) ∙ ap (λ (o : Option ℕ). unwrap_or o 0) (number_again n (omega (arith, number_small s n range)))

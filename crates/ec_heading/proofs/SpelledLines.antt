@@ -1,4 +1,4 @@
--- What is read is spelled: the line of the workers, and a declaration's.
+-- What is read is an encoding: the line of the workers, and that of a declaration.
 use Rattle.std.proofs.Common.{◌≡◌, ℕ, ◌≤◌, List, [], ◌∷◌, ◌++◌, length, Bool, true, false, eqb, cond, Option, Some, None, unwrap_or, Result, Ok, Err, refl, sym, ap, ap₂, ◌∙◌, arith, append_assoc, codes, decimal, bytes_eq, ne_eqb, if◌then◌else◌}
 use Rattle.std.specs.List.{join_with_byte}
 use Rattle.std.proofs.lemmas.Bool.{true≢false, eqb-false, cond-false}
@@ -24,7 +24,7 @@ use Rattle.ec_heading.proofs.shared.Listed.{Named, ids_spelled, ids_some}
 use Rattle.ec_heading.proofs.shared.Declarable.{Heads, IsClean, clean, heads_all, heads_opened, may_declare}
 use Rattle.ec_heading.proofs.WorkersLine.{are_workers}
 
--- A LINE THAT IS TAKEN
+-- A LINE THAT IS ADDED
 
 accepted : (b : Bool) (r : Result HeadingModel HeadFault) (after : HeadingModel) → cond b (Err faults.BadLine) r ≡ Ok after → r ≡ Ok after
 accepted true r after e = cc
@@ -61,7 +61,7 @@ workers_spelled version limit line after e =
 
 -- A DECLARATION
 
--- a good number is spelled by its word
+-- a number in range is written as its word
 good_spelled : (s : DeclKind) (word : List ℕ) (o : Option ℕ) → number_in_word word ≡ o → has_number s ≡ true → is_bad_number s o ≡ false → decimal (unwrap_or o 0) ≡ word
 good_spelled s word None is has good = absurd (true≢false (sym has ∙ good))
 good_spelled s word (Some n) is has good = sym (number_takes word n is).0

@@ -1,4 +1,4 @@
--- The lists before and behind a word.
+-- The lists before and after a word.
 use Rattle.std.proofs.Common.{◌≡◌, ℕ, ◌+◌, ◌-◌, ◌<◌, List, [], ◌∷◌, ◌++◌, length, take, drop, Bool, true, false, Option, Some, None, zero, suc, refl, sym, ap, ◌∙◌, arith, bytes_eq, take_all, zero-add, unwrap_or, if◌then◌else◌, get_or, add-one, drop-cons}
 use Rattle.std.proofs.lemmas.List.{length-append, length-drop}
 use Rattle.std.proofs.lemmas.Slice.Eq.{bytes_eq-Decides}
@@ -119,14 +119,14 @@ pub opened_one : (s : DeclKind) (name number word : List ℕ)
     → opened_in s name number (word ∷ []) ≡ None
 opened_one s name number word = elim (bytes_eq word (opener s)) as (λ b. (if b then listed_in s name number [] else None) ≡ None) [ true ↦ listed_none s name number | false ↦ refl ]
 
--- the word is that of this sort, or of one further on in the table
+-- the word is that of this kind, or of one later in the table
 this_or_later : (w : List ℕ) (t s : DeclKind) (o : Option DeclKind) → (if bytes_eq w (sort_word t) then Some t else o) ≡ Some s → (o ≡ Some s → sort_word s ≡ w) → sort_word s ≡ w
 this_or_later w t s o is later =
     elim (bytes_eq w (sort_word t)) as (λ b. bytes_eq w (sort_word t) ≡ b → (if b then Some t else o) ≡ Some s → sort_word s ≡ w)
     [ true ↦ (λ same e. ap sort_word (sym (ap (λ (o : Option DeclKind). unwrap_or o t) e)) ∙ sym ((bytes_eq-Decides w (sort_word t)).0 same)) | false ↦ (λ _ e. later e) ]
     refl is
 
--- a word that opens a sort is the word of the sort
+-- a word that opens a kind of declaration is the word of that kind
 pub word_of_sort : (w : List ℕ) (s : DeclKind) → sort_of w ≡ Some s → sort_word s ≡ w
 word_of_sort w s is =
     this_or_later w sorts.EventCount s _ is (λ e.

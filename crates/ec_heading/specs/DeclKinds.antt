@@ -1,4 +1,4 @@
--- The forms of declarations, as a table over their sorts.
+-- The forms of declarations, as a table over their kinds.
 use Rattle.std.specs.Prelude.{ℕ, Bool, true, false, ◌&&◌, nat_le, List, Option, Some, None, if◌then◌else◌, bytes_eq, codes}
 use Rattle.ec_count.specs.Reserved.{is_name}
 use Rattle.ec_semaphore.specs.declared.shape.TheConstants.{INITIAL_MAX}
@@ -15,7 +15,7 @@ sort_word sorts.Database = codes "database"
 sort_word sorts.Semaphore = codes "semaphore"
 sort_word sorts.Both = codes "both"
 
--- the sort that a word opens
+-- the kind of declaration that a word opens
 abbrev pub sort_of : List ℕ → Option DeclKind
 sort_of w =
     if bytes_eq w (codes "eventcount") then Some sorts.EventCount
@@ -26,7 +26,7 @@ sort_of w =
     else (if bytes_eq w (codes "semaphore") then Some sorts.Semaphore
     else (if bytes_eq w (codes "both") then Some sorts.Both else None))))))
 
--- whether a name stands behind it
+-- whether a name follows it
 abbrev pub has_name : DeclKind → Bool
 has_name sorts.EventCount = true
 has_name sorts.Sequencer = true
@@ -36,7 +36,7 @@ has_name sorts.Database = true
 has_name sorts.Semaphore = true
 has_name sorts.Both = false
 
--- whether a number stands behind the name
+-- whether a number follows the name
 abbrev pub has_number : DeclKind → Bool
 has_number sorts.EventCount = false
 has_number sorts.Sequencer = false
@@ -65,11 +65,12 @@ greatest sorts.Database = 256
 greatest sorts.Semaphore = INITIAL_MAX
 greatest sorts.Both = 0
 
--- whether a declaration of this sort may have this number
+-- whether a declaration of this kind may have this number
 abbrev pub is_in_range : DeclKind → ℕ → Bool
 is_in_range s n = nat_le (least s) n && nat_le n (greatest s)
 
--- whether a declaration of this sort may be called so: by a name, or by its own word if its form has no name
+-- whether a declaration of this kind may be called so: by a name, or by the kind's own word if its
+-- form has no name
 abbrev pub is_called : DeclKind → List ℕ → Bool
 is_called s name = if has_name s then is_name name else bytes_eq name (sort_word s)
 
@@ -103,7 +104,7 @@ needs_second sorts.Database = true
 needs_second sorts.Semaphore = false
 needs_second sorts.Both = false
 
--- whether no worker may stand in both lists
+-- whether no worker may be in both lists
 abbrev pub needs_disjoint_lists : DeclKind → Bool
 needs_disjoint_lists sorts.EventCount = false
 needs_disjoint_lists sorts.Sequencer = false

@@ -1,4 +1,4 @@
--- The outline of a heading: its version, its limit, its workers and its declarations, apart from how they are read or written.
+-- The syntax tree of a header: its version, its limit, its workers and its declarations.
 use Rattle.std.specs.Prelude.{◌≡◌, ◌≢◌, ℕ, ◌+◌, ◌≤◌, Bool, true, ◌==◌, nat_le, List, [], ◌∷◌, ◌++◌, length, Option, Some, None, if◌then◌else◌}
 use Rattle.std.specs.List.{All, AllPairs, cons_option}
 use Rattle.ec_count.specs.Tables.{Tables, empty_tables, event_fault, list_fault, cells_fault, with_event, with_cells}
@@ -19,8 +19,8 @@ use Rattle.ec_heading.specs.HeadingModel.{HeadingModel}
 use Rattle.ec_heading.specs.declared.version.Version.{Version}
 use Rattle.ec_heading.specs.Versions.{greatest_limit}
 
--- a declaration: its sort, what it is called (its name, or its sort's own word if its form has none), its number (0 if
--- its form has none), and the workers of its two lists
+-- a declaration: its kind, what it is called (its name, or its kind's own word if its form has
+-- none), its number (0 if its form has none), and the workers of its two lists
 pub record Declaration : Type 0 where
   pub sort : DeclKind
   pub name : List ℕ
@@ -36,7 +36,7 @@ pub record HeaderTree : Type 0 where
 
 -- WHAT A DECLARATION ADDS
 
--- the tables with the objects of a declaration of this sort
+-- the tables with the objects of a declaration of this kind
 abbrev pub with_objects : DeclKind → Tables → ℕ → List ℕ → List ℕ → Tables
 with_objects sorts.EventCount t n ws vs = with_event t ws vs
 with_objects sorts.Sequencer t n ws vs = with_sequencer t ws
@@ -46,7 +46,7 @@ with_objects sorts.Database t n ws vs = with_database t n ws vs
 with_objects sorts.Semaphore t n ws vs = with_semaphore t ws
 with_objects sorts.Both t n ws vs = with_semaphore t ws
 
--- why the tables can't take them, if they can't
+-- why they can't be added to the tables, if they can't
 abbrev pub objects_fault : DeclKind → Tables → ℕ → List ℕ → List ℕ → Option SetupFault
 objects_fault sorts.EventCount t n ws vs = event_fault t ws vs
 objects_fault sorts.Sequencer t n ws vs = list_fault t (nat_le 32 (length t.takers)) ws (length ws == 0)
@@ -60,11 +60,11 @@ objects_fault sorts.Both t n ws vs = semaphore_fault t 1 ws
 abbrev pub named_as : DeclKind → List ℕ → Target → List (List ℕ × Target)
 named_as s name target = if has_name s then (name, target) ∷ [] else []
 
--- the numbers that come next in a heading
+-- the numbers that come next in a header
 abbrev pub next_ids : HeadingModel → Next
 next_ids h = ids_after h.setup (length h.groups)
 
--- the heading with one more declaration
+-- the header with one more declaration
 abbrev pub with_declaration : HeadingModel → Declaration → HeadingModel
 with_declaration h d = record {
   version = h.version;
@@ -80,29 +80,29 @@ abbrev pub number_names : ℕ → List (List ℕ) → List (List ℕ × Target)
 number_names n [] = []
 number_names n (w ∷ ws) = (w, Worker n) ∷ number_names (n + 1) ws
 
--- the heading without declarations
+-- the header without declarations
 abbrev pub empty_heading : Version → ℕ → List (List ℕ) → HeadingModel
 empty_heading version limit workers = record { version = version; setup = record (empty_tables limit) { workers = length workers }; names = number_names 0 workers; words = number_names 0 workers; groups = []; declarations = [] }
 
--- the heading with these declarations in turn
+-- the header with these declarations added in order
 abbrev pub with_declarations : HeadingModel → List Declaration → HeadingModel
 with_declarations h [] = h
 with_declarations h (d ∷ ds) = with_declarations (with_declaration h d) ds
 
--- what an outline declares
+-- the header that a syntax tree declares
 abbrev pub heading_of_tree : HeaderTree → HeadingModel
 heading_of_tree o = with_declarations (empty_heading o.version o.limit o.workers) o.declarations
 
--- WHICH DECLARATIONS MAY STAND
+-- WHICH DECLARATIONS ARE ALLOWED
 
 -- a form without a second list has none
 abbrev pub fits_form : Option (List ℕ) → List ℕ → Bool
 fits_form None vs = length vs == 0
 fits_form (Some w) vs = true
 
--- the declaration may stand after this heading: it may be called so, nothing is called so yet, its number is in range,
--- and the tables take its objects (there is room, and each list names declared workers, each once, and somebody if
--- it must)
+-- the declaration is allowed after this header: it may be called so, nothing is called so yet, its
+-- number is in range, and its objects can be added to the tables (there is room, and each list
+-- names declared workers, each once, and at least one if it must)
 pub record IsDeclarable (h : HeadingModel) (d : Declaration) : Type 0 where
   pub word : is_called d.sort d.name ≡ true
   pub new : find_name d.name h.words ≡ None
@@ -110,7 +110,7 @@ pub record IsDeclarable (h : HeadingModel) (d : Declaration) : Type 0 where
   pub form : fits_form (second_opener d.sort) d.second ≡ true
   pub taken : objects_fault d.sort h.setup d.number d.first d.second ≡ None
 
--- each may stand after those before it
+-- each is allowed after those before it
 abbrev pub AreDeclarable : HeadingModel → List Declaration → Type 0
 AreDeclarable h [] = Unit {0}
 AreDeclarable h (d ∷ ds) = IsDeclarable h d × AreDeclarable (with_declaration h d) ds
@@ -122,7 +122,7 @@ pub record AreWorkers (workers : List (List ℕ)) : Type 0 where
   pub each : All (λ w. is_name w ≡ true) workers
   pub differ : AllPairs (λ v w. v ≢ w) workers
 
--- an outline of a heading
+-- a valid syntax tree of a header
 pub record IsHeaderTree (o : HeaderTree) : Type 0 where
   pub low : 1 ≤ o.limit
   pub high : o.limit ≤ greatest_limit o.version

@@ -1,4 +1,4 @@
--- What a line does to a heading, by the words of the line.
+-- What a line adds to a header, by the words of the line.
 use Rattle.std.specs.Prelude.{◌≡◌, ℕ, Bool, ◌==◌, ◌||◌, nat_lt, List, [], ◌∷◌, length, Option, Some, None, Result, Ok, Err, IsOk, if◌then◌else◌, bytes_eq, codes}
 use Rattle.std.specs.List.{list_any}
 use Rattle.ec_text.specs.Words.{words_of}
@@ -10,14 +10,14 @@ use Rattle.ec_heading.specs.declared.version.Version.{Version}
 use Rattle.ec_heading.specs.declared.heading.HeadFault.{HeadFault}
 use Rattle.ec_heading.specs.declared.heading.HeadFault.TheVariants as faults
 
--- the fault, else the heading
+-- the fault, or otherwise the header
 abbrev pub fault_or : Option HeadFault → HeadingModel → Result HeadingModel HeadFault
 fault_or None h = Ok h
 fault_or (Some fault) h = Err fault
 
 -- THE LINE OF THE WORKERS
 
--- the names behind the word `workers`, of which there is at least one
+-- the names after the word `workers`, if there is at least one
 abbrev pub workers_in : List (List ℕ) → Option (List (List ℕ))
 workers_in [] = None
 workers_in (w ∷ []) = None
@@ -35,7 +35,7 @@ declared_or h (Some p) = fault_or (declaration_fault h.setup h.words p) (with_de
 
 -- EITHER
 
--- the line of the workers comes first, and then declarations alone
+-- the line of the workers comes first, and then only declarations
 abbrev pub words_step : HeadingModel → List (List ℕ) → Result HeadingModel HeadFault
 words_step h ws = if h.setup.workers == 0 then opened_by h.version h.setup.limit (workers_in ws) else declared_or h (parts_in ws)
 
@@ -43,11 +43,12 @@ words_step h ws = if h.setup.workers == 0 then opened_by h.version h.setup.limit
 abbrev pub is_no_line : List ℕ → Bool
 is_no_line line = nat_lt 8192 (length line) || list_any (λ w. length w == 0) (words_of line)
 
--- the heading after a line, or the least fault of the line
+-- the header after a line, or the lowest fault of the line
 unfoldable pub head_step : HeadingModel → List ℕ → Result HeadingModel HeadFault
 head_step h line = if is_no_line line then Err faults.BadLine else words_step h (words_of line)
 
--- what a call that was handed a line answered and left: memory apart, the answer is the step's, and a fault changes nothing
+-- what a call with a line returns and changes: the fault is that of the step, or out of memory if
+-- the step has none; and a fault changes nothing
 abbrev pub FailsAs : HeadFault → Result HeadingModel HeadFault → Type 0
 FailsAs faults.Memory stepped = IsOk stepped
 FailsAs fault stepped = stepped ≡ Err fault

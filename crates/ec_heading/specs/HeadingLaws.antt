@@ -1,4 +1,5 @@
--- Laws of headings: what is spelled is read, what is read is spelled, and so the lines of a heading are those of its outline.
+-- Theorems about headers: an encoding is read as what it encodes, nothing else is read, and so the
+-- lines of a header are those of its syntax tree.
 use Rattle.std.specs.Prelude.{◌≡◌, ℕ, ◌≤◌, List, [], ◌∷◌, map, Ok}
 use Rattle.ec_heading.specs.declared.version.Version.{Version}
 use Rattle.ec_heading.specs.Versions.{greatest_limit}
@@ -7,7 +8,7 @@ use Rattle.ec_heading.specs.HeaderTree.{Declaration, HeaderTree, AreWorkers, IsD
 use Rattle.ec_heading.specs.Spelling.{workers_line, declaration_line}
 use Rattle.ec_heading.specs.Heading.{head_step}
 
--- WHAT IS SPELLED IS READ
+-- ENCODINGS ARE READ
 
 abbrev pub SpelledWorkersAreRead : Type 0
 SpelledWorkersAreRead = (version : Version) (limit : ℕ) (workers : List (List ℕ)) → AreWorkers workers
@@ -20,9 +21,9 @@ SpelledDeclarationIsRead = (version : Version) (limit : ℕ) (workers : List (Li
     → head_step (with_declarations (empty_heading version limit workers) before) (declaration_line workers d)
     ≡ Ok (with_declaration (with_declarations (empty_heading version limit workers) before) d)
 
--- WHAT IS READ IS SPELLED
+-- WHAT IS READ IS AN ENCODING
 
--- the line names these workers, and the heading has them
+-- the line is the encoding of these workers, and the header has them
 pub record NamesWorkers (version : Version) (limit : ℕ) (line : List ℕ) (after : HeadingModel) : Type 0 where
   pub workers : List (List ℕ)
   pub are : AreWorkers workers
@@ -34,7 +35,7 @@ ReadWorkersAreSpelled = (version : Version) (limit : ℕ) (line : List ℕ) (aft
     → head_step (empty_heading version limit []) line ≡ Ok after
     → NamesWorkers version limit line after
 
--- the line spells this declaration, and the heading has it
+-- the line is the encoding of this declaration, which is allowed, and the header has it
 pub record Declares (workers : List (List ℕ)) (before : HeadingModel) (line : List ℕ) (after : HeadingModel) : Type 0 where
   pub declaration : Declaration
   pub may : IsDeclarable before declaration
@@ -46,9 +47,9 @@ ReadDeclarationIsSpelled = (version : Version) (limit : ℕ) (workers : List (Li
     → head_step (with_declarations (empty_heading version limit workers) before) line ≡ Ok after
     → Declares workers (with_declarations (empty_heading version limit workers) before) line after
 
--- THE LINES OF A HEADING
+-- THE LINES OF A HEADER
 
--- these lines, each in its turn, lead from a heading to another
+-- these lines, added in order, lead from one header to another
 abbrev pub LinesLead : HeadingModel → List (List ℕ) → HeadingModel → Type 0
 LinesLead h [] end = h ≡ end
 LinesLead h (line ∷ lines) end = (next : HeadingModel) × (head_step h line ≡ Ok next) × LinesLead next lines end
@@ -60,7 +61,8 @@ outline_lines o = workers_line o.workers ∷ map (declaration_line o.workers) o.
 abbrev pub OutlineLinesLead : Type 0
 OutlineLinesLead = (o : HeaderTree) → IsHeaderTree o → LinesLead (empty_heading o.version o.limit []) (outline_lines o) (heading_of_tree o)
 
--- an outline with this version and this limit has these lines, and the heading is what it declares
+-- a syntax tree with this version and this limit has these lines, and the header is what it
+-- declares
 pub record Outlines (version : Version) (limit : ℕ) (lines : List (List ℕ)) (end : HeadingModel) : Type 0 where
   pub outline : HeaderTree
   pub is : IsHeaderTree outline

@@ -1,4 +1,4 @@
--- Why a line of a heading is refused: each kind of fault is a test of its own.
+-- Why a line of a header is rejected: each kind of fault has a test.
 use Rattle.std.specs.Prelude.{ℕ, ◌+◌, Bool, ◌&&◌, ◌||◌, not, nat_lt, List, [], ◌∷◌, length, Option, Some, None, is_some, unwrap_or}
 use Rattle.std.specs.List.{list_any}
 use Rattle.ec_count.specs.Tables.{Tables, first_that}
@@ -21,7 +21,8 @@ use Rattle.ec_heading.specs.Lists.{ids_in, has_unknown, has_word_twice}
 abbrev pub NameTable : Type 0
 NameTable = List (List ℕ × Target)
 
--- the number of each kind of fault, which it has among the faults of scripts; want of memory is no fault of a line
+-- the number of each kind of fault, among the kinds of errors of scripts; out of memory is no fault
+-- of a line
 abbrev pub fault_number : HeadFault → Option ℕ
 fault_number faults.BadLine = Some 2
 fault_number faults.BadName = Some 3
@@ -34,7 +35,7 @@ fault_number faults.Memory = None
 
 -- A LINE OF WORKERS
 
--- the least fault of the names of workers
+-- the lowest fault of the names of workers
 abbrev pub workers_fault : List (List ℕ) → Option HeadFault
 workers_fault ws = first_that (
     (list_any (λ w. not (is_name w)) ws, faults.BadName)
@@ -47,15 +48,15 @@ workers_fault ws = first_that (
 abbrev pub second_list : Phrase → List (List ℕ)
 second_list p = unwrap_or p.second []
 
--- the number; 0 if the form has none, and where there are more than 18 digits
+-- the number; 0 if the form has none, or if it has more than 18 digits
 abbrev pub size_in : Phrase → ℕ
 size_in p = unwrap_or (number_in_word p.number) 0
 
--- the declaration that such a line makes, by the words of the heading
+-- the declaration that such a line makes, by the words of the header
 abbrev pub declaration_of : NameTable → Phrase → Declaration
 declaration_of words p = record { sort = p.sort; name = p.name; number = size_in p; first = ids_in words p.first; second = ids_in words (second_list p) }
 
--- whether something is called so already, or a list names a worker twice
+-- whether the name is in use, or a list names a worker twice
 abbrev pub is_taken : NameTable → Declaration → Bool
 is_taken words d = is_some (find_name d.name words) || (has_repeat d.first || has_repeat d.second)
 
@@ -81,11 +82,11 @@ is_full_for sorts.Both t n = nat_lt 31 (length t.events) || nat_lt 31 (length t.
 abbrev pub is_too_many : Tables → Declaration → Bool
 is_too_many t d = (nat_lt 16 (length d.first) || nat_lt 16 (length d.second)) || is_full_for d.sort t d.number
 
--- whether a worker stands in both lists of a sort that keeps them apart
+-- whether a worker is in both lists, which have to be disjoint
 abbrev pub has_two_roles : Declaration → Bool
 has_two_roles d = needs_disjoint_lists d.sort && list_any (λ w. is_member w d.second) d.first
 
--- the least fault of a line of one of the forms
+-- the lowest fault of a declaration, of a line that has one of the forms
 abbrev pub kind_of : Tables → NameTable → Phrase → Declaration → Option HeadFault
 kind_of t words p d = first_that (
     (not (is_called d.sort d.name), faults.BadName)

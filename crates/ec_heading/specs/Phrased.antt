@@ -18,23 +18,23 @@ NameFits s name = has_name s ≡ false → name ≡ sort_word s
 abbrev pub number_part : DeclKind → List ℕ → List (List ℕ)
 number_part s number = if has_number s then number ∷ [] else []
 
--- the number is a number by its form, and where the form has none there is none
+-- the number has the form of a number, and is [] if the declaration's form has none
 pub record NumberFits (s : DeclKind) (number : List ℕ) : Type 0 where
   pub none : has_number s ≡ false → number ≡ []
   pub some : has_number s ≡ true → is_number_form number ≡ true
 
--- the second list behind its word, where it stands there
+-- the second list after its word, if it is there
 abbrev pub second_part : Option (List ℕ) → Option (List (List ℕ)) → List (List ℕ)
 second_part (Some stop) (Some vs) = stop ∷ vs
 second_part _ _ = []
 
--- it may be left out if the form doesn't need it, and has a word where it stands
+-- the second list may be left out if the form doesn't need it, and has a word if it is there
 abbrev pub SecondFits : Bool → Option (List ℕ) → Option (List (List ℕ)) → Type 0
 SecondFits needs o None = needs ≡ false
 SecondFits needs None (Some vs) = ⊥
 SecondFits needs (Some stop) (Some vs) = HasWords vs
 
--- the words behind the name
+-- the words after the name
 abbrev pub behind_name : DeclKind → List ℕ → List (List ℕ) → List (List ℕ)
 behind_name s number ws = number_part s number ++ opener s ∷ ws
 
@@ -44,8 +44,9 @@ HasNoStop None ws = Unit {0}
 HasNoStop (Some stop) [] = Unit {0}
 HasNoStop (Some stop) (w ∷ ws) = (bytes_eq w stop ≡ false) × HasNoStop (Some stop) ws
 
--- the words are those of this phrase: its sort's word, its name and its number if its form has them, the word before its first
--- list, that list, and the second one behind its word; each list has a word, and the first ends before the first such word
+-- the words are those of this phrase: the word of its kind, its name and its number if its form has
+-- them, the word before its first list, that list, the word before its second list, and that list;
+-- each list has a word, and the first list doesn't have the word before the second
 pub record IsSpelled (ws : List (List ℕ)) (p : Phrase) : Type 0 where
   pub words : ws ≡ sort_word p.sort ∷ (name_words p.sort p.name ++ behind_name p.sort p.number (p.first ++ second_part (second_opener p.sort) p.second))
   pub name : NameFits p.sort p.name

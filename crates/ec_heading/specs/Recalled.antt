@@ -1,4 +1,4 @@
--- The outline of a heading, found again from what it declares, and the text of a trace by it.
+-- The syntax tree of a header, computed from what it declares, and the text of a trace by it.
 use Rattle.std.specs.Prelude.{ℕ, List, [], ◌∷◌, ◌++◌, map, Option, Some, None, option_map, slice_get, codes}
 use Rattle.std.specs.List.{filter_map, flat_map, range_with_len}
 use Rattle.ec_count.specs.Tables.{Tables, signallers}
@@ -42,7 +42,7 @@ declarations_of h = filter_map (declaration_of h) h.declarations
 abbrev pub outline_of : HeadingModel → HeaderTree
 outline_of h = record { version = h.version; limit = h.setup.limit; workers = worker_names h; declarations = declarations_of h }
 
--- THE LINES, BY THE NAMES OF THE HEADING
+-- THE LINES, BY THE NAMES OF THE HEADER
 
 -- each word with a space before it
 abbrev pub with_spaces : List (List ℕ) → List ℕ

@@ -1,4 +1,5 @@
--- The one spelling of headings, entries and traces. Words are separated by one space, and each line ends in one LF.
+-- The canonical encoding of headers, entries and traces. Words are separated by one space, and each
+-- line ends in one LF.
 use Rattle.std.specs.Prelude.{ℕ, ◌+◌, ◌-◌, Bool, false, ◌&&◌, nat_le, nat_lt, List, [], ◌∷◌, ◌++◌, map, Option, Some, None, if◌then◌else◌, unwrap_or, slice_index_or, codes, decimal}
 use Rattle.std.specs.List.{join_with_byte, flat_map}
 use Rattle.ec_count.specs.Names.{name_of}
@@ -18,7 +19,7 @@ use Rattle.ec_heading.specs.HeaderTree.{Declaration, HeaderTree, heading_of_tree
 abbrev pub NameTable : Type 0
 NameTable = List (List ℕ × Target)
 
--- HEADINGS
+-- HEADERS
 
 abbrev pub limit_line : ℕ → List ℕ
 limit_line limit = codes "limit " ++ decimal limit
@@ -56,7 +57,7 @@ declaration_line workers d = join_with_byte 32 (declaration_words workers d)
 abbrev pub target_name : NameTable → Target → List ℕ
 target_name names target = unwrap_or (name_of target names) []
 
--- a cell is spelled by the name of its block and its number there
+-- a cell is written as the name of its block and its number there
 abbrev pub cell_in : ℕ → Target → Bool
 cell_in x (Cells first n) = nat_le first x && nat_lt x (first + n)
 cell_in x _ = false
@@ -111,6 +112,6 @@ ended_line line = line ++ 10 ∷ []
 abbrev pub lines_text : List (List ℕ) → List ℕ
 lines_text lines = flat_map ended_line lines
 
--- the trace of a history under a heading
+-- the trace of a history under a header
 unfoldable pub trace_text : HeaderTree → List Entry → List ℕ
 trace_text o entries = lines_text (trace_lines o entries)

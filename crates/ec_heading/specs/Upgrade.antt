@@ -1,4 +1,4 @@
--- What is upgraded to version 2.
+-- Headers upgraded to version 2.
 use Rattle.ec_heading.specs.declared.version.Version.TheVariants.{Two}
 use Rattle.ec_heading.specs.HeadingModel.{HeadingModel}
 use Rattle.ec_heading.specs.HeaderTree.{HeaderTree}

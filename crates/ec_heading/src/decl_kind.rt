@@ -1,4 +1,4 @@
-//! The sorts of declarations.
+//! The kinds of declarations, and the form of each.
 ghost use Rattle.std.specs.Prelude.{◌≡◌, option_map};
 ghost use Rattle.ec_heading.specs.DeclKinds.{sort_word, sort_of, has_name, has_number, least, greatest, is_in_range, is_called, opener, second_opener, needs_second, needs_disjoint_lists};
 
@@ -6,7 +6,7 @@ use crate::lists::is_same;
 use ec_count::is_name;
 use ec_semaphore::INITIAL_MAX;
 
-/// What a declaration declares.
+/// The kind of a declaration.
 #[derive(Clone, Copy, Debug, PartialEq, Eq)]
 pub enum DeclKind {
     EventCount,
@@ -18,7 +18,7 @@ pub enum DeclKind {
     Both,
 }
 
-/// Returns the sort that an opening word stands for.
+/// Returns the kind of declaration that a word opens.
 pub fn sort_of(word: &[u8]) -> Option<DeclKind>
     ensures { result ≡ sort_of word.now }
 {
@@ -62,7 +62,7 @@ impl DeclKind {
         }
     }
 
-    /// Returns whether a name stands behind that word.
+    /// Returns whether a name follows that word.
     pub fn has_name(self) -> bool
         ensures { result ≡ has_name self }
     {
@@ -73,8 +73,9 @@ impl DeclKind {
         }
     }
 
-    /// Returns whether a declaration of this sort may be called so: by a name, or by the sort's own
-    /// word if its form has no name.
+    /// Returns whether a declaration of this kind may be called so.
+    ///
+    /// That is by a name, or by the kind's own word if its form has no name.
     pub fn is_called(self, name: &[u8]) -> bool
         ensures { result ≡ is_called self name.now }
     {
@@ -85,7 +86,7 @@ impl DeclKind {
         }
     }
 
-    /// Returns whether a number stands behind the name.
+    /// Returns whether a number follows the name.
     pub fn has_number(self) -> bool
         ensures { result ≡ has_number self }
     {
@@ -116,7 +117,7 @@ impl DeclKind {
         }
     }
 
-    /// Returns whether a declaration of this sort may have this number.
+    /// Returns whether a declaration of this kind may have this number.
     pub fn is_in_range(self, number: u64) -> bool
         ensures { result ≡ is_in_range self number }
     {
@@ -138,7 +139,7 @@ impl DeclKind {
         }
     }
 
-    /// Returns the word before the second list.
+    /// Returns the word before the second list; `None` if its form has no second list.
     pub fn second_opener(self) -> Option<&'static [u8]>
         ensures { option_map (λ w. w.now) result ≡ second_opener self }
     {
@@ -161,7 +162,7 @@ impl DeclKind {
         }
     }
 
-    /// Returns whether no worker may stand in both lists.
+    /// Returns whether no worker may be in both lists.
     pub fn needs_disjoint_lists(self) -> bool
         ensures { result ≡ needs_disjoint_lists self }
     {

@@ -1,4 +1,4 @@
-//! What a word of an entry spells.
+//! What a word of an entry names.
 ghost use Rattle.std.specs.Prelude.{◌≡◌, option_map, Some};
 ghost use Rattle.ec_heading.specs.EntryWords.{block_of, target_event, target_sequencer, cut_at};
 ghost use Rattle.ec_heading.specs.EntryWords.{closed_number};
@@ -6,7 +6,7 @@ ghost use Rattle.ec_heading.specs.EntryWords.{closed_number};
 use ec_count::{EventId, SeqId, Target};
 use ec_text::number;
 
-/// Returns the eventcount that a name stands for, if it stands for one.
+/// Returns the eventcount that a name denotes; `None` if it denotes something else.
 pub(crate) fn target_event(target: Target) -> Option<EventId>
     ensures { result ≡ target_event target }
 {
@@ -16,7 +16,7 @@ pub(crate) fn target_event(target: Target) -> Option<EventId>
     }
 }
 
-/// Returns the sequencer that a name stands for, if it stands for one.
+/// Returns the sequencer that a name denotes; `None` if it denotes something else.
 pub(crate) fn target_sequencer(target: Target) -> Option<SeqId>
     ensures { result ≡ target_sequencer target }
 {
@@ -26,8 +26,8 @@ pub(crate) fn target_sequencer(target: Target) -> Option<SeqId>
     }
 }
 
-/// Returns the first cell of the block that a name stands for, if it stands for one, and how many
-/// it has.
+/// Returns the first cell of the block that a name denotes, and how many cells the block has;
+/// `None` if it denotes no block.
 pub(crate) fn block_of(target: Target) -> Option<(usize, usize)>
     ensures { result ≡ block_of target }
 {
@@ -37,7 +37,7 @@ pub(crate) fn block_of(target: Target) -> Option<(usize, usize)>
     }
 }
 
-/// Returns what stands before the first such byte, and what stands behind it.
+/// Returns what is before the first such byte, and what is after it; `None` if there is none.
 #[tactic(auto, using(crate::proofs::Bytes::cuts))]
 pub(crate) fn cut_at(word: &[u8], byte: u8) -> Option<(&[u8], &[u8])>
     ensures { option_map (λ p. (p.0.now, p.1.now)) result ≡ cut_at byte word.now }

@@ -8,8 +8,8 @@ use crate::decl_kind::{DeclKind, sort_of};
 use crate::lists::is_same;
 use ec_text::{cut_word, is_number_form};
 
-/// A declaration, by its words: if the form has no name it is the sort's own word, and where it
-/// has no number that is empty.
+/// A declaration, by its words. If its form has no name, `name` is the word of its kind; if it has
+/// no number, `number` is empty.
 #[derive(Clone, Copy)]
 pub(crate) struct Parts<'a> {
     pub(crate) sort: DeclKind,
@@ -26,7 +26,7 @@ pub(crate) struct Lists<'a> {
     pub(crate) second: Option<&'a [u8]>,
 }
 
-/// Returns how many bytes stand before the first such word.
+/// Returns how many bytes precede the first word `stop`; `None` if there is none.
 fn stop_at(list: &[u8], stop: &[u8]) -> Option<usize>
     ensures none { IfNone result (split_words stop.now (words_of list.now) ≡ (words_of list.now, None)) }
     ensures some { IfSome result (λ at. StopsAt stop.now list.now at) }
@@ -52,7 +52,7 @@ fn stop_at(list: &[u8], stop: &[u8]) -> Option<usize>
     }
 }
 
-/// Returns the lists before and behind the first `stop` of a list, if both are well formed.
+/// Returns the lists before and after the first `stop` of a list, if both are well formed.
 fn split_lists<'a>(list: &'a [u8], stop: &[u8], needs: bool) -> Option<Lists<'a>>
     ensures { option_map shown_lists result ≡ well_or needs (split_words stop.now (words_of list.now)) }
 {
@@ -82,7 +82,7 @@ fn split_lists<'a>(list: &'a [u8], stop: &[u8], needs: bool) -> Option<Lists<'a>
     }
 }
 
-/// Returns the two lists of names of a declaration of this sort, if both are well formed.
+/// Returns the two lists of names of a declaration of this kind, if both are well formed.
 fn parse_lists<'a>(sort: DeclKind, list: &'a [u8]) -> Option<Lists<'a>>
     ensures { option_map shown_lists result ≡ well_or (needs_second sort) (both_lists (second_opener sort) (words_of list.now)) }
 {
@@ -100,7 +100,7 @@ fn parse_lists<'a>(sort: DeclKind, list: &'a [u8]) -> Option<Lists<'a>>
     }
 }
 
-/// Returns the parts of a declaration from the word before its first list on.
+/// Returns the parts of a declaration, given those before its lists and the rest of its line.
 #[tactic(auto, using(crate::proofs::Stops::opened_one))]
 fn parts_from_first_list<'a>(
     sort: DeclKind,
@@ -127,7 +127,7 @@ fn parts_from_first_list<'a>(
     })
 }
 
-/// Returns the parts of a declaration from what stands behind its name on.
+/// Returns the parts of a declaration, given its name and the rest of its line.
 fn parts_after_name<'a>(sort: DeclKind, name: &'a [u8], rest: &'a [u8]) -> Option<Parts<'a>>
     ensures { option_map phrase_of_parts result ≡ numbered_in sort name.now (words_of rest.now) }
 {
@@ -143,7 +143,7 @@ fn parts_after_name<'a>(sort: DeclKind, name: &'a [u8], rest: &'a [u8]) -> Optio
     parts_from_first_list(sort, name, word, rest)
 }
 
-/// Returns the parts of a line of one of the forms.
+/// Returns the parts of a declaration's line; `None` if it has none of the forms.
 #[tactic(auto, using(crate::proofs::Stops::sorted_none, crate::proofs::Stops::word_of_sort), unfolding(crate::specs::Form::parts_in))]
 pub(crate) fn split_declaration(line: &[u8]) -> Option<Parts<'_>>
     ensures { option_map phrase_of_parts result ≡ parts_in (words_of line.now) }

@@ -120,7 +120,7 @@ fn push_semaphores(list: &mut Vec<SemaphoreShape>, groups: &[Group]) -> Result<(
     }
 }
 
-/// Returns the semaphores among groups, the one named `both` not among them.
+/// Returns the semaphores among groups, except the common one of `both`.
 pub fn semaphores_of(alloc: Global, groups: &[Group]) -> Result<Vec<SemaphoreShape>, AllocError>
     ensures { IfOk result (λ list. list.items ≡ semaphores_of groups.now) }
 {

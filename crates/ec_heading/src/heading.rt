@@ -1,4 +1,4 @@
-//! Headings.
+//! A header, built line by line.
 ghost use Rattle.std.specs.Prelude.{◌≡◌, ◌≢◌, ◌+◌, ◌++◌, ◌≤◌, ◌∷◌, IfErr, IfOk, OnErr, OnOk, [], None, false, true, length, option_map, vec_capacity};
 ghost use Rattle.std.specs.List.{All, cons_option};
 ghost use Rattle.ec_text.specs.Words.{words_of};
@@ -34,10 +34,10 @@ use std::alloc::{AllocError, Global};
 use std::marker::Model;
 use thiserror::Error;
 
-/// The most bytes that a line may have without its LF, in a heading, a trace and a script.
+/// The most bytes of a line, without its LF.
 pub const LINE_MAX: usize = 8192;
 
-/// Why a line of a heading is refused: the least of these that holds of the line.
+/// Why a line of a header is rejected: the first of these that holds of the line.
 #[derive(Clone, Copy, Debug, PartialEq, Eq, Error)]
 pub enum HeadFault {
     /// The line has none of the forms allowed in its place, or more than 8192 bytes.
@@ -55,13 +55,13 @@ pub enum HeadFault {
     /// A number is outside its range.
     #[error("a number is out of range")]
     BadNumber,
-    /// A table would pass its bound.
+    /// A table would exceed its bound.
     #[error("a table would pass its bound")]
     TooMany,
-    /// A worker stands in both lists of a group.
+    /// A worker is in both lists of a buffer or a database.
     #[error("a worker stands in both roles")]
     TwoRoles,
-    /// Memory was refused.
+    /// An allocation failed.
     #[error("memory was refused")]
     Memory,
 }
@@ -69,8 +69,9 @@ pub enum HeadFault {
 impl HeadFault {
     ghost use Rattle.ec_heading.specs.Kinds.{fault_number};
 
-    /// Returns its number among the kinds of faults of scripts, from 2 to 9; none of want of
-    /// memory, for which no line is to blame.
+    /// Returns its number among the kinds of errors of scripts, from 2 to 9.
+    ///
+    /// `Memory` has none: it is no error of a line.
     pub fn number(self) -> Option<u64>
         ensures { result ≡ fault_number self }
     {
@@ -87,8 +88,10 @@ impl HeadFault {
     }
 }
 
-/// What a heading declares: the version of its text, the limit, the workers, and their objects, with their names and the
-/// words by which lines spell them.
+/// A header: its version, its limit, its workers and its objects.
+///
+/// `names` has the names of workers and declarations, `words` the words by which lines name workers
+/// and objects.
 #[derive(Drop)]
 pub struct Heading {
     pub(crate) version: Version,
@@ -153,7 +156,7 @@ fn add_workers(
     }
 }
 
-/// Returns a heading with these workers and no declarations.
+/// Returns a header with these workers and no declarations.
 fn empty_heading(
     alloc: Global,
     version: Version,
@@ -184,8 +187,10 @@ fn empty_heading(
 }
 
 impl Heading {
-    /// Makes a heading with this limit and nothing declared. The version is that of the text, and a
-    /// text of it may have the limit, as `Version::limit` tells.
+    /// Returns a header with this limit and nothing declared.
+    ///
+    /// The version is that of the text, and must allow the limit: `Version::limit` returns such a
+    /// limit.
     pub fn new(alloc: Global, version: Version, limit: Limit) -> Result<Self, AllocError>
         requires { limit ≤ greatest_limit version }
         ensures { IfOk result (λ heading. heading ≡ empty_heading version limit []) }
@@ -200,9 +205,10 @@ impl Heading {
         })
     }
 
-    /// Takes a line, without its LF: the one of the workers first, and then declarations. A line is
-    /// refused for the least fault that holds of it, want of memory last, and then nothing is
-    /// changed: after `Memory` the same line may be handed in again.
+    /// Adds a line, without its LF: first the line of the workers, then declarations.
+    ///
+    /// An error is the lowest fault of the line, or `Memory` if it has none, and changes nothing.
+    /// After `Memory` the same line may be passed again.
     #[tactic(auto, unfolding(crate::specs::Heading::head_step))]
     pub fn line(&mut self, line: &[u8]) -> Result<(), HeadFault>
         ensures { Lines result self.old self.new line.now }
@@ -217,7 +223,7 @@ impl Heading {
         }
     }
 
-    /// Takes the line of the workers.
+    /// Adds the line of the workers.
     fn take_workers(&mut self, line: &[u8]) -> Result<(), HeadFault>
         ensures { Steps result self.old self.new (opened_by self.old.version self.old.setup.limit (workers_in (words_of line.now))) }
     {
@@ -235,7 +241,7 @@ impl Heading {
         Ok(())
     }
 
-    /// Takes a declaration.
+    /// Adds the line of a declaration.
     fn take_declaration(&mut self, line: &[u8]) -> Result<(), HeadFault>
         requires { self.old.setup.workers ≢ 0 }
         ensures { Steps result self.old self.new (declared_or self.old (parts_in (words_of line.now))) }
@@ -263,7 +269,8 @@ impl Heading {
         self.declare_with(parts, first.as_slice(), second.as_slice())
     }
 
-    /// Adds a declaration with these workers: first what may want memory, so that nothing changes if it is refused.
+    /// Adds a declaration with these workers. What allocates comes first, so an error changes
+    /// nothing.
     fn declare_with(
         &mut self,
         parts: &Parts<'_>,
@@ -333,8 +340,7 @@ impl Heading {
         &self.names
     }
 
-    /// Returns the words by which lines spell the workers and the objects, in the order in which
-    /// they are declared.
+    /// Returns the words by which lines name workers and objects, in order of declaration.
     pub fn words(&self) -> &SymbolTable
         ensures { result.now ≡ self.now.words }
     {
@@ -348,15 +354,14 @@ impl Heading {
         self.groups.as_slice()
     }
 
-    /// Returns what was declared after the workers, in order; a group by its place among the
-    /// groups.
+    /// Returns what was declared after the workers, in order; a group by its index.
     pub fn declarations(&self) -> &[Target]
         ensures { result.now ≡ self.now.declarations }
     {
         self.declarations.as_slice()
     }
 
-    /// States what is true of a heading.
+    /// States what is true of every header.
     #[tactic(auto, using(crate::proofs::shared::Standing::has_outline_from))]
     pub fn invariant(&self)
         ensures heading { IsHeading self.now }
@@ -368,21 +373,21 @@ impl Heading {
         let _setup = &self.setup;
     }
 
-    /// Returns the eventcount that a word spells.
+    /// Returns the eventcount that a word names.
     pub fn event(&self, word: &[u8]) -> Option<EventId>
         ensures { result ≡ event_in self.now.words word.now }
     {
         target_event(self.words.find(word)?)
     }
 
-    /// Returns the sequencer that a word spells.
+    /// Returns the sequencer that a word names.
     pub fn sequencer(&self, word: &[u8]) -> Option<SeqId>
         ensures { result ≡ sequencer_in self.now.words word.now }
     {
         target_sequencer(self.words.find(word)?)
     }
 
-    /// Returns the cell that a word spells: the name of its block, `[`, its number there, and `]`.
+    /// Returns the cell that a word names: its block's name, `[`, its number there, and `]`.
     #[tactic(auto, unfolding(crate::specs::EntryWords::cell_in_word))]
     pub fn cell(&self, word: &[u8]) -> Option<CellId>
         ensures { result ≡ cell_in_word self.now.words word.now }
@@ -402,7 +407,7 @@ impl Heading {
         CellId::new(first + i as usize)
     }
 
-    /// Returns the worker of a name.
+    /// Returns the worker that a word names.
     pub fn worker(&self, word: &[u8]) -> Option<WorkerId>
         ensures { result ≡ worker_in self.now.words word.now }
     {
@@ -426,8 +431,8 @@ fn add_name(
     names.add_bytes(name, *target)
 }
 
-/// Adds the words and the name of a declaration that comes next after these and so many groups, or
-/// none of them.
+/// Adds the words and the name of the next declaration, after this setup and `groups` groups; on an
+/// error none of them.
 fn spell_declaration(
     words: &mut SymbolTable,
     names: &mut Names,
@@ -472,7 +477,7 @@ fn reserve_one(declarations: &mut Vec<Target>, groups: &mut Vec<Group>) -> Resul
     Ok(())
 }
 
-/// Adds what was declared, if there is room for it.
+/// Adds what was declared. Room for it was reserved.
 fn push_target(declarations: &mut Vec<Target>, target: Target)
     requires { length declarations.old.items + 1 ≤ vec_capacity declarations.old }
     ensures { declarations.new.items ≡ declarations.old.items ++ target ∷ [] }
@@ -482,7 +487,7 @@ fn push_target(declarations: &mut Vec<Target>, target: Target)
     }
 }
 
-/// Adds a group, if there is one, if there is room for it.
+/// Adds a group, if there is one. Room for it was reserved.
 fn push_group(groups: &mut Vec<Group>, group: Option<Group>)
     requires { length groups.old.items + 1 ≤ vec_capacity groups.old }
     ensures { groups.new.items ≡ groups.old.items ++ cons_option group [] }

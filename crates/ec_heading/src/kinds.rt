@@ -1,4 +1,4 @@
-//! Why a line of a heading is refused.
+//! Why a line of a header is rejected.
 ghost use Rattle.std.specs.Prelude.{◌≡◌, ◌+◌, not, nat_lt, length};
 ghost use Rattle.std.specs.List.{list_any};
 ghost use Rattle.ec_count.specs.Reserved.{is_name};
@@ -13,7 +13,7 @@ use crate::lists::{count_ids, count_words, has_repeat, has_shared, has_unknown, 
 use ec_count::{Setup, SymbolTable, is_name};
 use ec_text::{cut_word, number};
 
-/// Returns whether a word is no name.
+/// Returns whether a word of the list is no name.
 fn has_bad_name(list: &[u8]) -> bool
     ensures { result ≡ list_any (λ w. not (is_name w)) (words_of list.now) }
 {
@@ -27,7 +27,7 @@ fn has_bad_name(list: &[u8]) -> bool
     }
 }
 
-/// Returns the least fault of the names of workers.
+/// Returns the lowest fault of the names of workers.
 pub(crate) fn workers_fault(list: &[u8]) -> Option<HeadFault>
     ensures { result ≡ workers_fault (words_of list.now) }
 {
@@ -53,7 +53,7 @@ pub(crate) fn size_of(parts: &Parts<'_>) -> u64
     }
 }
 
-/// Returns whether something is called so already, or a list names a worker twice.
+/// Returns whether the name is in use, or a list names a worker twice.
 fn is_taken(words: &SymbolTable, parts: &Parts<'_>) -> bool
     ensures { result ≡ is_taken words.now (declaration_of words.now (phrase_of_parts parts.now)) }
 {
@@ -99,7 +99,7 @@ fn count_second(words: &SymbolTable, parts: &Parts<'_>) -> usize
     }
 }
 
-/// Returns whether so many cells and n more pass the bound.
+/// Returns whether `cells` cells and `n` more exceed 256.
 fn is_over(cells: usize, n: u64) -> bool
     ensures { result ≡ nat_lt 256 (cells + n) }
 {
@@ -109,7 +109,7 @@ fn is_over(cells: usize, n: u64) -> bool
     cells as u64 + n > 256
 }
 
-/// Returns whether a list or a table would pass its bound.
+/// Returns whether a list or a table would exceed its bound.
 fn is_too_many(setup: &Setup, words: &SymbolTable, parts: &Parts<'_>) -> bool
     ensures { result ≡ is_too_many setup.now (declaration_of words.now (phrase_of_parts parts.now)) }
 {
@@ -131,7 +131,7 @@ fn is_too_many(setup: &Setup, words: &SymbolTable, parts: &Parts<'_>) -> bool
     }
 }
 
-/// Returns whether a worker stands in both lists of a sort that keeps them apart.
+/// Returns whether a worker is in both lists, which have to be disjoint.
 fn has_two_roles(words: &SymbolTable, parts: &Parts<'_>) -> bool
     ensures { result ≡ has_two_roles (declaration_of words.now (phrase_of_parts parts.now)) }
 {
@@ -144,7 +144,7 @@ fn has_two_roles(words: &SymbolTable, parts: &Parts<'_>) -> bool
     }
 }
 
-/// Returns the least fault of a line of one of the forms.
+/// Returns the lowest fault of a declaration, of a line that has one of the forms.
 pub(crate) fn declaration_fault(
     setup: &Setup,
     words: &SymbolTable,

@@ -1,4 +1,4 @@
-//! Headings: what they declare, by which names, and how entries spell it. Read exactly.
+//! Headers of texts: what they declare, and how lines name it. Only the canonical encoding is read.
 #![tactic(auto)]
 
 mod decl_kind;

@@ -28,7 +28,7 @@ pub fn count_words(list: &[u8]) -> usize
     }
 }
 
-/// Returns whether a word stands in the list.
+/// Returns whether a word is in the list.
 pub(crate) fn has_word(word: &[u8], list: &[u8]) -> bool
     ensures { result ≡ has_word word.now (words_of list.now) }
 {
@@ -42,7 +42,7 @@ pub(crate) fn has_word(word: &[u8], list: &[u8]) -> bool
     }
 }
 
-/// Returns whether a word stands twice in the list.
+/// Returns whether a word is twice in the list.
 pub(crate) fn has_word_twice(list: &[u8]) -> bool
     ensures { result ≡ has_word_twice (words_of list.now) }
 {
@@ -52,7 +52,7 @@ pub(crate) fn has_word_twice(list: &[u8]) -> bool
     has_word(word, rest) || has_word_twice(rest)
 }
 
-/// Returns the worker that a name stands for, if it stands for one.
+/// Returns the worker that a name denotes; `None` if it denotes something else.
 fn target_worker(target: Target) -> Option<WorkerId>
     ensures { result ≡ target_worker target }
 {
@@ -62,7 +62,7 @@ fn target_worker(target: Target) -> Option<WorkerId>
     }
 }
 
-/// Returns the worker of a name.
+/// Returns the worker that a word names.
 pub(crate) fn worker_in(words: &SymbolTable, word: &[u8]) -> Option<WorkerId>
     ensures { result ≡ worker_in words.now word.now }
 {
@@ -147,7 +147,7 @@ pub(crate) fn count_ids(words: &SymbolTable, list: &[u8]) -> usize
     }
 }
 
-/// Adds the workers that are named.
+/// Adds the workers that a list names, in order. Other words are skipped.
 pub(crate) fn push_ids(words: &SymbolTable, list: &[u8], ids: &mut ArrayVec<WorkerId, 16>)
     requires { length ids.old.items + length (ids_in words.now (words_of list.now)) ≤ 16 }
     ensures { ids.new.items ≡ ids.old.items ++ ids_in words.now (words_of list.now) }

@@ -15,8 +15,8 @@ use ec_database::declare_database;
 use ec_semaphore::{declare_both, declare_semaphore};
 use std::alloc::AllocError;
 
-/// An object: what is written behind the name of its declaration (nothing if the name alone
-/// means it), and what it is.
+/// An object of a declaration: the suffix by which a word names it, as `in` for `B.in`, and what it
+/// is. The suffix is empty if the name of the declaration names it.
 #[derive(Clone, Copy)]
 pub(crate) struct Object {
     pub(crate) word: &'static [u8],
@@ -65,8 +65,8 @@ fn cell(number: usize) -> CellId
     id
 }
 
-/// Returns what the name of the next declaration will stand for, after this setup and n groups of
-/// its sort.
+/// Returns what the name of the next declaration will denote, after this setup and `groups` groups;
+/// `n` is its number.
 pub(crate) fn target_of(setup: &Setup, groups: usize, sort: DeclKind, n: usize) -> Target
     requires room { is_full_for sort setup.now n ≡ false }
     requires some { is_in_range sort n ≡ true }
@@ -81,8 +81,7 @@ pub(crate) fn target_of(setup: &Setup, groups: usize, sort: DeclKind, n: usize) 
     }
 }
 
-/// Returns the word for an object: the name, or the name, a dot, and what the object is called
-/// behind it.
+/// Returns the word for an object: the name, or the name, a dot and the suffix, as `B.in`.
 fn spelling(name: &[u8], word: &[u8]) -> ArrayVec<u8, 24>
     requires { length (spelling name.now word.now) ≤ 24 }
     ensures { result.items ≡ spelling name.now word.now }
@@ -101,7 +100,7 @@ fn spelling(name: &[u8], word: &[u8]) -> ArrayVec<u8, 24>
     bytes
 }
 
-/// Adds the words for these objects, or none of them.
+/// Adds the words for these objects; on an error none of them.
 fn add_words(words: &mut SymbolTable, name: &[u8], objects: &[Object]) -> Result<(), AllocError>
     requires { AreNew name.now words.old (shown_objects objects.now) }
     ensures ok { OnOk result (words.new ≡ words.old ++ spelled_objects name.now (shown_objects objects.now)) }
@@ -118,7 +117,7 @@ fn add_words(words: &mut SymbolTable, name: &[u8], objects: &[Object]) -> Result
     Ok(())
 }
 
-/// Adds the words for the objects of a buffer that comes next, or none of them.
+/// Adds the words for the objects of the next buffer; on an error none of them.
 fn spell_buffer(
     words: &mut SymbolTable,
     name: &[u8],
@@ -143,7 +142,7 @@ fn spell_buffer(
     add_words(words, name, &objects)
 }
 
-/// Adds the words for the objects of a database that comes next, or none of them.
+/// Adds the words for the objects of the next database; on an error none of them.
 fn spell_database(
     words: &mut SymbolTable,
     name: &[u8],
@@ -167,8 +166,8 @@ fn spell_database(
     add_words(words, name, &objects)
 }
 
-/// Adds the words for the objects of a semaphore that comes next after these and so many groups,
-/// or none of them.
+/// Adds the words for the objects of the next semaphore, after this setup and `groups` groups; on
+/// an error none of them.
 fn spell_semaphore(
     words: &mut SymbolTable,
     name: &[u8],
@@ -188,8 +187,8 @@ fn spell_semaphore(
     add_words(words, name, &objects)
 }
 
-/// Adds the words for the objects of a declaration that comes next after these and so many groups,
-/// or none of them.
+/// Adds the words for the objects of the next declaration, after this setup and `groups` groups; on
+/// an error none of them.
 pub(crate) fn spell_objects(
     words: &mut SymbolTable,
     name: &[u8],
@@ -216,7 +215,7 @@ pub(crate) fn spell_objects(
     }
 }
 
-/// Adds the objects of a declaration, and gives the group that it is, if it is one.
+/// Adds the objects of a declaration, and returns the group that it is, if it is one.
 pub(crate) fn add_objects(
     setup: &mut Setup,
     sort: DeclKind,

@@ -4,12 +4,12 @@ ghost use Rattle.ec_heading.specs.Versions.{greatest_limit, as_limit, has_transf
 
 use ec_count::Limit;
 
-/// The version of a trace or a script, which stands at the end of its first line.
+/// The version of a trace or a script: the number that ends its first line.
 #[derive(Clone, Copy, Debug, PartialEq, Eq)]
 pub enum Version {
-    /// The limit goes up to 4294967295, and there is no hand.
+    /// The limit is at most 4294967295, and there is no `hand`.
     One,
-    /// The limit goes up to 281474976710655, and components are handed over.
+    /// The limit is at most 281474976710655, and `hand` transfers components.
     Two,
 }
 
@@ -24,7 +24,7 @@ impl Version {
         }
     }
 
-    /// Returns whether components are handed over in texts of this version.
+    /// Returns whether texts of this version may transfer components, by `hand`.
     #[inline(always)]
     pub fn has_transfer(self) -> bool
         ensures { result ≡ has_transfer self }

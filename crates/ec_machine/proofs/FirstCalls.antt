@@ -45,7 +45,7 @@ or_false : (a b : Bool) → (a || b) ≡ false → (a ≡ false) × (b ≡ false
 or_false true b is = cc
 or_false false b is = (refl, is)
 
--- if none is too large, each is at most the greatest
+-- if none is too large, each is at most VALUE_MAX
 pub all_small : (last : ℕ) (vs : List Value) → list_any (is_large last) vs ≡ false → All (λ v. v ≤ VALUE_MAX) (map (eval last) vs)
 all_small last [] none k d within = absurd (omega (arith, within))
 all_small last (v ∷ vs) none zero d within = ltb-false _ _ (or_false (is_large last v) (list_any (is_large last) vs) none).0

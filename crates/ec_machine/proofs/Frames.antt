@@ -1,4 +1,4 @@
--- Frames added and taken at the end.
+-- Frames added and removed at the end.
 use Rattle.std.proofs.Common.{◌≡◌, ℕ, ◌+◌, ◌-◌, ◌≤◌, ◌<◌, true, List, [], ◌∷◌, ◌++◌, length, append_assoc, arith, sym, ◌∙◌, ap, refl, zero, suc, add-zero, subst, take, drop, get_or, take_all, le_refl, eqb-true, Bool, false, ◌==◌, ◌&&◌, leb-true, map, zero-add, nat_le}
 use Rattle.std.specs.List.{list_all}
 use Rattle.ec_machine.specs.declared.command.Command.{Command}

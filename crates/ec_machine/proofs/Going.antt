@@ -1,4 +1,4 @@
--- A machine goes on as its program does.
+-- An interpreter goes on as its program does.
 use Rattle.std.proofs.Common.{◌≡◌, ℕ, List, [], ◌∷◌, ◌++◌, Option, Some, None, IsSome, is_some, Bool, true, false, refl, sym, ◌∙◌, ap, subst, append_assoc, if◌then◌else◌}
 use Rattle.ec_core.specs.declared.act.Act.{Act}
 use Rattle.ec_core.specs.declared.act.Act.TheVariants as acts
@@ -37,7 +37,7 @@ running_is outcomes.Stopped is = cc
 running_is outcomes.OutOfTurns is = cc
 running_is outcomes.Memory is = cc
 
--- PLACES
+-- STATES
 
 pub place_more : (p : ProgramState) (calls : List CompletedCall) (c : CompletedCall) → place_after p (calls ++ c ∷ []) ≡ after_call (place_after p calls) c
 unfolding place_after
@@ -59,7 +59,7 @@ last_moved [] last completed = refl
 last_moved (c ∷ cs) last completed =
     last_if (is_some (command_call last c completed)) c cs last completed
 
--- the last number told at a place is that of all calls before it
+-- the last number returned in a state is that of all calls before it
 pub last_at : (p : ProgramState) (calls : List CompletedCall) → last_number (place_after p calls).last (place_after p calls).completed ≡ last_number (last_number p.last p.completed) calls
 unfolding place_after
 last_at p [] = refl
@@ -149,7 +149,7 @@ under_if : (b : Bool) (list : List CompletedCall → Option Act) (done more : Li
 under_if true list done more begun op due is = due ∙ is
 under_if false list done more begun op due is = cc
 
--- in a run the call under way is the one that is next
+-- in a run the pending call is the one that is next
 pub opening_is_due : (list : List CompletedCall → Option Act) (past : List Entry) → IsRun list past → (op : Act) → opening past ≡ Some op → list (finished past) ≡ Some op
 unfolding IsRun opening finished
 opening_is_due list [] run op is = cc
@@ -186,7 +186,7 @@ same_number n Pending is = refl
 same_number n Done is = refl
 same_number n (Number m) is = cc
 
--- MACHINES
+-- INTERPRETERS
 
 -- what is asked for is what is due
 pub asked_is : (cs : List Command) (m : Machine) (past : List Entry) → StandsFor cs m past → is_set m.outcome ≡ false → due_act m ≡ next_act cs past
@@ -211,7 +211,7 @@ place_told : (cs : List Command) (x : Entry) (past : List Entry) → is_pending 
 place_told cs x past completed =
     ap (place_after (start cs)) (finished_told x past completed) ∙ place_more (start cs) (finished past) (record { op = begun_by x.act (opening past); reply = x.reply })
 
--- what a task makes of a reply
+-- what a reply does to a task
 pub record Takes (old new : List CompletedCall → Option Act) (reply : Reply) : Type 0 where
   pub pending : is_pending reply ≡ true → (calls : List CompletedCall) → new calls ≡ old calls
   pub completed : is_pending reply ≡ false → (op : Act) → old [] ≡ Some op → (calls : List CompletedCall) → new calls ≡ old (record { op = op; reply = reply } ∷ calls)

@@ -1,4 +1,4 @@
--- Whole lists joined end to end, and the beginning of one more, are a run of a program.
+-- Whole lists joined end to end, and a prefix of one more, are a run of a program.
 use Rattle.std.proofs.Common.{◌≡◌, ℕ, zero, suc, ◌<◌, Bool, true, false, not, ◌==◌, ◌&&◌, ◌⊎◌, List, [], ◌∷◌, ◌++◌, length, map, reverse, Option, Some, None, IsSome, is_some, IfSome, if◌then◌else◌, cond, Ok, refl, sym, ◌∙◌, ap, subst, append_assoc, append-nil, arith, inl, inr, eqb-true}
 use Rattle.std.specs.List.{flat_map, AllByRecursion}
 use Rattle.ec_count.specs.Tables.{Tables}
@@ -28,7 +28,7 @@ use Rattle.ec_machine.proofs.Going.{begun_alone, opening_is_due}
 use Rattle.ec_machine.proofs.shared.OwnCalls.{own_cut}
 use Rattle.ec_machine.proofs.shared.WholeLists.{last_append, place_next, written_none, finished_written, calls_of, IsAsked}
 
--- EACH COMMAND OF A WRITTEN-OUT PROGRAM HAS A FIRST CALL
+-- EACH COMMAND OF AN UNROLLED PROGRAM HAS A FIRST CALL
 
 abbrev Asks : Command → Type 0
 Asks c = (last : ℕ) → IsSome (command_call last c [])
@@ -120,7 +120,7 @@ written_front : (list : List CompletedCall → Option Act) (xs : List CompletedC
 written_front list [] c w = written_none list
 written_front list (x ∷ xs) c w = written_cons list x xs (w 0 x refl) (written_front (λ l. list (x ∷ l)) xs c (λ k d at. w (suc k) d at))
 
--- THE CALLS FROM A PLACE ON
+-- THE CALLS FROM A STATE ON
 
 abbrev AskedFrom : ProgramState → List CompletedCall → Type 0
 AskedFrom p [] = Unit {0}
@@ -193,7 +193,7 @@ whole_list d ds last completed (c ∷ (b ∷ more)) fits asked none some =
     (stays d ds last completed c (ap is_some asked.1.0))
     (subst (λ l. Leads (at_place (d ∷ ds) last now) (b ∷ more) (at_place ds (last_number last l) [])) same rest)
 
--- the rest of a beginning stays with its command
+-- the rest of a prefix stays with its command
 begun_list : (d : Command) (ds : List Command) (last : ℕ) (completed more : List CompletedCall) → has_large last d ≡ false → AskedBy (command_call last d) completed more
     → (more ≡ []) ⊎ IsSome (command_call last d (completed ++ more))
     → Leads (at_place (d ∷ ds) last completed) more (at_place (d ∷ ds) last (completed ++ more))

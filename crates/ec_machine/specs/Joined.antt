@@ -1,4 +1,5 @@
--- Runs of programs, said by whole lists alone, in both directions: no place moves here.
+-- Runs of programs in terms of whole call lists only, without the state of an interpreter; in both
+-- directions.
 use Rattle.std.specs.Prelude.{◌≡◌, ◌↔◌, ℕ, List, [], ◌∷◌, ◌++◌, reverse, Option, Some, IfSome, is_some}
 use Rattle.std.specs.List.{flat_map}
 use Rattle.ec_count.specs.Tables.{Tables}
@@ -15,9 +16,9 @@ use Rattle.ec_machine.specs.Runs.{next_in, IsRunOf}
 use Rattle.ec_machine.specs.Follows.{program_at, Follows}
 use Rattle.ec_machine.specs.Laws.{AreWhole, IsBegun, number_after_lists}
 
--- the completed calls are whole lists of calls joined end to end, one for each of the first commands of the written-out
--- program, and then the beginning of the list of the command that follows; and the pending call, if one is, is the one
--- that comes next in it
+-- the completed calls are whole lists of calls joined end to end, one for each of the first
+-- commands of the unrolled program, and then a proper prefix of the list of the command that
+-- follows; and the pending call, if one is, is the one that comes next in it
 pub record AreListsOf (cs : List Command) (calls : List CompletedCall) (going : Option Act) : Type 0 where
   pub done : List Command
   pub left : List Command

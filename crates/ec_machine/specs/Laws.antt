@@ -1,5 +1,6 @@
--- What a run of a program is, said of its calls: they are whole lists of calls joined end to end, one for each command of the
--- written-out program from the first on, and then the beginning of the list of the command that follows.
+-- What a run of a program is in terms of its calls: they are whole lists of calls joined end to
+-- end, one for each command of the unrolled program from the first on, and then a proper prefix of
+-- the list of the command that follows.
 use Rattle.std.specs.Prelude.{◌≡◌, ℕ, ◌⊎◌, true, false, List, [], ◌∷◌, ◌++◌, Some, None, IsSome}
 use Rattle.std.specs.List.{flat_map}
 use Rattle.ec_count.specs.Tables.{Tables}
@@ -16,20 +17,21 @@ use Rattle.ec_machine.specs.Values.{has_large}
 use Rattle.ec_machine.specs.Steps.{opening, finished, own}
 use Rattle.ec_machine.specs.Runs.{command_call, last_number, next_in, outcome_in, outcome_at, place_after, start, program_call, IsRunOf}
 
--- the calls are the whole list of a command that is due after a call that told the number `last`
+-- the calls are the whole list of a command that is due after a call that returned the number
+-- `last`
 pub record IsWholeOf (last : ℕ) (c : Command) (calls : List CompletedCall) : Type 0 where
   pub fits : has_large last c ≡ false
   pub asked : IsWritten (command_call last c) calls
   pub whole : command_call last c calls ≡ None
 
--- the lists are those of the commands, each computed with the last number told before it
+-- the lists are those of the commands, each computed with the last number returned before it
 abbrev pub AreWhole : ℕ → List Command → List (List CompletedCall) → Type 0
 AreWhole last [] [] = Unit {0}
 AreWhole last [] (b ∷ lists) = ⊥
 AreWhole last (c ∷ cs) [] = ⊥
 AreWhole last (c ∷ cs) (b ∷ lists) = IsWholeOf last c b × AreWhole (last_number last b) cs lists
 
--- the calls are the beginning of a command's list, and not the whole; they are none if it has too large a value
+-- the calls are a proper prefix of a command's list; they are none if it has too large a value
 pub record IsBegunOf (last : ℕ) (c : Command) (calls : List CompletedCall) : Type 0 where
   pub asked : IsWritten (command_call last c) calls
   pub fits : has_large last c ≡ true → calls ≡ []
@@ -65,6 +67,6 @@ abbrev pub OwnStepsAreCut : Type 0
 OwnStepsAreCut = (t : Tables) (w : ℕ) (past : List Entry) → IsAccepted t past
     → (finished (own w past) ≡ finished_by w past) × (opening (own w past) ≡ op_of (under_way w past))
 
--- each beginning of a run is a run
+-- each prefix of a run is a run
 abbrev pub BeginningsAreRuns : Type 0
 BeginningsAreRuns = (cs : List Command) (later past : List Entry) → IsRunOf cs (later ++ past) → IsRunOf cs past

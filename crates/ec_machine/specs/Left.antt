@@ -1,4 +1,4 @@
--- What the frames of a machine stand for.
+-- The commands that the frames of an interpreter represent.
 use Rattle.std.specs.Prelude.{◌≡◌, ℕ, ◌+◌, ◌≤◌, ◌<◌, true, List, [], ◌∷◌, ◌++◌, length}
 use Rattle.ec_machine.specs.declared.command.Command.{Command}
 use Rattle.ec_machine.specs.declared.remaining.Frame.{Frame}
@@ -8,7 +8,7 @@ use Rattle.ec_machine.specs.Unrolled.{unroll, repeated}
 abbrev pub frame_commands : Frame → List Command
 frame_commands f = unroll f.rest.now ++ repeated f.times (unroll f.block.now)
 
--- the outermost frame stands first
+-- the outermost frame is the first
 unfoldable pub left_of : List Frame → List Command
 left_of [] = []
 left_of (f ∷ fs) = left_of fs ++ frame_commands f

@@ -1,5 +1,5 @@
--- Runs of a program. Its repeats are written out; each command stands for a list of calls, whose values are computed when the
--- first of them is due; and the lists follow one another.
+-- Runs of a program. Its repeats are unrolled; each command represents a list of calls, whose
+-- values are computed when the first of them is due; and the lists follow one another.
 use Rattle.std.specs.Prelude.{ℕ, List, [], ◌∷◌, ◌++◌, Option, Some, None, is_some, if◌then◌else◌}
 use Rattle.ec_core.specs.declared.act.Act.{Act}
 use Rattle.ec_core.specs.declared.act.Act.TheVariants as acts
@@ -19,12 +19,12 @@ use Rattle.ec_machine.specs.Unrolled.{unroll}
 use Rattle.ec_machine.specs.Values.{eval, values_of, has_large}
 use Rattle.ec_machine.specs.Steps.{finished, due_after, IsRun}
 
--- the number that was told last: this one, or `last` if it is none
+-- the number that was returned last: that of this reply, or `last` if it has none
 abbrev pub number_after : ℕ → Reply → ℕ
 number_after last (Number n) = n
 number_after last _ = last
 
--- the number that was told last, by these completed calls, or before them
+-- the number that was returned last, by these completed calls, or before them
 abbrev pub last_number : ℕ → List CompletedCall → ℕ
 last_number last [] = last
 last_number last (c ∷ calls) = last_number (number_after last c.reply) calls
@@ -52,8 +52,8 @@ command_call last (Up s) = up_call s
 command_call last (DownBoth common one other) = down_both_call common one other
 command_call last (Repeat' n shape block) = λ calls. None
 
--- a place in a program: the commands that are not done, the last number told before the first of them, and the completed calls
--- of that one
+-- a state of a program: the commands that are not done, the last number returned before the first
+-- of them, and the completed calls of that one
 pub record ProgramState : Type 0 where
   pub left : List Command
   pub last : ℕ
@@ -66,7 +66,8 @@ abbrev pub next_in : List Command → ℕ → List CompletedCall → Option Act
 next_in [] last completed = None
 next_in (c ∷ cs) last completed = if has_large last c then None else command_call last c completed
 
--- the call that comes next there, or none: all is done, or the command now due has a value above the greatest
+-- the call that comes next in a state, or none: all is done, or the command that is due has a value
+-- above VALUE_MAX
 abbrev pub next_call : ProgramState → Option Act
 next_call p = next_in p.left p.last p.completed
 
@@ -78,7 +79,7 @@ next_place (c ∷ cs) last completed =
     then record { left = c ∷ cs; last = last; completed = completed }
     else record { left = cs; last = last_number last completed; completed = [] }
 
--- the place after one more completed call
+-- the state after one more completed call
 abbrev pub after_call : ProgramState → CompletedCall → ProgramState
 after_call p c = next_place p.left p.last (p.completed ++ c ∷ [])
 
@@ -90,7 +91,7 @@ place_after p (c ∷ calls) = place_after (after_call p c) calls
 abbrev pub program_call : List Command → List CompletedCall → Option Act
 program_call cs calls = next_call (place_after (start cs) calls)
 
--- the steps are a run of the program, perhaps unfinished
+-- the steps are a run of the program, perhaps incomplete
 abbrev pub IsRunOf : List Command → List Entry → Type 0
 IsRunOf cs past = IsRun (program_call cs) past
 

@@ -1,6 +1,6 @@
--- The steps of one worker, as a past: the newest first. They are cut into calls as the entries of a history are: a read or
--- an await goes on with the goes after it, up to the first entry that is told more than Pending. Whose steps they are
--- doesn't matter here.
+-- The steps of one worker, the newest first. They are cut into calls as the entries of a history
+-- are: a read or an await goes on with the goes after it, up to the first entry whose reply is not
+-- Pending. Whose steps they are doesn't matter here.
 use Rattle.std.specs.Prelude.{◌≡◌, ℕ, ◌==◌, List, [], ◌∷◌, ◌++◌, Option, Some, None, is_some, if◌then◌else◌}
 use Rattle.std.specs.List.{filter}
 use Rattle.ec_core.specs.declared.act.Act.{Act}
@@ -33,12 +33,12 @@ finished (x ∷ past) =
 abbrev pub due_after : (List CompletedCall → Option Act) → List Entry → Option Act
 due_after list past = next_of (is_some (opening past)) (list (finished past))
 
--- each step is the one that the list has next after those before it: the calls are a beginning of the list, and a pending
--- call is the next one
+-- each step is the one that the list has next after those before it: the calls are a prefix of the
+-- list, and a pending call is the next one
 unfoldable pub IsRun : (List CompletedCall → Option Act) → List Entry → Type 0
 IsRun list [] = Unit {0}
 IsRun list (x ∷ past) = (due_after list past ≡ Some x.act) × IsRun list past
 
--- the steps of a worker in a history's past
+-- the steps of a worker in a history
 abbrev pub own : ℕ → List Entry → List Entry
 own w past = filter (λ (x : Entry). x.worker == w) past

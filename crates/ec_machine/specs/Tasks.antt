@@ -1,4 +1,4 @@
--- The command that a machine is at.
+-- The command that an interpreter is executing.
 use Rattle.std.specs.Prelude.{Bool, true, false, List, Option, None, if◌then◌else◌}
 use Rattle.ec_core.specs.declared.act.Act.{Act}
 use Rattle.ec_core.specs.Following.{CompletedCall}

@@ -1,4 +1,4 @@
--- Programs with their repeats written out.
+-- Programs with their repeats unrolled.
 use Rattle.std.specs.Prelude.{ℕ, zero, suc, Bool, ◌==◌, List, [], ◌∷◌, ◌++◌, map}
 use Rattle.ec_machine.specs.declared.command.Command.{Command}
 use Rattle.ec_machine.specs.declared.command.Command.TheVariants as commands
@@ -12,13 +12,13 @@ abbrev pub concat_commands : List (List Command) → List Command
 concat_commands [] = []
 concat_commands (xs ∷ more) = xs ++ concat_commands more
 
--- a list so many times. It is never computed: repeats in one another write out more commands than there are numbers in
--- any machine
+-- a list so many times. It is never computed: nested repeats unroll to more commands than any
+-- memory holds
 unfoldable pub repeated : ℕ → List Command → List Command
 repeated zero xs = []
 repeated (suc n) xs = xs ++ repeated n xs
 
--- a command whose block, if it is a repeat, is written out already
+-- a command whose block, if it is a repeat, is unrolled already
 abbrev pub written_step : Command-F (List Command) → List Command
 written_step (layer.Advance e) = commands.Advance e ∷ []
 written_step (layer.Read e) = commands.Read e ∷ []
@@ -39,7 +39,7 @@ written_step (layer.Repeat n block) = repeated n (concat_commands block.items)
 abbrev pub unroll_command : Command → List Command
 unroll_command = fold-Command (List Command) written_step
 
--- commands, with their repeats written out
+-- commands with their repeats unrolled
 abbrev pub unroll : List Command → List Command
 unroll cs = concat_commands (map unroll_command cs)
 

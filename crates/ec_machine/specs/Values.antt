@@ -1,5 +1,5 @@
--- The numbers that a command's values mean, if `last` is the number of the last completed call that answered
--- one.
+-- The numbers that the values of a command evaluate to, if `last` is the number of the last
+-- completed call that returned one.
 use Rattle.std.specs.Prelude.{ℕ, ◌+◌, Bool, false, nat_lt, List, map}
 use Rattle.std.specs.List.{list_any}
 use Rattle.ec_core.specs.declared.act.TheConstants.{VALUE_MAX}
@@ -15,7 +15,7 @@ eval last (values.LastPlus n) = last + n
 abbrev pub is_large : ℕ → Value → Bool
 is_large last v = nat_lt VALUE_MAX (eval last v)
 
--- whether a value of the command is above the greatest
+-- whether a value of the command is above VALUE_MAX
 abbrev pub has_large : ℕ → Command → Bool
 has_large last (Await e v) = is_large last v
 has_large last (Put x v) = is_large last v

@@ -37,7 +37,7 @@ fn goes_with(machine: &mut Machine<'_>, entry: &Entry) -> bool
     true
 }
 
-/// Returns a machine at the start of a worker's program: a missing one is empty.
+/// Returns an interpreter at the start of a worker's program; a missing one is empty.
 fn machine_for(programs: &[Program], place: usize) -> Machine<'_>
     ensures represents { StandsFor (program_at programs.now place) result [] }
     ensures unset { is_refused result ≡ false }
@@ -48,7 +48,7 @@ fn machine_for(programs: &[Program], place: usize) -> Machine<'_>
     }
 }
 
-/// Returns whether the worker's entries are a run of its program, perhaps unfinished.
+/// Returns whether the worker's entries are a run of its program, perhaps incomplete.
 fn follows_one(run: &Run, programs: &[Program], worker: WorkerId) -> bool
     ensures { IsTrue result ↔ Follows programs.now run.now.entries worker }
 {
@@ -66,9 +66,9 @@ fn follows_one(run: &Run, programs: &[Program], worker: WorkerId) -> bool
     true
 }
 
-/// Returns the first worker whose entries are no run of its program, perhaps unfinished; `None` if
-/// each worker's are one. The programs are those of the workers in order of declaration; a missing
-/// one is empty. It takes no memory.
+/// Returns the first worker whose entries are no run of its program, or `None` if each worker's are
+/// one. A run may be incomplete. The programs are those of the workers in order of declaration; a
+/// missing one is empty. Allocates nothing.
 pub fn follows(run: &Run, programs: &[Program]) -> Option<WorkerId>
     ensures { MatchOption result
         ((w : ℕ) → w < run.now.setup.workers → Follows programs.now run.now.entries w)

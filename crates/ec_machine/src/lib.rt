@@ -1,4 +1,5 @@
-//! Programs of workers: commands that stand for calls, and repeats of them.
+//! Programs of workers, and their interpreter: a command represents a list of calls, and commands
+//! can be repeated.
 #![tactic(auto)]
 
 mod command;

@@ -1,4 +1,4 @@
-//! What a worker asks for next.
+//! The interpreter of a program.
 ghost use Rattle.std.specs.Prelude.{◌≡◌, ℕ, ◌≤◌, true, false, List, [], ◌∷◌, Some, is_some};
 ghost use Rattle.ec_core.specs.declared.act.TheConstants.{VALUE_MAX};
 ghost use Rattle.ec_core.specs.declared.act.Act.{Act};
@@ -18,9 +18,9 @@ use crate::task::Task;
 use crate::{Outcome, Program};
 use ec_core::{Act, Procedure, Reply, VALUE_MAX};
 
-/// What a worker asks for next, of its program. It keeps counters for repeats, and takes no memory.
-/// Who drives it asks for the next act, makes it a step, and hands its reply over, until no act is
-/// due.
+/// An interpreter of a worker's program. Its caller asks for the next act, makes it a step, and
+/// passes the reply back, until no act is due. It keeps counters for repeats, and allocates
+/// nothing.
 #[derive(Drop)]
 pub struct Machine<'a> {
     rest: Remaining<'a>,
@@ -31,7 +31,7 @@ pub struct Machine<'a> {
     ghost running: { is_running outcome ≡ is_some (next_of (task_going task) (task_rest task [])) },
 }
 
-/// Returns the last number told, after one more reply.
+/// Returns the last number that was returned, after one more reply.
 fn number_after(last: u64, reply: Reply) -> u64
     requires last { last ≤ VALUE_MAX }
     requires small { TellsAtMost VALUE_MAX reply }
@@ -47,7 +47,7 @@ fn number_after(last: u64, reply: Reply) -> u64
 impl<'a> Machine<'a> {
     ghost use Rattle.ec_machine.specs.Standing.{StandsFor, machine_outcome, is_refused, due_act};
 
-    /// Makes a machine at the start of a program.
+    /// Makes an interpreter at the start of a program.
     pub fn new(program: &'a Program) -> Self
         ensures represents { StandsFor program.now result [] }
         ensures unset { is_refused result ≡ false }
@@ -55,7 +55,7 @@ impl<'a> Machine<'a> {
         Machine::at_start(program.remaining())
     }
 
-    /// Makes a machine at the start of these commands.
+    /// Makes an interpreter at the start of these commands.
     pub(crate) fn at_start(mut rest: Remaining<'a>) -> Self
         ensures represents { (cs : List Command) → rest.entry ≡ unroll cs → StandsFor cs result [] }
         ensures unset { is_refused result ≡ false }
@@ -70,8 +70,8 @@ impl<'a> Machine<'a> {
         }
     }
 
-    /// Returns the act that is due: Go if the last reply was Pending. None once the program has
-    /// ended.
+    /// Returns the act that is due: `Go` if the last reply was `Pending`. Returns `None` once the
+    /// program has ended.
     pub fn next(&self) -> Option<Act>
         ensures value { result ≡ due_act self.now }
         ensures some { is_some result ≡ is_running (machine_outcome self.now) }
@@ -81,7 +81,7 @@ impl<'a> Machine<'a> {
         self.task.next()
     }
 
-    /// Returns how the program has ended, or Running.
+    /// Returns how the program has ended, or `Running`.
     pub fn outcome(&self) -> Outcome
         ensures value { result ≡ machine_outcome self.now }
         ensures after { (cs : List Command) (past : List Entry) → StandsFor cs self.now past → is_refused self.now ≡ false
@@ -90,8 +90,8 @@ impl<'a> Machine<'a> {
         self.outcome
     }
 
-    /// Takes the reply to the act that is due. An act has to be due, and the reply has to be of a
-    /// kind that the act can get, with a number of at most VALUE_MAX, as each reply of a step is.
+    /// Takes the reply to the act that is due. An act has to be due. The reply has to be of a kind
+    /// that the act can get, with a number of at most VALUE_MAX, as each reply of a step is.
     pub fn take(&mut self, reply: Reply)
         requires { IsReplyTo (due_act self.old) reply }
         ensures represents { (cs : List Command) (past : List Entry) (worker : ℕ) (act : Act) → StandsFor cs self.old past → due_act self.old ≡ Some act
@@ -105,8 +105,8 @@ impl<'a> Machine<'a> {
         }
     }
 
-    /// Ends the program from outside. It takes effect only if the outcome is Running and the new
-    /// one is Refused, Stopped, OutOfTurns or Memory.
+    /// Ends the program from outside. It takes effect only if the outcome is `Running` and the new
+    /// one is `Refused`, `Stopped`, `OutOfTurns` or `Memory`.
     pub fn refuse(&mut self, outcome: Outcome)
         ensures outcome { machine_outcome self.new
             ≡ outcome_after_refusal (machine_outcome self.old) outcome }

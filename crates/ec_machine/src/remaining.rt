@@ -1,4 +1,4 @@
-//! The commands that are left of a program, each repeat written out, kept as counters.
+//! The commands that are left of a program with its repeats unrolled, kept as counters.
 ghost use Rattle.std.specs.Prelude.{◌≡◌, ◌+◌, ◌≤◌, ◌<◌, ◌++◌, ◌∷◌, [], MatchOption, IfSome, IfNone, length, true};
 ghost use Rattle.ec_machine.specs.Limits.{nesting, nesting_one, is_sound, is_sound_one};
 ghost use Rattle.ec_machine.specs.Unrolled.{unroll, unroll_command, repeated, is_single};
@@ -8,7 +8,8 @@ use crate::Command;
 use arrayvec::ArrayVec;
 use std::marker::Model;
 
-/// The rest of a block that is being gone through, the block, and how many times it is still to be done after that.
+/// A block that is being executed: its rest, the whole block, and how many times it is to be
+/// executed after that.
 #[derive(Clone, Copy)]
 pub(crate) struct Frame<'a> {
     rest: &'a [Command],
@@ -26,7 +27,7 @@ impl<'a> Default for Frame<'a> {
     }
 }
 
-/// Adds what is left of a block, if anything is.
+/// Adds a frame for what is left of a block, if anything is.
 fn push_rest<'a>(
     frames: &mut ArrayVec<Frame<'a>, 5>,
     rest: &'a [Command],
@@ -53,8 +54,8 @@ fn push_rest<'a>(
     }
 }
 
-/// Returns the first plain command of those that a command stands for. If the command is a
-/// repeat, frames for what remains of it are added.
+/// Returns the first command of a command with its repeats unrolled. If the command is a repeat,
+/// frames for what remains of it are added.
 fn enter<'a>(frames: &mut ArrayVec<Frame<'a>, 5>, command: &'a Command) -> &'a Command
     requires fit { FramesFit 0 frames.old.items }
     requires sound { is_sound_one command.now ≡ true }
@@ -76,7 +77,7 @@ fn enter<'a>(frames: &mut ArrayVec<Frame<'a>, 5>, command: &'a Command) -> &'a C
     }
 }
 
-/// Takes the innermost frame off.
+/// Removes and returns the innermost frame.
 fn pop_frame<'a>(frames: &mut ArrayVec<Frame<'a>, 5>) -> Option<Frame<'a>>
     requires fit { FramesFit 0 frames.old.items }
     ensures none { IfNone result (left_of frames.old.items ≡ []) }
@@ -91,7 +92,7 @@ fn pop_frame<'a>(frames: &mut ArrayVec<Frame<'a>, 5>) -> Option<Frame<'a>>
     }
 }
 
-/// Takes the first command that is left off.
+/// Removes and returns the first command that is left.
 fn take_from<'a>(frames: &mut ArrayVec<Frame<'a>, 5>) -> Option<&'a Command>
     requires fit { FramesFit 0 frames.old.items }
     ensures fit { FramesFit 0 frames.new.items }
@@ -144,7 +145,7 @@ impl<'a> Remaining<'a> {
         Remaining { frames }
     }
 
-    /// Takes the first command off.
+    /// Removes and returns the first command.
     pub(crate) fn take(&mut self) -> Option<&'a Command>
         ensures left { MatchOption result ((self.old ≡ []) × (self.new ≡ [])) (λ c. self.old ≡ c.now ∷ self.new) }
         ensures single { IfSome result (λ c. (is_single c.now ≡ true) × (is_sound_one c.now ≡ true)) }

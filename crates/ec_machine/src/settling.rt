@@ -1,4 +1,4 @@
-//! The command that is due.
+//! The beginning of the command that is due.
 ghost use Rattle.std.specs.Prelude.{◌≡◌, ◌≤◌, true, false, List, [], length, is_some};
 ghost use Rattle.std.specs.List.{list_all, list_any};
 ghost use Rattle.ec_core.specs.declared.act.TheConstants.{VALUE_MAX};
@@ -26,7 +26,7 @@ use ec_core::{Act, VALUE_MAX};
 use ec_database::{DatabaseShape, Snapshot, WriteAll};
 use ec_semaphore::{Down, DownBoth, Up};
 
-/// Returns the act that a command is, if it is one and its value is not too large.
+/// Returns the act of a command that is one act, and whose value is not too large.
 fn act_of_command(last: u64, command: &Command) -> Act
     requires last { last ≤ VALUE_MAX }
     requires sound { is_sound_one command.now ≡ true }
@@ -47,7 +47,8 @@ fn act_of_command(last: u64, command: &Command) -> Act
     }
 }
 
-/// Returns the calls of a command that is no act and on no database, whose value is not too large.
+/// Returns the task of a command that is no act and on no database, and whose value is not too
+/// large.
 fn small_of(last: u64, command: &Command) -> SmallTask
     requires last { last ≤ VALUE_MAX }
     requires sound { is_sound_one command.now ≡ true }
@@ -122,7 +123,8 @@ fn begin(task: &mut Task, last: u64, command: &Command)
     }
 }
 
-/// Begins the command that is due, if there is one: how the program stands then.
+/// Begins the command that is due, if there is one, and returns the outcome. It is `Finished` if no
+/// command is left, and `ValueTooLarge` if a value of the command is too large.
 pub(crate) fn settle(rest: &mut Remaining<'_>, last: u64, task: &mut Task) -> Outcome
     requires last { last ≤ VALUE_MAX }
     ensures at { IsAt (task_rest task.new) rest.new (record { left = rest.old; last = last; returned = [] }) }

@@ -1,4 +1,4 @@
-//! The command that a machine is at.
+//! The command that an interpreter is executing.
 ghost use Rattle.std.specs.Prelude.{◌≡◌, false, List, None};
 ghost use Rattle.ec_core.specs.Following.{CompletedCall};
 ghost use Rattle.ec_machine.specs.Tasks.{small_rest, small_going, large_rest, large_going, task_rest, task_going};
@@ -7,12 +7,12 @@ use crate::large_task::LargeTask;
 use crate::small_task::SmallTask;
 use ec_core::{Act, Procedure, Reply};
 
-/// The command that a machine is at: what is left of its list of calls. The two kinds of commands
-/// have a place each, so that a small one is begun, taken on and ended without a large one being
-/// built or moved.
+/// The command that an interpreter is executing: the rest of its list of calls. Small and large
+/// commands have a field each, so that a small one is executed without building or moving a large
+/// one.
 #[derive(Drop)]
 pub(crate) struct Task {
-    /// Which of the two is due; the other one means nothing.
+    /// Which of the two is due; the other one is ignored.
     is_large: bool,
     small: SmallTask,
     large: LargeTask,
@@ -31,7 +31,7 @@ impl Task {
         }
     }
 
-    /// Makes this one the one that is due from now on.
+    /// Makes this small command the one that is due.
     pub(crate) fn put_small(&mut self, small: SmallTask)
         ensures rest { (calls : List CompletedCall)
             → task_rest self.new calls ≡ small_rest small calls }
@@ -41,7 +41,7 @@ impl Task {
         self.small = small;
     }
 
-    /// Makes this one the one that is due from now on.
+    /// Makes this large command the one that is due.
     pub(crate) fn put_large(&mut self, large: LargeTask)
         ensures rest { (calls : List CompletedCall)
             → task_rest self.new calls ≡ large_rest large calls }

@@ -1,4 +1,4 @@
--- What is kept of the advances, with one more entry.
+-- What is stored of the advances, with one more entry.
 use Rattle.std.proofs.Common.{◌≡◌, ℕ, suc, ◌+◌, ◌-◌, ◌^◌, ◌<◌, ◌≤◌, inl, inr, Bool, true, false, List, [], ◌∷◌, ◌++◌, length, Option, Some, None, refl, ap, sym, ◌∙◌, arith, cond, subst, ◌==◌, append-nil, append_assoc, length-append, slice_get, slice_set, get_or}
 use Rattle.std.specs.List.{All}
 use Rattle.std.proofs.lemmas.Bool.{cases_lt, eqb-true, eq-eqb}
@@ -47,7 +47,7 @@ total_few e (x ∷ past) =
       | false ↦ (let rest : total e past ≤ length past = total_few e past in omega arith)
     ]
 
--- all that are kept of an eventcount are its advances
+-- the counted and the stored advances of an eventcount are all its advances
 raised_total : (e : ℕ) (past : List Entry) (k : AdvanceLogModel) → IsAdvanceLog e past k → k.before + length k.moments ≡ total e past
 raised_total e past k s = omega (arith, length_advanced e past, ap length s.all, length-append s.gone k.moments, s.before)
 
@@ -62,7 +62,7 @@ opening_on e k past op (p ∷ ps) le =
     let from : k.before ≤ total e (get_or (p ∷ ps) (length ps) []) = subst (λ j. k.before ≤ total e (get_or (p ∷ ps) j [])) one le in
     subst (λ j. k.before ≤ total e (get_or (past ∷ p ∷ ps) j [])) (sym two) from
 
--- the advances whose moments are gone came before the call that the next entry is part of
+-- the advances whose moments are dropped came before the call that the next entry is part of
 opened_with : (e : ℕ) (past : List Entry) (k : AdvanceLogModel) (act : Act) (o : Option CallSoFar) (call : CallSoFar) → k.before ≤ total e past
     → ((c : CallSoFar) → o ≡ Some c → is_reading_of e c.op ≡ true → k.before ≤ total e (opening_past c))
     → call_with_act act past o ≡ Some call → is_reading_of e call.op ≡ true → k.before ≤ total e (opening_past call)
@@ -113,7 +113,7 @@ kept_next e x past k r none now unread s = record {
 same_next : (e : ℕ) (x : Entry) (past : List Entry) (k : AdvanceLogModel) → is_advance e x.act ≡ false → readers e (x ∷ past) ≡ readers e past → IsAdvanceLog e past k → IsAdvanceLog e (x ∷ past) k
 same_next e x past k none same s = kept_next e x past k k.readers none (s.readers ∙ sym same) s.unread s
 
--- an advance that nobody reads
+-- an advance while no read or await of it is pending
 counted_next : (e : ℕ) (x : Entry) (past : List Entry) (k : AdvanceLogModel) → is_advance e x.act ≡ true → readers e (x ∷ past) ≡ readers e past → k.readers ≡ 0 → IsAdvanceLog e past k
     → IsAdvanceLog e (x ∷ past) (record k { before = k.before + 1 })
 counted_next e x past k one same none s =
@@ -128,7 +128,7 @@ counted_next e x past k one same none s =
       since = λ w call lt is reads. absurd (none_reads e (x ∷ past) w call unread lt is reads);
     }
 
--- one that is kept
+-- an advance whose moment is stored
 noted_next : (e : ℕ) (x : Entry) (past : List Entry) (k : AdvanceLogModel) (m : ℕ) → is_advance e x.act ≡ true → readers e (x ∷ past) ≡ readers e past → 0 < k.readers → m ≡ length past + 1 → IsAdvanceLog e past k
     → IsAdvanceLog e (x ∷ past) (record k { moments = k.moments ++ m ∷ [] })
 noted_next e x past k m one same some here s = record {
@@ -154,11 +154,11 @@ let_go_next e x past k none free s = record {
 
 -- ALL OF THEM WITH ONE MORE ENTRY
 
--- where each stays as it is
+-- if each stays as it is
 all_stay : (kept : List AdvanceLogModel) (past late : List Entry) → ((e : ℕ) (k : AdvanceLogModel) → IsAdvanceLog e past k → IsAdvanceLog e late k) → AreAdvanceLogs kept past → AreAdvanceLogs kept late
 all_stay kept past late stays s = λ e lt. (let r = s e lt in (r.0, r.1, stays e r.0 r.2))
 
--- where one is changed
+-- if one is changed
 one_changes : (kept : List AdvanceLogModel) (past late : List Entry) (i : ℕ) (was now : AdvanceLogModel) → i < length kept → was ≡ get_or kept i was
     → (IsAdvanceLog i past was → IsAdvanceLog i late now) → ((e : ℕ) (k : AdvanceLogModel) → (i == e) ≡ false → IsAdvanceLog e past k → IsAdvanceLog e late k)
     → AreAdvanceLogs kept past → AreAdvanceLogs (slice_set kept i now) late
@@ -173,7 +173,7 @@ one_changes kept past late i was now within read changes stays s = λ e lt.
       | false ↦ λ other. (r.0, get_set kept i e now within ∙ ap (λ b. cond b (Some now) (slice_get kept e)) other ∙ r.1, stays e r.0 other r.2)
     ] refl
 
--- THE WAYS OF THE CODE, by the facts that its calls leave
+-- THE PATHS OF THE CODE, by the contracts of its calls
 
 -- an entry that is a whole call
 
@@ -206,7 +206,7 @@ notes_one old kept act moment e was now view raised long low at small once = rec
       (λ f k other one. same_next f x past k (advances f ∙ other) (readers_whole t f x past d acc whole) one) (subst (λ ks. AreAdvanceLogs ks past) (sym view) s);
 }
 
--- one of a read or an await
+-- an entry of a read or an await
 
 pub begins_none : (kept : List AdvanceLogModel) (act : Act) → None ≡ read_of act → FollowsReading kept act None kept
 begins_none kept act none = record {

@@ -1,4 +1,5 @@
--- The order by points ascends: by point, at one point the readings before the act, and these by their last steps.
+-- The order by points ascends: at one point the readings come before the act, in order of their
+-- responses.
 use Rattle.std.proofs.Common.{◌≡◌, ℕ, zero, suc, inl, inr, ◌<◌, Bool, true, false, not, List, length, map, refl, ap, sym, ◌∙◌, arith, subst, reverse, ◌==◌, get_or}
 use Rattle.std.specs.List.{All, AllPairs, Contains, filter}
 use Rattle.std.proofs.lemmas.Bool.{true≢false, eqb-true, and_parts}
@@ -26,7 +27,7 @@ use Rattle.ec_order.proofs.Sorting.{AllPairs-append, AllPairs-map, moment_is, mo
 abbrev EndsFirst : Placed → Placed → Type 0
 EndsFirst p q = p.call.last < q.call.last
 
--- an act stands at its own position
+-- the point of an act is its own position
 abbrev StandsThere : Placed → Type 0
 StandsThere p = is_reading p.call.op ≡ false → p.point ≡ p.call.last
 

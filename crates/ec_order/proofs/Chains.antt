@@ -1,4 +1,4 @@
--- The entries of a call stand one after another.
+-- The entries of a call come one after another.
 use Rattle.std.proofs.Common.{◌≡◌, ℕ, zero, suc, ◌+◌, ◌<◌, ◌≤◌, Bool, true, false, List, [], ◌∷◌, ◌++◌, length, Option, Some, None, refl, ap, sym, ◌∙◌, arith, cond, ◌==◌, take, get_or, append_assoc, length-append}
 use Rattle.ec_count.specs.Tables.{Tables}
 use Rattle.ec_core.specs.declared.act.Act.{Act}
@@ -21,7 +21,7 @@ past_before x p late h = past_trans p (x ∷ p) late (past_next x p p (past_itse
 pub past_shorter : (p late : List Entry) → IsPastOf p late → length p ≤ length late
 past_shorter p late h = omega (arith, ap length h.is, length-append h.since p)
 
--- each is a past of the one before it, and the first of late
+-- each is a past of the one before it in the list, and the first is a past of late
 abbrev pub IsChain : List Entry → List (List Entry) → Type 0
 IsChain late [] = Unit {0}
 IsChain late (p ∷ ps) = IsPastOf p late × IsChain p ps

@@ -30,7 +30,7 @@ taken_more ps i p at =
 pub calls_more : (ps : List Placed) (p : Placed) → calls_in (ps ++ p ∷ []) ≡ calls_in ps ++ p.call ∷ []
 calls_more ps p = map-append (λ (q : Placed). q.call) ps (p ∷ [])
 
--- sound places run
+-- the calls at sound places are a legal sequential history
 run_upto : (t : Tables) (past : List Entry) (ps : List Placed) (i : ℕ) → i ≤ length ps → AreSound t past ps i → IsSequentialRun zero_state (calls_in (take i ps))
 run_upto t past ps zero h s = tt
 run_upto t past ps (suc i) h s =
@@ -78,7 +78,7 @@ known_upto t past ps (suc i) h s z k =
       | inr e ↦ subst (λ (c : Call). Has (finished_calls t past) c) e (has_from (finished_calls t past) p.call here.known)
     ]
 
--- the finished calls end one after another
+-- the completed calls end one after another
 abbrev pub EndsFirst : Call → Call → Type 0
 EndsFirst a b = a.last < b.last
 
@@ -114,7 +114,7 @@ in_time_at t past ps s i j e lt le h =
     let there : get_or (take j ps) i a ≡ a = get_or-take j ps i a lt ∙ get_or_default ps i a e (omega arith) in
     (s j b le (slice_get-get_or ps j e le)).in_time (i, a, (let low : i < length (take j ps) = omega arith in low), there, h)
 
--- a list of sound places that lacks no finished call is good
+-- a list of sound places that lacks no completed call is good
 pub sound_good : (t : Tables) (past : List Entry) (ps : List Placed) → IsDeclared t → IsAccepted t past → AreSound t past ps (length ps)
     → ((c : Call) → Contains (finished_calls t past) c → Contains (calls_in ps) c) → IsGood t past ps
 sound_good t past ps d acc s all =

@@ -1,4 +1,4 @@
--- The finished calls are what the workers' entries are cut into.
+-- The completed calls are what the workers' entries are cut into.
 use Rattle.std.proofs.Common.{◌≡◌, ℕ, zero, suc, ◌+◌, ◌<◌, ◌≤◌, inl, inr, Bool, true, false, List, [], ◌∷◌, ◌++◌, length, Option, Some, None, refl, ap, sym, ◌∙◌, arith, cond, subst, ◌==◌, get_or, count_by, length-append}
 use Rattle.std.specs.List.{All}
 use Rattle.std.proofs.lemmas.Bool.{eqb-true, eq-eqb, cases_order, cases_lt}
@@ -48,7 +48,7 @@ own_rises w p q late x own a b lt =
     let c : IsPastOf (x ∷ p) q = past_of_both (x ∷ p) q late a b (omega arith) in
     omega (arith, ap (own_count w) c.is, own_since w c.since (x ∷ p), own_here w x p own)
 
--- THE ENTRIES OF A CALL UNDER WAY
+-- THE ENTRIES OF A PENDING CALL
 
 -- the worker's latest entry, with its past
 pub record Latest (w : ℕ) (late p : List Entry) (act : Act) : Type 0 where
@@ -60,7 +60,8 @@ pub record Latest (w : ℕ) (late p : List Entry) (act : Act) : Type 0 where
   pub returned : entry.reply ≡ Pending
   pub none : All (λ (y : Entry). (y.worker == w) ≡ false) others
 
--- these are the pasts of the worker's latest entries, each told Pending: goes, up to one of op
+-- these are the pasts of the worker's latest entries, each with reply Pending: goes, back to one of
+-- op
 abbrev pub Own : ℕ → Act → List Entry → List (List Entry) → Type 0
 Own w op late [] = ⊥
 Own w op late (p ∷ []) = Latest w late p op
@@ -180,7 +181,7 @@ latest_next w x late p act other s = record {
   none = All-cons (λ (y : Entry). (y.worker == w) ≡ false) x s.others other s.none;
 }
 
--- what is known of a call under way
+-- what is known of a pending call
 abbrev pub OwnCall : ℕ → List Entry → Option CallSoFar → Type 0
 OwnCall w past None = Unit {0}
 OwnCall w past (Some call) = Own w call.op past call.moments × (is_go call.op ≡ false)
@@ -216,7 +217,7 @@ own_under_way w (x ∷ past) =
       | false ↦ λ other. own_stays w x past (under_way w past) other (own_under_way w past)
     ] refl
 
--- and a worker whose latest entries are so has that call under way
+-- and a worker whose latest entries are so has that pending call
 pub record IsUnderWay (w : ℕ) (op : Act) (late q : List Entry) : Type 0 where
   pub rest : List (List Entry)
   pub is : under_way w late ≡ Some (record { op = op; moments = rest })

@@ -1,4 +1,4 @@
--- One after another, a timeline gives the finished calls by their points.
+-- The iterator of a linearizer gives the completed calls in order of their points.
 use Rattle.std.proofs.Common.{◌≡◌, ℕ, zero, suc, ◌+◌, ◌<◌, ◌≤◌, Bool, true, false, not, ◌&&◌, List, [], ◌∷◌, ◌++◌, length, map, Some, refl, ap, sym, ◌∙◌, arith, cond, subst, add-zero, zero-add, append_assoc, append-nil, reverse, drop, slice_get}
 use Rattle.std.specs.List.{All, filter}
 use Rattle.std.proofs.lemmas.Bool.{le-leb, lt-leb}
@@ -29,7 +29,7 @@ due_early at k f (p ∷ ps) ds h =
     ap (λ b. cond b (linearized_entry p ∷ due_then at k f (map linearized_entry ps ++ ds)) (f (linearized_entry p ∷ map linearized_entry ps ++ ds))) (le-leb (at (linearized_entry p)) k (All-head (λ q. at (linearized_entry q) ≤ k) p ps h))
     ∙ ap (λ z. linearized_entry p ∷ z) (due_early at k f ps ds (All-tail (λ q. at (linearized_entry q) ≤ k) p ps h))
 
--- and where none is, the rest does
+-- if none is due, the rest comes
 due_late : (at : LinearizedEntry → ℕ) (k : ℕ) (f : List LinearizedEntry → List LinearizedEntry) (ps : List Placed) → All (λ p. k < at (linearized_entry p)) ps → due_then at k f (map linearized_entry ps) ≡ f (map linearized_entry ps)
 due_late at k f [] h = refl
 due_late at k f (p ∷ ps) h =
@@ -43,7 +43,7 @@ module _ (k : ℕ) (x : Entry) (ms : List Bool) (xs : List Entry) (here late : L
   abbrev rest : List LinearizedEntry
   rest = entries_from_moment (k + 1) ms xs (map linearized_entry late)
 
-  -- where no read or await comes that is told at once
+  -- if the next entry is no read or await that returns at once
   on_time : (f : List LinearizedEntry → List LinearizedEntry) → due_then (due_moment false) k f (map linearized_entry here ++ map linearized_entry late) ≡ map linearized_entry here ++ f (map linearized_entry late)
   on_time f =
       due_early (due_moment false) k f here (map linearized_entry late) (All-weaker (λ (p : Placed). p.point ≡ k) (λ (p : Placed). p.point ≤ k) (λ p e. omega arith) here now)
@@ -58,7 +58,7 @@ module _ (k : ℕ) (x : Entry) (ms : List Bool) (xs : List Entry) (here late : L
   unfolding entries_after_moment
   passes = on_time (entries_after_moment k (false ∷ ms) xs) ∙ ap (λ ps. map linearized_entry ps ++ rest) (sym (append-nil here))
 
-  -- the others of its moment come after it
+  -- if it is one, the others of its moment come after it
   told_comes : due_then (due_moment true) k (entries_after_moment k (true ∷ ms) (x ∷ xs)) (map linearized_entry here ++ map linearized_entry late) ≡ map linearized_entry (alone_at k x ∷ (here ++ [])) ++ rest
   unfolding entries_after_moment
   told_comes =
@@ -128,7 +128,7 @@ dates_are t h ds d acc is =
     λ i x at. moment_of t past (0 + i) x d acc (ap (λ g. slice_get g (0 + i)) (reverse-reverse h) ∙ ap (slice_get h) (zero-add i) ∙ at) in
     ap (entries_from_moment 0 (map is_one_entry_call h) (filter is_one_entry_call h)) (is ∙ ap (map linearized_entry) (from longs)) ∙ moments_come all longs 0 h each ∙ ap (map linearized_entry) (sym (from all))
 
--- what is kept of an accepted past gives its finished calls by their points
+-- what is stored of an accepted past gives its completed calls in order of their points
 pub dates_of : (k : LinearizerModel) (past : List Entry) → IsDeclared k.setup → IsAccepted k.setup past → IsLinearizerModel k past → entries_from_moment 0 k.marks k.alone k.readings ≡ linearized_entries k.setup past
 dates_of k past d acc s =
     let h = reverse past in
@@ -148,13 +148,13 @@ pub dates_due : (k : ℕ) (ms : List Bool) (xs : List Entry) (rs : List Lineariz
     → entries_from_moment k ms xs (drop i rs) ≡ d ∷ entries_from_moment k ms xs (drop (i + 1) rs)
 dates_due k ms xs rs i d at due = due_next (due_moment (read_comes ms xs)) k (entries_after_moment k ms xs) rs i d at due
 
--- if none is due, a whole call does
+-- if none is due, a whole call comes next
 pub dates_own : (k : ℕ) (ms : List Bool) (x : Entry) (xs : List Entry) (rs : List LinearizedEntry) (i : ℕ) → NoneDue rs i k (read_comes (true ∷ ms) (x ∷ xs))
     → entries_from_moment k (true ∷ ms) (x ∷ xs) (drop i rs) ≡ record { point = k; entry = x } ∷ entries_from_moment (k + 1) ms xs (drop i rs)
 unfolding entries_after_moment
 dates_own k ms x xs rs i none = none_due (due_moment (read_comes (true ∷ ms) (x ∷ xs))) k (entries_after_moment k (true ∷ ms) (x ∷ xs)) rs i none
 
--- any other entry is passed
+-- any other entry is skipped
 pub dates_pass : (k : ℕ) (b : Bool) (ms : List Bool) (xs : List Entry) (rs : List LinearizedEntry) (i : ℕ) → NoneDue rs i k (read_comes (b ∷ ms) xs) → (b ≡ true → xs ≡ [])
     → entries_from_moment k (b ∷ ms) xs (drop i rs) ≡ entries_from_moment (k + 1) ms xs (drop i rs)
 unfolding entries_after_moment
@@ -162,7 +162,7 @@ dates_pass k true ms [] rs i none out = none_due (due_moment false) k (entries_a
 dates_pass k true ms (x ∷ xs) rs i none out = (let e = out refl in cc)
 dates_pass k false ms xs rs i none out = none_due (due_moment false) k (entries_after_moment k (false ∷ ms) xs) rs i none
 
--- behind the last entry there is none
+-- after the last entry there is none
 pub dates_end : (k : ℕ) (xs : List Entry) (rs : List LinearizedEntry) (i : ℕ) → NoneDue rs i k (read_comes [] xs) → entries_from_moment k [] xs (drop i rs) ≡ []
 unfolding entries_after_moment
 dates_end k xs rs i none = none_due (due_moment false) k (entries_after_moment k [] xs) rs i none

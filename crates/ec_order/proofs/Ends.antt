@@ -20,17 +20,17 @@ use Rattle.ec_order.specs.Walk.{is_alone}
 use Rattle.ec_order.proofs.Chains.{IsChain, IsChained, call_chain}
 use Rattle.ec_core.proofs.shared.Stepping.{entry}
 
--- the numbers are those of a past
+-- the state has the numbers after a past
 pub record Shows (o : SequentialState) (past : List Entry) : Type 0 where
   pub events : (e : ℕ) → o.events e ≡ total e past
   pub sequencers : (q : ℕ) → o.sequencers q ≡ issued q past
   pub cells : (x : ℕ) → o.cells x ≡ cell_value x past
 
--- if the number is the one answered, the sequential object answers so
+-- if the number is the one returned, the sequential object gives this reply
 abbrev pub IsTold : Act → Reply → Type 0
 IsTold op reply = (o : SequentialState) → o.events (event_or op) ≡ reply_number reply → sequential_reply o op ≡ Some reply
 
--- what an entry of a read or an await that ends it tells: a round is whole, and its sum is answered
+-- what an entry that ends a read or an await returns: a round is whole, and its sum is the number
 pub record EndsRound (t : Tables) (op : Act) (past : List Entry) (rest : List (List Entry)) (reply : Reply) : Type 0 where
   pub whole : suc (length rest % component_count t (event_or op)) ≡ component_count t (event_or op)
   pub number : reply_number reply
@@ -71,7 +71,7 @@ read_told t op past rest reply some r h p =
       | false ↦ λ e g. cc
     ] refl h
 
--- WHAT AN ENTRY ENDS, if o is the call of its worker that was under way
+-- WHAT AN ENTRY ENDS, if o is the pending call of its worker
 
 abbrev pub IsQuiet : Act → Type 0
 IsQuiet act = (o : SequentialState) → sequential_after o act ≡ o

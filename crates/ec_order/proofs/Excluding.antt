@@ -40,7 +40,7 @@ distinct_from (c ∷ cs) h =
     let rest : AllPairs EndsFirst cs = λ i j e lt le. h (suc i) (suc j) e (omega arith) (omega arith) in
     (recursion_from_All (λ (d : Call). same_end c d ≡ false) cs first, distinct_from cs rest)
 
--- different elements stand at different places
+-- equal elements are at one place
 distinct_at : (cs : List Call) → IsDistinct same_end cs → (i j : ℕ) (c : Call) → i < j → slice_get cs i ≡ Some c → slice_get cs j ≡ Some c → ⊥
 unfolding IsDistinct
 distinct_at [] d i j c lt a b = cc

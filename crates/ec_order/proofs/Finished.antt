@@ -1,4 +1,4 @@
--- The finished calls of an accepted history are exactly what it is cut into.
+-- The completed calls of an accepted history are exactly what it is cut into.
 use Rattle.std.proofs.Common.{◌≡◌, ℕ, zero, suc, ◌+◌, ◌-◌, ◌*◌, ◌/◌, ◌%◌, ◌<◌, ◌≤◌, inl, inr, Bool, true, false, List, [], ◌∷◌, ◌++◌, length, Some, refl, ap, sym, ◌∙◌, arith, cond, subst, reverse, slice_get, get_or, append_assoc}
 use Rattle.std.specs.Prelude.{MatchBool}
 use Rattle.std.specs.List.{Contains}
@@ -34,7 +34,7 @@ own_entries_is : (w : ℕ) (whole q : List Entry) → IsPastOf q whole → own_e
 own_entries_is w whole q h =
     ap (own_count w) (sym (first_is_past_at (reverse whole) (length q)) ∙ ap (first_entries (length q)) (reverse-reverse whole) ∙ first_of_past q whole h)
 
--- EACH FINISHED CALL IS CUT SO
+-- EACH COMPLETED CALL IS CUT SO
 
 -- the call that x ends, if these are its entries
 module _ (t : Tables) (whole : List Entry) (op : Act) (x : Entry) (p : List Entry) (rest : List (List Entry))
@@ -149,9 +149,9 @@ each_cut t whole since (x ∷ past) d acc is c h =
       | inr b ↦ ended_cut t whole x past here (ends t x past d acc) c b
     ]
 
--- WHATEVER IS CUT SO IS A FINISHED CALL
+-- WHATEVER IS CUT SO IS A COMPLETED CALL
 
--- what x ends is a finished call of the whole
+-- what x ends is a completed call of the whole
 ended_contained : (t : Tables) (since : List Entry) (x : Entry) (p : List Entry) (c : Call) → Contains (ended_by t x (call_with_act x.act p (under_way x.worker p))) c → Contains (finished_calls t (since ++ x ∷ p)) c
 unfolding finished_calls
 ended_contained t [] x p c h = Contains-append_right (finished_calls t p) (ended_by t x (call_with_act x.act p (under_way x.worker p))) c h
@@ -243,7 +243,7 @@ module _ (t : Tables) (whole : List Entry) (c : Call) (x : Entry) (p q : List En
     k.count (length rest) (omega arith) ∙ ap (λ z. own_count x.worker z + (length rest + 1)) (first_at_end p rest ∙ first),
   )
 
-  -- from which entry on the last round is
+  -- the entry at which the last round begins
   round_entry : (y : Entry) × IsPastOf (y ∷ round_past) (x ∷ p) × (y.worker ≡ x.worker)
   round_entry = k.entry (length rest % component_count t (event_or c.op)) (mod-le (length rest) (component_count t (event_or c.op)))
 
@@ -316,7 +316,7 @@ module _ (t : Tables) (whole : List Entry) (c : Call) (x : Entry) (p q : List En
       ] h in
       call_is the c mine refl reply first_is round_is at_p
 
--- whatever is cut so is a finished call
+-- whatever is cut so is a completed call
 every_from : (t : Tables) (whole : List Entry) (c : Call) (k : IsFinishedCall t (reverse whole) c) (p q : List Entry) → IsPastOf (k.closing ∷ p) whole
     → length p ≡ c.last → length q ≡ c.first → Parts c k.closing p q → Contains (finished_calls t whole) c
 every_from t whole c k p q in_p at_p at_q r =

@@ -1,4 +1,4 @@
--- Each finished call of an accepted history has its places in order, and a point between them.
+-- Each completed call of an accepted history has its positions in order, and a point between them.
 use Rattle.std.proofs.Common.{◌≡◌, ◌≢◌, ℕ, zero, suc, ◌+◌, ◌-◌, ◌%◌, ◌<◌, ◌≤◌, inl, inr, Bool, true, false, List, [], ◌∷◌, length, refl, ap, sym, ◌∙◌, arith, cond, subst, ◌==◌, take, get_or}
 use Rattle.std.specs.List.{All}
 use Rattle.std.proofs.lemmas.Bool.{cases_eq, eqb-false}
@@ -25,7 +25,7 @@ use Rattle.ec_core.proofs.shared.CallRounds.{sum_taken as sum_take}
 use Rattle.ec_order.proofs.Points.{first_next, first_of_past, total_step, first_is}
 use Rattle.ec_order.proofs.Ends.{IsTold, EndsRound, Ends, ends}
 
--- what is known of each finished call of a past
+-- what is known of each completed call of a past
 pub record Fits (past : List Entry) (c : Call) : Type 0 where
   pub began : c.first ≤ c.round
   pub round : c.round ≤ c.last
@@ -112,7 +112,8 @@ all_fit t (x ∷ past) d acc =
     (All-weaker (Fits past) (Fits (x ∷ past)) (fits_later x past) (finished_calls t past) (all_fit t past d acc.1))
     (ended_fits t x past acc.1 (ends t x past d acc))
 
--- the point of a finished read or await is between its last round's first entry and its last entry, and the total is its answer then
+-- the point of a completed read or await is between the start of its last round and its response,
+-- and the total is its answer then
 pub record HasPoint (past : List Entry) (c : Call) : Type 0 where
   pub total : total (event_or c.op) (first_entries (point_of past c) past) ≡ reply_number c.reply
   pub low : c.round ≤ point_of past c
@@ -133,11 +134,11 @@ has_point past c f r =
       high = rw same (rw whole at k.2);
     }
 
--- the point of any other finished call is its position
+-- the point of any other completed call is its position
 pub acts_there : (past : List Entry) (c : Call) → is_reading c.op ≡ false → point_of past c ≡ c.last
 acts_there past c r = ap (λ b. cond b (first_moment (λ j. total (event_or c.op) (first_entries j past) == reply_number c.reply) c.round (c.last - c.round)) c.last) r
 
--- where the points lie
+-- the bounds of a point
 pub point_bounds : (past : List Entry) (c : Call) → Fits past c → (c.first ≤ point_of past c) × (point_of past c ≤ c.last) × (point_of past c < length past)
 point_bounds past c f =
     elim (is_reading c.op) as (λ b. is_reading c.op ≡ b → (c.first ≤ point_of past c) × (point_of past c ≤ c.last) × (point_of past c < length past)) [

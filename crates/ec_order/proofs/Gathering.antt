@@ -51,7 +51,7 @@ placed_later x past (c ∷ cs) h =
 
 -- WHAT AN ENTRY ADDS
 
--- the finished calls with their points
+-- the completed calls with their points
 abbrev pub placed : Tables → List Entry → List Placed
 placed t past = map (with_point past) (finished_calls t past)
 
@@ -77,7 +77,7 @@ others_read t x past other (inl n) = rw n.is (All-nil (λ (c : Call). is_reading
 others_read t x past other (inr (inl r)) = rw r.is (All-cons (λ (c : Call). is_reading c.op ≡ true) (call_of_entries t x r.op (past ∷ r.rest)) [] r.reading (All-nil (λ (c : Call). is_reading c.op ≡ true)))
 others_read t x past other (inr (inr a)) = (let alone : is_alone x.act ≡ true = alone_from x.act a.begins a.acting in cc)
 
--- A WHOLE CALL LEAVES THE TABLE
+-- A WHOLE CALL CHANGES NO PENDING CALL
 
 not_some : (o : Option CallSoFar) → is_some o ≡ false → o ≡ None
 not_some None h = refl
@@ -92,7 +92,7 @@ neither true b h = cc
 neither false true h = cc
 neither false false h = (refl, refl)
 
--- it is no go, and not told Pending
+-- it is no go, and its reply is not Pending
 pub whole_parts : (x : Entry) → is_one_entry_call x ≡ true → (is_go x.act ≡ false) × (is_pending x.reply ≡ false)
 whole_parts x whole = neither (is_go x.act) (is_pending x.reply) whole
 
@@ -150,7 +150,7 @@ readings_more t x past c d acc other is =
       is = added t x past d acc ∙ ap (λ cs. readings t past ++ filter reads (map (with_point (x ∷ past)) cs)) is ∙ ap (λ b. readings t past ++ cond b (p ∷ []) []) reading;
     }
 
--- and put in by its point, among these that are kept
+-- it is inserted by its point among those that are stored
 pub put_among : (rs : List Placed) (x : Entry) (past : List Entry) (c : Call) (k n at : ℕ) (ps : List Placed) → AllRead rs → is_reading c.op ≡ true
     → k ≡ point_of (x ∷ past) c → point_of (x ∷ past) c < suc (length past) → length past < n → ps ≡ by_moments rs n → IsPlaceFor placed_point ps k at
     → insert ps at (record { call = c; point = k }) ≡ by_moments (rs ++ with_point (x ∷ past) c ∷ []) n

@@ -1,4 +1,4 @@
--- What the check of a list keeps, and the verdicts that it comes to.
+-- The state of the check of a list, and its verdicts.
 use Rattle.std.proofs.Common.{◌≡◌, ℕ, ◌+◌, ◌<◌, ◌≤◌, ◌⊎◌, inl, inr, max, Bool, true, false, List, [], ◌∷◌, ◌++◌, length, Some, None, refl, ap, sym, ◌∙◌, arith, subst, cond, ◌==◌, nat_le, get_or, set, take, slice_get, slice_index, slice_set, length-set, get_or-set_same, get_or-set_other, length-append}
 use Rattle.std.specs.List.{All, AllPairs, Any, Contains}
 use Rattle.std.proofs.lemmas.Bool.{true≢false, eqb-true, eqb-false, cases_order, cases_eq, cases_lt}
@@ -103,7 +103,7 @@ few_after n i op f = record { events = λ k. few_next n.events i k f.events; seq
 
 -- THE CHECK OF THE FIRST i PLACES
 
--- a mark tells whether a finished call is at a place before
+-- a mark says whether a completed call is at an earlier place
 abbrev pub Marks : List Call → List Bool → List Placed → Type 0
 Marks cs seen before = (j : ℕ) (c : Call) → slice_get cs j ≡ Some c
     → (slice_get seen j ≡ Some true → Contains (calls_in before) c) × (slice_get seen j ≡ Some false → Contains (calls_in before) c → ⊥)

@@ -1,4 +1,4 @@
--- The point of a read or an await that ends, by what is kept of the advances.
+-- The point of a read or an await that ends, by what is stored of the advances.
 use Rattle.std.proofs.Common.{◌≡◌, ℕ, zero, suc, ◌-◌, ◌<◌, ◌≤◌, max, true, false, List, [], ◌∷◌, ◌++◌, length, Some, None, refl, ap, sym, ◌∙◌, arith, cond, subst, nat_le, get_or}
 use Rattle.std.specs.List.{All, Contains}
 use Rattle.std.proofs.lemmas.Bool.{eq-eqb, leb-true, leb-false}
@@ -30,7 +30,7 @@ use Rattle.ec_order.proofs.Reaching.{IsReached, not_later, point_is, reached, to
 use Rattle.ec_order.proofs.AdvanceLogLemmas.{IsEnded, advanced_none, ended_with, not_advance, since_with}
 use Rattle.ec_order.proofs.Readers.{few_workers, reads_read}
 
--- the advances whose moments are gone had been made when it began
+-- the advances whose moments are dropped had been made when it began
 first_since : (t : Tables) (e : ℕ) (x : Entry) (past : List Entry) (c : Call) (k : AdvanceLogModel) → IsEnded t x past c → IsAdvanceLog e past k → x.worker < 16 → is_reading_of e c.op ≡ true
     → k.before ≤ total e (first_entries c.first (x ∷ past))
 first_since t e x past c k n s lt reads =

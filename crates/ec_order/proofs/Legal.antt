@@ -1,4 +1,4 @@
--- The order by points is legal, whatever the history.
+-- The order by points is a linearization, whatever the history.
 use Rattle.std.proofs.Common.{◌≡◌, ◌<◌, ◌≤◌, List, [], ◌∷◌, length, map, refl, ap, arith, subst}
 use Rattle.std.specs.List.{All, AllPairs}
 use Rattle.std.specs.List.Sorted.{IsPermutation}

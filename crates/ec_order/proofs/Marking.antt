@@ -57,7 +57,7 @@ marks_none = refl
 
 -- MANY WORDS
 
--- a full word is put with the others
+-- a full word is added to the others
 pub marks_put : (words : List ℕ) (last : ℕ)
     → bits_of_words (words ++ last ∷ []) 1 ≡ bits_of_words words last
 marks_put words last =
@@ -98,12 +98,12 @@ drop_past (w ∷ words) (suc place) le = drop_past words place (omega arith)
 pub left_none : (words : List ℕ) (place : ℕ) → length words ≤ place → bits_of_words (drop place words) 1 ≡ []
 left_none words place le = ap (λ ws. bits_of_words ws 1) (drop_past words place le) ∙ marks_none
 
--- behind the other words stands the last
+-- after the other words comes the last
 pub left_last : (words : List ℕ) (place last : ℕ) → length words ≤ place → bits_of_words (drop place words) last ≡ bits_of_word last ++ bits_of_words (drop place words) 1
 left_last words place last le =
     ap (λ ws. bits_of_words ws last) (drop_past words place le) ∙ sym (append-nil (bits_of_word last)) ∙ ap (λ ms. bits_of_word last ++ ms) (sym (left_none words place le))
 
--- a word is begun where the one before has no mark left
+-- a word is begun if the one before has no mark left
 pub word_begins : (seen : List Bool) (l w l' w' : ℕ) (ms ms' : List Bool) → low_bits l w ++ ms ≡ seen → l ≡ 0 → ms ≡ bits_of_word w' ++ ms' → l' < 64 → 2 ^ l' ≤ w' → w' < 2 * 2 ^ l'
     → seen ≡ low_bits l' w' ++ ms'
 unfolding low_bits

@@ -1,4 +1,5 @@
--- What has its point at a moment: the read or await that is told at once there, the others, and then the act.
+-- What has its point at a moment: the read or await that returns at once there, the others, and
+-- then the act.
 use Rattle.std.proofs.Common.{◌≡◌, ℕ, suc, ◌<◌, ◌==◌, inl, inr, Bool, true, false, not, ◌&&◌, List, [], ◌∷◌, ◌++◌, length, map, Some, refl, ap, sym, ◌∙◌, arith, cond, subst, append_assoc, append-nil, if◌then◌else◌}
 use Rattle.std.specs.List.{All, filter}
 use Rattle.std.proofs.lemmas.Bool.{cases_lt, eq-eqb, ne_eqb}
@@ -22,7 +23,8 @@ use Rattle.ec_order.proofs.Sorting.{filter_none, filter_within}
 use Rattle.ec_order.proofs.Walking.{acts_here}
 use Rattle.ec_order.proofs.Wholes.{IsLongReading, long_read, not_long, others_long, placed_whole, reading_or_alone}
 
--- the call of one entry, whose position and point are k, if it is a read or an await that is told at once
+-- the call of one entry, whose position and point are k, if it is a read or an await that returns
+-- at once
 abbrev pub told_calls : ℕ → Entry → List Placed
 told_calls k x = if is_one_entry_call x && not (is_alone x.act) then alone_at k x ∷ [] else []
 
@@ -69,7 +71,7 @@ both_long a true true h l = refl
 both_long a false c h l = cc
 both_long a true false h l = cc
 
--- no whole call
+-- an entry that is no whole call
 part_adds : (t : Tables) (y : Entry) (past : List Entry) (k : ℕ) → IsDeclared t → IsAccepted t (y ∷ past) → is_one_entry_call y ≡ false
     → filter (reads_at k) (map (with_point (y ∷ past)) (ended_by t y (call_with_act y.act past (under_way y.worker past)))) ≡ filter (long_at k) (map (with_point (y ∷ past)) (ended_by t y (call_with_act y.act past (under_way y.worker past))))
 part_adds t y past k d acc part =
@@ -84,7 +86,7 @@ whole_long k n y =
     let q = alone_at n y in
     ap (λ b. cond b (q ∷ []) []) (no_length (reads q) (is_long q) (reads_at k q) (not_long n y))
 
--- at an earlier moment
+-- an entry, at an earlier moment
 adds_before : (t : Tables) (y : Entry) (past : List Entry) (k : ℕ) → IsDeclared t → IsAccepted t (y ∷ past) → k < length past
     → filter (reads_at k) (map (with_point (y ∷ past)) (ended_by t y (call_with_act y.act past (under_way y.worker past)))) ≡ filter (long_at k) (map (with_point (y ∷ past)) (ended_by t y (call_with_act y.act past (under_way y.worker past))))
 adds_before t y past k d acc lt =
@@ -97,7 +99,7 @@ adds_before t y past k d acc lt =
       | false ↦ λ part. part_adds t y past k d acc part
     ] refl
 
--- at its own
+-- an entry, at its own moment
 adds_here : (t : Tables) (y : Entry) (past : List Entry) → IsDeclared t → IsAccepted t (y ∷ past)
     → filter (reads_at (length past)) (map (with_point (y ∷ past)) (ended_by t y (call_with_act y.act past (under_way y.worker past))))
     ≡ told_calls (length past) y ++ filter (long_at (length past)) (map (with_point (y ∷ past)) (ended_by t y (call_with_act y.act past (under_way y.worker past))))

@@ -101,7 +101,7 @@ reached e (suc r) (x ∷ past) h =
           rw none (reached_later e (suc r) (get_or (advanced e past) r 0) x past (reached e (suc r) past (omega arith))))
     ] refl h
 
--- the one moment that is the first to pass
+-- only one moment is the first to pass
 first_unique : (test : ℕ → Bool) (m k n : ℕ) → test m ≡ true → k ≤ m → m ≤ k + n → ((j : ℕ) → k ≤ j → j < m → test j ≡ false) → first_moment test k n ≡ m
 unfolding first_moment
 first_unique test m k zero is low high before = omega arith
@@ -127,7 +127,7 @@ at_greater f r a b h g =
       | inr ge ↦ (let m : max a b ≡ b = omega arith in rw m (h ge))
     ]
 
--- the point of a finished call, by the index
+-- the point of a completed call, by the index
 pub point_is : (past : List Entry) (c : Call) → Fits past c → point_of past c ≡ point_by (advanced (event_or c.op) past) c
 point_is past c f =
     elim (is_reading c.op) as (λ b. is_reading c.op ≡ b → point_of past c ≡ cond b (max c.round (moment_of_advance (advanced (event_or c.op) past) (reply_number c.reply))) c.last) [

@@ -1,4 +1,4 @@
--- How many reads and awaits of an eventcount are under way, with one more entry.
+-- How many reads and awaits of an eventcount are pending, with one more entry.
 use Rattle.std.proofs.Common.{◌≡◌, ◌≢◌, ℕ, zero, suc, ◌+◌, ◌<◌, ◌≤◌, true, false, not, ◌&&◌, is_some, List, [], ◌∷◌, Option, Some, None, refl, ap, sym, ◌∙◌, arith, cond, ◌==◌}
 use Rattle.std.proofs.lemmas.Bool.{eqb-true, eqb-false, leb-false}
 use Rattle.ec_count.specs.Tables.{Tables, IsDeclared}
@@ -27,7 +27,7 @@ sum_below f g (suc n) h =
     let rest : sum_to f n ≡ sum_to g n = sum_below f g n (λ w lt. h w (omega arith)) in
     omega arith
 
--- the sums of two that agree but at one worker differ by that worker alone
+-- the sums of two functions that agree except at one worker differ only by their values there
 sum_but_one : (f g : ℕ → ℕ) (v n : ℕ) → v < n → ((w : ℕ) → (v == w) ≡ false → f w ≡ g w) → sum_to f n + g v ≡ sum_to g n + f v
 unfolding sum_to
 sum_but_one f g v zero lt h = absurd (omega arith)
@@ -60,7 +60,7 @@ unfolding sum_to
 sum_few f zero h = omega arith
 sum_few f (suc n) h = (let here : f n ≤ 1 = h n in let rest : sum_to f n ≤ n = sum_few f n h in omega arith)
 
--- READS AND AWAITS UNDER WAY
+-- PENDING READS AND AWAITS
 
 abbrev one_if : ℕ → Option CallSoFar → ℕ
 one_if e o = cond (reads_event e o) 1 0
@@ -114,7 +114,7 @@ pending_adds e (Read f) past (Some call) other free = (let busy = free.0 in cc)
 pending_adds e (Await f v) past (Some call) other free = (let busy = free.0 in cc)
 pending_adds e act past o other free = cc
 
--- the call that it ends, where it ends one
+-- 1 if an entry with this act ends a call that was pending on e
 abbrev pub left_on : ℕ → Act → Call → ℕ
 left_on e act c = cond (is_go act && is_reading_of e c.op) 1 0
 
@@ -132,7 +132,7 @@ told_leaves t e x (Read f) past (Some call) c other free returned is = (let busy
 told_leaves t e x (Await f v) past (Some call) c other free returned is = (let busy = free.0 in cc)
 told_leaves t e x act past o c other free returned is = cc
 
--- whether an entry is told Pending, by what it ends
+-- whether the reply to an entry is Pending, by what it ends
 some_gone : (act : Act) (past : List Entry) (o : Option CallSoFar) → is_alone act ≡ false → IsFree act o → (call : CallSoFar) × (call_with_act act past o ≡ Some call)
 some_gone Go past None other free = (let busy = free.1 in cc)
 some_gone Go past (Some call) other free = (record { op = call.op; moments = past ∷ call.moments }, refl)
@@ -171,7 +171,7 @@ free_at t x past acc = (let k = (allowed t past x.worker x.act x.reply acc.0).0 
 pub readers_whole : (t : Tables) (e : ℕ) (x : Entry) (past : List Entry) → IsDeclared t → IsAccepted t (x ∷ past) → is_one_entry_call x ≡ true → readers e (x ∷ past) ≡ readers e past
 readers_whole t e x past d acc whole = readers_same e x past (λ w. whole_leaves t x past w d acc whole)
 
--- one of a read or an await: where it ends no call
+-- an entry of a read or an await, if it ends no call
 pub readers_begun : (t : Tables) (e : ℕ) (x : Entry) (past : List Entry) → IsDeclared t → IsAccepted t (x ∷ past) → is_alone x.act ≡ false → ended_by t x (call_with x past) ≡ []
     → readers e (x ∷ past) ≡ readers e past + cond (is_reading_of e x.act) 1 0
 readers_begun t e x past d acc other none =
@@ -184,7 +184,7 @@ readers_begun t e x past d acc other none =
     let next : readers e (x ∷ past) + one_if e o ≡ readers e past + one_if e (under_way x.worker (x ∷ past)) = readers_next e x past (few_workers t x past d acc) in
     omega arith
 
--- where it ends one
+-- an entry of a read or an await, if it ends one
 pub readers_told : (t : Tables) (e : ℕ) (x : Entry) (past : List Entry) (c : Call) → IsDeclared t → IsAccepted t (x ∷ past) → is_alone x.act ≡ false → ended_by t x (call_with x past) ≡ c ∷ []
     → readers e (x ∷ past) + left_on e x.act c ≡ readers e past
 readers_told t e x past c d acc other is =

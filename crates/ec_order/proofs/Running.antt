@@ -1,4 +1,5 @@
--- The order by points is a run of the sequential object: after what has its point below moment k, the object shows moment k.
+-- The order by points is a legal sequential history: after the calls whose point is below moment k,
+-- the object has the numbers of moment k.
 use Rattle.std.proofs.Common.{◌≡◌, ℕ, suc, ◌+◌, ◌<◌, ◌≤◌, inl, inr, true, false, not, ◌&&◌, List, [], ◌∷◌, ◌++◌, length, Some, None, map, refl, ap, sym, ◌∙◌, arith, cond, subst, ◌==◌, unwrap_or, append_assoc, append-nil, length-append}
 use Rattle.std.proofs.Math.Nat.{zero-add, add_comm}
 use Rattle.std.specs.List.{All, filter}
@@ -29,7 +30,7 @@ use Rattle.ec_order.proofs.Ends.{Shows, Ends, ends}
 use Rattle.ec_order.proofs.Fits.{Fits, all_fit, has_point, acts_there}
 use Rattle.ec_order.proofs.Sorting.{filter_none}
 
--- RUNS
+-- SEQUENTIAL HISTORIES
 
 pub run_append : (o : SequentialState) (xs ys : List Call) → IsSequentialRun o xs → IsSequentialRun (sequential_after_all o xs) ys → IsSequentialRun o (xs ++ ys)
 run_append o [] ys a b = b
@@ -39,7 +40,7 @@ pub after_append : (o : SequentialState) (xs ys : List Call) → sequential_afte
 after_append o [] ys = refl
 after_append o (x ∷ xs) ys = after_append (sequential_after o x.op) xs ys
 
--- an object that has run the calls of ps shows a past
+-- an object has run the calls of ps, and has the numbers after a past
 pub record RunsTo (ps : List Placed) (o s : SequentialState) (past : List Entry) : Type 0 where
   pub run : IsSequentialRun o (calls_in ps)
   pub ends_in : sequential_after_all o (calls_in ps) ≡ s
@@ -71,7 +72,7 @@ kept a k h = h ∙ sym (zero-add k)
 stored_at : (f : ℕ → ℕ) (n m v k : ℕ) → f n ≡ k → update_at f m v n ≡ unwrap_or (cond (m == n) (Some v) None) k
 stored_at f n m v k h = elim (m == n) as (λ b. cond b v (f n) ≡ unwrap_or (cond b (Some v) None) k) [ true ↦ refl | false ↦ h ]
 
--- what the object shows after an act
+-- the numbers of the object after an act
 pub shows_after : (o : SequentialState) (w : ℕ) (act : Act) (reply : Reply) (past : List Entry) → Shows o past → Shows (sequential_after o act) (record { worker = w; act = act; reply = reply } ∷ past)
 unfolding total issued cell_value
 shows_after o w (Advance f) reply past h = record { events = λ e. raised_at o.events e f (total e past) (h.events e); sequencers = λ q. kept (o.sequencers q) (issued q past) (h.sequencers q); cells = h.cells }
@@ -134,7 +135,7 @@ acts_last whole k c h =
           ap (λ b. b && true) (ne_eqb (point_of whole c) k (λ e. h (sym there ∙ e))))
     ] refl
 
--- of the calls that ended elsewhere none acts there
+-- a call that did not end at a position does not act there
 acts_elsewhere : (whole : List Entry) (k : ℕ) (cs : List Call) → All (λ (c : Call). c.last ≡ k → ⊥) cs → filter (acts_at k) (map (with_point whole) cs) ≡ []
 acts_elsewhere whole k cs h =
     filter_none (acts_at k) (map (with_point whole) cs)

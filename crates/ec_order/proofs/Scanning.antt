@@ -1,4 +1,4 @@
--- The scan of a history finds its finished calls.
+-- The scan of a history finds its completed calls.
 use Rattle.std.proofs.Common.{◌≡◌, ℕ, zero, suc, ◌+◌, ◌<◌, Bool, true, false, not, List, [], ◌∷◌, ◌++◌, length, Option, Some, None, refl, ap, sym, ◌∙◌, arith, cond, subst, take, drop, reverse, slice_get, get_or, count_by}
 use Rattle.std.specs.Option.{option_map, option_to_list}
 use Rattle.std.proofs.lemmas.List.{reverse-append, take-append-drop, take_more, length-reverse, length-take-le}
@@ -59,7 +59,7 @@ call_ended t past x i g returned calls here is taken = record {
   after = taken.after;
 }
 
--- a call that goes on is not ended
+-- a call that goes on does not end
 pub call_going : (t : Tables) (past : List Entry) (x : Entry) (i : ℕ) (g : Option PendingCall) (calls : List (Option PendingCall)) → i ≡ length past → is_pending x.reply ≡ true
     → Takes t past x g calls → EndsCall t past x None calls
 call_going t past x i g calls here is taken = call_ended t past x i g None calls here (sym (ap (λ b. cond b None (option_map (call_from x i) g)) is)) taken

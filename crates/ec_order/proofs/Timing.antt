@@ -1,4 +1,4 @@
--- What a timeline keeps, with one more entry.
+-- What a linearizer stores, with one more entry.
 use Rattle.std.proofs.Common.{◌≡◌, ℕ, zero, suc, ◌+◌, ◌-◌, ◌≤◌, Bool, true, false, not, ◌&&◌, List, [], ◌∷◌, ◌++◌, length, map, Option, Some, None, refl, ap, sym, ◌∙◌, arith, cond, subst, append-nil, reverse, slice_get}
 use Rattle.std.specs.Option.{option_map}
 use Rattle.std.specs.List.{All, filter, insert}
@@ -28,7 +28,7 @@ use Rattle.ec_order.proofs.Positions.{reverse_cons as newest_last}
 
 -- READS AND AWAITS BY THEIR POINTS
 
--- as they are told
+-- as they are written
 
 told_at : (ps : List Placed) (i : ℕ) (p : Placed) → slice_get ps i ≡ Some p → slice_get (map linearized_entry ps) i ≡ Some (linearized_entry p)
 told_at [] i p at = cc
@@ -91,7 +91,7 @@ same_no false h = refl
 part_reads : (t : Tables) (x : Entry) (past : List Entry) → IsDeclared t → IsAccepted t (x ∷ past) → is_one_entry_call x ≡ false → is_alone x.act ≡ false
 part_reads t x past d acc part = same_no (is_alone x.act) (λ alone. sym (alone_whole t x past alone (ends t x past d acc)) ∙ part)
 
--- one of a read or an await: where it ends none
+-- an entry of a read or an await, if it ends none
 pub timed_none : (t : Tables) (calls calls' : List (Option PendingCall)) (ks ks' : List AdvanceLogModel) (marks marks' : List Bool) (alone : List Entry) (rs : List LinearizedEntry) (lacks : Bool) (x : Entry) (past : List Entry) → IsDeclared t → IsAccepted t (x ∷ past)
     → is_one_entry_call x ≡ false → IsLinearizerModel (kept t calls ks marks alone rs lacks) past → FollowsReading ks x.act None ks' → marks' ≡ marks ++ false ∷ [] → EndsCall t past x None calls'
     → IsLinearizerModel (kept t calls' ks' marks' alone rs lacks) (x ∷ past)
@@ -103,7 +103,7 @@ timed_none t calls calls' ks ks' marks marks' alone rs lacks x past d acc is s f
   readings = λ n le. s.readings n (omega arith) ∙ ap (λ ps. map linearized_entry (by_moments (filter is_long ps) n)) (sym (readings_none t x past d acc ended.call));
 }
 
--- the call that one of more entries is comes last of the long ones
+-- the call of more entries that an entry ends comes last of the long ones
 long_more : (t : Tables) (x : Entry) (past : List Entry) (c : Call) → IsDeclared t → IsAccepted t (x ∷ past) → is_one_entry_call x ≡ false → ended_by t x (call_with x past) ≡ c ∷ []
     → AddsReading t x past (with_point (x ∷ past) c) → long_readings t (x ∷ past) ≡ long_readings t past ++ with_point (x ∷ past) c ∷ []
 long_more t x past c d acc part is adds =
@@ -111,7 +111,7 @@ long_more t x past c d acc part is adds =
     let long : IsLongReading c = All-head IsLongReading c [] (subst (All IsLongReading) is (others_long t x past part (ends t x past d acc))) in
     ap (filter is_long) adds.is ∙ filter-append is_long (readings t past) (p ∷ []) ∙ ap (λ b. long_readings t past ++ cond b (p ∷ []) []) long.1
 
--- where it ends one
+-- an entry of a read or an await, if it ends one
 pub timed_one : (t : Tables) (calls calls' : List (Option PendingCall)) (ks ks' : List AdvanceLogModel) (marks marks' : List Bool) (alone : List Entry) (rs rs' : List LinearizedEntry) (lacks : Bool) (x : Entry) (past : List Entry) (c : Call) → IsDeclared t → IsAccepted t (x ∷ past)
     → is_one_entry_call x ≡ false → IsLinearizerModel (kept t calls ks marks alone rs lacks) past → FollowsReading ks x.act (Some c) ks' → marks' ≡ marks ++ false ∷ [] → EndsCall t past x (Some c) calls'
     → PutsByPoint ks c rs rs'
@@ -136,8 +136,8 @@ timed_one t calls calls' ks ks' marks marks' alone rs rs' lacks x past c d acc p
           ∙ ap (λ qs. by_moments qs n) (sym (long_more t x past c d acc part ended.call adds)));
     }
 
--- WHERE WHAT IS KEPT IS SEEN AS A WHOLE
--- These are the ways of `gather` and `end`, by the facts that their calls leave.
+-- THE STATE AS ONE RECORD
+-- These are the paths of `gather` and `end`, by the contracts of their calls.
 
 -- a whole call
 pub takes_alone : (t : Tables) (calls : List (Option PendingCall)) (ks ks' : List AdvanceLogModel) (marks marks' : List Bool) (alone alone' : List Entry) (rs : List LinearizedEntry) (lacks b : Bool) (old : LinearizerModel) (x : Entry) (place : ℕ)

@@ -92,7 +92,7 @@ one_of : (a b : Bool) → (not a && not b) ≡ false → b ≡ false → a ≡ t
 one_of true b h is = refl
 one_of false b h is = (let other : b ≡ true = (elim b as (λ c. not c ≡ false → c ≡ true) [ true ↦ λ e. refl | false ↦ λ e. cc ] h) in cc)
 
--- what an entry ends that is no whole call
+-- what an entry ends, if it is no whole call
 pub others_long : (t : Tables) (x : Entry) (past : List Entry) → is_one_entry_call x ≡ false → Ends t x past (under_way x.worker past)
     → All IsLongReading (ended_by t x (call_with_act x.act past (under_way x.worker past)))
 others_long t x past part (inl n) = rw n.is (All-nil IsLongReading)

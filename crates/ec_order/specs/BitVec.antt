@@ -7,7 +7,7 @@ unfoldable pub low_bits : ℕ → ℕ → List Bool
 low_bits zero word = []
 low_bits (suc n) word = low_bits n (word / 2) ++ (word % 2 == 1) ∷ []
 
--- those below the highest bit that is one, if so many are looked at
+-- the marks below the highest bit that is one, of at most so many bits
 unfoldable pub bits_below_highest : ℕ → ℕ → List Bool
 bits_below_highest zero word = []
 bits_below_highest (suc n) word = if nat_le word 1 then [] else bits_below_highest n (word / 2) ++ (word % 2 == 1) ∷ []
@@ -16,7 +16,7 @@ bits_below_highest (suc n) word = if nat_le word 1 then [] else bits_below_highe
 abbrev pub bits_of_word : ℕ → List Bool
 bits_of_word = bits_below_highest 63
 
--- the marks of some words, and then those of the last
+-- the marks of these words, and then those of the last
 abbrev pub bits_of_words : List ℕ → ℕ → List Bool
 bits_of_words words last = flat_map bits_of_word words ++ bits_of_word last
 

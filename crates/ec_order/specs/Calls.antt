@@ -1,6 +1,7 @@
--- Completed calls. A worker's entries are cut, in order, into calls: a read or an await goes on with that worker's
--- following goes, up to its first entry whose reply is not Pending; every other act is a call of one entry. A call is
--- finished if its last reply is not Pending. A past is the list of the entries before a moment, the newest first.
+-- Completed calls. A worker's entries are cut, in order, into calls: a read or an await goes on
+-- with that worker's following goes, up to its first entry whose reply is not Pending; every other
+-- act is a call of one entry. A call is completed if its last reply is not Pending. A past is the
+-- history before a moment, reversed: the newest entry first.
 use Rattle.std.specs.Prelude.{◌≡◌, ℕ, ◌-◌, Bool, true, false, not, ◌&&◌, List, [], ◌∷◌, ◌++◌, length, Option, Some, None, if◌then◌else◌}
 use Rattle.std.specs.Option.{option_map, option_to_list}
 use Rattle.ec_count.specs.Tables.{Tables}
@@ -38,28 +39,30 @@ call_of_entries t x op moments = record {
   last = position_of moments 0;
 }
 
--- the call that x ends, if this is the call of its worker with x: none if it is told Pending
+-- the call that x ends, if this is the call of its worker with x: none if its reply is Pending
 abbrev pub ended_by : Tables → Entry → Option CallSoFar → List Call
 ended_by t x None = []
 ended_by t x (Some call) = if is_pending x.reply then [] else call_of_entries t x call.op call.moments ∷ []
 
--- the completed calls of a past, in order of their last entries
+-- the completed calls of a past, in order of their responses
 unfoldable pub finished_calls : Tables → List Entry → List Call
 finished_calls t [] = []
 finished_calls t (x ∷ past) = finished_calls t past ++ ended_by t x (call_with_act x.act past (under_way x.worker past))
 
--- the call that an entry at position i ends, if it ends one, given its call with it
+-- a pending call, if the entry at position i ends it
 abbrev pub call_from : Entry → ℕ → PendingCall → Call
 call_from x i g = record { worker = x.worker; op = g.op; reply = x.reply; first = g.first; round = g.round; last = i }
 
+-- the call that an entry at position i ends, if it ends one, given its call with it
 abbrev pub call_ended_by : Entry → ℕ → Option PendingCall → Option Call
 call_ended_by x i o = if is_pending x.reply then None else option_map (call_from x i) o
 
--- what is told of an entry after a past is the call that it ends, if it ends one, and these are the calls after it
+-- what is returned for an entry after a past is the call that it ends, if it ends one, and these
+-- are the pending calls after it
 pub record EndsCall (t : Tables) (past : List Entry) (x : Entry) (returned : Option Call) (calls : List (Option PendingCall)) : Type 0 where
   pub call : ended_by t x (call_with x past) ≡ option_to_list returned
   pub after : AreCalls t calls (x ∷ past)
 
--- the same after any past that has the pending calls before it, if the entry stands at position i
+-- the same after every past that has these pending calls, if the entry is at position i
 pub record Ending (before : List (Option PendingCall)) (i : ℕ) (x : Entry) (returned : Option Call) (calls : List (Option PendingCall)) (t : Tables) : Type 0 where
   pub ends : (past : List Entry) → IsAccepted t past → i ≡ length past → AreCalls t before past → EndsCall t past x returned calls

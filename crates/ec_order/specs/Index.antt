@@ -21,7 +21,7 @@ abbrev pub moment_of_advance : List ℕ → ℕ → ℕ
 moment_of_advance moments zero = 0
 moment_of_advance moments (suc r) = slice_index moments r
 
--- the moments of e in an index of them
+-- the moments of e in an index
 abbrev pub moments_in : List NumberListModel → ℕ → List ℕ
 moments_in lists e = slice_index_or (map (λ v. v.list) lists) e []
 
@@ -38,7 +38,7 @@ point_in lists c = point_by (moments_in lists (event_or c.op)) c
 abbrev pub placed_in : List NumberListModel → Call → Placed
 placed_in lists c = record { call = c; point = point_in lists c }
 
--- the moment is added behind those of the eventcount that the act advances
+-- the moment is added after those of the eventcount that the act advances
 pub record NotesAct (lists : List NumberListModel) (act : Act) (moment : ℕ) (new : List NumberListModel) : Type 0 where
   pub long : length new ≡ length lists
   pub moments : (e : ℕ) → moments_in new e ≡ moments_in lists e ++ (if is_advance e act then moment ∷ [] else [])

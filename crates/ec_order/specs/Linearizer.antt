@@ -1,5 +1,5 @@
--- The completed calls of a history by their points, as they are gathered while the history goes
--- past.
+-- The completed calls of a history in order of their points, as they are found while the history is
+-- streamed.
 use Rattle.std.specs.Prelude.{◌≡◌, ℕ, ◌+◌, ◌≤◌, Bool, true, false, not, nat_lt, List, [], ◌∷◌, length, map, reverse, Option, if◌then◌else◌}
 use Rattle.std.specs.List.{filter}
 use Rattle.ec_count.specs.Tables.{Tables}
@@ -16,32 +16,33 @@ use Rattle.ec_order.specs.AdvanceLogModel.{AdvanceLogModel, AreAdvanceLogs, IsPo
 use Rattle.ec_order.specs.Verdicts.{IsGood}
 use Rattle.ec_order.specs.Walk.{is_alone, due_then, readings, PutsIn}
 
--- a call, told as one entry: what it asked for, and what it was told in the end
+-- a call, written as one entry: the act that began it, and its last reply
 abbrev pub entry_of_call : Call → Entry
 entry_of_call c = record { worker = c.worker; act = c.op; reply = c.reply }
 
--- a placed call, told so, with its point
+-- a placed call, so written, with its point
 abbrev pub linearized_entry : Placed → LinearizedEntry
 linearized_entry p = record { point = p.point; entry = entry_of_call p.call }
 
 abbrev pub entry_point : LinearizedEntry → ℕ
 entry_point d = d.point
 
--- these tell a good order of the completed calls of a past
+-- these represent a linearization of the completed calls of a past, each with its point
 pub record IsGoodLinearization (t : Tables) (past : List Entry) (calls : List LinearizedEntry) : Type 0 where
   pub placed : List Placed
   pub returned : calls ≡ map linearized_entry placed
   pub good : IsGood t past placed
 
--- the completed calls of a past by their points, told so
+-- the completed calls of a past in order of their points, so written
 abbrev pub linearized_entries : Tables → List Entry → List LinearizedEntry
 linearized_entries t past = map linearized_entry (ordered_by_points t past)
 
--- WHAT IS KEPT
+-- WHAT IS STORED
 
--- of the declarations: the pending calls; the advances of each eventcount, of which the moments are kept of those alone that were
--- made while a read or an await of it is pending; of each entry whether it is a whole call, those that are, the completed reads and
--- awaits of more entries by their points, and whether memory was refused for one
+-- the declarations; the pending calls; the advances of each eventcount, with the moments only of
+-- those that were made while a read or an await of it is pending; for each entry whether it is a
+-- whole call; the entries that are; the completed reads and awaits of more entries in order of
+-- their points; and whether an allocation failed for one entry
 pub record LinearizerModel : Type 0 where
   pub setup : Tables
   pub under_way : List (Option PendingCall)
@@ -55,11 +56,11 @@ pub record LinearizerModel : Type 0 where
 abbrev pub is_long : Placed → Bool
 is_long p = nat_lt p.call.first p.call.last
 
--- the completed reads and awaits of more than one entry, by their last entries
+-- the completed reads and awaits of more than one entry, in order of their responses
 abbrev pub long_readings : Tables → List Entry → List Placed
 long_readings t past = filter is_long (readings t past)
 
--- it is that after an accepted past
+-- it represents an accepted past
 pub record IsLinearizerModel (k : LinearizerModel) (past : List Entry) : Type 0 where
   pub under_way : AreCalls k.setup k.under_way past
   pub advances : AreAdvanceLogs k.advances past
@@ -67,34 +68,37 @@ pub record IsLinearizerModel (k : LinearizerModel) (past : List Entry) : Type 0 
   pub alone : k.alone ≡ filter is_one_entry_call (reverse past)
   pub readings : (n : ℕ) → length past ≤ n → k.readings ≡ map linearized_entry (by_moments (long_readings k.setup past) n)
 
--- a call that an entry ends is put in by its point, found by the advances that are kept before that entry is taken in
+-- a call that an entry ends is inserted by its point, found by the advances that are stored before
+-- that entry is added
 pub record PutsByPoint (kept : List AdvanceLogModel) (c : Call) (old new : List LinearizedEntry) : Type 0 where
   pub point : ℕ
   pub is : IsPointBy kept c point
   pub puts : PutsIn entry_point old new (linearized_entry (record { call = c; point = point }))
 
--- one more entry, at this position, is taken in
+-- one more entry, at this position, is added
 pub record TakesIn (old : LinearizerModel) (place : ℕ) (x : Entry) (new : LinearizerModel) : Type 0 where
   pub timed : (past : List Entry) → place ≡ length past → IsAccepted old.setup (x ∷ past) → IsLinearizerModel old past → IsLinearizerModel new (x ∷ past)
 
--- it is that after a past, if the past is accepted and no memory was refused
+-- it represents a past, if the past is accepted and no allocation failed
 abbrev pub IsLinearizer : LinearizerModel → List Entry → Type 0
 IsLinearizer k past = k.lacks ≡ false → IsAccepted k.setup past → IsLinearizerModel k past
 
--- on the same declarations, after a past
+-- it has the same declarations as at the start, and represents a past
 abbrev pub LinearizesOn : LinearizerModel → LinearizerModel → List Entry → Type 0
 LinearizesOn start now past = (now.setup ≡ start.setup) × IsLinearizer now past
 
--- ONE AFTER ANOTHER
--- Marks say of the entries from a position on whether they are whole calls, and beside them stand those that are.
+-- THE ITERATOR
+-- Marks say of the entries from a position on whether they are whole calls; another list has those
+-- that are.
 
 -- whether the next entry is a read or an await that is a whole call
 abbrev pub read_comes : List Bool → List Entry → Bool
 read_comes (true ∷ marks) (x ∷ alone) = not (is_alone x.act)
 read_comes marks alone = false
 
--- the moment at which a read or an await of more entries comes: that of its point, but the one after it if it waits for a read or an
--- await that is a whole call, and so has its point there and ends no later
+-- the moment at which a read or an await of more entries comes: its point, but the moment after it
+-- if it waits for a read or an await that is a whole call, and so has its point there and ends no
+-- later
 abbrev pub due_moment : Bool → LinearizedEntry → ℕ
 due_moment waits d = if waits then d.point + 1 else d.point
 

@@ -1,4 +1,4 @@
--- Points: the moment at which a call counts as made, and the order of the completed calls by their
+-- Points: the moment at which a call takes effect, and the order of the completed calls by their
 -- points.
 use Rattle.std.specs.Prelude.{◌≡◌, ◌≢◌, ℕ, ◌+◌, ◌-◌, ◌<◌, ◌≤◌, Bool, ◌==◌, ◌&&◌, nat_le, nat_lt, not, List, zero, suc, [], ◌∷◌, ◌++◌, length, map, if◌then◌else◌, MatchBool}
 use Rattle.std.specs.List.{filter}
@@ -13,7 +13,7 @@ use Rattle.ec_core.specs.CallLists.{reply_number}
 
 -- POINTS, as a relation over a history in its natural order
 
--- the least moment from the last round's start to the last entry at which the total was the answer
+-- the least moment from the last round's start to the response at which the total was the answer
 pub record IsLeastMoment (h : List Entry) (c : Call) (k : ℕ) : Type 0 where
   pub total_is : total (event_or c.op) (past_at k h) ≡ reply_number c.reply
   pub low : c.round ≤ k
@@ -36,8 +36,8 @@ unfoldable pub first_moment : (ℕ → Bool) → ℕ → ℕ → ℕ
 first_moment test k zero = k
 first_moment test k (suc n) = if test k then k else first_moment test (k + 1) n
 
--- the point of a read or an await is the first moment from its last round on at which the total was what it answered,
--- and that of any other call is its position
+-- the point of a read or an await is the first moment from its last round on at which the total was
+-- what it returned, and that of any other call is its position
 abbrev pub point_of : List Entry → Call → ℕ
 point_of past c =
     if is_reading c.op
@@ -68,7 +68,8 @@ unfoldable pub by_moments : List Placed → ℕ → List Placed
 by_moments ps zero = []
 by_moments ps (suc k) = by_moments ps k ++ at_moment ps k
 
--- the completed calls by point. At one point the reads and awaits come before the other call at that position,
--- and among themselves they go by their last entries, as the completed calls are listed
+-- the completed calls in order of their points. At one point the reads and awaits come before the
+-- other call at that position; among themselves they are in order of their responses, as the
+-- completed calls are listed
 abbrev pub ordered_by_points : Tables → List Entry → List Placed
 ordered_by_points t past = by_moments (map (with_point past) (finished_calls t past)) (length past)

@@ -16,8 +16,9 @@ pub record SequentialState : Type 0 where
 abbrev pub zero_state : SequentialState
 zero_state = record { events = λ e. 0; sequencers = λ q. 0; cells = λ x. 0 }
 
--- what a call is answered: an advance, a put and a hand are done; a read gives the number, and so does an await, which is
--- possible only if the number has reached its threshold; a ticket and a get give theirs. No call begins with a go
+-- the reply to a call: Done to an advance, a put and a hand; a read returns the number, and so does
+-- an await, which is possible only if the number has reached its threshold; a ticket and a get
+-- return theirs. No call begins with a go
 abbrev pub sequential_reply : SequentialState → Act → Option Reply
 sequential_reply s (Advance e) = Some Done
 sequential_reply s (Read e) = Some (Number (s.events e))
@@ -45,7 +46,8 @@ abbrev pub sequential_after_all : SequentialState → List Call → SequentialSt
 sequential_after_all s [] = s
 sequential_after_all s (c ∷ cs) = sequential_after_all (sequential_after s c.op) cs
 
--- the calls, one after another, are possible and are answered as they were
+-- a legal sequential history: the calls, one after another, are possible and get the replies that
+-- they had
 abbrev pub IsSequentialRun : SequentialState → List Call → Type 0
 IsSequentialRun s [] = Unit {0}
 IsSequentialRun s (c ∷ cs) = (sequential_reply s c.op ≡ Some c.reply) × IsSequentialRun (sequential_after s c.op) cs

@@ -6,9 +6,9 @@ use ec_numbers::NumberList;
 use std::alloc::{AllocError, Global};
 use std::marker::Model;
 
-/// The advances of one eventcount: how many came before those whose moments are kept, the moments
-/// after these, and how many reads and awaits of it are pending. A moment is kept only while such a
-/// call is pending. (The numbers saturate: in an accepted history none comes to its greatest.)
+/// The advances of one eventcount, and how many reads and awaits of it are pending. The moment
+/// after an advance is stored only while such a call is pending; `before` counts the advances
+/// before the stored ones. (The numbers saturate: in an accepted history none reaches its maximum.)
 #[derive(Drop)]
 pub(crate) struct AdvanceLog {
     before: usize,
@@ -36,7 +36,7 @@ impl AdvanceLog {
         }
     }
 
-    /// Adds an advance, by the moment after it. It wants memory only for a moment that is kept.
+    /// Adds an advance, by the moment after it. It allocates only for a moment that is stored.
     #[inline(always)]
     pub(crate) fn raise(&mut self, moment: usize) -> Result<(), AllocError>
         ensures ok { OnOk result (AddsAdvance self.old moment self.new) }
@@ -56,8 +56,8 @@ impl AdvanceLog {
         self.readers = self.readers.saturating_add(1);
     }
 
-    /// Ends a read or an await that was pending. With the last one the moments go, and the room for
-    /// them is used again.
+    /// Ends a read or an await that was pending. With the last one the moments are dropped, and
+    /// their memory is used again.
     pub(crate) fn end(&mut self)
         ensures { EndsRead self.old self.new }
     {
@@ -69,8 +69,8 @@ impl AdvanceLog {
         self.moments.truncate(0);
     }
 
-    /// Returns the point of a read or an await whose last round began there, and which was answered
-    /// this number.
+    /// Returns the point of a read or an await whose last round began at this position, and which
+    /// returned this number.
     pub(crate) fn point(&self, round: usize, number: u64) -> usize
         ensures { result ≡ max round (moment_since self.now number) }
     {
@@ -83,8 +83,8 @@ impl AdvanceLog {
     }
 }
 
-/// Adds a moment to those that are kept. (It is a function of its own, so that what an entry passes
-/// through stays small.)
+/// Stores one more moment. (It is a function of its own, so that the code that every entry runs
+/// stays small.)
 #[inline(never)]
 fn push_moment(moments: &mut NumberList, moment: usize) -> Result<(), AllocError>
     ensures { OnOk result (moments.new.list ≡ moments.old.list ++ moment ∷ []) }

@@ -1,4 +1,4 @@
-//! The advances of all eventcounts, as a walk over a history keeps them.
+//! The advances of all eventcounts, as a pass over a history stores them.
 ghost use Rattle.std.specs.Prelude.{◌≡◌, ◌<◌, Some, None, [], length, IfOk, IfSome, OnOk};
 ghost use Rattle.ec_core.specs.Rounds.{read_of};
 ghost use Rattle.ec_order.specs.AdvanceLogModel.{AreAdvanceLogs, FollowsReading, IsPointBy};
@@ -11,8 +11,7 @@ use ec_core::Act;
 use std::alloc::{AllocError, Global};
 use std::marker::Model;
 
-/// The advances of each eventcount so far: what the points of the calls want that are pending, or
-/// begin later.
+/// The advances of each eventcount so far: what the points of pending and later calls depend on.
 #[derive(Drop)]
 pub(crate) struct Advances {
     events: Vec<AdvanceLog>,
@@ -30,7 +29,7 @@ impl Model for Advances {
 }
 
 impl Advances {
-    /// Makes what is kept before the first entry.
+    /// Returns the advances before the first entry.
     pub(crate) fn none(alloc: Global) -> Result<Self, AllocError>
         ensures { IfOk result (λ advances. AreAdvanceLogs advances []) }
     {
@@ -39,7 +38,7 @@ impl Advances {
         })
     }
 
-    /// Takes in an entry that is a whole call, by its act and the moment after it.
+    /// Adds an entry that is a whole call, by its act and the moment after it.
     #[tactic(auto, using(crate::proofs::AdvanceLogLemmas::notes_none, crate::proofs::AdvanceLogLemmas::notes_one))]
     #[inline(always)]
     pub(crate) fn note(&mut self, act: Act, moment: usize) -> Result<(), AllocError>
@@ -51,7 +50,7 @@ impl Advances {
         Ok(())
     }
 
-    /// Takes in an entry of a read or an await that ends no call, by its act.
+    /// Adds an entry of a read or an await that ends no call, by its act.
     #[tactic(auto, using(crate::proofs::AdvanceLogLemmas::begins_none, crate::proofs::AdvanceLogLemmas::begins_one))]
     pub(crate) fn begin(&mut self, act: Act)
         ensures { FollowsReading self.old act None self.new }
@@ -61,7 +60,7 @@ impl Advances {
         }
     }
 
-    /// Takes in an entry that ends a read or an await, by its act and the call.
+    /// Adds an entry that ends a read or an await, by its act and the call.
     #[tactic(auto, using(crate::proofs::AdvanceLogLemmas::ends_none, crate::proofs::AdvanceLogLemmas::ends_one))]
     pub(crate) fn end(&mut self, act: Act, call: &Call)
         ensures { FollowsReading self.old act (Some call.now) self.new }
@@ -73,8 +72,8 @@ impl Advances {
         }
     }
 
-    /// Returns the point of the read or await that the entry at hand ends: to be asked before that
-    /// entry is taken in.
+    /// Returns the point of the read or await that the next entry ends. It is called before that
+    /// entry is added.
     #[tactic(auto, using(crate::proofs::KeptPoints::point_none, crate::proofs::KeptPoints::point_one))]
     pub(crate) fn point(&self, call: &Call) -> usize
         ensures { IsPointBy self.now call.now result }
@@ -98,7 +97,7 @@ fn read_by(act: Act) -> Option<usize>
 }
 
 /// Returns the eventcount that a call was pending on, by the act that ends it and the one that
-/// began it: a call that is told at once never was.
+/// began it. A call of one entry was never pending.
 fn left_by(act: Act, op: Act) -> Option<usize>
     ensures value { result ≡ ended_event act op }
     ensures small { IfSome result (λ e. e < 32) }
@@ -109,7 +108,7 @@ fn left_by(act: Act, op: Act) -> Option<usize>
     }
 }
 
-/// Returns each of the 32 eventcounts with no advance.
+/// Returns the log of each of the 32 eventcounts, with no advance.
 #[tactic(auto, using(crate::proofs::AdvanceLogLemmas::none_raised))]
 fn empty_logs(alloc: Global) -> Result<Vec<AdvanceLog>, AllocError>
     ensures long { IfOk result (λ events. length events.items ≡ 32) }

@@ -1,4 +1,4 @@
-//! Marks, in a bit each.
+//! A list of marks of one bit each.
 ghost use Rattle.std.specs.Prelude.{◌≡◌, ◌+◌, ◌^◌, ◌<◌, ◌≤◌, [], ◌∷◌, ◌++◌, drop, length, slice_get, OnOk};
 ghost use Rattle.ec_order.specs.BitVec.{low_bits, bits_of_word, bits_of_words, IsBitVec};
 
@@ -9,10 +9,11 @@ use std::mem;
 /// The least word that has no room for one more mark: it has 63.
 const FULL: u64 = 1 << 63;
 
-/// The greatest number of words without such room: far more than fit in any memory.
+/// The greatest number of full words: far more than fit in any memory.
 const WORDS_MAX: usize = 1 << 57;
 
-/// A list of marks, each of which takes a bit. A word holds 63 of them, the last in its lowest bit, and above them a bit that is one.
+/// A list of marks, each of which takes a bit. A full word has 63 of them. In each word the last
+/// mark is in the lowest bit, and the bit above the marks is one.
 #[derive(Drop)]
 pub(crate) struct BitVec {
     words: Vec<u64>,
@@ -41,7 +42,7 @@ impl BitVec {
         }
     }
 
-    /// Adds one at the end.
+    /// Adds a mark at the end.
     #[inline(always)]
     pub(crate) fn push(&mut self, mark: bool) -> Result<(), AllocError>
         ensures { OnOk result (self.new ≡ self.old ++ mark ∷ []) }
@@ -51,7 +52,7 @@ impl BitVec {
         Ok(())
     }
 
-    /// Returns all of them.
+    /// Returns an iterator over the marks.
     pub(crate) fn iter(&self) -> BitIter<'_>
         ensures value { result ≡ self.now }
         ensures few { length self.now < 2 ^ 64 }
@@ -80,7 +81,7 @@ fn reserve(words: &mut Vec<u64>, last: &mut u64) -> Result<(), AllocError>
     Ok(())
 }
 
-/// Puts a full word with the others and begins the next, or changes nothing.
+/// Adds the last word, which is full, to the others and begins the next; or changes nothing.
 fn begin_word(words: &mut Vec<u64>, last: &mut u64) -> Result<(), AllocError>
     requires are { IsBitVec words.old.items last.old }
     requires some { 1 < last.old }
@@ -107,8 +108,8 @@ fn with_bit(word: u64, mark: bool) -> u64
     if mark { word * 2 + 1 } else { word * 2 }
 }
 
-/// Marks, one after another. A contract sees it as the list of those that are left. Those of the word that has been begun are in the
-/// lowest bits of it.
+/// An iterator over marks. A contract sees it as the list of those that are left. The `left` lowest
+/// bits of `word` are the next of them.
 #[derive(Drop)]
 pub(crate) struct BitIter<'a> {
     words: &'a [u64],
@@ -130,7 +131,7 @@ impl<'a> Model for BitIter<'a> {
 }
 
 impl<'a> BitIter<'a> {
-    /// Returns the next of them.
+    /// Returns the next mark, which stays the next.
     #[inline(always)]
     pub(crate) fn peek(&self) -> Option<bool>
         ensures { result ≡ slice_get self.now 0 }
@@ -139,8 +140,8 @@ impl<'a> BitIter<'a> {
     }
 }
 
-/// Returns the first of the marks that are left. (It is handed their parts, so that these may stand
-/// in registers if they are gone on with.)
+/// Returns the first of the marks that are left. (Its arguments are the fields of the iterator, so
+/// that these can stay in registers.)
 #[cold]
 #[inline(never)]
 fn first_bit(words: &[u64], last: u64, place: usize, word: u64, left: u32) -> Option<bool>
@@ -182,7 +183,8 @@ impl<'a> Iterator for BitIter<'a> {
     }
 }
 
-/// Returns the word at a place, and behind the others the last, which is taken away.
+/// Returns the word at a place, and adds one to the place. After these words it returns the last,
+/// and replaces it by a word of no marks.
 fn next_word(words: &[u64], place: &mut usize, last: &mut u64) -> u64
     requires { IsBitVec words.now last.old }
     ensures some { 0 < result }

@@ -19,7 +19,7 @@ pub(crate) fn event_to_raise(act: Act) -> Option<usize>
     }
 }
 
-/// Adds a moment to those of eventcount e.
+/// Adds a moment to those of an eventcount.
 fn add_moment(lists: &mut Vec<NumberList>, event: usize, moment: usize) -> Result<(), AllocError>
     requires { event < length lists.old.items }
     ensures long { length lists.new.items ≡ length lists.old.items }
@@ -70,8 +70,7 @@ pub(crate) fn index(alloc: Global, run: &Run) -> Result<Vec<NumberList>, AllocEr
     Ok(lists)
 }
 
-/// Returns the moment after the r-th advance, by the list of the moments after each advance; moment
-/// 0 for r = 0.
+/// Returns the moment after the r-th advance, given the moments after each; moment 0 for r = 0.
 #[inline(always)]
 fn moment_of_advance(moments: &NumberList, r: u64) -> usize
     ensures { result ≡ moment_of_advance moments.now.list r }
@@ -83,8 +82,9 @@ fn moment_of_advance(moments: &NumberList, r: u64) -> usize
     }
 }
 
-/// Returns the point of a call: of a read or an await the greater of its round's start and the
-/// moment after the advance that made the total its answer, of any other call its position.
+/// Returns the point of a call. For a read or an await it is the later of the start of its last
+/// round and the moment after the advance that made the total its answer. For any other call it is
+/// its position.
 #[inline(always)]
 pub(crate) fn point(lists: &[NumberList], call: &Call) -> usize
     requires { length lists.now ≡ 32 }

@@ -1,12 +1,12 @@
-//! Completed calls as a text tells them.
+//! Completed calls as a text shows them.
 use ec_core::Entry;
 
-/// A completed call and its point, told as one entry: its worker, the act that began it, and the
-/// reply that ended it.
+/// A completed call, written as one entry, and its point. The entry has the call's worker, the act
+/// that began it, and the reply that ended it.
 #[derive(Clone, Copy, Debug, PartialEq, Eq)]
 pub struct LinearizedEntry {
-    /// The point, as that of a `Placed`.
+    /// The point, as in a `Placed`.
     pub point: usize,
-    /// The call.
+    /// The call, as one entry.
     pub entry: Entry,
 }

@@ -1,4 +1,4 @@
-//! The completed calls of a history by their points, gathered while the history goes past.
+//! The completed calls of a history in order of their points, found while it is streamed.
 ghost use Rattle.std.specs.Prelude.{◌≡◌, ◌+◌, ◌<◌, ◌^◌, true, false, List, [], Some, IfOk, IfSome, OnOk};
 ghost use Rattle.ec_core.specs.declared.act.Entry.{Entry};
 ghost use Rattle.ec_core.specs.Acceptance.{IsAccepted};
@@ -17,11 +17,11 @@ use ec_count::Setup;
 use std::alloc::{AllocError, Global};
 use std::marker::Model;
 
-/// The completed calls of a history by their points, gathered while the history goes past: each
-/// entry is handed to it once, by `take`. Of a call of one entry, as each advance is, and each read
-/// that is told at once, it keeps that entry; of a completed read or await of more entries one
-/// entry that tells it, and its point; and of every entry one bit. The moment of an advance is kept
-/// only while a read or an await of its eventcount is pending.
+/// The completed calls of a history in order of their points, found while the history is streamed.
+/// Each entry is passed to it once, by `take`. It stores a call of one entry, such as an advance or
+/// a read that returns at once, as that entry. It stores a completed read or await of more entries
+/// as one entry and its point. For every entry it stores one bit. The moment of an advance is
+/// stored only while a read or an await of its eventcount is pending.
 #[derive(Drop)]
 pub struct Linearizer<'a> {
     setup: &'a Setup,
@@ -41,7 +41,7 @@ impl<'a> Model for Linearizer<'a> {
     ghost view = { λ s. record { setup = s.setup.now; under_way = s.under_way; advances = s.advances; marks = s.marks; alone = s.alone; readings = s.readings; lacks = s.lacks } };
 }
 
-/// Returns the call, told as one entry.
+/// Returns a call, written as one entry.
 fn entry_of_call(call: &Call) -> Entry
     ensures { result ≡ entry_of_call call.now }
 {
@@ -52,7 +52,8 @@ fn entry_of_call(call: &Call) -> Entry
     }
 }
 
-/// Takes in an entry that ends a read or an await, by its act and the call, which is put in by its point.
+/// Adds an entry that ends a read or an await, by its act and the call, and stores the call by its
+/// point.
 fn store_read(
     readings: &mut LinearizedReads,
     advances: &mut Advances,
@@ -68,7 +69,7 @@ fn store_read(
 }
 
 impl<'a> Linearizer<'a> {
-    /// Makes what is kept before the first entry of a history on this setup.
+    /// Returns a linearizer before the first entry of a history on this setup.
     pub fn open(alloc: Global, setup: &'a Setup) -> Result<Self, OrderFault>
         ensures setup { IfOk result (λ timeline. timeline.setup ≡ setup.now) }
         ensures first { IfOk result (λ timeline. IsLinearizer timeline []) }
@@ -84,7 +85,7 @@ impl<'a> Linearizer<'a> {
         })
     }
 
-    /// Takes the next entry in, at this position.
+    /// Adds the next entry, at this position.
     #[tactic(auto, using(crate::proofs::Timing::takes_alone, crate::proofs::Timing::takes_pending))]
     #[inline(always)]
     fn gather(&mut self, place: usize, entry: &Entry) -> Result<(), AllocError>
@@ -108,8 +109,8 @@ impl<'a> Linearizer<'a> {
         Ok(())
     }
 
-    /// Takes in a go that ends a read or an await, at this position. (It stands apart from `gather`, which is put into a function that is
-    /// large by then.)
+    /// Adds a go that ends a read or an await, at this position. (It is apart from `gather`, which
+    /// is inlined into a function that is already large.)
     #[tactic(auto, using(crate::proofs::Timing::takes_none, crate::proofs::Timing::takes_one))]
     #[inline(never)]
     fn end(&mut self, place: usize, entry: &Entry) -> Result<(), AllocError>
@@ -128,8 +129,8 @@ impl<'a> Linearizer<'a> {
         }
     }
 
-    /// Returns the completed calls after the entries so far, by their points, one after another: a
-    /// linearization of them. `Err` if memory was refused for one of the entries.
+    /// Returns the completed calls of the entries so far in order of their points, which is a
+    /// linearization of them. Returns `Err` if an allocation failed for one of the entries.
     pub fn calls(&self) -> Result<Linearization<'_>, OrderFault>
         ensures value { (past : List Entry) → IsLinearizer self.now past → IsAccepted self.now.setup past → IfOk result (λ calls. calls ≡ linearized_entries self.now.setup past) }
         ensures good { (past : List Entry) → IsLinearizer self.now past → IsAccepted self.now.setup past → IfOk result (λ calls. IsGoodLinearization self.now.setup past calls) }
@@ -182,8 +183,8 @@ fn read_comes(marks: &BitIter<'_>, alone: &Entries<'_>) -> bool
 }
 
 /// Returns the read or await at a place among those of more than one entry, if it is due at a
-/// moment. Of those whose point is one moment the first is the one that is told at once, since it
-/// ends there.
+/// moment. At one point a read or an await that returns at once comes before these, since it ends
+/// there.
 #[inline(always)]
 fn due(
     readings: &LinearizedReads,
@@ -202,8 +203,8 @@ fn due(
     Some(dated)
 }
 
-/// Completed calls by their points, one after another. A contract sees it as the list of those that
-/// are left.
+/// An iterator over completed calls in order of their points. A contract sees it as the list of
+/// those that are left.
 #[derive(Drop)]
 pub struct Linearization<'a> {
     marks: BitIter<'a>,
@@ -226,7 +227,7 @@ impl<'a> Model for Linearization<'a> {
 }
 
 impl<'a> Linearization<'a> {
-    /// Returns all of them.
+    /// Returns an iterator over all calls.
     fn all(marks: &'a BitVec, alone: &'a Segments, readings: &'a LinearizedReads) -> Self
         ensures { result ≡ entries_from_moment 0 marks.now alone.now readings.now }
     {

@@ -8,7 +8,7 @@ use crate::Call;
 use ec_core::{Act, Reply};
 use ec_count::filled;
 
-/// The numbers of the sequential object.
+/// The state of the sequential object: a number for each eventcount, sequencer and cell.
 #[derive(Drop)]
 pub(crate) struct Numbers {
     pub(crate) events: [u64; 32],
@@ -32,7 +32,7 @@ impl Numbers {
         }
     }
 
-    /// Returns whether the call is answered as it was.
+    /// Returns whether the object gives the reply that the call got.
     pub(crate) fn is_answer(&self, call: &Call) -> bool
         ensures named { IsNamed call.now.op }
         ensures value { Decides result (reply_in self.now call.now.op ≡ Some call.now.reply) }
@@ -40,7 +40,7 @@ impl Numbers {
         self.reply(call.op) == Some(call.reply)
     }
 
-    /// Returns what a call is answered now; none if it is not possible.
+    /// Returns the reply to a call in this state; `None` if the call is not possible.
     fn reply(&self, op: Act) -> Option<Reply>
         ensures named { IsNamed op }
         ensures value { result ≡ reply_in self.now op }
@@ -70,7 +70,7 @@ impl Numbers {
         }
     }
 
-    /// Takes in the call at place i.
+    /// Changes the numbers as the call at place i does.
     pub(crate) fn take_in(&mut self, op: Act, i: usize)
         requires few { AreFew self.old i }
         requires small { i + 1 < 2 ^ 64 }

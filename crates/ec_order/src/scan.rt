@@ -17,7 +17,7 @@ pub(crate) fn is_last(reply: Reply) -> bool
     !reply.is_pending()
 }
 
-/// Returns the call that the entry at position i ends, if it ends one, given its call up to it.
+/// Returns the call that the entry at position i ends, if it ends one, given the call so far.
 #[inline(always)]
 fn call_ended_by(entry: &Entry, call: &Option<PendingCall>, i: usize) -> Option<Call>
     ensures { result ≡ call_ended_by entry.now i call.now }
@@ -38,8 +38,9 @@ fn call_ended_by(entry: &Entry, call: &Option<PendingCall>, i: usize) -> Option<
     }
 }
 
-/// Takes in the entry at position i, which may end a call. (This and `go_on` have no `#[inline(always)]`: the compiler drops that of a function
-/// that would grow very large, as that which enters an entry of a trace would by them.)
+/// Adds the entry at position i to the pending calls, and returns the call that it ends, if it ends
+/// one. (This and `go_on` have no `#[inline(always)]`: with them, the function that enters an entry
+/// of a trace would grow so large that the compiler drops that function's own attribute.)
 pub(crate) fn take_in(
     under_way: &mut PendingCalls,
     setup: &Setup,
@@ -51,7 +52,7 @@ pub(crate) fn take_in(
     call_ended_by(entry, &under_way.take(setup, i, entry), i)
 }
 
-/// Takes in the entry at position i, after which its call goes on.
+/// Adds the entry at position i, after which its call is still pending.
 pub(crate) fn go_on(under_way: &mut PendingCalls, setup: &Setup, entry: &Entry, i: usize)
     requires { is_pending entry.now.reply ≡ true }
     ensures { Ending under_way.old i entry.now None under_way.new setup.now }
@@ -59,7 +60,7 @@ pub(crate) fn go_on(under_way: &mut PendingCalls, setup: &Setup, entry: &Entry, 
     let _ = under_way.take(setup, i, entry);
 }
 
-/// Returns how many entries of a run end a call, as those do that are told more than Pending.
+/// Returns how many entries of a run end a call: those whose reply is not Pending.
 pub(crate) fn finished_count(run: &Run) -> usize
     ensures { result ≡ count_by (λ (x : Entry). not (is_pending x.reply)) run.now.entries }
 {
@@ -74,8 +75,8 @@ pub(crate) fn finished_count(run: &Run) -> usize
     count
 }
 
-/// Returns the completed calls of a run, by their last entries. The run is as before, with want of
-/// memory too.
+/// Returns the completed calls of a run, in order of their responses. It fails only when out of
+/// memory.
 pub fn calls(alloc: Global, run: &Run) -> Result<Vec<Call>, AllocError>
     ensures { IfOk result (λ cs.
         cs.items ≡ finished_calls run.now.setup (reverse run.now.entries)) }

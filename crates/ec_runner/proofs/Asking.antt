@@ -1,4 +1,4 @@
--- What workers were refused, asked of one walk over the run.
+-- The refusals of workers, checked in one pass over the run.
 use Rattle.std.proofs.Common.{◌≡◌, ◌<◌, ◌≤◌, ℕ, List, length, Option, Some, None, slice_get, inl, inr, refl, sym, subst, arith}
 use Rattle.std.proofs.lemmas.Bool.{cases_eq}
 use Rattle.ec_core.specs.RunModel.{RunModel}

@@ -27,9 +27,9 @@ use Rattle.ec_runner.proofs.Lining.{moved_to}
 pub lt_of : (m n : ℕ) → nat_lt m n ≡ true → m < n
 lt_of m n h = grind (arith, nat_tests)
 
--- WHO IS LIVE
+-- WHO IS ACTIVE
 
--- a seat of the table where w has another seat
+-- a worker that is active after the state of w is set
 set_live : (states : List WorkerState) (w u : ℕ) (s : WorkerState) → w < length states → is_active (worker_state (slice_set states w s) u) ≡ true
     → ((u ≡ w) × (is_active s ≡ true)) ⊎ (is_active (worker_state states u) ≡ true)
 set_live states w u s within h =
@@ -47,7 +47,7 @@ map_live : (f sum : ℕ) (o : Option WorkerState) → is_active (unwrap_or (opti
 map_live f sum None = refl
 map_live f sum (Some s) = kept_live f sum s
 
--- an advance makes nobody live, nor does another act
+-- no act changes who is active
 woken_live : (act : Act) (past : List Entry) (states : List WorkerState) (u : ℕ) → is_active (worker_state (states_after_act act past states) u) ≡ is_active (worker_state states u)
 woken_live (Advance f) past states u =
     ap (λ (o : Option WorkerState). is_active (unwrap_or o Gone)) (slice_get-map (state_at_total f (total f past)) states u) ∙ map_live f (total f past) (slice_get states u)
@@ -85,7 +85,8 @@ awaited_declared t w past a acc h = call_short t (under_way w past) a (call_read
 awaited_other : (t : Tables) (w : ℕ) (x : Entry) (past : List Entry) → (x.worker == w) ≡ false → await_fallen_short t w (x ∷ past) ≡ await_fallen_short t w past
 awaited_other t w x past h = ap (option_and_then (fallen_short t)) (call_other w x past h)
 
--- a wait that a worker has: it is live, its round fell short, and the total is below
+-- a wait that a worker has: it is active, its round fell short, and the total is below the
+-- threshold
 pub record IsWait (b : BoardModel) (w : ℕ) (a : Wait) : Type 0 where
   pub live : is_active (worker_state b.states w) ≡ true
   pub short : await_fallen_short b.run.setup w (past_of b.run) ≡ Some a
@@ -182,7 +183,7 @@ left b w h within = record {
 
 -- STEP
 
--- a waiter that an advance does not let go
+-- a waiter that an advance does not release
 still_kept : (f sum : ℕ) (s : WorkerState) (e v : ℕ) → state_at_total f sum s ≡ Waiting e v → (s ≡ Waiting e v) × ((f == e) ≡ true → sum < v)
 still_kept f sum Gone e v h = cc
 still_kept f sum Running e v h = cc
@@ -283,7 +284,7 @@ none_waits : (b : Bool) (s : WorkerState) (e v : ℕ) → s ≡ cond b Running G
 none_waits true s e v is waits = (let no : Running ≡ Waiting e v = sym is ∙ waits in cc)
 none_waits false s e v is waits = (let no : Gone ≡ Waiting e v = sym is ∙ waits in cc)
 
--- the seat of a worker, if the first n are live
+-- the state of a worker, if the first n are active
 seat_there : (states : List WorkerState) (n w : ℕ) (s : WorkerState) → length states ≡ 16 → ((v : ℕ) → v < 16 → slice_get states v ≡ Some (cond (nat_lt v n) Running Gone))
     → slice_get states w ≡ Some s → s ≡ cond (nat_lt w n) Running Gone
 seat_there states n w s long is at =
@@ -291,7 +292,7 @@ seat_there states n w s long is at =
     let both : Some s ≡ Some (cond (nat_lt w n) Running Gone) = sym at ∙ is w (omega arith) in
     cc
 
--- if all who are declared are live and the flag is down, nobody waits
+-- the invariant of a board of which exactly the declared workers are active, and none waits
 pub opened : (b : BoardModel) (n : ℕ) → n ≡ b.run.setup.workers → length b.states ≡ 16 → ((w : ℕ) → w < 16 → slice_get b.states w ≡ Some (cond (nat_lt w n) Running Gone))
     → b.deadlocked ≡ false → AreWaiters b
 opened b n all long is down = record {

@@ -1,4 +1,4 @@
--- Lines of waiters: one more at its place, one less, and what the seats then say.
+-- Queues of waiters: one more inserted, one removed, and the worker states after that.
 use Rattle.std.proofs.Common.{◌≡◌, ◌≢◌, ℕ, zero, suc, ◌+◌, ◌<◌, ◌≤◌, Bool, true, false, ◌==◌, ◌&&◌, not, ◌||◌, nat_le, nat_lt, ◌⊎◌, inl, inr, List, [], ◌∷◌, length, Option, Some, None, slice_get, slice_set, cond, drop, map, is_some, refl, ap, sym, ◌∙◌, subst, arith}
 use Rattle.std.proofs.lemmas.Bool.{eqb-true, eqb-false, eq-eqb, leb-true, leb-false, le-leb, and_parts, and_from}
 use Rattle.std.proofs.lemmas.Bool.Decides.{nat_tests}
@@ -29,7 +29,7 @@ before_other a b g h = grind (arith, nat_tests)
 before_itself : (a b : Waiter) → comes_before a b ≡ true → a.threshold ≡ b.threshold → a.worker ≡ b.worker → ⊥
 before_itself a b h e w = grind (arith, nat_tests)
 
--- EACH OF A LINE
+-- EACH OF A QUEUE
 
 each_map : {P Q : Waiter → Type 0} → ((x : Waiter) → P x → Q x) → (xs : List Waiter) → Each P xs → Each Q xs
 each_map f [] h = tt
@@ -210,7 +210,7 @@ number_less e (s ∷ states) (suc i) was h n =
     let rest : number_on e states < length states = number_less e states i was h n in
     let one : cond (waits_on e s) 1 0 ≤ 1 = at_most_one (waits_on e s) in omega arith
 
--- SEATS
+-- WORKER STATES
 
 waits_itself : (e v : ℕ) → waits_on e (Waiting e v) ≡ true
 waits_itself e v = eq-eqb e e refl
@@ -313,7 +313,7 @@ line_same e w s was states line at before after h = record {
       let few = h.few in omega arith);
 }
 
--- nobody stands in a line twice
+-- nobody is in a queue twice
 others : (e : ℕ) (states : List WorkerState) (x : Waiter) (xs : List Waiter) → slice_get states x.worker ≡ Some (Waiting e x.threshold)
     → Each (λ y. comes_before x y ≡ true) xs → Each (λ y. slice_get states y.worker ≡ Some (Waiting e y.threshold)) xs → Each (λ y. y.worker ≢ x.worker) xs
 others e states x xs at order wait =
@@ -338,7 +338,7 @@ line_pop e states x xs h =
     subst (λ line. IsWaitQueue e (slice_set states x.worker Running) line) (without_first x xs (others e states x xs h.wait.0 h.order.0 h.wait.1))
     (line_drop e x.worker x.threshold Running states (x ∷ xs) h.wait.0 refl h)
 
--- ALL LINES
+-- ALL QUEUES
 
 lines_set : (states : List WorkerState) (lines : List (List Waiter)) (e w : ℕ) (s was : WorkerState) (line now : List Waiter) → AreWaitQueues states lines
     → slice_get states w ≡ Some was → slice_get lines e ≡ Some line
@@ -386,7 +386,7 @@ some_line [] e h = absurd (omega arith)
 some_line (l ∷ lines) zero h = (l, refl)
 some_line (l ∷ lines) (suc e) h = some_line lines e (omega arith)
 
--- there is a line for each eventcount
+-- there is a queue for each eventcount
 pub line_at : (states : List WorkerState) (lines : List (List Waiter)) (e : ℕ) → AreWaitQueues states lines → e < 32 → (line : List Waiter) × (slice_get lines e ≡ Some line)
 line_at states lines e h lt = some_line lines e (let events = h.events in omega arith)
 
@@ -414,7 +414,7 @@ reached_first sum y x xs h =
       | false ↦ λ t k. cc
     ] refl h
 
--- what is so after the first in line was let go, or nobody was
+-- what holds after the first of a queue was released, or nobody was
 abbrev pub rest_of : Option Waiter → List Waiter → List Waiter
 rest_of o line = cond (is_some o) (drop 1 line) line
 
@@ -499,7 +499,7 @@ same_set [] i x h = refl
 same_set (y ∷ ys) zero x h = (let same : y ≡ x = cc in ap (λ z. z ∷ ys) (sym same))
 same_set (y ∷ ys) (suc i) x h = ap (λ zs. y ∷ zs) (same_set ys i x h)
 
--- a line that is written again as it was
+-- a queue that is written back unchanged
 pub lines_again : (states : List WorkerState) (lines : List (List Waiter)) (e : ℕ) → AreWaitQueues states lines → e < 32 → AreWaitQueues states (map_at (λ line. line) lines e)
 lines_again states lines e h lt =
     let l = line_at states lines e h lt in
@@ -552,7 +552,7 @@ one_waits e (s ∷ states) (suc w) v at = or_right (waits_on e s) (list_any (wai
 holds_one : (n : ℕ) → 0 < n → not (n == 0) ≡ true
 holds_one n h = grind (arith, nat_tests)
 
--- somebody waits if the line isn't empty
+-- somebody waits exactly if the queue isn't empty
 pub line_tells : (e : ℕ) (states : List WorkerState) (line : List Waiter) → IsWaitQueue e states line → not (length line == 0) ≡ list_any (waits_on e) states
 line_tells e states [] is = sym (none_waits e states (λ w v at. is.all w v at))
 line_tells e states (x ∷ line) is = holds_one (length (x ∷ line)) (omega arith) ∙ sym (one_waits e states x.worker x.threshold is.wait.0)

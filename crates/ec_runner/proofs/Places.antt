@@ -26,7 +26,7 @@ own_other i w act (Ok reply) past other =
     ap (λ b. cond b (record { worker = w; act = act; reply = reply } ∷ own i past) (own i past)) (ne_eqb w i other)
 own_other i w act (Err r) past other = refl
 
--- a turn is nothing to the machines of the other workers
+-- a turn leaves the interpreters of the other workers as they were
 pub others_stay : (programs : List (List Command)) (turns : List Turn) (x : Turn) (i : ℕ) (m : Machine) → x.worker ≢ i → IsMachineOf programs turns i m
     → IsMachineOf programs (x ∷ turns) i m
 others_stay programs turns x i m other machine =

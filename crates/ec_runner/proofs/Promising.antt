@@ -1,4 +1,4 @@
--- What threads are to tell, and what they told.
+-- What threads promise to return, and what they returned.
 use Rattle.std.proofs.Common.{◌≡◌, ℕ, zero, suc, ◌+◌, true, false, take, List, [], ◌∷◌, ◌++◌, length, Option, Some, None, slice_get, refl, ap, sym, ◌∙◌, subst, Result, Ok, Err, MatchResult}
 use Rattle.std.specs.Global.{Vec}
 use Rattle.ec_machine.specs.declared.command.Command.{Command}
@@ -29,7 +29,7 @@ kept_more [] (p ∷ summaries) h t a i = absurd a
 kept_more (k ∷ hs) [] h t a i = absurd a
 kept_more (k ∷ hs) (p ∷ summaries) h t a i = (a.0, kept_more hs summaries h t a.1 i)
 
--- threads that told were started
+-- threads that returned were started
 none_lacks : (hs : List (Option Handle)) (summaries : List Summary) → AreAllJoined hs summaries → lacks_one hs ≡ false
 none_lacks [] summaries a = refl
 none_lacks (None ∷ hs) [] a = absurd a
@@ -80,7 +80,7 @@ told_of (h ∷ hs) [] turns summaries a k = absurd a
 told_of (h ∷ hs) (p ∷ programs) turns [] a k = absurd k
 told_of (h ∷ hs) (p ∷ programs) turns (t ∷ summaries) a k = (of_own h p turns t a.0 k.0, told_of hs programs turns summaries a.1 k.1)
 
--- what threads that were to tell of these programs told, or why there is nothing
+-- the summaries that the threads of these programs returned, or why there are none
 pub all_told : (hs : List (Option Handle)) (programs : List (List Command)) (turns : ℕ) (r : Result (Vec Summary) RunFault) → AreFor hs programs turns → AreJoinResults hs r
     → MatchResult r (λ v. AreSummariesOf programs turns v.items) IsWant
 all_told hs programs turns (Ok v) a j = told_of hs programs turns v.items a j
@@ -98,7 +98,7 @@ told_many (p ∷ programs) turns (t ∷ summaries) a =
 some_is : (t u : Summary) → Some t ≡ Some u → t ≡ u
 some_is t u h = cc
 
--- each told of the program at its place
+-- each summary is of the program at its index
 pub told_at : (programs : List (List Command)) (turns : ℕ) (summaries : List Summary) (w : ℕ) (t : Summary) → AreSummariesOf programs turns summaries → slice_get summaries w ≡ Some t
     → IsSummaryOf (program_at programs w) turns t
 told_at [] turns [] w t a is = cc

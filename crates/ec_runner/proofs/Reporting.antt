@@ -1,4 +1,4 @@
--- What is told of a schedule that was played.
+-- The report of a schedule that was played.
 use Rattle.std.proofs.Common.{◌≡◌, ℕ, List, [], ◌∷◌, length, map, reverse, get_or, Some, Result, Ok, Err, MatchResult, inl, inr, Vec, Global, refl, sym, ◌∙◌, ap, subst, arith}
 use Rattle.std.specs.Prelude.{slice_get}
 use Rattle.std.specs.Option.{option_map}

@@ -1,4 +1,4 @@
--- Machines at the start of programs.
+-- Interpreters at the start of programs.
 use Rattle.std.proofs.Common.{◌≡◌, ◌<◌, ◌⊎◌, inl, inr, ⊎_elim, ℕ, zero, suc, false, List, [], ◌∷◌, ◌++◌, length, get_or, Some, refl, sym, ◌∙◌, ap, subst}
 use Rattle.std.specs.Prelude.{slice_get}
 use Rattle.std.proofs.lemmas.List.{get_or_default}
@@ -8,7 +8,7 @@ use Rattle.ec_machine.specs.Follows.{program_at}
 use Rattle.ec_machine.specs.Standing.{StandsFor, is_refused}
 use Rattle.ec_runner.specs.Machines.{IsMachineOf, AreMachines}
 
--- what stands in a list with one more at its end
+-- an element of a list with one more at its end
 pub get_push : {X : Type 0} (xs : List X) (y : X) (i : ℕ) (x : X) → slice_get (xs ++ y ∷ []) i ≡ Some x → (slice_get xs i ≡ Some x) ⊎ ((i ≡ length xs) × (y ≡ x))
 get_push [] y zero x is = inr (refl, cc)
 get_push [] y (suc i) x is = cc
@@ -19,7 +19,7 @@ machine_new : (programs : List (List Command)) (w : ℕ) (m : Machine) → Stand
 machine_new programs w m represents unset =
     record { represents = represents; outcome = represents.outcome unset }
 
--- one more machine
+-- one more interpreter
 pub machines_more : (programs : List (List Command)) (machines : List Machine) (k : ℕ) (program : List Command) (new : Machine)
     → length machines ≡ k → AreMachines programs [] machines → k < length programs → program ≡ get_or programs k program
     → StandsFor program new [] → is_refused new ≡ false → AreMachines programs [] (machines ++ new ∷ [])

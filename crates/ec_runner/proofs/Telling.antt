@@ -1,4 +1,4 @@
--- What workers tell, as a report.
+-- The summaries of workers, as a report.
 use Rattle.std.proofs.Common.{◌≡◌, ◌<◌, ◌≤◌, ℕ, List, length, Option, Some, None, Result, Ok, Err, IfOk, IfErr, MatchResult, inl, inr, slice_get, refl, ap, sym, ◌∙◌, subst}
 use Rattle.std.proofs.lemmas.List.{length-map}
 use Rattle.std.specs.Global.{Vec}
@@ -87,7 +87,7 @@ report_of t programs turns run summaries r many summary fits is =
           (sym (slice_get-map outcome_in summaries w) ∙ ap (λ xs. slice_get xs w) (sym is.outcomes) ∙ q));
     }
 
--- the verdict on what workers told of their programs, if it is a report
+-- the verdict on the summaries of workers, if it is a report
 pub verdict_report : (t : Tables) (programs : List (List Command)) (turns : ℕ) (run : RunModel) (summaries : List Summary) (r : Result Report RunFault) → length programs ≡ t.workers
     → AreSummariesOf programs turns summaries → IsVerdict r t run summaries → IfOk r (IsReportOf t programs turns)
 verdict_report t programs turns run summaries (Ok r) many summary v = report_of t programs turns run summaries r many summary v.0 v.1
@@ -110,7 +110,7 @@ want_names t faults.Spawn is = tt
 want_names t faults.Memory is = tt
 want_names t (faults.Mismatch w) is = absurd is
 
--- what threads told of their programs, and the answer to it
+-- what threads returned, and the verdict on it
 pub answer_few : (programs : List (List Command)) (turns : ℕ) (ran : Result (RunModel × Vec Summary) RunFault) → length programs ≤ 16
     → MatchResult ran (λ r. AreSummariesOf programs turns r.1.items) IsWant → IfOk ran (λ r. length r.1.items ≤ 16)
 answer_few programs turns (Ok r) few summary = subst (λ (n : ℕ). n ≤ 16) (sym (told_many programs turns r.1.items summary)) few

@@ -1,4 +1,4 @@
--- Who is woken by a hold.
+-- Which workers a critical section wakes.
 use Rattle.std.proofs.Common.{◌≡◌, ◌≢◌, ℕ, zero, suc, ◌+◌, ◌<◌, Bool, true, false, ◌==◌, ◌&&◌, ◌||◌, not, nat_le, List, [], ◌∷◌, ◌++◌, length, map, reverse, Option, Some, None, unwrap_or, slice_get, slice_set, cond, refl, ap, sym, ◌∙◌, arith}
 use Rattle.std.proofs.lemmas.Bool.{eqb-true, eqb-false}
 use Rattle.std.proofs.lemmas.Bool.Decides.{nat_tests}
@@ -23,7 +23,7 @@ use Rattle.ec_runner.specs.Holds.{is_asleep, is_awaited, is_woken, waiting_for, 
 below : (n k : ℕ) → (n == k) ≡ false → k < n + 1 → k < n
 below n k e h = grind (arith, nat_tests)
 
--- a table that is filled from the first place on
+-- a table that is filled from its first element on
 pub set_below : {X : Type 0} (xs : List X) (f : ℕ → X) (n : ℕ) (y : X) → n < length xs → ((k : ℕ) → k < n → slice_get xs k ≡ Some (f k)) → y ≡ f n
     → (k : ℕ) → k < n + 1 → slice_get (slice_set xs n y) k ≡ Some (f k)
 set_below xs f n y within h is k lt =
@@ -94,14 +94,14 @@ made_stays : (b d : BoardModel) (w v : ℕ) (act : Act) (may_park : Bool) (reply
 made_stays b d w v act may_park reply quiet not made =
     ap (λ (c : BoardModel). slice_get c.states v) made.board ∙ hold_stays b w v act may_park reply quiet not
 
--- a hold without an advance of what somebody waits for changes nobody else's seat
+-- a critical section without an advance of what somebody waits for changes no other worker's state
 pub others_stay : (n : Next) (b d : BoardModel) (w : ℕ) (act : Act) (may_park : Bool) → is_awaited act b.states ≡ false → IsNext n b w act may_park d
     → (v : ℕ) → w ≢ v → slice_get d.states v ≡ slice_get b.states v
 others_stay (next.GoOn reply) b d w act may_park quiet h v not = made_stays b d w v act may_park reply quiet not h.0
 others_stay (next.Sleep reply) b d w act may_park quiet h v not = made_stays b d w v act may_park reply quiet not h.0
 others_stay (next.Leave outcome moment) b d w act may_park quiet h v not = ap (λ (c : BoardModel). slice_get c.states v) h.0
 
--- who is woken if nobody else's seat is changed, by the flags before and after
+-- which workers are woken if no other worker's state is changed, by the flags before and after
 woken_by : (b d : BoardModel) (w : ℕ) (s t : Bool) → b.deadlocked ≡ s → d.deadlocked ≡ t → ((v : ℕ) → w ≢ v → slice_get d.states v ≡ slice_get b.states v) → (v : ℕ)
     → is_woken b w d v ≡ (not (v == w) && ((is_waiting (worker_state d.states v) && not s) && not (is_waiting (worker_state d.states v) && not t)))
 woken_by b d w s t was is same v =
@@ -121,7 +121,7 @@ was_stuck false y z = refl
 was_stuck true false z = refl
 was_stuck true true z = refl
 
--- nobody is woken on a board that was stuck
+-- nobody is woken on a board that was deadlocked
 pub none_slept : (b d : BoardModel) (w : ℕ) → b.deadlocked ≡ true → (v : ℕ)
     → is_woken b w d v ≡ false
 none_slept b d w was v =
@@ -133,7 +133,7 @@ sleeps_on false y = refl
 sleeps_on true false = refl
 sleeps_on true true = refl
 
--- nor if the board is not stuck yet
+-- nor on a board that is not deadlocked yet
 pub none_released : (b d : BoardModel) (w : ℕ) → b.deadlocked ≡ false → d.deadlocked ≡ false → ((v : ℕ) → w ≢ v → slice_get d.states v ≡ slice_get b.states v)
     → (v : ℕ) → is_woken b w d v ≡ false
 none_released b d w was is same v =
@@ -144,7 +144,7 @@ sleeps_no_more false y = refl
 sleeps_no_more true false = refl
 sleeps_no_more true true = refl
 
--- if it has come to be stuck, all who wait are
+-- if it has become deadlocked, all others that wait are
 pub all_released : (b d : BoardModel) (w : ℕ) → b.deadlocked ≡ false → d.deadlocked ≡ true → ((v : ℕ) → w ≢ v → slice_get d.states v ≡ slice_get b.states v)
     → (v : ℕ) → is_woken b w d v ≡ (not (v == w) && is_waiting (worker_state d.states v))
 all_released b d w was is same v =
@@ -165,7 +165,7 @@ stays_up [] w = refl
 stays_up (s ∷ states) zero = refl
 stays_up (s ∷ states) (suc w) = stays_up states w
 
--- who made a step runs
+-- a worker that made a step doesn't wait
 runs_after : (act : Act) (past : List Entry) (states : List WorkerState) (w : ℕ) → is_waiting (worker_state (states_after_act act past (slice_set states w Running)) w) ≡ false
 runs_after (acts.Advance e) past states w = runs_on e (total e past) states w
 runs_after (acts.Read e) past states w = stays_up states w
@@ -192,7 +192,7 @@ awake b d w e may_park reply made =
     ]) in
     unparked b d w (acts.Advance e) reply after
 
--- who made an advance doesn't go to sleep
+-- a worker that made an advance doesn't go to sleep
 pub advancer_awake : (n : Next) (b d : BoardModel) (w : ℕ) (act : Act) (may_park : Bool) → is_awaited act b.states ≡ true → IsNext n b w act may_park d → is_sleep n ≡ false
 advancer_awake (next.GoOn reply) b d w act may_park a h = refl
 advancer_awake (next.Leave outcome moment) b d w act may_park a h = refl
@@ -210,13 +210,13 @@ free_below false s h = cc
 free_below true false h = refl
 free_below true true h = cc
 
--- where somebody sleeps the board isn't stuck
+-- if a worker goes to sleep the board isn't deadlocked
 pub asleep_free : (n : Next) (b d : BoardModel) (w : ℕ) (act : Act) (may_park : Bool) → IsNext n b w act may_park d → is_sleep n ≡ true → d.deadlocked ≡ false
 asleep_free (next.GoOn reply) b d w act may_park h s = cc
 asleep_free (next.Leave outcome moment) b d w act may_park h s = cc
 asleep_free (next.Sleep reply) b d w act may_park h s = free_below (is_waiting (worker_state d.states w)) d.deadlocked h.1
 
--- who may not wait doesn't go to sleep
+-- a worker that may not wait doesn't go to sleep
 pub may_sleep : (n : Next) (b d : BoardModel) (w : ℕ) (act : Act) (may_park : Bool) → IsNext n b w act may_park d → is_sleep n ≡ true → may_park ≡ true
 may_sleep (next.GoOn reply) b d w act may_park h s = cc
 may_sleep (next.Leave outcome moment) b d w act may_park h s = cc

@@ -1,4 +1,4 @@
--- One step of the walk over a run and the logs of its workers.
+-- One step of the pass over a run and the logs of its workers.
 use Rattle.std.proofs.Common.{◌≡◌, ◌≢◌, ℕ, zero, suc, ◌+◌, ◌<◌, true, false, ◌==◌, nat_le, inl, inr, List, [], ◌∷◌, ◌++◌, length, reverse, take, Option, Some, None, MatchOption, cond, slice_get, slice_index, slice_set, get_or, length-take-le, refl, ap, sym, subst, ◌∙◌, arith}
 use Rattle.std.proofs.lemmas.Grind.{common_steps}
 use Rattle.std.proofs.lemmas.Bool.{cases_eq, eqb-true, eq-eqb}
@@ -96,7 +96,7 @@ walks summaries cursors done x summary h small is next =
       ];
     }
 
--- if each log is gone through to its end, the entries gone through are those of the logs
+-- if each cursor is at the end of its log, the logs are those of the entries passed
 pub all_walked : (summaries : List Summary) (cursors : List ℕ) (done : List Entry) → AreWalked summaries cursors done
     → ((w : ℕ) (summary : Summary) → slice_get summaries w ≡ Some summary → slice_index cursors w ≡ length summary.log.items)
     → AreLogsOf summaries done
@@ -148,7 +148,7 @@ unfinished summaries cursors done w h u =
       not = λ same. u.not (sym (length-take-le at log (h.within w u.summary u.at)) ∙ ap length (sym (h.walked w u.summary u.at) ∙ same));
     }
 
--- a worker's entry stands among its own behind as many as it had made before
+-- a worker's entry is among its own, after as many as it had made before
 pub own_at : (w : ℕ) (h : List Entry) (k : ℕ) (x : Entry) → slice_get h k ≡ Some x → (x.worker == w) ≡ true → slice_get (own w h) (length (own w (take k h))) ≡ Some x
 own_at w [] k x is mine = cc
 own_at w (y ∷ h) zero x is mine =

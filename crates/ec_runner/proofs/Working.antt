@@ -50,7 +50,7 @@ takes outcomes.Memory o r h = cc
 pub unset : (o : Outcome) → is_running o ≡ true → is_set o ≡ false
 unset o h = ap is_set (is_it o h)
 
--- a program that is running did not end for want of memory
+-- a program that is running did not run out of memory
 pub has_memory : (o : Outcome) → is_running o ≡ true → o ≢ outcomes.Memory
 has_memory o r e = (let no : is_running o ≡ false = ap is_running e in cc)
 
@@ -103,7 +103,7 @@ ends_so cs m turns log o works had is =
     subst (λ (v : Outcome). EndsSo v cs turns log) (sym is)
     (ends (machine_outcome m) cs turns log works.stopped works.represents.outcome works.turns_left had.each)
 
--- what was asked for stays so if the turns are over
+-- what was asked for is still right if the program is out of turns
 pub asked_still : (o : Outcome) (cs : List Command) (log : List Entry) (asked : Option LastRequest) → IsAsked o cs log asked → IsAsked (outcome_after_refusal o outcomes.OutOfTurns) cs log asked
 asked_still outcomes.Running cs log asked h = tt
 asked_still outcomes.Finished cs log asked h = tt

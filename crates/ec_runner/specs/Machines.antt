@@ -1,4 +1,4 @@
--- How the run and the machines stand while a schedule is played.
+-- The run and the interpreters while a schedule is played.
 use Rattle.std.specs.Prelude.{◌≡◌, ◌≢◌, ◌⊎◌, ℕ, List, ◌∷◌, reverse, take, slice_get, Some, Result, Ok, Err, IsOk}
 use Rattle.ec_count.specs.Tables.{Tables}
 use Rattle.ec_core.specs.declared.act.Act.{Act}
@@ -17,12 +17,12 @@ use Rattle.ec_runner.specs.declared.report.SimFault.{SimFault}
 use Rattle.ec_runner.specs.declared.report.SimFault.TheVariants.{Ended, Memory}
 use Rattle.ec_runner.specs.Schedules.{Turn, IsTurn, EndsBeforePlace, Plays, entries_of, outcome_after}
 
--- the machine is that of w after these turns
+-- the interpreter is that of w after these turns
 pub record IsMachineOf (programs : List (List Command)) (turns : List Turn) (w : ℕ) (m : Machine) : Type 0 where
   pub represents : StandsFor (program_at programs w) m (own w (entries_of turns))
   pub outcome : machine_outcome m ≡ outcome_after programs w turns
 
--- each machine is that of its worker
+-- each interpreter is that of its worker
 abbrev pub AreMachines : List (List Command) → List Turn → List Machine → Type 0
 AreMachines programs turns machines = (w : ℕ) (m : Machine) → slice_get machines w ≡ Some m → IsMachineOf programs turns w m
 
@@ -46,19 +46,21 @@ pub record MayTakeTurn (t : Tables) (programs : List (List Command)) (turns : Li
   pub due : next_act (program_at programs w) (own w (entries_of turns)) ≡ Some act
   pub answered : IsOk (answer_of t (entries_of turns) w act)
 
--- what became of the turn of w after these turns; out of memory is reported only of a turn whose step is not refused
+-- the result of the turn of w after these turns; out of memory is reported only of a turn whose
+-- step is not refused
 abbrev pub Takes : TurnOutcome → Tables → List (List Command) → List Turn → ℕ → RunModel → Machine → Type 0
 Takes played.Made t programs turns w run m = HasTurn t programs turns w run m
 Takes played.Ended t programs turns w run m = outcome_after programs w turns ≢ Running
 Takes played.Memory t programs turns w run m = MayTakeTurn t programs turns w
 
--- the schedule was played by these turns, the newest first, and the run and the machines are those after them
+-- the schedule was played by these turns, the newest first, and the run and the interpreters are
+-- those after them
 pub record IsPlayed (t : Tables) (programs : List (List Command)) (schedule : List ℕ) (turns : List Turn) (run : RunModel) (machines : List Machine) : Type 0 where
   pub plays : Plays t programs schedule turns
   pub made : IsRunOf t turns run
   pub each : AreMachines programs turns machines
 
--- w had one more turn, and each machine is that of its worker
+-- w had one more turn, and each interpreter is that of its worker
 pub record HasPlayed (t : Tables) (programs : List (List Command)) (turns : List Turn) (w : ℕ) (run : RunModel) (machines : List Machine) : Type 0 where
   pub turn : Turn
   pub worker : turn.worker ≡ w
@@ -66,7 +68,7 @@ pub record HasPlayed (t : Tables) (programs : List (List Command)) (turns : List
   pub made : IsRunOf t (turn ∷ turns) run
   pub each : AreMachines programs (turn ∷ turns) machines
 
--- what became of the place of w after these turns
+-- the result of the place of w after these turns
 abbrev pub PlaysOne : TurnOutcome → Tables → List (List Command) → List Turn → ℕ → RunModel → List Machine → Type 0
 PlaysOne played.Made t programs turns w run machines = HasPlayed t programs turns w run machines
 PlaysOne played.Ended t programs turns w run machines = outcome_after programs w turns ≢ Running
@@ -81,14 +83,14 @@ pub record LacksMemory (t : Tables) (programs : List (List Command)) (schedule :
   pub named : slice_get schedule place ≡ Some w
   pub due : MayTakeTurn t programs turns w
 
--- what became of a schedule
+-- the result of a schedule
 abbrev pub PlaysAll : Result Unit SimFault → Tables → List (List Command) → List ℕ → RunModel → List Machine → Type 0
 PlaysAll (Ok done) t programs schedule run machines = (turns : List Turn) × IsPlayed t programs schedule turns run machines
 PlaysAll (Err (Ended place w)) t programs schedule run machines = EndsBeforePlace t programs schedule place w
 PlaysAll (Err Memory) t programs schedule run machines = LacksMemory t programs schedule
 
--- why machines gave no report of a schedule: it names one that has ended, or there was no memory for a step that is not refused or,
--- once all places were played, for the report
+-- why there is no report of a schedule: it names a worker that has ended, or there was no memory
+-- for a step that is not refused or, once all places were played, for the report
 abbrev pub IsPlayFault : Tables → List (List Command) → List ℕ → SimFault → Type 0
 IsPlayFault t programs schedule (Ended place w) = EndsBeforePlace t programs schedule place w
 IsPlayFault t programs schedule Memory = LacksMemory t programs schedule ⊎ ((turns : List Turn) × Plays t programs schedule turns)

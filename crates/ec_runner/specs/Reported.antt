@@ -1,4 +1,4 @@
--- What is told of a schedule that was played.
+-- The report of a schedule that was played.
 use Rattle.std.specs.Prelude.{◌≡◌, ℕ, ◌<◌, List, length, map, reverse, slice_get, Some, Vec}
 use Rattle.std.specs.declared.alloc.Global.{Global}
 use Rattle.ec_count.specs.Tables.{Tables}
@@ -30,7 +30,7 @@ pub record IsReport (t : Tables) (programs : List (List Command)) (schedule : Li
   pub logs : AreLogs t.workers r.run.entries (map (λ (log : Vec Entry Global). log.items) r.logs.items)
   pub outcomes : AreOutcomes programs t.workers turns r.outcomes.items
 
--- the place that is told names a worker that has ended; nothing is said of want of memory
+-- the reported place names a worker that has ended; nothing is said of out of memory
 abbrev pub IsSimFault : Tables → List (List Command) → List ℕ → SimFault → Type 0
 IsSimFault t programs schedule (Ended place w) = EndsBeforePlace t programs schedule place w
 IsSimFault t programs schedule Memory = Unit {0}

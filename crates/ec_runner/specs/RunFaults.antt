@@ -17,7 +17,8 @@ pub record IsMismatchOf (t : Tables) (programs : List (List Command)) (turns w :
   pub returned : AreSummariesOf programs turns summaries
   pub found : IsMismatch t run summaries w
 
--- a mismatch is of workers that ended, every one of them: a thread that was not started, or memory that was not found, is none
+-- a mismatch is reported only if every worker has ended; a thread that was not started, and out of
+-- memory, are no mismatch
 abbrev pub IsRunFault : Tables → List (List Command) → ℕ → RunFault → Type 0
 IsRunFault t programs turns (faults.Mismatch w) = IsMismatchOf t programs turns w
 IsRunFault t programs turns faults.Spawn = Unit {0}

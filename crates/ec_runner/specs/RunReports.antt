@@ -35,7 +35,7 @@ pub record WasRefused (run : RunModel) (w : ℕ) (cs : List Command) (log : List
   pub whole : own w (take moment run.entries) ≡ log
   pub refused : answer_of run.setup (past_at moment run.entries) w act ≡ Err r
 
--- what more there is to say of a worker whose program had not ended after its log, if there were so many turns
+-- what else holds of a worker whose program had not ended after its log, given so many turns
 abbrev pub IsCutOff : Outcome → RunModel → ℕ → List Command → ℕ → List Entry → Type 0
 IsCutOff (outcomes.Refused r) run w cs turns log = WasRefused run w cs log r
 IsCutOff outcomes.Stopped run w cs turns log = IsCaught run w
@@ -43,7 +43,7 @@ IsCutOff outcomes.OutOfTurns run w cs turns log = length log ≡ turns
 IsCutOff outcomes.Memory run w cs turns log = Unit {0}
 IsCutOff _ run w cs turns log = ⊥
 
--- how a worker ended: its program had ended so after its log, or else had not ended
+-- how a worker ended: its program had ended so after its log, or had not ended and was cut off
 abbrev pub EndedAs : Outcome → RunModel → ℕ → List Command → ℕ → List Entry → Type 0
 EndedAs outcomes.Finished run w cs turns log = outcome_of cs (reverse log) ≡ outcomes.Finished
 EndedAs outcomes.ValueTooLarge run w cs turns log = outcome_of cs (reverse log) ≡ outcomes.ValueTooLarge

@@ -15,7 +15,8 @@ use Rattle.ec_machine.specs.Runs.{next_act, outcome_of}
 use Rattle.ec_machine.specs.Steps.{own}
 use Rattle.ec_runner.specs.Schedules.{Turn, Plays, EndsBeforePlace, entries_of, outcome_after}
 
--- THE PLACES OF A SCHEDULE, each with a mark: the refusal that was told there, or none if an entry was made
+-- THE PLACES OF A SCHEDULE, each with a mark: the refusal at that place, or none if an entry was
+-- made
 
 -- how many of these places made an entry
 abbrev pub made_entries : List (Option Refusal) → ℕ
@@ -36,8 +37,8 @@ IsMarked None h k w act answer =
     (reply : Reply) × (answer ≡ Ok reply) × (slice_get h k ≡ Some (record { worker = w; act = act; reply = reply }))
 IsMarked (Some r) h k w act answer = answer ≡ Err r
 
--- a place of w with this mark, if k entries had been made before: the program of w is running after its entries among them, and
--- the mark tells the answer to the act that comes next in it
+-- a place of w with this mark, if k entries had been made before: the program of w is running after
+-- its entries among them, and the mark is right about the answer to the act that comes next in it
 pub record IsPlace (t : Tables) (cs : List Command) (h : List Entry) (k w : ℕ) (mark : Option Refusal) : Type 0 where
   pub act : Act
   pub running : outcome_of cs (own w (past_at k h)) ≡ Running
@@ -66,7 +67,7 @@ abbrev pub SchedulesArePlayedInOrder : Type 0
 SchedulesArePlayedInOrder = (t : Tables) (programs : List (List Command)) (schedule : List ℕ) (turns : List Turn) (h : List Entry)
     → Plays t programs schedule turns → reverse h ≡ entries_of turns → IsHistoryOf t programs schedule h (λ w. outcome_after programs w turns)
 
--- a schedule is played in one way
+-- a schedule is played in at most one way
 abbrev pub SchedulesHaveOneRun : Type 0
 SchedulesHaveOneRun = (t : Tables) (programs : List (List Command)) (schedule : List ℕ) (turns others : List Turn)
     → Plays t programs schedule turns → Plays t programs schedule others → turns ≡ others
@@ -85,17 +86,17 @@ pub record IsMadeByTurns (t : Tables) (programs : List (List Command)) (schedule
   pub entries : reverse h ≡ entries_of turns
   pub after : (w : ℕ) → outcome w ≡ outcome_after programs w turns
 
--- no other histories of a schedule are there than those that turns make
+-- a schedule has no other histories than those that turns make
 abbrev pub HistoriesAreOfTurns : Type 0
 HistoriesAreOfTurns = (t : Tables) (programs : List (List Command)) (schedule : List ℕ) (h : List Entry) (outcome : ℕ → Outcome)
     → IsHistoryOf t programs schedule h outcome → IsMadeByTurns t programs schedule h outcome
 
--- so a schedule has one history at most, and its programs end in one way
+-- so a schedule has at most one history, and its programs end in one way
 abbrev pub SchedulesHaveOneHistory : Type 0
 SchedulesHaveOneHistory = (t : Tables) (programs : List (List Command)) (schedule : List ℕ) (h others : List Entry) (outcome ends : ℕ → Outcome)
     → IsHistoryOf t programs schedule h outcome → IsHistoryOf t programs schedule others ends → (h ≡ others) × ((w : ℕ) → outcome w ≡ ends w)
 
--- and where it names a worker that has ended, it has none
+-- and if it names a worker that has ended, it has none
 abbrev pub EndedHasNoHistory : Type 0
 EndedHasNoHistory = (t : Tables) (programs : List (List Command)) (schedule : List ℕ) (place w : ℕ) (h : List Entry) (outcome : ℕ → Outcome)
     → EndsBeforePlace t programs schedule place w → IsHistoryOf t programs schedule h outcome → ⊥

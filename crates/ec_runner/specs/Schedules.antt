@@ -1,4 +1,5 @@
--- Runs of a schedule: at each place its worker has a turn, in which it takes the step that its program asks for next.
+-- Runs of a schedule: at each place its worker has a turn, in which it makes the step that its
+-- program asks for next.
 use Rattle.std.specs.Prelude.{◌≡◌, ◌≢◌, ℕ, ◌==◌, List, [], ◌∷◌, take, map, reverse, slice_get, Option, Some, None, Result, Ok, Err, if◌then◌else◌}
 use Rattle.ec_count.specs.Tables.{Tables}
 use Rattle.ec_core.specs.declared.act.Act.{Act}
@@ -19,12 +20,12 @@ pub record Turn : Type 0 where
   pub act : Act
   pub answer : Result Reply Refusal
 
--- the past with the entry of a turn; a turn that was refused made none
+-- the history so far with the entry of a turn; a turn that was refused made none
 abbrev pub with_answer : ℕ → Act → Result Reply Refusal → List Entry → List Entry
 with_answer w act (Ok reply) past = record { worker = w; act = act; reply = reply } ∷ past
 with_answer w act (Err r) past = past
 
--- the entries that turns made; of both the newest is the first
+-- the entries that turns made; both lists have the newest first
 abbrev pub entries_of : List Turn → List Entry
 entries_of [] = []
 entries_of (x ∷ turns) = with_answer x.worker x.act x.answer (entries_of turns)
@@ -33,7 +34,7 @@ abbrev pub refusal_or : Result Reply Refusal → Option Refusal → Option Refus
 refusal_or (Ok reply) other = other
 refusal_or (Err r) other = Some r
 
--- the refusal that w was told in these turns, if it was told one
+-- the refusal of w in these turns, if it was refused
 abbrev pub refusal_in_turns : ℕ → List Turn → Option Refusal
 refusal_in_turns w [] = None
 refusal_in_turns w (x ∷ turns) = if x.worker == w then refusal_or x.answer (refusal_in_turns w turns) else refusal_in_turns w turns
@@ -58,7 +59,8 @@ abbrev pub AreTurns : Tables → List (List Command) → List Turn → Type 0
 AreTurns t programs [] = Unit {0}
 AreTurns t programs (x ∷ turns) = IsTurn t programs turns x × AreTurns t programs turns
 
--- the turns, the newest first, are those of a schedule: one at each of its places, of the worker that stands there
+-- the turns, the newest first, are those of a schedule: one at each of its places, of the worker
+-- that is named there
 pub record Plays (t : Tables) (programs : List (List Command)) (schedule : List ℕ) (turns : List Turn) : Type 0 where
   pub workers : map (λ (x : Turn). x.worker) turns ≡ reverse schedule
   pub each : AreTurns t programs turns

@@ -1,4 +1,5 @@
--- Waiters in line: those of one eventcount, by ascending threshold and, at one threshold, by worker.
+-- Queues of waiters: those of one eventcount, by ascending threshold and, at equal thresholds, by
+-- worker.
 use Rattle.std.specs.Prelude.{◌≡◌, ℕ, ◌+◌, ◌≤◌, Bool, true, false, ◌==◌, ◌&&◌, ◌||◌, not, nat_le, nat_lt, ◌⊎◌, List, [], ◌∷◌, length, filter, suc, slice_set, Option, Some, None, if◌then◌else◌, slice_get}
 use Rattle.ec_core.specs.Fields.{map_at}
 use Rattle.ec_runner.specs.declared.wait_queue.Waiter.{Waiter}
@@ -17,12 +18,12 @@ abbrev pub IsAmong : Waiter → List Waiter → Type 0
 IsAmong z [] = ⊥
 IsAmong z (x ∷ xs) = (z ≡ x) ⊎ IsAmong z xs
 
--- each comes before all that stand behind it
+-- each comes before all that follow it
 abbrev pub AreInOrder : List Waiter → Type 0
 AreInOrder [] = Unit {0}
 AreInOrder (x ∷ xs) = Each (λ y. comes_before x y ≡ true) xs × AreInOrder xs
 
--- the place of one more, and the line with it
+-- the position of one more, and the queue with it
 abbrev pub place_in : Waiter → List Waiter → ℕ
 place_in y [] = 0
 place_in y (x ∷ xs) = if comes_before x y then suc (place_in y xs) else 0
@@ -31,16 +32,16 @@ abbrev pub insert_waiter : Waiter → List Waiter → List Waiter
 insert_waiter y [] = y ∷ []
 insert_waiter y (x ∷ xs) = if comes_before x y then x ∷ insert_waiter y xs else y ∷ x ∷ xs
 
--- the line without a worker
+-- the queue without a worker
 abbrev pub without : ℕ → List Waiter → List Waiter
 without w line = filter (λ x. not (x.worker == w)) line
 
--- the first in line, if the total has come to its threshold
+-- the first of the queue, if the total has reached its threshold
 abbrev pub first_ready : ℕ → List Waiter → Option Waiter
 first_ready sum [] = None
 first_ready sum (x ∷ xs) = if nat_le x.threshold sum then Some x else None
 
--- whether the seat is that of a waiter on e
+-- whether the state is that of a waiter on e
 abbrev pub waits_on : ℕ → WorkerState → Bool
 waits_on e Gone = false
 waits_on e Running = false
@@ -51,20 +52,21 @@ abbrev pub number_on : ℕ → List WorkerState → ℕ
 number_on e [] = 0
 number_on e (s ∷ states) = (if waits_on e s then 1 else 0) + number_on e states
 
--- a line is that of e: its workers wait on e for their thresholds, who waits on e stands in it, and the line is in order
+-- a queue is that of e: its workers wait on e for their thresholds, every worker that waits on e is
+-- in it, and it is in order
 pub record IsWaitQueue (e : ℕ) (states : List WorkerState) (line : List Waiter) : Type 0 where
   pub order : AreInOrder line
   pub wait : Each (λ x. slice_get states x.worker ≡ Some (Waiting e x.threshold)) line
   pub all : (w v : ℕ) → slice_get states w ≡ Some (Waiting e v) → IsAmong (record { threshold = v; worker = w }) line
   pub few : length line ≤ number_on e states
 
--- the lines where a worker with this seat stands in none
+-- the queues after a worker with this state is removed from its own, if it waits
 abbrev pub remove_waiter : WorkerState → ℕ → List (List Waiter) → List (List Waiter)
 remove_waiter Gone w lines = lines
 remove_waiter Running w lines = lines
 remove_waiter (Waiting e v) w lines = map_at (without w) lines e
 
--- one waiter on e, whose threshold the sum has come to, waits no more
+-- one waiter on e, whose threshold the sum has reached, is released
 pub record LetsOneGo (e sum : ℕ) (old new : List WorkerState) : Type 0 where
   pub worker : ℕ
   pub threshold : ℕ
@@ -72,7 +74,7 @@ pub record LetsOneGo (e sum : ℕ) (old new : List WorkerState) : Type 0 where
   pub reached : threshold ≤ sum
   pub states : new ≡ slice_set old worker Running
 
--- each line is that of its eventcount
+-- each queue is that of its eventcount
 pub record AreWaitQueues (states : List WorkerState) (lines : List (List Waiter)) : Type 0 where
   pub workers : length states ≡ 16
   pub events : length lines ≡ 32

@@ -1,10 +1,10 @@
--- A run held against the logs of its workers, entry by entry.
+-- A run compared with the logs of its workers, entry by entry.
 use Rattle.std.specs.Prelude.{◌≡◌, ◌≢◌, ℕ, ◌≤◌, List, length, take, Some, slice_get, slice_index}
 use Rattle.ec_core.specs.declared.act.Entry.{Entry}
 use Rattle.ec_machine.specs.Steps.{own}
 use Rattle.ec_runner.specs.declared.summary.Summary.{Summary}
 
--- after these entries each log is gone through as far as its cursor says, and they are its own
+-- each log up to its cursor is the entries of its worker among these
 pub record AreWalked (summaries : List Summary) (cursors : List ℕ) (done : List Entry) : Type 0 where
   pub room : length cursors ≡ 16
   pub walked : (w : ℕ) (summary : Summary) → slice_get summaries w ≡ Some summary → own w done ≡ take (slice_index cursors w) summary.log.items
@@ -15,7 +15,7 @@ abbrev pub AreLogsOf : List Summary → List Entry → Type 0
 AreLogsOf summaries h = (w : ℕ) (summary : Summary) → slice_get summaries w ≡ Some summary
     → own w h ≡ summary.log.items
 
--- the log of w is not gone through
+-- the cursor of w is not at the end of its log
 pub record IsUnfinished (summaries : List Summary) (cursors : List ℕ) (w : ℕ) : Type 0 where
   pub summary : Summary
   pub at : slice_get summaries w ≡ Some summary

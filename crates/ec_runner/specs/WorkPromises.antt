@@ -1,4 +1,4 @@
--- What threads are to tell, and what they told.
+-- What threads promise to return, and what they returned.
 use Rattle.std.specs.Prelude.{◌≡◌, ℕ, Bool, true, false, List, [], ◌∷◌, ◌++◌, Option, Some, None, Result, Ok, Err, MatchResult}
 use Rattle.std.specs.Global.{Vec}
 use Rattle.std.specs.declared.thread.PromisedHandle.{PromisedHandle}
@@ -12,7 +12,7 @@ use Rattle.ec_runner.specs.Works.{IsSummaryOf}
 abbrev pub Handle : Type 0
 Handle = PromisedHandle Summary WorkPromise
 
--- a thread, if it was started, is to tell of this program
+-- a thread, if it was started, promises the summary of this program
 abbrev pub IsFor : Option Handle → List Command → ℕ → Type 0
 IsFor None cs turns = Unit {0}
 IsFor (Some h) cs turns = (h.promise.program.now ≡ cs) × (h.promise.turns ≡ turns)
@@ -23,14 +23,14 @@ AreFor [] (cs ∷ programs) turns = ⊥
 AreFor (h ∷ hs) [] turns = ⊥
 AreFor (h ∷ hs) (cs ∷ programs) turns = IsFor h cs turns × AreFor hs programs turns
 
--- what a thread told: what it was to, and nothing if it was not started
+-- what a thread returned: the summary that it promised, and nothing if it was not started
 abbrev pub IsJoinResult : Option Handle → Option Summary → Type 0
 IsJoinResult None None = Unit {0}
 IsJoinResult None (Some t) = ⊥
 IsJoinResult (Some h) None = ⊥
 IsJoinResult (Some h) (Some t) = IsSummaryOf h.promise.program.now h.promise.turns t
 
--- each thread was started, and told what it was to
+-- each thread was started, and returned the summary that it promised
 abbrev pub AreAllJoined : List (Option Handle) → List Summary → Type 0
 AreAllJoined [] [] = Unit {0}
 AreAllJoined [] (t ∷ summaries) = ⊥
@@ -43,20 +43,21 @@ lacks_one [] = false
 lacks_one (None ∷ hs) = true
 lacks_one (Some h ∷ hs) = lacks_one hs
 
--- what comes of the joins: Spawn exactly if a thread was not started, and else Memory only if there was none
+-- the result of the joins: Spawn exactly if a thread was not started, so Memory only if all were
 abbrev pub AreJoinResults : List (Option Handle) → Result (Vec Summary) RunFault → Type 0
 AreJoinResults hs (Ok summaries) = AreAllJoined hs summaries.items
 AreJoinResults hs (Err faults.Spawn) = lacks_one hs ≡ true
 AreJoinResults hs (Err faults.Memory) = lacks_one hs ≡ false
 AreJoinResults hs (Err (faults.Mismatch w)) = ⊥
 
--- one more, behind those that were told; a thread that was not started comes before want of memory
+-- one more summary, after the others; a thread that was not started is reported rather than out of
+-- memory
 abbrev pub IsOneMore : Result (Vec Summary) RunFault → Option Summary → Result (Vec Summary) RunFault → Type 0
 IsOneMore summaries None all = all ≡ Err faults.Spawn
 IsOneMore (Err fault) (Some summary) all = all ≡ Err fault
 IsOneMore (Ok summaries) (Some summary) all = MatchResult all (λ v. v.items ≡ summaries.items ++ summary ∷ []) (λ fault. fault ≡ faults.Memory)
 
--- each told of its own program
+-- each summary is of its own program
 abbrev pub AreSummariesOf : List (List Command) → ℕ → List Summary → Type 0
 AreSummariesOf [] turns [] = Unit {0}
 AreSummariesOf [] turns (t ∷ summaries) = ⊥
@@ -64,7 +65,7 @@ AreSummariesOf (cs ∷ programs) turns [] = ⊥
 AreSummariesOf (cs ∷ programs) turns (t ∷ summaries) = IsSummaryOf cs turns t
     × AreSummariesOf programs turns summaries
 
--- threads give no mismatch: that is told by the comparison alone
+-- threads report no mismatch: only the comparison does
 abbrev pub IsWant : RunFault → Type 0
 IsWant faults.Spawn = Unit {0}
 IsWant faults.Memory = Unit {0}

@@ -1,4 +1,4 @@
--- How the workers of a board stand: each has a seat, by number, and a waiter's seat says what it waits for.
+-- The states of the workers of a board, by number; the state of a waiter says what it waits for.
 use Rattle.std.specs.Prelude.{ℕ, Bool, true, false, ◌==◌, ◌&&◌, not, nat_le, List, map, if◌then◌else◌, slice_get, unwrap_or}
 use Rattle.std.specs.List.{list_any}
 use Rattle.ec_core.specs.declared.act.Act.{Act}
@@ -24,7 +24,7 @@ is_running Gone = false
 is_running Running = true
 is_running (Waiting e v) = false
 
--- the seat of a worker
+-- the state of a worker
 abbrev pub worker_state : List WorkerState → ℕ → WorkerState
 worker_state states w = unwrap_or (slice_get states w) Gone
 
@@ -36,14 +36,15 @@ every_active_waits states = not (list_any is_running states)
 abbrev pub is_deadlocked : List WorkerState → Bool
 is_deadlocked states = list_any is_active states && every_active_waits states
 
--- a seat if the total of e has come to this: who waits on e for at most so much waits no more
+-- a state once the total of e has reached this: a waiter on e with at most this threshold is
+-- released
 abbrev pub state_at_total : ℕ → ℕ → WorkerState → WorkerState
 state_at_total e sum Gone = Gone
 state_at_total e sum Running = Running
 state_at_total e sum (Waiting f v) = if f == e && nat_le v sum then Running else Waiting f v
 
--- the seats after an act that is the newest of a past: an advance takes those off whom it lets go, and no other act does (a hand
--- changes no total)
+-- the states after an act that is the newest of the history so far: an advance releases those whose
+-- threshold it reaches, and no other act releases any (a hand changes no total)
 abbrev pub states_after_act : Act → List Entry → List WorkerState → List WorkerState
 states_after_act (Advance e) past states = map (state_at_total e (total e past)) states
 states_after_act _ past states = states

@@ -15,18 +15,19 @@ abbrev pub is_out_of_turns : Outcome → Bool
 is_out_of_turns outcomes.OutOfTurns = true
 is_out_of_turns _ = false
 
--- a step may end the program so
+-- a step may end the program with this outcome
 pub record IsStop (outcome : Outcome) : Type 0 where
   pub set : is_set outcome ≡ true
   pub turns_left : is_out_of_turns outcome ≡ false
 
--- the machine stands for the program cs after the steps of a log, and where a step ended it, it was running after them
+-- the interpreter represents the program cs after the steps of a log, and if a step ended it, it
+-- was running after them
 pub record Works (cs : List Command) (m : Machine) (log : List Entry) : Type 0 where
   pub represents : StandsFor cs m (reverse log)
   pub stopped : is_set (machine_outcome m) ≡ true → outcome_of cs (reverse log) ≡ outcomes.Running
   pub turns_left : is_out_of_turns (machine_outcome m) ≡ false
 
--- it has had so many turns: each made an entry, but for one that ended it
+-- it has had so many turns: each made an entry, except one that ended it
 pub record HasHad (turns : ℕ) (m : Machine) (log : List Entry) : Type 0 where
   pub few : length log ≤ turns
   pub each : is_running (machine_outcome m) ≡ true → length log ≡ turns
@@ -36,7 +37,7 @@ abbrev pub IsDue : List Command → List Entry → Option LastRequest → Type 0
 IsDue cs log None = ⊥
 IsDue cs log (Some a) = next_act cs (reverse log) ≡ Some a.act
 
--- a program that was refused an act is told which
+-- if the program was refused, what it asked for is recorded, and was due
 abbrev pub IsAsked : Outcome → List Command → List Entry → Option LastRequest → Type 0
 IsAsked (outcomes.Refused r) cs log asked = IsDue cs log asked
 IsAsked _ cs log asked = Unit {0}
@@ -49,8 +50,8 @@ EndsSo outcomes.OutOfTurns cs turns log = (outcome_of cs (reverse log) ≡ outco
 EndsSo outcomes.Running cs turns log = ⊥
 EndsSo _ cs turns log = outcome_of cs (reverse log) ≡ outcomes.Running
 
--- WHAT A WORKER TELLS OF ITS PROGRAM: its log is a run of it of at most so many steps, it ended so, and where it was refused, the act was
--- the one due
+-- THE SUMMARY OF A WORKER: its log is a run of its program of at most so many steps, it ended so,
+-- and if it was refused, the act was the one due
 pub record IsSummaryOf (cs : List Command) (turns : ℕ) (t : Summary) : Type 0 where
   pub follows : IsRunOf cs (reverse t.log.items)
   pub few : length t.log.items ≤ turns

@@ -19,8 +19,8 @@ use std::alloc::{AllocError, Global};
 use std::marker::Model;
 use thiserror::Error;
 
-/// Why a board makes no step: the first of these that holds, in this order. After each everything is
-/// as before.
+/// Why a board makes no step. The first of these that holds, in this order, is reported, and the
+/// board is unchanged.
 #[derive(Clone, Copy, Debug, PartialEq, Eq, Error)]
 pub enum BoardFault {
     /// The board is deadlocked, or the worker is a declared one that has left.
@@ -29,25 +29,24 @@ pub enum BoardFault {
     /// The step is refused.
     #[error("the step is refused: {0}")]
     Refused(Refusal),
-    /// The step is right, and there was no memory for its entry.
+    /// The step is not refused, and there was no memory for its entry.
     #[error("there was no memory for the step's entry")]
     Memory,
 }
 
-/// What a worker that would wait is told.
+/// What `Board::park` did.
 #[derive(Clone, Copy, Debug, PartialEq, Eq)]
 pub enum ParkOutcome {
-    /// Every active worker waits, for good.
+    /// The board is deadlocked: every active worker waits, for good.
     Stuck,
-    /// There is nothing to wait for.
+    /// The worker has nothing to wait for.
     Ready,
-    /// The worker is a waiter now.
+    /// The worker waits, and may still be released.
     Asleep,
 }
 
-/// A run, who of its workers is active, who of them waits and for what, and whether all that are
-/// active wait. A waiter has begun an await whose last round fell short, and the total is still
-/// below its threshold.
+/// A run, the state of each of its workers, and whether the board is deadlocked. A waiter's latest
+/// entry ended a round of an await that fell short, and the total is still below the threshold.
 #[derive(Drop)]
 pub struct Board {
     run: Run,
@@ -71,8 +70,8 @@ impl Board {
     ghost use Rattle.ec_runner.specs.BoardFaults.{IsBoardFault};
     ghost use Rattle.ec_runner.specs.Holds.{is_asleep, is_awaited};
 
-    /// Makes a board with an empty run on these declarations, which are dropped if there is no
-    /// memory. Every declared worker is active, and nobody waits.
+    /// Makes a board with an empty run on these declarations. Every declared worker is active, and
+    /// nobody waits. If there is no memory, the declarations are dropped.
     pub fn open(alloc: Global, setup: Setup) -> Result<Self, AllocError>
         ensures run { IfOk result (λ b. b.run ≡ record { setup = setup; entries = [] }) }
         ensures states { IfOk result (λ b. (w : ℕ) → w < 16 → slice_get b.states w ≡ Some (if nat_lt w setup.workers then Running else Gone)) }
@@ -87,16 +86,16 @@ impl Board {
         })
     }
 
-    /// States what is true of the active workers and of the waiters of a board: nobody is active
-    /// who is not declared.
+    /// States what is true of the active workers and of the waiters of a board. For example, every
+    /// active worker is declared.
     pub fn invariant(&self)
         ensures { AreWaiters self.now }
     {
         let _ = &self.run;
     }
 
-    /// Makes one step, which adds its entry: the worker waits no more, and after an advance those
-    /// don't whose threshold the total has come to.
+    /// Makes one step, whose entry is added to the run. The worker stops waiting, and an advance
+    /// releases the waiters whose threshold the total has reached.
     pub fn step(&mut self, worker: WorkerId, act: Act) -> Result<Reply, BoardFault>
         ensures answer { MatchResult result
             (λ reply. (is_stopped self.old worker ≡ false) × (answer_on self.old worker act ≡ Ok reply))
@@ -118,8 +117,7 @@ impl Board {
         Ok(reply)
     }
 
-    /// Makes a worker a waiter, if it is active and has something to wait for. It takes no
-    /// memory.
+    /// Makes a worker a waiter, if it is active and has something to wait for. Allocates nothing.
     pub fn park(&mut self, worker: WorkerId) -> ParkOutcome
         ensures deadlocked { self.old.deadlocked ≡ true → (result ≡ ParkOutcome.Stuck)
             × (self.new ≡ self.old) }
@@ -143,7 +141,8 @@ impl Board {
         }
     }
 
-    /// Has an active worker leave for good, and wait no more. It takes no memory.
+    /// Makes an active worker leave for good, and stop waiting. If others are left and all of them
+    /// wait, the board is deadlocked. Allocates nothing.
     pub fn leave(&mut self, worker: WorkerId)
         ensures gone { is_active (worker_state self.old.states worker) ≡ true → self.new ≡ with_worker_state self.old worker Gone }
         ensures same { is_active (worker_state self.old.states worker) ≡ false
@@ -163,7 +162,7 @@ impl Board {
         &self.run
     }
 
-    /// Returns the run, once nobody makes a step any more.
+    /// Consumes the board and returns its run.
     pub fn into_run(self) -> Run
         ensures { result ≡ self.run }
     {
@@ -186,22 +185,22 @@ impl Board {
         state.is_waiting()
     }
 
-    /// Returns whether at some moment some worker was active and every active worker waited. Nobody
-    /// makes a step from then on.
+    /// Returns whether the board is deadlocked: at some moment some worker was active, and every
+    /// active worker waited. Nobody makes a step from then on.
     pub fn is_deadlocked(&self) -> bool
         ensures { result ≡ self.now.deadlocked }
     {
         self.deadlocked
     }
 
-    /// Returns whether the worker waits, and somebody may still let it go.
+    /// Returns whether the worker waits and may still be released.
     pub(crate) fn is_asleep(&self, worker: WorkerId) -> bool
         ensures { result ≡ is_asleep self.now worker }
     {
         self.is_waiting(worker) && !self.deadlocked
     }
 
-    /// Returns whether somebody waits for what an act advances.
+    /// Returns whether somebody waits for the eventcount that an act advances.
     pub(crate) fn is_awaited(&self, act: &Act) -> bool
         ensures { result ≡ is_awaited act.now self.now.states }
     {

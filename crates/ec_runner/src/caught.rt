@@ -7,7 +7,7 @@ use ec_core::Run;
 use ec_count::WorkerId;
 
 /// Returns whether the worker's pending call is an await that fell short, whose threshold the total
-/// has not come to.
+/// has not reached.
 pub(crate) fn is_caught(run: &Run, worker: WorkerId) -> bool
     ensures { IsTrue result ↔ IsCaught run.now worker }
 {

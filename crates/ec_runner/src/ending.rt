@@ -1,4 +1,4 @@
-//! How workers ended, held against the run.
+//! The comparison of how workers ended with the run.
 ghost use Rattle.std.specs.Prelude.{◌≡◌, ◌↔◌, ◌<◌, ◌≤◌, ℕ, length, Some, slice_get, IsTrue, MatchOption};
 ghost use Rattle.ec_runner.specs.declared.summary.Summary.{Summary};
 ghost use Rattle.ec_runner.specs.Fits.{IsAtEnd, IsBorneOut, IsUnborne, IsWithin, MayBeBorneOut, asked_at, moment_of_summary};
@@ -10,7 +10,7 @@ use ec_core::Run;
 use ec_count::WorkerId;
 use ec_machine::Outcome;
 
-/// Returns whether a worker tells of a moment of the run.
+/// Returns whether there is a last request, made at a moment of the run.
 fn is_within(run: &Run, asked: Option<LastRequest>) -> bool
     ensures { IsTrue result ↔ IsWithin asked run.now }
 {
@@ -20,7 +20,7 @@ fn is_within(run: &Run, asked: Option<LastRequest>) -> bool
     }
 }
 
-/// Returns whether a worker tells of the end of the run.
+/// Returns whether there is a last request, made at the end of the run.
 fn is_at_end(run: &Run, asked: Option<LastRequest>) -> bool
     ensures { IsTrue result ↔ IsAtEnd asked run.now }
 {
@@ -30,7 +30,7 @@ fn is_at_end(run: &Run, asked: Option<LastRequest>) -> bool
     }
 }
 
-/// Returns whether the run bears out how a worker ended, but for what it was refused at its moment.
+/// Returns whether the run bears out how a worker ended. Of a refusal only the moment is checked.
 fn may_be_borne_out(run: &Run, worker: WorkerId, summary: &Summary) -> bool
     ensures { IsTrue result ↔ MayBeBorneOut summary.now.outcome run.now worker summary.now.asked }
 {
@@ -50,7 +50,7 @@ fn asked_at(asked: Option<LastRequest>) -> usize
     }
 }
 
-/// Returns the moment that a worker tells of, 0 if it was not refused.
+/// Returns the moment of a worker's refusal, 0 if it was not refused.
 fn moment_of_summary(summary: &Summary) -> usize
     ensures { result ≡ moment_of_summary summary.now.outcome summary.now.asked }
 {
@@ -71,7 +71,7 @@ fn last_moment(summaries: &[Summary]) -> usize
     last
 }
 
-/// Returns the worker of a number.
+/// Returns the worker with this number.
 pub(crate) fn nth_worker(number: usize) -> WorkerId
     requires { number < 16 }
     ensures { result ≡ number }
@@ -79,7 +79,8 @@ pub(crate) fn nth_worker(number: usize) -> WorkerId
     WorkerId::new(number).unwrap()
 }
 
-/// Returns the first worker that ended otherwise than the run bears out, but for what was refused.
+/// Returns the first worker whose end the run does not bear out. Of refusals only the moments are
+/// checked.
 fn first_unlikely(run: &Run, summaries: &[Summary]) -> Option<WorkerId>
     requires { length summaries.now ≤ 16 }
     ensures { MatchOption result
@@ -95,7 +96,7 @@ fn first_unlikely(run: &Run, summaries: &[Summary]) -> Option<WorkerId>
     None
 }
 
-/// Returns a worker that ended otherwise than the run bears out.
+/// Returns a worker whose end the run does not bear out.
 pub(crate) fn first_not_borne_out(run: &Run, summaries: &[Summary]) -> Option<WorkerId>
     requires { length summaries.now ≤ 16 }
     ensures { MatchOption result

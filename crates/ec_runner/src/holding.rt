@@ -1,4 +1,4 @@
-//! One hold of the board by a worker.
+//! One critical section of a worker on the board.
 ghost use Rattle.std.specs.Prelude.{◌≡◌, ◌≢◌, ℕ, ◌<◌, ◌==◌, ◌&&◌, not, true, false, length, Some, None, slice_get};
 ghost use Rattle.ec_core.specs.Calls.{is_pending};
 ghost use Rattle.ec_runner.specs.declared.worker_state.WorkerState.TheVariants.{Gone};
@@ -12,8 +12,8 @@ use ec_core::{Act, Reply};
 use ec_count::WorkerId;
 use ec_machine::Outcome;
 
-/// What a worker does after it asked the board for a step: it goes on with the reply, or sleeps and
-/// then goes on with it, or leaves, if it got no reply. That comes with how many entries the run
+/// What a worker does after it has asked the board for a step. It goes on with the reply, or sleeps
+/// and then goes on with it. If it got no reply it leaves; the number is how many entries the run
 /// had.
 #[derive(Clone, Copy)]
 pub(crate) enum Next {
@@ -22,14 +22,15 @@ pub(crate) enum Next {
     Leave(Outcome, usize),
 }
 
-/// What came of a hold: what its worker does next, and which others are to be woken, if any are.
+/// The result of a critical section: what its worker does next, and which others are to be woken,
+/// if any are.
 #[derive(Clone, Copy)]
 pub(crate) struct SectionOutcome {
     pub next: Next,
     pub woken: Option<[bool; 16]>,
 }
 
-/// Returns whether each worker is to sleep.
+/// Returns, for each worker, whether it is to sleep.
 fn asleep(board: &Board) -> [bool; 16]
     ensures long { length result ≡ 16 }
     ensures each { (v : ℕ) → v < 16 → slice_get result v ≡ Some (is_asleep board.now v) }
@@ -41,7 +42,7 @@ fn asleep(board: &Board) -> [bool; 16]
     table
 }
 
-/// Returns whether the worker of a place is another one, and slept before and is not to sleep any
+/// Returns whether the worker at a place is another one that slept before and is not to sleep any
 /// more.
 fn is_woken(before: &[bool], board: &Board, worker: WorkerId, place: usize) -> bool
     requires { place < 16 }
@@ -53,7 +54,7 @@ fn is_woken(before: &[bool], board: &Board, worker: WorkerId, place: usize) -> b
     place != worker.get() && *slept && !board.is_asleep(nth_worker(place))
 }
 
-/// Returns which others slept before and are not to sleep any more.
+/// Returns which other workers slept before and are not to sleep any more.
 fn woken(before: &[bool], board: &Board, worker: WorkerId) -> [bool; 16]
     ensures { (b : BoardModel) → ((v : ℕ) → v < 16 → slice_get before.now v ≡ Some (is_asleep b v))
         → (v : ℕ) → v < 16 → slice_get result v ≡ Some (is_woken b worker board.now v) }
@@ -65,7 +66,7 @@ fn woken(before: &[bool], board: &Board, worker: WorkerId) -> [bool; 16]
     table
 }
 
-/// Returns which others wait.
+/// Returns which other workers wait.
 fn waiting(board: &Board, worker: WorkerId) -> [bool; 16]
     ensures { (v : ℕ) → v < 16 → slice_get result v ≡ Some (not (v == worker) && is_waiting (worker_state board.now.states v)) }
 {
@@ -84,7 +85,7 @@ fn park(board: &mut Board, worker: WorkerId)
     board.park(worker);
 }
 
-/// Makes the step, and begins the wait if it falls short.
+/// Makes the step. If the reply is `Pending` and the worker may wait, parks it.
 fn step(board: &mut Board, worker: WorkerId, act: Act, may_park: bool) -> Next
     ensures next { IsNext result board.old worker act may_park board.new }
     ensures kind { FitsAct result act }
@@ -108,8 +109,8 @@ fn step(board: &mut Board, worker: WorkerId, act: Act, may_park: bool) -> Next
     }
 }
 
-/// Returns who is woken if the seats of the others are as before: nobody, or, if the board
-/// has come to be deadlocked, all others that wait.
+/// Returns which workers are woken if the states of the others are unchanged: none, or, if the
+/// board has become deadlocked, all others that wait.
 fn wake_if_deadlocked(was_stuck: bool, board: &Board, worker: WorkerId) -> Option<[bool; 16]>
     ensures none { board.now.deadlocked ≡ false → result ≡ None }
     ensures woken { (b : BoardModel) → b.deadlocked ≡ was_stuck → ((v : ℕ) → worker ≢ v → slice_get board.now.states v ≡ slice_get b.states v)
@@ -124,8 +125,8 @@ fn wake_if_deadlocked(was_stuck: bool, board: &Board, worker: WorkerId) -> Optio
     Some(waiting(board, worker))
 }
 
-/// Makes an advance of what somebody waits for, and tells whom it wakes. Its worker doesn't go to
-/// sleep.
+/// Makes an advance of an eventcount that somebody waits for, and returns whom it wakes. Its worker
+/// doesn't go to sleep.
 fn advance(board: &mut Board, worker: WorkerId, act: Act, may_park: bool) -> SectionOutcome
     requires { is_awaited act board.old.states ≡ true }
     ensures awake { is_sleep result.next ≡ false }
@@ -139,10 +140,10 @@ fn advance(board: &mut Board, worker: WorkerId, act: Act, may_park: bool) -> Sec
     SectionOutcome { next, woken }
 }
 
-/// Makes one hold of the board: a step and, after an await that fell short, if the worker may
-/// wait, the wait. Only an advance of what somebody waits for, and a wait by which the board comes
-/// to be deadlocked, can wake others, and only then is it looked who sleeps. Where the worker goes
-/// to sleep nobody is woken; and it does so only if it may.
+/// Runs one critical section: a step, and then the wait, if an await fell short and the worker may
+/// wait. Others are woken only by an advance of an eventcount that somebody waits for, and by a
+/// wait that makes the board deadlocked. Only then are the sleeping workers looked up. A worker
+/// that goes to sleep wakes nobody, and sleeps only if `may_park`.
 pub(crate) fn hold(board: &mut Board, worker: WorkerId, act: Act, may_park: bool) -> SectionOutcome
     ensures last { is_sleep result.next ≡ true → may_park ≡ true }
     ensures none { is_sleep result.next ≡ true → result.woken ≡ None }
@@ -159,7 +160,7 @@ pub(crate) fn hold(board: &mut Board, worker: WorkerId, act: Act, may_park: bool
     SectionOutcome { next, woken }
 }
 
-/// Has the worker leave the board, and returns which others are to be woken.
+/// Makes the worker leave the board, and returns which others are to be woken.
 pub(crate) fn leave(board: &mut Board, worker: WorkerId) -> [bool; 16]
     ensures gone { is_active (worker_state board.old.states worker) ≡ true → board.new ≡ with_worker_state board.old worker Gone }
     ensures same { is_active (worker_state board.old.states worker) ≡ false

@@ -1,4 +1,4 @@
-//! Workers on one run: the board that they share, and the playing of a schedule.
+//! The workers of a script: on threads that share one board, or in the turns of a schedule.
 #![tactic(auto)]
 
 mod board;

@@ -1,4 +1,4 @@
-//! What workers tell, held against the run.
+//! The comparison of the workers' summaries with the run.
 ghost use Rattle.std.specs.Prelude.{◌≡◌, ◌↔◌, ◌≤◌, length, IsTrue, MatchOption};
 ghost use Rattle.ec_runner.specs.Fits.{AllFit, IsMismatch};
 
@@ -14,8 +14,8 @@ fn are_same(setup: &Setup, other: &Setup) -> bool
     setup == other
 }
 
-/// Returns a worker of whom what is told doesn't fit the run; the first worker if the run is on
-/// other declarations. It takes no memory.
+/// Returns a worker whose summary doesn't fit the run, or the first worker if the run is on other
+/// declarations. Allocates nothing.
 pub(crate) fn find_mismatch(setup: &Setup, run: &Run, summaries: &[Summary]) -> Option<WorkerId>
     requires few { length summaries.now ≤ 16 }
     requires each { length summaries.now ≡ setup.now.workers }

@@ -11,10 +11,10 @@ use ec_core::{Run, StepFault};
 use ec_count::WorkerId;
 use ec_machine::{Machine, Outcome};
 
-/// What became of a place of a schedule.
+/// The result of a turn.
 #[derive(Clone, Copy, Debug, PartialEq, Eq)]
 pub(crate) enum TurnOutcome {
-    /// The worker made its step, or was refused it.
+    /// The worker made its step, or the step was refused.
     Made,
     /// The worker had ended, and nothing was done.
     Ended,
@@ -22,8 +22,7 @@ pub(crate) enum TurnOutcome {
     Memory,
 }
 
-/// Returns the turn of a worker: the step that its program asks for next. A refusal ends the
-/// program.
+/// Makes the turn of a worker: the step that its program asks for next. A refusal ends the program.
 fn take_turn(run: &mut Run, machine: &mut Machine<'_>, worker: WorkerId) -> TurnOutcome
     ensures { (t : Tables) (programs : List (List Command)) (turns : List Turn)
         → IsRunOf t turns run.old → IsMachineOf programs turns worker machine.old → Takes result t programs turns worker run.new machine.new }
@@ -44,7 +43,7 @@ fn take_turn(run: &mut Run, machine: &mut Machine<'_>, worker: WorkerId) -> Turn
     }
 }
 
-/// Returns the turn of the worker that stands at a place.
+/// Makes the turn of the worker that is named at a place.
 fn play_place(run: &mut Run, machines: &mut [Machine<'_>], worker: WorkerId) -> TurnOutcome
     requires { worker < length machines.old }
     ensures { (t : Tables) (programs : List (List Command)) (turns : List Turn)

@@ -1,4 +1,4 @@
-//! What a worker was refused, held against the run.
+//! The comparison of the workers' refusals with the run.
 ghost use Rattle.std.specs.Prelude.{◌≡◌, ◌≢◌, ℕ, ◌≤◌, ◌<◌, ◌↔◌, ◌==◌, ◌+◌, ◌∷◌, ◌++◌, false, [], List, length, reverse, take, slice_get, Some, Ok, Err, IsTrue, MatchOption};
 ghost use Rattle.ec_core.specs.declared.act.Entry.{Entry};
 ghost use Rattle.ec_core.specs.Acceptance.{answer_of};
@@ -20,7 +20,7 @@ fn is_same_refusal(refusal: Refusal, other: Refusal) -> bool
     refusal == other
 }
 
-/// Makes the step of an entry, to which it is the answer.
+/// Makes the step of an entry, whose reply is the world's answer to it.
 fn make(world: &mut World, entry: &Entry)
     ensures represents { (h : List Entry) → StandsFor world.old h → answer_of world.old.setup (reverse h) entry.now.worker entry.now.act ≡ Ok entry.now.reply
         → StandsFor world.new (h ++ entry.now ∷ []) }
@@ -43,7 +43,7 @@ fn go_on(world: &mut World, run: &Run, place: usize)
     make(world, &entry);
 }
 
-/// Returns whether an act is refused so by a world that has come to a moment of a run.
+/// Returns whether a world that has come to a moment of a run refuses an act with this refusal.
 fn is_refused_by(
     run: &Run,
     world: &World,
@@ -89,8 +89,8 @@ fn is_done_by(run: &Run, moment: usize, worker: WorkerId) -> bool
     true
 }
 
-/// Returns whether what a worker asked for was refused so at its moment, to which the world has
-/// come, and by which all its steps were made.
+/// Returns whether what a worker asked for was refused with this refusal at its moment, to which
+/// the world has come. All the worker's steps must have been made by then.
 fn is_refused_so(
     run: &Run,
     world: &World,
@@ -108,8 +108,8 @@ fn is_refused_so(
     is_refused_by(run, world, asked.moment, worker, &asked.act, refusal)
 }
 
-/// Returns whether what a worker was refused is right, if it tells of the moment to which the world
-/// has come.
+/// Returns whether a worker's refusal is right, if it was at the moment to which the world has
+/// come; `true` if it was at another.
 fn is_right_then(
     run: &Run,
     world: &World,
@@ -133,7 +133,7 @@ fn is_right_then(
     }
 }
 
-/// Returns the same of a worker that may have ended otherwise.
+/// Returns the same of a worker's summary; `true` if the worker was not refused.
 fn is_right_at(run: &Run, world: &World, moment: usize, worker: WorkerId, summary: &Summary) -> bool
     requires represents { StandsFor world.now (take moment run.now.entries) }
     requires setup { world.now.setup ≡ run.now.setup }
@@ -171,8 +171,8 @@ fn first_wrong_at(
     None
 }
 
-/// Returns a worker whose refusal at a moment up to this one is not right, found in one walk over
-/// the entries with a world that makes their steps.
+/// Returns a worker whose refusal at a moment up to this one is not right. It is found in one pass
+/// over the run, with a world that makes its steps.
 pub(crate) fn first_wrong(run: &Run, summaries: &[Summary], last: usize) -> Option<WorkerId>
     requires few { length summaries.now ≤ 16 }
     requires within { last ≤ length run.now.entries }

@@ -1,4 +1,4 @@
-//! What a worker on a thread tells when it has ended.
+//! What a worker on a thread returns when it has ended.
 use ec_core::{Act, Entry};
 use ec_machine::Outcome;
 

@@ -25,8 +25,8 @@ use std::sync::{Condvar, Mutex, MutexGuard, Wait};
 use std::thread;
 use std::thread::{PromisedHandle, Scope};
 
-/// What the threads share: the board under its lock, what each worker sleeps on, the gate, and how
-/// many steps a worker may ask for.
+/// What the threads share: the board under its lock, a condition variable for each worker, the
+/// gate, and how many steps a worker may ask for.
 pub(crate) struct SharedState<'a, G> {
     pub board: &'a Mutex<Board>,
     pub sleeps: &'a [Condvar; 16],
@@ -43,12 +43,12 @@ impl<G> Clone for SharedState<'_, G> {
 
 impl<G> Copy for SharedState<'_, G> {}
 
-/// How often a worker that finds the lock held lets others run before it sleeps.
+/// How often a worker that finds the lock held yields before it blocks.
 const YIELDS: u32 = 30;
 
-/// Takes the lock. A hold is a fraction of a microsecond, and to put a worker to sleep and wake it
-/// costs more than many holds. So a worker that finds the lock held lets others run, looks again, and
-/// sleeps only if the lock was held each time.
+/// Acquires the lock. A critical section takes a fraction of a microsecond, and to block a thread
+/// and wake it costs more than many of them. So a worker that finds the lock held yields and tries
+/// again, and blocks only if the lock was held each time.
 fn lock_board<'b, R: Wait>(rt: &R, board: &'b Mutex<Board>) -> MutexGuard<'b, Board> {
     for _ in 0..YIELDS {
         if let Some(guard) = board.try_lock() {
@@ -75,16 +75,15 @@ fn wake_some(sleeps: &[Condvar], woken: &Option<[bool; 16]>) {
     }
 }
 
-/// Returns whether a worker whose steps are in its log has a turn left after the next one.
+/// Returns whether a worker has a turn left after the next one. Its steps so far are in its log.
 fn has_turn_after_next(log: &[Entry], turns: u64) -> bool
     ensures { result ≡ nat_lt (length log.now + 1) turns }
 {
     (log.len() as u64) < turns.saturating_sub(1)
 }
 
-/// Makes one hold of the lock and, if the worker is to wait, the sleep: in its last turn a
-/// worker doesn't wait. The others are woken once the lock is free; a worker that goes to sleep
-/// wakes nobody.
+/// Runs one critical section and, if the worker is to wait, the sleep. In its last turn a worker
+/// doesn't wait. Others are woken once the lock is free; a worker that goes to sleep wakes nobody.
 fn step_under_lock<R: Wait, G>(
     rt: &R,
     shared: SharedState<'_, G>,
@@ -112,7 +111,7 @@ fn step_under_lock<R: Wait, G>(
     held.next
 }
 
-/// Has the worker leave the board.
+/// Makes the worker leave the board, and wakes the others if they are deadlocked by that.
 fn leave_under_lock<R: Wait, G>(rt: &R, shared: SharedState<'_, G>, worker: WorkerId) {
     let sleeps = shared.sleeps;
     let mut guard = lock_board(rt, shared.board);
@@ -128,7 +127,7 @@ fn is_running(machine: &Machine<'_>) -> bool
     machine.next().is_some()
 }
 
-/// Ends the program by a step.
+/// Ends a running program at a step that got no reply.
 fn stop(machine: &mut Machine<'_>, outcome: Outcome)
     requires stop { IsStop outcome }
     requires running { is_running (machine_outcome machine.old) ≡ true }
@@ -139,7 +138,7 @@ fn stop(machine: &mut Machine<'_>, outcome: Outcome)
     machine.refuse(outcome);
 }
 
-/// Takes the reply to a step, which is put into the log.
+/// Takes the reply to a step, whose entry is added to the log.
 fn take(machine: &mut Machine<'_>, log: &mut Vec<Entry>, worker: WorkerId, act: &Act, reply: Reply)
     requires room { vec_len log.old < vec_capacity log.old }
     requires due { due_act machine.old ≡ Some act.now }
@@ -157,8 +156,8 @@ fn take(machine: &mut Machine<'_>, log: &mut Vec<Entry>, worker: WorkerId, act: 
     machine.take(reply);
 }
 
-/// Takes what comes next: the reply, or the end of the program. Returns what was asked for, if there
-/// was no reply.
+/// Takes the result of a step: the reply, or the end of the program. Returns what was asked for, if
+/// there was no reply.
 fn take_next(
     machine: &mut Machine<'_>,
     log: &mut Vec<Entry>,
@@ -187,8 +186,8 @@ fn take_next(
     }
 }
 
-/// Returns the step that the program asks for, for whose entry the log has room. Returns what was
-/// asked for, if there was no reply.
+/// Makes the step that the program asks for; the log has room for its entry. Returns what was asked
+/// for, if there was no reply.
 fn make_step<R: Wait, G>(
     rt: &R,
     shared: SharedState<'_, G>,
@@ -208,7 +207,8 @@ fn make_step<R: Wait, G>(
 }
 
 /// Makes one turn of a worker: the log grows, then comes the step that the program asks for.
-/// `steps` counts the steps that it has asked for.
+/// `steps` counts the steps that it has asked for. Returns what was asked for, if there was no
+/// reply.
 fn take_turn<R: Wait, G: Gate>(
     rt: &R,
     shared: SharedState<'_, G>,
@@ -235,7 +235,7 @@ fn take_turn<R: Wait, G: Gate>(
     make_step(rt, shared, worker, machine, log)
 }
 
-/// Returns what a worker tells at its end: a program that is still running is out of turns.
+/// Returns the summary of a worker that has ended. A program that is still running is out of turns.
 fn summarize(log: Vec<Entry>, mut machine: Machine<'_>, asked: Option<LastRequest>) -> Summary
     ensures outcome { result.outcome
         ≡ outcome_after_refusal (machine_outcome machine.entry) OutOfTurns }
@@ -250,7 +250,7 @@ fn summarize(log: Vec<Entry>, mut machine: Machine<'_>, asked: Option<LastReques
     }
 }
 
-/// Runs a worker's program up to its end.
+/// Runs a worker's program to its end, or until the worker is out of turns.
 fn work_through<R: Wait, G: Gate>(
     rt: &R,
     shared: SharedState<'_, G>,
@@ -273,7 +273,7 @@ fn work_through<R: Wait, G: Gate>(
     summarize(log, machine, asked)
 }
 
-/// Runs a worker, in a thread of its own, up to its end.
+/// Runs a worker to its end, in a thread of its own, and makes it leave the board.
 fn work<R: Wait, G: Gate>(
     rt: &R,
     shared: SharedState<'_, G>,
@@ -289,7 +289,8 @@ fn work<R: Wait, G: Gate>(
     summary
 }
 
-/// Starts a thread for a program. None if it could not be started: its worker leaves.
+/// Starts a thread for a program. Returns `None` if it could not be started; its worker then
+/// leaves.
 fn start_worker<'s, E: 's, R: Wait + Sync, G: Gate + Sync>(
     rt: &'s R,
     scope: &Scope<'s, E>,

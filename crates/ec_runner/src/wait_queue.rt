@@ -7,7 +7,7 @@ use arrayvec::ArrayVec;
 use ec_count::WorkerId;
 use std::marker::Model;
 
-/// A worker that waits until a total has come to its threshold.
+/// A worker that waits until a total has reached its threshold.
 #[derive(Clone, Copy, Debug, PartialEq, Eq)]
 pub(crate) struct Waiter {
     pub threshold: u64,
@@ -15,7 +15,7 @@ pub(crate) struct Waiter {
 }
 
 impl Waiter {
-    /// Returns whether it stands in line before another: by threshold, and at one threshold by
+    /// Returns whether it is before another in the queue: by threshold, and at equal thresholds by
     /// worker.
     fn comes_before(&self, other: &Waiter) -> bool
         ensures { result ≡ comes_before self.now other.now }
@@ -34,7 +34,7 @@ impl Default for Waiter {
     }
 }
 
-/// The waiters of one eventcount by ascending threshold and, at one threshold, by worker.
+/// The waiters of one eventcount by ascending threshold and, at equal thresholds, by worker.
 #[derive(Drop)]
 pub(crate) struct WaitQueue {
     waiters: ArrayVec<Waiter, 16>,
@@ -50,7 +50,7 @@ impl Model for WaitQueue {
 }
 
 impl WaitQueue {
-    /// Makes a line in which nobody waits.
+    /// Makes a queue in which nobody waits.
     pub fn empty() -> Self
         ensures { result ≡ [] }
     {
@@ -66,7 +66,7 @@ impl WaitQueue {
         self.waiters.is_empty()
     }
 
-    /// Puts a waiter at its place.
+    /// Inserts a waiter at its position.
     pub fn join(&mut self, waiter: Waiter)
         requires { length self.old < 16 }
         ensures { self.new ≡ insert_waiter waiter self.old }
@@ -75,14 +75,14 @@ impl WaitQueue {
         self.waiters.insert(place, waiter);
     }
 
-    /// Takes a worker off.
+    /// Removes a worker.
     pub fn drop_out(&mut self, worker: WorkerId)
         ensures { self.new ≡ without worker self.old }
     {
         self.waiters.retain(|waiter| waiter.worker != worker);
     }
 
-    /// Takes the first off, if the total has come to its threshold.
+    /// Removes and returns the first waiter, if the total has reached its threshold.
     pub fn pop_ready(&mut self, total: u64) -> Option<Waiter>
         ensures first { result ≡ first_ready total self.old }
         ensures rest { self.new ≡ (if is_some result then drop 1 self.old else self.old) }
@@ -96,7 +96,7 @@ impl WaitQueue {
     }
 }
 
-/// Returns the place of one more waiter: behind those that come before it.
+/// Returns the position at which a waiter is inserted: after those that come before it.
 fn place_in(line: &[Waiter], waiter: &Waiter) -> usize
     requires { length line.now ≤ 16 }
     ensures place { result ≡ place_in waiter.now line.now }

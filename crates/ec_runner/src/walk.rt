@@ -1,4 +1,4 @@
-//! The run held against the logs of the workers.
+//! The comparison of the run with the logs of the workers.
 ghost use Rattle.std.specs.Prelude.{◌≡◌, ◌≢◌, ◌<◌, ◌≤◌, ◌↔◌, ℕ, false, List, [], ◌∷◌, ◌++◌, length, slice_get, slice_index, Some, IsTrue, MatchOption};
 ghost use Rattle.ec_core.specs.declared.act.Entry.{Entry};
 ghost use Rattle.ec_runner.specs.declared.summary.Summary.{Summary};
@@ -15,7 +15,7 @@ fn is_same(entry: &Entry, other: &Entry) -> bool
     entry == other
 }
 
-/// Returns whether the entry stands in the log at this place.
+/// Returns whether the entry is in the log at this place.
 fn is_entry_at(log: &[Entry], at: usize, entry: &Entry) -> bool
     ensures value { IsTrue result ↔ (slice_get log.now at ≡ Some entry.now) }
     ensures within { IsTrue result → at < length log.now }
@@ -26,7 +26,8 @@ fn is_entry_at(log: &[Entry], at: usize, entry: &Entry) -> bool
     }
 }
 
-/// Goes one further in the log of the entry's worker, if the entry is what comes next there.
+/// Advances the cursor of the entry's worker, if the entry is the next one of its log. Returns
+/// whether it is.
 fn advances_cursor(cursors: &mut [usize; 16], summaries: &[Summary], entry: &Entry) -> bool
     requires { entry.now.worker < length summaries.now }
     ensures yes { (done : List Entry) → AreWalked summaries.now cursors.old done → IsTrue result → AreWalked summaries.now cursors.new (done ++ entry.now ∷ []) }
@@ -44,7 +45,7 @@ fn advances_cursor(cursors: &mut [usize; 16], summaries: &[Summary], entry: &Ent
     true
 }
 
-/// Returns the first worker whose log goes on beyond its cursor.
+/// Returns the first worker whose cursor is not at the end of its log.
 fn first_unfinished(cursors: &[usize; 16], summaries: &[Summary]) -> Option<WorkerId>
     requires { length summaries.now ≤ 16 }
     ensures { MatchOption result
@@ -59,7 +60,7 @@ fn first_unfinished(cursors: &[usize; 16], summaries: &[Summary]) -> Option<Work
     None
 }
 
-/// Returns a worker whose entries in the run are not its log, found in one walk over the entries
+/// Returns a worker whose entries in the run are not its log. It is found in one pass over the run,
 /// with a cursor for each worker.
 pub(crate) fn first_unlike(run: &Run, summaries: &[Summary]) -> Option<WorkerId>
     requires few { length summaries.now ≤ 16 }

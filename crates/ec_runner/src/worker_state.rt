@@ -1,17 +1,17 @@
-//! How a worker stands on a board.
+//! The state of a worker on a board.
 ghost use Rattle.std.specs.Prelude.{◌≡◌};
 ghost use Rattle.ec_runner.specs.WorkerStates.{is_active, is_running, is_waiting};
 
 use ec_count::EventId;
 
-/// How a worker stands on a board.
+/// The state of a worker on a board.
 #[derive(Clone, Copy, Debug, PartialEq, Eq)]
 pub(crate) enum WorkerState {
     /// It has left, or was never declared.
     Gone,
     /// It is active, and doesn't wait.
     Running,
-    /// It is active, and waits until the total of the eventcount has come to the threshold.
+    /// It is active, and waits until the total of the eventcount has reached the threshold.
     Waiting(EventId, u64),
 }
 

@@ -1,4 +1,4 @@
-//! The seats of all workers, and the lines of those that wait.
+//! The states of all workers, and the queues of those that wait.
 ghost use Rattle.std.specs.Prelude.{◌≡◌, ℕ, ◌<◌, ◌≤◌, true, false, map, slice_get, slice_set, Some, if◌then◌else◌, nat_lt, List, length, drop, is_some};
 ghost use Rattle.std.specs.List.{list_any};
 ghost use Rattle.ec_runner.specs.declared.worker_state.WorkerState.TheVariants.{Gone, Running};
@@ -18,8 +18,8 @@ use ec_core::{Act, Run};
 use ec_count::{EventId, WorkerId};
 use std::marker::Model;
 
-/// The seat of each worker. Beside them stand, for each eventcount, its waiters in line, so that an
-/// advance finds those whom it lets go at the head of one line.
+/// The state of each worker, and the queue of each eventcount's waiters. So an advance finds those
+/// that it releases at the head of one queue.
 #[derive(Drop)]
 pub(crate) struct WorkerStates {
     table: [WorkerState; 16],
@@ -40,7 +40,7 @@ impl Model for WorkerStates {
 }
 
 impl WorkerStates {
-    /// Makes seats in which the first so many workers are active, and nobody waits.
+    /// Makes states in which the first `workers` workers are active, and nobody waits.
     pub fn open(workers: usize) -> Self
         requires { workers ≤ 16 }
         ensures states { (w : ℕ) → w < 16 → slice_get result w ≡ Some (if nat_lt w workers then Running else Gone) }
@@ -52,7 +52,7 @@ impl WorkerStates {
         }
     }
 
-    /// Returns the seat of a worker.
+    /// Returns the state of a worker.
     pub fn get(&self, worker: WorkerId) -> WorkerState
         ensures { slice_get self.now worker ≡ Some result }
     {
@@ -67,7 +67,8 @@ impl WorkerStates {
         !line.is_empty()
     }
 
-    /// Gives a worker a seat on which it doesn't wait, and takes it off the line that it stands in.
+    /// Gives a worker a state in which it doesn't wait, and removes it from the queue that it is
+    /// in.
     pub fn settle(&mut self, worker: WorkerId, state: WorkerState)
         requires { is_waiting state ≡ false }
         ensures states { self.new ≡ slice_set self.old worker state }
@@ -78,7 +79,7 @@ impl WorkerStates {
         self.table[worker.get()] = state;
     }
 
-    /// Makes a worker that runs a waiter.
+    /// Makes a running worker a waiter.
     pub fn wait(&mut self, worker: WorkerId, event: EventId, threshold: u64)
         requires { slice_get self.old worker ≡ Some Running }
         ensures { self.new ≡ slice_set self.old worker (Waiting event threshold) }
@@ -87,7 +88,8 @@ impl WorkerStates {
         self.table[worker.get()] = WorkerState::Waiting(event, threshold);
     }
 
-    /// Lets the first in line for an eventcount go, if the total has come to its threshold.
+    /// Releases the first waiter on an eventcount, if the total has reached its threshold. Returns
+    /// whether it did.
     fn release_first(&mut self, event: EventId, total: u64) -> bool
         ensures yes { result ≡ true → LetsOneGo event total self.old self.new }
         ensures no { result ≡ false → (self.new ≡ self.old) × (map (state_at_total event total) self.old ≡ self.old) }
@@ -101,15 +103,15 @@ impl WorkerStates {
         }
     }
 
-    /// Lets all go whose threshold the total of their eventcount has come to.
+    /// Releases all waiters on an eventcount whose threshold the total has reached.
     pub fn release(&mut self, event: EventId, total: u64)
         ensures { self.new ≡ map (state_at_total event total) self.old }
     {
         while self.release_first(event, total) {}
     }
 
-    /// Takes in an entry of a run, the run's latest: its worker waits no more, and an advance lets
-    /// those go whose threshold it has brought the total to.
+    /// Updates the states after the latest entry of a run. Its worker stops waiting, and an advance
+    /// releases the waiters whose threshold the total has reached.
     pub fn note(&mut self, run: &Run, worker: WorkerId, act: &Act)
         requires { names_unknown_object run.now.setup act.now ≡ false }
         ensures states { self.new ≡ states_after_act act.now (past_of run.now) (slice_set self.old worker Running) }
@@ -131,7 +133,7 @@ impl WorkerStates {
     }
 }
 
-/// Takes a worker with this seat off the line that it stands in.
+/// Removes a worker with this state from the queue that it is in.
 fn drop_out(lines: &mut [WaitQueue; 32], state: WorkerState, worker: WorkerId)
     ensures { lines.new ≡ remove_waiter state worker lines.old }
 {
@@ -141,7 +143,7 @@ fn drop_out(lines: &mut [WaitQueue; 32], state: WorkerState, worker: WorkerId)
     }
 }
 
-/// Puts a waiter into the line for an eventcount.
+/// Inserts a waiter into the queue of an eventcount.
 fn join(lines: &mut [WaitQueue; 32], event: EventId, waiter: Waiter)
     requires { (line : List Waiter) → slice_get lines.old event ≡ Some line → length line < 16 }
     ensures line { lines.new ≡ map_at (insert_waiter waiter) lines.old event }
@@ -151,7 +153,7 @@ fn join(lines: &mut [WaitQueue; 32], event: EventId, waiter: Waiter)
     line.join(waiter);
 }
 
-/// Takes the first off the line for an eventcount, if the total has come to its threshold.
+/// Removes and returns the first waiter on an eventcount, if the total has reached its threshold.
 fn pop_ready(lines: &mut [WaitQueue; 32], event: EventId, total: u64) -> Option<Waiter>
     ensures first { (line : List Waiter) → slice_get lines.old event ≡ Some line → result ≡ first_ready total line }
     ensures rest { lines.new ≡ map_at (λ line. if is_some result then drop 1 line else line) lines.old event }
@@ -161,7 +163,7 @@ fn pop_ready(lines: &mut [WaitQueue; 32], event: EventId, total: u64) -> Option<
     line.pop_ready(total)
 }
 
-/// Makes seats of which the first so many are those of workers that run.
+/// Makes states in which the first `workers` workers run, and the others are gone.
 fn running(workers: usize) -> [WorkerState; 16]
     requires { workers ≤ 16 }
     ensures long { length result ≡ 16 }

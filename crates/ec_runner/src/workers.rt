@@ -23,7 +23,7 @@ use std::sync::{Condvar, Mutex, Wait};
 use std::thread;
 use std::thread::{PromisedHandle, Scope, Threads};
 
-/// Returns the report of a run and what its workers tell.
+/// Returns the report of a run and its workers' summaries.
 fn made_report(alloc: Global, run: Run, summaries: Vec<Summary>) -> Result<Report, AllocError>
     ensures run { IfOk result (λ r. r.run ≡ run) }
     ensures logs { IfOk result (λ r. r.logs.items ≡ map (λ t. t.log) summaries.items) }
@@ -42,8 +42,8 @@ fn made_report(alloc: Global, run: Run, summaries: Vec<Summary>) -> Result<Repor
     })
 }
 
-/// Returns what one more worker tells, behind the others. A thread that was not started comes
-/// before want of memory.
+/// Adds the summary of one more worker. A thread that was not started is reported rather than out
+/// of memory.
 fn push_summary(
     summaries: Result<Vec<Summary>, RunFault>,
     summary: Option<Summary>,
@@ -60,7 +60,7 @@ fn push_summary(
     }
 }
 
-/// Returns what a thread tells, if it was started.
+/// Joins a thread and returns its summary, if the thread was started.
 fn join_worker<R: Threads>(
     rt: &R,
     handle: Option<PromisedHandle<Summary, WorkPromise<'_>>>,
@@ -73,7 +73,7 @@ fn join_worker<R: Threads>(
     }
 }
 
-/// Joins all threads, and gives what their workers tell, in order.
+/// Joins all threads, and returns the summaries of their workers in order.
 fn join_each<R: Threads>(
     rt: &R,
     alloc: Global,
@@ -117,13 +117,13 @@ fn start_and_join<'s, E: 's, R: Threads + Wait + Sync, G: Gate + Sync>(
     join_each(rt, alloc, handles)
 }
 
-/// Returns what each worker sleeps on.
+/// Returns a condition variable for each worker.
 fn sleeps() -> [Condvar; 16] {
     std::array::from_fn(|_| Condvar::new())
 }
 
-/// Runs each program in a thread of its own, all at once, on one board. The run is that of the board
-/// when all threads have ended.
+/// Runs each program in a thread of its own, all at once, on one board. Returns the board's run,
+/// once all threads have ended, and their summaries.
 fn ran<R: Threads + Wait + Sync, G: Gate + Sync>(
     rt: &R,
     alloc: Global,
@@ -154,8 +154,7 @@ fn ran<R: Threads + Wait + Sync, G: Gate + Sync>(
     Ok((board.into_inner().into_run(), summaries))
 }
 
-/// Returns what is told of a run: its report, if what the workers tell fits it, and else the
-/// mismatch.
+/// Returns the report of a run, if the workers' summaries fit it, and otherwise the mismatch.
 fn report_or_mismatch(
     alloc: Global,
     setup: &Setup,
@@ -176,8 +175,7 @@ fn report_or_mismatch(
     }
 }
 
-/// Returns what is told of workers that have ended: why nothing is known of them, if so, and else
-/// what their run and what they tell come to.
+/// Returns the report of workers that have ended, or why there is none.
 fn conclude(
     alloc: Global,
     setup: &Setup,
@@ -210,13 +208,14 @@ fn run_on<R: Threads + Wait + Sync, G: Gate + Sync>(
     conclude(alloc, setup, ended)
 }
 
-/// Runs the programs of a plan, each worker's in a thread of its own, all at once, on one board
-/// under one lock; the plan's schedule is not used. A turn is one step that a worker asks the board
-/// for, in one hold of the lock, and no worker has more than `turns`. If a worker's await has
-/// fallen short it sleeps until the total has come to its threshold, or until no active worker is
-/// left that doesn't wait. The gate is called before each hold. When all have ended, what they were
-/// told is held against the run: a mismatch names a declared worker. A thread that could not be
-/// started comes before want of memory for what workers tell.
+/// Runs the programs of a parsed script, each worker's in a thread of its own, all at once, on one
+/// board under one lock. The script's schedule is not used. A turn is one step that a worker asks
+/// the board for, in one critical section, and no worker has more than `turns`. A worker whose
+/// await has fallen short sleeps, unless that was its last turn. It sleeps until the total has
+/// reached its threshold, or until every active worker waits. The gate is called before each
+/// critical section. When all have ended, their logs and outcomes are compared with the run: a
+/// mismatch names a declared worker. `Spawn` is reported rather than out of memory for the
+/// summaries.
 pub fn run_workers<R: Threads + Wait + Sync, G: Gate + Sync>(
     rt: &R,
     alloc: Global,

@@ -1,4 +1,4 @@
--- No object belongs to two groups of a heading: each declaration takes the objects that come next.
+-- No object belongs to two groups of a header: each declaration uses the objects that come next.
 use Rattle.std.proofs.Common.{◌≡◌, ◌⊎◌, inl, inr, ℕ, ◌+◌, ◌<◌, ◌≤◌, List, [], ◌∷◌, ◌++◌, length, true, ◌&&◌, ◌||◌, Option, Some, None, sym, ◌∙◌, subst, arith, append-nil, length-append, nat_le, nat_lt, eqb, eqb-true, leb-true, ltb-true}
 use Rattle.std.specs.List.{Contains, cons_option}
 use Rattle.std.proofs.lemmas.Bool.{and_parts, or_cases}
@@ -166,6 +166,6 @@ apart_more : (t u : Tables) (gs : List Group) (o : Option Group) → Grow t u �
 apart_more t u gs None grow new keep = subst (KeepApart u) (sym (append-nil gs)) (record { below = λ o g c own. stays t u o grow (keep.below o g c own); apart = keep.apart })
 apart_more t u gs (Some g) grow new keep = apart_push t u gs g grow new keep
 
--- and so it stays with one more declaration
+-- so it stays with one more declaration
 pub declared_apart : (s : DeclKind) (t : Tables) (n : ℕ) (first second : List ℕ) (gs : List Group) → KeepApart t gs → KeepApart (with_objects s t n first second) (gs ++ cons_option (group_of_declaration s t n) [])
 declared_apart s t n first second gs keep = apart_more t (with_objects s t n first second) gs (group_of_declaration s t n) (tables_grow s t n first second) (group_new s t n first second) keep

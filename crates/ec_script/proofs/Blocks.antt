@@ -1,4 +1,4 @@
--- The lines behind the declarations: whole blocks, and then the lines of the schedule.
+-- The lines after the declarations: whole blocks, and then the lines of the schedule.
 use Rattle.std.proofs.Common.{◌≡◌, ◌==◌, ℕ, ◌+◌, ◌<◌, ◌≤◌, List, [], ◌∷◌, ◌++◌, length, map, true, false, cond, eqb, nat_le, nat_lt, Option, Some, None, option_map, refl, sym, ap, ap₂, ◌∙◌, subst, arith, codes, append_assoc, append-nil, length-append, slice_set, get_or, eqb-true, ne_eqb}
 use Rattle.std.specs.List.{AllByRecursion, flat_map, join_with_byte, list_any}
 use Rattle.std.proofs.lemmas.Bool.{or_parts, or_from, leb-true, ltb-false, eqb-false, and_left, and_right}
@@ -43,7 +43,7 @@ abbrev pub state : HeadingModel → List ℕ → List (List BlockItem) → Optio
     → ScriptModel
 state h named ps b sc = record { heading = h; named = named; programs = ps; block = b; schedule = sc }
 
--- the programs once these blocks came
+-- the programs after these blocks
 abbrev pub set_all : List (List BlockItem) → List Block → List (List BlockItem)
 set_all ps [] = ps
 set_all ps (b ∷ bs) = set_all (slice_set ps b.worker (orders_of b.lines)) bs
@@ -131,7 +131,7 @@ Form line v w us = (is_no_line line ≡ false) × (phrase_in (words_of line) ≡
 abbrev PassesIn : ScriptModel → LineWord → List ℕ → List (List ℕ) → Type 0
 PassesIn s v w us = Passes (context_of_script s) (made v w us) (object_for s.heading v w us)
 
--- a block that was opened goes before what is behind it
+-- a `worker` line, and the rest of its block and what follows
 begins : (h : HeadingModel) (ws : List (List ℕ)) (p : PlanModel) (line : List ℕ) (lines : List (List ℕ)) (named : List ℕ) (ps : List (List BlockItem)) (sc : List ℕ) (i : ℕ)
     → line ≡ worker_line ws i → i < h.setup.workers → is_member i named ≡ false → length sc ≡ 0
     → Opened h ws (named ++ i ∷ []) ps (record { worker = i; draft = empty_draft }) sc lines p → Closed h ws named ps sc (line ∷ lines) p
@@ -153,7 +153,7 @@ begins h ws p line lines named ps sc i is declared new none r =
       plan = r.behind.plan;
     }
 
--- a line of the schedule goes before what is behind it
+-- a line of the schedule, and what follows it
 schedules : (h : HeadingModel) (ws : List (List ℕ)) (p : PlanModel) (line : List ℕ) (lines : List (List ℕ)) (named : List ℕ) (ps : List (List BlockItem)) (sc ids : List ℕ)
     → line ≡ schedule_line ws ids → IsRow ws ids
     → Closed h ws named ps (sc ++ ids) lines p → Closed h ws named ps sc (line ∷ lines) p
@@ -225,7 +225,7 @@ outside h ws heads p line lines named ps sc v w us within form passes others = (
 
 -- A LINE OF A BLOCK
 
--- one more line goes before those of a block
+-- one more line before those of a block
 goes_before : (h : HeadingModel) (ws : List (List ℕ)) (p : PlanModel) (line : List ℕ) (lines : List (List ℕ)) (named : List ℕ) (ps : List (List BlockItem)) (b : Open) (sc : List ℕ) (o : BlockItem)
     → IsLineOfItem h b.worker line o → MayNest b.draft o
     → Opened h ws named ps (record { worker = b.worker; draft = draft_with_item b.draft o }) sc lines p → Opened h ws named ps b sc (line ∷ lines) p
@@ -242,7 +242,7 @@ goes_before h ws p line lines named ps b sc o says may r =
       behind = subst (λ (os : List BlockItem). Closed h ws named (slice_set ps b.worker os) sc r.more p) all r.behind;
     }
 
--- an order that a line says goes on with the block
+-- an item that a line says comes next in the block
 order_goes : (h : HeadingModel) (ws : List (List ℕ)) (p : PlanModel) (line : List ℕ) (lines : List (List ℕ)) (named : List ℕ) (ps : List (List BlockItem)) (b : Open) (sc : List ℕ) (o : BlockItem) (s : ScriptModel)
     → IsWithin named (Some b) sc → IsLineOfItem h b.worker line o → MayNest b.draft o → s ≡ ordered_in (state h named ps (Some b) sc) (Some b) o → Others h ws lines p s → Opened h ws named ps b sc (line ∷ lines) p
 order_goes h ws p line lines named ps b sc o s within says may is others =

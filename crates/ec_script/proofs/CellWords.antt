@@ -1,4 +1,4 @@
--- A word that spells a cell is the one that spells it.
+-- A word that names a cell is its canonical encoding.
 use Rattle.std.proofs.Common.{◌≡◌, ℕ, ◌+◌, ◌<◌, List, [], ◌∷◌, ◌++◌, cond, eqb, true, false, Option, None, Some, refl, sym, ap, ◌∙◌, decimal, append_assoc, nat_lt}
 use Rattle.std.specs.Prelude.{option_map}
 use Rattle.std.specs.Option.{option_and_then}

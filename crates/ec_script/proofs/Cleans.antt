@@ -1,4 +1,4 @@
--- The lines of a script that is spelled hold no LF.
+-- The lines of the encoding of a script have no LF.
 use Rattle.std.proofs.Common.{◌≡◌, ℕ, zero, suc, ◌<◌, ◌≤◌, List, [], ◌∷◌, ◌++◌, map, true, false, not, eqb, nat_le, Option, Some, None, refl, arith, codes, decimal, get_or, eq-eqb}
 use Rattle.std.specs.Prelude.{if◌then◌else◌}
 use Rattle.std.specs.List.{AllByRecursion, flat_map, join_with_byte, list_all, Contains}
@@ -55,7 +55,7 @@ clean_join [] h = tt
 clean_join (w ∷ []) h = h.0
 clean_join (w ∷ v ∷ words) h = clean_append w (32 ∷ join_with_byte 32 (v ∷ words)) h.0 (refl, clean_join (v ∷ words) h.1)
 
--- THE HEADING
+-- THE HEADER
 
 workers_clean : (workers : List (List ℕ)) → AllByRecursion (λ w. is_name w ≡ true) workers → AllByRecursion IsClean workers
 workers_clean [] h = tt
@@ -117,7 +117,7 @@ heading_clean o is =
       (clean_join (codes "workers" ∷ o.workers) (literal_clean (codes "workers") refl, all), declarations_clean o.workers (empty_heading o.version o.limit o.workers) o.declarations all is.declarations),
     )
 
--- ORDERS
+-- ITEMS
 
 value_clean : (v : Value) → is_value v ≡ true → IsClean (value_word v)
 value_clean Last is = literal_clean (codes "last") refl

@@ -1,4 +1,4 @@
--- The common semaphore of a heading: it has initial value 1, and no object of another group.
+-- The common semaphore of a header: it has initial value 1, and no object of another group.
 use Rattle.std.proofs.Common.{◌≡◌, inl, inr, ℕ, suc, ◌==◌, false, List, [], ◌∷◌, ◌++◌, Some, refl, sym, ap, ◌∙◌, subst, arith}
 use Rattle.std.specs.List.{AllByRecursion, Contains, cons_option}
 use Rattle.std.proofs.lemmas.Bool.{eq-eqb, false_from_ne_true}

@@ -1,4 +1,4 @@
--- A line without fault makes confined commands alone, and such as the version has.
+-- A line without fault makes only commands that are confined and that the version has.
 use Rattle.std.proofs.Common.{◌≡◌, ◌≢◌, ℕ, List, Bool, true, false, not, Option, Some, None, option_map, option_and_then, refl, sym, ap, ◌∙◌, subst, eq-eqb}
 use Rattle.std.specs.List.{Contains, slice_get}
 use Rattle.std.specs.Option.{IfSome}
@@ -40,7 +40,7 @@ use Rattle.ec_script.proofs.shared.WrittenOut.{by_layer}
 
 -- OBJECTS
 
--- what an object must be of which confined commands are made, such as the version has
+-- an object of which only commands are made that are confined and that the version has
 abbrev pub IsFit : List Group → Version → Object → Type 0
 IsFit gs v (Event e) = is_owned gs (Event e) ≡ false
 IsFit gs v (Sequencer q) = is_owned gs (Sequencer q) ≡ false
@@ -161,7 +161,7 @@ object_fits h verbs.Schedule w ws apart has free roles = tt
 
 -- COMMANDS
 
--- an order that the programs of a script may have
+-- an item that the programs of a script may have
 abbrev pub IsProper : List Group → Version → BlockItem → Type 0
 IsProper gs v o = IsConfined gs o × HasOrder v o
 

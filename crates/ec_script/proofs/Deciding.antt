@@ -49,9 +49,9 @@ decides_any p P each xs = (
 pub decides_member : (w : ℕ) (ws : List ℕ) → Decides (is_member w ws) (Contains ws w)
 decides_member w ws = Decides-contains ws w (is_member w ws) (Decides-by_or (λ v. v == w) (λ v. v ≡ w) (is_member w) (λ v. Decides-eqb v w) refl (λ v vs. refl) ws)
 
--- SOMETHING STANDS TWICE
+-- AN ELEMENT OCCURS TWICE
 
--- an element of this kind, and what stands around it
+-- an element of this kind, and the elements around it
 record IsThere {A : Type 0} (p : A → Bool) (xs : List A) : Type 0 where
   prefix : List A
   one : A
@@ -102,7 +102,7 @@ decides_word_twice = decides_twice (λ w v. bytes_eq w v) has_word_twice (λ w x
 
 -- NUMBERS
 
--- these digits spell none that passes
+-- these digits are the decimal encoding of no number that passes
 pub decides_number : (p : ℕ → Bool) → ((n : ℕ) → p n ≡ true → n < 1000000000000000000) → (w : List ℕ) → Decides (not (option_map_or p (number_in_word w) false)) ((n : ℕ) → p n ≡ true → w ≢ decimal n)
 decides_number p few w = (
   (λ off n on is.

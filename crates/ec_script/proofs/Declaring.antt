@@ -1,4 +1,5 @@
--- What a heading keeps while it grows: its words name declared workers, and no two of its groups share an object.
+-- Invariants of a header: its words name declared workers, and no two of its groups share an
+-- object.
 use Rattle.std.proofs.Common.{◌≡◌, ℕ, ◌+◌, ◌<◌, ◌≤◌, List, [], ◌∷◌, ◌++◌, length, Bool, true, false, cond, eqb, Option, Some, None, option_and_then, Result, Ok, Err, refl, sym, ap, ◌∙◌, subst, arith, bytes_eq, codes, ne_eqb}
 use Rattle.std.specs.List.{AllByRecursion}
 use Rattle.std.specs.Option.{option_map_or}
@@ -25,7 +26,7 @@ use Rattle.ec_heading.proofs.shared.Declarable.{keeps_workers as workers_stay}
 
 -- WORDS
 
--- a word that stands for a worker stands for one of n
+-- if the target of a word is a worker, it is one of n
 abbrev IsBelow : ℕ → Target → Type 0
 IsBelow n (Worker w) = w < n
 IsBelow n _ = Unit {0}
@@ -49,7 +50,7 @@ one_below : (n : ℕ) (o : Option ℕ) (ids : List ℕ) → ((w : ℕ) → o ≡
 one_below n None ids found below = below
 one_below n (Some i) ids found below = (found i refl, below)
 
--- and so is each of a list
+-- so is each of a list
 pub ids_below : (n : ℕ) (es : Named) (ws : List (List ℕ)) → AreBelow n es → AllByRecursion (λ w. w < n) (ids_in es ws)
 ids_below n es [] below = tt
 ids_below n es (v ∷ ws) below = one_below n (worker_in es v) (ids_in es ws) (λ w is. found_below n es v w below is) (ids_below n es ws below)
@@ -75,7 +76,7 @@ spelled_below : (m : ℕ) (name : List ℕ) (os : Named) → AreBelow m os → A
 spelled_below m name [] below = tt
 spelled_below m name (o ∷ os) below = (below.0, spelled_below m name os below.1)
 
--- A HEADING
+-- A HEADER
 
 pub record HeadKeeps (h : HeadingModel) : Type 0 where
   pub some : 1 ≤ h.setup.workers
@@ -129,7 +130,7 @@ unfolding head_step
 first_keeps version limit line t is =
     opened_step version limit (workers_in (words_of line)) t (some_workers (words_of line)) (not_refused (is_no_line line) faults.BadLine (words_step (empty_heading version limit []) (words_of line)) t is)
 
--- a heading that keeps, of as many workers
+-- a header with these invariants, of as many workers
 pub record Grows (old new : HeadingModel) : Type 0 where
   pub keeps : HeadKeeps new
   pub workers : new.setup.workers ≡ old.setup.workers

@@ -1,4 +1,4 @@
--- A draft goes on.
+-- The steps of a builder.
 use Rattle.std.proofs.Common.{◌≡◌, ℕ, ◌+◌, ◌-◌, ◌≤◌, ◌<◌, Bool, true, false, ◌&&◌, ◌==◌, List, [], ◌∷◌, ◌++◌, length, map, max, replicate, append_assoc, append-nil, arith, rules, sym, ◌∙◌, ap, ap₂, refl, zero, suc, subst, nat_le, zero-add, add-zero, ne_eqb}
 use Rattle.std.specs.List.{list_all}
 use Rattle.std.specs.Global.{Vec}
@@ -119,7 +119,7 @@ open_pop depth (p ∷ os) o are =
     let e : depth + 1 + length os ≡ depth + length (p ∷ os) = omega arith in
     ((are.0, more.0), rw (← e) more.1)
 
--- A DRAFT'S STEPS
+-- THE STEPS
 
 none_long : (cs : List Command) (c : Command) → (length (cs ++ c ∷ []) == 0) ≡ false
 none_long cs c = ne_eqb _ _ (λ e. let n = length-append cs (c ∷ []) in omega (arith, n, e))

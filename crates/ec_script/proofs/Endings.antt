@@ -1,4 +1,4 @@
--- A text is told as unfinished exactly where it ends too early.
+-- A text is reported as unfinished exactly if it ends too early.
 use Rattle.std.proofs.Common.{◌≡◌, ◌≢◌, ◌⊎◌, inl, inr, ℕ, ◌+◌, ◌<◌, ◌≤◌, List, [], ◌∷◌, ◌++◌, length, Bool, true, false, cond, Option, Some, None, Result, Ok, Err, refl, sym, ap, ◌∙◌, subst, arith, append-nil, nat_lt}
 use Rattle.ec_text.specs.Words.{words_of, number_in_word}
 use Rattle.ec_heading.specs.Versions.{is_limit, version_of}
@@ -26,7 +26,7 @@ use Rattle.ec_script.proofs.ReportedKinds.{least_is_told, faultless_taken}
 
 -- HOW MANY LINES CAME
 
--- a stage behind so many lines
+-- a stage after this many lines
 abbrev IsBehind : Stage → ℕ → Type 0
 IsBehind Opening n = n ≡ 0
 IsBehind (Limiting v) n = n ≡ 1
@@ -80,7 +80,7 @@ leads_on s (line ∷ lines) t n at leads =
 behind : (before : List (List ℕ)) (stage : Stage) → Leads Opening before stage → IsBehind stage (length before)
 behind before stage leads = subst (λ (m : ℕ). IsBehind stage m) (let e : 0 + length before ≡ length before = omega arith in e) (leads_on Opening before stage 0 refl leads)
 
--- WHERE NO PLAN STANDS
+-- WHEN THERE IS NO PLAN
 
 open_block : (s : ScriptModel) (b : Option Block) → plan_or s b ≡ None → b ≢ None
 open_block s None is none = cc

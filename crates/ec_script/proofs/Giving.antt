@@ -1,4 +1,4 @@
--- What a line says may be given.
+-- What a line says is allowed.
 use Rattle.std.proofs.Common.{◌≡◌, ◌==◌, ℕ, ◌<◌, ◌≤◌, List, [], ◌∷◌, length, map, true, false, not, cond, nat_le, Option, Some, None, option_map, is_none, unwrap_or, refl, sym, ap, ◌∙◌, subst, arith, bytes_eq, codes}
 use Rattle.std.specs.List.{list_any, list_all, Contains}
 use Rattle.std.specs.Option.{option_and_then, option_map_or}
@@ -48,7 +48,7 @@ use Rattle.ec_script.proofs.Declaring.{HeadKeeps, opened_keeps, declared_keeps}
 use Rattle.ec_script.proofs.CellWords.{and_then_back}
 use Rattle.ec_script.proofs.OrderLines.{buffer_back, database_back, is_one}
 
--- THE GROUPS OF AN OUTLINE
+-- THE GROUPS OF A SYNTAX TREE
 
 keeps_all : (h : HeadingModel) (ds : List Declaration) → HeadKeeps h
     → HeadKeeps (with_declarations h ds)
@@ -104,7 +104,7 @@ one_ranged (w ∷ v ∷ ws) one is = cc
 abbrev pub IsTailOf : LineWord → List (List ℕ) → Object → Type 0
 IsTailOf v us o = (is_tail (tail_of v) us ≡ true) × (is_bad_tail (tail_of v) v us o ≡ false)
 
--- what a line without fault says
+-- what is known of a line without fault
 pub record IsRight (h : HeadingModel) (n : ℕ) (v : LineWord) (us : List (List ℕ)) (o : Object) : Type 0 where
   pub version : has_verb h.version v ≡ true
   pub tail : IsTailOf v us o

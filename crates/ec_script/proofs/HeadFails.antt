@@ -1,4 +1,4 @@
--- Lines that a heading refused, as lines of a script.
+-- Lines that a header rejected, as lines of a script.
 use Rattle.std.proofs.Common.{◌≡◌, Result, Ok, Err, refl, ap, sym, subst}
 use Rattle.ec_heading.specs.HeadingModel.{HeadingModel}
 use Rattle.ec_heading.specs.Heading.{FailsAs}

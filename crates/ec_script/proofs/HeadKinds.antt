@@ -1,4 +1,5 @@
--- Which kinds hold of a limit, of a line of workers and of a declaration: what the tests of headings decide.
+-- Which kinds hold of a limit, of a line of workers and of a declaration: what the tests of headers
+-- decide.
 use Rattle.std.proofs.Common.{◌≡◌, ◌≢◌, ◌⊎◌, inl, inr, ℕ, ◌+◌, ◌<◌, ◌≤◌, ◌||◌, ◌&&◌, List, [], ◌∷◌, ◌++◌, length, Bool, true, false, not, Option, Some, None, option_map, is_some, is_none, refl, arith, decimal, nat_le, nat_lt, length-append, replicate}
 use Rattle.std.specs.Bool.{Decides}
 use Rattle.std.specs.List.{Any, Contains, list_any}
@@ -139,7 +140,7 @@ roles_decided h p =
 decides_over : (m n k : ℕ) → k ≡ n → Decides (nat_lt m n) (m < k)
 decides_over m n k is = ((λ e. (let lt = ltb-true m n e in omega (arith, is, lt))), λ lt. lt-ltb m n (omega (arith, is, lt)))
 
--- the tables grow by so many
+-- the tables grow by these numbers
 record Grown (t u : Tables) (a b c : ℕ) : Type 0 where
   events : length u.events ≡ length t.events + a
   takers : length u.takers ≡ length t.takers + b

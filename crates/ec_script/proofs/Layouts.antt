@@ -1,4 +1,4 @@
--- Every script is laid out as a heading, whole blocks and a schedule.
+-- Every script consists of a header, whole blocks and a schedule.
 use Rattle.std.proofs.Common.{◌≡◌, ℕ, ◌<◌, ◌≤◌, List, [], ◌∷◌, ◌++◌, length, map, replicate, true, false, not, ◌&&◌, cond, eqb, nat_lt, Option, Some, None, Result, Ok, Err, refl, sym, ap, ap₂, ◌∙◌, subst, arith, bytes_eq, codes, decimal, slice_set, get_or, eqb-true, length-set}
 use Rattle.std.specs.List.{range_with_len}
 use Rattle.std.proofs.lemmas.Bool.{and_parts, or_parts, eqb-false}

@@ -63,7 +63,7 @@ fit_line w ws fit short =
     let words : words_of (join_with_byte 32 (w ∷ ws)) ≡ w ∷ ws = words_join w ws (fit_words (w ∷ ws) fit) in
     (words, or_from _ _ (le-ltb 8192 (length (join_with_byte 32 (w ∷ ws))) short) (ap (list_any (λ v. eqb (length v) 0)) words ∙ none_empty (w ∷ ws) fit))
 
--- WHAT NO GROUP OWNS
+-- OBJECTS OF NO GROUP
 
 pub none_owned : (gs : List Group) (o : Object) → ((g : Group) → owns o g ≡ false) → is_owned gs o ≡ false
 none_owned [] o none = refl
@@ -330,7 +330,7 @@ blocks_lead h ws heads are named ps (b ∷ bs) rest t all new differ leads =
           (blocks_lead h ws heads are (named ++ b.worker ∷ []) (slice_set ps b.worker (orders_of b.lines)) bs rest t all.1 (still_new b.worker named bs p.0 new.1) p.1 leads)),
     )
 
--- THE HEADING
+-- THE HEADER
 
 outer_verb : (v : LineWord) → is_outer v ≡ true → (v ≡ verbs.Worker) ⊎ (v ≡ verbs.Schedule)
 outer_verb verbs.Worker is = inl refl

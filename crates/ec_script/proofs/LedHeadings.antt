@@ -1,4 +1,4 @@
--- What the lines of a script have declared is a heading.
+-- What the lines of a script have declared is a header.
 use Rattle.std.proofs.Common.{◌≡◌, inr, ℕ, ◌≤◌, ◌==◌, ◌&&◌, cond, Bool, true, false, not, List, [], ◌∷◌, Option, Some, None, Result, Ok, Err, slice_set, refl, sym, ap, ◌∙◌, subst}
 use Rattle.ec_text.specs.Words.{words_of, number_in_word}
 use Rattle.ec_heading.specs.Versions.{greatest_limit, is_limit, version_of}

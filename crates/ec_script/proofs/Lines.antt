@@ -40,7 +40,7 @@ first_rest rest none = ap first_or_empty (parts_rest rest (no_lf rest none))
 
 pub ruleset first_lines = (first_line, first_rest)
 
--- the text goes on behind a line
+-- the text goes on after a line
 pub goes_line : (n : ℕ) (s : Stage) (line more : List ℕ) → All (λ b. eqb b 10 ≡ false) line → goes n s (lines_of_text (line ++ 10 ∷ more)) ≡ after_line n (step s line) (λ t. goes (n + 1) t (lines_of_text more))
 unfolding goes
 goes_line n s line more none =

@@ -1,4 +1,4 @@
--- What is declared is found again by its word, which may stand in a line.
+-- What is declared is found by its word, which may occur in a line.
 use Rattle.std.proofs.Common.{◌≡◌, ◌⊎◌, inl, inr, ℕ, ◌+◌, ◌-◌, ◌<◌, List, [], ◌∷◌, ◌++◌, length, Bool, true, false, cond, eqb, Option, Some, None, is_some, refl, sym, ap, ◌∙◌, subst, arith, bytes_eq, decimal, append_assoc, append-nil, length-append, ne_eqb, eq-eqb, nat_lt, lt-ltb}
 use Rattle.std.specs.List.{AllByRecursion, Contains, cons_option, slice_get}
 use Rattle.std.specs.Option.{option_and_then}
@@ -134,7 +134,7 @@ called_all : (h : HeadingModel) (ds : List Declaration) → IsSound h → AreDec
 called_all h [] is may all = all
 called_all h (d ∷ ds) is may all = called_all (with_declaration h d) ds (sound_all h (d ∷ []) is (may.0, tt)) may.1 (called_more h d is may.0 all)
 
--- ALL OF A HEADING
+-- ALL OF A HEADER
 
 pub record IsFound (h : HeadingModel) : Type 0 where
   pub is : IsSound h

@@ -1,4 +1,4 @@
--- Each declared semaphore of a heading has one name: its name is new, and so are its objects.
+-- Each declared semaphore of a header has one name: its name is new, and so are its objects.
 use Rattle.std.proofs.Common.{◌≡◌, ◌⊎◌, inl, inr, ℕ, zero, suc, ◌+◌, ◌<◌, List, [], ◌∷◌, ◌++◌, length, true, false, cond, if◌then◌else◌, Option, Some, None, slice_get, option_and_then, refl, sym, ap, ◌∙◌, subst, arith, bytes_eq, length-append}
 use Rattle.std.specs.List.{cons_option}
 use Rattle.std.proofs.lemmas.Option.{same_Some}

@@ -11,7 +11,7 @@ use Rattle.ec_script.specs.Reading.{step, StepFails}
 use Rattle.ec_script.specs.Outcome.{ParseResult, lines_of_text, goes, after_line, parse_end, Returns, fault_at}
 use Rattle.ec_script.proofs.Lines.{no_lf, goes_line, goes_rest}
 
--- behind a line that is taken
+-- after a line that is accepted
 pub goes_on : (n : ℕ) (s t : Stage) (line more rest : List ℕ) (o : ParseResult) → All (λ b. b ≢ 10) line → rest ≡ line ++ 10 ∷ more → goes n s (lines_of_text rest) ≡ o → step s line ≡ Ok t
     → goes (n + 1) t (lines_of_text more) ≡ o
 goes_on n s t line more rest o none whole is steps =
@@ -23,7 +23,7 @@ returned : (n : ℕ) (r : Result Stage Kind) (others : Stage → ParseResult) (o
 returned n r others o stages.Memory is fails = tt
 returned n r others o (stages.Of kind) is fails = sym is ∙ ap (λ x. after_line n x others) fails
 
--- a line at fault
+-- a faulty line
 pub fails_line : (n : ℕ) (s : Stage) (line more rest : List ℕ) (o : ParseResult) (fault : StageFault) → All (λ b. b ≢ 10) line → rest ≡ line ++ 10 ∷ more → goes n s (lines_of_text rest) ≡ o → StepFails fault (step s line)
     → Returns o (Err (fault_at n fault))
 fails_line n s line more rest o fault none whole is fails =

@@ -1,4 +1,4 @@
--- A line that says an order is the one that spells it.
+-- A line that says an item is its canonical encoding.
 use Rattle.std.proofs.Common.{◌≡◌, ◌==◌, ℕ, List, [], ◌∷◌, ◌++◌, length, map, take, drop, Bool, true, false, not, cond, eqb, nat_le, Option, Some, None, option_map, is_none, unwrap_or, refl, sym, ap, ap₂, ◌∙◌, subst, bytes_eq, codes, decimal}
 use Rattle.std.specs.List.{AllByRecursion, flat_map, join_with_byte, list_any, slice_get}
 use Rattle.std.specs.Option.{option_and_then, option_map_or}
@@ -148,7 +148,7 @@ place_back None i is = cc
 place_back (Some (targets.Group j)) i is = (let same : j ≡ i = cc in ap (λ x. Some (targets.Group x)) same)
 place_back (Some _) i is = cc
 
--- a group goes by its name
+-- a group is encoded as its name
 group_named : (h : HeadingModel) (word : List ℕ) (g : Group) (o : Object) → Owning h → group_in h word ≡ Some g → owns o g ≡ true → group_word h o ≡ word
 group_named h word g o is found own =
     let at = and_then_back (λ (i : ℕ). slice_get h.groups i) (option_and_then group_place (find_name word h.names)) g found in
@@ -185,12 +185,12 @@ semaphore_named h word s is found = group_named h word (groups.Semaphore s) (Seq
 rolled : (h : HeadingModel) (d : Command-F Command) (c : Command) → roll-Command d ≡ c → order_words h (Do c) ≡ command_words h d
 rolled h d c is = ap (λ x. command_words h (out-Command x)) (sym is) ∙ ap (command_words h) (out-roll-Command d)
 
--- what is known of the heading
+-- what is known of the header
 record Known (h : HeadingModel) : Type 0 where
   apart : AreApart h.words
   owning : Owning h
 
--- the words of an order that a line says
+-- the words of an item that a line says
 abbrev Spells : HeadingModel → LineWord → List ℕ → List (List ℕ) → Object → Type 0
 Spells h v w us o = (order : BlockItem) → order_by v o us ≡ Some order → order_words h order ≡ verb_word v ∷ w ∷ us
 
@@ -237,7 +237,7 @@ second_named h [] s is found = cc
 second_named h (u ∷ []) s is found = ap (λ (x : List ℕ). x ∷ []) (semaphore_named h u s is found)
 second_named h (u ∷ v ∷ us) s is found = cc
 
--- and the worker to whom a component is handed
+-- the worker to whom a component is handed
 receiver_named : (names : NameTable) (us : List (List ℕ)) (b : ℕ) → AreApart names → option_and_then (worker_in names) (only_in us) ≡ Some b → target_name names (targets.Worker b) ∷ [] ≡ us
 receiver_named names [] b apart found = cc
 receiver_named names (u ∷ []) b apart found = ap (λ (x : List ℕ). x ∷ []) (worker_spelled names u b apart found)

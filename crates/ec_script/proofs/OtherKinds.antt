@@ -1,4 +1,4 @@
--- Which kinds hold of a line behind the declarations: what its tests decide.
+-- Which kinds hold of a line after the declarations: what its tests decide.
 use Rattle.std.proofs.Common.{◌≡◌, ◌≢◌, ◌⊎◌, inl, inr, ℕ, ◌+◌, ◌<◌, ◌≤◌, ◌||◌, ◌&&◌, ◌==◌, List, [], ◌∷◌, length, Bool, true, false, not, cond, Option, Some, None, option_map, is_some, is_none, refl, sym, ap, ◌∙◌, subst, arith, decimal, codes, bytes_eq, nat_le, nat_lt}
 use Rattle.std.specs.Bool.{Decides}
 use Rattle.std.specs.List.{Any, list_any, list_all}
@@ -43,7 +43,7 @@ use Rattle.ec_script.proofs.Giving.{value_ranged as value_in_range}
 
 -- OBJECTS
 
--- a declared object is spelled, of which the test decides
+-- a declared object is named, of which the test decides
 decides_object : (o : Option Object) (t : Object → Bool) (T : Object → Type 0) → t Nothing ≡ false → ((x : Object) → Decides (t x) (T x)) → Decides (t (or_nothing o)) ((x : Object) × (o ≡ Some x) × T x)
 decides_object None t T none each = ((λ e. absurd (true≢false (sym e ∙ none))), λ h. (let k : None ≡ Some h.0 = h.1 in cc))
 decides_object (Some x) t T none each = ((λ e. (x, refl, (each x).0 e)), λ h. (each x).1 (subst T (sym (same_Some x h.0 h.1)) h.2))
@@ -210,7 +210,7 @@ other_decided s p kinds.NoRight is tail =
 other_decided s p kinds.BadNesting is tail = decides_block s.block (is_badly_nested p.verb) (λ b. IsMisplaced b p.verb) refl (misplaced_decided p.verb)
 other_decided s p _ is tail = never (λ t. t)
 
--- if such a line may stand, the first of these tests tells the fault
+-- if such a line is allowed, the first test that holds gives the fault
 pub other_least : (s : ScriptModel) (p : Phrase) → (has_verb s.heading.version p.verb && is_allowed p.verb (is_some (option_map view_of_block s.block)) (length s.schedule)) ≡ true → phrase_fault (context_of_script s) p (object_in s.heading p) ≡ first_that (
     (is_named_again s.named (or_nothing (object_in s.heading p)), kinds.NameTaken)
     ∷ (is_none (object_in s.heading p) || has_unknown_name s.heading p.verb p.rest, kinds.UnknownName)

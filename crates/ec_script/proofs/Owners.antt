@@ -1,4 +1,4 @@
--- Each group of a heading has one name.
+-- Each group of a header has one name.
 use Rattle.std.proofs.Common.{◌≡◌, ◌⊎◌, inl, inr, ℕ, zero, suc, ◌+◌, ◌<◌, ◌≤◌, List, [], ◌∷◌, ◌++◌, length, true, false, cond, Option, Some, None, refl, sym, ap, ◌∙◌, subst, arith, bytes_eq, append-nil, length-append}
 use Rattle.std.specs.List.{AllByRecursion, cons_option, slice_get}
 use Rattle.std.specs.Option.{option_map_or}
@@ -119,7 +119,7 @@ owned_more : (t u : Tables) (gs : List Group) (o : Option Group) → Grow t u �
 owned_more t u gs None grow new is = subst (Owned u) (sym (append-nil gs)) (record { below = λ o i g at own. stays t u o grow (is.below o i g at own); one = is.one })
 owned_more t u gs (Some g) grow new is = owned_push t u gs g grow new is
 
--- A HEADING
+-- A HEADER
 
 pub record Owning (h : HeadingModel) : Type 0 where
   first : AreFirst (length h.groups) h.names
@@ -197,6 +197,6 @@ owner_found t gs (x ∷ xs) word i g o owned single found at own =
           ap (λ b. cond b x.0 (owner_word gs xs o)) no ∙ owner_found t gs xs word i g o owned single.1 f at own)
     ] refl found
 
--- a group that is found is named by the word
+-- a group that is found by a word has that name
 pub group_spelled : (h : HeadingModel) (word : List ℕ) (i : ℕ) (g : Group) (o : Object) → Owning h → find_name word h.names ≡ Some (targets.Group i) → slice_get h.groups i ≡ Some g → owns o g ≡ true → owner_word h.groups h.names o ≡ word
 group_spelled h word i g o is found at own = owner_found h.setup h.groups h.names word i g o is.groups is.single found at own

@@ -1,4 +1,4 @@
--- The lines of a script of which two roles are told.
+-- The lines of a script for which `TwoRoles` is reported.
 use Rattle.std.proofs.Common.{◌≡◌, ◌⊎◌, inl, inr, ℕ, ◌==◌, ◌&&◌, cond, true, false, not, List, length, Option, Some, None, Result, Ok, Err, is_some, option_map, refl, ap, ◌∙◌, eqb-true}
 use Rattle.std.proofs.lemmas.Bool.{and_parts, false_from_ne_true}
 use Rattle.ec_text.specs.Words.{words_of}

@@ -1,4 +1,4 @@
--- A line behind the declarations that is taken passes each test.
+-- A line after the declarations that is accepted passes each test.
 use Rattle.std.proofs.Common.{◌≡◌, ℕ, List, [], ◌∷◌, Bool, true, false, not, ◌&&◌, ◌||◌, cond, Option, Some, None, is_some, is_none, Result, Ok, Err, refl, sym, ap, ◌∙◌}
 use Rattle.std.proofs.lemmas.Bool.{and_parts, and_from, or_parts, or_from, not-false, not_from_true}
 use Rattle.ec_count.specs.Tables.{first_that}
@@ -76,7 +76,7 @@ passes s p o is =
     let u = or_parts (is_none o) (has_unknown_name s.heading p.verb p.rest) n.f3 in
     record { version = place.0; allowed = place.1; new = n.f2; found = u.0; known = u.1; range = n.f4; few = n.f5; apart = n.f6; differ = n.f7; right = n.f8; nested = n.f9 }
 
--- and where none holds there is no fault
+-- if none holds there is no fault
 pub no_fault_of : (s : LineContextModel) (p : Phrase) (o : Option Object) → Passes s p o → phrase_fault s p o ≡ None
 no_fault_of s p o h =
     let t1 : Bool = not (has_verb s.heading.version p.verb && is_allowed p.verb (is_some s.block) s.scheduled) in
@@ -101,7 +101,7 @@ no_fault_of s p o h =
 
 -- A LINE
 
--- the line is taken as a phrase, and leads on
+-- the line is accepted as a phrase, and leads on
 pub record IsTaken (s : ScriptModel) (line : List ℕ) (t : ScriptModel) : Type 0 where
   pub whole : is_no_line line ≡ false
   pub phrase : Phrase
@@ -129,7 +129,7 @@ taken_back s t line behind is =
     line_back s t line (is_no_line line) refl
     (ap (λ b. cond b (headed_on s (head_step s.heading line)) (cond (is_no_line line) (Err kinds.BadLine) (after_phrase s (phrase_in (words_of line))))) (sym behind) ∙ is)
 
--- and a line that passes is taken
+-- a line that passes is accepted
 pub taken_so : (s : ScriptModel) (line : List ℕ) (p : Phrase) → IsBehind s line → is_no_line line ≡ false → phrase_in (words_of line) ≡ Some p → Passes (context_of_script s) p (object_in s.heading p) → script_step s line ≡ Ok (after s p)
 unfolding script_step
 taken_so s line p behind whole form h =

@@ -108,7 +108,7 @@ unfolding phrase_in
 worded [] p h = cc
 worded (w ∷ ws) p h = verbed_back w (parse_verb w) ws p (verb_back w) h
 
--- and such words are read as it
+-- such words are parsed to it
 verbed_again : (v : LineWord) (object : List ℕ) (ws : List (List ℕ)) (b : Bool) → object_word b object → is_tail (tail_of v) ws ≡ true
     → cond b (objected_in v (behind_verb b object ws)) (tailed_in v [] (behind_verb b object ws)) ≡ Some (made v object ws)
 verbed_again v object ws true none tail = ap (λ b. cond b (Some (made v object ws)) None) tail

@@ -1,4 +1,5 @@
--- A fault is told of a text exactly if it is that of its first faulty line, or of line 1 if the text is too long.
+-- A fault is reported for a text exactly if it is that of its first faulty line, or of line 1 if
+-- the text is too long.
 use Rattle.std.proofs.Common.{◌≡◌, ◌≢◌, ◌⊎◌, inl, inr, ℕ, ◌+◌, ◌<◌, ◌≤◌, List, [], ◌∷◌, ◌++◌, length, Some, None, Err, refl, sym, ap, ◌∙◌, subst, arith, append_assoc, append-nil}
 use Rattle.std.specs.List.{AllByRecursion}
 use Rattle.std.proofs.lemmas.Bool.{cases_lt}

@@ -1,4 +1,4 @@
--- A kind is told of a line exactly if it is the least that holds.
+-- A kind is reported for a line exactly if it is the least that holds.
 use Rattle.std.proofs.Common.{◌≡◌, ◌≢◌, ◌⊎◌, inl, inr, ℕ, ◌<◌, ◌==◌, ◌&&◌, List, [], ◌∷◌, length, Bool, true, false, not, cond, Option, Some, None, Result, Ok, Err, option_map, is_some, is_none, refl, sym, ap, ◌∙◌, subst, arith, codes, bytes_eq, nat_lt}
 use Rattle.std.specs.Bool.{Decides}
 use Rattle.std.specs.Prelude.{◌↔◌}
@@ -57,7 +57,7 @@ use Rattle.ec_script.proofs.LedHeadings.{lines_outlined}
 use Rattle.ec_script.proofs.OtherKinds.{other_tests, other_decided, other_least}
 use Rattle.ec_script.proofs.PhraseWords.{worded, worded_again, verb_again}
 
--- THE FAULT THAT IS TOLD
+-- THE FAULT THAT IS REPORTED
 
 abbrev fault_in : {S : Type 0} → Result S Kind → Option Kind
 fault_in (Ok s) = None
@@ -67,7 +67,7 @@ err_of : {S : Type 0} (r : Result S Kind) (k : Kind) → fault_in r ≡ Some k �
 err_of (Ok s) k is = cc
 err_of (Err l) k is = ap Err (same_Some l k is)
 
--- what a line comes to is what its tests give, and each decides what it is of
+-- the fault of a line is the least whose test holds, and each test decides its proposition
 record Tested {S : Type 0} (r : Result S Kind) (T : Kind → Type 0) : Type 0 where
   tests : Kind → Bool
   is : fault_in r ≡ least tests
@@ -251,7 +251,7 @@ naming_least b line =
       ]
     ]
 
--- LINES BEHIND THE WORKERS
+-- LINES AFTER THE WORKERS
 
 -- a declaration, or another line
 abbrev IsForm : ScriptModel → List ℕ → headings.Phrase ⊎ Phrase → Type 0
@@ -282,7 +282,7 @@ reading_form s line =
     cond (is_declaring s && not (opens_outer (words_of line))) (cond (is_no_line line) None (declared_form (headings.parts_in (words_of line))))
     (cond (is_no_line line) None (other_form s (phrase_in (words_of line))))
 
--- where a line may stand
+-- where a line is allowed
 block_is : (o : Option Block) → Decides (is_some (option_map view_of_block o)) (o ≢ None)
 block_is None = ((λ e. cc), λ n. absurd (n refl))
 block_is (Some b) = ((λ e k. cc), λ n. refl)
@@ -419,7 +419,7 @@ others_least : (s : ScriptModel) (o : Option Phrase) → fault_in (after_phrase 
 others_least s None = refl
 others_least s (Some p) = phrase_told s (after s p) (phrase_fault (context_of_script s) p (object_in s.heading p)) ∙ phrase_least s p
 
--- a heading with workers takes declarations alone
+-- a header with workers accepts only declarations
 behind_workers : (h : HeadingModel) (line : List ℕ) → (h.setup.workers == 0) ≡ false → head_step h line ≡ cond (is_no_line line) (Err heads.BadLine) (declared_or h (headings.parts_in (words_of line)))
 unfolding head_step
 behind_workers h line some = ap (λ b. cond (is_no_line line) (Err heads.BadLine) (cond b (opened_by h.version h.setup.limit (workers_in (words_of line))) (declared_or h (headings.parts_in (words_of line))))) some

@@ -1,4 +1,4 @@
--- A line without fault may go on with its block.
+-- A line without fault may come next in its block.
 use Rattle.std.proofs.Common.{◌≡◌, ℕ, ◌<◌, ◌&&◌, ◌||◌, Bool, true, false, not, List, length, Option, Some, None, option_map, is_some, is_none, nat_le, nat_lt, arith, refl, sym, ap, ◌∙◌, lt-ltb, [], ◌∷◌}
 use Rattle.std.specs.Option.{option_and_then}
 use Rattle.std.proofs.lemmas.Bool.{leb-false, and_parts}
@@ -30,7 +30,7 @@ may_command (Some b) (Write d vs) room sound = (sound.0, sound.1, room)
 may_command (Some b) (Begin n) room sound = absurd sound
 may_command (Some b) End room sound = absurd sound
 
--- WHERE NO TEST HOLDS
+-- IF NO TEST HOLDS
 
 first_false : (b : Bool) (k : Kind) (rest : List (Bool × Kind)) → first_that ((b, k) ∷ rest) ≡ None → b ≡ false
 first_false true k rest is = cc
@@ -48,7 +48,7 @@ pub record NoFault (s : LineContextModel) (p : Phrase) (o : Option Object) : Typ
   pub roles : has_two_roles (or_nothing o) ≡ false
   pub nested : is_badly_nested p.verb s.block ≡ false
 
--- of nine tests in order
+-- six of the nine tests, none of which holds
 record Six (line number many owned roles nested : Bool) : Type 0 where
   pub no_line : line ≡ false
   pub no_number : number ≡ false

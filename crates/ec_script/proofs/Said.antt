@@ -26,7 +26,7 @@ use Rattle.ec_script.specs.Layout.{order_by, IsLineOfItem, AreNested, commands_i
 use Rattle.ec_script.proofs.PhraseWords.{made}
 use Rattle.ec_script.proofs.Passing.{Passes}
 
--- THE ORDER OF A COMMAND
+-- THE ITEM OF A COMMAND
 
 -- a command, which begins and ends no repeat
 abbrev pub IsStep : BlockItem → Type 0
@@ -100,7 +100,7 @@ ordered_of h verbs.End w ws o command is = absurd command
 ordered_of h verbs.Worker w ws o command is = absurd command
 ordered_of h verbs.Schedule w ws o command is = absurd command
 
--- A LINE THAT SAYS AN ORDER
+-- A LINE THAT SAYS AN ITEM
 
 pub some_object : (o : Option Object) → is_none o ≡ false → (x : Object) × (o ≡ Some x)
 some_object None is = cc
@@ -127,7 +127,7 @@ said s n line v w ws o order whole form inner nest is h says =
 
 -- NESTING
 
--- an order may go on with a draft
+-- an item may come next in a builder
 abbrev pub MayNest : DraftModel → BlockItem → Type 0
 MayNest d (Do c) = d.commands < 4096
 MayNest d (Write b vs) = d.commands < 4096

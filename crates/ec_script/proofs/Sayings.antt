@@ -1,4 +1,4 @@
--- An order that may be given is said by the line that spells it.
+-- An item that is allowed is said by its canonical encoding.
 use Rattle.std.proofs.Common.{◌≡◌, ◌==◌, ℕ, ◌<◌, ◌≤◌, List, [], ◌∷◌, ◌++◌, length, map, take, drop, true, false, not, ◌&&◌, cond, eqb, nat_le, nat_lt, Some, None, option_map, is_some, is_none, unwrap_or, refl, sym, ap, ap₂, ◌∙◌, subst, arith, bytes_eq, codes, decimal, ne_eqb, eq-eqb, length-append}
 use Rattle.std.specs.List.{AllByRecursion, join_with_byte, list_any, list_all, Contains, slice_get}
 use Rattle.std.specs.Option.{option_and_then, option_map_or}
@@ -245,7 +245,7 @@ verb_fits verbs.End = record { word = literal_word (codes "end") refl; some = re
 verb_fits verbs.Worker = record { word = literal_word (codes "worker") refl; some = refl }
 verb_fits verbs.Schedule = record { word = literal_word (codes "schedule") refl; some = refl }
 
--- what a line must be that says an order by these words
+-- what is known of a line that says an item by these words
 record IsSaid (h : HeadingModel) (n : ℕ) (v : LineWord) (w : List ℕ) (us : List (List ℕ)) (o : Object) (order : BlockItem) : Type 0 where
   version : has_verb h.version v ≡ true
   tail : is_tail (tail_of v) us ≡ true
@@ -277,7 +277,7 @@ say h n v w us o order has inner fits s short =
       says = s.says;
     }
 
--- and one without
+-- a line without an object
 say_alone : (h : HeadingModel) (n : ℕ) (v : LineWord) (us : List (List ℕ)) (o : Object) (order : BlockItem) → has_object v ≡ false → is_outer v ≡ false → IsSaid h n v [] us o order → length (join_with_byte 32 (verb_word v ∷ us)) ≤ 8192
     → IsLineOfItem h n (join_with_byte 32 (verb_word v ∷ us)) order
 say_alone h n v us o order has inner s short =
@@ -418,7 +418,7 @@ says_layer h f n (layer.DownBoth r s t) uses may line has = λ short.
     }) short)
 says_layer h f n (layer.Repeat k block) uses may line has = cc
 
--- ANY ORDER
+-- ANY ITEM
 
 says_order : (h : HeadingModel) → IsFound h → (n : ℕ) (order : BlockItem) → IsGiven h n order → length (join_with_byte 32 (order_words h order)) ≤ 8192 → IsLineOfItem h n (join_with_byte 32 (order_words h order)) order
 says_order h f n (Do c) given short =

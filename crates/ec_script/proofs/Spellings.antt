@@ -1,4 +1,4 @@
--- A text is a script exactly if it spells a heading, blocks and a schedule.
+-- A text is a script exactly if it is the canonical encoding of a header, blocks and a schedule.
 use Rattle.std.proofs.Common.{◌≡◌, ◌==◌, ℕ, ◌≤◌, List, [], ◌∷◌, length, map, true, cond, refl, sym, ap, ap₂, ◌∙◌, subst}
 use Rattle.std.specs.List.{AllByRecursion, range_with_len}
 use Rattle.ec_count.specs.Members.{has_repeat}
@@ -18,7 +18,7 @@ use Rattle.ec_script.proofs.Cleans.{spelled_lines}
 use Rattle.ec_script.proofs.OrderLines.{layout_lines_are}
 use Rattle.ec_script.proofs.Sayings.{lines_say}
 
--- BLOCKS BY THEIR ORDERS
+-- BLOCKS BY THEIR ITEMS
 
 same_workers : (blocks : List Block) → workers_of blocks ≡ their_workers (ordered_blocks blocks)
 same_workers [] = refl
@@ -35,7 +35,7 @@ same_programs blocks (w ∷ ws) = ap₂ (λ (os : List BlockItem) (more : List (
 same_plan : (o : HeaderTree) (blocks : List Block) (rows : List (List ℕ)) → plan_of (record { outline = o; blocks = blocks; rows = rows }) ≡ plan_of_tree (record { outline = o; blocks = ordered_blocks blocks; rows = rows })
 same_plan o blocks rows = ap (λ (ps : List (List BlockItem)). let q : PlanModel = record { heading = heading_of_tree o; programs = ps; schedule = concat_rows rows } in q) (same_programs blocks (range_with_len 0 (length o.workers)))
 
--- WHAT LINES SAY IS GIVEN
+-- WHAT LINES SAY IS ALLOWED
 
 orders_given : (o : HeaderTree) → IsHeaderTree o → (w : ℕ) (lines : List (List ℕ × BlockItem)) → AllByRecursion (λ (l : List ℕ × BlockItem). IsLineOfItem (heading_of_tree o) w l.0 l.1) lines → AllByRecursion (MayGive (heading_of_tree o) w) (orders_of lines)
 orders_given o is w [] all = tt
@@ -72,13 +72,13 @@ spells bytes p script =
       plan = d.plan ∙ same_plan d.layout.outline d.layout.blocks d.layout.rows;
     }
 
--- its lines hold no LF
+-- its lines have no LF
 pub is_script : LayoutsAreScripts
 is_script bytes p d = layout_leads bytes p d (subst (AllByRecursion IsLine) (sym (layout_lines_are d.layout d.is)) (spelled_lines (spelled_of d.layout) (is_spelled d.layout d.is)))
 
--- WHAT IS GIVEN IS SAID BY LINES
+-- WHAT IS ALLOWED IS SAID BY LINES
 
--- an order with its line
+-- an item with its line
 abbrev lined : HeadingModel → List BlockItem → List (List ℕ × BlockItem)
 lined h os = map (λ (o : BlockItem). (order_line h o, o)) os
 

@@ -68,7 +68,7 @@ not_not false = refl
 roles_are : (c s u : Semaphore) (b : Bool) → c.initial ≡ 1 → is_same c s ≡ false → is_same c u ≡ false → is_same s u ≡ b → has_two_roles (SemaphorePair c s u) ≡ b
 roles_are c s u b first one other pair = rw (eq-eqb c.initial 1 first, one, other, pair) (not_not b)
 
--- what a line is about, and how its words relate
+-- the object of a line, and how its words relate
 record IsPair (h : HeadingModel) (one : List ℕ) (ws : List (List ℕ)) (o : Object) : Type 0 where
   common : Semaphore
   first : Semaphore

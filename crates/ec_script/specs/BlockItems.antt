@@ -1,4 +1,4 @@
--- What a line of a block says of the worker's commands.
+-- The command of a line of a block.
 use Rattle.std.specs.Prelude.{◌≡◌, ℕ, ◌==◌, Bool, true, false, List, [], length, map, Option, Some, None, unwrap_or}
 use Rattle.std.specs.Option.{option_and_then}
 use Rattle.std.specs.List.{list_all}
@@ -19,14 +19,14 @@ use Rattle.ec_script.specs.declared.object.Object.{Object}
 use Rattle.ec_script.specs.declared.object.Object.TheVariants.{Nothing, Worker, Event, Sequencer, Cell, Handed, OfBuffer, OfDatabase, OfSemaphore, SemaphorePair}
 use Rattle.ec_script.specs.Forms.{only_in, value_of}
 
--- the value that a word spells; it is `last` if the word spells none in its range, of which no command is made
+-- the value of a word; it is `last` if the word is none in its range, of which no command is made
 abbrev pub amount_of : List ℕ → amounts.Value
 amount_of w = unwrap_or (value_of w) Last
 
 abbrev pub amount_in : List (List ℕ) → amounts.Value
 amount_in ws = amount_of (unwrap_or (only_in ws) [])
 
--- the number that the only word spells, 0 if it spells none
+-- the number of the only word, 0 if there is none
 abbrev pub size_in : List (List ℕ) → ℕ
 size_in ws = unwrap_or (option_and_then number_in_word (only_in ws)) 0
 
@@ -54,7 +54,8 @@ abbrev pub semaphore_order : LineWord → Semaphore → BlockItem
 semaphore_order verbs.Down s = Do (commands.Down s)
 semaphore_order _ s = Do (commands.Up s)
 
--- what a line says that does this with the object, to whose word these follow; none if it is about nothing
+-- the item of a line with this object, which these words follow; none if no command has such an
+-- object
 abbrev pub command_in : LineWord → Bool → Object → List (List ℕ) → Option BlockItem
 command_in v giving (Event e) ws = Some (event_order v e (amount_in ws))
 command_in v giving (Sequencer q) ws = Some (Do (commands.Ticket q))
@@ -67,7 +68,7 @@ command_in v giving (SemaphorePair common one other) ws = Some (Do (commands.Dow
 command_in v giving Nothing ws = None
 command_in v giving (Worker w) ws = None
 
--- a command that keeps the limits
+-- a command within the limits
 abbrev pub IsSound : BlockItem → Type 0
 IsSound (Do c) = (is_plain c ≡ true) × (is_sound_one c ≡ true)
 IsSound (Write d vs) = ((length vs == d.cells) ≡ true) × (list_all is_value vs ≡ true)

@@ -1,4 +1,4 @@
--- Which commands use the objects of groups by the groups' own procedures alone.
+-- Which commands use the objects of groups only by the groups' own procedures.
 use Rattle.std.specs.Prelude.{◌≡◌, ◌≢◌, ℕ, ◌<◌, ◌≤◌, true, false, List, length, map, Some, Ok}
 use Rattle.std.specs.List.{AllByRecursion, Contains}
 use Rattle.ec_machine.specs.declared.command.Command.{Command}
@@ -21,8 +21,9 @@ use Rattle.ec_script.specs.Outcome.{outcome}
 
 -- ONE COMMAND
 
--- a raw command names no object of a group; a procedure is one of a declared group of its sort; P on two semaphores is by the common
--- one, on two declared ones that differ (a semaphore is told by its sequencer)
+-- a raw command names no object of a group; a procedure is one of a declared group of its kind; P
+-- on two semaphores uses the common one and two declared ones that differ (a semaphore is
+-- identified by its sequencer)
 abbrev pub UsesGroups : List Group → Command-F Command → Type 0
 UsesGroups gs (layer.Advance e) = is_owned gs (Event e) ≡ false
 UsesGroups gs (layer.Read e) = is_owned gs (Event e) ≡ false
@@ -58,7 +59,7 @@ abbrev pub AreApart : List Group → Type 0
 AreApart gs = (o : Object) (g k : Group) → Contains gs g → Contains gs k → owns o g ≡ true → owns o k ≡ true → g ≡ k
 
 -- some worker is declared, the groups are apart, there is a program for each declared worker, each confined and of commands that the
--- version of the heading has, and a schedule of declared workers
+-- version of the header has, and a schedule of declared workers
 pub record IsPlan (p : PlanModel) : Type 0 where
   pub some : 1 ≤ p.heading.setup.workers
   pub apart : AreApart p.heading.groups
@@ -71,15 +72,15 @@ pub record IsPlan (p : PlanModel) : Type 0 where
 abbrev pub PlansAreConfined : Type 0
 PlansAreConfined = (bytes : List ℕ) (p : PlanModel) → outcome bytes ≡ Ok p → IsPlan p
 
--- WRITTEN OUT
+-- UNROLLED
 
--- each command that a program comes to, with its repeats written out
+-- each command of a program with its repeats unrolled
 abbrev pub IsConfinedProgram : List Group → List Command → Type 0
 IsConfinedProgram gs cs = AllByRecursion (λ c. UsesGroups gs (out-Command c)) (unroll cs)
 
 abbrev pub AreConfinedPrograms : List Group → List (List Command) → Type 0
 AreConfinedPrograms gs programs = AllByRecursion (IsConfinedProgram gs) programs
 
--- programs whose lines are confined come to confined commands alone
+-- programs whose lines are confined have only confined commands
 abbrev pub ConfinedLinesAreConfinedCommands : Type 0
 ConfinedLinesAreConfinedCommands = (gs : List Group) (programs : List (List Command)) → AreConfined gs (map flat programs) → AreConfinedPrograms gs programs

@@ -1,4 +1,5 @@
--- What the lines of the open block come to: how many commands they are, how many repeats are open, and whether the innermost has none.
+-- The counts of the open block by its lines: how many commands they are, how many repeats are open,
+-- and whether the innermost has none.
 use Rattle.std.specs.Prelude.{◌≡◌, ◌↔◌, ℕ, ◌+◌, ◌<◌, true, List, [], ◌∷◌, ◌++◌, Some}
 use Rattle.ec_script.specs.declared.block_item.BlockItem.{BlockItem}
 use Rattle.ec_script.specs.declared.block_item.BlockItem.TheVariants.{Do, Write, Begin, End}
@@ -28,15 +29,16 @@ ends_in (End ∷ os) = ends_in os + 1
 abbrev pub EndsInBegin : List BlockItem → Type 0
 EndsInBegin os = (prefix : List BlockItem) × (n : ℕ) × (os ≡ prefix ++ Begin n ∷ [])
 
--- there are as many commands as the lines say, the repeats that begin are those that end and those that are open, and where one is open
--- it has no command yet exactly if the last line begins it
+-- there are as many commands as the lines say, the repeats that begin are those that end and those
+-- that are open, and if one is open the innermost has no command yet exactly if the last line
+-- begins it
 pub record IsCounted (d : DraftModel) : Type 0 where
   pub commands : d.commands ≡ commands_in d.orders
   pub repeats : begins_in d.orders ≡ ends_in d.orders + d.depth
   pub last : 0 < d.depth → (d.is_empty ≡ true) ↔ EndsInBegin d.orders
 
--- LAW
+-- THEOREM
 
--- so it is of the open block of every script
+-- the open block of every script is so
 abbrev pub BlocksAreCounted : Type 0
 BlocksAreCounted = (before : List (List ℕ)) (s : ScriptModel) (b : Block) → Leads Opening before (Reading s) → s.block ≡ Some b → IsCounted b.draft

@@ -1,4 +1,4 @@
--- A block that is being read.
+-- The builder of a block.
 use Rattle.std.specs.Prelude.{◌≡◌, ℕ, ◌+◌, ◌-◌, ◌≤◌, ◌<◌, Bool, true, false, List, [], ◌∷◌, ◌++◌, length, ◌==◌}
 use Rattle.std.specs.List.{list_all}
 use Rattle.ec_machine.specs.Limits.{is_sound_one, is_value}
@@ -33,7 +33,7 @@ draft_with_item d (Write b vs) = draft_with_command d (Write b vs)
 draft_with_item d (Begin n) = draft_with_repeat d n
 draft_with_item d End = draft_with_end d
 
--- what a line must be that goes on with a block
+-- whether a line may come next in a block
 abbrev pub MayFollow : DraftModel → BlockItem → Type 0
 MayFollow d (Do c) = (is_plain c ≡ true) × (is_sound_one c ≡ true) × (d.commands < 4096)
 MayFollow d (Write b vs) = ((length vs == b.cells) ≡ true) × (list_all is_value vs ≡ true) × (d.commands < 4096)

@@ -1,4 +1,4 @@
--- Which lines of a script are taken, and where a text ends too early.
+-- Which lines of a script are accepted, and which texts end too early.
 use Rattle.std.specs.Prelude.{◌≡◌, ◌≢◌, ◌⊎◌, ◌↔◌, ℕ, ◌+◌, ◌<◌, ◌≤◌, List, [], ◌++◌, length, None, Ok, Err}
 use Rattle.std.specs.List.{AllByRecursion}
 use Rattle.ec_script.specs.declared.fault.Kind.{Kind}
@@ -21,8 +21,8 @@ abbrev pub IsInside : Stage → Type 0
 IsInside (Reading s) = s.block ≢ None
 IsInside _ = ⊥
 
--- the text ends without the LF of its last line, of which no other kind holds, or behind an LF, with no line of workers or inside a
--- block; the line is one more than the LFs
+-- the text ends without the LF of its last line, of which no other kind holds, or after an LF, with
+-- no line of workers or inside a block; the line's number is one more than the number of LFs
 pub record EndsEarly (text : List ℕ) (n : ℕ) : Type 0 where
   pub before : List (List ℕ)
   pub stage : Stage
@@ -34,12 +34,12 @@ pub record EndsEarly (text : List ℕ) (n : ℕ) : Type 0 where
   pub leads : Leads Opening before stage
   pub early : ((line ≢ []) × IsFaultless stage line) ⊎ ((line ≡ []) × ((length before < 3) ⊎ IsInside stage))
 
--- LAWS
+-- THEOREMS
 
--- a line is taken exactly if no kind holds of it
+-- a line is accepted exactly if no kind holds of it
 abbrev pub FaultlessLinesAreTaken : Type 0
 FaultlessLinesAreTaken = (before : List (List ℕ)) (stage : Stage) (line : List ℕ) → Leads Opening before stage → ((next : Stage) × (step stage line ≡ Ok next)) ↔ IsFaultless stage line
 
--- a text is told as unfinished exactly if it is within the bound and ends too early
+-- a text is reported as unfinished exactly if it is within the bound and ends too early
 abbrev pub UnfinishedIsTold : Type 0
 UnfinishedIsTold = (text : List ℕ) (n : ℕ) → (outcome text ≡ Err (n, kinds.Unfinished)) ↔ ((length text ≤ SCRIPT_MAX) × EndsEarly text n)

@@ -8,9 +8,10 @@ use Rattle.ec_machine.specs.declared.command.Command.TheFolds.{fold-Command}
 use Rattle.ec_script.specs.declared.block_item.BlockItem.{BlockItem}
 use Rattle.ec_script.specs.declared.block_item.BlockItem.TheVariants.{Do, Write, Begin, End}
 
--- A layer is a command in which each command of its block, if it is a repeat, stands as what was found of it
+-- a layer is a command in which each command of its block, if it is a repeat, is replaced by the
+-- result for it
 
--- whether a command is a line of its own that holds no list
+-- whether a command is a line of its own that has no list
 abbrev pub plain_step : Command-F Bool → Bool
 plain_step (layer.WriteAll d vs) = false
 plain_step (layer.Repeat n block) = false

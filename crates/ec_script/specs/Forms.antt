@@ -14,7 +14,7 @@ use Rattle.ec_script.specs.declared.form.Parts.{Parts}
 
 -- VALUES
 
--- the digits behind `last+`
+-- the digits after `last+`
 abbrev pub more_in : List ℕ → Option (List ℕ)
 more_in w = if bytes_eq (take 5 w) (codes "last+") then Some (drop 5 w) else None
 
@@ -22,7 +22,7 @@ more_in w = if bytes_eq (take 5 w) (codes "last+") then Some (drop 5 w) else Non
 abbrev pub is_value_form : List ℕ → Bool
 is_value_form w = bytes_eq w (codes "last") || is_number_form (unwrap_or (more_in w) w)
 
--- `last+n` is for an n from 1 on
+-- `last+n`, for an n from 1 on
 abbrev pub last_plus : ℕ → Option Value
 last_plus n = if nat_le 1 n then Some (LastPlus n) else None
 
@@ -30,19 +30,19 @@ abbrev pub number_or_more : Option (List ℕ) → List ℕ → Option Value
 number_or_more None w = option_map Number (number_in_word w)
 number_or_more (Some digits) w = option_and_then last_plus (number_in_word digits)
 
--- the value that a word spells, if its number is in range
+-- the value of a word, if it is one and its number is in range
 unfoldable pub value_of : List ℕ → Option Value
 value_of w = if bytes_eq w (codes "last") then Some Last else number_or_more (more_in w) w
 
 -- FORMS
 
--- the only word, if there is just one
+-- the only word, if there is exactly one
 abbrev pub only_in : List (List ℕ) → Option (List ℕ)
 only_in [] = None
 only_in (w ∷ []) = Some w
 only_in (w ∷ v ∷ ws) = None
 
--- whether these words are such a tail
+-- whether these words have the form of a tail
 abbrev pub is_tail : Tail → List (List ℕ) → Bool
 is_tail tails.Nothing ws = length ws == 0
 is_tail tails.Value ws = option_map_or is_value_form (only_in ws) false
@@ -73,9 +73,9 @@ unfoldable pub phrase_in : List (List ℕ) → Option Phrase
 phrase_in [] = None
 phrase_in (w ∷ ws) = verbed_in (parse_verb w) ws
 
--- AS THE CODE HOLDS THEM
+-- AS THE CODE REPRESENTS THEM
 
--- the words of what is left of a line, none if nothing is
+-- the words of the rest of a line, none if there is no rest
 abbrev pub rest_words : Option (Bor (List ℕ)) → List (List ℕ)
 rest_words None = []
 rest_words (Some r) = words_of r.now

@@ -1,4 +1,4 @@
--- Which orders a script may give to a worker, by what they say.
+-- Which items a script may give to a worker, by what they say.
 use Rattle.std.specs.Prelude.{◌≡◌, ◌↔◌, ℕ, ◌≤◌, ◌==◌, ◌&&◌, Bool, true, false, nat_le, List, length}
 use Rattle.std.specs.List.{list_all, Contains}
 use Rattle.ec_count.specs.Tables.{Tables, may_observe, may_take, may_write, may_read}
@@ -19,7 +19,7 @@ use Rattle.ec_script.specs.Confined.{UsesGroups}
 use Rattle.ec_script.specs.Layout.{IsLineOfItem}
 use Rattle.ec_script.specs.Spelling.{order_line}
 
--- whether a script of the version may have the worker do such a thing, as the rights of its declarations go
+-- whether a script of the version may have the worker do this, by the rights of its declarations
 abbrev pub may_do : Version → Tables → ℕ → Command-F Command → Bool
 may_do v t w (layer.Advance e) = may_signal v t e w
 may_do v t w (layer.Read e) = may_observe t e w
@@ -37,7 +37,8 @@ may_do v t w (layer.Up s) = may_take t s.line w
 may_do v t w (layer.DownBoth common one other) = may_take t common.line w && may_take t one.line w && may_take t other.line w
 may_do v t w (layer.Repeat n block) = true
 
--- whether it is a command of one line without a list, its number is in range, and the semaphores of P on two of them differ
+-- whether it is a command of one line without a list, its number is in range, and the semaphores of
+-- a P on two of them differ
 abbrev pub is_line_of : Command-F Command → Bool
 is_line_of (layer.Await e v) = is_value v
 is_line_of (layer.Put x v) = is_value v
@@ -48,8 +49,8 @@ is_line_of (layer.WriteAll d vs) = false
 is_line_of (layer.Repeat n block) = false
 is_line_of _ = true
 
--- the order uses the objects of groups by the groups' procedures alone, the worker has the right, the numbers are in range, and the
--- version has the command
+-- the item is allowed to the worker: it uses the objects of groups only by the groups' procedures,
+-- the worker has the right, the numbers are in range, and the version has the command
 abbrev pub IsGiven : HeadingModel → ℕ → BlockItem → Type 0
 IsGiven h w (Do c) =
     UsesGroups h.groups (out-Command c) × (may_do h.version h.setup w (out-Command c) ≡ true) × (is_line_of (out-Command c) ≡ true) × (has_command h.version (out-Command c) ≡ true)
@@ -57,12 +58,12 @@ IsGiven h w (Write d vs) = Contains h.groups (groups.Database d) × (may_take h.
 IsGiven h w (Begin n) = (1 ≤ n) × (n ≤ 1000000)
 IsGiven h w End = Unit {0}
 
--- and its line has at most 8192 bytes
+-- it is allowed, and its line has at most 8192 bytes
 abbrev pub MayGive : HeadingModel → ℕ → BlockItem → Type 0
 MayGive h w o = IsGiven h w o × (length (order_line h o) ≤ 8192)
 
--- LAWS
+-- THEOREMS
 
--- a line says an order exactly if it spells the order, and the order may be given
+-- a line says an item exactly if it is the canonical encoding of the item, and the item is allowed
 abbrev pub LinesSayOrders : Type 0
 LinesSayOrders = (o : HeaderTree) (w : ℕ) (line : List ℕ) (order : BlockItem) → IsHeaderTree o → IsLineOfItem (heading_of_tree o) w line order ↔ ((line ≡ order_line (heading_of_tree o) order) × MayGive (heading_of_tree o) w order)

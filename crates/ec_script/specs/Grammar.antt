@@ -1,4 +1,5 @@
--- The grammar of scripts: which bytes say which plan, and which line is the first at fault. It says nothing of how a text is read.
+-- The grammar of scripts: which bytes say which plan, and which line is the first faulty one. It
+-- says nothing about how a text is parsed.
 use Rattle.std.specs.Prelude.{◌≡◌, ◌≢◌, ◌⊎◌, ◌↔◌, ℕ, ◌==◌, false, ◌+◌, ◌<◌, ◌≤◌, List, [], ◌∷◌, ◌++◌, length, Some, None, Ok, Err}
 use Rattle.std.specs.List.{All, AllByRecursion, flat_map}
 use Rattle.ec_heading.specs.declared.version.Version.{Version}
@@ -13,11 +14,11 @@ use Rattle.ec_script.specs.Reading.{step}
 use Rattle.ec_script.specs.Outcome.{outcome, lines_of_text, plan_in, first_or_empty, long_kind}
 use Rattle.ec_heading.specs.Spelling.{lines_text}
 
--- a line holds no LF
+-- a line has no LF
 abbrev pub IsLine : List ℕ → Type 0
 IsLine line = All (λ b. (b == 10) ≡ false) line
 
--- each line in its turn is without fault, and they lead from one stage to another
+-- the lines, one after another, have no fault, and lead from one stage to another
 abbrev pub Leads : Stage → List (List ℕ) → Stage → Type 0
 Leads s [] t = s ≡ t
 Leads s (line ∷ lines) t = (next : Stage) × (step s line ≡ Ok next) × Leads next lines t
@@ -36,27 +37,28 @@ pub record IsScript (bytes : List ℕ) (p : PlanModel) : Type 0 where
 abbrev pub IsNoScript : List ℕ → Type 0
 IsNoScript bytes = (p : PlanModel) → IsScript bytes p → ⊥
 
--- a script is read as its plan
+-- a script is parsed to its plan
 abbrev pub ScriptIsRead : Type 0
 ScriptIsRead = (bytes : List ℕ) (p : PlanModel) → IsScript bytes p → outcome bytes ≡ Ok p
 
--- what is read is a script
+-- what is parsed to a plan is a script of that plan
 abbrev pub ReadIsScript : Type 0
 ReadIsScript = (bytes : List ℕ) (p : PlanModel) → outcome bytes ≡ Ok p → IsScript bytes p
 
 -- THE FIRST FAULTY LINE
 
--- an LF ends the line, or it is the rest of the text and has a byte, and it is at fault in its place
+-- an LF ends the line, or it is the rest of the text and has a byte, and it is faulty in its place
 abbrev pub IsRefused : Stage → List ℕ → List ℕ → Kind → Type 0
 IsRefused s line behind kind = (((more : List ℕ) × (behind ≡ 10 ∷ more)) ⊎ ((behind ≡ []) × (0 < length line))) × (step s line ≡ Err kind)
 
--- the rest of the text lacks its LF and has no other fault, or no line lacks one and no plan stands
+-- the rest of the text lacks its LF and has no other fault, or the text ends with an LF but has no
+-- plan
 abbrev pub IsCutOff : Stage → List ℕ → List ℕ → Kind → Type 0
 IsCutOff s line behind kind =
     (behind ≡ []) × (kind ≡ kinds.Unfinished)
     × (((0 < length line) × ((next : Stage) × (step s line ≡ Ok next))) ⊎ ((line ≡ []) × (plan_in s ≡ None)))
 
--- line n is the first at fault, and this is its least kind: the lines before it have none
+-- line n is the first faulty one, and this is its least kind: the lines before it have none
 pub record IsFirstFault (text : List ℕ) (n : ℕ) (kind : Kind) : Type 0 where
   pub before : List (List ℕ)
   pub stage : Stage
@@ -69,15 +71,17 @@ pub record IsFirstFault (text : List ℕ) (n : ℕ) (kind : Kind) : Type 0 where
   pub leads : Leads Opening before stage
   pub why : IsRefused stage line behind kind ⊎ IsCutOff stage line behind kind
 
--- what is told of a text within the bound is its first faulty line
+-- what is reported for a text within the bound is its first faulty line
 abbrev pub FaultIsTheFirst : Type 0
 FaultIsTheFirst = (text : List ℕ) (n : ℕ) (kind : Kind) → length text ≤ SCRIPT_MAX → outcome text ≡ Err (n, kind) → IsFirstFault text n kind
 
--- of a longer one it is line 1, which is a header or none
+-- for a longer one it is line 1, and the kind depends on whether that is the first line of a
+-- version
 abbrev pub LongIsLine1 : Type 0
 LongIsLine1 = (text : List ℕ) (n : ℕ) (kind : Kind) → SCRIPT_MAX < length text → outcome text ≡ Err (n, kind) → (n ≡ 1) × (kind ≡ long_kind (first_or_empty (lines_of_text text)))
 
--- what stands before the first LF of a longer text, or all of it, is a header, and the text has too many bytes, or it is none
+-- the bytes before the first LF of a longer text, or all of it, are the first line of a version,
+-- and the text has too many bytes; or they are not
 pub record IsLongFault (text : List ℕ) (n : ℕ) (kind : Kind) : Type 0 where
   pub line : List ℕ
   pub behind : List ℕ
@@ -87,10 +91,10 @@ pub record IsLongFault (text : List ℕ) (n : ℕ) (kind : Kind) : Type 0 where
   pub number : n ≡ 1
   pub why : ((v : Version) × (line ≡ script_header v) × (kind ≡ kinds.TooMany)) ⊎ (((v : Version) → line ≢ script_header v) × (kind ≡ kinds.BadHeader))
 
--- the line and the kind for which a text is refused
+-- the line and the kind for which a text is rejected
 abbrev pub IsFault : List ℕ → ℕ → Kind → Type 0
 IsFault text n kind = ((length text ≤ SCRIPT_MAX) × IsFirstFault text n kind) ⊎ ((SCRIPT_MAX < length text) × IsLongFault text n kind)
 
--- and they are told of that text, and of no other
+-- a line and a kind are reported for a text exactly if they are its fault
 abbrev pub FaultsAreTold : Type 0
 FaultsAreTold = (text : List ℕ) (n : ℕ) (kind : Kind) → (outcome text ≡ Err (n, kind)) ↔ IsFault text n kind

@@ -1,4 +1,5 @@
--- Which kinds of fault hold of a line in its place, each in its own words; and that the one that is told is the least that holds.
+-- Which kinds of fault hold of a line in its place, each by its own definition; and that the least
+-- that holds is reported.
 use Rattle.std.specs.Prelude.{◌≡◌, ◌≢◌, ◌⊎◌, ◌↔◌, ℕ, ◌+◌, ◌<◌, ◌≤◌, true, false, List, [], ◌∷◌, ◌++◌, length, Some, None, Err, decimal}
 use Rattle.std.specs.List.{Any, Contains}
 use Rattle.ec_count.specs.Names.{find_name}
@@ -39,20 +40,20 @@ use Rattle.ec_script.specs.ScriptModel.{ScriptModel}
 use Rattle.ec_script.specs.Spelling.{value_word}
 use Rattle.ec_script.specs.Verbs.{tail_of, is_giving, is_counted}
 
--- something stands at two places of a list
+-- an element is at two places of a list
 abbrev pub OccursTwice : {A : Type 0} → List A → Type 0
 OccursTwice {A} xs = (x : A) × (prefix : List A) × (between : List A) × (rest : List A) × (xs ≡ prefix ++ x ∷ (between ++ x ∷ rest))
 
 -- THE LIMIT
 
--- no number from 1 to the greatest limit of the version is spelled by these digits
+-- these digits are the decimal encoding of no number from 1 to the greatest limit of the version
 abbrev pub LimitHas : Version → List ℕ → Kind → Type 0
 LimitHas v digits kinds.BadNumber = (n : ℕ) → 1 ≤ n → n ≤ greatest_limit v → digits ≢ decimal n
 LimitHas v digits _ = ⊥
 
 -- THE WORKERS
 
--- a word is no name, a word stands twice, there are more than 16
+-- a word is no name, a word occurs twice, there are more than 16
 abbrev pub WorkersHave : List (List ℕ) → Kind → Type 0
 WorkersHave names kinds.BadName = Any (λ w. is_name w ≡ false) names
 WorkersHave names kinds.NameTaken = OccursTwice names
@@ -61,7 +62,7 @@ WorkersHave names _ = ⊥
 
 -- A DECLARATION
 
--- a word of the heading is spelled so already, or a list names a worker twice
+-- the name is in the symbol table of the header already, or a list names a worker twice
 abbrev pub IsTaken : HeadingModel → headings.Phrase → Type 0
 IsTaken h p = (find_name p.name h.words ≢ None) ⊎ (OccursTwice (ids_in h.words p.first) ⊎ OccursTwice (ids_in h.words (second_list p)))
 
@@ -74,12 +75,13 @@ abbrev pub PassesBounds : HeadingModel → headings.Phrase → Type 0
 PassesBounds h p =
     ((16 < length (ids_in h.words p.first)) ⊎ (16 < length (ids_in h.words (second_list p)))) ⊎ IsOver (with_declaration h (declaration_of h.words p)).setup
 
--- some worker stands in both lists
+-- some worker is in both lists
 abbrev pub SharesWorker : HeadingModel → headings.Phrase → Type 0
 SharesWorker h p = (w : ℕ) × Contains (ids_in h.words p.first) w × Contains (ids_in h.words (second_list p)) w
 
--- the new name is none; it is taken; a word of a list is no worker's name; its number isn't spelled by the digits of any in range;
--- bounds are passed; and of a buffer or a database, a worker has both roles
+-- the new name is none; it is taken; a word of a list is no worker's name; its digits are the
+-- decimal encoding of no number in range; bounds are passed; and of a buffer or a database, a
+-- worker has both roles
 abbrev pub DeclarationHas : HeadingModel → headings.Phrase → Kind → Type 0
 DeclarationHas h p kinds.BadName = is_called p.sort p.name ≡ false
 DeclarationHas h p kinds.NameTaken = IsTaken h p
@@ -89,9 +91,10 @@ DeclarationHas h p kinds.TooMany = PassesBounds h p
 DeclarationHas h p kinds.TwoRoles = (needs_disjoint_lists p.sort ≡ true) × SharesWorker h p
 DeclarationHas h p _ = ⊥
 
--- LINES BEHIND THE DECLARATIONS
+-- LINES AFTER THE DECLARATIONS
 
--- a block is open, and this holds of it; a declared object of the sort is spelled, and this holds of it
+-- a block is open, and this holds of it; a declared object of the right kind is named, and this
+-- holds of it
 abbrev pub InBlock : ScriptModel → (Block → Type 0) → Type 0
 InBlock s T = (b : Block) × (s.block ≡ Some b) × T b
 
@@ -103,11 +106,12 @@ abbrev pub IsBegun : List ℕ → Object → Type 0
 IsBegun named (Worker w) = Contains named w
 IsBegun named _ = ⊥
 
--- the word is the spelling of no value in its range
+-- the word is the canonical encoding of no value in its range
 abbrev pub IsNoValue : List ℕ → Type 0
 IsNoValue w = (v : Value) → is_value v ≡ true → w ≢ value_word v
 
--- a value is none; of `write`, or the database doesn't have as many cells; a count of tries or of a repeat is none in its range
+-- a value is none in its range; or, of a `write`, the database has another number of cells; a count
+-- of tries or of a repeat is none in its range
 abbrev pub IsBadNumber : Tail → HeadingModel → Phrase → Type 0
 IsBadNumber tails.Value h p = (w : List ℕ) × (p.rest ≡ w ∷ []) × IsNoValue w
 IsBadNumber tails.Values h p = Any IsNoValue p.rest ⊎ ((d : Database) → object_in h p ≡ Some (OfDatabase d) → length p.rest ≢ d.cells)
@@ -128,9 +132,10 @@ IsMisplaced b verbs.Repeat = 4 ≤ b.draft.depth
 IsMisplaced b verbs.End = (0 < b.draft.depth) × (b.draft.is_empty ≡ true)
 IsMisplaced b _ = ⊥
 
--- a `worker` line names a worker whose block began before; a word spells no declared object of the sort, or a name of the schedule is
--- no worker's; a number is bad; bounds are passed; a raw command names an object of a group; a `pboth` line names one semaphore twice;
--- the worker of the block lacks the right; and in a block, the line is misplaced
+-- a `worker` line names a worker whose block began before; a word names no declared object of the
+-- right kind, or a name of the schedule is no worker's; a number is bad; bounds are passed; a raw
+-- command names an object of a group; a `pboth` line names one semaphore twice; the worker of the
+-- block lacks the right; and in a block, the line is misplaced
 abbrev pub OtherHas : ScriptModel → Phrase → Kind → Type 0
 OtherHas s p kinds.NameTaken = About s p (IsBegun s.named)
 OtherHas s p kinds.UnknownName = (object_in s.heading p ≡ None) ⊎ ((p.verb ≡ verbs.Schedule) × Any (λ w. worker_in s.heading.words w ≡ None) p.rest)
@@ -144,18 +149,20 @@ OtherHas s p _ = ⊥
 
 -- ANY LINE
 
--- it has none of the forms, or it has one, and the kind holds of it so
+-- for BadLine it has none of the forms; for another kind it has one, and the kind holds of it in
+-- that form
 abbrev pub OfForm : {F : Type 0} → (F → Type 0) → (F → Kind → Type 0) → Kind → Type 0
 OfForm {F} Is Has kinds.BadLine = (f : F) → Is f → ⊥
 OfForm {F} Is Has kind = (f : F) × Is f × Has f kind
 
--- behind the workers a line declares something, or it is another
+-- after the line of workers a line is a declaration or another line
 abbrev pub OfEither : ScriptModel → List ℕ → Kind → Type 0
 OfEither s line kinds.BadLine = ((p : headings.Phrase) → IsDeclaration s line p → ⊥) × ((p : Phrase) → IsOther s line p → ⊥)
 OfEither s line kind =
     ((p : headings.Phrase) × IsDeclaration s line p × DeclarationHas s.heading p kind) ⊎ ((p : Phrase) × IsOther s line p × OtherHas s p kind)
 
--- the kind holds of the line in its place: line 1 is the first line of no version, or, of a later line, by its form
+-- the kind holds of the line in its place: line 1 is the first line of no version; a later line is
+-- judged by its form
 abbrev pub HasKind : Stage → List ℕ → Kind → Type 0
 HasKind Opening line kinds.BadHeader = (v : Version) → line ≢ script_header v
 HasKind Opening line _ = ⊥
@@ -167,8 +174,8 @@ HasKind (Reading s) line kind = OfEither s line kind
 abbrev pub IsLeast : Stage → List ℕ → Kind → Type 0
 IsLeast stage line kind = HasKind stage line kind × ((less : Kind) → kind_number less < kind_number kind → HasKind stage line less → ⊥)
 
--- LAWS
+-- THEOREMS
 
--- a kind is told of a line exactly if it is the least that holds
+-- a kind is reported for a line exactly if it is the least that holds
 abbrev pub LeastKindIsTold : Type 0
 LeastKindIsTold = (before : List (List ℕ)) (stage : Stage) (line : List ℕ) (kind : Kind) → Leads Opening before stage → (step stage line ≡ Err kind) ↔ IsLeast stage line kind

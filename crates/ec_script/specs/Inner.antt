@@ -1,4 +1,4 @@
--- What the parts of a draft stand for.
+-- What the parts of a builder represent.
 use Rattle.std.specs.Prelude.{◌≡◌, ℕ, ◌+◌, ◌≤◌, ◌<◌, true, List, [], ◌∷◌, ◌++◌, length}
 use Rattle.ec_machine.specs.declared.command.Command.{Command}
 use Rattle.ec_machine.specs.Limits.{is_sound, nesting, count}
@@ -12,7 +12,7 @@ unfoldable pub begun : List OpenRepeat → List BlockItem
 begun [] = []
 begun (o ∷ os) = flat o.before.items ++ Begin o.times ∷ begun os
 
--- how many commands they are
+-- how many commands these are
 abbrev pub inner_command_count : List OpenRepeat → ℕ
 inner_command_count [] = 0
 inner_command_count (o ∷ os) = count o.before.items + 1 + inner_command_count os

@@ -1,4 +1,4 @@
--- Why a line behind the declarations is refused: each kind of fault is a test of its own.
+-- The faults of a line after the declarations: each kind of fault is a test of its own.
 use Rattle.std.specs.Prelude.{ℕ, ◌+◌, Bool, true, false, ◌&&◌, ◌||◌, ◌==◌, not, nat_le, nat_lt, List, [], ◌∷◌, length, Option, Some, None, is_some, is_none, unwrap_or, if◌then◌else◌}
 use Rattle.std.specs.Option.{option_and_then, option_map_or}
 use Rattle.std.specs.List.{list_any}
@@ -24,8 +24,8 @@ use Rattle.ec_script.specs.Verbs.{has_verb, tail_of, is_giving, is_counted}
 use Rattle.ec_script.specs.Forms.{Phrase, only_in, value_of}
 use Rattle.ec_script.specs.Objects.{is_owned}
 
--- where a line stands: the heading, the workers whose blocks began, the block that it stands in, if it stands in one, and how many
--- names the schedule has
+-- what the faults of a line depend on: the header, the workers whose blocks began, the block that
+-- it is in, if it is in one, and how many names the schedule has
 pub record LineContextModel : Type 0 where
   pub heading : HeadingModel
   pub named : List ℕ
@@ -37,8 +37,8 @@ context_model v = record { heading = v.heading.now; named = v.named.now; block =
 
 -- BAD LINE
 
--- whether such a line may stand there: commands, `repeat` and `end` in a block; `worker` in a block, if it is badly nested,
--- and before the schedule; `schedule` anywhere
+-- whether a line with this verb is allowed here: commands, `repeat` and `end` in a block; `worker`
+-- in a block, where it is badly nested, and before the schedule; `schedule` anywhere
 abbrev pub is_allowed : LineWord → Bool → ℕ → Bool
 is_allowed verbs.Schedule in_block scheduled = true
 is_allowed verbs.Worker in_block scheduled = in_block || scheduled == 0
@@ -46,7 +46,7 @@ is_allowed _ in_block scheduled = in_block
 
 -- NAME TAKEN
 
--- whether the block of this worker began before
+-- whether the object is a worker whose block began before
 abbrev pub is_named_again : List ℕ → Object → Bool
 is_named_again named (Worker w) = is_member w named
 is_named_again named _ = false
@@ -63,17 +63,17 @@ has_unknown_name h _ ws = false
 abbrev pub is_no_value : List ℕ → Bool
 is_no_value w = is_none (value_of w)
 
--- how many cells a database has
+-- how many cells a database has, 0 for another object
 abbrev pub cells_of : Object → ℕ
 cells_of (OfDatabase d) = d.cells
 cells_of _ = 0
 
--- the greatest count of a repeat, and of tries
+-- the greatest count of a repeat, or of tries
 abbrev pub greatest : LineWord → ℕ
 greatest verbs.Repeat = 1000000
 greatest _ = 1000
 
--- whether digits spell a number from 1 to the greatest
+-- whether this is a number from 1 to the greatest
 abbrev pub is_count : ℕ → Option ℕ → Bool
 is_count most None = false
 is_count most (Some n) = nat_le 1 n && nat_le n most
@@ -102,13 +102,14 @@ has_two_roles _ = false
 
 -- NO RIGHT
 
--- whether a script may have the worker signal the eventcount: under version 1 its declared signallers alone; under version 2 components
--- are handed over, and who signals it shows when the program runs
+-- whether a script may have the worker signal the eventcount: in version 1 only its declared
+-- signallers may; in version 2 components may be handed over, so the right is tested when the
+-- program runs
 abbrev pub may_signal : Version → Tables → ℕ → ℕ → Bool
 may_signal One t e w = is_some (component_of t e w)
 may_signal Two t e w = nat_lt e (length t.events)
 
--- so of a hand it is asked alone that there are such an eventcount and such a worker
+-- so of a `hand` it is tested only that there are such an eventcount and such a worker
 abbrev pub are_declared : Tables → ℕ → ℕ → Bool
 are_declared t e b = nat_lt e (length t.events) && nat_lt b t.workers
 
@@ -123,14 +124,15 @@ has_right v t w giving (OfSemaphore s) = may_take t s.line w
 has_right v t w giving (SemaphorePair common one other) = may_take t common.line w && may_take t one.line w && may_take t other.line w
 has_right v t w giving _ = true
 
--- whether the worker of the block lacks the right to do such a thing with the object
+-- whether the worker of the block lacks the right to use the object as the verb does
 abbrev pub lacks_right : HeadingModel → Option BlockContext → LineWord → Object → Bool
 lacks_right h None v o = false
 lacks_right h (Some n) v o = not (has_right h.version h.setup n.worker (is_giving v) o)
 
 -- BAD NESTING
 
--- whether a line stands inside a block that must not, a fifth repeat in the others, or an `end` of a repeat without a command
+-- whether a line that must not be inside a block is, or a fifth repeat is inside the others, or an
+-- `end` closes a repeat without a command
 abbrev pub is_badly_nested : LineWord → Option BlockContext → Bool
 is_badly_nested v None = false
 is_badly_nested verbs.Worker (Some n) = true
@@ -141,11 +143,11 @@ is_badly_nested v (Some n) = false
 
 -- THE LEAST
 
--- the object that is sought is none if no declared one is spelled
+-- the object of a line, Nothing if no declared one is named
 abbrev pub or_nothing : Option Object → Object
 or_nothing o = unwrap_or o Nothing
 
--- the least fault of a line of one of the forms, whose word for an object means this
+-- the least fault of a line of one of the forms, which has this object
 abbrev pub phrase_fault : LineContextModel → Phrase → Option Object → Option Kind
 phrase_fault s p o = first_that (
     (not (has_verb s.heading.version p.verb && is_allowed p.verb (is_some s.block) s.scheduled), kinds.BadLine)

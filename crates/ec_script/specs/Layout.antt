@@ -1,4 +1,5 @@
--- The layout of scripts, in the subject's own words: the lines of a heading, whole blocks, and the lines of the schedule.
+-- The layout of scripts, defined without the parser: the lines of a header, whole blocks, and the
+-- lines of the schedule.
 use Rattle.std.specs.Prelude.{◌≡◌, ℕ, ◌+◌, ◌-◌, ◌<◌, ◌≤◌, ◌==◌, Bool, true, false, List, [], ◌∷◌, ◌++◌, length, map, Some, Option, codes, if◌then◌else◌}
 use Rattle.std.specs.List.{AllByRecursion, flat_map, join_with_byte, range_with_len}
 use Rattle.ec_count.specs.Members.{has_repeat}
@@ -24,15 +25,16 @@ use Rattle.ec_script.specs.Grammar.{IsScript}
 
 -- A LINE OF A BLOCK
 
--- what a line says that does this with the object, and to whose word these follow
+-- the item of a line with this verb and object, which these words follow
 abbrev pub order_by : LineWord → Object → List (List ℕ) → Option BlockItem
 order_by verbs.Repeat o ws = Some (Begin (size_in ws))
 order_by verbs.End o ws = Some End
 order_by v o ws = command_in v (is_giving v) o ws
 
--- the line says this order to the worker: it has at most 8192 bytes and no empty word, it has the form of a command that the version of
--- the heading has, of `repeat` or of `end`, its object is declared, its numbers are in range and its values as many as the cells, a raw command names no object of a
--- group, no semaphore stands twice, and the worker has the right
+-- the line says this item to the worker: it has at most 8192 bytes and no empty word, it has the
+-- form of a command that the version of the header has, of `repeat` or of `end`, its object is
+-- declared, its numbers are in range and its values as many as the cells, a raw command names no
+-- object of a group, no semaphore occurs twice, and the worker has the right
 pub record IsLineOfItem (h : HeadingModel) (w : ℕ) (line : List ℕ) (order : BlockItem) : Type 0 where
   pub whole : is_no_line line ≡ false
   pub phrase : Phrase
@@ -60,8 +62,9 @@ texts_of lines = map (λ (l : List ℕ × BlockItem). l.0) lines
 abbrev pub orders_of : List (List ℕ × BlockItem) → List BlockItem
 orders_of lines = map (λ (l : List ℕ × BlockItem). l.1) lines
 
--- the orders go on where so many repeats are open, the innermost of which has no command yet or has one: each `end` is that of a
--- repeat with a command, at most four repeats stand in one another, and each has its `end`
+-- the items come where this many repeats are open, the innermost of which has no command yet or has
+-- one: each `end` closes a repeat with a command, at most four repeats are nested, and each has its
+-- `end`
 abbrev pub AreNested : ℕ → Bool → List BlockItem → Type 0
 AreNested depth is_empty [] = depth ≡ 0
 AreNested depth is_empty (Do c ∷ os) = AreNested depth false os
@@ -69,7 +72,7 @@ AreNested depth is_empty (Write d vs ∷ os) = AreNested depth false os
 AreNested depth is_empty (Begin n ∷ os) = (depth < 4) × AreNested (depth + 1) true os
 AreNested depth is_empty (End ∷ os) = (0 < depth) × (is_empty ≡ false) × AreNested (depth - 1) false os
 
--- how many commands they are, a repeat among them and its `end` not
+-- how many commands they are: a repeat is counted, its `end` is not
 abbrev pub commands_in : List BlockItem → ℕ
 commands_in [] = 0
 commands_in (Do c ∷ os) = commands_in os + 1
@@ -77,8 +80,8 @@ commands_in (Write d vs ∷ os) = commands_in os + 1
 commands_in (Begin n ∷ os) = commands_in os + 1
 commands_in (End ∷ os) = commands_in os
 
--- a whole block: of a declared worker, each line says its order to it, the repeats are properly nested, and there are at most 4096
--- commands
+-- a whole block: it is of a declared worker, each line says its item to it, the repeats are
+-- properly nested, and there are at most 4096 commands
 pub record IsBlock (h : HeadingModel) (b : Block) : Type 0 where
   pub worker : b.worker < h.setup.workers
   pub each : AllByRecursion (λ (l : List ℕ × BlockItem). IsLineOfItem h b.worker l.0 l.1) b.lines
@@ -96,7 +99,7 @@ block_lines workers b = worker_line workers b.worker ∷ texts_of b.lines ++ cod
 abbrev pub schedule_line : List (List ℕ) → List ℕ → List ℕ
 schedule_line workers ids = join_with_byte 32 (codes "schedule" ∷ list_words workers ids)
 
--- the line of these workers: one at least, each declared, and at most 8192 bytes
+-- the schedule line of these workers: one at least, each declared, and at most 8192 bytes
 pub record IsRow (workers : List (List ℕ)) (ids : List ℕ) : Type 0 where
   pub some : 1 ≤ length ids
   pub declared : AllByRecursion (λ w. w < length workers) ids
@@ -107,7 +110,7 @@ concat_rows rows = flat_map (λ (ids : List ℕ). ids) rows
 
 -- A WHOLE SCRIPT
 
--- the outline of a heading, blocks, and the workers of each line of the schedule
+-- the syntax tree of a header, blocks, and the workers of each line of the schedule
 pub record Layout : Type 0 where
   pub outline : HeaderTree
   pub blocks : List Block
@@ -129,7 +132,7 @@ layout_lines l =
     script_header l.outline.version ∷ heading_lines l.outline
     ++ (flat_map (block_lines l.outline.workers) l.blocks ++ map (schedule_line l.outline.workers) l.rows)
 
--- the orders of a worker's block, none if it has no block
+-- the items of a worker's block, none if it has no block
 abbrev pub program_of : List Block → ℕ → List BlockItem
 program_of [] w = []
 program_of (b ∷ blocks) w = if b.worker == w then orders_of b.lines else program_of blocks w
@@ -149,7 +152,7 @@ pub record IsLaidOut (bytes : List ℕ) (p : PlanModel) : Type 0 where
   pub within : length bytes ≤ SCRIPT_MAX
   pub plan : p ≡ plan_of layout
 
--- LAWS
+-- THEOREMS
 
 abbrev pub ScriptsAreLaidOut : Type 0
 ScriptsAreLaidOut = (bytes : List ℕ) (p : PlanModel) → IsScript bytes p → IsLaidOut bytes p

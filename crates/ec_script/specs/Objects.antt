@@ -1,4 +1,4 @@
--- What the word of an object stands for, and which objects belong to groups.
+-- Which object a word names, and which objects belong to groups.
 use Rattle.std.specs.Prelude.{ℕ, ◌+◌, Bool, false, ◌&&◌, ◌||◌, ◌==◌, nat_le, nat_lt, List, [], ◌∷◌, Option, Some, None, option_map, slice_get}
 use Rattle.std.specs.Option.{option_and_then}
 use Rattle.std.specs.List.{list_any}
@@ -51,7 +51,8 @@ abbrev pub transfer_object : Option ℕ → Option ℕ → Option Object
 transfer_object (Some e) (Some b) = Some (Handed e b)
 transfer_object _ _ = None
 
--- what a line is about: the declared object, of the sort that its verb asks for, that the word spells
+-- the object of a line: the declared one that its word names, if it is of the kind that the verb
+-- takes
 abbrev pub object_for : HeadingModel → LineWord → List ℕ → List (List ℕ) → Option Object
 object_for h verbs.Advance w ws = option_map Event (event_in h.words w)
 object_for h verbs.Read w ws = option_map Event (event_in h.words w)

@@ -1,4 +1,4 @@
--- What a text comes to: a function of its bytes.
+-- The result of a text: a function of its bytes.
 use Rattle.std.specs.Prelude.{◌≡◌, ℕ, ◌+◌, ◌==◌, List, [], ◌∷◌, length, map, Option, Some, None, Result, Ok, Err, if◌then◌else◌, nat_lt}
 use Rattle.std.specs.List.{slice_split}
 use Rattle.ec_heading.specs.declared.version.Version.{Version}
@@ -19,7 +19,7 @@ use Rattle.ec_script.specs.Flat.{flat}
 use Rattle.ec_script.specs.ScriptModel.{ScriptModel, PlanModel}
 use Rattle.ec_script.specs.Reading.{step}
 
--- a plan, or the line at fault and its kind
+-- a plan, or the faulty line and its kind
 abbrev pub ParseResult : Type 0
 ParseResult = Result PlanModel (ℕ × Kind)
 
@@ -29,7 +29,7 @@ lines_of_text bytes = slice_split (λ b. b == 10) bytes
 
 -- THE END OF A TEXT
 
--- a plan stands where no block is open
+-- there is a plan if no block is open
 abbrev pub plan_or : ScriptModel → Option Block → Option PlanModel
 plan_or s None = Some (record { heading = s.heading; programs = s.programs; schedule = s.schedule })
 plan_or s (Some b) = None
@@ -42,19 +42,19 @@ abbrev pub plan_or_fault : ℕ → Option PlanModel → ParseResult
 plan_or_fault n None = Err (n, kinds.Unfinished)
 plan_or_fault n (Some p) = Ok p
 
--- goes on where the line was taken
+-- goes on if the line was accepted
 abbrev pub after_line : ℕ → Result Stage Kind → (Stage → ParseResult) → ParseResult
 after_line n (Ok s) others = others s
 after_line n (Err kind) others = Err (n, kind)
 
--- behind the last LF stands nothing, or a line that lacks its LF, which is judged like every line
+-- after the last LF comes nothing, or a line that lacks its LF, which is judged like every line
 abbrev pub parse_end : ℕ → Stage → List ℕ → ParseResult
 parse_end n s [] = plan_or_fault n (plan_in s)
 parse_end n s (b ∷ bs) = after_line n (step s (b ∷ bs)) (λ t. Err (n, kinds.Unfinished))
 
 -- WHOLE TEXTS
 
--- the lines in turn, from line n on in the stage s, up to the first fault
+-- the lines one after another, from line n on in the stage s, up to the first fault
 unfoldable pub goes : ℕ → Stage → List (List ℕ) → ParseResult
 goes n s [] = parse_end n s []
 goes n s (rest ∷ []) = parse_end n s rest
@@ -64,7 +64,7 @@ abbrev pub first_or_empty : List (List ℕ) → List ℕ
 first_or_empty [] = []
 first_or_empty (line ∷ lines) = line
 
--- of a text that is too long line 1 alone is looked at
+-- of a text that is too long only line 1 is read
 abbrev pub long_by : Option Version → Kind
 long_by None = kinds.BadHeader
 long_by (Some v) = kinds.TooMany
@@ -72,21 +72,21 @@ long_by (Some v) = kinds.TooMany
 abbrev pub long_kind : List ℕ → Kind
 long_kind line = long_by (version_of script_header line)
 
--- what a text comes to
+-- the result of a text
 unfoldable pub outcome : List ℕ → ParseResult
 outcome bytes = if nat_lt SCRIPT_MAX (length bytes) then Err (1, long_kind (first_or_empty (lines_of_text bytes))) else goes 1 Opening (lines_of_text bytes)
 
--- what a plan shows: its programs by their lines
+-- a plan with its programs as lists of lines
 abbrev pub shown_plan : Plan → PlanModel
 shown_plan p = record { heading = p.heading; programs = map flat p.programs.items; schedule = p.schedule.items }
 
--- what was answered for a text; want of memory says nothing of it
+-- what the parser returned for a text; out of memory says nothing about it
 abbrev pub Returns : ParseResult → Result Plan ScriptFault → Type 0
 Returns o (Ok plan) = o ≡ Ok (shown_plan plan)
 Returns o (Err (faults.At line kind)) = o ≡ Err (line, kind)
 Returns o (Err faults.Memory) = Unit {0}
 
--- why a line was not taken, with its number
+-- the fault of a line, with its number
 abbrev pub fault_at : ℕ → StageFault → ScriptFault
 fault_at n stages.Memory = faults.Memory
 fault_at n (stages.Of kind) = faults.At n kind

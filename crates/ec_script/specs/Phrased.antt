@@ -1,4 +1,4 @@
--- How a line of a block or of the schedule is written: the words of a line of its form.
+-- The words of a line of a block or of the schedule, by its form.
 use Rattle.std.specs.Prelude.{◌≡◌, ℕ, Bool, true, false, List, [], ◌∷◌, codes}
 use Rattle.ec_script.specs.declared.verb.LineWord.{LineWord}
 use Rattle.ec_script.specs.declared.verb.LineWord.TheVariants as verbs
@@ -26,7 +26,7 @@ verb_word verbs.End = codes "end"
 verb_word verbs.Worker = codes "worker"
 verb_word verbs.Schedule = codes "schedule"
 
--- the words behind the first one
+-- the words after the first one
 abbrev pub behind_verb : Bool → List ℕ → List (List ℕ) → List (List ℕ)
 behind_verb true object ws = object ∷ ws
 behind_verb false object ws = ws

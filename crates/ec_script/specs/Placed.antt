@@ -29,15 +29,15 @@ pub record IsDeclaration (s : ScriptModel) (line : List ℕ) (p : headings.Phras
   pub whole : IsOfWords line
   pub form : IsSpelled (words_of line) p
 
--- commands, `repeat` and `end` stand in a block, and `hand` in one of version 2; `worker` in a block, if it is badly nested, and before
--- the schedule; `schedule` anywhere
+-- commands, `repeat` and `end` are allowed in a block, and `hand` in one of version 2; `worker` in
+-- a block, where it is badly nested, and before the schedule; `schedule` anywhere
 abbrev pub MayOccur : ScriptModel → LineWord → Type 0
 MayOccur s verbs.Schedule = Unit {0}
 MayOccur s verbs.Worker = (s.block ≢ None) ⊎ (s.schedule ≡ [])
 MayOccur s verbs.Hand = (s.heading.version ≡ Two) × (s.block ≢ None)
 MayOccur s _ = s.block ≢ None
 
--- a line of a block, of the schedule, or the first of a block, if such a line may stand
+-- a line of a block, of the schedule, or the first of a block, if such a line is allowed here
 pub record IsOther (s : ScriptModel) (line : List ℕ) (p : Phrase) : Type 0 where
   pub place : MayOccur s p.verb
   pub whole : IsOfWords line

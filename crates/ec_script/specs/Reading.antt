@@ -1,4 +1,4 @@
--- What the lines of a script build, line by line.
+-- The parser of scripts, line by line.
 use Rattle.std.specs.Prelude.{◌≡◌, ℕ, Bool, false, ◌&&◌, ◌==◌, not, nat_lt, List, [], ◌∷◌, ◌++◌, length, replicate, slice_set, Option, Some, None, option_map, Result, Ok, Err, IsOk, if◌then◌else◌, bytes_eq, codes}
 use Rattle.std.specs.Option.{option_map_or}
 use Rattle.ec_text.specs.Words.{words_of, number_in_word, is_number_form}
@@ -33,7 +33,7 @@ use Rattle.ec_script.specs.Kinds.{LineContextModel, phrase_fault, or_nothing}
 use Rattle.ec_script.specs.BlockItems.{size_in, command_in}
 use Rattle.ec_script.specs.ScriptModel.{ScriptModel}
 
--- WHAT IS SEEN OF A SCRIPT BY A LINE
+-- WHAT THE FAULTS OF A LINE DEPEND ON
 
 abbrev pub view_of_block : Block → BlockContext
 view_of_block b = record { worker = b.worker; depth = b.draft.depth; is_empty = b.draft.is_empty; commands = b.draft.commands }
@@ -41,7 +41,7 @@ view_of_block b = record { worker = b.worker; depth = b.draft.depth; is_empty = 
 abbrev pub context_of_script : ScriptModel → LineContextModel
 context_of_script s = record { heading = s.heading; named = s.named; block = option_map view_of_block s.block; scheduled = length s.schedule }
 
--- WHAT A LINE MAKES OF A SCRIPT
+-- THE SCRIPT AFTER A LINE
 
 -- the block of a worker begins
 abbrev pub began : ScriptModel → Object → ScriptModel
@@ -60,7 +60,7 @@ abbrev pub after_command : ScriptModel → Option BlockItem → ScriptModel
 after_command s None = s
 after_command s (Some o) = after_item s o
 
--- an `end` is that of the innermost repeat, else of the block, which then is the worker's program
+-- an `end` closes the innermost repeat, otherwise the block, which then is the worker's program
 abbrev pub ended_in : ScriptModel → Option Block → ScriptModel
 ended_in s None = s
 ended_in s (Some b) =
@@ -78,7 +78,7 @@ after_verb v s o ws = after_command s (command_in v (is_giving v) o ws)
 abbrev pub after : ScriptModel → Phrase → ScriptModel
 after s p = after_verb p.verb s (or_nothing (object_in s.heading p)) p.rest
 
--- LINES BEHIND THE WORKERS
+-- LINES AFTER THE WORKERS
 
 abbrev pub fault_or : Option Kind → ScriptModel → Result ScriptModel Kind
 fault_or None s = Ok s
@@ -93,7 +93,7 @@ abbrev pub headed_on : ScriptModel → Result HeadingModel HeadFault → Result 
 headed_on s (Ok h) = Ok (record s { heading = h })
 headed_on s (Err fault) = Err (kind_of_head fault)
 
--- no `worker` and no `schedule` line came yet
+-- whether no `worker` and no `schedule` line came yet
 abbrev pub is_declaring : ScriptModel → Bool
 is_declaring s = length s.named == 0 && length s.schedule == 0
 
@@ -102,7 +102,7 @@ abbrev pub opens_outer : List (List ℕ) → Bool
 opens_outer [] = false
 opens_outer (w ∷ ws) = option_map_or is_outer (parse_verb w) false
 
--- declarations stand before the first `worker` and `schedule` line
+-- declarations come before the first `worker` and `schedule` line
 unfoldable pub script_step : ScriptModel → List ℕ → Result ScriptModel Kind
 script_step s line =
     if is_declaring s && not (opens_outer (words_of line)) then headed_on s (head_step s.heading line)
@@ -118,7 +118,7 @@ abbrev pub after_limit : Version → Option ℕ → Result Stage Kind
 after_limit v None = Err kinds.BadNumber
 after_limit v (Some n) = if is_limit v n then Ok (Naming (bound v n)) else Err kinds.BadNumber
 
--- the digits behind the word `limit`, which are all that stands there
+-- the digits after the word `limit`, if nothing else follows it
 abbrev pub limit_digits : List (List ℕ) → Option (List ℕ)
 limit_digits (w ∷ n ∷ []) = if bytes_eq w (codes "limit") && is_number_form n then Some n else None
 limit_digits _ = None
@@ -135,7 +135,7 @@ LimitIs v (Err kind) stepped = stepped ≡ Err kind
 unfoldable pub limit_step : Version → List ℕ → Result Stage Kind
 limit_step v line = if nat_lt 8192 (length line) then Err kinds.BadLine else limit_or v (limit_digits (words_of line))
 
--- a script of this heading, before its blocks: each worker has the empty program
+-- a script with this header, before its blocks: each worker has the empty program
 abbrev pub script_of : HeadingModel → ScriptModel
 script_of h = record { heading = h; named = []; programs = replicate h.setup.workers []; block = None; schedule = [] }
 
@@ -156,7 +156,8 @@ step (Limiting v) line = limit_step v line
 step (Naming b) line = named_on (head_step (empty_heading b.version b.limit []) line)
 step (Reading s) line = read_on (script_step s line)
 
--- what a call returned and left is what the step gives; out of memory is reported only if the line has no fault
+-- what a function returned, and the state that it left, are those of the step; out of memory is
+-- reported only if the line has no fault
 abbrev pub StepFails : {S : Type 0} → StageFault → Result S Kind → Type 0
 StepFails faults.Memory stepped = IsOk stepped
 StepFails (faults.Of kind) stepped = stepped ≡ Err kind

@@ -1,10 +1,10 @@
--- Where there is room for one more line of a block.
+-- When there is room for one more line of a block.
 use Rattle.std.specs.Prelude.{◌≡◌, ◌<◌, false, Option, Some, None}
 use Rattle.ec_script.specs.declared.script.Block.{Block}
 use Rattle.ec_script.specs.declared.block_item.BlockItem.{BlockItem}
 use Rattle.ec_script.specs.DraftModel.{MayFollow}
 
--- the line may go on with the block, if one is open
+-- the line may come next in the block, if one is open
 abbrev pub MayOrder : Option Block → BlockItem → Type 0
 MayOrder None o = Unit {0}
 MayOrder (Some b) o = MayFollow b.draft o

@@ -1,4 +1,5 @@
--- A script, by what it says: a heading, the orders of each block, and the names on each line of the schedule.
+-- The syntax tree of a script: a header, the items of each block, and the names on each line of the
+-- schedule.
 use Rattle.std.specs.Prelude.{◌≡◌, ◌↔◌, ℕ, ◌<◌, ◌≤◌, ◌==◌, true, false, List, [], ◌∷◌, length, map, if◌then◌else◌}
 use Rattle.std.specs.List.{AllByRecursion, range_with_len}
 use Rattle.ec_count.specs.Members.{has_repeat}
@@ -17,7 +18,8 @@ pub record ScriptTree : Type 0 where
   pub blocks : List (ℕ × List BlockItem)
   pub rows : List (List ℕ)
 
--- the block of a declared worker: each order may be given to it, the repeats are properly nested, and there are at most 4096 commands
+-- the block of a declared worker: each item is allowed to it, the repeats are properly nested, and
+-- there are at most 4096 commands
 pub record IsGivenBlock (h : HeadingModel) (b : ℕ × List BlockItem) : Type 0 where
   pub worker : b.0 < h.setup.workers
   pub each : AllByRecursion (MayGive h b.0) b.1
@@ -35,7 +37,7 @@ pub record IsScriptTree (s : ScriptTree) : Type 0 where
   pub rows : AllByRecursion (IsRow s.outline.workers) s.rows
   pub few : length (concat_rows s.rows) ≤ 65536
 
--- the orders of a worker's block, none if it has no block
+-- the items of a worker's block, none if it has no block
 abbrev pub items_of_worker : List (ℕ × List BlockItem) → ℕ → List BlockItem
 items_of_worker [] w = []
 items_of_worker (b ∷ blocks) w = if b.0 == w then b.1 else items_of_worker blocks w
@@ -47,7 +49,7 @@ plan_of_tree s = record {
   schedule = concat_rows s.rows;
 }
 
--- the bytes spell a heading, blocks and a schedule, and the plan is what these say
+-- the bytes are the canonical encoding of a syntax tree, and the plan is what it says
 pub record IsSpelling (bytes : List ℕ) (p : PlanModel) : Type 0 where
   pub spelled : ScriptTree
   pub is : IsScriptTree spelled
@@ -55,6 +57,7 @@ pub record IsSpelling (bytes : List ℕ) (p : PlanModel) : Type 0 where
   pub within : length bytes ≤ SCRIPT_MAX
   pub plan : p ≡ plan_of_tree spelled
 
--- a text is a script of a plan exactly if it spells what the plan says
+-- a text is a script of a plan exactly if it is the canonical encoding of a syntax tree of that
+-- plan
 abbrev pub ScriptsAreSpelled : Type 0
 ScriptsAreSpelled = (bytes : List ℕ) (p : PlanModel) → IsScript bytes p ↔ IsSpelling bytes p

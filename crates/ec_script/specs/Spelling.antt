@@ -1,4 +1,4 @@
--- The one spelling of a line of a block, and so of a script.
+-- The canonical encoding of a line of a block, and so of a script.
 use Rattle.std.specs.Prelude.{◌≡◌, ℕ, Bool, false, List, [], ◌∷◌, ◌++◌, map, slice_get, codes, decimal, if◌then◌else◌}
 use Rattle.std.specs.Option.{option_map_or}
 use Rattle.std.specs.List.{flat_map, join_with_byte}
@@ -31,7 +31,7 @@ value_word (LastPlus n) = codes "last+" ++ decimal n
 
 -- GROUPS
 
--- whether the name stands for a group to which the object belongs
+-- whether the target of a name is a group to which the object belongs
 abbrev pub is_owner : List Group → Object → Target → Bool
 is_owner gs o (targets.Group i) = option_map_or (owns o) (slice_get gs i) false
 is_owner gs o _ = false
@@ -46,8 +46,8 @@ group_word h o = owner_word h.groups h.names o
 
 -- A LINE
 
--- the words of a command of one line; a group goes by the name that its first eventcount, or a semaphore by the one that its
--- sequencer, belongs to
+-- the words of a command of one line; the name of a group is found by its first eventcount, that of
+-- a semaphore by its sequencer
 abbrev pub command_words : HeadingModel → Command-F Command → List (List ℕ)
 command_words h (layer.Advance e) = codes "advance" ∷ target_name h.words (targets.Event e) ∷ []
 command_words h (layer.Read e) = codes "read" ∷ target_name h.words (targets.Event e) ∷ []
@@ -76,12 +76,13 @@ order_line h o = join_with_byte 32 (order_words h o)
 
 -- A SCRIPT
 
--- the block of a worker with these orders
+-- the lines of the block of a worker with these items
 abbrev pub spelled_block : HeaderTree → ℕ × List BlockItem → List (List ℕ)
 spelled_block o b = worker_line o.workers b.0 ∷ map (order_line (heading_of_tree o)) b.1
     ++ codes "end" ∷ []
 
--- the lines of a heading, of blocks, each by its worker and its orders, and of a schedule, each by its workers
+-- the lines of a header, of blocks, each given by its worker and its items, and of a schedule, each
+-- given by its workers
 abbrev pub script_lines : HeaderTree → List (ℕ × List BlockItem) → List (List ℕ) → List (List ℕ)
 script_lines o blocks rows = script_header o.version ∷ heading_lines o ++ (flat_map (spelled_block o) blocks ++ map (schedule_line o.workers) rows)
 
@@ -92,12 +93,13 @@ script_text o blocks rows = lines_text (script_lines o blocks rows)
 abbrev pub ordered_blocks : List Block → List (ℕ × List BlockItem)
 ordered_blocks blocks = map (λ (b : Block). (b.worker, orders_of b.lines)) blocks
 
--- LAWS
+-- THEOREMS
 
--- a line that says an order is the one that spells it
+-- a line that says an item is its canonical encoding
 abbrev pub LinesAreSpelled : Type 0
 LinesAreSpelled = (o : HeaderTree) (w : ℕ) (line : List ℕ) (order : BlockItem) → IsHeaderTree o → IsLineOfItem (heading_of_tree o) w line order → line ≡ order_line (heading_of_tree o) order
 
--- and so the text of a layout is the one that spells its heading, its blocks by their workers and orders, and its schedule
+-- so the text of a layout is the canonical encoding of its header, its blocks as workers and items,
+-- and its schedule
 abbrev pub LayoutsAreSpelled : Type 0
 LayoutsAreSpelled = (l : Layout) → IsLayout l → lines_text (layout_lines l) ≡ script_text l.outline (ordered_blocks l.blocks) l.rows

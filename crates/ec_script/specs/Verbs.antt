@@ -31,7 +31,7 @@ procedure_verb_of w =
     else (if bytes_eq w (codes "v") then Some verbs.Up
     else (if bytes_eq w (codes "pboth") then Some verbs.DownBoth else None))))))
 
--- the words that order the lines
+-- the words that structure programs and scripts
 abbrev pub order_verb_of : List ℕ → Option LineWord
 order_verb_of w =
     if bytes_eq w (codes "repeat") then Some verbs.Repeat
@@ -43,7 +43,7 @@ abbrev pub or_else : Option LineWord → Option LineWord → Option LineWord
 or_else None other = other
 or_else (Some v) other = Some v
 
--- what a line that opens with this word does
+-- the line word that a word is
 abbrev pub parse_verb : List ℕ → Option LineWord
 parse_verb w = or_else (raw_verb_of w) (or_else (procedure_verb_of w) (order_verb_of w))
 
@@ -56,14 +56,14 @@ has_verb v _ = true
 
 -- THE FORMS
 
--- whether the word of an object or of a worker stands behind it
+-- whether the word of an object or of a worker follows it
 abbrev pub has_object : LineWord → Bool
 has_object verbs.Repeat = false
 has_object verbs.End = false
 has_object verbs.Schedule = false
 has_object _ = true
 
--- what stands behind that
+-- the form of what follows these
 abbrev pub tail_of : LineWord → Tail
 tail_of verbs.Await = tails.Value
 tail_of verbs.Put = tails.Value
@@ -78,7 +78,7 @@ tail_of _ = tails.Nothing
 
 -- WHAT THEY DO
 
--- whether it signals, writes or produces; else it observes, reads, consumes or hands over
+-- whether it signals, writes or produces
 abbrev pub is_giving : LineWord → Bool
 is_giving verbs.Advance = true
 is_giving verbs.Put = true
@@ -86,7 +86,7 @@ is_giving verbs.Produce = true
 is_giving verbs.Write = true
 is_giving _ = false
 
--- whether it opens a block or goes on with the schedule; else it stands in a block
+-- whether it opens a block or goes on with the schedule; otherwise it is inside a block
 abbrev pub is_outer : LineWord → Bool
 is_outer verbs.Worker = true
 is_outer verbs.Schedule = true

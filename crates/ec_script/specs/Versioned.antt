@@ -31,9 +31,9 @@ HasOrder v o = has_order v o ≡ true
 abbrev pub HasOrders : Version → List (List BlockItem) → Type 0
 HasOrders v programs = AllByRecursion (AllByRecursion (HasOrder v)) programs
 
--- WRITTEN OUT
+-- UNROLLED
 
--- each command that a program comes to, with its repeats written out
+-- each command of a program with its repeats unrolled
 abbrev pub HasProgram : Version → List Command → Type 0
 HasProgram v cs = AllByRecursion (λ c. has_command v (out-Command c) ≡ true) (unroll cs)
 

@@ -1,4 +1,4 @@
-//! What the lines of a block say.
+//! Parsed lines of a block.
 use ec_database::DatabaseShape;
 use ec_machine::{Command, Value};
 use std::marker::Model;
@@ -18,15 +18,15 @@ impl Model for Values {
     ghost view = { λ v. v.items.items };
 }
 
-/// What a line of a block says. A block of commands is the list of its lines: those of a repeat are
-/// its own, those of its commands, and an `end`.
+/// A parsed line of a block. A block of commands is the list of its lines. The lines of a repeat
+/// are its own, those of its commands, and an `end`.
 #[derive(Drop)]
 pub enum BlockItem {
-    /// A command that is no repeat and holds no list.
+    /// A command that is no repeat and has no list.
     Do(Command),
     /// The command that writes these values into a database, one for each of its cells.
     Write(DatabaseShape, Values),
-    /// A repeat begins, of so many times.
+    /// A repeat begins, of this many times.
     Begin(u64),
     /// The innermost repeat ends.
     End,

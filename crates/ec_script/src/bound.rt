@@ -1,4 +1,4 @@
-//! The limit of a script, under its version.
+//! The version and the limit of a script.
 ghost use Rattle.std.specs.Prelude.{◌≡◌, ◌≤◌, [], IfOk};
 ghost use Rattle.ec_heading.specs.HeaderTree.{empty_heading};
 ghost use Rattle.ec_heading.specs.Versions.{greatest_limit};
@@ -9,7 +9,7 @@ use ec_heading::{Heading, Version};
 use std::alloc::{AllocError, Global};
 use std::marker::Model;
 
-/// A version, and a limit that a text of it may have: the heading in which nothing is declared yet.
+/// A version, and a limit that its texts may have. It is stored as a header that declares nothing.
 #[derive(Drop)]
 pub(crate) struct Bound {
     heading: Heading,
@@ -28,7 +28,7 @@ impl Model for Bound {
 }
 
 impl Bound {
-    /// Makes a limit that a text of the version may have.
+    /// Makes a bound of this version and limit.
     pub(crate) fn new(alloc: Global, version: Version, limit: Limit) -> Result<Self, AllocError>
         requires { limit ≤ greatest_limit version }
         ensures { IfOk result (λ bound. bound ≡ bound version limit) }
@@ -37,7 +37,7 @@ impl Bound {
         Ok(Bound { heading })
     }
 
-    /// Returns the heading of this version with this limit, and nothing declared.
+    /// Returns the header of this version with this limit, which declares nothing.
     pub(crate) fn into_heading(self) -> Heading
         ensures { result ≡ empty_heading self.version self.limit [] }
     {

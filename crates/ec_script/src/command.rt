@@ -1,4 +1,4 @@
-//! The command that a line of a block says.
+//! The command of a line of a block.
 ghost use Rattle.std.specs.Prelude.{◌≡◌, ◌==◌, false, true, IfOk, IfSome, map, length};
 ghost use Rattle.std.specs.List.{list_all};
 ghost use Rattle.std.specs.Option.{option_and_then};
@@ -22,7 +22,7 @@ use ec_semaphore::SemaphoreShape;
 use ec_text::number;
 use std::alloc::{AllocError, Global};
 
-/// Returns the value that the only word spells.
+/// Returns the value of the only word; `last` if there is none.
 fn amount_in(rest: Option<&[u8]>) -> Value
     ensures value { result ≡ amount_in (rest_words rest.entry) }
     ensures sound { is_value result ≡ true }
@@ -33,7 +33,7 @@ fn amount_in(rest: Option<&[u8]>) -> Value
     }
 }
 
-/// Returns the number that the only word spells, 0 if it spells none.
+/// Returns the number of the only word; 0 if there is none.
 pub(crate) fn size_in(rest: Option<&[u8]>) -> u64
     ensures { result ≡ size_in (rest_words rest.entry) }
 {
@@ -46,7 +46,7 @@ pub(crate) fn size_in(rest: Option<&[u8]>) -> u64
     }
 }
 
-/// Returns the values that words spell.
+/// Returns the values of the words.
 fn amounts_in(alloc: Global, rest: Option<&[u8]>) -> Result<Values, AllocError>
     ensures value { IfOk result (λ values. values ≡ map amount_of (rest_words rest.entry)) }
     ensures sound { IfOk result (λ values. list_all is_value values ≡ true) }
@@ -104,7 +104,7 @@ fn semaphore_order(verb: LineWord, shape: SemaphoreShape) -> BlockItem
     }
 }
 
-/// Returns the order to write these values into a database.
+/// Returns the item that writes these values into a database.
 #[tactic(auto, using(crate::proofs::Sizes::as_many))]
 fn write_order(
     alloc: Global,
@@ -118,7 +118,7 @@ fn write_order(
     Ok(BlockItem::Write(shape, amounts_in(alloc, rest)?))
 }
 
-/// Returns the order to read a database in at most so many tries.
+/// Returns the item that reads a database in at most this many tries.
 #[tactic(auto, using(crate::proofs::Sizes::size_sound))]
 fn snapshot_order(shape: DatabaseShape, rest: Option<&[u8]>) -> BlockItem
     requires { is_count 1000 (option_and_then number_in_word (only_in (rest_words rest))) ≡ true }
@@ -129,7 +129,7 @@ fn snapshot_order(shape: DatabaseShape, rest: Option<&[u8]>) -> BlockItem
     BlockItem::Do(Command::Snapshot(shape, size_in(rest) as usize))
 }
 
-/// Returns what a line says that does this with a database.
+/// Returns the item of a line about a database; `None` if the verb is none of a database.
 fn database_order(
     alloc: Global,
     verb: LineWord,
@@ -147,7 +147,7 @@ fn database_order(
     }
 }
 
-/// Returns what a line says of the worker's commands; none if it is about nothing.
+/// Returns the item of a line with this object; `None` if no command has such an object.
 pub(crate) fn command_in(
     alloc: Global,
     parts: &Parts<'_>,

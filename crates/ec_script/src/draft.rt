@@ -1,4 +1,4 @@
-//! A block of commands that is being read.
+//! A builder of a block of commands.
 ghost use Rattle.std.specs.Prelude.{◌≡◌, ◌<◌, ◌≤◌, ◌∷◌, [], ◌++◌, length, true, false, OnOk, ◌==◌};
 ghost use Rattle.std.specs.List.{list_all};
 ghost use Rattle.ec_machine.specs.Limits.{is_sound_one, is_value};
@@ -12,15 +12,15 @@ use std::alloc::{AllocError, Global};
 use std::marker::Model;
 use std::mem;
 
-/// A repeat that is not closed yet: how many times, and the commands before it.
+/// An open repeat: how many times, and the commands before it in its block.
 #[derive(Drop)]
 pub(crate) struct OpenRepeat {
     times: u64,
     before: Vec<Command>,
 }
 
-/// A block that is being read: the commands of its innermost open repeat, and those round it, the
-/// outermost first.
+/// A builder of a block: the commands of its innermost open repeat, the repeats around it, the
+/// outermost first, and the number of commands.
 #[derive(Drop)]
 pub(crate) struct Draft {
     current: Vec<Command>,
@@ -48,7 +48,7 @@ impl Model for Draft {
 }
 
 impl Draft {
-    /// Makes a block without a line.
+    /// Makes a builder of a block without a line.
     pub(crate) fn new(alloc: Global) -> Self
         ensures { result ≡ empty_draft }
     {
@@ -60,7 +60,7 @@ impl Draft {
         }
     }
 
-    /// Adds a command that holds no list.
+    /// Adds a command that has no list.
     fn add(&mut self, command: Command) -> Result<(), AllocError>
         requires plain { is_plain command ≡ true }
         requires sound { is_sound_one command ≡ true }
@@ -114,7 +114,7 @@ impl Draft {
         Ok(())
     }
 
-    /// Takes one more line.
+    /// Adds one more line.
     pub(crate) fn take(&mut self, order: BlockItem) -> Result<(), AllocError>
         requires { MayFollow self.old order }
         ensures { OnOk result (self.new ≡ draft_with_item self.old order) }
@@ -150,7 +150,7 @@ impl Draft {
 }
 
 impl Draft {
-    /// Returns the program that was read.
+    /// Returns the program.
     pub(crate) fn finish(self) -> Program
         requires { self.depth ≡ 0 }
         ensures { flat result ≡ self.orders }

@@ -9,7 +9,7 @@ use crate::verb::{LineWord, Tail, parse_verb};
 use ec_machine::Value;
 use ec_text::{cut_word, is_number_form, number};
 
-/// A line of one of the forms, by its words: the object has no bytes if the form has none.
+/// The words of a line of one of the forms. The object is empty if the form has none.
 #[derive(Clone, Copy)]
 pub(crate) struct Parts<'a> {
     pub(crate) verb: LineWord,
@@ -17,7 +17,7 @@ pub(crate) struct Parts<'a> {
     pub(crate) rest: Option<&'a [u8]>,
 }
 
-/// Returns the digits behind `last+`.
+/// Returns the digits after `last+`.
 fn more_of(word: &[u8]) -> Option<&[u8]>
     ensures { option_map (λ m. m.now) result ≡ more_in word.now }
 {
@@ -37,7 +37,7 @@ fn is_value_form(word: &[u8]) -> bool
     }
 }
 
-/// Returns the value that a word spells, if its number is in range.
+/// Returns the value of a word; `None` if it is none or its number is out of range.
 #[tactic(auto, unfolding(crate::specs::Forms::value_of))]
 pub(crate) fn parse_value(word: &[u8]) -> Option<Value>
     ensures value { result ≡ value_of word.now }
@@ -72,7 +72,7 @@ fn are_value_forms(list: &[u8]) -> bool
     }
 }
 
-/// Returns the only word that is left, if it is the only one.
+/// Returns the only word that is left; `None` if there is not exactly one.
 #[tactic(auto, using(crate::proofs::Words::only_word))]
 pub(crate) fn only_word(rest: Option<&[u8]>) -> Option<&[u8]>
     ensures { option_map (λ w. w.now) result ≡ only_in (rest_words rest.entry) }
@@ -83,7 +83,7 @@ pub(crate) fn only_word(rest: Option<&[u8]>) -> Option<&[u8]>
     Some(word)
 }
 
-/// Returns whether this is such a tail.
+/// Returns whether the words that are left have the form of the tail.
 #[tactic(auto, using(crate::proofs::Words::some_words))]
 fn is_tail(tail: Tail, rest: Option<&[u8]>) -> bool
     ensures { result ≡ is_tail tail (rest_words rest.entry) }
@@ -107,7 +107,7 @@ fn is_tail(tail: Tail, rest: Option<&[u8]>) -> bool
     }
 }
 
-/// Returns the parts of a line from what stands behind its object on.
+/// Returns the parts of a line, given what follows its object; `None` if that has a wrong form.
 fn parts_after_object<'a>(
     verb: LineWord,
     object: &'a [u8],
@@ -122,7 +122,7 @@ fn parts_after_object<'a>(
     Some(Parts { verb, object, rest })
 }
 
-/// Returns the parts of a line of one of the forms.
+/// Returns the parts of a line; `None` if it has none of the forms.
 #[tactic(auto, unfolding(crate::specs::Forms::phrase_in))]
 pub(crate) fn split_line(line: &[u8]) -> Option<Parts<'_>>
     ensures { option_map phrase_of_parts result ≡ phrase_in (words_of line.now) }

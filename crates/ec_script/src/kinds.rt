@@ -1,4 +1,4 @@
-//! Why a line behind the declarations is refused.
+//! The faults of a line after the declarations.
 ghost use Rattle.std.specs.Prelude.{◌≡◌, ◌+◌, ◌==◌, ◌||◌, not, nat_lt, length, option_map};
 ghost use Rattle.std.specs.Option.{option_and_then};
 ghost use Rattle.std.specs.List.{list_any};
@@ -18,8 +18,8 @@ use ec_heading::{Heading, Version, count_words, has_unknown};
 use ec_machine::{COMMANDS_MAX, NESTING_MAX, TIMES_MAX, TRIES_MAX, are_apart};
 use ec_text::number;
 
-/// The block that a line stands in: its worker, how many repeats are open there, whether the
-/// innermost has no command yet, and how many commands there are.
+/// The block that a line is in: its worker, how many repeats are open, whether the innermost has no
+/// command yet, and how many commands there are.
 #[derive(Clone, Copy)]
 pub(crate) struct BlockContext {
     pub(crate) worker: WorkerId,
@@ -28,7 +28,8 @@ pub(crate) struct BlockContext {
     pub(crate) commands: usize,
 }
 
-/// Where a line stands.
+/// What the faults of a line depend on: the header, the workers whose blocks began, the open block,
+/// and how many names the schedule has.
 #[derive(Clone, Copy)]
 pub(crate) struct LineContext<'a> {
     pub(crate) heading: &'a Heading,
@@ -40,7 +41,7 @@ pub(crate) struct LineContext<'a> {
 /// The greatest number of names in a schedule.
 const SCHEDULE_MAX: usize = 65536;
 
-/// Returns whether such a line may stand there.
+/// Returns whether a line with this verb is allowed here.
 fn is_allowed(verb: LineWord, in_block: bool, scheduled: usize) -> bool
     ensures { result ≡ is_allowed verb in_block scheduled }
 {
@@ -51,14 +52,14 @@ fn is_allowed(verb: LineWord, in_block: bool, scheduled: usize) -> bool
     }
 }
 
-/// Returns whether a worker stands in the list.
+/// Returns whether a worker is in the list.
 fn is_member(worker: WorkerId, named: &[WorkerId]) -> bool
     ensures { result ≡ is_member worker named.now }
 {
     named.iter().any(|id| id.get() == worker.get())
 }
 
-/// Returns whether the block of this worker began before.
+/// Returns whether the object is a worker whose block began before.
 fn is_named_again(named: &[WorkerId], object: &Object) -> bool
     ensures { result ≡ is_named_again named.now object.now }
 {
@@ -78,7 +79,7 @@ fn has_unknown_name(heading: &Heading, parts: &Parts<'_>) -> bool
     }
 }
 
-/// Returns how many cells a database has.
+/// Returns how many cells a database has; 0 for another object.
 fn cells_of(object: &Object) -> usize
     ensures { result ≡ cells_of object.now }
 {
@@ -88,7 +89,7 @@ fn cells_of(object: &Object) -> usize
     }
 }
 
-/// Returns the greatest count of a repeat, and of tries.
+/// Returns the greatest count of a repeat, or of tries.
 fn greatest(verb: LineWord) -> u64
     ensures { result ≡ greatest verb }
 {
@@ -98,14 +99,14 @@ fn greatest(verb: LineWord) -> u64
     }
 }
 
-/// Returns whether this is no value in its range.
+/// Returns whether a word is no value in its range.
 fn is_no_value(word: &[u8]) -> bool
     ensures { result ≡ is_no_value word.now }
 {
     parse_value(word).is_none()
 }
 
-/// Returns whether the values are out of range, or not so many.
+/// Returns whether some value is out of range, or there are not as many as cells.
 fn are_bad_values(rest: Option<&[u8]>, cells: usize) -> bool
     ensures { result ≡ list_any is_no_value (rest_words rest.entry) || not (length (rest_words rest.entry) == cells) }
 {
@@ -115,7 +116,7 @@ fn are_bad_values(rest: Option<&[u8]>, cells: usize) -> bool
     }
 }
 
-/// Returns whether digits spell a number from 1 to the greatest.
+/// Returns whether the digits are a number from 1 to the greatest.
 fn is_count(most: u64, digits: Option<&[u8]>) -> bool
     ensures { result ≡ is_count most (option_and_then number_in_word (option_map (λ w. w.now) digits.entry)) }
 {
@@ -153,7 +154,7 @@ fn count_rest(rest: Option<&[u8]>) -> usize
     }
 }
 
-/// Returns whether so many names and so many more are too many for a schedule.
+/// Returns whether a schedule of this many names and this many more is too long.
 fn is_over(scheduled: usize, more: usize) -> bool
     ensures { result ≡ nat_lt 65536 (scheduled + more) }
 {
@@ -181,9 +182,9 @@ fn has_two_roles(object: &Object) -> bool
     }
 }
 
-/// Returns whether a script of this version may have the worker signal the eventcount: under
-/// version 1 its declared signallers alone; under version 2 who signals it shows when the program
-/// runs.
+/// Returns whether a script of this version may have the worker signal the eventcount. In version 1
+/// only its declared signallers may. In version 2 the right is tested when the program runs, since
+/// components may be handed over.
 fn may_signal(version: Version, setup: &Setup, event: EventId, worker: WorkerId) -> bool
     ensures { result ≡ may_signal version setup.now event worker }
 {
@@ -200,7 +201,7 @@ fn are_declared(setup: &Setup, event: EventId, worker: WorkerId) -> bool
     event.get() < setup.events() && worker.get() < setup.workers()
 }
 
-/// Returns whether a script of this version may have the worker do such a thing with the object.
+/// Returns whether a script of this version may have the worker use the object in this way.
 fn has_right(
     version: Version,
     setup: &Setup,
@@ -252,7 +253,7 @@ fn has_right(
     }
 }
 
-/// Returns whether the worker of the block lacks the right to do such a thing with the object.
+/// Returns whether the worker of the block lacks the right to use the object as the verb does.
 fn lacks_right(
     heading: &Heading,
     block: Option<BlockContext>,
@@ -273,8 +274,8 @@ fn lacks_right(
     }
 }
 
-/// Returns whether a line stands inside a block that must not, a fifth repeat in the others, or an
-/// `end` of a repeat without a command.
+/// Returns whether a line that must not be inside a block is, or a fifth repeat is inside the
+/// others, or an `end` closes a repeat without a command.
 fn is_badly_nested(verb: LineWord, block: Option<BlockContext>) -> bool
     ensures { result ≡ is_badly_nested verb block }
 {
@@ -289,7 +290,7 @@ fn is_badly_nested(verb: LineWord, block: Option<BlockContext>) -> bool
     }
 }
 
-/// Returns the object, or nothing.
+/// Returns the object, or `Nothing`.
 pub(crate) fn or_nothing(object: Option<Object>) -> Object
     ensures { result ≡ or_nothing object }
 {
@@ -299,8 +300,8 @@ pub(crate) fn or_nothing(object: Option<Object>) -> Object
     }
 }
 
-/// Returns the least fault of a line that has one of the forms; `meant` is what its word for an
-/// object means.
+/// Returns the least fault of a line that has one of the forms; `found` is its object, if it names
+/// a declared one of the right kind.
 pub(crate) fn phrase_fault(
     view: &LineContext<'_>,
     parts: &Parts<'_>,

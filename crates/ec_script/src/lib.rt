@@ -1,4 +1,4 @@
-//! Scripts: read exactly by their grammar.
+//! A parser of scripts that accepts exactly their grammar.
 #![tactic(auto)]
 
 mod block_item;

@@ -1,4 +1,4 @@
-//! What the word of an object stands for.
+//! The object of a line.
 ghost use Rattle.std.specs.Prelude.{◌≡◌};
 ghost use Rattle.std.specs.Option.{option_and_then};
 ghost use Rattle.ec_heading.specs.Groups.{both_of};
@@ -15,7 +15,7 @@ use ec_database::DatabaseShape;
 use ec_heading::{Group, Heading, both_of};
 use ec_semaphore::SemaphoreShape;
 
-/// What a line is about.
+/// The object of a line: what its words name.
 #[derive(Clone, Copy)]
 pub(crate) enum Object {
     Nothing,
@@ -28,7 +28,7 @@ pub(crate) enum Object {
     OfBuffer(BufferShape),
     OfDatabase(DatabaseShape),
     OfSemaphore(SemaphoreShape),
-    /// The common semaphore, and two others.
+    /// The common semaphore of `both`, and the two that the line names.
     SemaphorePair(SemaphoreShape, SemaphoreShape, SemaphoreShape),
 }
 
@@ -82,8 +82,8 @@ fn find_transfer(heading: &Heading, parts: &Parts<'_>) -> Option<Object>
     Some(Object::Handed(event, to))
 }
 
-/// Returns what a line is about: the declared object, of the sort that its verb asks for, that its
-/// word spells.
+/// Returns the object of a line: the declared one that its word names, if it is of the kind that
+/// the verb takes.
 pub(crate) fn object_in(heading: &Heading, parts: &Parts<'_>) -> Option<Object>
     ensures { result ≡ object_in heading.now (phrase_of_parts parts.now) }
 {

@@ -1,4 +1,4 @@
-//! Whole scripts.
+//! The parser of whole scripts.
 ghost use Rattle.std.specs.Prelude.{◌≡◌, ◌<◌, ◌^◌, Err, IfOk, length};
 ghost use Rattle.ec_script.specs.Confined.{AreConfinedPrograms, IsPlan};
 ghost use Rattle.ec_script.specs.Outcome.{Returns, parse_end, fault_at, plan_or_fault, first_or_empty, goes, long_kind, outcome, lines_of_text, plan_in, shown_plan, after_line};
@@ -14,7 +14,7 @@ use std::alloc::Global;
 /// The most bytes that a script may have.
 pub const SCRIPT_MAX: usize = 1_048_576;
 
-/// Returns why a line was not taken, with its number.
+/// Returns the fault of a line, with the line's number.
 fn fault_at(line: u64, fault: StageFault) -> ScriptFault
     ensures { result ≡ fault_at line fault }
 {
@@ -24,7 +24,7 @@ fn fault_at(line: u64, fault: StageFault) -> ScriptFault
     }
 }
 
-/// Returns the first line.
+/// Returns the first line of a text.
 #[tactic(auto, using(crate::proofs::Lines::first_lines))]
 fn first_line(text: &[u8]) -> &[u8]
     ensures { result.now ≡ first_or_empty (lines_of_text text.now) }
@@ -83,7 +83,7 @@ fn finish(alloc: Global, stage: Stage, line: u64, rest: &[u8]) -> Result<Plan, S
     }
 }
 
-/// Returns what a text within the bound comes to.
+/// Parses a text within the bound.
 fn parse_lines(alloc: Global, text: &[u8]) -> Result<Plan, ScriptFault>
     requires { length text.now < 2 ^ 32 }
     ensures { Returns (goes 1 Stage.Opening (lines_of_text text.now)) result }
@@ -101,12 +101,13 @@ fn parse_lines(alloc: Global, text: &[u8]) -> Result<Plan, ScriptFault>
     finish(alloc, stage, number, rest)
 }
 
-/// Returns the plan that a script says, or its first faulty line with the least kind of its faults.
+/// Returns the plan of a script, or its first faulty line with the least kind of its faults.
 ///
 /// Lines are counted from 1. A line is judged by those before it. A last line without its LF is
-/// judged like every line, and then the text is unfinished; so is one that ends before its line of
-/// workers or inside a block. Of a text of more than 1048576 bytes line 1 alone is looked at: too
-/// many if it is the first line of a version.
+/// judged like every line; if it has no other fault the text is `Unfinished`. So is a text that
+/// ends before its line of workers or inside a block. Of a text of more than 1048576 bytes only
+/// line 1 is read: the kind is `TooMany` if it is the first line of a version, otherwise
+/// `BadHeader`.
 #[tactic(auto, unfolding(crate::specs::Outcome::outcome))]
 pub fn parse(alloc: Global, text: &[u8]) -> Result<Plan, ScriptFault>
     ensures tells { Returns (outcome text.now) result }

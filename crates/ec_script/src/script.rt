@@ -1,4 +1,4 @@
-//! What the lines of a script have built, behind its line of workers.
+//! The state of the parser after the line of workers.
 ghost use Rattle.std.specs.Prelude.{◌≡◌, ◌++◌, [], false, map, option_map, replicate, length, slice_set, OnOk, IfOk, None, Some};
 ghost use Rattle.ec_heading.specs.Heading.{head_step};
 ghost use Rattle.ec_heading.specs.Lists.{ids_in};
@@ -29,7 +29,7 @@ use ec_text::{cut_word, has_blank};
 use std::alloc::{AllocError, Global};
 use std::marker::Model;
 
-/// The block of a worker that is being read.
+/// The open block of a worker.
 #[derive(Drop)]
 pub(crate) struct Block {
     worker: WorkerId,
@@ -37,7 +37,7 @@ pub(crate) struct Block {
 }
 
 impl Block {
-    /// Returns what a line sees of it.
+    /// Returns what the faults of a line depend on.
     fn view(&self) -> BlockContext
         ensures { result ≡ view_of_block self.now }
     {
@@ -50,7 +50,8 @@ impl Block {
     }
 }
 
-/// What the lines have built.
+/// The header, the workers whose blocks began, the programs, the open block and the schedule, after
+/// the lines so far.
 #[derive(Drop)]
 pub(crate) struct Script {
     heading: Heading,
@@ -86,7 +87,7 @@ fn empty_program(alloc: Global) -> Program
     program
 }
 
-/// Makes so many empty programs.
+/// Returns this many empty programs.
 #[tactic(auto, using(crate::proofs::Drafts::flats_none))]
 fn empty_programs(alloc: Global, n: usize) -> Result<Vec<Program>, AllocError>
     ensures items { IfOk result (λ programs. programs.items ≡ replicate n []) }
@@ -99,7 +100,7 @@ fn empty_programs(alloc: Global, n: usize) -> Result<Vec<Program>, AllocError>
     Ok(programs)
 }
 
-/// Puts a program at a place, where there is one.
+/// Stores a program at a place, if there is one.
 fn set_program(programs: &mut Vec<Program>, place: usize, program: Program)
     ensures { map flat programs.new.items ≡ slice_set (map flat programs.old.items) place (flat program) }
 {
@@ -109,7 +110,7 @@ fn set_program(programs: &mut Vec<Program>, place: usize, program: Program)
 }
 
 impl Script {
-    /// Makes a script of this heading, before its blocks.
+    /// Makes a script with this header, before its blocks.
     pub(crate) fn new(alloc: Global, heading: Heading) -> Result<Self, AllocError>
         ensures { IfOk result (λ script. script ≡ script_of heading) }
     {
@@ -124,7 +125,7 @@ impl Script {
         })
     }
 
-    /// Returns the block that a line stands in.
+    /// Returns the block that the next line is in.
     fn block_view(&self) -> Option<BlockContext>
         ensures { result ≡ option_map view_of_block self.now.block }
     {
@@ -141,7 +142,7 @@ impl Script {
         self.schedule.len()
     }
 
-    /// Returns the least fault of a line of one of the forms, whose word for an object means this.
+    /// Returns the least fault of a line of one of the forms, which has this object.
     fn fault(&self, parts: &Parts<'_>, found: &Option<Object>) -> Option<Kind>
         ensures { result ≡ phrase_fault (context_of_script self.now) (phrase_of_parts parts.now)
             found.now }
@@ -168,7 +169,7 @@ impl Script {
         Ok(())
     }
 
-    /// Takes one more line of the block.
+    /// Adds one more line to the block.
     fn order(&mut self, order: BlockItem) -> Result<(), AllocError>
         requires { MayOrder self.old.block order }
         ensures { OnOk result (self.new ≡ after_item self.old order) }
@@ -183,7 +184,7 @@ impl Script {
         Ok(())
     }
 
-    /// Takes a command.
+    /// Adds a command to the block.
     #[tactic(auto, using(crate::proofs::Room::may_command))]
     fn command(&mut self, parts: &Parts<'_>, object: &Object) -> Result<(), AllocError>
         requires numbers { is_bad_tail (tail_of parts.now.verb) parts.now.verb (rest_words parts.now.rest) object.now ≡ false }
@@ -244,7 +245,7 @@ impl Script {
         }
     }
 
-    /// Takes a line of one of the forms.
+    /// Reads a line of one of the forms.
     fn phrase(&mut self, parts: &Parts<'_>) -> Result<(), StageFault>
         ensures { Steps result (after_phrase self.old (Some (phrase_of_parts parts.now))) self.new }
     {
@@ -258,7 +259,7 @@ impl Script {
         }
     }
 
-    /// Takes a declaration.
+    /// Reads a declaration.
     #[tactic(auto, using(crate::proofs::HeadFails::fails_on))]
     fn declare(&mut self, line: &[u8]) -> Result<(), StageFault>
         ensures { Steps result (headed_on self.old (head_step self.old.heading line.now)) self.new }
@@ -276,7 +277,7 @@ impl Script {
         self.named.is_empty() && self.schedule.is_empty()
     }
 
-    /// Takes the next line, without its LF.
+    /// Reads the next line, without its LF.
     #[tactic(auto, unfolding(crate::specs::Reading::script_step))]
     pub(crate) fn line(&mut self, line: &[u8]) -> Result<(), StageFault>
         ensures { Steps result (script_step self.old line.now) self.new }

@@ -1,4 +1,4 @@
-//! What the lines of a script so far have built, from its first line on.
+//! The state of the parser, from the first line of a script on.
 ghost use Rattle.std.specs.Prelude.{◌≡◌, ◌≤◌, option_map, IfOk};
 ghost use Rattle.ec_heading.specs.Versions.{greatest_limit, version_of};
 ghost use Rattle.ec_script.specs.Headers.{script_header};
@@ -16,16 +16,16 @@ use ec_text::{cut_word, is_number_form, number};
 use std::alloc::Global;
 use std::mem;
 
-/// What the lines so far have built.
+/// The state of the parser after the lines so far.
 #[derive(Drop)]
 pub(crate) enum Stage {
-    /// Nothing.
+    /// No line was read.
     Opening,
-    /// The first line came, of this version.
+    /// After the first line, of this version.
     Limiting(Version),
-    /// The limit came, and the workers are due.
+    /// After the line of the limit.
     Naming(Bound),
-    /// The workers came.
+    /// After the line of the workers.
     Reading(Script),
 }
 
@@ -42,7 +42,7 @@ pub(crate) fn parse_version(line: &[u8]) -> Option<Version>
     None
 }
 
-/// Returns the digits behind the word `limit`, which are all that stands there.
+/// Returns the digits after the word `limit`, if nothing else follows it.
 #[tactic(auto, using(crate::proofs::Words::third_word))]
 fn limit_digits(line: &[u8]) -> Option<&[u8]>
     ensures { option_map (λ w. w.now) result ≡ limit_digits (words_of line.now) }
@@ -60,7 +60,7 @@ fn limit_digits(line: &[u8]) -> Option<&[u8]>
     }
 }
 
-/// Returns the limit that a line gives, one that the version may have.
+/// Returns the limit of a line, if the version allows it.
 fn parse_limit(version: Version, line: &[u8]) -> Result<Limit, Kind>
     ensures value { LimitIs version result (limit_or version (limit_digits (words_of line.now))) }
     ensures within { IfOk result (λ limit. limit ≤ greatest_limit version) }
@@ -78,7 +78,7 @@ fn parse_limit(version: Version, line: &[u8]) -> Result<Limit, Kind>
 }
 
 impl Stage {
-    /// Takes the first line.
+    /// Reads the first line.
     #[tactic(auto, unfolding(crate::specs::Reading::step))]
     fn open(&mut self, line: &[u8]) -> Result<(), StageFault>
         requires { self.old ≡ Stage.Opening }
@@ -91,7 +91,7 @@ impl Stage {
         Ok(())
     }
 
-    /// Takes the line of the limit.
+    /// Reads the line of the limit.
     #[tactic(auto, unfolding(crate::specs::Reading::step, crate::specs::Reading::limit_step))]
     fn limit(&mut self, alloc: Global, version: Version, line: &[u8]) -> Result<(), StageFault>
         requires { self.old ≡ Stage.Limiting version }
@@ -111,7 +111,7 @@ impl Stage {
         Ok(())
     }
 
-    /// Takes the line of the workers.
+    /// Reads the line of the workers.
     #[tactic(auto, using(crate::proofs::HeadFails::fails_named), unfolding(crate::specs::Reading::step))]
     fn name(&mut self, alloc: Global, bound: Bound, line: &[u8]) -> Result<(), StageFault>
         ensures { Steps result (step (Stage.Naming bound) line.now) self.new }
@@ -127,7 +127,7 @@ impl Stage {
         Ok(())
     }
 
-    /// Takes the next line, without its LF.
+    /// Reads the next line, without its LF.
     #[tactic(auto, unfolding(crate::specs::Reading::step))]
     pub(crate) fn line(&mut self, alloc: Global, line: &[u8]) -> Result<(), StageFault>
         ensures { Steps result (step self.old line.now) self.new }

@@ -4,7 +4,7 @@ ghost use Rattle.ec_script.specs.Verbs.{raw_verb_of, procedure_verb_of, order_ve
 
 use ec_heading::Version;
 
-/// What a line of a block does, or a line that opens a block or goes on with the schedule.
+/// The first word of a line of a block, of a line that opens a block, or of the schedule.
 #[derive(Clone, Copy, Debug, PartialEq, Eq)]
 pub(crate) enum LineWord {
     Advance,
@@ -27,7 +27,7 @@ pub(crate) enum LineWord {
     Schedule,
 }
 
-/// What stands behind the object of a line.
+/// The form of what follows the object of a line.
 #[derive(Clone, Copy, Debug, PartialEq, Eq)]
 pub(crate) enum Tail {
     Nothing,
@@ -43,7 +43,7 @@ pub(crate) enum Tail {
     Words,
 }
 
-/// Returns the raw call that a word stands for.
+/// Returns the raw call that a word names.
 fn raw_verb_of(word: &[u8]) -> Option<LineWord>
     ensures { result ≡ raw_verb_of word.now }
 {
@@ -71,7 +71,7 @@ fn raw_verb_of(word: &[u8]) -> Option<LineWord>
     None
 }
 
-/// Returns the procedure that a word stands for.
+/// Returns the procedure that a word names.
 fn procedure_verb_of(word: &[u8]) -> Option<LineWord>
     ensures { result ≡ procedure_verb_of word.now }
 {
@@ -99,7 +99,7 @@ fn procedure_verb_of(word: &[u8]) -> Option<LineWord>
     None
 }
 
-/// Returns what a word stands for that orders the lines.
+/// Returns the structure word that a word is: `repeat`, `end`, `worker` or `schedule`.
 fn order_verb_of(word: &[u8]) -> Option<LineWord>
     ensures { result ≡ order_verb_of word.now }
 {
@@ -118,7 +118,7 @@ fn order_verb_of(word: &[u8]) -> Option<LineWord>
     None
 }
 
-/// Returns what a line does that opens with this word.
+/// Returns the line word that a word is, of any of the three sorts.
 pub(crate) fn parse_verb(word: &[u8]) -> Option<LineWord>
     ensures { result ≡ parse_verb word.now }
 {
@@ -142,7 +142,7 @@ impl LineWord {
         }
     }
 
-    /// Returns whether the word of an object or of a worker stands behind it.
+    /// Returns whether the word of an object or of a worker follows it.
     pub(crate) fn has_object(self) -> bool
         ensures { result ≡ has_object self }
     {
@@ -152,7 +152,7 @@ impl LineWord {
         }
     }
 
-    /// Returns what stands behind that.
+    /// Returns the form of what follows these.
     pub(crate) fn tail(self) -> Tail
         ensures { result ≡ tail_of self }
     {
@@ -166,8 +166,8 @@ impl LineWord {
         }
     }
 
-    /// Returns whether it signals, writes or produces; else it observes, reads, consumes or hands
-    /// over.
+    /// Returns whether it signals, writes or produces. The right that the worker needs depends on
+    /// it.
     pub(crate) fn is_giving(self) -> bool
         ensures { result ≡ is_giving self }
     {
@@ -177,7 +177,8 @@ impl LineWord {
         }
     }
 
-    /// Returns whether it opens a block or goes on with the schedule; else it stands in a block.
+    /// Returns whether it opens a block or goes on with the schedule; otherwise it is inside a
+    /// block.
     pub(crate) fn is_outer(self) -> bool
         ensures { result ≡ is_outer self }
     {

@@ -1,4 +1,4 @@
--- Confined programs follow each group of their heading.
+-- Confined programs follow each group of their header.
 use Rattle.std.proofs.Common.{◌≡◌, inl, inr, ℕ, Bool, zero, suc, List, [], ◌∷◌, reverse, ◌∙◌}
 use Rattle.std.specs.List.{AllByRecursion, Contains}
 use Rattle.std.proofs.lemmas.List.Elements.{All-from_recursion, All-contains, All-contains_itself, All-weaker}

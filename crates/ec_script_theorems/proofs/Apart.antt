@@ -1,4 +1,4 @@
--- No act is on two groups of a heading: each declaration takes the objects that come next.
+-- No act is on two groups of a header: each declaration uses the objects that come next.
 use Rattle.std.proofs.Common.{◌≡◌, ◌⊎◌, inl, inr, ℕ, ◌+◌, ◌<◌, ◌≤◌, List, [], ◌∷◌, ◌++◌, length, true, ◌&&◌, ◌||◌, ◌==◌, Option, Some, None, sym, ◌∙◌, subst, arith, append-nil, length-append, nat_le, nat_lt, eqb-true, leb-true, ltb-true}
 use Rattle.std.specs.List.{Contains, cons_option}
 use Rattle.std.proofs.lemmas.Bool.{and_parts, or_cases}

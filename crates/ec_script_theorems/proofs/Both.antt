@@ -18,7 +18,7 @@ use Rattle.ec_script_theorems.proofs.Suiting.{AreAsked, Suits, suits_tracked, su
 use Rattle.ec_script_theorems.proofs.Semaphores.{apart_back, on_line}
 use Rattle.ec_script_theorems.proofs.Workers.{programs_follow}
 
--- the calls of the guarded part that a P on two semaphores is in
+-- the calls of the critical section that a P on two semaphores is in
 both_place : List CompletedCall → List CompletedCall
 both_place (t ∷ []) = t ∷ []
 both_place (t ∷ a ∷ []) = t ∷ a ∷ []
@@ -26,7 +26,7 @@ both_place (t ∷ a ∷ r ∷ []) = t ∷ a ∷ r ∷ []
 both_place (t ∷ a ∷ r ∷ s ∷ []) = t ∷ a ∷ r ∷ s ∷ []
 both_place calls = []
 
--- the act is the one that the guarded part has there, and its line may be chosen
+-- the act is the next one of the critical section, and its sequencer may be chosen
 fits_both : (c : Semaphore) (lines : ℕ → Bool) (b : List CompletedCall) (a op : Act) → Some a ≡ Some op → guarded_call c (sequencer_number a) (sequencer_number a) b ≡ Some a → is_choice lines b a ≡ true
     → is_fitting (both_rule c lines) b op ≡ true
 fits_both c lines b a op is there choice =

@@ -81,7 +81,7 @@ consume_on b some (t ∷ o ∷ i ∷ g ∷ a ∷ rest) op is = cc
 
 -- ROLES
 
--- who takes from a sequencer with these takers stands among them
+-- who takes from a sequencer with these takers is one of them
 taker : (t : Tables) (q w : ℕ) (take : List ℕ) → DeclaresSequencer t q take → may_take t q w ≡ is_member w take
 taker t q w take there = ap (λ (o : Option (List ℕ)). option_map_or (is_member w) o false) there
 

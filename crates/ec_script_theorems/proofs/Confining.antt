@@ -51,7 +51,7 @@ abbrev pub IsShaped : Group → Type 0
 IsShaped (groups.Buffer b) = buffers.IsShape b
 IsShaped _ = Unit {0}
 
--- what is true of the groups of a heading
+-- what is true of the groups of a header
 pub record AreGroups (t : Tables) (gs : List Group) : Type 0 where
   pub apart : AreApart gs
   pub fit : All (FitsGroup t) gs

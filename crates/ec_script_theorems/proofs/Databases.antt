@@ -113,7 +113,7 @@ open_going : (d : Database) (calls : List CompletedCall) (op : Act) → try_call
 unfolding open_try
 open_going d calls op is = ap (λ (o : Option Act). cond (is_some o) calls []) is
 
--- a try that is begun anew has no calls, and one that goes on as it was is whole or not
+-- a try that is begun again has no calls, and one that goes on is whole or not
 chosen : Database → Bool → ℕ → List CompletedCall → TryState
 chosen d whole left calls = cond (whole && not (agrees d calls) && nat_lt 1 left) (record { left = left - 1; calls = [] }) (record { left = left; calls = calls })
 
@@ -168,7 +168,7 @@ writer t d w write read declares = ap (λ (o : Option Rights). is_some (index_of
 reader : (t : Tables) (d : Database) (w : ℕ) (write read : List ℕ) → DeclaresDatabase d t write read → may_observe t d.start w ≡ is_member w read
 reader t d w write read declares = ap (λ (o : Option Rights). option_map_or (λ (r : Rights). is_member w r.observe) o false) declares.start
 
--- who signals its eventcounts is told by the tables
+-- the tables say who signals its eventcounts
 start_fixed : (t : Tables) (d : Database) → Fits d t → may_hand t d.start ≡ false
 start_fixed t d fits = ap (λ (o : Option Rights). option_map_or (λ (r : Rights). not r.fixed) o false) fits.2.start
 

@@ -14,7 +14,8 @@ use Rattle.ec_core.proofs.shared.Answering.{allowed}
 use Rattle.ec_core.proofs.shared.Handing.{as_declared}
 use Rattle.ec_script_theorems.proofs.Suiting.{AreAllowed, allowed_more}
 
--- the tables give w the right that the act needs; who signals an eventcount that may be handed over, they don't tell
+-- the tables give w the right that the act needs; they don't say who signals an eventcount that may
+-- be handed over
 abbrev pub IsGranted : Tables → ℕ → Act → Type 0
 IsGranted t w (Advance e) = may_hand t e ≡ false → is_some (component_of t e w) ≡ true
 IsGranted t w (Read e) = may_observe t e w ≡ true
@@ -56,7 +57,7 @@ granted_going t past w (Put x v) o op = op
 granted_going t past w (Get x) o op = op
 granted_going t past w (Hand e b) o op = op
 
--- the finished calls of w, and the one that is under way
+-- w may begin each of its completed calls, and its pending one
 abbrev pub AreGranted : Tables → ℕ → List Entry → Type 0
 AreGranted t w past = AreAllowed (IsGranted t w) (finished_by w past) × IsGrantedCall t w (under_way w past)
 

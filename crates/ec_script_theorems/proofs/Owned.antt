@@ -124,7 +124,7 @@ same_or_not gs k g apart has_k has_g =
       | false ↦ λ is. inr (λ e. (let on : acts_on g act ≡ true = subst (λ x. acts_on x act ≡ true) e (has_its_count k) in let clash : false ≡ true = sym is ∙ on in cc))
     ] refl
 
--- a test that no group passes this one doesn't
+-- a test that no group of a list passes is passed by none of them
 pub none_passes : (test : Group → Bool) (gs : List Group) (g : Group) → list_any test gs ≡ false → Contains gs g → test g ≡ false
 none_passes test [] g none has = absurd (none_there g has)
 none_passes test (k ∷ gs) g none has =

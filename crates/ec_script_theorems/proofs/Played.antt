@@ -1,4 +1,4 @@
--- What turns made is accepted, and each worker's part of it is a run of its program.
+-- The history that turns make is accepted, and each worker's part of it is a run of its program.
 use Rattle.std.proofs.Common.{◌≡◌, ℕ, Bool, true, false, ◌==◌, cond, List, [], ◌∷◌, Some, Result, Ok, Err, refl, sym, subst, eqb-true}
 use Rattle.ec_count.specs.Tables.{Tables}
 use Rattle.ec_core.specs.declared.act.Act.{Act}

@@ -1,4 +1,4 @@
--- What workers on threads tell of a run: each worker's part of it is a run of its program.
+-- The reports of workers on threads: each worker's part of the run is a run of its program.
 use Rattle.std.proofs.Common.{◌≡◌, ℕ, zero, suc, ◌<◌, List, [], ◌∷◌, length, reverse, slice_get, Some, refl, sym, ◌∙◌, ap, subst, arith}
 use Rattle.ec_count.specs.Tables.{Tables}
 use Rattle.ec_machine.specs.declared.command.Command.{Command}

@@ -5,7 +5,7 @@ use Rattle.std.proofs.lemmas.Bool.{or_parts, eqb-true}
 use Rattle.ec_count.specs.Members.{is_member, index_of}
 use Rattle.ec_count.specs.Roles.{shares_worker}
 
--- who stands in the one list does not stand in the other
+-- who is in the one list is not in the other
 pub one_role : (w : ℕ) (first second : List ℕ) → shares_worker first second ≡ false → is_member w first ≡ true → is_member w second ≡ true → ⊥
 one_role w [] second apart in_first in_second = cc
 one_role w (v ∷ first) second apart in_first in_second =
@@ -23,6 +23,6 @@ placed_from w low (v ∷ ws) found =
       | false ↦ λ more. placed_from w (low + 1) ws more
     ] found
 
--- who has a place in a list stands in it
+-- who has a place in a list is a member of it
 pub placed_is_member : (w : ℕ) (ws : List ℕ) → is_some (index_of w ws) ≡ true → is_member w ws ≡ true
 placed_is_member w ws found = placed_from w 0 ws found

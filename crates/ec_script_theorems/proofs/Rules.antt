@@ -1,4 +1,4 @@
--- A list that a rule was written from suits it, whatever values it puts.
+-- The list of calls of which a rule is made suits the rule, whatever values it puts.
 use Rattle.std.proofs.Common.{◌≡◌, Bool, true, not, List, [], ◌∷◌, ◌++◌, Option, Some, None, is_some, option_map, refl, ◌∙◌, ap}
 use Rattle.ec_core.specs.declared.act.Act.{Act}
 use Rattle.ec_core.specs.Following.{CompletedCall}

@@ -1,4 +1,4 @@
--- The buffers of a heading are shapes.
+-- The buffers of a header are shapes.
 use Rattle.std.proofs.Common.{◌≡◌, ℕ, ◌+◌, ◌==◌, ◌||◌, nat_lt, List, [], ◌∷◌, ◌++◌, length, All, None, inl, inr, sym, subst, arith, ne_eqb}
 use Rattle.std.specs.List.{AllByRecursion, cons_option}
 use Rattle.std.proofs.lemmas.Bool.{or_parts, ltb-false, eqb-false}

@@ -53,7 +53,8 @@ asked_more list done (d ∷ calls) c asked next =
 
 -- LISTS THAT SUIT A RULE
 
--- of a list whose calls the worker may begin, each call fits where it stands, and the whole leaves no list of the rule begun
+-- of a list whose calls the worker may begin, each call fits in its place, and after the whole list
+-- no list of the rule is begun
 pub record Suits (may : Act → Type 0) (r : Rule) (list : List CompletedCall
     → Option Act) : Type 0 where
   pub next : (calls : List CompletedCall) (op : Act) → AreAsked list [] calls → AreAllowed may calls → may op → list calls ≡ Some op → is_fitting r (list_after r [] calls) op ≡ true

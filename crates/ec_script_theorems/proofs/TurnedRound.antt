@@ -1,4 +1,4 @@
--- The entries of a worker in a history that is turned round.
+-- The entries of a worker in a reversed history.
 use Rattle.std.proofs.Common.{◌≡◌, Bool, true, false, ◌==◌, cond, List, [], ◌∷◌, ◌++◌, reverse, refl, sym, ◌∙◌, ap}
 use Rattle.std.proofs.lemmas.List.{append-nil, reverse-append}
 use Rattle.ec_core.specs.declared.act.Entry.{Entry}

@@ -25,7 +25,7 @@ use Rattle.ec_script_theorems.specs.Uses.{EachCommand, AreRuns}
 use Rattle.ec_script_theorems.proofs.Suiting.{AreAllowed, allowed_front, allowed_back, asked_all, Suits, suited}
 use Rattle.ec_script_theorems.proofs.Granted.{IsGranted, IsGrantedCall, granted}
 
--- the calls of each of the commands suit the rule, whatever number was told before them
+-- the calls of each of the commands suit the rule, whatever number was returned before them
 abbrev pub AllSuit : (Act → Type 0) → Rule → List Command → Type 0
 AllSuit may r cs = AllByRecursion (λ c. (last : ℕ) → Suits may r (command_call last c)) cs
 

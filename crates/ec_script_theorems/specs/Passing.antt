@@ -1,4 +1,4 @@
--- What `check` and `audit` say of what `sim` and `run` wrote.
+-- How `check` and `audit` judge what `sim` and `run` wrote.
 use Rattle.std.specs.Prelude.{◌≡◌, ◌≢◌, ◌≤◌, ◌⊎◌, ℕ, List, [], ◌++◌, length, reverse, Option, Some}
 use Rattle.std.specs.List.{All}
 use Rattle.ec_heading.specs.Rules.{FollowsGroup}
@@ -11,26 +11,27 @@ use Rattle.evc_engine.specs.Checks.{Outlets, ReadsAs, Checks}
 use Rattle.evc_scripts.specs.Runs.{Runs}
 use Rattle.evc_scripts.specs.Sims.{Sims}
 
--- the text is a trace, and its history follows each group of its heading
+-- the text is a trace, and its history follows each group of its header
 pub record IsFollowedTrace (text : List ℕ) : Type 0 where
   pub recounted : TraceModel
   pub reads : ReadsAs text recounted
   pub followed : All (FollowsGroup recounted.heading.setup recounted.heading.groups (reverse recounted.entries)) recounted.heading.groups
 
--- a command ended with status 0, or told a failed read or write (3) or want of memory (4): it refused nothing
+-- a command ended with status 0, or reported a failed read or write (3) or out of memory (4): it
+-- rejected nothing
 abbrev pub IsNoRefusal : Status → Type 0
 IsNoRefusal status = (status ≡ Done) ⊎ (status ≡ InputOutput) ⊎ (status ≡ Memory)
 
--- however `check` and `audit` end on the text, they don't refuse it
+-- however `check` and `audit` end on the text, they don't reject it
 pub record Passes (text : List ℕ) : Type 0 where
   pub check : (left : Option (List ℕ)) (status : Status) (old new : Outlets) → Checks text left status old new → IsNoRefusal status
   pub audit : (left : Option (List ℕ)) (status : Status) (old new : Outlets) → Audits text left status old new → IsNoRefusal status
 
--- a trace that follows each group of its heading passes
+-- a trace that follows each group of its header passes
 abbrev pub FollowedTracesPass : Type 0
 FollowedTracesPass = (text : List ℕ) → IsFollowedTrace text → Passes text
 
--- the outlet for the text had these bytes before a command, and then this text behind them
+-- the outlet for the text had some bytes before a command, and has this text after them
 pub record HasWritten (old new : Outlets) (text : List ℕ) : Type 0 where
   pub before : List ℕ
   pub had : old.out ≡ Some before
@@ -41,14 +42,14 @@ abbrev pub SimulatedTracesPass : Type 0
 SimulatedTracesPass = (bytes text : List ℕ) (left : Option (List ℕ)) (old new : Outlets) → Sims bytes left Done old new → HasWritten old new text → length text ≤ TRACE_MAX
     → IsFollowedTrace text × Passes text
 
--- `run` wrote its trace to the end: with status 0, or with 4 or 5 if it wrote anything
+-- `run` wrote its whole trace: with status 0, or with 4 or 5 if it wrote anything
 abbrev pub IsWhole : Status → List ℕ → Type 0
 IsWhole Done text = Unit {0}
 IsWhole Memory text = text ≢ []
 IsWhole Stopped text = text ≢ []
 IsWhole _ text = ⊥
 
--- the same of what `run` wrote to the end
+-- the same about a whole trace that `run` wrote
 abbrev pub RanTracesPass : Type 0
 RanTracesPass = (turns : ℕ) (bytes text : List ℕ) (left : Option (List ℕ)) (status : Status) (old new : Outlets) → Runs turns bytes left status old new → HasWritten old new text → IsWhole status text
     → length text ≤ TRACE_MAX → IsFollowedTrace text × Passes text

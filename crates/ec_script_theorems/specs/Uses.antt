@@ -1,4 +1,4 @@
--- Which commands use a group of objects by its own procedures alone.
+-- Which commands use a group of objects only by its own procedures.
 use Rattle.std.specs.Prelude.{◌≡◌, ℕ, ◌<◌, ◌⊎◌, Bool, true, false, ◌==◌, List, reverse, Some}
 use Rattle.std.specs.List.{All}
 use Rattle.ec_count.specs.Tables.{Tables}
@@ -16,7 +16,8 @@ use Rattle.ec_machine.specs.Runs.{command_call, IsRunOf}
 use Rattle.ec_machine.specs.Steps.{own}
 use Rattle.ec_machine.specs.Unrolled.{unroll}
 
--- no call of the command is on these objects, whatever number was told before it and whatever its own calls are told
+-- no call of the command is on these objects, whatever number was returned before it and whatever
+-- its own calls return
 abbrev pub IsApart : (Act → Bool) → Command → Type 0
 IsApart is_on c = (last : ℕ) (calls : List CompletedCall) (op : Act) → command_call last c calls ≡ Some op → is_on op ≡ false
 
@@ -78,7 +79,7 @@ UsesBoth s lines c = IsOfBoth s lines c ⊎ IsApart (semaphores.is_on s) c
 
 -- PROGRAMS
 
--- each command of each declared worker's program, the repeats written out
+-- each command of each declared worker's program, with the repeats unrolled
 abbrev pub EachCommand : Tables → (Command → Type 0) → (ℕ → List Command) → Type 0
 EachCommand t P programs = (w : ℕ) → w < t.workers → All P (unroll (programs w))
 

@@ -1,6 +1,6 @@
-//! Programs that use groups of objects by the groups' own procedures alone: their histories follow
-//! the groups, and so `check` and `audit` take what `sim` and `run` wrote of a script. The crate has
-//! no code, only laws.
+//! Programs that use groups of objects only by the groups' own procedures: their histories follow
+//! the groups, so `check` and `audit` accept what `sim` and `run` wrote of a script. The crate has
+//! no code, only theorems.
 #![tactic(auto)]
 
 mod laws;

@@ -45,7 +45,7 @@ ticket_is x q n act reply =
     let first : x ≡ entry_of x.worker (Ticket q) x.reply = ap (λ a. entry_of x.worker a x.reply) act in
     first ∙ ap (entry_of x.worker (Ticket q)) reply
 
--- the entry draws the first ticket of its worker's guarded part
+-- the entry draws the first ticket of its worker's critical section
 pub record DrawsFirst (c : Semaphore) (lines : ℕ → Bool) (x : Entry) (past : List Entry) (t r : CompletedCall) : Type 0 where
   pub wait : CompletedCall
   pub was : block (both_rule c lines) x.worker past ≡ t ∷ wait ∷ []
@@ -61,7 +61,8 @@ record DrawsSecond (c : Semaphore) (lines : ℕ → Bool) (x : Entry) (past : Li
   was : block (both_rule c lines) x.worker past ≡ ticket ∷ wait ∷ first ∷ []
   is : x ≡ ticket_entry x.worker line number
 
--- a worker that has three calls of its guarded part after an entry of its own drew the first ticket by it
+-- a worker that has three calls of its critical section after an entry of its own drew the first
+-- ticket by it
 first_of : (c : Semaphore) (lines : ℕ → Bool) (t : Tables) (x : Entry) (past : List Entry) (calls : List CompletedCall) (u a r : CompletedCall) → IsAccepted t (x ∷ past)
     → block (both_rule c lines) x.worker past ≡ calls → (is_begun calls || is_on c (op_at x past)) ≡ true → (both_rule c lines).fits calls (op_at x past) ≡ true → IsTold t past (op_at x past) x.reply
     → block (both_rule c lines) x.worker (x ∷ past) ≡ u ∷ a ∷ r ∷ [] → DrawsFirst c lines x past u r
@@ -151,7 +152,8 @@ pair_at r x q n is =
 abbrev drawn_at : Semaphore → (ℕ → Bool) → List Entry → ℕ → List Pair
 drawn_at c lines h n = pairs_in c lines (past_at n h)
 
--- a worker that has drawn the first ticket of its guarded part, and not the second, drew it by an entry that is its latest
+-- a worker that has drawn the first ticket of its critical section, and not the second, drew it by
+-- an entry that is its latest
 record IsHolding (c : Semaphore) (lines : ℕ → Bool) (h : List Entry) (n w : ℕ) (t r : CompletedCall) : Type 0 where
   at : ℕ
   before : at < n

@@ -1,4 +1,4 @@
--- The latest ticket of each worker tells the first of the two that it draws.
+-- The latest ticket of each worker is the first of the two that it draws.
 use Rattle.std.proofs.Common.{◌≡◌, ℕ, ◌<◌, Bool, true, false, List, [], ◌∷◌, ◌++◌, length, Option, Some, refl, ap, sym, ◌∙◌, arith, subst, cond, ◌==◌, slice_get, slice_set, get_or}
 use Rattle.std.specs.Prelude.{option_to_list}
 use Rattle.std.proofs.lemmas.Bool.{eqb-true}
@@ -26,7 +26,7 @@ use Rattle.ec_semaphore.proofs.TicketOrder.{pairs_at}
 abbrev pair_from : ℕ → LatestTicket → ℕ → ℕ → Pair
 pair_from w d q n = record { worker = w; first = d.line; first_ticket = d.number; second = q; second_ticket = n }
 
--- a ticket at the place of the second completes the pair
+-- a ticket that is drawn as the second completes the pair
 pub completed_is : (calls : List CompletedCall) (kept : ListProgress) (d : LatestTicket) (x : Entry) (q n : ℕ) → kept ≡ list_progress_of_both calls → kept.at ≡ 3 → IsDrawn d calls → x.act ≡ Ticket q → n ≡ reply_number x.reply
     → Some (record { worker = x.worker; first = d.line; first_ticket = d.number; second = q; second_ticket = n }) ≡ pair_with calls x
 completed_is [] kept d x q n is at drawn act number = (let k = ap (λ (z : ListProgress). z.at) is in absurd (omega arith))
@@ -68,7 +68,7 @@ latest_next c lines t x past latest d dec acc f room before =
           subst P (sym (other_block (both_rule c lines) w x past q)) (before w e is))
     ] refl (sym set ∙ at))
 
--- what stands at the place of a worker
+-- the latest ticket of a worker in the table
 drawn_at : (latest : List LatestTicket) (place w : ℕ) (d : LatestTicket) → length latest ≡ 16 → place ≡ w → place < 16 → slice_get latest w ≡ Some (get_or latest place d)
 drawn_at latest place w d room at low = ap (slice_get latest) (sym at) ∙ slice_get-get_or latest place d (omega arith)
 

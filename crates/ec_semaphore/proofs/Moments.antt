@@ -1,4 +1,4 @@
--- What holds of the past at each moment of a history.
+-- What holds of the history so far at each moment.
 use Rattle.std.proofs.Common.{◌≡◌, ℕ, zero, suc, ◌+◌, ◌≤◌, List, Option, Some, None, slice_get, refl, ap, sym, ◌∙◌, arith, cond, pos, ◌≤ℤ◌, ◌-ℤ◌}
 use Rattle.std.specs.Option.{option_map_or}
 use Rattle.std.proofs.Math.Nat.{zero-add}

@@ -27,7 +27,7 @@ turn_of (t ∷ rest) = reply_number t.reply
 abbrev pub calls_of : Semaphore → List Entry → ℕ → List CompletedCall
 calls_of s past w = block (use_rule s) w past
 
--- whether the Down with ticket k is finished
+-- whether the P with ticket k is completed
 unfoldable pub finished : Semaphore → ℕ → List Entry → Bool
 finished s k [] = false
 finished s k (x ∷ past) = (is_down s x past && (turn_of (calls_of s past x.worker) == k)) || finished s k past
@@ -77,7 +77,7 @@ sum_more f t n lt none =
 
 -- ONE STEP
 
--- lists that are as they were but for the worker's, which holds no ticket
+-- lists that are unchanged, except the worker's, which has no ticket
 held_less : (s : Semaphore) (x : Entry) (past : List Entry) → calls_of s (x ∷ past) x.worker ≡ [] → (w : ℕ) (c : CompletedCall) → calls_of s (x ∷ past) w ≡ c ∷ [] → ((x.worker == w) ≡ false) × (calls_of s past w ≡ c ∷ [])
 held_less s x past none w c at =
     elim (x.worker == w) as (λ b. (x.worker == w) ≡ b → (b ≡ false) × (calls_of s past w ≡ c ∷ [])) [
@@ -85,7 +85,7 @@ held_less s x past none w c at =
       | false ↦ λ e. (refl, sym (other_block (use_rule s) w x past e) ∙ at)
     ] refl
 
--- the lists are all as they were
+-- all lists are unchanged
 held_same : (s : Semaphore) (x : Entry) (past : List Entry) → calls_of s (x ∷ past) x.worker ≡ calls_of s past x.worker → (w : ℕ) → calls_of s (x ∷ past) w ≡ calls_of s past w
 held_same s x past same w =
     elim (x.worker == w) as (λ b. (x.worker == w) ≡ b → calls_of s (x ∷ past) w ≡ calls_of s past w) [
@@ -101,7 +101,7 @@ downs_same : (s : Semaphore) (x : Entry) (past : List Entry) → is_down s x pas
 unfolding downs
 downs_same s x past h = rw h (zero-add (downs s past))
 
--- no ticket is drawn and no Down ends: each list is as it was, or the worker's is empty
+-- no ticket is drawn and no P ends: each list is unchanged, or the worker's is empty
 still : (s : Semaphore) (x : Entry) (past : List Entry) → issued s.line (x ∷ past) ≡ issued s.line past → total s.count past ≤ total s.count (x ∷ past) → is_down s x past ≡ false
     → ((w : ℕ) (c : CompletedCall) → calls_of s (x ∷ past) w ≡ c ∷ [] → calls_of s past w ≡ c ∷ []) → IsBalanced s past → IsBalanced s (x ∷ past)
 still s x past drawn up none same b = record {
@@ -196,7 +196,7 @@ finish s t x past c v acc op done at after reached b =
       apart = λ y w d f p q e. b.apart y w d f (held_less s x past after y d p).1 (held_less s x past after w f q).1 e;
     }
 
--- what is off the semaphore changes nothing
+-- an act that is not on the semaphore changes nothing
 quiet : (s : Semaphore) (op : Act) → is_on s op ≡ false → (is_ticket s.line op ≡ false) × (is_await s.count op ≡ false)
 quiet s (Advance e) h = (refl, refl)
 quiet s (Read e) h = (refl, refl)

@@ -1,4 +1,4 @@
--- The pairs of tickets that are drawn under a guard stand in one order.
+-- The pairs of tickets that are drawn under a guard are in one order.
 use Rattle.std.proofs.Common.{◌≡◌, ℕ, ◌+◌, ◌<◌, ◌≤◌, Bool, true, false, not, ◌&&◌, ◌||◌, List, [], ◌∷◌, ◌++◌, length, None, refl, ap, sym, ◌∙◌, arith, subst, cond, ◌==◌, inl, inr, get_or, length-append}
 use Rattle.std.specs.Prelude.{option_to_list}
 use Rattle.std.specs.List.{All, AllPairs}
@@ -55,7 +55,8 @@ elsewhere c lines x past v h = ap seat_of (other_block (both_rule c lines) v x p
 issued_up : (t : Tables) (q : ℕ) (x : Entry) (past : List Entry) → IsAccepted t (x ∷ past) → issued q past ≤ issued q (x ∷ past)
 issued_up t q x past acc = (let k = issued_step t q x past acc in omega arith)
 
--- what stays true if no pair is drawn: the seats' queue is given, and what the worker waits with, if it does
+-- what stays true if no pair is drawn, given the queue after the entry, and the first ticket of the
+-- worker, if it has one
 kept : (c : Semaphore) (lines : ℕ → Bool) (t : Tables) (x : Entry) (past : List Entry) → IsAccepted t (x ∷ past) → IsPaired c lines past → pairs_in c lines (x ∷ past) ≡ pairs_in c lines past
     → IsQueue (seat c lines (x ∷ past)) (issued c.line (x ∷ past)) (total c.count (x ∷ past)) (length (pairs_in c lines past))
     → ((u a r : CompletedCall) → lists c lines (x ∷ past) x.worker ≡ u ∷ a ∷ r ∷ [] → All (IsBelow (sequencer_number r.op) (reply_number r.reply)) (pairs_in c lines past) × (reply_number r.reply < issued (sequencer_number r.op) (x ∷ past)))
@@ -268,7 +269,7 @@ on_step c lines t x past (u ∷ a ∷ r ∷ s ∷ []) apart acc at on due return
     (λ u' a' r' q. cc)
 on_step c lines t x past (u ∷ a ∷ r ∷ s ∷ v ∷ rest) apart acc at on due returned b = cc
 
--- an act off the guard, outside the list, changes nothing
+-- an act that is not on the guard, outside the list, changes nothing
 off_quiet : (c : Semaphore) (op : Act) → is_on c op ≡ false → (is_ticket c.line op ≡ false) × (is_advance c.count op ≡ false)
 off_quiet c (Advance e) h = (refl, h)
 off_quiet c (Read e) h = (refl, refl)

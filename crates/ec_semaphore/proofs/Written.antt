@@ -92,7 +92,7 @@ uses_are s calls = (uses_from s calls, uses_whole s calls)
 pub following_uses : FollowingMeansUses
 following_uses s t h dec acc = following_joins t (use_rules s) (λ w. is_on s) h dec acc (λ w calls op. refl)
 
--- THE GUARDED PART
+-- THE CRITICAL SECTION
 
 guarded_from : (c : Semaphore) (lines : ℕ → Bool) (calls : List CompletedCall) → IsWholeList (both_rule c lines) calls → IsGuarded c lines calls
 guarded_from c lines [] w = (let k = w.whole in cc)

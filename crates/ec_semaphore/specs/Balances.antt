@@ -1,4 +1,4 @@
--- The balance of a semaphore: how many there were at first, and were given back, and not yet taken.
+-- The balance of a semaphore: its initial value, and the completed V, without the completed P.
 use Rattle.std.specs.Prelude.{ℕ, ◌+◌, Bool, false, ◌==◌, ◌&&◌, not, List, [], ◌∷◌, if◌then◌else◌, ℤ, pos, ◌-ℤ◌}
 use Rattle.ec_core.specs.declared.act.Act.{Act}
 use Rattle.ec_core.specs.declared.act.Act.TheVariants.{Await}
@@ -13,7 +13,7 @@ abbrev pub is_await : ℕ → Act → Bool
 is_await e (Await f v) = f == e
 is_await e _ = false
 
--- whether an entry finishes a P: it ends an await of the semaphore's eventcount
+-- whether an entry completes a P: it ends an await of the semaphore's eventcount
 abbrev pub is_down : Semaphore → Entry → List Entry → Bool
 is_down s x past = is_await s.count (opening_act x.act (under_way x.worker past)) && not (is_pending x.reply)
 
@@ -22,7 +22,7 @@ unfoldable pub downs : Semaphore → List Entry → ℕ
 downs s [] = 0
 downs s (x ∷ past) = (if is_down s x past then 1 else 0) + downs s past
 
--- the finished V: the advances of the semaphore's eventcount
+-- the completed V: the advances of the semaphore's eventcount
 abbrev pub ups : Semaphore → List Entry → ℕ
 ups s past = total s.count past
 

@@ -1,5 +1,5 @@
--- P on two semaphores at once. The two tickets are drawn while the worker has the common semaphore, a guard, so that all
--- who want the same two stand in one order.
+-- P on two semaphores at once. The two tickets are drawn while the worker has the common semaphore,
+-- a guard, so that all workers that use the same two are in one order.
 use Rattle.std.specs.Prelude.{ℕ, Bool, true, false, ◌==◌, ◌&&◌, ◌||◌, not, List, [], ◌∷◌, Option, Some, None, is_some}
 use Rattle.std.specs.List.{list_any}
 use Rattle.ec_core.specs.declared.act.Act.{Act}
@@ -31,11 +31,12 @@ abbrev pub sequencer_number : Act → ℕ
 sequencer_number (Ticket q) = q
 sequencer_number _ = 0
 
--- a semaphore is told by its sequencer: whether q is that of one of these semaphores, and not that of the common one
+-- a semaphore is identified by its sequencer: whether q is that of one of these semaphores, and not
+-- that of the common one
 abbrev pub is_line : Semaphore → List Semaphore → ℕ → Bool
 is_line c shapes q = not (q == c.line) && list_any (λ (s : Semaphore). s.line == q) shapes
 
--- whether the two tickets are drawn from different ones of the lines
+-- whether the two tickets are drawn from different ones of these sequencers
 abbrev pub is_choice : (ℕ → Bool) → List CompletedCall → Act → Bool
 is_choice lines (t ∷ a ∷ []) op = lines (sequencer_number op)
 is_choice lines (t ∷ a ∷ r ∷ []) op =

@@ -1,4 +1,4 @@
--- What is left of a P on two semaphores at each place in it.
+-- What is left of a P on two semaphores in each phase of it.
 use Rattle.std.specs.Prelude.{ℕ, List, [], ◌∷◌, ◌++◌, Option}
 use Rattle.ec_core.specs.declared.act.Act.{Act}
 use Rattle.ec_core.specs.Following.{CompletedCall}
@@ -8,7 +8,7 @@ use Rattle.ec_semaphore.specs.Shapes.{Semaphore}
 use Rattle.ec_semaphore.specs.Both.{down_both_call}
 use Rattle.ec_semaphore.specs.Spent.{unneeded_call, call_with_number}
 
--- the first of the two tickets if it is needed, else 0
+-- the first of the two tickets if it is needed, 0 otherwise
 abbrev pub first_ticket : BothPhase → ℕ
 first_ticket (DrawSecond first) = first
 first_ticket (Leave first second) = first
@@ -22,7 +22,7 @@ second_of (WaitFirst first second) = second
 second_of (WaitSecond second) = second
 second_of _ = 0
 
--- what is kept of the calls that are finished there
+-- what is kept of the calls that are completed in a phase
 abbrev pub completed_calls_at : BothPhase → List CompletedCall
 completed_calls_at Line = []
 completed_calls_at (Enter turn) = call_with_number turn ∷ []
@@ -37,7 +37,7 @@ completed_calls_at (WaitSecond second) =
 completed_calls_at Over =
     unneeded_call ∷ unneeded_call ∷ unneeded_call ∷ unneeded_call ∷ unneeded_call ∷ unneeded_call ∷ unneeded_call ∷ []
 
--- the place that follows, if a call told this number
+-- the phase that follows, if the call returned this number
 abbrev pub next_place : BothPhase → ℕ → BothPhase
 next_place Line number = Enter number
 next_place (Enter turn) number = DrawFirst

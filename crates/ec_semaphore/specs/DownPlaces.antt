@@ -1,4 +1,4 @@
--- What is left of a P at each place in it.
+-- What is left of a P in each phase of it.
 use Rattle.std.specs.Prelude.{ℕ, List, [], ◌∷◌, ◌++◌, Option}
 use Rattle.ec_core.specs.declared.act.Act.{Act}
 use Rattle.ec_core.specs.Following.{CompletedCall}
@@ -14,7 +14,7 @@ ticket_of Draw = 0
 ticket_of (Wait ticket) = ticket
 ticket_of Over = 0
 
--- what is kept of the calls that are finished there
+-- what is kept of the calls that are completed in a phase
 abbrev pub completed_calls_at : DownPhase → List CompletedCall
 completed_calls_at Draw = []
 completed_calls_at (Wait ticket) = call_with_number ticket ∷ []

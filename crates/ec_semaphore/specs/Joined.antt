@@ -1,4 +1,5 @@
--- Following a semaphore, and `both`, said of each worker's calls: they are whole lists, and the beginning of one more.
+-- Following a semaphore, and `both`, in terms of each worker's calls: they are whole lists, and a
+-- prefix of one more.
 use Rattle.std.specs.Prelude.{◌≡◌, ◌≢◌, ◌↔◌, ◌⊎◌, ℕ, Bool, true, List, [], ◌∷◌, length, reverse}
 use Rattle.ec_count.specs.Tables.{Tables, IsDeclared}
 use Rattle.ec_core.specs.declared.act.Act.TheVariants.{Advance, Await, Ticket}
@@ -27,8 +28,8 @@ pub record IsUp (s : Semaphore) (calls : List CompletedCall) : Type 0 where
   pub are : calls ≡ advance ∷ []
   pub advances : advance.op ≡ Advance s.count
 
--- the calls are a critical section: a ticket of the common semaphore, the wait for its turn, tickets of two different
--- ones of the lines, and the advance that lets the next one in
+-- the calls are a critical section: a ticket of the common semaphore, the wait for its turn,
+-- tickets of two different ones of these sequencers, and the advance that lets the next worker in
 pub record IsGuarded (c : Semaphore) (lines : ℕ → Bool) (calls : List CompletedCall) : Type 0 where
   pub ticket : CompletedCall
   pub wait : CompletedCall
@@ -51,8 +52,8 @@ pub record IsGuarded (c : Semaphore) (lines : ℕ → Bool) (calls : List Comple
 abbrev pub UsesAreDownsAndUps : Type 0
 UsesAreDownsAndUps = (s : Semaphore) (calls : List CompletedCall) → IsWholeList (use_rule s) calls ↔ (IsDown s calls ⊎ IsUp s calls)
 
--- an accepted history follows a semaphore exactly if each worker's calls on it are such lists joined end to end, and the
--- beginning of one more
+-- an accepted history follows a semaphore exactly if each worker's calls on it are such lists
+-- joined end to end, and a prefix of one more
 abbrev pub FollowingMeansUses : Type 0
 FollowingMeansUses = (s : Semaphore) (t : Tables) (h : List Entry) → IsDeclared t → IsAccepted t (reverse h)
     → Follow (use_rules s) (reverse h)
@@ -62,14 +63,14 @@ FollowingMeansUses = (s : Semaphore) (t : Tables) (h : List Entry) → IsDeclare
 abbrev pub WholePartsAreGuarded : Type 0
 WholePartsAreGuarded = (c : Semaphore) (lines : ℕ → Bool) (calls : List CompletedCall) → IsWholeList (both_rule c lines) calls ↔ IsGuarded c lines calls
 
--- an accepted history follows `both` exactly if the calls of each worker are critical sections, with calls on other
--- objects between them, and the beginning of one more
+-- an accepted history follows `both` exactly if the calls of each worker are critical sections,
+-- with calls on other objects between them, and a prefix of one more
 abbrev pub FollowingBothMeansGuardedParts : Type 0
 FollowingBothMeansGuardedParts = (c : Semaphore) (shapes : List Semaphore) (t : Tables) (h : List Entry) → IsDeclared t → IsAccepted t (reverse h)
     → Follow (both_rules c (is_line c shapes)) (reverse h)
     ↔ ((w : ℕ) → IsSideBySide (both_rule c (is_line c shapes)) (is_on c) (finished_by w (reverse h)) (op_of (under_way w (reverse h))))
 
--- what a P has asked for once it is over is that, and so is what a V has
+-- the calls that a procedure Down has made once it is over are a P, and those of an Up are a V
 abbrev pub DownIsWritten : Type 0
 DownIsWritten = (s : Semaphore) (calls : List CompletedCall) → IsWritten (down_call s) calls → length calls ≡ 2 → IsDown s calls
 
@@ -86,7 +87,7 @@ pub record IsDownBoth (c one other : Semaphore) (lines : ℕ → Bool) (calls : 
   pub down_one : IsDown one (part.first ∷ wait_one ∷ [])
   pub down_other : IsDown other (part.second ∷ wait_other ∷ [])
 
--- what a P on two different semaphores has asked for once it is over is that
+-- the calls that a DownBoth on two different semaphores has made once it is over are those
 abbrev pub DownBothIsWritten : Type 0
 DownBothIsWritten = (c one other : Semaphore) (lines : ℕ → Bool) (calls : List CompletedCall) → lines one.line ≡ true → lines other.line ≡ true → one.line ≢ other.line
     → IsWritten (down_both_call c one other) calls → length calls ≡ 7 → IsDownBoth c one other lines calls

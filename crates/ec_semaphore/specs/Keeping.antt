@@ -5,7 +5,7 @@ use Rattle.ec_core.specs.Following.{CompletedCall}
 use Rattle.ec_core.specs.CallLists.{reply_number}
 use Rattle.ec_semaphore.specs.Both.{sequencer_number}
 
--- of P and V: the number that the first call told, a ticket
+-- of P and V: the number that the first call returned, a ticket
 abbrev pub list_progress_of_use : List CompletedCall → ListProgress
 list_progress_of_use [] = record { at = 0; first = 0; second = 0 }
 list_progress_of_use (t ∷ calls) =

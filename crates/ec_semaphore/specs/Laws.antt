@@ -18,8 +18,8 @@ use Rattle.ec_semaphore.specs.InOrder.{down_at, ArePairs}
 abbrev pub SemaphoresStay : Type 0
 SemaphoresStay = (s : Semaphore) (old new : Tables) → KeepsObjects old new → Fits s old → Fits s new
 
--- the completed P at moment k are the entries before it of which each, at its own moment, ends an await of the
--- eventcount
+-- the completed P at moment k are the entries before it that, each at its own moment, end an await
+-- of the eventcount
 abbrev pub DownsCountFinishedWaits : Type 0
 DownsCountFinishedWaits = (s : Semaphore) (k : ℕ) (h : List Entry) → downs s (past_at k h) ≡ sum_to (down_at s h) k
 
@@ -28,7 +28,8 @@ abbrev pub BalancesAreNeverNegative : Type 0
 BalancesAreNeverNegative = (s : Semaphore) (t : Tables) (k : ℕ) (h : List Entry) → IsDeclared t → IsAccepted t (reverse h) → Follow (use_rules s) (reverse h)
     → pos 0 ≤ℤ balance_of s (past_at k h)
 
--- who follows `both` in an accepted history follows its common semaphore, which has initial value 1, as a semaphore
+-- workers that follow `both` in an accepted history follow its common semaphore, which has initial
+-- value 1, as a semaphore
 abbrev pub BothIsFollowedAsASemaphore : Type 0
 BothIsFollowedAsASemaphore = (c : Semaphore) (shapes : List Semaphore) (t : Tables) (h : List Entry) → c.initial ≡ 1 → IsDeclared t → IsAccepted t (reverse h)
     → Follow (both_rules c (is_line c shapes)) (reverse h) → Follow (use_rules c) (reverse h)

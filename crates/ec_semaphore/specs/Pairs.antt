@@ -19,7 +19,7 @@ abbrev pub pair_with : List CompletedCall → Entry → Option Pair
 pair_with (t ∷ a ∷ r ∷ []) x = pair_after r x x.act
 pair_with calls x = None
 
--- the pairs of a past, in the order in which they were completed
+-- the pairs of a history so far, in the order in which they were completed
 unfoldable pub pairs_in : Semaphore → (ℕ → Bool) → List Entry → List Pair
 pairs_in c lines [] = []
 pairs_in c lines (x ∷ past) = pairs_in c lines past ++ option_to_list (pair_with (block (both_rule c lines) x.worker past) x)

@@ -8,6 +8,6 @@ use Rattle.ec_core.specs.Following.{CompletedCall}
 abbrev pub unneeded_call : CompletedCall
 unneeded_call = record { op = Go; reply = Done }
 
--- one of which the number that it told is needed
+-- one of which the number that it returned is needed
 abbrev pub call_with_number : ℕ → CompletedCall
 call_with_number n = record { op = Go; reply = Number n }

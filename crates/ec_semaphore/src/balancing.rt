@@ -37,7 +37,7 @@ fn is_up(shape: &SemaphoreShape, act: &Act) -> bool
     }
 }
 
-/// Counts one more if it holds. The greatest number stays as it is.
+/// Adds one if `holds`, up to `u64::MAX`.
 #[inline(always)]
 fn count(count: &mut u64, holds: bool)
     ensures { count.old + 1 < 2 ^ 64 → count.new ≡ count.old + (if holds then 1 else 0) }
@@ -47,7 +47,7 @@ fn count(count: &mut u64, holds: bool)
     }
 }
 
-/// The audit of a semaphore in a walk over a run. An entry whose call is not on the semaphore may
+/// The audit of a semaphore in a pass over a run. An entry whose call is not on the semaphore may
 /// be left out.
 #[derive(Drop)]
 pub struct BalanceAudit {
@@ -114,7 +114,7 @@ impl BalanceAudit {
     }
 
     /// Returns the parts of the balance after the entries so far, if the workers follow the
-    /// semaphore. Err is NotFollowed, with the first entry that breaks the lists of calls.
+    /// semaphore. The error is `NotFollowed`, with the first entry that breaks the call lists.
     pub fn finish(&self) -> Result<Balance, AuditFault>
         ensures ok { (t : Tables) (h : List Entry) → EndsAt t (IsCounted self.now) h → IsOk result ↔ Follow (use_rules self.now.shape) (reverse h) }
         ensures parts { (t : Tables) (h : List Entry) → EndsAt t (IsCounted self.now) h → IfOk result (λ b. b ≡ balance_parts self.now.shape (reverse h)) }
@@ -135,7 +135,7 @@ impl BalanceAudit {
     }
 
     /// Returns the parts of the balance after all entries of a run whose workers follow the
-    /// semaphore. Err is NotFollowed, with the first entry that breaks the lists of calls.
+    /// semaphore. The error is `NotFollowed`, with the first entry that breaks the call lists.
     pub fn balance(&self, run: &Run) -> Result<Balance, AuditFault>
         requires { IsCounted self.now (reverse run.now.entries) }
         ensures ok { IsOk result ↔ Follow (use_rules self.now.shape) (reverse run.now.entries) }
@@ -152,9 +152,9 @@ impl BalanceAudit {
 }
 
 /// Returns the parts of a semaphore's balance after all entries of a run whose workers follow it.
-/// Err is NotFollowed, with the first entry that breaks the lists of calls; no memory is wanted.
+/// The error is `NotFollowed`, with the first entry that breaks the call lists. Allocates nothing.
 ///
-/// It is meant for a shape that fits the run's declarations; what it answers holds of any.
+/// The shape should fit the run's declarations, but the contract holds for any.
 pub fn balance(run: &Run, shape: &SemaphoreShape) -> Result<Balance, AuditFault>
     ensures ok { IsOk result ↔ Follow (use_rules shape.now) (reverse run.now.entries) }
     ensures parts { IfOk result (λ b. b ≡ balance_parts shape.now (reverse run.now.entries)) }

@@ -8,7 +8,7 @@ ghost use Rattle.ec_semaphore.specs.Uses.{threshold, down_call};
 use crate::SemaphoreShape;
 use ec_core::{Act, Procedure, Reply, VALUE_MAX};
 
-/// Where a P stands: what it does next.
+/// The phase of a P: what it does next.
 #[derive(Clone, Copy, Debug, PartialEq, Eq)]
 enum DownPhase {
     Draw,
@@ -26,7 +26,7 @@ pub struct Down {
 }
 
 impl Down {
-    /// Returns the whole list.
+    /// Makes a P that has made no call.
     pub fn new(shape: SemaphoreShape) -> Self
         ensures whole { (calls : List CompletedCall) → ⟦<Down as Procedure>⟧.rest result calls ≡ down_call shape calls }
         ensures fresh { ⟦<Down as Procedure>⟧.is_going result ≡ false }

@@ -9,7 +9,7 @@ use crate::SemaphoreShape;
 use crate::down::threshold;
 use ec_core::{Act, Procedure, Reply, VALUE_MAX};
 
-/// Where a P on two semaphores stands: what it does next.
+/// The phase of a P on two semaphores: what it does next.
 #[derive(Clone, Copy, Debug, PartialEq, Eq)]
 enum BothPhase {
     Line,
@@ -22,8 +22,8 @@ enum BothPhase {
     Over,
 }
 
-/// P on two semaphores at once. Both tickets are drawn while it has the common semaphore, so that
-/// all who want the same two stand in one order; then it waits for the one and for the other.
+/// P on two semaphores at once. Both tickets are drawn while it has the common semaphore, so
+/// workers on the same two are queued in one order. Then it waits for the one and for the other.
 #[derive(Clone, Copy, Debug, PartialEq, Eq)]
 pub struct DownBoth {
     common: SemaphoreShape,
@@ -36,8 +36,8 @@ pub struct DownBoth {
 }
 
 impl DownBoth {
-    /// Makes P on two semaphores. The three semaphores are different, and the common one has
-    /// initial value 1, as `declare_both` gives it.
+    /// Makes a P on two semaphores that has made no call. The three semaphores are different, and
+    /// the common one has initial value 1, as `declare_both` gives it.
     pub fn new(common: SemaphoreShape, one: SemaphoreShape, other: SemaphoreShape) -> Self
         requires single { common.initial ≡ 1 }
         requires apart { (common ≢ one) × (common ≢ other) × (one ≢ other) }
@@ -75,7 +75,7 @@ impl DownBoth {
     }
 }
 
-/// Returns the place after one if a call told this number; 0 if it told none.
+/// Returns the phase after this one if its call returned this number, 0 if it returned none.
 fn next_place(place: BothPhase, number: u64) -> BothPhase
     ensures { result ≡ next_place place number }
 {

@@ -58,7 +58,7 @@ fn complete_pair(kept: &ListProgress, latest: LatestTicket, entry: &Entry) -> Op
     }
 }
 
-/// Returns the pair that an entry completes, whose worker's latest ticket is then noted.
+/// Returns the pair that an entry completes, and updates the latest ticket of its worker.
 fn note_ticket(kept: &ListProgress, entry: &Entry, latest: &mut [LatestTicket; 16]) -> Option<Pair>
     ensures { (c : Semaphore) (lines : ℕ → Bool) (t : Tables) (past : List Entry)
         → kept.now ≡ list_progress_of_both (block (both_rule c lines) entry.now.worker past)
@@ -82,8 +82,8 @@ fn add(pairs: &mut Vec<Pair>, pair: Option<Pair>) -> Result<(), AllocError>
     Ok(())
 }
 
-/// Adds a pair, if there is one, as long as the list could grow. Returns whether it could not, now
-/// or before.
+/// Adds a pair, if there is one, unless an allocation has failed before. Returns whether one has
+/// failed.
 fn lacks_after(lacks: bool, pairs: &mut Vec<Pair>, pair: Option<Pair>) -> bool
     ensures before { result ≡ false → lacks ≡ false }
     ensures pairs { result ≡ false → pairs.new.items ≡ pairs.old.items ++ option_to_list pair }
@@ -91,8 +91,8 @@ fn lacks_after(lacks: bool, pairs: &mut Vec<Pair>, pair: Option<Pair>) -> bool
     lacks || add(pairs, pair).is_err()
 }
 
-/// The audit of the critical sections of P on two of these semaphores, in a walk over a run. It
-/// takes each entry, since within a critical section a worker makes no other call.
+/// The audit of the critical sections of P on two of these semaphores, in a pass over a run. It
+/// needs the entries of all calls, since within a critical section a worker makes no other call.
 #[derive(Drop)]
 pub struct PairAudit<'a> {
     guarded: CriticalSections<'a>,
@@ -147,8 +147,8 @@ impl<'a> PairAudit<'a> {
         }
     }
 
-    /// Returns the pairs after the entries so far, if the workers follow the critical sections.
-    /// If they don't, the first entry that breaks the lists of calls is told.
+    /// Returns the pairs after the entries so far, if the workers follow the critical sections. If
+    /// they don't, the error has the first entry that breaks the call lists.
     pub fn finish(self) -> Result<Vec<Pair>, AuditFault>
         ensures followed { (t : Tables) (h : List Entry) → EndsAt t (IsPairing self.entry) h → IsOk result → Follow (both_rules self.entry.common (is_line self.entry.common self.entry.shapes)) (reverse h) }
         ensures pairs { (t : Tables) (h : List Entry) → EndsAt t (IsPairing self.entry) h → IfOk result (λ ps. ps.items ≡ pairs_of self.entry.common self.entry.shapes h) }
@@ -165,8 +165,8 @@ impl<'a> PairAudit<'a> {
         Ok(self.pairs)
     }
 
-    /// Returns the pairs after all entries of a run whose workers follow the critical sections.
-    /// If they don't, the first entry that breaks the lists of calls is told.
+    /// Returns the pairs after all entries of a run whose workers follow the critical sections. If
+    /// they don't, the error has the first entry that breaks the call lists.
     pub fn pairs(self, run: &Run) -> Result<Vec<Pair>, AuditFault>
         requires { IsPairing self (reverse run.now.entries) }
         ensures followed { IsOk result → Follow (both_rules self.entry.common (is_line self.entry.common self.entry.shapes)) (reverse run.now.entries) }
@@ -181,13 +181,14 @@ impl<'a> PairAudit<'a> {
 }
 
 /// Returns the pairs of tickets that the P on two of these semaphores draw in a run whose workers
-/// follow the critical sections of a common one, in the order in which their first tickets were
-/// drawn: one for each P that has drawn both. Err is NotFollowed, with the first entry that breaks
-/// the lists of calls, or want of memory if there is none.
+/// follow the critical sections of a common one. There is one pair for each P that has drawn both,
+/// in the order in which the first tickets were drawn. The error is `NotFollowed`, with the first
+/// entry that breaks the call lists, or, if no entry does, `Memory`.
 ///
-/// A semaphore is told by its sequencer here: two shapes with one sequencer are one semaphore, and
-/// a shape with the sequencer of the common one is none of the two. It is meant for shapes that fit
-/// the run's declarations, and a common one with initial value 1; what it answers holds of any.
+/// A semaphore is identified by its sequencer here: two shapes with one sequencer are one
+/// semaphore, and a shape with the sequencer of the common one is none of the two. The shapes
+/// should fit the run's declarations, and the common one should have initial value 1, but the
+/// contract holds for any.
 pub fn pairs(
     alloc: Global,
     run: &Run,

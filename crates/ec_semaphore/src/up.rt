@@ -14,7 +14,7 @@ pub struct Up {
 }
 
 impl Up {
-    /// Returns the whole list.
+    /// Makes a V that has made no call.
     pub fn new(shape: SemaphoreShape) -> Self
         ensures whole { (calls : List CompletedCall) → ⟦<Up as Procedure>⟧.rest result calls ≡ up_call shape calls }
         ensures fresh { ⟦<Up as Procedure>⟧.is_going result ≡ false }

@@ -9,13 +9,13 @@ use crate::SemaphoreShape;
 use ec_core::{Act, ListProgress, Protocol, Reply};
 use ec_count::WorkerId;
 
-/// P and V on a semaphore, as lists of calls. Of the list that a worker is in, its ticket is kept.
+/// P and V on a semaphore, as call lists. Of the list that a worker is in, its ticket is kept.
 #[derive(Clone, Copy, Debug)]
 pub(crate) struct Uses {
     shape: SemaphoreShape,
 }
 
-/// Nothing is kept if no call of a list is finished.
+/// The progress in a list of which no call is completed.
 pub(crate) const NOTHING: ListProgress = ListProgress {
     at: 0,
     first: 0,
@@ -54,8 +54,8 @@ pub fn is_on(shape: &SemaphoreShape, act: &Act) -> bool
     }
 }
 
-/// Returns whether a P with this ticket waits for this total. No sum is made, since a ticket may be
-/// any number here.
+/// Returns whether a P with this ticket waits for this total. No sum is computed, since a ticket
+/// may be any number here.
 fn is_threshold(shape: &SemaphoreShape, ticket: u64, total: u64) -> bool
     ensures { result ≡ (total == threshold shape.now ticket) }
 {

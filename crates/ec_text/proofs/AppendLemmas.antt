@@ -22,7 +22,7 @@ keeps_after (Some xs) None c x p k = absurd p
 keeps_after (Some xs) (Some ys) None x p k = absurd k
 keeps_after (Some xs) (Some ys) (Some zs) x p k = k ∙ p
 
--- the front that is written so far, and the next of the rest
+-- the prefix that is written so far, and the next bytes of the rest
 pub next_front : (bs : List ℕ) (i n : ℕ) → i ≤ length bs → take i bs ++ take n (take (length bs - i) (drop i bs)) ≡ take (i + n) bs
 next_front bs i n within =
     let e : take (length bs - i) (drop i bs) ≡ drop i bs = take_all _ _ (omega (arith, length-drop i bs)) in
@@ -51,7 +51,7 @@ prefix_longer None c x y p = tt
 prefix_longer (Some xs) None x y p = absurd p
 prefix_longer (Some xs) (Some ys) x y p = (p.0, p.1 ++ y, ap (λ (r : List ℕ). r ++ y) p.2 ∙ append_assoc p.0 p.1 y, p.3, omega (arith, length-append p.1 y, p.4))
 
--- bytes that were written behind a front, of which those from the t-th on are left out
+-- bytes that were written after a prefix, without those from the t-th on
 pub front_kept : (n t p : ℕ) (old new bytes : List ℕ) → take (p + n) new ≡ take p old ++ bytes → t ≤ n → p ≤ length old → take (p + t) new ≡ take p old ++ take t bytes
 front_kept n t p old new bytes prefix few within =
     sym (take-take (p + t) (p + n) new (omega arith))

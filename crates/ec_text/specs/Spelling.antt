@@ -1,4 +1,4 @@
--- Laws of words and numbers: what is spelled is read, and only that.
+-- Theorems on words and numbers: what is written is read back, and only that is read.
 use Rattle.std.specs.Prelude.{◌≡◌, ◌<◌, ◌≤◌, ◌↔◌, ℕ, List, ◌∷◌, Some, IsSome, true, length, decimal}
 use Rattle.std.specs.List.{join_with_byte}
 use Rattle.ec_text.specs.Words.{words_of, number_in_word, is_number_form, AreWords}
@@ -15,7 +15,7 @@ SplitIsUndone = (line : List ℕ) → join_with_byte 32 (words_of line) ≡ line
 abbrev pub WordsHaveNoSpace : Type 0
 WordsHaveNoSpace = (line : List ℕ) → AreWords (words_of line)
 
--- a number below 10^18 is spelled by its decimal digits alone
+-- what is read as a number is exactly its decimal digits, and the number is below 10^18
 abbrev pub NumberHasOneSpelling : Type 0
 NumberHasOneSpelling = (w : List ℕ) (n : ℕ) → number_in_word w ≡ Some n → (w ≡ decimal n) × (n < 1000000000000000000)
 

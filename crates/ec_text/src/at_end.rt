@@ -28,8 +28,8 @@ pub fn number_at_end(text: &[u8]) -> Option<(usize, u64)>
     None
 }
 
-/// Returns the number and the place before its digits, if a space is there and the digits have the
-/// form of a number.
+/// Returns the position before the digits and the number, if a space is there and the digits have
+/// the form of a number.
 #[inline(always)]
 fn behind_space(text: &[u8], place: usize, number: u64) -> Option<(usize, u64)>
     requires within { place < length text.now }

@@ -1,11 +1,11 @@
-//! Bytes in tables of fixed size.
+//! Byte buffers of fixed size.
 ghost use Rattle.std.specs.Prelude.{◌≡◌, ◌↔◌, ◌+◌, ◌≤◌, ◌++◌, [], List, IsTrue, false, length, take, ◌-◌, ◌<◌, slice_get, slice_set, decimal};
 
 use itoa::write_digits;
 use std::marker::Model;
 use std::simd::prelude::*;
 
-/// Writes the first N bytes of a list into a table, over those from a place on. It is one load and one store.
+/// Copies the first N bytes of a list into a table at a position, by one load and one store.
 #[inline(always)]
 fn write_prefix<const N: usize>(table: &mut [u8], place: usize, bytes: &[u8])
     requires bytes { N ≤ length bytes.now }
@@ -16,7 +16,7 @@ fn write_prefix<const N: usize>(table: &mut [u8], place: usize, bytes: &[u8])
     Simd::<u8, N>::from_slice(bytes).copy_to_slice(&mut table[place..]);
 }
 
-/// Writes N to 2 N bytes into a table, over those from a place on: the first N of them, and the last N.
+/// Copies N to 2 N bytes into a table at a position: the first N of them, and the last N.
 fn write_ends<const N: usize>(table: &mut [u8], place: usize, bytes: &[u8])
     requires covers { (N ≤ length bytes.now) × (length bytes.now ≤ N + N) }
     requires room { place + length bytes.now ≤ length table.old }
@@ -28,9 +28,11 @@ fn write_ends<const N: usize>(table: &mut [u8], place: usize, bytes: &[u8])
     write_prefix::<N>(table, place + last, &bytes[last..]);
 }
 
-/// Writes bytes into a table, over those from a place on. At most 32 of them are two stores of one size, which may overlap; if they are
-/// a literal, a compiler chooses that size. (It is put into its callers without `#[inline(always)]`, by which these would be taken for very
-/// large, and called.)
+/// Copies bytes into a table at a position.
+///
+/// At most 32 bytes take two stores of one size, which may overlap. For a literal the compiler
+/// chooses that size. The function is inlined without `#[inline(always)]`: with it, its callers
+/// would count as very large, and not be inlined themselves.
 fn write_at(table: &mut [u8], place: usize, bytes: &[u8])
     requires { place + length bytes.now ≤ length table.old }
     ensures prefix { take (place + length bytes.now) table.new ≡ take place table.old ++ bytes.now }
@@ -49,8 +51,8 @@ fn write_at(table: &mut [u8], place: usize, bytes: &[u8])
 
 /// A text of at most 32 bytes, ready to be put.
 ///
-/// Its bytes lie in a table of that size, all of which is copied at once: that takes a load and a store, whatever the length. So a word
-/// that is put again and again is kept as such a text.
+/// All 32 bytes of its table are copied at once, by one load and one store, whatever its length. So
+/// a word that is put often is stored as such a text.
 #[derive(Drop)]
 pub struct InlineText {
     bytes: [u8; 32],
@@ -68,7 +70,7 @@ impl Model for InlineText {
 }
 
 impl InlineText {
-    /// Makes a text of no bytes.
+    /// Makes an empty text.
     #[inline(always)]
     pub fn new() -> Self
         ensures { result ≡ [] }
@@ -93,7 +95,7 @@ impl InlineText {
         text
     }
 
-    /// Takes bytes in behind those that are there, if the text stays short, and tells whether it did.
+    /// Appends bytes if the text then has at most 32, and returns whether it did.
     #[inline(always)]
     pub fn take_in(&mut self, bytes: &[u8]) -> bool
         ensures taken { IsTrue result → self.new ≡ self.old ++ bytes.now }
@@ -118,7 +120,7 @@ impl InlineText {
     }
 }
 
-/// At most 8192 bytes.
+/// A buffer of at most 8192 bytes.
 #[derive(Drop)]
 pub(crate) struct Buffer {
     bytes: [u8; 8192],
@@ -136,7 +138,7 @@ impl Model for Buffer {
 }
 
 impl Buffer {
-    /// Makes a table of no bytes.
+    /// Makes an empty buffer.
     pub(crate) fn new() -> Self
         ensures { result ≡ [] }
     {
@@ -146,21 +148,21 @@ impl Buffer {
         }
     }
 
-    /// Returns the bytes of the table.
+    /// Returns the bytes of the buffer.
     pub(crate) fn as_slice(&self) -> &[u8]
         ensures { result.now ≡ self.now }
     {
         &self.bytes[..self.len]
     }
 
-    /// Lets all bytes go.
+    /// Drops all bytes.
     pub(crate) fn clear(&mut self)
         ensures { self.new ≡ [] }
     {
         self.len = 0;
     }
 
-    /// Takes bytes in if there is room for all of them, and tells whether it did.
+    /// Appends bytes if there is room for all of them, and returns whether it did.
     #[inline(always)]
     pub(crate) fn take_in(&mut self, bytes: &[u8]) -> bool
         ensures taken { IsTrue result → self.new ≡ self.old ++ bytes.now }
@@ -175,8 +177,9 @@ impl Buffer {
         true
     }
 
-    /// Takes bytes in, and a short text behind them, if there is room for the longest, and tells whether it did. Of bytes there are
-    /// at most 32 here.
+    /// Appends bytes and a short text, and returns whether it did.
+    ///
+    /// It does so if there are at most 32 bytes, and room for 32 bytes and the longest short text.
     #[inline(always)]
     pub(crate) fn take_in_short(&mut self, before: &[u8], text: &InlineText) -> bool
         ensures taken { IsTrue result → self.new ≡ self.old ++ (before.now ++ text.now) }
@@ -192,7 +195,8 @@ impl Buffer {
         true
     }
 
-    /// Takes in bytes and a short text with another last byte, as `take_in_short` does.
+    /// Appends bytes and a short text with this last byte instead of its own, as `take_in_short`
+    /// does.
     #[inline(always)]
     pub(crate) fn take_in_ending(&mut self, before: &[u8], text: &InlineText, last: u8) -> bool
         requires { 0 < length text.now }
@@ -206,7 +210,7 @@ impl Buffer {
         true
     }
 
-    /// Writes over the last byte.
+    /// Replaces the last byte.
     #[inline(always)]
     fn set_last(&mut self, byte: u8)
         requires { 0 < length self.old }

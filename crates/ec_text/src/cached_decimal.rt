@@ -1,13 +1,14 @@
-//! Numbers that are kept with their digits.
+//! Numbers that are stored with their digits.
 ghost use Rattle.std.specs.Prelude.{◌≡◌, ◌+◌, ◌-◌, ◌<◌, decimal, length, slice_set};
 
 use crate::buffer::InlineText;
 use std::marker::Model;
 
-/// A number and its decimal digits, so that one that is put again and again isn't spelled anew each time.
+/// A number with its decimal digits, so that they aren't computed each time it is put.
 ///
-/// Meant for a number that mostly stays or changes by little, as the points of lines do: `set` then keeps another last digit alone.
-/// Any number may follow any other, and is spelled anew if the last digit isn't enough.
+/// It is meant for a number that usually changes little, as the points of lines do: then `set`
+/// replaces only the last digit. Any number may follow any other. If they differ in more than the
+/// last digit, the digits are computed again.
 #[derive(Drop)]
 pub struct CachedDecimal {
     /// The number with a last digit of 0.
@@ -29,7 +30,7 @@ impl Model for CachedDecimal {
 }
 
 impl CachedDecimal {
-    /// Makes a number, whose digits are written here.
+    /// Makes a number, and computes its digits.
     #[inline(always)]
     pub fn new(n: u64) -> Self
         ensures { result ≡ n }
@@ -43,7 +44,7 @@ impl CachedDecimal {
         }
     }
 
-    /// Takes another number in place of this one.
+    /// Replaces the number by another.
     #[inline(always)]
     pub fn set(&mut self, n: u64)
         ensures { self.new ≡ n }
@@ -54,7 +55,7 @@ impl CachedDecimal {
         }
     }
 
-    /// Takes another number of which more than the last digit differs.
+    /// Replaces the number by one that differs in more than the last digit.
     #[inline(never)]
     fn spell(&mut self, n: u64)
         ensures { self.new ≡ n }
@@ -62,8 +63,9 @@ impl CachedDecimal {
         *self = CachedDecimal::new(n);
     }
 
-    /// Returns the decimal digits of the number but for the last one, in whose place any other
-    /// stands, and the last one, ready to be put.
+    /// Returns the decimal digits of the number with any last digit, and the right last digit.
+    ///
+    /// Both are ready to be put.
     #[inline(always)]
     pub(crate) fn ending(&self) -> (&InlineText, u8)
         ensures some { 0 < length result.0.now }

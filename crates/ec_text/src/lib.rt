@@ -1,4 +1,4 @@
-//! Texts: the bytes of an input, lines, the words of a line, numbers and their digits, and bytes on their way to a writer.
+//! Texts: bounded input, lines, words, numbers and their digits, and buffered output.
 #![tactic(auto)]
 
 mod at_end;

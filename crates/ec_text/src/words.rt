@@ -37,8 +37,9 @@ fn first_word_length_of_8(line: &[u8]) -> usize
     }
 }
 
-/// Returns some bytes at the front among which there is no space, found at once if the line is
-/// long enough.
+/// Returns the length of a prefix without a space, which is found at once.
+///
+/// It is 0 if the line has fewer than 8 bytes.
 #[inline(always)]
 #[tactic(auto, using(crate::proofs::shared::WordLemmas::fronts))]
 fn first_word_length(line: &[u8]) -> usize
@@ -54,10 +55,9 @@ fn first_word_length(line: &[u8]) -> usize
     }
 }
 
-/// Returns the first word of a line, and what stands behind the space after it: `None` if no
-/// space follows.
+/// Returns the first word of a line, and the bytes after its space; `None` if no space follows.
 ///
-/// Words are what lies between single spaces, so that two spaces in a row have an empty word between them.
+/// Words are separated by single spaces, so two spaces in a row have an empty word between them.
 #[tactic(auto, using(crate::proofs::shared::WordLemmas::cuts))]
 pub fn cut_word(line: &[u8]) -> (&[u8], Option<&[u8]>)
     ensures words { MatchOption result.1 (words_of line.now ≡ result.0.now ∷ [])
@@ -75,7 +75,7 @@ pub fn cut_word(line: &[u8]) -> (&[u8], Option<&[u8]>)
     (line, None)
 }
 
-/// Returns whether a word of a line is empty, as if two spaces stand in a row.
+/// Returns whether a word of a line is empty, for example that between two spaces in a row.
 pub fn has_blank(line: &[u8]) -> bool
     ensures { result ≡ list_any (λ w. length w == 0) (words_of line.now) }
 {

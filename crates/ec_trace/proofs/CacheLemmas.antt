@@ -1,4 +1,5 @@
--- A line is cut before its last word; and what an entry's front tells of one reply it tells of each.
+-- A line is cut before its last word; and a prefix that has a worker and an act with one reply has
+-- them with each.
 use Rattle.std.proofs.Common.{◌≡◌, ℕ, zero, suc, ◌+◌, ◌-◌, ◌<◌, List, [], ◌∷◌, ◌++◌, length, take, drop, Bool, true, false, cond, eqb, Option, None, Some, refl, sym, ap, subst, ◌∙◌, arith, codes, true≢false, inl, inr, ◌⊎◌}
 use Rattle.std.specs.Prelude.{bytes_eq, slice_get, slice_set, ◌==◌}
 use Rattle.std.specs.List.{onto_first}
@@ -31,7 +32,7 @@ step_split : (t : Bool) (b : ℕ) (xs : List ℕ) (vs : List (List ℕ)) → con
 step_split true b xs vs = refl
 step_split false b xs vs = onto_any b xs vs
 
--- the words before a space, and those behind it
+-- the words before a space, and those after it
 pub words_behind : (xs ys : List ℕ) → words_of (xs ++ 32 ∷ ys) ≡ words_of xs ++ words_of ys
 words_behind [] ys = refl
 words_behind (b ∷ xs) ys =
@@ -76,7 +77,7 @@ in_front names (a ∷ b ∷ c ∷ d ∷ f ∷ g ∷ k ∷ ws) answer e h r = cc
 lined : (prefix answer : List ℕ) → IsWord answer → words_of (prefix ++ 32 ∷ answer) ≡ words_of prefix ++ answer ∷ []
 lined prefix answer word = words_behind prefix answer ∙ ap (λ (vs : List (List ℕ)). words_of prefix ++ vs) (words_alone answer word)
 
--- a front without a value that one entry has tells that entry's worker and act
+-- each entry with this prefix, which has no value, has the worker and the act of one such entry
 pub tells : (names : NameTable) (line prefix : List ℕ) (e : Entry) → HasPrefix line prefix → entry_of names line ≡ Some e → has_value e.act ≡ false → SpellsAs names prefix e.worker e.act
 unfolding entry_of
 tells names line prefix e has h unvalued =
@@ -137,7 +138,7 @@ unfolding act_with
 put_so names verb object v x m other is found =
     rw (other, is, found) (put_valued x m (number_in_word v))
 
--- an act with one value shows the act with each; a hand has none
+-- an act with one value gives the act with each; a `hand` has none
 with_act : (names : NameTable) (verb object value : List ℕ) (a : Act) → has_value a ≡ true → act_with names verb object value ≡ Some a → (v : List ℕ) → act_with names verb object v ≡ valued_by a (number_in_word v)
 unfolding act_with
 with_act names verb object value a valued h v = elim (either (bytes_eq verb (codes "await")) _ _ a h) [
@@ -163,7 +164,7 @@ with_act names verb object value a valued h v = elim (either (bytes_eq verb (cod
   ]
 ]
 
--- what an entry shows of its worker and its act
+-- what an entry has as its worker and its act
 record Shows (names : NameTable) (w : List ℕ) (o : Option Act) (e : Entry) : Type 0 where
   act : o ≡ Some e.act
   who : worker_in names w ≡ Some e.worker
@@ -209,7 +210,7 @@ lined_value opening value answer v r =
     lined (with_value_word opening value) answer r ∙ ap (λ (ws : List (List ℕ)). ws ++ answer ∷ []) (lined (opening ++ 32 ∷ value) (codes "=") (literal_word (codes "=") refl)
     ∙ ap (λ (ws : List (List ℕ)). ws ++ codes "=" ∷ []) (lined opening value v))
 
--- an opening that one entry has, whose act has a value
+-- each entry with this opening has the worker and, values apart, the act of one such entry
 pub opens : (names : NameTable) (line prefix opening : List ℕ) (n : ℕ) (e : Entry) → HasPrefix line prefix → HasNumber prefix opening n → entry_of names line ≡ Some e → has_value e.act ≡ true → SpellsAs names opening e.worker e.act
 unfolding entry_of
 opens names line prefix opening n e has spelled h valued =
@@ -222,7 +223,7 @@ opens names line prefix opening n e has spelled h valued =
       valued = λ _ v r p q. ap (entry_in names) (lined_value opening v r p q) ∙ in_opening names (words_of opening) value has.0 e valued one v r;
     }
 
--- a known opening, and the value and the reply behind it
+-- a cached opening, and the value and the reply after it
 pub opened : (names : NameTable) (line prefix opening : List ℕ) (w : ℕ) (a : Act) (n : ℕ) (r : Reply) → EndsIn line prefix r → HasNumber prefix opening n → SpellsAs names opening w a → has_value a ≡ true
     → entry_of names line ≡ Some (record { worker = w; act = with_value a n; reply = r })
 opened names line prefix opening w a n r ends has tell valued =
@@ -230,7 +231,7 @@ opened names line prefix opening w a n r ends has tell valued =
     let is : line ≡ with_value_word opening has.0 ++ 32 ∷ ends.0 = ends.1 ∙ ap (λ (f : List ℕ). f ++ 32 ∷ ends.0) cut.0 in
     ap (entry_of names) is ∙ tell.valued valued has.0 ends.0 cut.1 ends.2 ∙ ap (λ (o : Option ℕ). with_both w a o (parse_reply ends.0)) has.2 ∙ ap (with_reply w (with_value a n)) ends.3
 
--- what stands before a reply that was found at the end
+-- what precedes a reply that was found at the end
 before : (line prefix tail : List ℕ) → bytes_eq (drop (length line - length tail) line) tail ≡ true → prefix ≡ take (length line - length tail) line → line ≡ prefix ++ tail
 before line prefix tail same is =
     sym (take-append-drop (length line - length tail) line) ∙ ap (λ (r : List ℕ). take (length line - length tail) line ++ r) ((bytes_eq-Decides _ _).0 same) ∙ ap (λ (r : List ℕ). r ++ tail) (sym is)
@@ -243,7 +244,7 @@ pub ends_pending : (line prefix : List ℕ) → bytes_eq (drop (length line - le
 unfolding parse_reply
 ends_pending line prefix same is = (codes "pending", before line prefix (codes " pending") same is, literal_word (codes "pending") refl, refl)
 
--- a word that spells a number is none of the others
+-- a word that encodes a number encodes no other reply
 spells_number : (word : List ℕ) (n : ℕ) (done pending : Bool) → bytes_eq word (codes "done") ≡ done → bytes_eq word (codes "pending") ≡ pending → number_in_word word ≡ Some n → parse_reply word ≡ Some (Number n)
 unfolding parse_reply digits_from
 spells_number word n true pending is other h =
@@ -259,7 +260,7 @@ ends_number line i n ends = (drop (i + 1) line, ends.0.0, ends.0.1, spells_numbe
 
 pub ruleset ends = (ends_done, ends_pending, ends_number)
 
--- a known front without a value, and the reply behind it
+-- a cached prefix without a value, and the reply after it
 pub entry_of_cached : (names : NameTable) (line prefix : List ℕ) (w : ℕ) (a : Act) (r : Reply) → EndsIn line prefix r → SpellsAs names prefix w a → has_value a ≡ false → entry_of names line ≡ Some (record { worker = w; act = a; reply = r })
 entry_of_cached names line prefix w a r ends tell plain = ap (entry_of names) ends.1 ∙ tell.whole plain ends.0 ends.2 ∙ ap (with_reply w a) ends.3
 
@@ -274,19 +275,19 @@ kept_at : (names : NameTable) (b : Bool) (o : Option CachedPrefix) (f g : Cached
 kept_at names true o f g h new old = (let is : f ≡ g = cc in subst (λ (x : CachedPrefix). IsCachedPrefix names x) is new)
 kept_at names false o f g h new old = old h
 
--- one more front is kept, perhaps in the place of another
+-- a prefix replaces another
 pub kept : (names : NameTable) (fronts : List CachedPrefix) (place : ℕ) (f : CachedPrefix) → place < length fronts → IsLineCache names fronts → IsCachedPrefix names f → IsLineCache names (slice_set fronts place f)
 kept names fronts place f within all new i g at = kept_at names (place == i) (slice_get fronts i) f g (sym (get_set fronts place i f within) ∙ at) new (all i g)
 
--- a front that has its key
+-- a prefix, by its key
 pub told_of : (names : NameTable) (prefix : List ℕ) (k : PackedBytes) (w : ℕ) (a : Act) → key_bytes k ≡ prefix → SpellsAs names prefix w a → SpellsAs names (key_bytes k) w a
 told_of names prefix k w a is new = rw is new
 
--- a front that was found by its key
+-- a prefix that was found by its key
 pub found : (names : NameTable) (prefix : List ℕ) (k : PackedBytes) (w : ℕ) (a : Act) → key_bytes k ≡ prefix → SpellsAs names (key_bytes k) w a → SpellsAs names prefix w a
 found names prefix k w a is kept = subst (λ (xs : List ℕ). SpellsAs names xs w a) is kept
 
--- one more front is kept behind the others
+-- one more prefix is added after the others
 behind : (names : NameTable) (fronts : List CachedPrefix) (f g : CachedPrefix) (i : ℕ) → slice_get (fronts ++ f ∷ []) i ≡ Some g → IsLineCache names fronts → IsCachedPrefix names f → IsCachedPrefix names g
 behind names [] f g zero at all new = (let is : f ≡ g = cc in subst (λ (x : CachedPrefix). IsCachedPrefix names x) is new)
 behind names [] f g (suc i) at all new = cc

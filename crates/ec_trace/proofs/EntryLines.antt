@@ -1,4 +1,4 @@
--- A line is read as the entry that it spells, and as none if it spells none.
+-- A line is read as the entry that it encodes, and as none if it encodes none.
 use Rattle.std.proofs.Common.{◌≡◌, ◌≢◌, inl, inr, ℕ, ◌+◌, ◌<◌, ◌≤◌, List, [], ◌∷◌, length, cond, true, false, nat_lt, Option, Some, None, Result, Ok, Err, refl, sym, ap, subst, ◌∙◌, arith, codes, reverse}
 use Rattle.std.specs.Prelude.{bytes_eq, nat_le}
 use Rattle.std.proofs.lemmas.Bool.{true≢false, false_from_ne_true, ltb-true, leb-true, lt-leb, le-ltb, or_from}
@@ -38,7 +38,7 @@ use Rattle.ec_trace.proofs.ReadEntries.{IsSpellable, event_found, sequencer_foun
 use Rattle.ec_trace.proofs.CacheLemmas.{either, bound as bind_back}
 use Rattle.ec_trace.proofs.ReadRuns.{with_entry, act_named, reply_short, same_self, same_is, not_end}
 
--- WHAT MAY BE WRITTEN HAS A SPELLING
+-- WHAT MAY BE WRITTEN HAS AN ENCODING
 
 spellable : (h : HeadingModel) (e : Entry) → IsSound h → MayBeWritten h.setup e
     → IsSpellable h.words e
@@ -195,7 +195,7 @@ others_spell_none o line is = (none_spelled (heading_of_tree o) line (sound o is
 same_fault : {S : Type 0} (f g : LineFault) (r : Result S LineFault) → r ≡ Err f → r ≡ Err g → f ≡ g
 same_fault f g r is too = cc
 
--- an entry that was read, that the version may have, and its answer
+-- an entry that was read and that the version allows, and its reply or refusal
 answered_fault : (t : TraceModel) (line : List ℕ) (e : Entry) (r : Result Reply Refusal) (fault : LineFault) → SpellsInVersion t.heading line e → answer_of t.heading.setup (reverse t.entries) e.worker e.act ≡ r
     → after_answer t e r ≡ Err fault → IsEntryFault t line fault
 answered_fault t line e (Err refusal) fault spells answer is = subst (IsEntryFault t line) (same_fault (Refused refusal) fault (after_answer t e (Err refusal)) refl is) (e, spells, answer)
@@ -211,7 +211,7 @@ answered_fault t line e (Ok right) fault spells answer is =
 not_the_end : (line : List ℕ) → bytes_eq line (codes "end") ≡ false → line ≢ codes "end"
 not_the_end line other same = true≢false (sym ((bytes_eq-Decides line (codes "end")).1 same) ∙ other)
 
--- a line that spells an entry which the version may not have spells no other
+-- a line that encodes an entry which the version doesn't allow encodes no other
 no_other : (h : HeadingModel) (line : List ℕ) (e : Entry) → IsSound h → entry_of h.words line ≡ Some e → can_spell h.version e.act ≡ false → SpellsNoneInVersion h line
 no_other h line e s read off f spells =
     let k : Some f ≡ Some e = sym (spelled_reads h line f s spells.0) ∙ read in
@@ -239,7 +239,7 @@ fault_told t line fault s is =
       | false ↦ λ q g. entered_fault t line (entry_of t.heading.words line) fault s q refl (ran_fault (entry_step t line) fault g)
     ] refl is
 
--- the step at an entry that was read and that the version may have
+-- the step at an entry that was read and that the version allows
 at_entry : (t : TraceModel) (line : List ℕ) (e : Entry) → IsSound t.heading → SpellsInVersion t.heading line e → step (Running t) line ≡ ran_on (after_answer t e (answer_of t.heading.setup (reverse t.entries) e.worker e.act))
 unfolding step entry_step
 at_entry t line e s spells =
@@ -249,7 +249,7 @@ at_entry t line e s spells =
 off_reply : (right r : Reply) → right ≢ r → same_reply right r ≡ false
 off_reply right r off = false_from_ne_true _ (λ same. off (same_is right r same))
 
--- if the line spells no entry that the version may have, the entry that was read, if one was, is none that it may have
+-- if the line encodes no entry that the version allows, an entry that was read is not allowed by it
 bad_entry : (t : TraceModel) (line : List ℕ) (o : Option Entry) → IsSound t.heading → SpellsNoneInVersion t.heading line → entry_of t.heading.words line ≡ o → after_entry t o ≡ Err Bad
 bad_entry t line None s none read = refl
 bad_entry t line (Some e) s none read =

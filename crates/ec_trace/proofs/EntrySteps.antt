@@ -30,7 +30,7 @@ pub spells_none : (t : TraceModel) (line : List ℕ) → entry_of t.heading.word
 unfolding entry_step
 spells_none t line e = ap (after_entry t) e
 
--- an entry that is not refused is answered, with the right reply or not
+-- the step of an entry that is not refused is made, whether its reply is right or wrong
 answered_is : (t : TraceModel) (e : Entry) (answer : Result Reply Refusal) → IsOk answer → IsAnswered (after_answer t e answer)
 answered_is t e (Ok right) ok =
     elim (same_reply right e.reply) as (λ b. IsAnswered {S = TraceModel} (cond b (Ok (record { heading = t.heading; entries = t.entries ++ e ∷ [] })) (Err (WrongReply right)))) [ true ↦ tt | false ↦ tt ]
@@ -79,7 +79,7 @@ module _ (xs : List ℕ) (left : Option (List ℕ)) (r : LinesModel) (h : Headin
   unfolding step
   end_line_taken b is = line_taken xs left r r.line (Running returned) (Ended returned) b (cond-true _ _ _ is)
 
--- the end of the text, behind the last line
+-- the end of the text, after the last line
 pub recounts : (xs : List ℕ) (left : Option (List ℕ)) (h : HeadingModel) (entries : List Entry) (after : RunModel → Type 0) (r : Result (Unit {0}) TraceFault) → MatchResult r (λ _. outcome TRACE_MAX xs ≡ Ok (record { heading = h; entries = entries })) (λ f. Returns TRACE_MAX xs left (Err f)) → after (history_of h entries) → Recounts xs left h after r
 recounts xs left h entries after (Ok x) e represents = (entries, e, represents)
 recounts xs left h entries after (Err f) e represents = e

@@ -1,4 +1,4 @@
--- The fault of a line is that of the first faulty line.
+-- A reported fault of a line is that of the first faulty line.
 use Rattle.std.proofs.Common.{◌≡◌, ◌≢◌, ℕ, ◌+◌, ◌<◌, ◌≤◌, List, [], ◌∷◌, ◌++◌, length, take, cond, Bool, true, false, eqb, ltb, refl, sym, ap, ◌∙◌, arith, Result, Ok, Err, append_assoc, append-nil, ltb-true, ltb-false, ◌&&◌, inl, inr, ◌⊎◌}
 use Rattle.std.specs.List.{All, AllByRecursion, join_with_byte, onto_first}
 use Rattle.std.proofs.lemmas.Bool.{and_parts, or_cases, eqb-false}
@@ -112,7 +112,7 @@ faulty n s (line ∷ next ∷ others) m f clean e =
 
 -- AS A TEXT
 
--- what stands behind the first of some parts
+-- what follows the first of some parts
 abbrev behind_of : List (List ℕ) → List ℕ
 behind_of [] = []
 behind_of (next ∷ rest) = 10 ∷ join_with_byte 10 (next ∷ rest)
@@ -172,7 +172,7 @@ ended_fault : (b : Bool) (s : Stage) (g : TraceFault) → cond b (traced_in s) (
 ended_fault true s g e = traced_fault s g e
 ended_fault false s g e = cc
 
--- what such a text comes to
+-- what such a text is read as
 whole_fault : (b : Bool) (p : ReadState) (g : TraceFault) → cond b (Err faults.TooLarge) (ended_at p) ≡ Err g → ((b ≡ true) × (g ≡ faults.TooLarge)) ⊎ ((b ≡ false) × (g ≡ faults.Unfinished))
 whole_fault true p g e = inl (refl, cc)
 whole_fault false p g e = inr (refl, ended_fault (eqb (length p.part) 0) p.stage g e)

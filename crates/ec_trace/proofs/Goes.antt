@@ -1,4 +1,4 @@
--- How a text goes on from the line in progress.
+-- How reading goes on from the line in progress.
 use Rattle.std.proofs.Common.{◌≡◌, ◌≢◌, ℕ, ◌+◌, ◌<◌, ◌≤◌, List, [], ◌∷◌, ◌++◌, length, cond, Bool, true, false, eqb, ltb, refl, sym, ap, ◌∙◌, arith, rules, Ok, Err, length-append, append_assoc, append-nil, lt-ltb, le-ltb, ◌&&◌, ◌||◌, inl, inr}
 use Rattle.std.specs.List.{onto_first, All, AllByRecursion}
 use Rattle.std.proofs.lemmas.List.Splits.{slice_split-cons_no}
@@ -29,7 +29,7 @@ has_first (b ∷ bytes) =
     let w : P (eqb b 10) = elim (eqb b 10) as P [ true ↦ ([], lines_of_text bytes, refl) | false ↦ onto_has b (lines_of_text bytes) ] in
     record { first = w.0; others = w.1; is = w.2 }
 
--- bytes with no LF go onto the first part
+-- bytes with no LF are added before the first part
 pub onto_part : (part more : List ℕ) (first : List ℕ) (others : List (List ℕ)) → AllByRecursion (λ b. b ≢ 10) part → lines_of_text more ≡ first ∷ others → lines_of_text (part ++ more) ≡ (part ++ first) ∷ others
 onto_part [] more first others none is = is
 onto_part (b ∷ part) more first others none is =
@@ -56,7 +56,7 @@ goes_long n s part more none long =
     let l : ltb 8192 (length (part ++ f.first)) ≡ true = lt-ltb _ _ (omega (arith, length-append part f.first)) in
     ap (goes n s) e ∙ goes_long_first n s (part ++ f.first) f.others l
 
--- a line with bytes for which it has no room
+-- a line with bytes that make it too long
 pub goes_held : (n : ℕ) (s : Stage) (part bytes more : List ℕ) → All (λ b. b ≢ 10) part → All (λ b. b ≢ 10) bytes → 8192 < length part + length bytes → goes n s (lines_of_text (part ++ (bytes ++ more))) ≡ Err (BadLine n)
 goes_held n s part bytes more none plain full =
     ap (λ (text : List ℕ). goes n s (lines_of_text text)) (sym (append_assoc part bytes more)) ∙

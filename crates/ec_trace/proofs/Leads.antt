@@ -51,7 +51,7 @@ reads_back bytes lines t h =
     ∙ sym (append-nil (lines_text lines)))
     ∙ goes_lines 1 Opening (Ended t) lines [] h.each h.leads ∙ goes_nothing (1 + length lines) (Ended t)
 
--- a text within the bound comes to what its lines lead to
+-- a text within the bound is read as what its lines lead to
 pub text_read : (max : ℕ) (bytes : List ℕ) (lines : List (List ℕ)) (t : TraceModel) → length bytes ≤ max → IsText bytes lines t → outcome max bytes ≡ Ok t
 unfolding outcome
 text_read max bytes lines t within h =
@@ -69,7 +69,7 @@ ended_is : (u : TraceModel) → is_ended (Ended u) ≡ true
 unfolding is_ended
 ended_is u = refl
 
--- no text begins another
+-- no text is a proper prefix of another
 pub no_front : (a x : List ℕ) (lines lines' : List (List ℕ)) (t t' : TraceModel) → IsText a lines t → IsText (a ++ x) lines' t' → x ≡ []
 unfolding start
 no_front a [] lines lines' t t' h k = refl
@@ -90,7 +90,7 @@ one_meaning bytes lines lines' t t' h k =
 
 -- WHAT IS READ IS A TEXT
 
--- a choice between a fault and something else came to Ok
+-- if a choice between a fault and a result is Ok, it is the result
 not_fault : {X : Type 0} (b : Bool) (f : TraceFault) (r : Result X TraceFault) (p : X) → cond b (Err f) r ≡ Ok p → (b ≡ false) × (r ≡ Ok p)
 not_fault true f r p e = cc
 not_fault false f r p e = (refl, e)
@@ -163,7 +163,7 @@ bounded_back : (max : ℕ) (bytes : List ℕ) (r : Result ReadState TraceFault) 
 bounded_back max bytes (Ok p) t e = (let k = not_fault (ltb max (length bytes)) TooLarge (ended_at p) t e in (p, refl, ltb-false _ _ k.0, k.1))
 bounded_back max bytes (Err f) t e = cc
 
--- what a reading comes to is the text of lines
+-- what is read is the text of lines
 pub text_back : (max : ℕ) (bytes : List ℕ) (t : TraceModel) → outcome max bytes ≡ Ok t → IsRead bytes t × (length bytes ≤ max)
 unfolding outcome
 text_back max bytes t e =

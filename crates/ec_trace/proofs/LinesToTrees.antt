@@ -1,4 +1,4 @@
--- What the lines of a trace have declared, if `run` came, is what an outline declares.
+-- At `run` the header of a trace is what a syntax tree declares.
 use Rattle.std.proofs.Common.{◌≡◌, ◌⊎◌, inl, inr, ℕ, ◌<◌, ◌≤◌, List, [], ◌∷◌, cond, true, false, ◌&&◌, nat_lt, Ok, refl, sym, ap, subst, ◌∙◌, arith, codes, reverse}
 use Rattle.std.specs.Prelude.{bytes_eq}
 use Rattle.std.proofs.lemmas.Bool.{and_parts, ltb-true}
@@ -20,7 +20,7 @@ use Rattle.ec_trace.specs.Step.{step, limit_of, after_declaration, entry_step, r
 use Rattle.ec_trace.proofs.ReadRuns.{ran_back, entered_back, answered_back}
 use Rattle.ec_trace.proofs.shared.ReadTraces.{limit_back, limited_back, declared_back, first_back}
 
--- the line of the workers is still to come, behind a limit, or an outline stands behind the heading
+-- only the limit was read, or a syntax tree declares the header
 abbrev IsBegun : HeadingModel → Type 0
 IsBegun h = ((v : Version) × (n : ℕ) × (1 ≤ n) × (n ≤ greatest_limit v) × (h ≡ empty_heading v n [])) ⊎ HasHeaderTree h
 

@@ -46,7 +46,7 @@ no_declared_line : (h : HeadingModel) (fault : HeadFault) (line : List ℕ) → 
 unfolding step
 no_declared_line h fault line other e = cond-false _ _ _ other ∙ ap after_declaration e
 
--- a line that declares nothing is told as bad
+-- a line that declares nothing is reported as bad
 pub undeclared : (xs : List ℕ) (left : Option (List ℕ)) (r : LinesModel) (h new : HeadingModel) (f : TraceFault) → HasLine xs left r r.line (Declaring h) → is_run h r.line ≡ false → r.taken ≤ TRACE_MAX → Declares (Err f) h new r → Returns TRACE_MAX xs left (Err f)
 undeclared xs left r h new Memory b other small d = tt
 undeclared xs left r h new f b other small d =

@@ -1,4 +1,4 @@
--- The words of a key hold all bytes of its text.
+-- The words of a key contain all bytes of its text.
 use Rattle.std.proofs.Common.{◌≡◌, ℕ, suc, ◌+◌, ◌-◌, ◌<◌, ◌≤◌, List, [], ◌∷◌, ◌++◌, length, take, drop, get_or, min, refl, sym, ap, ◌∙◌, arith, drop-cons, length-take, length-drop, lt-ltb, le-ltb, inl, inr}
 use Rattle.std.proofs.lemmas.List.{take-append-drop, take-take, drop-take, drop-drop, take_all, get_or-take, get_or-drop, get_or_past}
 use Rattle.std.proofs.lemmas.Bool.{cases_lt}
@@ -7,7 +7,7 @@ use Rattle.std.specs.Int.{w32, w64, from_le_bytes}
 use Rattle.ec_trace.specs.PackedBytes.{eight_of, four_of, key_bytes}
 use Rattle.ec_trace.specs.declared.packed_bytes.PackedBytes.{PackedBytes}
 
--- a byte, and those behind it
+-- a byte, and those after it
 one_on : (xs rest : List ℕ) (from next n : ℕ) → next ≡ suc from → from < length xs → take n (drop next xs) ≡ rest → take (suc n) (drop from xs) ≡ get_or xs from 0 ∷ rest
 one_on xs rest from next n is within behind =
     ap (take (suc n)) (drop-cons xs from 0 within) ∙ ap (λ (k : ℕ). get_or xs from 0 ∷ take n (drop k xs)) (sym is) ∙ ap (λ (r : List ℕ). get_or xs from 0 ∷ r) behind
@@ -47,19 +47,19 @@ unfolding eight_of
 eight_held xs from word within small is =
     le_bytes_8 (take 8 (drop from xs)) word (part_length xs from 8 within) (small_part xs from 8 small) (is ∙ ap (from_le_bytes w64) (sym (eight_read xs from within)))
 
--- a part, and the part behind it
+-- a part, and the part after it
 taken_on : (n m : ℕ) (xs : List ℕ) → take n xs ++ take m (drop n xs) ≡ take (n + m) xs
 taken_on n m xs =
     ap (λ (r : List ℕ). r ++ take m (drop n xs)) (sym (take-take n (n + m) xs (omega arith))) ∙ ap (λ (r : List ℕ). take n (take (n + m) xs) ++ r) (sym (drop-take n m xs)) ∙ take-append-drop n (take (n + m) xs)
 
--- as much from the beginning as up to the end, if that is at least half
+-- a prefix and a suffix of the same length, if that is at least half
 lapped : (xs head tail : List ℕ) (m : ℕ) → m ≤ length xs → length xs ≤ m + m → head ≡ take m xs → tail ≡ drop (length xs - m) xs → head ++ drop (m + m - length xs) tail ≡ xs
 lapped xs head tail m least most h t =
     let at : (length xs - m) + (m + m - length xs) ≡ m = omega arith in
     let rest : drop (m + m - length xs) tail ≡ drop m xs = ap (drop (m + m - length xs)) t ∙ drop-drop (m + m - length xs) (length xs - m) xs ∙ ap (λ (k : ℕ). drop k xs) at in
     ap (λ (r : List ℕ). r ++ drop (m + m - length xs) tail) h ∙ ap (λ (r : List ℕ). take m xs ++ r) rest ∙ take-append-drop m xs
 
--- the bytes up to the end
+-- the last bytes
 to_end : (xs : List ℕ) (m : ℕ) → m ≤ length xs → take m (drop (length xs - m) xs) ≡ drop (length xs - m) xs
 to_end xs m least = take_all m (drop (length xs - m) xs) (omega (arith, length-drop (length xs - m) xs))
 

@@ -1,4 +1,4 @@
--- The spelling of a cell is read, and nothing else.
+-- The encoding of a cell is read, and nothing else.
 use Rattle.std.proofs.Common.{◌≡◌, ℕ, ◌+◌, ◌-◌, ◌<◌, List, [], ◌∷◌, ◌++◌, cond, eqb, true, false, Option, None, Some, refl, sym, ap, ◌∙◌, arith, eq-eqb, decimal, append_assoc, nat_lt}
 use Rattle.std.specs.Prelude.{option_map}
 use Rattle.std.specs.Option.{option_and_then}
@@ -54,7 +54,7 @@ cut_at-joins c (b ∷ word) prefix rest e =
           ap (λ (r : List ℕ). b ∷ r) (cut_at-joins c word k.0 rest k.1) ∙ ap (λ (r : List ℕ). r ++ c ∷ rest) (sym k.2))
     ] refl e
 
--- WHAT IS SPELLED IS READ
+-- ENCODINGS ARE READ
 
 pub decimal_lacks : (c n : ℕ) → n < 1000000000000000000 → ¬ (IsInRange 48 57 c) → AllByRecursion (λ b. eqb b c ≡ false) (decimal n)
 decimal_lacks c n small out =
@@ -79,7 +79,7 @@ cell_again names x are b small =
     ∙ bracketed_read names b.block b.first b.count (x - b.first) (block_by names x are b) (omega (arith, b.low, b.high)) (omega arith)
     ∙ ap Some (omega (arith, b.low))
 
--- WHAT IS READ IS SPELLED
+-- WHAT IS READ IS AN ENCODING
 
 block_back : (t : Target) (p : ℕ × ℕ) → block_of t ≡ Some p → t ≡ Cells p.0 p.1
 block_back (Cells first n) p e = (let same : (first, n) ≡ p = cc in ap (λ (q : ℕ × ℕ). Cells q.0 q.1) same)

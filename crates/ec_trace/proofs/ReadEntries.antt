@@ -1,4 +1,4 @@
--- Entries are read from their spelling, and from nothing else.
+-- Entries are read from their encodings, and from nothing else.
 use Rattle.std.proofs.Common.{◌≡◌, ℕ, ◌-◌, ◌<◌, List, [], ◌∷◌, ◌++◌, Bool, true, false, cond, eqb, Option, None, Some, refl, sym, ap, subst, ◌∙◌, arith, codes, decimal, inl, inr, ◌⊎◌, get_or}
 use Rattle.std.specs.Prelude.{bytes_eq}
 use Rattle.std.specs.Option.{option_and_then}
@@ -38,7 +38,7 @@ too_many names a b c d e f more = let r : HasFirst more = has_first more in rw r
 pub third_word : (v : Version) (a b more : List ℕ) → limit_in v (a ∷ b ∷ words_of more) ≡ None
 third_word v a b more = let r : HasFirst more = has_first more in rw r.is refl
 
--- WHAT MAY BE SPELLED
+-- WHAT HAS AN ENCODING
 
 abbrev pub ActIsNamed : NameTable → Act → Type 0
 ActIsNamed names (acts.Advance e) = HasName names (Event e)
@@ -89,7 +89,7 @@ reply_is_word Done f = literal_word (codes "done") refl
 reply_is_word Pending f = literal_word (codes "pending") refl
 reply_is_word (Number n) f = number_word n f
 
--- WHAT IS SPELLED IS READ
+-- ENCODINGS ARE READ
 
 -- a number is no word of letters
 not_letters : (n c : ℕ) (word : List ℕ) → n < 1000000000000000000 → ¬ (IsInRange 48 57 c) → get_or word 0 0 ≡ c → bytes_eq (decimal n) word ≡ false
@@ -207,12 +207,12 @@ line_again names w (acts.Hand e b) r are who what returned =
     ap (entry_in names) (six_words _ _ _ _ _ _ (name_word names (Worker w) _ m) (literal_word (codes "hand") refl) (name_word names (Event e) _ n) (name_word names (Worker b) _ k) equals_word (reply_is_word r returned))
     ∙ by_again names _ _ _ w (acts.Hand e b) r (worker_again names _ w m.found) (hand_again names _ _ e b (event_again names _ e n.found) (worker_again names _ b k.found)) (reply_again r returned)
 
--- what is spelled so is read
+-- the encoding of an entry is read
 pub entry_again : (names : NameTable) (e : Entry) → AreWords names → IsSpellable names e → entry_of names (entry_line names e) ≡ Some e
 unfolding entry_of entry_line
 entry_again names e are may = line_again names e.worker e.act e.reply are may.worker may.act may.reply
 
--- WHAT IS READ IS SPELLED
+-- WHAT IS READ IS AN ENCODING
 
 same_word : (v w : List ℕ) → bytes_eq v w ≡ true → v ≡ w
 same_word v w h = (bytes_eq-Decides v w).0 h
@@ -360,7 +360,7 @@ words_back names (w ∷ verb ∷ object ∷ value ∷ equals ∷ r ∷ []) e apa
     ends_as names w equals r (verb ∷ object ∷ value ∷ []) e b.who (with_back names verb object value e.act apart b.what) b.sign b.returned
 words_back names (a ∷ b ∷ c ∷ d ∷ f ∷ g ∷ k ∷ ws) e apart h = cc
 
--- what is read is spelled so
+-- what is read is the encoding
 pub entry_spelled : (names : NameTable) (line : List ℕ) (e : Entry) → AreApart names → entry_of names line ≡ Some e → line ≡ entry_line names e
 unfolding entry_of entry_line
 entry_spelled names line e apart h = sym (split_join line) ∙ ap (join_with_byte 32) (words_back names (words_of line) e apart h)

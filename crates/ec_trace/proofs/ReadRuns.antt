@@ -34,7 +34,7 @@ use Rattle.ec_heading.proofs.shared.ReadHeadings.{IsSound, is_declared}
 use Rattle.ec_trace.proofs.ReadEntries.{ActIsNamed, ReplyIsShort, IsSpellable, entry_again, entry_spelled}
 use Rattle.ec_core.proofs.shared.Moments.{accepted_before as accepted_end}
 
--- PASTS THAT GROW
+-- REVERSED HISTORIES THAT GROW
 
 reversed : (pre : List Entry) (e : Entry) → reverse (pre ++ e ∷ []) ≡ e ∷ reverse pre
 reversed pre e = reverse-append pre (e ∷ [])
@@ -45,7 +45,7 @@ accepted_front t pre es e h =
     ap reverse (sym (append_snoc pre e es)) ∙ reverse-append (pre ++ e ∷ []) es ∙ ap (λ (r : List Entry). reverse es ++ r) (reversed pre e) in
     accepted_end t (reverse es) (e ∷ reverse pre) (subst (IsAccepted t) shape h)
 
--- AN ACCEPTED ENTRY MAY BE SPELLED
+-- AN ACCEPTED ENTRY HAS AN ENCODING
 
 pub act_named : (h : HeadingModel) (a : Act) → IsSound h → names_unknown_object h.setup a ≡ false → is_too_large a ≡ false → ActIsNamed h.words a
 act_named h (acts.Advance e) is known small = is.events e (leb-false _ _ known)
@@ -110,11 +110,11 @@ steps_so : (t : TraceModel) (line : List ℕ) (e : Entry) → entry_of t.heading
 unfolding step
 steps_so t line e is can right = rw (not_end t.heading.words line e is) (ap ran_on (entered_so t line e is can right))
 
--- the version may have each of the entries
+-- the version allows each of the entries
 abbrev pub EachInVersion : HeadingModel → List Entry → Type 0
 EachInVersion h es = AllByRecursion (λ (e : Entry). can_spell h.version e.act ≡ true) es
 
--- the entries of an accepted history are read in turn
+-- the entries of an accepted history are read in order
 pub entries_lead : (h : HeadingModel) (pre es : List Entry) → IsSound h → EachInVersion h es → IsAccepted h.setup (reverse (pre ++ es))
     → Leads (Running (record { heading = h; entries = pre })) (map (entry_line h.words) es) (Running (record { heading = h; entries = pre ++ es }))
 entries_lead h pre [] is can acc = ap (λ (xs : List Entry). Running (record { heading = h; entries = xs })) (sym (append-nil pre))
@@ -138,7 +138,7 @@ pub end_leads : (t : TraceModel) → Leads (Running t) (codes "end" ∷ []) (End
 unfolding step
 end_leads t = (Ended t, refl, refl)
 
--- LINES BEHIND `run`
+-- LINES AFTER `run`
 
 -- nothing follows the last line
 after_end : (t u : TraceModel) (lines : List (List ℕ)) → Leads (Ended t) lines (Ended u) → (lines ≡ []) × (t ≡ u)
@@ -169,7 +169,7 @@ pub ran_back : (r : Result TraceModel LineFault) (s : Stage) → ran_on r ≡ Ok
 ran_back (Ok u) s h = (u, refl, cc)
 ran_back (Err f) s h = cc
 
--- the line spells an entry that the version may have and that is accepted next
+-- the line is the encoding of an entry that the version allows and that is accepted next
 record IsNext (t : TraceModel) (line : List ℕ) (s : Stage) : Type 0 where
   entry : Entry
   spelled : line ≡ entry_line t.heading.words entry
@@ -191,7 +191,7 @@ next_entry t line s is h =
       stage = r.2 ∙ ap Running a.1;
     }
 
--- these lines are those of entries that the version may have and that are accepted, and `end`
+-- these lines are those of entries that the version allows and that are accepted, and `end`
 pub record IsRunOf (h : HeadingModel) (pre : List Entry) (lines : List (List ℕ)) (t : TraceModel) : Type 0 where
   pub entries : List Entry
   pub lines_are : lines ≡ map (entry_line h.words) entries ++ codes "end" ∷ []

@@ -1,4 +1,4 @@
--- What follows as the reading of a text goes on, and at each of its ends.
+-- What holds while a text is read, and when reading ends.
 use Rattle.std.proofs.Common.{◌≡◌, ◌≢◌, ℕ, ◌+◌, ◌-◌, ◌<◌, ◌≤◌, List, [], ◌∷◌, ◌++◌, length, take, Bool, true, false, eqb, ltb, refl, sym, ap, ◌∙◌, arith, Option, Some, None, Ok, Err, length-append, append_assoc, append-nil, lt-ltb, le-ltb, subst}
 use Rattle.std.proofs.Math.Seq.{take-append-add, take-append_seam}
 use Rattle.std.proofs.lemmas.Bool.{cond-true, cond-false}
@@ -21,7 +21,7 @@ use Rattle.ec_trace.specs.declared.read.TheConstants.{TRACE_MAX}
 
 -- THE TEXT
 
--- a front of the text comes to a fault, whatever follows
+-- a prefix of the text has a fault, whatever follows
 fault_at : (xs ys given : List ℕ) (f : TraceFault) → xs ≡ given ++ ys → length given ≤ TRACE_MAX → ((more : List ℕ) → goes_from start (given ++ more) ≡ Err f) → outcome TRACE_MAX xs ≡ Err f
 unfolding outcome
 fault_at xs ys given f whole small fails =
@@ -31,7 +31,7 @@ fault_at xs ys given f whole small fails =
     ap (trace_or_fault TRACE_MAX xs) (ap (goes_from start) t
     ∙ fails (take (TRACE_MAX - length given) ys))
 
--- a front that is as long as a text may be has no fault, and more follows
+-- a prefix that is as long as a text may be has no fault, and more follows
 large_at : (xs ys given : List ℕ) (p : ReadState) → xs ≡ given ++ ys → length given ≡ TRACE_MAX → 0 < length ys → goes_from start (given ++ []) ≡ Ok p → outcome TRACE_MAX xs ≡ Err TooLarge
 unfolding outcome
 large_at xs ys given p whole full some goes =
@@ -40,7 +40,7 @@ large_at xs ys given p whole full some goes =
     let long : ltb TRACE_MAX (length xs) ≡ true = lt-ltb _ _ (omega (arith, ap length whole, length-append given ys)) in
     ap (trace_or_fault TRACE_MAX xs) g ∙ cond-true _ _ _ long
 
--- all of it was given, and comes to this
+-- all of the text was read, and this is what it is read as
 whole_at : (xs given : List ℕ) (p : ReadState) → xs ≡ given ++ [] → length given ≤ TRACE_MAX → goes_from start (given ++ []) ≡ Ok p → outcome TRACE_MAX xs ≡ ended_at p
 unfolding outcome
 whole_at xs given p whole small goes =
@@ -64,7 +64,7 @@ whole_of : (xs : List ℕ) (left : Option (List ℕ)) (given : List ℕ) (p : Re
 whole_of xs None given p gave end small goes = absurd gave
 whole_of xs (Some ys) given p gave end small goes = whole_at xs given p (gave ∙ ap (λ (zs : List ℕ). given ++ zs) end) small goes
 
--- a failed read takes nothing
+-- a failed read consumes nothing
 failed_of : (xs : List ℕ) (left after : Option (List ℕ)) (given : List ℕ) (p : ReadState) → Consumes (Some xs) left given → Keeps left after → length given ≤ TRACE_MAX → goes_from start (given ++ []) ≡ Ok p → Returns TRACE_MAX xs after (Err Read)
 failed_of xs None after given p gave kept small goes = absurd gave
 failed_of xs (Some ys) None given p gave kept small goes = absurd kept
@@ -85,7 +85,7 @@ reaches_start a xs r known fresh =
 
 -- A LINE
 
--- the front grows by bytes that were at hand
+-- the prefix that is consumed grows by bytes that were read
 gives_more : (xs : List ℕ) (left : Option (List ℕ)) (given behind over more rest : List ℕ) → Consumes (Some xs) left (given ++ (behind ++ over)) → behind ≡ more ++ rest → Consumes (Some xs) left ((given ++ more) ++ (rest ++ over))
 gives_more xs left given behind over more rest gave e =
     let same : given ++ (behind ++ over) ≡ (given ++ more) ++ (rest ++ over) =
@@ -108,7 +108,7 @@ line_ends xs left r q part line whole s b cut over number took same plain short 
           ap (goes_from start) prefix ∙ b.goes (line ++ 10 ∷ more) ∙ ap (λ (x : List ℕ). goes (r.number + 1) s (lines_of_text x)) back ∙ goes_line (r.number + 1) s whole more plain ∙ rw short (rw number refl);
     }
 
--- what is at hand begins the line, or goes on with it
+-- what was read is the next part of the line
 pub line_grows : (xs : List ℕ) (left : Option (List ℕ)) (r q : LinesModel) (part whole : List ℕ) (s : Stage) → Begins xs left r part s → q.behind ≡ [] → q.over ≡ r.over → q.number ≡ r.number → q.taken ≡ r.taken + length r.behind → whole ≡ part ++ r.behind → Begins xs left q whole s
 line_grows xs left r q part whole s b none over number took same = record {
   given = b.given ++ r.behind;
@@ -124,7 +124,7 @@ line_long xs left r part line rest s b cut small before plain long =
     (omega (arith, b.len, length-append b.given line, ap length cut, length-append line rest))
     (λ more. ap (goes_from start) (append_assoc b.given line more) ∙ b.goes (line ++ more) ∙ goes_held (r.number + 1) s part line more before plain long)
 
--- the next piece came
+-- the next piece was read
 refilled_of : (xs : List ℕ) (left after : Option (List ℕ)) (given more : List ℕ) → Consumes (Some xs) left given → Consumes left after more → Consumes (Some xs) after (given ++ more)
 refilled_of xs None after given more gave took = absurd gave
 refilled_of xs (Some ys) None given more gave took = absurd took
@@ -138,14 +138,14 @@ line_refilled xs left after r q is_more part s b none over came = record {
   goes = λ more. b.goes more ∙ rw came.number refl;
 }
 
--- nothing came yet of the next line, and all of it came
+-- before the next line, its part is empty; at the end of the line, its part is the line
 pub part_cleared : (xs : List ℕ) (left : Option (List ℕ)) (r q : LinesModel) (s : Stage) → q ≡ record { number = r.number; taken = r.taken; line = q.line; part = []; behind = r.behind; over = r.over } → Reaches xs left r s → Begins xs left q q.part s
 part_cleared xs left r q s e b = subst (λ w. Begins xs left w w.part s) (sym e) (record { given = b.given; gave = b.gave; len = b.len; goes = b.goes })
 
 pub part_whole : (xs : List ℕ) (left : Option (List ℕ)) (r q : LinesModel) (s : Stage) → q ≡ record r { line = r.part } → HasLine xs left r r.part s → HasLine xs left q q.line s
 part_whole xs left r q s e b = subst (λ w. HasLine xs left w w.line s) (sym e) (record { given = b.given; gave = b.gave; len = b.len; goes = b.goes })
 
--- the line that came is taken, or refused
+-- the current line is accepted, or rejected
 pub line_taken : (xs : List ℕ) (left : Option (List ℕ)) (r : LinesModel) (line : List ℕ) (s t : Stage) → HasLine xs left r line s → step s line ≡ Ok t → Reaches xs left r t
 line_taken xs left r line s t b e = record { given = b.given; gave = b.gave; len = b.len; goes = λ more. b.goes more ∙ rw e refl }
 
@@ -160,7 +160,7 @@ line_refused xs left r line s f b e small =
 
 -- THE ENDS OF A TEXT
 
--- what came of a line has no fault, before the last line
+-- the part of a line has no fault, before the last line
 rests : (n : ℕ) (s : Stage) (part : List ℕ) → is_ended s ≡ false → All (λ b. b ≢ 10) part → length part ≤ 8192 → goes n s (lines_of_text (part ++ [])) ≡ Ok (record { stage = s; number = n; part = part })
 rests n s part going plain short = goes_rest n s part plain short ∙ rw going refl
 
@@ -183,7 +183,7 @@ module _ (xs : List ℕ) (r : LinesModel) (s : Stage) (part : List ℕ) where
       let gave : Consumes (Some xs) left b.given = subst (Consumes (Some xs) left) (rw (none, over) (append-nil b.given)) b.gave in
       whole_of xs left b.given (record { stage = s; number = r.number + 1; part = part }) gave end (omega (arith, b.len)) (b.goes [] ∙ rests (r.number + 1) s part going plain short) ∙ not_whole s (r.number + 1) part going
 
-  -- the bound of a text lies in a line
+  -- the bound of a text is in a line
   pub line_large : (left : Option (List ℕ)) → Begins xs left r part s → is_ended s ≡ false → r.behind ≡ [] → 0 < length r.over → r.taken ≡ TRACE_MAX → All (λ b. b ≢ 10) part → length part ≤ 8192 → outcome TRACE_MAX xs ≡ Err TooLarge
   line_large left b going none over full plain short =
       let gave : Consumes (Some xs) left (b.given ++ r.over) = subst (λ (w : List ℕ). Consumes (Some xs) left (b.given ++ (w ++ r.over))) none b.gave in
@@ -196,7 +196,7 @@ module _ (xs : List ℕ) (r : LinesModel) (s : Stage) (part : List ℕ) where
       failed_of xs left after b.given (record { stage = s; number = r.number + 1; part = part }) gave kept (omega (arith, b.len)) (b.goes [] ∙ rests (r.number + 1) s part going plain short)
 
 module _ (xs : List ℕ) (r : LinesModel) (t : TraceModel) where
-  -- nothing stands behind the last line
+  -- nothing follows the last line
   rests_ended : goes (r.number + 1) (Ended t) (lines_of_text ([] ++ [])) ≡ Ok (record { stage = Ended t; number = r.number + 1; part = [] })
   unfolding is_ended
   rests_ended = goes_rest (r.number + 1) (Ended t) [] (All-nil (λ b. b ≢ 10)) (omega arith)
@@ -216,7 +216,7 @@ module _ (xs : List ℕ) (r : LinesModel) (t : TraceModel) where
       let gave : Consumes (Some xs) left b.given = subst (Consumes (Some xs) left) (rw (none, over) (append-nil b.given)) b.gave in
       failed_of xs left after b.given (record { stage = Ended t; number = r.number + 1; part = [] }) gave kept (omega (arith, b.len)) (b.goes [] ∙ rests_ended)
 
-  -- something does
+  -- something follows it
   behind_last : (left : Option (List ℕ)) (c : ℕ) (behind : List ℕ) → Reaches xs left r (Ended t) → r.behind ≡ c ∷ behind → r.taken + length r.behind ≤ TRACE_MAX → outcome TRACE_MAX xs ≡ Err (BadLine (r.number + 1))
   unfolding is_ended
   behind_last left c behind b e small =

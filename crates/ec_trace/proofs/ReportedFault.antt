@@ -1,4 +1,4 @@
--- The first faulty line of a text gives its fault.
+-- The fault of the first faulty line of a text is reported.
 use Rattle.std.proofs.Common.{Ok, ◌≡◌, ◌≢◌, ℕ, ◌+◌, List, ◌++◌, length, take, false, ltb, refl, sym, ap, ◌∙◌, arith, Err, le-ltb, inl, inr, ◌⊎◌}
 use Rattle.std.specs.List.{All}
 use Rattle.ec_trace.specs.declared.fault.LineFault.{LineFault}

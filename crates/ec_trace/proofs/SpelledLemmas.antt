@@ -15,7 +15,7 @@ words ws es qs xs = record { workers = ws; events = es; sequencers = qs; cells =
 none_at : (ws : List (Bor (List ℕ))) (w : Bor (List ℕ)) (i : ℕ) → w.now ≡ [] → slice_get ws i ≡ Some w → word_at ws i ≡ []
 none_at ws w i empty at = ap (λ (o : Option (Bor (List ℕ))). option_map_or (λ (v : Bor (List ℕ)). v.now) o []) at ∙ empty
 
--- tables of no bytes are those of no names
+-- tables of empty words are those of no names
 pub no_words : (ws es qs : List (Bor (List ℕ))) (xs : List (Option CellName)) (w : Bor (List ℕ)) → w.now ≡ []
     → ((i : ℕ) → i < 16 → slice_get ws i ≡ Some w) → ((i : ℕ) → i < 32 → slice_get es i ≡ Some w) → ((i : ℕ) → i < 32 → slice_get qs i ≡ Some w) → ((i : ℕ) → i < 256 → slice_get xs i ≡ Some None)
     → Spells [] (words ws es qs xs)

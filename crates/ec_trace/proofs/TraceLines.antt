@@ -65,7 +65,7 @@ line_is line clean short = record { no_lf = All-from_recursion (λ b. b ≢ 10) 
     apart [] h = tt
     apart (b ∷ w) h = (eqb-false b 10 h.0, apart w h.1)
 
--- HEADINGS
+-- HEADERS
 
 workers_clean : (workers : List (List ℕ)) → AllByRecursion (λ w. is_name w ≡ true) workers → AllByRecursion Lacks workers
 workers_clean [] h = tt
@@ -121,7 +121,7 @@ outline_clean o is =
     let all : AllByRecursion Lacks o.workers = workers_clean o.workers (recursion_from_All (λ w. is_name w ≡ true) o.workers is.workers.each) in
     (lacks_join (codes "workers" ∷ o.workers) (literal_lacks (codes "workers") refl, all), declarations_clean o.workers _ o.declarations all is.declarations)
 
--- a line that a heading takes is short
+-- a line that is added to a header is short
 passed : {X E : Type 0} (b : Bool) (f : E) (r : Result X E) (x : X) → cond b (Err f) r ≡ Ok x → b ≡ false
 passed true f r x e = cc
 passed false f r x e = refl

@@ -1,4 +1,4 @@
--- The text of a trace by the names of its heading is the trace of the heading's outline.
+-- The text of a trace, by the names of its header, is the trace of the header's syntax tree.
 use Rattle.std.proofs.Common.{◌≡◌, ℕ, List, [], ◌∷◌, ◌++◌, map, Option, Some, None, refl, sym, ap, ◌∙◌, append_assoc, codes}
 use Rattle.std.specs.List.{join_with_byte}
 use Rattle.ec_core.specs.declared.act.Entry.{Entry}

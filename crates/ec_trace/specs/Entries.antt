@@ -1,5 +1,5 @@
--- The entry that a line spells, by the words of the line. It is one question whether the version of the text may have it, and another one
--- whether the history may.
+-- The entry that a line encodes, by the words of the line. Whether the version of the text allows
+-- it, and whether the history accepts it, is tested later.
 use Rattle.std.specs.Prelude.{ℕ, List, [], ◌∷◌, Option, Some, None, bytes_eq, codes, if◌then◌else◌}
 use Rattle.ec_core.specs.declared.act.Act.{Act}
 use Rattle.ec_core.specs.declared.act.Act.TheVariants as acts
@@ -49,6 +49,6 @@ entry_in names (w ∷ verb ∷ object ∷ equals ∷ r ∷ []) = entry_by names 
 entry_in names (w ∷ verb ∷ object ∷ value ∷ equals ∷ r ∷ []) = entry_by names w (act_with names verb object value) equals r
 entry_in names _ = None
 
--- the entry that a line spells, if it spells one
+-- the entry that a line encodes, if it encodes one
 unfoldable pub entry_of : NameTable → List ℕ → Option Entry
 entry_of names line = entry_in names (words_of line)

@@ -55,12 +55,12 @@ same_reply (Number m) (Number n) = m == n
 same_reply Pending Pending = true
 same_reply _ _ = false
 
--- the entry that a line spells is answered: refused, or with the right reply
+-- the entry of a line is refused, or has the right reply or a wrong one
 abbrev pub after_answer : TraceModel → Entry → Result Reply Refusal → Result TraceModel LineFault
 after_answer t e (Err r) = Err (Refused r)
 after_answer t e (Ok right) = if same_reply right e.reply then Ok (record { heading = t.heading; entries = t.entries ++ e ∷ [] }) else Err (WrongReply right)
 
--- a line that spells no entry is bad, and one whose entry the version may not have
+-- a line is bad if it encodes no entry, or one that the version doesn't allow
 abbrev pub after_entry : TraceModel → Option Entry → Result TraceModel LineFault
 after_entry t None = Err Bad
 after_entry t (Some e) = if can_spell t.heading.version e.act then after_answer t e (answer_of t.heading.setup (reverse t.entries) e.worker e.act) else Err Bad
@@ -75,7 +75,7 @@ ran_on (Err fault) = Err fault
 
 -- ANY LINE
 
--- the stage after a line, or why the line is refused
+-- the stage after a line, or why the line is rejected
 unfoldable pub step : Stage → List ℕ → Result Stage LineFault
 step Opening line = limiting (version_of trace_header line)
 step (Limiting v) line = after_limit v (limit_of v line)
@@ -88,14 +88,15 @@ unfoldable pub is_ended : Stage → Bool
 is_ended (Ended t) = true
 is_ended _ = false
 
--- a line whose step is made: it is neither bad nor refused. Whether its reply is the right one shows only then
+-- the step of the line is made: the line is neither bad nor refused; its reply may still be wrong
 abbrev pub IsAnswered : {S : Type 0} → Result S LineFault → Type 0
 IsAnswered (Ok s) = Unit {0}
 IsAnswered (Err Bad) = ⊥
 IsAnswered (Err (Refused r)) = ⊥
 IsAnswered (Err (WrongReply r)) = Unit {0}
 
--- why a call took no line is why the step refuses it; out of memory is reported only of a line whose step is made
+-- why a line was not accepted is its fault in the step; out of memory is reported only of a line
+-- whose step can be made
 abbrev pub StepFails : {S : Type 0} → StageFault → Result S LineFault → Type 0
 StepFails faults.Memory stepped = IsAnswered stepped
 StepFails (faults.Line f) stepped = stepped ≡ Err f

@@ -1,4 +1,4 @@
--- Tables of words, in which the word of each number is found at once.
+-- Tables of words, by the numbers of what they name.
 use Rattle.std.specs.Prelude.{◌≡◌, ℕ, ◌<◌, ◌+◌, ◌-◌, ◌&&◌, nat_le, nat_lt, if◌then◌else◌, List, [], ◌++◌, Option, IfSome, option_and_then, slice_get, codes, decimal}
 use Rattle.std.specs.Option.{option_map_or}
 use Rattle.std.specs.Borrow.{Bor}
@@ -8,7 +8,7 @@ use Rattle.ec_trace.specs.declared.spell.WordTable.{WordTable}
 use Rattle.ec_trace.specs.declared.spell.CellName.{CellName}
 use Rattle.ec_trace.specs.declared.short_words.ShortWords.{ShortWords}
 
--- the word at a place, none past the end
+-- the word at an index, [] beyond the end
 abbrev pub word_at : List (Bor (List ℕ)) → ℕ → List ℕ
 word_at words i = option_map_or (λ (w : Bor (List ℕ)). w.now) (slice_get words i) []
 
@@ -22,7 +22,7 @@ cell_name_bytes c = cell_bytes c.block.now c.place
 abbrev pub cell_at : List (Option CellName) → ℕ → List ℕ
 cell_at cells x = option_map_or (λ (c : Option CellName). option_map_or cell_name_bytes c []) (slice_get cells x) []
 
--- the bytes of a cell, once a block with this name stands before the others
+-- the bytes of a cell, once a block with this name is added, which takes precedence
 abbrev pub with_block : List ℕ → ℕ → ℕ → ℕ → List ℕ → List ℕ
 with_block block first n x bytes = if nat_le first x && nat_lt x (first + n) then cell_bytes block (x - first) else bytes
 
@@ -35,7 +35,7 @@ pub record Spells (names : NameTable) (words : WordTable) : Type 0 where
 
 -- THE SHORT ONES
 
--- the short text at a place, if there is one
+-- the short text at an index, if there is one
 abbrev pub short_at : List (Option (List ℕ)) → ℕ → Option (List ℕ)
 short_at short i = option_and_then (λ (t : Option (List ℕ)). t) (slice_get short i)
 

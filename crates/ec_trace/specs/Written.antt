@@ -1,4 +1,4 @@
--- The lines of a heading after the first one, by its names.
+-- The lines of a header after the first one, by its names.
 use Rattle.std.specs.Prelude.{ℕ, List, [], ◌∷◌, ◌++◌, map, codes}
 use Rattle.std.specs.List.{range_with_len}
 use Rattle.ec_heading.specs.HeadingModel.{HeadingModel}

@@ -1,4 +1,4 @@
-//! The entry that a line spells.
+//! Parses the line of an entry.
 ghost use Rattle.std.specs.Prelude.{◌≡◌, ◌∷◌};
 ghost use Rattle.ec_trace.specs.Entries.{act_alone, act_on, act_with, parse_reply, entry_by, entry_in, entry_of};
 ghost use Rattle.ec_text.specs.Words.{words_of};
@@ -56,7 +56,7 @@ fn act_with(heading: &Heading, verb: &[u8], object: &[u8], value: &[u8]) -> Opti
     None
 }
 
-/// Returns what the word of a reply says.
+/// Returns the reply that a word encodes.
 #[tactic(auto, unfolding(crate::specs::Entries::parse_reply))]
 fn parse_reply(word: &[u8]) -> Option<Reply>
     ensures { result ≡ parse_reply word.now }
@@ -115,7 +115,7 @@ fn read_objects(
     }
 }
 
-/// Returns the entry that a line without its LF spells, if it spells one.
+/// Returns the entry that a line without its LF encodes; `None` if it encodes none.
 #[tactic(auto, unfolding(crate::specs::Entries::entry_in, crate::specs::Entries::entry_of))]
 pub(crate) fn read_entry(heading: &Heading, line: &[u8]) -> Option<Entry>
     ensures { result ≡ entry_of heading.now.words line.now }

@@ -1,4 +1,4 @@
-//! Who is handed the steps of a trace.
+//! What receives the steps of a trace.
 ghost use Rattle.std.specs.Prelude.{◌≡◌, List, [], reverse, length};
 ghost use Rattle.ec_core.specs.Acceptance.{answer_of};
 ghost use Rattle.ec_core.specs.Faults.{IsFaultOf};
@@ -10,13 +10,17 @@ ghost use Rattle.ec_trace.specs.EntrySinks.{Enters};
 use ec_core::{Act, Audit, Entry, Reply, Run, Step, StepFault, World};
 use ec_count::{Setup, WorkerId};
 
-/// Who stands for a history, and makes its next step. A `Run` keeps the history, a `AuditedWorld` doesn't.
+/// What represents a history, and makes its next step.
+///
+/// A `Run` stores the history, an `AuditedWorld` doesn't.
 pub trait EntrySink {
-    // What stands for a history, given what was there at first.
+    // Whether a state represents a history, given the state at the start.
     ghost represents: { Self → Self → RunModel → Type 0 };
 
-    /// Makes a step, which is answered as the history answers it, and stands for the history with its entry then. After an error
-    /// it stands for the history as it was. Returns `Memory` only for a step that is not refused.
+    /// Makes a step, and returns its reply after the history so far.
+    ///
+    /// The state then represents the history with this entry. After an error it represents the same
+    /// history as before. `Memory` is returned only for a step that is not refused.
     fn enter(&mut self, worker: WorkerId, act: Act) -> Result<Reply, StepFault>
         ensures { (start : Self) (h : RunModel) → represents start self.old h → Enters (represents start self.new) h worker act result };
 }
@@ -30,7 +34,7 @@ impl EntrySink for Run {
     }
 }
 
-/// A world and an audit that is handed each entry. It keeps no entry.
+/// A world, and an audit to which each entry is passed. It stores no entries.
 #[derive(Drop)]
 pub struct AuditedWorld<A> {
     world: World,
@@ -39,7 +43,7 @@ pub struct AuditedWorld<A> {
 }
 
 impl<A: Audit> AuditedWorld<A> {
-    /// Makes what is kept before the first step on these declarations.
+    /// Returns the state before the first step on these declarations.
     pub fn new(setup: Setup, audit: A) -> Self
         requires { A.represents audit audit [] }
         ensures audit { result.audit ≡ audit }
@@ -52,7 +56,7 @@ impl<A: Audit> AuditedWorld<A> {
         }
     }
 
-    /// Returns the world after the last step, and the audit, with what it gathered.
+    /// Returns the world after the last step, and the audit after all entries.
     pub fn into_parts(self) -> (World, A)
         ensures world { result.0 ≡ self.world }
         ensures audit { result.1 ≡ self.audit }
@@ -62,7 +66,7 @@ impl<A: Audit> AuditedWorld<A> {
 }
 
 /// Returns why a step is not made after as many as can be counted. (It is a function of its own, so
-/// that `enter` stays small enough to be put into its callers.)
+/// that `enter` is small enough to be inlined.)
 #[cold]
 #[inline(never)]
 fn refusal_at_limit(world: &World, worker: WorkerId, act: Act) -> StepFault

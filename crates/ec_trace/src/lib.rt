@@ -1,4 +1,4 @@
-//! Traces: read exactly, written exactly.
+//! The text of traces: read and written. Only the canonical encoding is read.
 #![tactic(auto)]
 
 mod entry;

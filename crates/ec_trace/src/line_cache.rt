@@ -1,8 +1,9 @@
-//! Fronts of entries, each read once.
+//! A cache of prefixes of entries that were parsed.
 //!
-//! The front of an entry is its line up to the space before the reply. But for the values in them, the entries of a
-//! trace have few different fronts, so that one which was read lately is found again by its bytes: then the reply alone
-//! is read anew, and the value of an await or a put. A key holds the bytes, so that no loop compares them.
+//! The prefix of an entry is its line up to the space before the reply, as `a read E =`. Values
+//! apart, the entries of a trace have few different prefixes. So a prefix that was parsed recently
+//! is found by its bytes, and only the reply is parsed, and the value of an await or a put. A key
+//! contains the bytes, so no loop compares them.
 ghost use Rattle.std.specs.Prelude.{◌≡◌, ℕ, List, Some, IfSome};
 ghost use Rattle.ec_trace.specs.Entries.{entry_of};
 ghost use Rattle.ec_trace.specs.LineCache.{HasPrefix, HasNumber, EndsIn, SpellsAs, IsCachedPrefix, IsLineCache, has_value, with_value};
@@ -18,17 +19,18 @@ use ec_text::number_at_end;
 use std::alloc::{AllocError, Global};
 use std::marker::Model;
 
-/// How many places fronts have at first. If these are too few, they get four times as many, up to the greatest number:
-/// that is enough for the puts and gets of 16 workers on 256 cells.
+/// How many slots the hash table has at first. If these are too few, it gets four times as many, up
+/// to `PLACES_MAX`: enough for the puts and gets of 16 workers on 256 cells.
 const PLACES: usize = 256;
 
 const PLACES_MAX: usize = 65536;
 
-/// What stands at a place without a front: no front has this number.
+/// What a free slot contains. No prefix has this number.
 const FREE: u16 = u16::MAX;
 
-/// The key of a front, and the worker and the act of each entry with this front. Of an await or a put the front is what
-/// stands before the value, and the act has any value.
+/// The key of a prefix, and the worker and the act of each entry with this prefix.
+///
+/// Of an await or a put the prefix ends before the value, and the value of the act is arbitrary.
 #[derive(Clone, Copy)]
 pub(crate) struct CachedPrefix {
     key: PackedBytes,
@@ -36,7 +38,7 @@ pub(crate) struct CachedPrefix {
     act: Act,
 }
 
-/// Returns the first of a key's two places where that is free, else the second.
+/// Returns the first of a key's two slots if it is free, otherwise the second.
 fn place_for(numbers: &[u16], key: &PackedBytes) -> usize {
     let first = key.place(numbers.len());
     match numbers.get(first) {
@@ -45,14 +47,14 @@ fn place_for(numbers: &[u16], key: &PackedBytes) -> usize {
     }
 }
 
-/// Puts the number of a front at a place, if there is such a place.
+/// Stores the number of a prefix in a slot, if there is such a slot.
 fn set_number_at(numbers: &mut [u16], place: usize, number: usize) {
     if let (Some(held), Ok(number)) = (numbers.get_mut(place), u16::try_from(number)) {
         *held = number;
     }
 }
 
-/// Returns the numbers of these fronts at so many places.
+/// Returns a hash table of so many slots, with the numbers of these prefixes.
 fn spread(alloc: Global, prefixes: &[CachedPrefix], places: usize) -> Result<Vec<u16>, AllocError> {
     let mut numbers = Vec::with_capacity(alloc, places)?;
     numbers.resize(places, FREE)?;
@@ -63,7 +65,7 @@ fn spread(alloc: Global, prefixes: &[CachedPrefix], places: usize) -> Result<Vec
     Ok(numbers)
 }
 
-/// Puts a front in the stead of another.
+/// Replaces a prefix by another.
 #[tactic(auto, using(crate::proofs::CacheLemmas::kept))]
 fn replace(prefixes: &mut Vec<CachedPrefix>, number: usize, known: CachedPrefix)
     ensures { (names : NameTable) → IsLineCache names prefixes.old.items → IsCachedPrefix names known → IsLineCache names prefixes.new.items }
@@ -73,14 +75,16 @@ fn replace(prefixes: &mut Vec<CachedPrefix>, number: usize, known: CachedPrefix)
     }
 }
 
-/// The fronts that were read lately, one beside the other as they came, and the number of each at one of two places that its bytes
-/// give. So if there are many fronts, they lie close together and the free places take little. The more fronts a trace has, the
-/// more places they get.
+/// The prefixes that were parsed recently, and a hash table of their numbers.
+///
+/// The number of a prefix is in one of two slots, by the bytes of the prefix. The prefixes
+/// themselves are stored without gaps, so free slots need little memory. The table grows with their
+/// number.
 #[derive(Drop)]
 pub(crate) struct LineCache {
     prefixes: Vec<CachedPrefix>,
     numbers: Vec<u16>,
-    /// How many were put since they have so many places.
+    /// How many prefixes were stored since the table grew.
     put: usize,
 }
 
@@ -94,7 +98,7 @@ impl Model for LineCache {
 }
 
 impl LineCache {
-    /// Makes a list of no fronts, with no places yet.
+    /// Returns an empty cache, with no slots yet.
     pub(crate) fn none(alloc: Global) -> Self
         ensures { (names : NameTable) → IsLineCache names result }
     {
@@ -105,7 +109,7 @@ impl LineCache {
         }
     }
 
-    /// Returns the front at a place, where it has this key.
+    /// Returns the prefix in a slot, if it has this key.
     #[inline(always)]
     fn at(&self, place: usize, key: &PackedBytes) -> Option<&CachedPrefix>
         ensures { (names : NameTable) → IsLineCache names self.now → IfSome result (λ f. SpellsAs names (key_bytes key.now) f.now.worker f.now.act) }
@@ -117,7 +121,7 @@ impl LineCache {
         }
     }
 
-    /// Returns what is kept of a front, if it was read lately.
+    /// Returns what is cached of a prefix, if it was parsed recently.
     #[inline(always)]
     #[tactic(auto, using(crate::proofs::CacheLemmas::found))]
     fn find(&self, prefix: &[u8]) -> Option<&CachedPrefix>
@@ -131,7 +135,7 @@ impl LineCache {
         }
     }
 
-    /// Adds a front, whose number stands at a place then, if there is memory for it.
+    /// Adds a prefix, and stores its number in a slot, if there is memory and a number for it.
     #[tactic(auto, using(crate::proofs::CacheLemmas::kept_behind))]
     fn add(&mut self, place: usize, known: CachedPrefix)
         ensures { (names : NameTable) → IsLineCache names self.old → IsCachedPrefix names known → IsLineCache names self.new }
@@ -143,7 +147,7 @@ impl LineCache {
         }
     }
 
-    /// Puts a front at one of its two places, in the stead of another if neither is free.
+    /// Stores a prefix in one of its two slots. If neither is free, it replaces another prefix.
     fn put(&mut self, known: CachedPrefix)
         ensures { (names : NameTable) → IsLineCache names self.old → IsCachedPrefix names known → IsLineCache names self.new }
     {
@@ -155,7 +159,7 @@ impl LineCache {
         }
     }
 
-    /// Gives the fronts so many places, if there is memory for that.
+    /// Grows the hash table to so many slots, if there is memory for that.
     #[cold]
     fn widen(&mut self, places: usize)
         ensures { self.new ≡ self.old }
@@ -166,7 +170,8 @@ impl LineCache {
         }
     }
 
-    /// Counts one more front that is put, and gives the fronts more places where that is half as many as they have.
+    /// Counts one more prefix that is stored, and grows the hash table if half as many were stored
+    /// as it has slots.
     fn reserve(&mut self)
         ensures { self.new ≡ self.old }
     {
@@ -181,7 +186,7 @@ impl LineCache {
         }
     }
 
-    /// Keeps the front of an entry.
+    /// Stores the prefix of an entry, if it has a key.
     #[tactic(auto, using(crate::proofs::CacheLemmas::told_of))]
     fn store(&mut self, prefix: &[u8], entry: &Entry)
         ensures { (names : NameTable) → IsLineCache names self.old → SpellsAs names prefix.now entry.now.worker entry.now.act → IsLineCache names self.new }
@@ -198,7 +203,7 @@ impl LineCache {
         self.put(known);
     }
 
-    /// Keeps the front of an entry, or what stands in it before the value.
+    /// Stores the prefix of an entry, up to its value if its act has one.
     #[tactic(auto, using(crate::proofs::CacheLemmas::tells, crate::proofs::CacheLemmas::opens))]
     fn store_part(&mut self, prefix: &[u8], entry: &Entry)
         ensures { (names : NameTable) (line : List ℕ) → IsLineCache names self.old → HasPrefix line prefix.now → entry_of names line ≡ Some entry.now → IsLineCache names self.new }
@@ -213,7 +218,7 @@ impl LineCache {
         self.store(opening, entry);
     }
 
-    /// Returns the entry that a line spells, and keeps its front then.
+    /// Returns the entry that a line encodes, and stores its prefix.
     pub(crate) fn parse_entry(&mut self, heading: &Heading, line: &[u8]) -> Option<Entry>
         ensures value { result ≡ entry_of heading.now.words line.now }
         ensures kept { IsLineCache heading.now.words self.old
@@ -226,8 +231,8 @@ impl LineCache {
         Some(entry)
     }
 
-    /// Returns the entry that a front without a value spells with a reply, if it was read
-    /// lately.
+    /// Returns the entry with this prefix, which has no value, and this reply, if the prefix was
+    /// parsed recently.
     #[inline(always)]
     pub(crate) fn entry_with_reply(&self, prefix: &[u8], reply: Reply) -> Option<Entry>
         ensures { (names : NameTable) (line : List ℕ) → IsLineCache names self.now → EndsIn line prefix.now reply → IfSome result (λ e. entry_of names line ≡ Some e) }
@@ -243,8 +248,8 @@ impl LineCache {
         })
     }
 
-    /// Returns the entry that a front spells with a reply, by its value and what stands before
-    /// that, if the latter was read lately.
+    /// Returns the entry with this prefix before its value, this value and this reply, if the
+    /// prefix was parsed recently.
     #[inline(always)]
     pub(crate) fn entry_with_value(&self, opening: &[u8], value: u64, reply: Reply) -> Option<Entry>
         ensures { (names : NameTable) (line prefix : List ℕ) → IsLineCache names self.now → EndsIn line prefix reply → HasNumber prefix opening.now value → IfSome result (λ e. entry_of names line ≡ Some e) }
@@ -285,7 +290,8 @@ fn with_value(act: Act, value: u64) -> Act
     }
 }
 
-/// Returns the value before the `=` that ends a front, and what stands before the space before it.
+/// Returns the parts of a prefix that ends in a value and `=`: what precedes the value, and the
+/// value.
 #[inline(always)]
 pub(crate) fn cut_value(prefix: &[u8]) -> Option<(&[u8], u64)>
     ensures { IfSome result (λ p. HasNumber prefix.now p.0.now p.1) }
@@ -299,8 +305,7 @@ pub(crate) fn cut_value(prefix: &[u8]) -> Option<(&[u8], u64)>
     Some((&head[..space], value))
 }
 
-/// Returns the reply that the last word of a line spells, and what stands before the space before
-/// it.
+/// Returns the parts of a line that ends in a reply: the prefix before the reply, and the reply.
 #[inline(always)]
 #[tactic(auto, using(crate::proofs::CacheLemmas::ends))]
 pub(crate) fn cut_reply(line: &[u8]) -> Option<(&[u8], Reply)>

@@ -17,7 +17,7 @@ use ec_text::{cut_word, number};
 use std::alloc::Global;
 use std::io::Read;
 
-/// What the first lines of a trace declare, and the lines behind its `run`.
+/// The header of a trace, and the lines after its `run`.
 #[derive(Drop)]
 pub struct TraceOpening {
     pub heading: Heading,
@@ -37,7 +37,7 @@ fn parse_version(line: &[u8]) -> Option<Version>
     None
 }
 
-/// Returns the limit that a line gives, if it gives one that the version may have.
+/// Returns the limit that a line gives; `None` if it gives none that the version allows.
 #[tactic(auto, using(crate::proofs::ReadEntries::third_word), unfolding(crate::specs::Step::limit_of))]
 fn parse_limit(version: Version, line: &[u8]) -> Option<Limit>
     ensures value { result ≡ limit_of version line.now }
@@ -71,7 +71,7 @@ fn read_version<R: Read>(lines: &mut Lines, reader: &mut R) -> Result<Version, T
 }
 
 /// Reads the line of the limit.
-// (Put into its caller, it would have its room there while the declarations are read, too.)
+// (If it were inlined, its stack space would be in use while the declarations are read, too.)
 #[inline(never)]
 fn read_limit<R: Read>(
     alloc: Global,
@@ -95,7 +95,7 @@ fn read_limit<R: Read>(
     }
 }
 
-/// Takes a line of workers or of a declaration.
+/// Adds a line of workers or of a declaration.
 fn declare(heading: &mut Heading, lines: &Lines) -> Result<(), TraceFault>
     ensures { Declares result heading.old heading.new lines.now }
 {
@@ -106,7 +106,7 @@ fn declare(heading: &mut Heading, lines: &Lines) -> Result<(), TraceFault>
     }
 }
 
-/// Returns whether the line is the last before the entries: there are workers, who may make some.
+/// Returns whether the line is `run`, and the line of the workers was read.
 fn is_run(heading: &Heading, line: &[u8]) -> bool
     ensures { result ≡ is_run heading.now line.now }
 {
@@ -136,7 +136,7 @@ fn read_declarations<R: Read>(
     }
 }
 
-/// Reads a trace up to its line `run`, and the rest of the piece in which that ends.
+/// Reads a trace up to its line `run`, and the rest of the piece that has the end of that line.
 ///
 /// The entries are then read by `read_entries`, from the same reader.
 pub fn open_trace<R: Read>(alloc: Global, reader: &mut R) -> Result<TraceOpening, TraceFault>

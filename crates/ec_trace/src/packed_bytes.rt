@@ -1,13 +1,15 @@
 //! Keys of short texts.
 //!
-//! A key is a few numbers that hold all bytes of a text. So two texts are compared by few comparisons of numbers, with no
-//! loop and no call.
+//! A key is a few numbers that contain all bytes of a text. So two texts are compared by few
+//! comparisons of numbers, with no loop and no call.
 ghost use Rattle.std.specs.Prelude.{◌≡◌, ◌+◌, ◌≤◌, ◌<◌, IfSome, IsTrue, length, take, drop};
 ghost use Rattle.ec_trace.specs.PackedBytes.{eight_of, four_of};
 
-/// The key of a text of four to 32 bytes: its length, and words of eight bytes of it, or of four if it has fewer than
-/// eight. The first word begins where the text does, the last ends where it does, and the second and the third are the
-/// next to these. In a text of fewer than 16 bytes they overlap.
+/// The key of a text of 4 to 32 bytes: its length, and words of eight bytes of it, or of four if it
+/// has fewer than eight.
+///
+/// The first word begins where the text does, and the last ends where it does. The second follows
+/// the first, and the third precedes the last. In a text of fewer than 32 bytes words overlap.
 #[derive(Clone, Copy)]
 pub(crate) struct PackedBytes {
     first: u64,
@@ -20,7 +22,7 @@ pub(crate) struct PackedBytes {
 impl PackedBytes {
     ghost use Rattle.ec_trace.specs.PackedBytes.{key_bytes};
 
-    /// Returns the key of a text, if it has one.
+    /// Returns the key of a text of 4 to 32 bytes; `None` for any other.
     #[inline(always)]
     pub(crate) fn of(text: &[u8]) -> Option<Self>
         ensures { IfSome result (λ k. key_bytes k ≡ text.now) }
@@ -87,8 +89,9 @@ impl PackedBytes {
             && self.len == other.len
     }
 
-    /// Returns the key's place among so many, of which there are 2, 4, 8 and so on up to 65536. It
-    /// depends on all words of the key: two keys mostly have different places.
+    /// Returns the key's slot in a hash table. The number of slots is a power of two, up to 65536.
+    ///
+    /// The slot depends on all words of the key: two keys usually have different slots.
     #[inline(always)]
     pub(crate) fn place(&self, places: usize) -> usize {
         let head = self.first.wrapping_add(self.second.wrapping_mul(9));

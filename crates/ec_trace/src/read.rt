@@ -1,4 +1,4 @@
-//! A whole trace, from a reader.
+//! Reads a whole trace.
 ghost use Rattle.std.specs.Prelude.{◌≡◌, ℕ, List, [], Some, None, IfSome, IfOk, IfErr, OnOk, MatchResult, Err};
 ghost use Rattle.ec_core.specs.declared.act.Entry.{Entry};
 ghost use Rattle.ec_heading.specs.Versions.{can_spell};
@@ -23,7 +23,7 @@ use std::io::Read;
 /// The most bytes that a trace may have.
 pub const TRACE_MAX: usize = 67_108_864;
 
-/// Returns whether a text of the heading's version may have the act.
+/// Returns whether a text of the header's version may have the act.
 #[inline(always)]
 fn can_spell(heading: &Heading, act: &Act) -> bool
     ensures { result ≡ can_spell heading.now.version act.now }
@@ -46,8 +46,8 @@ fn fault_at(number: u64, fault: StageFault) -> TraceFault
     }
 }
 
-/// Has the step of an entry made, and compares what it is told with the reply in its line. (Each call of it is a copy of its own: so
-/// what is kept of a front goes to the history in registers.)
+/// Makes the step of an entry, and compares its reply with the one in the line. (It is inlined into
+/// each caller, so that a cached worker and act are passed in registers.)
 #[inline(always)]
 fn enter<H: EntrySink>(heading: &Heading, history: &mut H, entry: &Entry) -> Result<(), StageFault>
     ensures { (line : List ℕ) → entry_of heading.now.words line ≡ Some entry.now → TakesLine H.represents heading.now history.old history.new line result }
@@ -68,7 +68,7 @@ fn enter<H: EntrySink>(heading: &Heading, history: &mut H, entry: &Entry) -> Res
     }
 }
 
-/// Takes an entry whose line is read word by word.
+/// Makes the step of an entry whose line is parsed word by word.
 #[cold]
 #[inline(never)]
 fn enter_parsed<H: EntrySink>(
@@ -87,7 +87,7 @@ fn enter_parsed<H: EntrySink>(
     enter(heading, history, &entry)
 }
 
-/// Takes the next entry, by its line, if its front was read lately. Else it does nothing.
+/// Makes the step of an entry if the prefix of its line is cached; otherwise does nothing.
 #[inline(always)]
 fn enter_cached<H: EntrySink>(
     heading: &Heading,
@@ -112,11 +112,11 @@ fn enter_cached<H: EntrySink>(
     }
 }
 
-/// Reads the entries of a trace to its end, up to the first fault, and has the step of each made. The lines are those behind the
-/// `run` of a trace, from `open_trace` with the same reader, and the heading is what stands before it.
+/// Reads the entries of a trace up to its end or its first fault, and makes the step of each.
 ///
-/// Nothing grows with the text but what the history keeps. A failed read is not tried again, and a fault of what came before it
-/// is told in its place. After an Err the history is of no use.
+/// `lines` and `heading` are from `open_trace`, with the same reader. Memory grows only with what
+/// the history stores. A failed read is not tried again. If what was read before it has a fault,
+/// that is reported instead. After an `Err` the history is of no use.
 pub fn read_entries<R: Read, H: EntrySink>(
     alloc: Global,
     mut lines: Lines,
@@ -152,7 +152,7 @@ pub fn read_entries<R: Read, H: EntrySink>(
     lines.end(reader)
 }
 
-/// Reads a trace, whose run is then kept.
+/// Reads a trace into a run.
 fn read_into_run<R: Read>(alloc: Global, reader: &mut R) -> Result<Traced, TraceFault>
     ensures { IfSome (R.remaining reader.old) (λ bytes. Returns TRACE_MAX bytes (R.remaining reader.new) result) }
 {
@@ -171,8 +171,8 @@ fn read_into_run<R: Read>(alloc: Global, reader: &mut R) -> Result<Traced, Trace
 
 /// Reads a trace to its end, in pieces of at most 8192 bytes, up to its first fault.
 ///
-/// Nothing grows with the text but the heading and the run. A failed read is not tried again, and
-/// a fault of what came before it is told in its place.
+/// Memory grows only with the header and the run. A failed read is not tried again. If what was
+/// read before it has a fault, that is reported instead.
 pub fn read_trace<R: Read>(alloc: Global, reader: &mut R) -> Result<Traced, TraceFault>
     ensures tells { IfSome (R.remaining reader.old) (λ bytes. Returns TRACE_MAX bytes (R.remaining reader.new) result) }
     ensures trace { IfSome (R.remaining reader.old) (λ bytes. IfOk result (IsTraceOf bytes)) }

@@ -1,4 +1,4 @@
-//! Words that are short, ready to be put.
+//! Short words as inline texts, which are written fast.
 ghost use Rattle.std.specs.Prelude.{◌≡◌, ℕ, ◌<◌, ◌==◌, [], length, if◌then◌else◌};
 ghost use Rattle.std.specs.Option.{option_map_or};
 ghost use Rattle.ec_trace.specs.WordTables.{Spells, SpellsShort, IsShortOf, short_at, word_at, cell_at, cell_name_bytes};
@@ -7,7 +7,7 @@ ghost use Rattle.ec_heading.specs.Spelling.{NameTable};
 use crate::spell::{CellName, WordTable};
 use ec_text::{CachedDecimal, InlineText};
 
-/// A short text for each number of each sort, if its word is short.
+/// An inline text for each worker, eventcount, sequencer and cell whose word is short.
 #[derive(Drop)]
 pub(crate) struct ShortWords {
     pub(crate) workers: [Option<InlineText>; 16],
@@ -17,7 +17,7 @@ pub(crate) struct ShortWords {
 }
 
 impl ShortWords {
-    /// Returns the short ones of these words.
+    /// Returns the inline texts of those of these words that are short.
     pub(crate) fn of(words: &WordTable<'_>) -> Self
         ensures { (names : NameTable) → Spells names words.now → SpellsShort names result }
     {
@@ -35,7 +35,7 @@ impl ShortWords {
     }
 }
 
-/// Has a word ready, if it is short.
+/// Returns a word as an inline text, if it is short.
 fn short_word(word: &[u8]) -> Option<InlineText>
     ensures { IsShortOf result word.now }
 {
@@ -43,7 +43,7 @@ fn short_word(word: &[u8]) -> Option<InlineText>
     if text.take_in(word) { Some(text) } else { None }
 }
 
-/// Has the name of a cell ready, if it is short.
+/// Returns the name of a cell as an inline text, if it is short.
 fn short_cell(cell: &Option<CellName<'_>>) -> Option<InlineText>
     ensures { IsShortOf result (option_map_or cell_name_bytes cell.now []) }
 {
@@ -59,7 +59,7 @@ fn short_cell(cell: &Option<CellName<'_>>) -> Option<InlineText>
     if fits { Some(text) } else { None }
 }
 
-/// Puts a short text at a place.
+/// Stores an inline text at an index.
 fn set_short(short: &mut [Option<InlineText>], place: usize, text: Option<InlineText>)
     requires { place < length short.old }
     ensures set { (i : ℕ) → short_at short.new i ≡ (if place == i then text else short_at short.old i) }
@@ -68,7 +68,7 @@ fn set_short(short: &mut [Option<InlineText>], place: usize, text: Option<Inline
     short[place] = text;
 }
 
-/// Has words ready, each at its place.
+/// Stores the inline text of each short word at the index of the word.
 fn shorten(short: &mut [Option<InlineText>], words: &[&[u8]])
     requires { length short.old ≡ length words.now }
     ensures { (i : ℕ) → i < length words.now → IsShortOf (short_at short.new i) (word_at words.now i) }
@@ -78,7 +78,7 @@ fn shorten(short: &mut [Option<InlineText>], words: &[&[u8]])
     }
 }
 
-/// Has the names of cells ready, each at its place.
+/// Stores the inline text of each short name of a cell at the index of the cell.
 fn shorten_cells(short: &mut [Option<InlineText>], cells: &[Option<CellName<'_>>])
     requires { length short.old ≡ length cells.now }
     ensures { (x : ℕ) → x < length cells.now → IsShortOf (short_at short.new x) (cell_at cells.now x) }

@@ -1,4 +1,4 @@
-//! The words of names, each found once.
+//! Tables of the words for workers and objects.
 ghost use Rattle.std.specs.Prelude.{◌≡◌, ℕ, ◌+◌, ◌<◌, ◌-◌, ◌==◌, ◌&&◌, [], ◌∷◌, ◌++◌, List, length, Some, slice_get, nat_le, nat_lt, if◌then◌else◌};
 ghost use Rattle.ec_trace.specs.WordTables.{Spells, word_at, cell_at, cell_name_bytes, with_block, short_at};
 ghost use Rattle.ec_text.specs.Puts.{Puts};
@@ -19,7 +19,7 @@ pub(crate) struct CellName<'a> {
     pub(crate) place: usize,
 }
 
-/// A word for each number of each sort; of no bytes if there is no name.
+/// The word for each worker, eventcount, sequencer and cell; empty if there is none.
 #[derive(Clone, Copy)]
 pub(crate) struct WordTable<'a> {
     pub(crate) workers: [&'a [u8]; 16],
@@ -29,7 +29,7 @@ pub(crate) struct WordTable<'a> {
 }
 
 impl<'a> WordTable<'a> {
-    /// Makes a table of no words.
+    /// Returns a table of no words.
     fn none() -> Self
         ensures { Spells [] result }
     {
@@ -42,7 +42,7 @@ impl<'a> WordTable<'a> {
         }
     }
 
-    /// Takes in a name, before those that were taken in.
+    /// Adds a name, which takes precedence over those added before.
     fn take_in(&mut self, name: &'a [u8], target: Target)
         ensures { (names : NameTable) → Spells names self.old → Spells ((name.now, target) ∷ names) self.new }
     {
@@ -56,7 +56,7 @@ impl<'a> WordTable<'a> {
     }
 }
 
-/// The words by which entries name things, each found once, and those that are short ready to be put.
+/// The words by which entries name workers and objects, in tables; short ones as inline texts.
 #[derive(Drop)]
 pub struct Spellings<'a> {
     vocabulary: &'a SymbolTable,
@@ -78,7 +78,7 @@ impl<'a> Model for Spellings<'a> {
 }
 
 impl<'a> Spellings<'a> {
-    /// Returns the words of a heading, as `Heading::words` gives them. It takes no memory.
+    /// Returns the words of a header, from its `Heading::words`. It allocates nothing.
     pub fn new(vocabulary: &'a SymbolTable) -> Self
         ensures { result ≡ vocabulary.now }
     {
@@ -96,28 +96,28 @@ impl<'a> Spellings<'a> {
         }
     }
 
-    /// Returns the name of a worker, of no bytes if it has none.
+    /// Returns the name of a worker; empty if it has none.
     pub fn worker(&self, worker: WorkerId) -> &'a [u8]
         ensures { result.now ≡ target_name self.now (Worker worker) }
     {
         word_in(&self.words.workers, worker.get())
     }
 
-    /// Returns the name of an eventcount, of no bytes if it has none.
+    /// Returns the name of an eventcount; empty if it has none.
     pub fn event(&self, event: EventId) -> &'a [u8]
         ensures { result.now ≡ target_name self.now (Event event) }
     {
         word_in(&self.words.events, event.get())
     }
 
-    /// Returns the name of a sequencer, of no bytes if it has none.
+    /// Returns the name of a sequencer; empty if it has none.
     pub fn sequencer(&self, sequencer: SeqId) -> &'a [u8]
         ensures { result.now ≡ target_name self.now (Sequencer sequencer) }
     {
         word_in(&self.words.sequencers, sequencer.get())
     }
 
-    /// Returns the block that a cell stands in and its number there, if it has a name.
+    /// Returns the name of a cell's block and the cell's number there, if it has a name.
     fn cell(&self, cell: CellId) -> Option<CellName<'a>>
         ensures { option_map_or cell_name_bytes result [] ≡ cell_word self.now cell }
     {
@@ -178,7 +178,7 @@ impl<'a> Spellings<'a> {
         }
     }
 
-    /// Puts bytes, and the name of a cell in parts.
+    /// Puts bytes, and the name of a cell, part by part.
     #[cold]
     #[inline(never)]
     fn put_long_cell<W: Write>(&self, out: &mut Output<'_, W>, before: &[u8], cell: CellId)
@@ -220,7 +220,7 @@ fn cell_in<'a>(cells: &[Option<CellName<'a>>], place: usize) -> Option<CellName<
     cells[place]
 }
 
-/// Returns the short text of the word at a place, where it is short.
+/// Returns the inline text of the word at an index, if it is short.
 fn short_in(short: &[Option<InlineText>], place: usize) -> &Option<InlineText>
     requires { place < length short.now }
     ensures { result.now ≡ short_at short.now place }
@@ -228,7 +228,7 @@ fn short_in(short: &[Option<InlineText>], place: usize) -> &Option<InlineText>
     &short[place]
 }
 
-/// Puts a word at a place.
+/// Stores a word at an index.
 fn set_word<'a>(words: &mut [&'a [u8]], place: usize, word: &'a [u8])
     requires { place < length words.old }
     ensures { (i : ℕ) → word_at words.new i ≡ (if place == i then word.now else word_at words.old i) }
@@ -236,7 +236,7 @@ fn set_word<'a>(words: &mut [&'a [u8]], place: usize, word: &'a [u8])
     words[place] = word;
 }
 
-/// Puts a name at the place of a cell.
+/// Stores the name of a cell at its index.
 fn set_cell<'a>(cells: &mut [Option<CellName<'a>>], place: usize, name: CellName<'a>)
     requires { place < length cells.old }
     ensures { (x : ℕ) → cell_at cells.new x ≡ (if place == x then cell_name_bytes name.entry else cell_at cells.old x) }
@@ -244,7 +244,7 @@ fn set_cell<'a>(cells: &mut [Option<CellName<'a>>], place: usize, name: CellName
     cells[place] = Some(name);
 }
 
-/// Puts the name of a block at each of its cells.
+/// Stores the names of the cells of a block.
 fn set_cells<'a>(cells: &mut [Option<CellName<'a>>; 256], first: usize, n: usize, block: &'a [u8])
     ensures { (x : ℕ) → x < 256 → cell_at cells.new x ≡ with_block block.now first n x (cell_at cells.old x) }
 {

@@ -24,18 +24,20 @@ pub fn put_cell<W: Write>(out: &mut Output<'_, W>, spellings: &Spellings<'_>, ce
     spellings.put_cell(out, b"", cell);
 }
 
-/// How many numbers are kept with their digits.
+/// How many numbers are cached with their digits.
 const KEPT: usize = 64;
 
-/// Numbers that were put lately, each with its digits, at a place that all digits but the last give: a number mostly comes again, or
-/// lies near one that was put lately.
+/// A cache of numbers that were put recently, each with its digits.
+///
+/// The slot of a number depends on all its digits but the last. A number usually comes again, or is
+/// close to one that was put recently.
 #[derive(Drop)]
 pub struct DecimalCache {
     numbers: [CachedDecimal; KEPT],
 }
 
 impl DecimalCache {
-    /// Makes a table of noughts, as before any number was put.
+    /// Returns a cache of zeros.
     #[inline(never)]
     pub fn new() -> Self {
         DecimalCache {
@@ -44,7 +46,7 @@ impl DecimalCache {
     }
 }
 
-/// Puts bytes, and a number that is kept then.
+/// Puts bytes and a number, which is then cached.
 #[inline(always)]
 fn put_next<W: Write>(out: &mut Output<'_, W>, before: &[u8], last: &mut DecimalCache, n: u64)
     ensures { Puts out.old out.new (before.now ++ decimal n) }
@@ -54,7 +56,7 @@ fn put_next<W: Write>(out: &mut Output<'_, W>, before: &[u8], last: &mut Decimal
     out.put_with_decimal(before, number);
 }
 
-/// Puts what a worker asks for, behind a space. Numbers that lie near the last ones need little work.
+/// Puts an act, after a space. Numbers close to the cached ones need little work.
 #[inline(always)]
 pub fn put_act<W: Write>(
     out: &mut Output<'_, W>,
@@ -93,7 +95,7 @@ pub fn put_act<W: Write>(
     }
 }
 
-/// Puts what a worker is told.
+/// Puts a reply.
 #[inline(always)]
 pub fn put_reply<W: Write>(out: &mut Output<'_, W>, reply: &Reply)
     ensures { Puts out.old out.new (reply_word reply.now) }
@@ -105,7 +107,7 @@ pub fn put_reply<W: Write>(out: &mut Output<'_, W>, reply: &Reply)
     }
 }
 
-/// Puts what a worker is told, behind an equals sign between spaces.
+/// Puts a reply, after an equals sign between spaces.
 #[inline(always)]
 fn put_answer<W: Write>(out: &mut Output<'_, W>, last: &mut DecimalCache, reply: &Reply)
     ensures { Puts out.old out.new (codes " = " ++ reply_word reply.now) }
@@ -117,7 +119,7 @@ fn put_answer<W: Write>(out: &mut Output<'_, W>, last: &mut DecimalCache, reply:
     }
 }
 
-/// Puts bytes, and an entry that follows others, without LF. Numbers that lie near the last ones need little work.
+/// Puts bytes and an entry, without LF. Numbers close to the cached ones need little work.
 #[inline(always)]
 #[tactic(auto, using(crate::proofs::EntryParts::entry_parts))]
 pub fn put_next_entry<W: Write>(
@@ -141,8 +143,9 @@ pub fn put_entry<W: Write>(out: &mut Output<'_, W>, spellings: &Spellings<'_>, e
     put_next_entry(out, b"", spellings, &mut DecimalCache::new(), entry);
 }
 
-/// Writes an entry, without LF, as a trace has it. What has no name is spelled by no bytes.
-/// A WriteFault comes only if a write failed or wrote none of its bytes.
+/// Writes an entry, without LF, as a trace has it. What has no name is written as no bytes.
+///
+/// A `WriteFault` is returned only if a write failed or wrote none of its bytes.
 pub fn write_entry<W: Write>(
     entry: &Entry,
     heading: &Heading,
@@ -159,7 +162,7 @@ pub fn write_entry<W: Write>(
     done
 }
 
-/// Puts the line of the entry at a place of a run, if there is one.
+/// Puts the line of the entry at a position of a run, if there is one.
 fn put_entry_at<W: Write>(
     out: &mut Output<'_, W>,
     spellings: &Spellings<'_>,
@@ -200,10 +203,11 @@ fn put_trace<W: Write>(
     out.put(b"end\n");
 }
 
-/// Writes the trace of a run under the heading whose declarations the run is on: all its entries,
-/// those of pending calls too. Version 1 has no trace of a run with a hand: what is written of one
-/// under it is no trace. A WriteFault comes only if a write failed or wrote none of its bytes.
-/// It takes no memory.
+/// Writes the trace of a run: its header and all its entries, also those of pending calls.
+///
+/// The run is on the declarations of the header. Version 1 has no trace of a run with a `hand`:
+/// what is written of one is no trace. A `WriteFault` is returned only if a write failed or wrote
+/// none of its bytes. Nothing is allocated.
 pub fn write_trace<W: Write>(run: &Run, heading: &Heading, writer: &mut W) -> Result<(), WriteFault>
     ensures ok { (o : HeaderTree) → IsHeaderTree o → heading_of_tree o ≡ heading.now → OnOk result (Appends (W.contents writer.old) (W.contents writer.new) (trace_text o run.now.entries)) }
     ensures err { (o : HeaderTree) → IsHeaderTree o → heading_of_tree o ≡ heading.now → OnErr result (AppendsPrefix (W.contents writer.old) (W.contents writer.new) (trace_text o run.now.entries)) }

@@ -1,4 +1,4 @@
-//! Writes what a heading declares.
+//! Writes headers.
 ghost use Rattle.std.specs.Prelude.{◌≡◌, ◌≤◌, ◌∷◌, ◌++◌, [], Some, None, map, codes};
 ghost use Rattle.std.specs.List.{range_with_len};
 ghost use Rattle.ec_text.specs.Puts.{Puts};
@@ -15,7 +15,7 @@ use ec_text::Output;
 use std::io::Write;
 use std::marker::Model;
 
-/// What a line declares: its sort, name and number, and the workers of its two lists.
+/// What a line declares: its kind, name and number, and the workers of its two lists.
 #[derive(Drop)]
 struct DeclarationLine<'a> {
     sort: DeclKind,
@@ -33,7 +33,7 @@ impl<'a> Model for DeclarationLine<'a> {
     ghost view = { λ d. record { sort = d.sort; name = d.name.now; number = d.number; first = d.first.now; second = d.second.now } };
 }
 
-/// Returns the name of what was declared, of no bytes if it has none.
+/// Returns the name of what was declared; empty if it has none.
 fn declared_name(heading: &Heading, target: Target) -> &[u8]
     ensures { result.now ≡ target_name heading.now.names target }
 {
@@ -240,8 +240,7 @@ fn put_first<W: Write>(out: &mut Output<'_, W>, version: Version)
     out.put(first_line(version));
 }
 
-/// Puts the lines of a heading after the first one, up to `run`: the limit, the workers and the
-/// declarations.
+/// Puts the limit, the workers and the declarations of a header, and `run`.
 #[tactic(auto, using(crate::proofs::shared::LineParts::heading_parts))]
 pub fn put_heading<W: Write>(out: &mut Output<'_, W>, spellings: &Spellings<'_>, heading: &Heading)
     ensures words { Puts out.old out.new (heading_text spellings.now heading.now) }

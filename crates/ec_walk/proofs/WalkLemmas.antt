@@ -1,4 +1,5 @@
--- Each entry is handed to the audits of the groups that its call may be on, and the others stand as they are.
+-- Each entry is passed to the audits of the groups that its call is on, and the others are
+-- unchanged.
 use Rattle.std.proofs.Common.{◌≡◌, ◌≢◌, ℕ, ◌+◌, ◌<◌, ◌≤◌, Bool, true, false, List, ◌∷◌, length, Some, refl, ap, sym, ◌∙◌, subst, arith, true≢false, cond, ◌==◌, ◌||◌, ◌&&◌, not, leb, ◌⊎◌, inl, inr, Option, None, [], get_or, slice_get, slice_set, below_more}
 use Rattle.std.specs.Option.{option_map_or}
 use Rattle.std.proofs.lemmas.Bool.{eqb-true, eqb-false, eq-eqb}
@@ -74,7 +75,7 @@ covers_all gs test span n c all = record {
   highest = c.highest;
 }
 
--- what a table has at a place, for an act that is on the same groups
+-- the span at a position of a table, for an act that is on the same groups
 pub covers_at : (gs : List Group) (act read : Act) (spans : List Span) (place : ℕ) (span : Span)
     → CoversAt gs read spans place → slice_get spans place ≡ Some span
     → ((g : Group) → names g act ≡ names g read) → CoversAct gs act span
@@ -91,7 +92,7 @@ covers_at gs act read spans place span c at same = record {
     over None on = on
     over (Some g) on = same g ∙ on
 
--- one more place of a table is filled
+-- one more position of a table is filled
 pub covers_more : (gs : List Group) (acts : ℕ → Act) (spans : List Span) (n : ℕ) (span : Span)
     → n < length spans → ((e : ℕ) → e < n → CoversAt gs (acts e) spans e)
     → CoversAct gs (acts n) span
@@ -148,7 +149,7 @@ asked_named gs op i = go (slice_get gs i)
     go None on narrow = on
     go (Some g) on narrow = ap (λ b. not b && names g op) narrow ∙ on
 
--- a wide group is asked as such alone
+-- a wide group is only selected as such
 pub asked_once : (gs : List Group) (op : Act) (i : ℕ) → is_wide_at gs i ≡ true
     → is_asked_at gs false op i ≡ true → ⊥
 asked_once gs op i = go (slice_get gs i)
@@ -158,7 +159,7 @@ asked_once gs op i = go (slice_get gs i)
     go None w on = true≢false (sym w)
     go (Some g) w on = true≢false (sym on ∙ ap (λ b. not b && names g op) w)
 
--- a call is on each group that is asked
+-- a call is on each group that is selected
 pub asked_is_on : (gs : List Group) (op : Act) (i : ℕ) → is_asked_at gs false op i ≡ true
     → is_on_at gs op i ≡ true
 asked_is_on gs op i = go (slice_get gs i)
@@ -199,11 +200,11 @@ on_is_asked gs op named wide i covers wides on one other = by_group (slice_get_c
             let in_span = covers.among i g here named_here in
             one (in_span.0, in_span.1, asked_named gs op i (ap (λ o. option_map_or (λ h. names h op) o false) here ∙ named_here) (ap (λ o. option_map_or sees_every_call o false) here ∙ w)))
 
--- WHO IS HANDED AN ENTRY
+-- WHICH AUDITS ARE PASSED AN ENTRY
 
 module _ {A : Type 0} (represents : A → A → List Entry
     → Type 0) (place : ℕ) (op : Act) (x : Entry) where
-  -- one audit has taken the entry in
+  -- one audit has processed the entry
   pub hands_one : (old : List A) (n : ℕ) (a b : A) → n < length old → slice_get old n ≡ Some a
       → Dispatches represents place op x a b
       → DispatchesTo represents n place op x old (slice_set old n b)
@@ -333,7 +334,7 @@ module _ {A : Type 0} (represents : A → A → List Entry
       (λ i. is_on_at gs op i ≡ true) old mid new (λ i p q. asked_once gs op i q.2 p.2) (λ i p. asked_is_on gs op i p.2) (λ i q. wide_is_on gs op i q.2)
       (λ i on one other. on_is_asked gs op named wide i covers wides on one other)
 
--- A WALK
+-- A PASS
 
 -- without groups an entry goes nowhere
 goes_nowhere : (gs : List Group) (i : ℕ) (x : Entry) (past : List Entry) → length gs ≡ 0
@@ -345,7 +346,7 @@ goes_nowhere [] i x past none = by (is_intermediate x)
     by true = refl
     by false = refl
 
--- so all audits stand as at first
+-- so all audits are as at first
 pub handed_nowhere : {A : Type 0} (represents : A → A → List Entry
     → Type 0) (gs : List Group) (starts : List A) (past : List Entry) → length gs ≡ 0
     → AreHanded represents gs starts starts past
@@ -357,14 +358,14 @@ handed_nowhere {A} represents gs starts past none =
     go i start [] = refl
     go i start (x ∷ past) = (start, go i start past, inr (goes_nowhere gs i x past none, refl))
 
--- an entry that goes to none
+-- an entry that is passed to no audit
 pub handed_none : {A : Type 0} (represents : A → A → List Entry
     → Type 0) (gs : List Group) (starts now : List A) (x : Entry) (past : List Entry) → ((i : ℕ)
     → goes_to gs i x past ≡ false)
     → AreHanded represents gs starts now past → AreHanded represents gs starts now (x ∷ past)
 handed_none represents gs starts now x past none h = (h.0, λ i start at. (let k = h.1 i start at in (k.0, k.1, (k.0, k.2, inr (none i, refl)))))
 
--- each audit stands after a go that ends no call as before
+-- a go that ends no call leaves each audit unchanged
 pub each_stays : {A : Type 0} (group : A → Group) (represents : A → A → List Entry
     → Type 0) (stays : (start now : A) (x : Entry) (past : List Entry) → is_intermediate x ≡ true
     → represents start now past → represents start now (x ∷ past))
@@ -374,7 +375,7 @@ pub each_stays : {A : Type 0} (group : A → Group) (represents : A → A → Li
     → AreWalked group represents gs starts now (x ∷ past)
 each_stays group represents stays gs starts now x past on each = λ i g here. (let k = each i g here in (k.0, k.1, k.2, k.3, k.4, stays k.0 k.1 x past on k.5))
 
--- such a go goes to none
+-- such a go is passed to no audit
 pub goes_on_to_none : (gs : List Group) (i : ℕ) (x : Entry) (past : List Entry)
     → is_intermediate x ≡ true
     → goes_to gs i x past ≡ false
@@ -385,7 +386,8 @@ module _ {A : Type 0} (group : A → Group) (represents : A → A → List Entry
     → is_on (group start) (op_at x past) ≡ false → represents start now past
     → represents start now (x ∷ past))
     (gs : List Group) (place : ℕ) (op : Act) (x : Entry) (past : List Entry) (at : place ≡ length past) (is : op ≡ op_at x past) where
-  -- each group's audit has taken the entry in, or is as before and the entry's call is not on the group
+  -- each group's audit has processed the entry, or is as before and the entry's call is not on the
+  -- group
   pub each_taken : (starts old new : List A) → DispatchesOn represents gs place op x old new
       → AreWalked group represents gs starts old past
       → AreWalked group represents gs starts new (x ∷ past)
@@ -417,7 +419,7 @@ module _ {A : Type 0} (group : A → Group) (represents : A → A → List Entry
             (passes start now x past (ap (λ (k : Group). is_on k (op_at x past)) of ∙ ap (is_on g) (sym is) ∙ at_group i g false here (none i (is_on_at gs op i) refl q.0)) was),
       )
 
-  -- each audit was handed the entry if it goes to its group
+  -- each audit was passed the entry if that is to be passed to its group
   pub handed_taken : (starts old new : List A) → is_intermediate x ≡ false
       → DispatchesOn represents gs place op x old new → AreHanded represents gs starts old past
       → AreHanded represents gs starts new (x ∷ past)

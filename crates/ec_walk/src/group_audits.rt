@@ -1,4 +1,4 @@
-//! The audits of all groups, in one walk over the entries.
+//! The audits of all groups, in one pass over the entries.
 ghost use Rattle.std.specs.Prelude.{◌≡◌, ℕ, ◌+◌, ◌<◌, ◌^◌, Bool, true, false, List, [], ◌∷◌, reverse};
 ghost use Rattle.ec_core.specs.declared.act.Entry.{Entry};
 ghost use Rattle.ec_core.specs.Calls.{under_way, is_intermediate};
@@ -11,23 +11,26 @@ use ec_core::{Act, Audit, Entry, Reply, Run, walk};
 use ec_heading::Group;
 use std::marker::Model;
 
-/// The audit of a group, which may be left out of an entry whose call is not on the group, and of a
-/// go that ends no call.
+/// The audit of a group, which may skip the entries that do not concern the group.
+///
+/// These are the entries whose calls are not on the group, and the gos that end no call.
 pub trait GroupAudit: Audit {
     // The group that it is the audit of.
     ghost group: { Self → Group };
 
-    // After an entry whose call is not on the group it stands as before.
+    // An entry whose call is not on the group leaves it unchanged.
     ghost passes: { (start now : Self) (entry : Entry) (past : List Entry) → is_on (group start) (opening_act entry.act (under_way entry.worker past)) ≡ false
         → Self.represents start now past → Self.represents start now (entry ∷ past) };
 
-    // After a go that ends no call it does, too.
+    // A go that ends no call leaves it unchanged, too.
     ghost stays: { (start now : Self) (entry : Entry) (past : List Entry) → is_intermediate entry ≡ true
         → Self.represents start now past → Self.represents start now (entry ∷ past) };
 }
 
-/// The audits of groups, each of which is handed the entries whose calls are on its group, and no
-/// others: an audit for a walk. Each comes to what it would be if it had been handed all entries.
+/// The audits of groups, as one audit for a pass over the entries.
+///
+/// Each is passed exactly the entries whose calls are on its group, except the gos that end no
+/// call. Its result is that of a pass over all entries.
 #[derive(Drop)]
 pub struct GroupAudits<'a, A> {
     groups: &'a [Group],
@@ -44,7 +47,7 @@ impl<'a, A> Model for GroupAudits<'a, A> {
     ghost view = { λ s. record { groups = s.groups.now; audits = s.audits.items } };
 }
 
-/// Returns whether an entry goes on with a call, and does not end it.
+/// Returns whether an entry continues a call, and does not end it.
 #[inline(always)]
 fn is_intermediate(entry: &Entry) -> bool
     ensures { result ≡ is_intermediate entry.now }
@@ -52,8 +55,9 @@ fn is_intermediate(entry: &Entry) -> bool
     matches!(entry.act, Act::Go) && matches!(entry.reply, Reply::Pending)
 }
 
-/// Returns whether the group with a number, if there is one, is wide, if those that are wide are
-/// among these.
+/// Returns whether there is a group with this number, and it is wide.
+///
+/// All wide groups are in the span `among`.
 #[inline(always)]
 fn is_wide_at(groups: &[Group], among: Span, number: usize) -> bool
     requires { Covers groups.now sees_every_call among }
@@ -68,8 +72,10 @@ fn is_wide_at(groups: &[Group], among: Span, number: usize) -> bool
     }
 }
 
-/// Returns whether the group with a number, if there is one, is wide; or, as it is asked, another
-/// of which an act names an object. Those that are wide are among these.
+/// Returns whether there is a group with this number, and it is selected.
+///
+/// If `wide`, the wide groups are selected; otherwise the other groups of which the act names an
+/// object. All wide groups are in the span `among`.
 fn is_asked_at(groups: &[Group], among: Span, wide: bool, op: &Act, number: usize) -> bool
     requires { Covers groups.now sees_every_call among }
     ensures { result ≡ is_asked_at groups.now wide op.now number }
@@ -83,7 +89,7 @@ fn is_asked_at(groups: &[Group], among: Span, wide: bool, op: &Act, number: usiz
     }
 }
 
-/// Hands an entry to the audit with a number, if there is one.
+/// Passes an entry to the audit with this number, if there is one.
 #[inline(always)]
 fn dispatch_to<A: Audit>(audits: &mut [A], number: usize, place: usize, op: &Act, entry: &Entry)
     requires place { place + 1 < 2 ^ 64 }
@@ -94,8 +100,7 @@ fn dispatch_to<A: Audit>(audits: &mut [A], number: usize, place: usize, op: &Act
     }
 }
 
-/// Hands an entry to the audit of the group with a number, if it is wide; or, as it is asked, if it
-/// is another of which its call names an object. Those that are wide are among these.
+/// Passes an entry to the audit of the group with this number, if `is_asked_at` selects the group.
 fn dispatch_at<A: Audit>(
     groups: &[Group],
     audits: &mut [A],
@@ -116,8 +121,7 @@ fn dispatch_at<A: Audit>(
     }
 }
 
-/// Hands an entry to the audits of those groups of a span that are wide; or, as it is asked, of
-/// those others of which its call names an object. Those that are wide are among these.
+/// Passes an entry to the audits of the groups of a span that `is_asked_at` selects.
 fn dispatch_among<A: Audit>(
     groups: &[Group],
     audits: &mut [A],
@@ -139,8 +143,10 @@ fn dispatch_among<A: Audit>(
     }
 }
 
-/// Hands an entry to the audit of the one group of which its call names an object, if that is not
-/// wide. Those that are wide are among these.
+/// Passes an entry to the audit of the one group of which its call names an object, if that is not
+/// wide.
+///
+/// All wide groups are in the span `among`.
 #[inline(always)]
 fn dispatch_one<A: Audit>(
     groups: &[Group],
@@ -165,8 +171,8 @@ fn dispatch_one<A: Audit>(
     dispatch_to(audits, named.first, place, op, entry);
 }
 
-/// Hands an entry to the audits of the groups of which its call names an object, but not to those
-/// of the wide ones.
+/// Passes an entry to the audits of the groups of which its call names an object, except the wide
+/// ones.
 fn dispatch_named<A: Audit>(
     groups: &[Group],
     audits: &mut [A],
@@ -190,8 +196,8 @@ fn dispatch_named<A: Audit>(
     dispatch_among(groups, audits, wide, false, named, place, op, entry);
 }
 
-/// Hands an entry to the audits of the groups that its call is on: of those of which it names an
-/// object, and then of the wide ones.
+/// Passes an entry to the audits of the groups that its call is on: those of which it names an
+/// object, then the wide ones.
 #[inline(never)]
 fn dispatch_each<A: Audit>(
     groups: &[Group],
@@ -211,7 +217,10 @@ fn dispatch_each<A: Audit>(
     dispatch_among(groups, audits, wide, true, wide, place, op, entry);
 }
 
-/// Hands it to the same audits. (Mostly a call names one group, and none is wide.)
+/// Passes an entry to the same audits as `dispatch_each`, faster if it names one group and none is
+/// wide.
+///
+/// That is the usual case.
 #[inline(always)]
 fn dispatch_all<A: Audit>(
     groups: &[Group],
@@ -235,7 +244,7 @@ fn dispatch_all<A: Audit>(
 }
 
 impl<'a, A: GroupAudit> GroupAudits<'a, A> {
-    /// Makes what is kept before the first entry, with the audits of the groups, in order.
+    /// Makes the state before the first entry, of the audits of the groups, in order.
     pub fn new(groups: &'a [Group], audits: Vec<A>) -> Self
         ensures groups { result.groups ≡ groups.now }
         ensures audits { result.audits ≡ audits.items }
@@ -274,16 +283,18 @@ impl<'a, A: GroupAudit> Audit for GroupAudits<'a, A> {
         if named.is_empty() && wide.is_empty() {
             return;
         }
-        // (copies: so an entry that no audit is handed needs no place in memory)
+        // Copies, so that an entry that is passed to no audit need not be in memory.
         let (op, entry) = (*op, *entry);
         let audits = self.audits.as_mut_slice();
         dispatch_all(self.groups, audits, named, wide, place, &op, &entry);
     }
 }
 
-/// Returns the audits of groups after all entries of a run, in one walk over them, if there are
-/// groups. Each was handed the entries whose calls are on its group, and no others; they stand in
-/// the order in which they were given, and none is added or taken away.
+/// Returns the audits of groups after one pass over the entries of a run.
+///
+/// Each was passed exactly the entries whose calls are on its group, except the gos that end no
+/// call. The audits are in the same order, and none is added or removed. Without groups there is no
+/// pass.
 pub fn walk_groups<A: GroupAudit>(run: &Run, groups: &[Group], audits: Vec<A>) -> Vec<A>
     requires { AreWalked A.group A.represents groups.now audits.items audits.items [] }
     ensures walked { AreWalked A.group A.represents groups.now audits.items result.items

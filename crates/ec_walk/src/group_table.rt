@@ -25,7 +25,7 @@ impl Span {
         self.end <= self.first
     }
 
-    /// Returns whether there is just one.
+    /// Returns whether there is exactly one group.
     #[inline(always)]
     pub(crate) fn is_one(&self) -> bool
         ensures yes { IsTrue result → self.now.end ≡ self.now.first + 1 }
@@ -41,9 +41,11 @@ const NOWHERE: Span = Span {
     end: 0,
 };
 
-/// The groups that each eventcount, each sequencer and each cell may be of, by its number, and
-/// those that are about each call. In a heading that is one group at most, since its groups share
-/// no object, and it has one `both` at most.
+/// The least span of the groups of each eventcount, sequencer and cell, and that of the wide
+/// groups.
+///
+/// In a header each span has at most one group: its groups share no object, and at most one is a
+/// `both`.
 #[derive(Drop)]
 pub(crate) struct GroupTable {
     events: [Span; 32],
@@ -52,8 +54,8 @@ pub(crate) struct GroupTable {
     wide: Span,
 }
 
-/// Returns whether an act names an object of a group. `both` is asked as the common semaphore that
-/// it has.
+/// Returns whether an act names an object of a group. The objects of `both` are those of its common
+/// semaphore.
 pub(crate) fn names(group: &Group, act: &Act) -> bool
     ensures { result ≡ names group.now act.now }
 {
@@ -65,7 +67,7 @@ pub(crate) fn names(group: &Group, act: &Act) -> bool
     }
 }
 
-/// Adds the group of a number, which is behind all of these.
+/// Adds the group with this number, which comes after all of the span.
 fn reaching(span: Span, number: usize) -> Span
     requires { number + 1 < 2 ^ 64 }
     ensures alone { span.end ≤ span.first → result.first ≡ number }
@@ -79,15 +81,16 @@ fn reaching(span: Span, number: usize) -> Span
     }
 }
 
-/// Returns whether a group is about each call of its users: within a critical section of `both` a
-/// worker makes no other.
+/// Returns whether a group is wide: whether it is about each call of its users, as `both` is.
+///
+/// Within a critical section of `both` a worker makes no other call.
 pub(crate) fn sees_every_call(group: &Group) -> bool
     ensures { result ≡ sees_every_call group.now }
 {
     matches!(group, Group::Both(_))
 }
 
-/// Adds the group of a number, if it passes a test.
+/// Adds the group with this number, if it passes a test.
 fn with_group(span: Span, number: usize, passes: bool) -> Span
     requires { number + 1 < 2 ^ 64 }
     ensures { (groups : List Group) (test : Group → Bool) (group : Group) → slice_get groups number ≡ Some group → passes ≡ test group
@@ -96,7 +99,7 @@ fn with_group(span: Span, number: usize, passes: bool) -> Span
     if passes { reaching(span, number) } else { span }
 }
 
-/// Returns the groups of which an act names an object, and those between them.
+/// Returns the least span of the groups of which an act names an object.
 fn span_of(groups: &[Group], act: &Act) -> Span
     ensures { CoversAct groups.now act.now result }
 {
@@ -107,7 +110,7 @@ fn span_of(groups: &[Group], act: &Act) -> Span
     span
 }
 
-/// Returns the groups that are about each call, and those between them.
+/// Returns the least span of the wide groups.
 fn wide_span(groups: &[Group]) -> Span
     ensures { Covers groups.now sees_every_call result }
 {
@@ -118,7 +121,7 @@ fn wide_span(groups: &[Group]) -> Span
     span
 }
 
-/// Returns the groups that an eventcount may be of.
+/// Returns the least span of the groups of an eventcount.
 fn event_span(groups: &[Group], number: usize) -> Span
     requires { number < 32 }
     ensures { CoversAct groups.now (Read number) result }
@@ -129,7 +132,7 @@ fn event_span(groups: &[Group], number: usize) -> Span
     }
 }
 
-/// Returns the groups that each eventcount may be of.
+/// Returns the least span of the groups of each eventcount.
 fn event_groups(groups: &[Group]) -> [Span; 32]
     ensures { (e : ℕ) → e < 32 → CoversAt groups.now (Read e) result e }
 {
@@ -140,7 +143,7 @@ fn event_groups(groups: &[Group]) -> [Span; 32]
     spans
 }
 
-/// Returns the groups that a sequencer may be of.
+/// Returns the least span of the groups of a sequencer.
 fn sequencer_span(groups: &[Group], number: usize) -> Span
     requires { number < 32 }
     ensures { CoversAct groups.now (Ticket number) result }
@@ -151,7 +154,7 @@ fn sequencer_span(groups: &[Group], number: usize) -> Span
     }
 }
 
-/// Returns the groups that each sequencer may be of.
+/// Returns the least span of the groups of each sequencer.
 fn sequencers_of(groups: &[Group]) -> [Span; 32]
     ensures { (q : ℕ) → q < 32 → CoversAt groups.now (Ticket q) result q }
 {
@@ -162,7 +165,7 @@ fn sequencers_of(groups: &[Group]) -> [Span; 32]
     spans
 }
 
-/// Returns the groups that a cell may be of.
+/// Returns the least span of the groups of a cell.
 fn cell_span(groups: &[Group], number: usize) -> Span
     requires { number < 256 }
     ensures { CoversAct groups.now (Get number) result }
@@ -173,14 +176,14 @@ fn cell_span(groups: &[Group], number: usize) -> Span
     }
 }
 
-/// Returns no group for each cell.
+/// Returns an empty span for each cell.
 fn nowhere() -> [Span; 256]
     ensures { length result ≡ 256 }
 {
     [NOWHERE; 256]
 }
 
-/// Returns the groups that each cell may be of.
+/// Returns the least span of the groups of each cell.
 fn cell_groups(groups: &[Group]) -> [Span; 256]
     ensures { (x : ℕ) → x < 256 → CoversAt groups.now (Get x) result x }
 {
@@ -191,7 +194,7 @@ fn cell_groups(groups: &[Group]) -> [Span; 256]
     spans
 }
 
-/// Returns what a table has at a place.
+/// Returns the span with this number.
 fn at(spans: &[Span], number: usize) -> Span
     requires { number < length spans.now }
     ensures { slice_get spans.now number ≡ Some result }
@@ -211,7 +214,7 @@ impl GroupTable {
         }
     }
 
-    /// Returns groups, among which are those of which an act names an object.
+    /// Returns the least span of the groups of which an act names an object.
     #[inline(always)]
     pub(crate) fn of(&self, act: &Act) -> Span
         ensures { (groups : List Group) → IsTable groups self.now → CoversAct groups act.now result }
@@ -228,7 +231,7 @@ impl GroupTable {
         }
     }
 
-    /// Returns groups, among which are those that are about each call.
+    /// Returns the least span of the wide groups.
     #[inline(always)]
     pub(crate) fn wide(&self) -> Span
         ensures { (groups : List Group) → IsTable groups self.now

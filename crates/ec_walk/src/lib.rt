@@ -1,4 +1,4 @@
-//! One walk over the entries of a run, for the audits of all groups of a heading.
+//! One pass over the entries of a run, for the audits of all groups of a header.
 #![tactic(auto)]
 
 mod group_audits;

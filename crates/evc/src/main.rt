@@ -41,7 +41,7 @@ fn main(rt: HostRuntime) -> ExitCode {
             ExitCode::from(status.code())
         }
         Err(error) => {
-            // (help goes to standard output, and that a note could not be written is not told)
+            // (help goes to standard output; a note that could not be written is not reported)
             if error.print(&rt).is_err() && !error.use_stderr() {
                 notes.say(b"write fault\n");
                 return ExitCode::from(Status::InputOutput.code());

@@ -1,4 +1,4 @@
--- What a contract says of writers that held something at first, said of writers that held nothing.
+-- What a contract says of writers that had some contents at first, stated of empty writers.
 use Rattle.std.proofs.Common.{◌≡◌, inl, inr, ℕ, Bool, length, List, [], ◌++◌, Option, None, Some, codes, refl, sym, ap, ◌∙◌, take, append-nil, subst}
 use Rattle.std.specs.Io.KnownBytes.{Appends, Keeps}
 use Rattle.ec_text.specs.Puts.{AppendsPrefix, OutputModel, Puts, at_first, IsWrittenOut}
@@ -18,7 +18,7 @@ use Rattle.evc_c.specs.declared.room.Room.{Room}
 
 -- THE TEXT
 
--- what was there stands in front of what is there now, which is P by itself
+-- the bytes that were there are a prefix of those that are there now, and the rest satisfies P
 abbrev pub Grown : List ℕ → List ℕ → (List ℕ → Type 0) → Type 0
 Grown a c P = (w : List ℕ) × (c ≡ a ++ w) × P w
 
@@ -33,7 +33,8 @@ fronted a c bs p = (p.0, p.3, (p.0, p.1, p.2, refl, p.4))
 
 -- THE COMMANDS
 
--- what a command wrote stands behind what was there, and by itself it is what the command would have written if nothing was
+-- what a command wrote follows what was there, and is what the command would have written to an
+-- empty writer
 abbrev pub GrowsAt : {S O : Type 0} → (List ℕ → OutputModel → O) → ContractBy S O → List ℕ → Option (List ℕ) → S → (first last : OutputModel) → List ℕ → List ℕ
     → Type 0
 GrowsAt outlets Does bytes left status first last a c = Grown a c (λ w. Does bytes left status (outlets [] first) (outlets w last))
@@ -188,9 +189,9 @@ calls_check_grows bytes left status first last a c (inr (inr p)) =
     let out = unread_grows status bytes left first last a c p in
     (out.0, out.1, inr (inr out.2))
 
--- THE CALLER'S BYTES
+-- THE CALLER'S BUFFERS
 
--- a room in which nothing was written, and what is written in it behind that
+-- a buffer in which nothing was written, and what was then written in it
 grown : (r new : Room) (w : List ℕ) → r.len ≡ 0 → room_holds new ≡ room_holds r ++ w → (new.bytes.ghost_name ≡ r.bytes.ghost_name) × (take new.len new.bytes.now ≡ w)
 grown r new w none e =
     let name : new.bytes.ghost_name ≡ r.bytes.ghost_name = cc in
@@ -211,7 +212,7 @@ fills outlets Does grows bytes left status first last r new empty p written =
       written = written;
     }
 
--- where there was no memory before anything was read
+-- memory ran out before anything was read
 pub no_memory_fills : (bytes : List ℕ) (r : Room) (first last : OutputModel) → r.len ≡ 0 → Puts first last (codes "no memory\n")
     → IsWrittenOut last → FillsBy calls_outlets calls_checks.Checks bytes ends.Memory r r first last
 no_memory_fills bytes r first last empty puts written = record {
@@ -221,7 +222,7 @@ no_memory_fills bytes r first last empty puts written = record {
   written = λ _. written;
 }
 
--- and what is then answered, of the caller's bytes
+-- what is returned then, for the caller's bytes
 pub answers : {S O : Type 0} (code_of : S → ℕ) (outlets : List ℕ → OutputModel → O) (Does : ContractBy S O) (bytes : List ℕ) (status : S) (code given : ℕ) (is_cut : Bool) (many : ℕ)
     (r new : Room) (writer : ℕ) (first last : OutputModel) (start noted text notes : List ℕ) (m n room : ℕ)
     → FillsBy outlets Does bytes status r new first last → first ≡ at_first writer (Some start) → start ≡ [] → Some noted ≡ last.contents

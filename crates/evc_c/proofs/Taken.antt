@@ -1,4 +1,4 @@
--- What follows of the lines that a monitor has taken.
+-- What follows from the lines that a monitor has checked.
 use Rattle.std.proofs.Common.{◌≡◌, refl, sym, ap, subst, ◌∙◌, ℕ, List, [], ◌∷◌, ◌++◌, take, Some}
 use Rattle.std.proofs.Common.{Result, Ok, Err}
 use Rattle.ec_text.specs.Puts.{OutputModel, at_first, IsWrittenOut}
@@ -47,7 +47,7 @@ is_stopped lines line old new result stop leads err taken q qs =
     let is : Stops stop text new = subst (λ (r : Answer). GoesOn r text rest new) err went in
     subst (λ (ps : List (List ℕ)). Stops stop ps new) (one_more lines line rest) is
 
--- what is handed out of a note
+-- what is copied of a note
 pub said : (m : Monitor) (stop : Stop) (status : Status) (writer room : ℕ) (first last : OutputModel)
     (start held note : List ℕ) → m.stage ≡ Stopped stop
     → ((ps : List (List ℕ)) → Stops stop ps m.watcher → SaysStop ps status first last)

@@ -1,4 +1,4 @@
--- What a call answered and wrote, for the bytes that it was given.
+-- The code that a function returned, and what it wrote, for the bytes that it was given.
 use Rattle.std.specs.Prelude.{◌≡◌, ◌≤◌, ◌<◌, ◌⊎◌, ℕ, Bool, true, List, [], length, take, Option, Some}
 use Rattle.ec_text.specs.Puts.{OutputModel, at_first, IsWrittenOut}
 use Rattle.evc_engine.specs.declared.status.Status as evc
@@ -7,19 +7,21 @@ use Rattle.evc_engine.specs.Checks as evc_checks
 use Rattle.calls_report.specs.Statuses as calls_statuses
 use Rattle.calls_report.specs.Checks as calls_checks
 
--- what a command does, as its contract says it: for the bytes of its input, and those that were left, how it ended, and the outlets
--- before and after it
+-- the contract of a command: for the bytes of its input, and those that were left, its status, and
+-- the outlets before and after it
 abbrev pub ContractBy : Type 0 → Type 0 → Type 1
 ContractBy S O = List ℕ → Option (List ℕ) → S → O → O → Type 0
 
--- the code that is returned: 4 if notes were cut off before the caller's room for them was full, since there was no memory for them;
--- else that of the status. If notes were cut off then, as many bytes of them came as the caller has room for
+-- the code that is returned: 4 if notes were cut off before the caller's buffer for them was full,
+-- since memory ran out; otherwise that of the status, and if notes were cut off, at least as many
+-- bytes of them were written as fit
 abbrev pub IsCode : ℕ → ℕ → Bool → ℕ → ℕ → Type 0
 IsCode code given is_cut many room =
     ((code ≡ 4) × (is_cut ≡ true) × (many < room)) ⊎ ((code ≡ given) × (is_cut ≡ true → room ≤ many))
 
--- for these bytes the command ended with this status, if at first nothing was written and no note waited; this text was written, and
--- of its notes their writer holds these: all of them, or as much of them as the caller has room for, or the code is 4
+-- for these bytes the command ended with this status, if it began with an empty writer for the text
+-- and one for the notes; this text was written, these notes are as much of what their writer has as
+-- fits, and the code is as above
 pub record AnswersBy {S O : Type 0} (code_of : S → ℕ) (outlets : List ℕ → OutputModel → O) (Does : ContractBy S O) (bytes : List ℕ) (code : ℕ)
     (text notes : List ℕ) (room : ℕ) : Type 0 where
   pub status : S
@@ -35,7 +37,7 @@ pub record AnswersBy {S O : Type 0} (code_of : S → ℕ) (outlets : List ℕ �
 
 -- COMMANDS ON TRACES AND SCRIPTS
 
--- a writer of the text that holds these bytes, and these notes
+-- outlets with these bytes of the text, and these notes
 abbrev pub outlets : List ℕ → OutputModel → evc_checks.Outlets
 outlets text notes = record { out = Some text; notes = notes }
 

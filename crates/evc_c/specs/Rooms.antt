@@ -1,4 +1,4 @@
--- The caller's bytes, as a writer.
+-- The caller's buffers, as writers.
 use Rattle.std.specs.Prelude.{◌≡◌, ℕ, List, [], ◌∷◌, take, Option}
 use Rattle.ec_text.specs.Puts.{OutputModel, IsWrittenOut}
 use Rattle.evc_engine.specs.declared.status.Status as evc
@@ -7,12 +7,13 @@ use Rattle.calls_report.specs.Checks.{Checks}
 use Rattle.evc_c.specs.declared.room.Room.{Room}
 use Rattle.evc_c.specs.Answers.{ContractBy, Contract, outlets, calls_outlets}
 
--- what a room holds, as a writer
+-- the contents of a buffer, as a writer
 abbrev pub room_holds : Room → List ℕ
 room_holds r = r.bytes.ghost_name ∷ take r.len r.bytes.now
 
--- what a command did to a room in which nothing had been written, and to the notes: it is the same room, and what is written in it is
--- what the command writes; and no note waits, if none waited
+-- what a command did to a buffer in which nothing had been written, and to the notes: it is the
+-- same buffer, and what is written in it is what the command writes; and the notes are written out,
+-- if they were at first
 pub record FillsBy {S O : Type 0} (outlets : List ℕ → OutputModel → O) (Does : ContractBy S O) (bytes : List ℕ) (status : S) (r new : Room)
     (first last : OutputModel) : Type 0 where
   pub same : new.bytes.ghost_name ≡ r.bytes.ghost_name

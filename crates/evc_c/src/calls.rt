@@ -1,4 +1,4 @@
-//! The calls.
+//! The functions on whole texts.
 ghost use Rattle.std.specs.Prelude.{◌≡◌, ◌≤◌, length, take, drop};
 ghost use Rattle.evc_engine.specs.Checks.{Checks};
 ghost use Rattle.evc_engine.specs.Audits.{Audits};
@@ -16,8 +16,8 @@ use evc_engine::{Status, audit, check, upgrade};
 use evc_scripts::sim;
 use std::alloc::Global;
 
-/// The bytes of notes for which a call on a trace or a script has room. The notes of such a call have less
-/// than a thousand bytes.
+/// The most bytes of notes of a call on a trace or a script. Its notes have less than a thousand
+/// bytes.
 const NOTES_MAX: usize = 1024;
 
 /// The notes of a call on a trace or a script.
@@ -30,7 +30,8 @@ pub struct EvcWritten {
     pub notes: usize,
 }
 
-/// Tells how much stands in a room, and hands out as much of the notes as there is room for.
+/// Copies into the caller's buffer as much of the notes as fits, and stores how many bytes of the
+/// text and of the notes were written.
 fn write_lengths(out: &Room<'_>, returned: &[u8], notes: &mut [u8], written: &mut EvcWritten)
     ensures text { written.new.text ≡ out.now.len }
     ensures within { written.new.notes ≤ length notes.new }
@@ -42,15 +43,15 @@ fn write_lengths(out: &Room<'_>, returned: &[u8], notes: &mut [u8], written: &mu
     written.notes = put_front(notes, returned);
 }
 
-/// Returns a status as the caller gets it: 4 if notes were cut off before the caller's room for them
-/// was full, since there was no memory for them.
+/// Returns the status that the caller gets. It is 4 if notes were cut off before the caller's
+/// buffer for them was full, since memory ran out.
 fn code_for(code: u8, is_cut: bool, noted: usize, room: usize) -> u8
     ensures { IsCode result code is_cut noted room }
 {
     if is_cut && noted < room { 4 } else { code }
 }
 
-/// Does `check` of bytes, into a room.
+/// Does `check` of bytes, and writes the text to a buffer.
 #[tactic(auto, using(crate::proofs::Grown::check_grows, crate::proofs::Grown::fills))]
 fn check_bytes(
     alloc: Global,
@@ -66,9 +67,10 @@ fn check_bytes(
     check(alloc, &mut reader, out, notes)
 }
 
-/// Checks a trace: the order of its completed calls and the totals are the text.
+/// Checks a trace: a linearization of its completed calls, and the totals, are the text.
 ///
-/// The status is that of `evc check`, and 3 if the text had no room: then a proper front of it was written.
+/// The status is that of `evc check`. It is 3 if the buffer was too small for the text: then a
+/// proper prefix of the text was written.
 #[tactic(auto, using(crate::proofs::Grown::answers))]
 #[unsafe(no_mangle)]
 pub extern "C" fn evc_check(
@@ -94,7 +96,7 @@ pub extern "C" fn evc_check(
     code
 }
 
-/// Does `audit` of bytes, into a room.
+/// Does `audit` of bytes, and writes the text to a buffer.
 #[tactic(auto, using(crate::proofs::Grown::audit_grows, crate::proofs::Grown::fills))]
 fn audit_bytes(
     alloc: Global,
@@ -136,7 +138,7 @@ pub extern "C" fn evc_audit(
     code
 }
 
-/// Does `upgrade` of bytes, into a room.
+/// Does `upgrade` of bytes, and writes the text to a buffer.
 #[tactic(auto, using(crate::proofs::Grown::upgrade_grows, crate::proofs::Grown::fills))]
 fn upgrade_bytes(
     alloc: Global,
@@ -178,7 +180,7 @@ pub extern "C" fn evc_upgrade(
     code
 }
 
-/// Does `sim` of bytes, into a room.
+/// Does `sim` of bytes, and writes the text to a buffer.
 #[tactic(auto, using(crate::proofs::Grown::sim_grows, crate::proofs::Grown::fills))]
 fn sim_bytes(
     alloc: Global,
@@ -194,7 +196,7 @@ fn sim_bytes(
     sim(alloc, &mut reader, out, notes)
 }
 
-/// Plays the schedule of a script: the trace is the text, and the notes say how the workers have ended.
+/// Plays the schedule of a script: the trace is the text, and the notes say how each worker ended.
 #[tactic(auto, using(crate::proofs::Grown::answers))]
 #[unsafe(no_mangle)]
 pub extern "C" fn evc_sim(
@@ -220,7 +222,7 @@ pub extern "C" fn evc_sim(
     code
 }
 
-/// Does `check` of histories of calls in bytes, into a room.
+/// Does `check` of histories of calls in bytes, and writes the text to a buffer.
 fn calls_check_bytes(
     alloc: Global,
     calls: &[u8],
@@ -235,7 +237,7 @@ fn calls_check_bytes(
     calls_report::check(alloc, &mut reader, out, notes)
 }
 
-/// Says that there was no memory before anything was read.
+/// Reports that memory ran out before anything was read.
 fn report_no_memory(
     calls: &[u8],
     out: &mut Room<'_>,
@@ -249,7 +251,7 @@ fn report_no_memory(
     calls_report::Status::Memory
 }
 
-/// Answers that there was no memory before anything was read.
+/// Returns the status for memory that ran out before anything was read, with the note.
 #[tactic(auto, using(crate::proofs::Grown::answers))]
 fn answer_no_memory(calls: &[u8], text: &mut [u8], notes: &mut [u8], written: &mut EvcWritten) -> u8
     ensures answers { CallsAnswers calls.now result (take written.new.text text.new) (take written.new.notes notes.new) (length notes.old) }
@@ -268,10 +270,11 @@ fn answer_no_memory(calls: &[u8], text: &mut [u8], notes: &mut [u8], written: &m
     code
 }
 
-/// Checks histories of calls: an order of the calls of each is the text. The notes have the remarks on them, and then the note on what
-/// ended the check, if there is one.
+/// Checks histories of calls: a linearization of each is the text. The notes have the remarks on
+/// them, and then the note on what ended the check, if there is one.
 ///
-/// The status is that of `evc-calls check`, and 3 if the text had no room: then a proper front of it was written.
+/// The status is that of `evc-calls check`. It is 3 if the buffer was too small for the text: then
+/// a proper prefix of the text was written.
 #[tactic(auto, using(crate::proofs::Grown::answers))]
 #[unsafe(no_mangle)]
 pub extern "C" fn evc_calls_check(
@@ -299,8 +302,8 @@ pub extern "C" fn evc_calls_check(
     code
 }
 
-/// Returns the version: a thousand times its first number, and its second. These are the numbers with
-/// which the answer of `evc --version` begins.
+/// Returns the version: a thousand times its first number, plus its second. `evc --version` writes
+/// the same numbers.
 #[unsafe(no_mangle)]
 pub extern "C" fn evc_version() -> u32
     ensures value { result ≡ 2 }

@@ -1,7 +1,7 @@
-//! The calls on a monitor in memory of the caller.
+//! The functions on a monitor in the caller's memory.
 //!
-//! A caller promises that a pointer is of a place which `evc_monitor_open` was called on, and that
-//! no other call has it.
+//! A caller guarantees that a pointer is to a monitor that `evc_monitor_open` has opened, and that
+//! no other call uses it at the same time.
 ghost use Rattle.std.specs.Prelude.{◌≡◌, ◌≤◌};
 ghost use Rattle.std.specs.Borrow.{sem};
 ghost use Rattle.evc_c.specs.declared.monitor.Monitor.{Monitor};
@@ -13,7 +13,7 @@ use crate::monitor::{EvcLoad, Monitor};
 use std::alloc::Global;
 use std::mem::size_of;
 
-/// Returns how many bytes a monitor takes.
+/// Returns the size of a monitor, in bytes.
 #[unsafe(no_mangle)]
 pub extern "C" fn evc_monitor_size() -> usize
     ensures size { result ≡ monitor_size }
@@ -22,7 +22,7 @@ pub extern "C" fn evc_monitor_size() -> usize
     size_of::<Monitor>()
 }
 
-/// Opens a monitor: no line came yet.
+/// Opens a monitor without lines.
 #[unsafe(no_mangle)]
 pub unsafe extern "C" fn evc_monitor_open(alloc: Global, at: *mut u8)
     requires* { sem 𝓛 (room_for_monitor at) }
@@ -32,7 +32,7 @@ pub unsafe extern "C" fn evc_monitor_open(alloc: Global, at: *mut u8)
     (at as *mut Monitor).write(Monitor::new(alloc));
 }
 
-/// Takes the next line of the text, given without its LF, and judges it.
+/// Checks the next line of the text, given without its LF.
 #[unsafe(no_mangle)]
 pub unsafe extern "C" fn evc_monitor_line(at: *mut u8, line: &[u8]) -> u8
     ghost old: { Monitor }
@@ -43,7 +43,7 @@ pub unsafe extern "C" fn evc_monitor_line(at: *mut u8, line: &[u8]) -> u8
     (&mut *(at as *mut Monitor)).line(line)
 }
 
-/// Ends the text, of which each line has come.
+/// Ends the text after its last line.
 #[unsafe(no_mangle)]
 pub unsafe extern "C" fn evc_monitor_end(at: *mut u8) -> u8
     ghost old: { Monitor }
@@ -54,8 +54,8 @@ pub unsafe extern "C" fn evc_monitor_end(at: *mut u8) -> u8
     (&mut *(at as *mut Monitor)).end()
 }
 
-/// Puts the note on what stopped a monitor, as much of it as there is room for, and returns how
-/// much.
+/// Copies into a buffer as much of the note on what stopped a monitor as fits, and returns how many
+/// bytes.
 #[unsafe(no_mangle)]
 pub unsafe extern "C" fn evc_monitor_note(at: *mut u8, note: &mut [u8]) -> usize
     ghost old: { Monitor }
@@ -66,7 +66,7 @@ pub unsafe extern "C" fn evc_monitor_note(at: *mut u8, note: &mut [u8]) -> usize
     (&mut *(at as *mut Monitor)).note(note)
 }
 
-/// Tells how many calls came, and how far they overlap.
+/// Stores how many histories and calls there were, and how far the calls overlap.
 #[unsafe(no_mangle)]
 pub unsafe extern "C" fn evc_monitor_load(at: *mut u8, load: &mut EvcLoad)
     ghost old: { Monitor }
@@ -77,7 +77,7 @@ pub unsafe extern "C" fn evc_monitor_load(at: *mut u8, load: &mut EvcLoad)
     (&mut *(at as *mut Monitor)).load(load)
 }
 
-/// Closes a monitor: all memory that it took is free again.
+/// Closes a monitor: frees all memory that it allocated.
 #[unsafe(no_mangle)]
 pub unsafe extern "C" fn evc_monitor_close(at: *mut u8)
     ghost old: { Monitor }

@@ -1,4 +1,4 @@
-//! `evc-calls`: judges histories of calls, and makes them of traces.
+//! `evc-calls`: judges histories of calls, and converts between them and traces of steps.
 #![tactic(auto)]
 
 use calls_extract::extract_calls;
@@ -12,7 +12,7 @@ use std::io::{Read, Write};
 use std::process::ExitCode;
 use std::{env, fs, io};
 
-/// Does what is asked with an input, and returns the exit status.
+/// Runs the command on an input, and returns the exit status.
 fn run<R: Read, N: Write>(
     rt: &HostRuntime,
     action: Action,
@@ -28,7 +28,7 @@ fn run<R: Read, N: Write>(
     }
 }
 
-/// Does what is asked with a file, or with standard input, and returns the exit status.
+/// Runs the command on a file or on standard input, and returns the exit status.
 fn run_task<N: Write>(rt: &HostRuntime, task: Task<'_>, notes: &mut Output<'_, N>) -> u8 {
     let Some(path) = task.file else {
         return run(rt, task.action, &mut rt.stdin(), notes);
@@ -44,9 +44,9 @@ fn run_task<N: Write>(rt: &HostRuntime, task: Task<'_>, notes: &mut Output<'_, N
     }
 }
 
-/// Writes what the command line gave in place of a task, and returns the exit status.
+/// Prints the help, version or error of a command line, and returns the exit status.
 fn end_by<N: Write>(rt: &HostRuntime, error: &Error, notes: &mut Output<'_, N>) -> u8 {
-    // (help goes to standard output, and that a note could not be written is not reported)
+    // (help goes to standard output; a note that could not be written is not reported)
     if error.print(rt).is_err() && !error.use_stderr() {
         notes.say(b"write fault\n");
         return Status::InputOutput.code();

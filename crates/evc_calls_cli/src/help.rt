@@ -1,7 +1,7 @@
-//! The texts of `evc-calls --help`, of the help on its command, and of `evc-calls --version`.
+//! The texts of `evc-calls --help`, of the help on its commands, and of `evc-calls --version`.
 
-// What stands after `evc-calls ` in the answer to `evc-calls --version`: the number, and the line
-// of the toolchain that everything is proved and built with.
+// What `evc-calls --version` prints after `evc-calls `: the number, and the line of the toolchain
+// that everything is proved and built with.
 pub(crate) const VERSION: &str = "0.2
 proved and built with rattle-kit-13";
 

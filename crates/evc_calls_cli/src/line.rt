@@ -37,7 +37,7 @@ fn check_command<'a>(alloc: Global) -> Result<Command<'a>, AllocError>
         .arg(file)
 }
 
-/// Returns the command that judges histories while they come.
+/// Returns the command that judges each event when its line comes.
 fn watch_command<'a>(alloc: Global) -> Result<Command<'a>, AllocError>
     ensures app { IfOk result (λ c. app_of c ≡ command_app (codes "watch")) }
     ensures local { IfOk result (λ c. (fields_of c).has_globals ≡ false) }
@@ -134,8 +134,8 @@ fn file_value<'a>(found: &ArgMatches<'a>) -> Option<&'a str>
 
 /// Reads the command line, whose first word is the program's name.
 ///
-/// An `Err` that is not out of memory says what is wrong with the words, or is the text of the help
-/// or the version that they ask for. `Error::print` writes it if it belongs.
+/// An `Err` is out of memory, or says what is wrong with the words. If they ask for the help or the
+/// version, it is that text. `Error::print` writes it to the stream where it belongs.
 pub fn task<'a>(alloc: Global, words: &'a [String]) -> Result<Task<'a>, Error>
     ensures action { IfOk result (λ t. t.action ≡ action_in (texts_of words.now)) }
     ensures file { IfOk result (λ t. option_map (λ f. f.now) t.file ≡ file_in (texts_of words.now)) }

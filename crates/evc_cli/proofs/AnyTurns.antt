@@ -1,4 +1,5 @@
--- `run --turns N`, by computing what clap makes of it if N begins with no hyphen and clap's test of it is known.
+-- `run --turns N`, by computing what clap finds in it, if N begins with no hyphen and clap's test
+-- of it is known.
 use Rattle.std.proofs.Common.{◌≡◌, ◌∙◌, ◌++◌, inl, inr, ◌<◌, ◌≤◌, ◌==◌, ◌^◌, ℕ, Bool, true, false, true≢false, cond, refl, ap, ap₂, sym, subst, arith, List, [], ◌∷◌, Some, None, codes, eqb-true}
 use Rattle.std.specs.Prelude.{option_and_then}
 use Rattle.std.specs.List.{slice_index_or}
@@ -30,7 +31,7 @@ run_ready = slice_index_or ready.subs 4 ready.top
 abbrev run_rules : List Rule
 run_rules = run_ready.rules
 
--- behind the word `--turns`
+-- the state after the word `--turns`
 abbrev waits_held : Held
 waits_held = record { rows = []; pending = Some (codes "turns", []); skip = 0 }
 
@@ -74,7 +75,7 @@ module _ (d : ℕ) (ds : Text) (plain : (d == 45) ≡ false) where
   no_short : short_of word ≡ None
   no_short = ap (λ b. option_and_then short_of_rest (cond b (Some ds) None)) plain
 
-  -- the word is a value of what waits
+  -- the word is a value of the option that waits for one
   met_is : word_met run_rules [] false waits_for 1 word waits_held ≡ (pushed (codes "turns") word waits_held, next idle)
   met_is = ap (λ b. cond b (waits_held, trailing 1) (long_or_other run_rules waits_for word (long_of word) waits_held)) no_dashes
       ∙ ap (λ o. long_or_other run_rules waits_for word o waits_held) no_long
@@ -130,7 +131,7 @@ no_hyphen d ds numeral = go (d == 45) refl
         let bad : 36 < 10 = (subst (λ x. IsNumeral 10 (without_leading_plus (x ∷ ds))) (eqb-true d 45 e) numeral).1.0 in
         absurd (omega (arith, bad))
 
--- what clap makes of words that give the text, by its test of the text
+-- what clap finds in words that give the text, by its test of the text
 abbrev Reads : Text → List Text → Type 0
 Reads text words = ((turns : ℕ) → NamesTask words (tasks.Run turns))
     × (turns_text words ≡ Some text)

@@ -1,5 +1,5 @@
--- Words that clap takes name one of the program's commands: clap adds the command `help`, which ends
--- in an error.
+-- Words that clap accepts name one of the program's commands: clap adds the command `help`, which
+-- ends in an error.
 use Rattle.std.proofs.Common.{◌≡◌, ◌∙◌, ◌++◌, inl, inr, ℕ, Bool, true, false, true≢false, cond, not, refl, sym, ap, map, List, [], ◌∷◌, length, Option, Some, None, is_some, option_map, codes, arith, fold}
 use Rattle.std.specs.Prelude.{Box, ◌&&◌, ◌||◌, if◌then◌else◌, IfSome, IsSomeAnd, find}
 use Rattle.std.specs.List.{list_all}
@@ -67,7 +67,7 @@ module _ (rules : List Rule) (waiting : Waiting) (word : Text) where
   long_meets None h = short_meets (short_of word) h
   long_meets (Some p) h = flag_meets (long_met rules (arg_by_long rules p.0) p.1 h).0 (long_met rules (arg_by_long rules p.0) p.1 h).1
 
--- clap answers the command `help` with an error
+-- clap returns an error for the command `help`
 abbrev help_fault : Bool → Bool → Kinds
 help_fault is_help disabled = if is_help && not disabled then kind.DisplayHelp ∷ kind.InvalidSubcommand ∷ [] else []
 
@@ -118,7 +118,7 @@ module _ (s : Shape) (enabled : s.disable_help_subcommand ≡ false) (names : Na
   turn_keeps : (w : Walk) (word : Text) → MetNoHelp w.stopped → turn_fault s names w word ≡ [] → MetNoHelp (walked s.rules names w word).stopped
   turn_keeps w word is e = turn_at w.held w.waiting w.position w.is_trailing w.stopped word is e
 
-  -- the walk over words with no fault
+  -- a pass over words without a fault
   pub walk_keeps : (w : Walk) (words : List Text) → MetNoHelp w.stopped → walk_fault s names w words ≡ [] → MetNoHelp (fold (walked s.rules names) w words).stopped
   unfolding walk_fault
   walk_keeps w [] is e = is
@@ -136,7 +136,7 @@ is_empty (x ∷ xs) = false
 abbrev has_no_alias : Shape → Bool
 has_no_alias s = is_empty s.aliases
 
--- a command that answers to a name and has no alias has that name
+-- a command that a name selects, and that has no alias, has that name
 answers_by_name : (aliases : List Text) (own name : Text) → is_empty aliases ≡ true → answers_to name (own, aliases) ≡ true → own ≡ name
 answers_by_name (x ∷ xs) own name none is = absurd (true≢false (sym none))
 answers_by_name [] own name none is = (bytes_eq-Decides own name).0 (or_false (bytes_eq own name) is)
@@ -165,7 +165,8 @@ before_help [] name is_not (inr none) = none
 before_help (x ∷ xs) name is_not (inl is) = inl is
 before_help (x ∷ xs) name is_not (inr more) = inr (before_help xs name is_not more)
 
--- one level of a parse without a fault: neither its walk nor its last checks have one
+-- one level of a parse without a fault: neither its pass over the words nor its last checks have
+-- one
 level_parts : (s : Shape) (names : Names) (h : Held) (words : List Text) (has_command : Bool) (below : Kinds) → level_fault s names h words has_command below ≡ []
     → (walk_fault s names (walk_from h) words ≡ []) × (check_fault s (finished s.rules (walk s.rules names h words).held) has_command ≡ [])
 level_parts s names h words has_command below e =
@@ -181,7 +182,7 @@ level_parts s names h words has_command below e =
 abbrev pub ready : App
 ready = built evc_app
 
--- if a walk without `help` stops, there is one of the program's commands
+-- a pass that met no `help` and has no fault stopped at one of the program's commands
 stops_at : (stopped : Option (Text × List Text)) (rows : List Row) → MetNoHelp stopped → check_fault ready.top rows (is_some (entered ready stopped)) ≡ []
     → IsSomeAnd (entered ready stopped) (λ found. IsOneOf command_names found.0)
 stops_at None rows is e = absurd (not_empty _ _ e)
@@ -199,7 +200,7 @@ words_name_a_command words e =
     let parts = level_parts ready.top (names_of ready) nothing_held arguments (is_some (entered ready end.stopped)) (entered_fault ready end.stopped) e in
     stops_at end.stopped (finished ready.top.rules end.held) (walk_keeps ready.top refl (names_of ready) (walk_from nothing_held) arguments tt parts.0) parts.1
 
--- the same of what a parse found
+-- the same for what a parse found
 pub matches_name_a_command : (m : ArgMatches) (words : List Text) → fault_of evc_app words ≡ [] → subcommand_rows_of m ≡ subcommand_of evc_app words
     → IsSomeAnd (subcommand_name_of m) (IsOneOf command_names)
 matches_name_a_command m words e found = let named = words_name_a_command words e in go (out-ArgMatches m).subcommand (rw (← found) at named)

@@ -1,4 +1,4 @@
--- What `task` reads of the matches, told of the words.
+-- What `task` reads in the matches, stated of the words.
 use Rattle.std.proofs.Common.{◌≡◌, ◌∙◌, ap, ap₂, sym, subst, true≢false, List, [], Option, Some, None, is_some, option_map, codes}
 use Rattle.std.specs.Prelude.{Box, IfSome, option_and_then, unwrap_or}
 use Rattle.std.specs.Box.{box_value}

@@ -1,5 +1,5 @@
--- What clap finds for `--turns` in words that it takes is one number that a worker may get: each use of an argument was
--- tested when it was met, and no other argument of `run` leaves anything.
+-- What clap finds for `--turns` in words that it accepts is one number that a worker may have: each
+-- use of an argument was tested when it was met, and no other argument of `run` adds a row.
 use Rattle.std.proofs.Common.{◌≡◌, ◌∙◌, ◌++◌, ◌⊎◌, inl, inr, ℕ, zero, suc, Bool, true, false, true≢false, cond, refl, sym, ap, subst, List, [], ◌∷◌, length, drop, Option, Some, None, is_some, option_map, codes, fold}
 use Rattle.std.specs.Prelude.{◌&&◌, IfSome, encode_utf8, find, option_and_then, slice_get}
 use Rattle.std.specs.List.{list_all, slice_index_or}
@@ -22,7 +22,7 @@ use Rattle.evc_cli.specs.CommandLine.{evc_app}
 use Rattle.evc_cli.specs.Turns.{PassTurns, turns_parser, turns_rule}
 use Rattle.evc_cli.proofs.CommandMet.{first_none, not_empty, ready, second_none}
 
--- ---- lists of which each element has a property
+-- ---- lists all of whose elements have a property
 
 abbrev Each : {X : Type 0} → (X → Type 0) → List X → Type 0
 Each P [] = Unit {0}
@@ -77,7 +77,7 @@ row_kept id change missing (r ∷ rs) c m g = go (bytes_eq r.id id) (row_kept id
     go true rest = each_joined GoodRow (change r) rs (c r g.0) g.1
     go false rest = (g.0, rest)
 
--- values of which clap's test refuses none
+-- values that all pass clap's test
 all_pass : (vs : List Text) → values_fault turns_ready vs ≡ [] → list_all passes vs ≡ true
 all_pass [] e = refl
 all_pass (v ∷ vs) e =
@@ -101,7 +101,7 @@ use_kept : (again : Bool) (a : Rule) → IsOfRun a → (values : List Text) (row
 use_kept again a (inl is) values rows f g = rw is (turns_used again values rows (rw is at f) g)
 use_kept again a (inr is) values rows f g = rw is g
 
--- ---- the walk over the words
+-- ---- the pass over the words
 
 module _ (c : List Rule) (own : Each IsOfRun c) (again : Bool) where
   settled_kept : (h : Held) → settle_fault c again h ≡ [] → AreGood h.rows → AreGood (settled c h).rows
@@ -259,7 +259,7 @@ rows_kept s own words e =
     let walked_well : AreGood end.rows = walk_kept s own [] (walk_from nothing_held) words tt walks in
     defaults_kept s.rules own (settled s.rules end).rows (settled_kept s.rules own s.args_override_self end settles walked_well)
 
--- a command of that name has the arguments of `run` alone
+-- a command of that name has only the arguments of `run`
 abbrev HasRules : Shape → Type 0
 HasRules s = s.name ≡ codes "run" → Each IsOfRun s.rules
 
@@ -291,7 +291,7 @@ entered_rows (Some p) e = go (find (λ s. answers_to p.0 (label_of s)) ready.sub
     go None has e = tt
     go (Some s) has e = λ is. rows_kept s (has is) p.1 e
 
--- what good rows say of the text for `--turns`
+-- good rows have a text for `--turns` that passed clap's test, if they have one
 good_rows_pass : (rows : List Row) → AreGood rows → PassTurns rows
 good_rows_pass rows g = at (find (λ r. bytes_eq r.id (codes "turns")) rows) (found_each GoodRow _ rows g)
   where
@@ -310,7 +310,8 @@ good_rows_pass rows g = at (find (λ r. bytes_eq r.id (codes "turns")) rows) (fo
     at None good = (refl, tt)
     at (Some r) good = row r.reading r.values good.0 good.1
 
--- in words that clap takes for `run`, what it finds for `--turns` is a number that a worker may get
+-- in words that clap accepts for `run`, what it finds for `--turns` is a number that a worker may
+-- have
 pub turns_pass : (words : List Text) → fault_of evc_app words ≡ [] → IfSome (subcommand_of evc_app words) (λ found. found.0 ≡ codes "run" → PassTurns found.1)
 turns_pass words e =
     let arguments : List Text = argument_words evc_app words in

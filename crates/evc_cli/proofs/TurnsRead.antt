@@ -1,4 +1,4 @@
--- The number that `get_one` reads of a text that clap took for `--turns`.
+-- The number that `get_one` reads in a text that clap accepted for `--turns`.
 use Rattle.std.proofs.Common.{◌≡◌, ℕ, false, refl, Option, Some, None, Result, Ok, Err, arith}
 use Rattle.std.specs.Prelude.{IfSome, unwrap_or}
 use Rattle.std.specs.Str.Parse.{ParsesUnsigned}
@@ -12,7 +12,7 @@ module _ {E : Type 0} (gives : Text → Result ℕ E → Type 0) (parses : (t : 
       ((pass.0, parsed.1), (rw parsed.1 pass.2, rw parsed.1 pass.3))
   given_read t None pass read = absurd (parses t (Err read.0) read.1 (pass.0, pass.1))
 
-  -- of a text that is read as it was given
+  -- if the text is read as it was given
   pub turns_read : (given read : Option Text) (r : Option ℕ) → read ≡ given → IfSome given (Accepts false turns_parser)
       → (read ≡ None → r ≡ None) → ((t : Text) → read ≡ Some t → ReadsOne gives t r)
       → IsTurnsOf given (unwrap_or r 10000) × IsInRange (unwrap_or r 10000)

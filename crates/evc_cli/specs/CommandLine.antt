@@ -1,4 +1,4 @@
--- What the words of a command line ask for. The first word is the program's name.
+-- The task that the words of a command line give. The first word is the program's name.
 use Rattle.std.specs.Prelude.{◌≡◌, ◌⊎◌, ℕ, List, [], ◌∷◌, ◌++◌, Option, Some, String, true, codes, map, option_and_then, option_map}
 use Rattle.std.specs.Global.{Global}
 use Rattle.clap.specs.Words.{App, Kinds, Shape, Text, fault_of, first_of, new_app, subcommand_of, with_subcommand}
@@ -12,7 +12,7 @@ use Rattle.evc_cli.specs.Turns.{HasTurnsOf, IsInRange, Writes, run_app}
 abbrev pub texts_of : List (String Global) → List Text
 texts_of = map (λ word. word.bytes.items)
 
--- `evc` as clap knows it, without its commands: one of them has to be given, and it tells its version
+-- `evc` as clap knows it, without its commands: one of them has to be given, and it has a version
 abbrev pub bare_app : App
 bare_app = let new : App = new_app (codes "evc") in record new { top = record new.top { subcommand_required = true; has_version = true } }
 
@@ -33,7 +33,7 @@ abbrev pub IsOneOf : List Text → Text → Type 0
 IsOneOf [] name = ⊥
 IsOneOf (x ∷ xs) name = (name ≡ x) ⊎ IsOneOf xs name
 
--- the name of the command that asks for the task
+-- the name of the task's command
 abbrev pub name_of : Task → Text
 name_of tasks.Check = codes "check"
 name_of tasks.Audit = codes "audit"
@@ -45,15 +45,16 @@ name_of (tasks.Run turns) = codes "run"
 abbrev pub NamesTask : List Text → Task → Type 0
 NamesTask words t = option_map (λ found. found.0) (subcommand_of evc_app words) ≡ Some (name_of t)
 
--- the text that clap finds in them for `--turns`, if they give one
+-- the text that clap finds in the words for `--turns`, if there is one
 abbrev pub turns_text : List Text → Option Text
 turns_text words = option_and_then (λ found. first_of (codes "turns") found.1) (subcommand_of evc_app words)
 
--- the words ask for the task: they name it, and a task that runs workers has the number of turns that they give
+-- the words give the task: they name it, and a task that runs workers has the number of turns that
+-- they give
 abbrev pub AskFor : List Text → Task → Type 0
 AskFor words t = NamesTask words t × HasTurnsOf (turns_text words) t
 
--- what is wrong with the words, by clap's rules, or what they ask for in place of a task: nothing
+-- what is wrong with the words, by clap's rules, or the help or version that they ask for: nothing
 -- if they are right
 abbrev pub faults_in : List Text → Kinds
 faults_in words = fault_of evc_app words
@@ -66,8 +67,9 @@ status_by kinds.DisplayVersion = 0
 status_by kinds.OutOfMemory = 4
 status_by _ = 2
 
--- the plainest command lines, under any name of the program: each command is right and asks for its task, `run` for
--- 10000 turns; `--help` asks for help, and `--version` and `-V` for the version; and no word and an unknown word are wrong
+-- the plainest command lines, under any name of the program: each command is right and gives its
+-- task, `run` with 10000 turns; `--help` asks for help, and `--version` and `-V` for the version;
+-- no word and an unknown word are wrong
 pub record ReadsPlainLines : Type 0 where
   pub check : (program : Text) → (faults_in (program ∷ codes "check" ∷ []) ≡ []) × AskFor (program ∷ codes "check" ∷ []) tasks.Check
   pub audit : (program : Text) → (faults_in (program ∷ codes "audit" ∷ []) ≡ []) × AskFor (program ∷ codes "audit" ∷ []) tasks.Audit
@@ -85,8 +87,8 @@ abbrev pub RunWith : Text → List Text → Type 0
 RunWith text words = (program : Text) × ((words ≡ program ∷ codes "run" ∷ codes "--turns" ∷ text ∷ [])
     ⊎ (words ≡ program ∷ codes "run" ∷ (codes "--turns=" ++ text) ∷ []))
 
--- if the text writes a number, these words are right exactly if that is a number of turns that a worker may get,
--- and then ask for that many
+-- if the text writes a number, these words are right exactly if that is a number of turns that a
+-- worker may have, and then give that many
 pub record ReadsTurns : Type 0 where
   pub right : (turns : ℕ) (text : Text) (words : List Text) → RunWith text words → Writes turns text → IsInRange turns
       → (faults_in words ≡ []) × AskFor words (tasks.Run turns)

@@ -1,7 +1,7 @@
 //! The texts of `evc --help` and `evc -h`, of the help on each command, and of `evc --version`.
 
-/// What stands after `evc ` in the answer to `evc --version`: the number, which bin/package reads
-/// here, and the line of the toolchain that everything is proved and built with.
+/// The output of `evc --version` after `evc `: the version, which bin/package reads here, and the
+/// toolchain that everything is proved and built with.
 pub const VERSION: &str = "0.2
 proved and built with rattle-kit-13";
 

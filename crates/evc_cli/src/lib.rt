@@ -1,4 +1,4 @@
-//! The command line of `evc`: its commands, its help, and the task that its words ask for.
+//! The command line of `evc`: its commands, its help, and the task that its words give.
 #![tactic(auto)]
 
 mod choice;

@@ -14,7 +14,7 @@ use clap::error::ErrorKind;
 use clap::{Arg, ArgAction, ArgMatches, Command, Error, value_parser};
 use std::alloc::{AllocError, Global};
 
-// The turns of each worker of `run`, if the command line doesn't say.
+// The most turns of each worker of `run`, if the command line doesn't say.
 const DEFAULT_TURNS: u64 = 10_000;
 
 fn check_command<'a>(alloc: Global) -> Command<'a>
@@ -76,7 +76,7 @@ fn run_command<'a>(alloc: Global) -> Result<Command<'a>, AllocError>
         .arg(turns)
 }
 
-// The program without its commands.
+// Returns clap's command for the program without its subcommands.
 fn bare_command<'a>(alloc: Global) -> Command<'a>
     ensures { app_of result ≡ bare_app }
 {
@@ -88,7 +88,7 @@ fn bare_command<'a>(alloc: Global) -> Command<'a>
         .subcommand_required(true)
 }
 
-// The program with the commands that read traces.
+// Returns the command with the subcommands that read traces.
 fn trace_command<'a>(alloc: Global) -> Result<Command<'a>, AllocError>
     ensures { IfOk result (λ c. app_of c ≡ trace_app) }
 {
@@ -101,7 +101,7 @@ fn trace_command<'a>(alloc: Global) -> Result<Command<'a>, AllocError>
         .subcommand(upgrade)
 }
 
-// And with those that read scripts.
+// Returns the command with all subcommands.
 fn evc_command<'a>(alloc: Global) -> Result<Command<'a>, AllocError>
     ensures { IfOk result (λ c. app_of c ≡ evc_app) }
 {
@@ -110,7 +110,7 @@ fn evc_command<'a>(alloc: Global) -> Result<Command<'a>, AllocError>
     trace_command(alloc)?.subcommand(sim)?.subcommand(run)
 }
 
-// What clap finds in the words.
+// Returns what clap finds in the words.
 fn matches_in<'a>(alloc: Global, words: &'a [String]) -> Result<ArgMatches<'a>, Error>
     ensures found { IfOk result (λ m. subcommand_rows_of m ≡ subcommand_of evc_app (texts_of words.now)) }
     ensures faults { FailsBy (faults_in (texts_of words.now)) result }
@@ -118,7 +118,7 @@ fn matches_in<'a>(alloc: Global, words: &'a [String]) -> Result<ArgMatches<'a>, 
     evc_command(alloc)?.try_get_matches_from(words)
 }
 
-// The number given for `--turns`, among what clap found behind `run`.
+// Returns the number that was given for `--turns`, from what clap found after `run`.
 fn turns_option(found: &ArgMatches<'_>) -> u64
     requires { PassTurns (rows_of (found_of found.now)) }
     ensures given { IsTurnsOf (first_of (codes "turns") (rows_of (found_of found.now))) result }
@@ -146,8 +146,8 @@ fn task_by_name(name: &str, found: &ArgMatches<'_>) -> Option<Task>
 
 /// Reads the command line, whose first word is the program's name.
 ///
-/// An `Err` that is no want of memory says what is wrong with the words, or is the text of the help
-/// or the version that they ask for. `Error::print` writes it if it belongs.
+/// An `Err` that is not out of memory says what is wrong with the words, or is the help or the
+/// version that they ask for. `Error::print` writes it to standard error or standard output.
 pub fn task(alloc: Global, words: &[String]) -> Result<Task, Error>
     ensures names { IfOk result (λ t. NamesTask (texts_of words.now) t) }
     ensures turns { IfOk result (λ t. HasTurnsOf (turns_text (texts_of words.now)) t) }
@@ -164,7 +164,7 @@ pub fn task(alloc: Global, words: &[String]) -> Result<Task, Error>
     Ok(task)
 }
 
-/// Returns the exit status of a program whose command line gave no task.
+/// Returns the exit status for a command line that gives no task.
 pub fn status_of(error: &Error) -> u8
     ensures { result ≡ status_by (kind_of error.now) }
 {
@@ -181,8 +181,8 @@ pub fn plain_lines()
     ensures { ReadsPlainLines }
 {}
 
-/// States that `run --turns N` is right for exactly the numbers from 1 to 1000000, and asks for
-/// that many turns.
+/// States that `run --turns N` is right for exactly the numbers from 1 to 1000000, and gives that
+/// many turns.
 #[tactic(auto, using(crate::proofs::AnyTurns::turns_are_read))]
 pub fn turns_lines()
     ensures { ReadsTurns }

@@ -1,4 +1,4 @@
-//! `evc-draw`: draws a trace, or a history of calls.
+//! `evc-draw`: draws a trace, or histories of calls.
 #![tactic(auto)]
 
 use ec_draw::Choice;
@@ -11,7 +11,7 @@ use std::io::Write;
 use std::process::ExitCode;
 use std::{env, fs, io};
 
-/// Says that an option takes a number.
+/// Reports that an option takes a number, and returns the exit status.
 fn report_no_number<N: Write>(notes: &mut Output<'_, N>, wrong: &NoNumber<'_>) -> u8 {
     let option = match wrong.option {
         Bound::From => b"error: '--from' takes a number, not '".as_slice(),
@@ -54,9 +54,9 @@ fn run_task<N: Write>(rt: &HostRuntime, task: &Task<'_>, notes: &mut Output<'_, 
     }
 }
 
-/// Writes what the command line gave in place of a task, and returns the exit status.
+/// Writes what the command line gave instead of a task, and returns the exit status.
 fn end_by<N: Write>(rt: &HostRuntime, error: &Error, notes: &mut Output<'_, N>) -> u8 {
-    // (help goes to standard output, and that a note could not be written is not reported)
+    // (help goes to standard output; a note that could not be written is not reported)
     if error.print(rt).is_err() && !error.use_stderr() {
         notes.say(b"write fault\n");
         return Status::InputOutput.code();

@@ -9,7 +9,7 @@ use Rattle.clap.specs.declared.parser.matches.ArgMatches.{ArgMatches}
 use Rattle.clap.proofs.WalkLemmas.{raw_values-rows}
 use Rattle.evc_draw_cli.specs.CommandLine.{draw_app, names_given, rows_in}
 
--- the rows of matches are those of the program
+-- the rows that clap found are those of the program
 pub rows_found : (r : Result ArgMatches Error) (a : App) (words : List Text) → a ≡ draw_app
     → IfOk r (HasMatchesOf a words)
     → IfOk r (λ m. rows_of (found_of m) ≡ rows_in words)

@@ -1,4 +1,4 @@
--- The plainest command lines, by computing what clap makes of them.
+-- The plainest command lines, by computing what clap finds in them.
 use Rattle.std.proofs.Common.{refl}
 use Rattle.clap.proofs.OnLiterals.{clap_on_literals}
 use Rattle.evc_draw_cli.specs.CommandLine.{ReadsPlainLines}

@@ -1,4 +1,4 @@
--- What the words of a command line ask for. The first word is the program's name.
+-- The task that the words of a command line give. The first word is the program's name.
 use Rattle.std.specs.Prelude.{◌≡◌, ℕ, List, [], ◌∷◌, Option, Some, None, String, true, codes, map}
 use Rattle.std.specs.Prelude.{nat_lt, if◌then◌else◌}
 use Rattle.std.specs.Global.{Global}
@@ -51,7 +51,7 @@ draw_app =
 abbrev pub rows_in : List Text → List Row
 rows_in words = matches_of draw_app words
 
--- the form: a page if `--html` was given, else a text if `--text` was
+-- the form: a page if `--html` was given, otherwise a text if `--text` was, otherwise SVG
 abbrev pub form_by : List Row → Form
 form_by rows =
     if nat_lt 0 (count_of (codes "html") rows) then Html
@@ -72,8 +72,8 @@ names_given (Some names) = names
 abbrev pub names_in : List Text → Text → List Text
 names_in words name = names_given (all_of name (rows_in words))
 
--- what is wrong with the words, by clap's rules, or what they ask for in place of a picture:
--- nothing if they are right
+-- what is wrong with the words, by clap's rules, or the help or version that they ask for: nothing
+-- if they are right
 abbrev pub faults_in : List Text → Kinds
 faults_in words = fault_of draw_app words
 
@@ -85,7 +85,7 @@ status_by kinds.DisplayVersion = 0
 status_by kinds.OutOfMemory = 4
 status_by _ = 2
 
--- the words are right, and ask for this
+-- the words are right, and give this task
 pub record AskFor (words : List Text) (form : Form) (file from to : Option Text)
     (workers objects : List Text) : Type 0 where
   pub right : faults_in words ≡ []
@@ -96,9 +96,9 @@ pub record AskFor (words : List Text) (form : Form) (file from to : Option Text)
   pub workers_are : names_in words (codes "worker") ≡ workers
   pub objects_are : names_in words (codes "object") ≡ objects
 
--- the plainest command lines, under any name of the program: each option is right alone, names may
--- be given more than once, bounds may not; `--help` asks for help, and `--version` and `-V` for the
--- version; an unknown option and a second file are wrong
+-- the plainest command lines, under any name of the program: each option is right by itself, names
+-- may be given more than once, bounds may not; `--help` asks for help, and `--version` and `-V` for
+-- the version; an unknown option and a second file are wrong
 pub record ReadsPlainLines : Type 0 where
   pub none : (program : Text) → AskFor (program ∷ []) Svg None None None [] []
   pub file : (program : Text)

@@ -1,4 +1,4 @@
-//! What the program is asked to do.
+//! The task that a command line gives to the program.
 ghost use Rattle.std.specs.Prelude.{◌≡◌, ◌<◌, IfOk, IfErr, IsSome, None, Some};
 ghost use Rattle.ec_text.specs.Words.{number_in_word};
 ghost use Rattle.evc_draw_cli.specs.declared.choice.Bound.TheVariants as bounds;
@@ -6,7 +6,7 @@ ghost use Rattle.evc_draw_cli.specs.Ranges.{IsNoNumber, end_given, first_given, 
 
 use ec_text::number;
 
-/// As what a picture is written.
+/// The format of a picture.
 #[derive(Clone, Copy, Debug, PartialEq, Eq)]
 pub enum Form {
     /// As SVG.
@@ -17,7 +17,7 @@ pub enum Form {
     Html,
 }
 
-/// A picture that is asked for, and the file with its input.
+/// A picture to draw, and the file with its input.
 #[derive(Debug, Drop)]
 pub struct Task<'a> {
     /// The name of the file; without one the input is standard input.
@@ -33,14 +33,14 @@ pub struct Task<'a> {
     pub objects: Vec<&'a str>,
 }
 
-/// Which entries are asked for: from position `from` on, and before position `to`.
+/// The entries to draw: from position `from` on, and before position `to`.
 #[derive(Clone, Copy, Debug, PartialEq, Eq)]
 pub struct Range {
     pub from: usize,
     pub to: usize,
 }
 
-/// Where a range ends that has each entry from its first on.
+/// The end of a range that has all entries from its first one on.
 pub const NO_END: usize = usize::MAX;
 
 /// An option that takes a number, and was given another word.
@@ -57,7 +57,7 @@ pub enum Bound {
     To,
 }
 
-/// Reads a number that was given for an option.
+/// Returns the number that was given for an option.
 fn number_for<'a>(option: Bound, given: &'a str) -> Result<u64, NoNumber<'a>>
     ensures ok { IfOk result (λ n. (number_in_word given.now ≡ Some n)
         × (n < 1000000000000000000)) }
@@ -71,7 +71,7 @@ fn number_for<'a>(option: Bound, given: &'a str) -> Result<u64, NoNumber<'a>>
 }
 
 impl<'a> Task<'a> {
-    /// Returns the first entry that is asked for.
+    /// Returns the position of the first entry of the range, 0 without `--from`.
     fn from(&self) -> Result<usize, NoNumber<'a>>
         ensures ok { IfOk result (λ n. first_given (word_of self.now.from) ≡ Some n) }
         ensures err { IfErr result (λ e. (e.option ≡ bounds.From) × IsNoNumber self.now e) }
@@ -82,7 +82,7 @@ impl<'a> Task<'a> {
         }
     }
 
-    /// Returns the position after the last entry that is asked for.
+    /// Returns the position after the last entry of the range, `NO_END` without `--to`.
     fn to(&self) -> Result<usize, NoNumber<'a>>
         ensures ok { IfOk result (λ n. end_given (word_of self.now.to) ≡ Some n) }
         ensures err { IfErr result (λ e. (e.option ≡ bounds.To) × IsNoNumber self.now e) }
@@ -93,7 +93,7 @@ impl<'a> Task<'a> {
         }
     }
 
-    /// Returns the entries that are asked for, or the first word that is no number.
+    /// Returns the range of entries to draw, or the first word that is no number.
     pub fn range(&self) -> Result<Range, NoNumber<'a>>
         ensures from { IfOk result (λ r. first_given (word_of self.now.from) ≡ Some r.from) }
         ensures to { IfOk result (λ r. end_given (word_of self.now.to) ≡ Some r.to) }

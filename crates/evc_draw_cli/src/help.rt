@@ -1,7 +1,7 @@
 //! The texts of `evc-draw --help` and of `evc-draw --version`.
 
-// What stands after `evc-draw ` in the answer to `evc-draw --version`: the number, and the line of
-// the toolchain that everything is proved and built with.
+// The output of `evc-draw --version` after `evc-draw `: the version, and the toolchain that
+// everything is proved and built with.
 pub(crate) const VERSION: &str = "0.2
 proved and built with rattle-kit-13";
 

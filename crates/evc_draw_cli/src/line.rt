@@ -61,7 +61,7 @@ fn file_argument<'a>(alloc: Global) -> Arg<'a>
         .action(ArgAction::Set)
 }
 
-/// Returns the program without its options.
+/// Returns clap's command for the program without its options.
 fn bare_command<'a>(alloc: Global) -> Command<'a>
     ensures { app_of result ≡ bare_app }
 {
@@ -72,7 +72,7 @@ fn bare_command<'a>(alloc: Global) -> Command<'a>
         .version(help::VERSION)
 }
 
-/// Returns the program with the options of its forms.
+/// Returns the command with the options for the form of a picture.
 fn with_forms<'a>(alloc: Global) -> Result<Command<'a>, AllocError>
     ensures { IfOk result (λ c. app_of c ≡ forms_app) }
 {
@@ -81,7 +81,7 @@ fn with_forms<'a>(alloc: Global) -> Result<Command<'a>, AllocError>
     bare_command(alloc).arg(text)?.arg(html)
 }
 
-/// Returns the program with these, and with the bounds of what is shown.
+/// Returns the command with these options, and with the bounds of the range.
 fn with_bounds<'a>(alloc: Global) -> Result<Command<'a>, AllocError>
     ensures { IfOk result (λ c. app_of c ≡ bounds_app) }
 {
@@ -90,7 +90,7 @@ fn with_bounds<'a>(alloc: Global) -> Result<Command<'a>, AllocError>
     with_forms(alloc)?.arg(from)?.arg(to)
 }
 
-/// Returns the program.
+/// Returns clap's command for the program, with all options.
 fn program<'a>(alloc: Global) -> Result<Command<'a>, AllocError>
     ensures { IfOk result (λ c. app_of c ≡ draw_app) }
 {
@@ -108,7 +108,7 @@ fn matches_in<'a>(alloc: Global, words: &'a [String]) -> Result<ArgMatches<'a>, 
     program(alloc)?.try_get_matches_from(words)
 }
 
-/// Returns the form that is asked for.
+/// Returns the form that the options give.
 fn form_option(found: &ArgMatches<'_>) -> Form
     ensures { result ≡ form_by (rows_of (found_of found.now)) }
 {
@@ -121,7 +121,7 @@ fn form_option(found: &ArgMatches<'_>) -> Form
     Form::Svg
 }
 
-/// Returns the word that was given for an option or an argument.
+/// Returns the word that was given for an option or an argument, `None` if none was.
 fn word_argument<'a>(found: &ArgMatches<'a>, name: &str) -> Option<&'a str>
     ensures { option_map (λ w. w.now) result ≡ first_of name.now (rows_of (found_of found.now)) }
 {
@@ -147,9 +147,9 @@ fn word_arguments<'a>(
 
 /// Reads the command line, whose first word is the program's name.
 ///
-/// An `Err` that is not out of memory says what is wrong with the words, or is the text of the help
-/// or the version that they ask for. `Error::print` writes it if it belongs. That the words for
-/// `--from` and `--to` are numbers is asked by `Task::range`.
+/// An `Err` that is not out of memory says what is wrong with the words, or is the help or the
+/// version that they ask for. `Error::print` writes it to standard error or standard output.
+/// `Task::range` checks that the words for `--from` and `--to` are numbers.
 pub fn task<'a>(alloc: Global, words: &'a [String]) -> Result<Task<'a>, Error>
     ensures file { IfOk result
         (λ t. option_map (λ w. w.now) t.file ≡ given_in (texts_of words.now) (codes "file")) }
@@ -175,7 +175,7 @@ pub fn task<'a>(alloc: Global, words: &'a [String]) -> Result<Task<'a>, Error>
     })
 }
 
-/// Returns the exit status of a program whose command line gave no task.
+/// Returns the exit status for a command line that gives no task.
 pub fn status_of(error: &Error) -> u8
     ensures { result ≡ status_by (kind_of error.now) }
 {

@@ -12,7 +12,7 @@ pub has_column : (r : Range) (n : ℕ) → r.from < n → n ≤ r.to → ((windo
     × ((window_for r n).to ≡ n)
 has_column r n low high = (omega (arith, clamps), omega (arith, clamps))
 
--- and there are no more columns than a picture may have
+-- there are no more columns than a picture can have
 pub is_narrow : (r : Range) (n : ℕ) → is_wide (window_for r n) ≡ false
 is_narrow r n =
     let few : (window_for r n).to - (window_for r n).from ≤ COLUMNS_MAX = omega (arith, clamps) in

@@ -1,4 +1,4 @@
--- How a whole input was told, from how its text was.
+-- How the program ended with a whole input, from how it ended with its text.
 use Rattle.std.proofs.Common.{◌≡◌, ℕ, List, Option, Some, None, IfSome, true, false, length, refl}
 use Rattle.std.proofs.Common.{ap, ◌∙◌, subst, inl, inr}
 use Rattle.std.specs.Io.KnownBytes.{Appends}
@@ -36,7 +36,7 @@ pub want_drawn : (v : View) (old left : Option (List ℕ)) (status : Status) (be
 want_drawn v None left status before after is returned = tt
 want_drawn v (Some bytes) left status before after is returned = inl (is, returned)
 
--- how histories were drawn, if what says that something is chosen is said in other words
+-- histories were drawn, with a weaker statement that something is chosen
 pub histories_drawn : (v : View) (text : List ℕ) (status : Status) (end : calls.Status)
     (old new : Outlets) (view : CallsView) → (Chooses view → AsksForPart v)
     → status ≡ status_as end

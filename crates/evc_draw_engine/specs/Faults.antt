@@ -12,7 +12,7 @@ use Rattle.ec_trace.specs.declared.read.TheConstants.{TRACE_MAX}
 
 -- WHAT IS READ
 
--- a line with another reply: the reply stands behind the sign of equality
+-- a line with another reply, which follows the equals sign
 unfoldable pub with_reply : List ℕ → Reply → List ℕ
 with_reply line r = take (position_or_end 61 line) line ++ codes "= " ++ reply_word r ++ codes "\n"
 
@@ -20,8 +20,8 @@ abbrev pub with_right : List ℕ → Option Reply → List ℕ
 with_right line None = []
 with_right line (Some r) = with_reply line r
 
--- the text of the lines before a faulty one, and of that with its right reply if it has one, with
--- the last line of a trace
+-- a trace: the lines before a faulty one, that line with its right reply if there is one, and the
+-- last line of a trace
 unfoldable pub mended : List ℕ → List ℕ → Option Reply → List ℕ
 mended before line right = before ++ with_right line right ++ codes "end\n"
 
@@ -43,13 +43,13 @@ fault_line (Refused n r) = Some n
 fault_line (WrongReply n r) = Some n
 fault_line _ = None
 
--- the right reply, if the reply alone is wrong
+-- the right reply, if only the reply is wrong
 abbrev pub right_of : TraceFault → Option Reply
 right_of (WrongReply n r) = Some r
 right_of _ = None
 
--- the position of the line's entry, if a history of k entries was read: behind them, or that of
--- the last
+-- the position of the line's entry, if a history of k entries was read: after them, or that of the
+-- last if it has a right reply
 abbrev pub position_in : Option Reply → ℕ → ℕ
 position_in None k = k
 position_in (Some r) k = k - 1

@@ -1,4 +1,4 @@
--- Names that were chosen, and that the trace does not declare.
+-- Chosen names that the trace does not declare.
 use Rattle.std.specs.Prelude.{ℕ, Bool, true, false, not, ◌||◌, List, [], ◌++◌, Option, Some, None}
 use Rattle.std.specs.Prelude.{codes, if◌then◌else◌}
 use Rattle.std.specs.List.{flat_map, list_any}
@@ -17,7 +17,7 @@ is_object None = false
 is_object (Some (Worker w)) = false
 is_object (Some t) = true
 
--- whether a name that was chosen among the workers, or among the objects, stands for none
+-- whether no worker, or no object, has a name
 abbrev pub lacks_worker : NameTable → List ℕ → Bool
 lacks_worker words s = not (is_worker (find_name s words))
 
@@ -37,7 +37,7 @@ worker_note words s = if lacks_worker words s then unknown_note (codes "no worke
 unfoldable pub object_note : NameTable → List ℕ → List ℕ
 object_note words s = if lacks_object words s then unknown_note (codes "no object ") s else []
 
--- each of these names in a line
+-- a line for each chosen name that is not declared
 abbrev pub unknown_notes : Choice → NameTable → List ℕ
 unknown_notes c words = flat_map (λ s. worker_note words s.now) c.workers.now
     ++ flat_map (λ s. object_note words s.now) c.objects.now

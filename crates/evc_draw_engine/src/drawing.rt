@@ -1,4 +1,4 @@
-//! A trace in; a picture of it out.
+//! Draws a trace, or histories of calls.
 ghost use Rattle.std.specs.Prelude.{◌≡◌, Some, codes, false, true, IfSome, length};
 ghost use Rattle.ec_text.specs.Puts.{Puts, IsWrittenOut};
 ghost use Rattle.ec_trace.specs.declared.read.TheConstants.{TRACE_MAX};
@@ -32,7 +32,7 @@ use evc_engine::{Status, report_fault};
 use std::alloc::{AllocError, Global};
 use std::io::{Read, Write};
 
-/// Returns the text of the picture of a trace, of which so many columns are drawn.
+/// Returns the bytes of the picture of a trace that has this many columns.
 fn picture_text(
     alloc: Global,
     view: &View<'_>,
@@ -64,8 +64,8 @@ fn picture_text(
     Ok(text)
 }
 
-/// Returns the picture of a trace, of which so many columns are drawn, with what is to be said of a
-/// faulty line.
+/// Returns the bytes of the picture of a trace that has this many columns, with the note on a
+/// faulty line if there is one.
 fn document(
     alloc: Global,
     view: &View<'_>,
@@ -82,7 +82,7 @@ fn document(
     picture_text(alloc, view, traced, columns, &chosen, &picture, note)
 }
 
-/// Says that memory ran out.
+/// Reports that memory ran out.
 fn report_no_memory<N: Write>(notes: &mut Output<'_, N>) -> Status
     ensures memory { result ≡ Memory }
     ensures puts { Puts notes.old notes.new (codes "no memory\n") }
@@ -92,7 +92,7 @@ fn report_no_memory<N: Write>(notes: &mut Output<'_, N>) -> Status
     Status::Memory
 }
 
-/// Says that a write failed.
+/// Reports that a write failed.
 fn write_fault<N: Write>(notes: &mut Output<'_, N>) -> Status
     ensures status { result ≡ InputOutput }
     ensures puts { Puts notes.old notes.new (codes "write fault\n") }
@@ -102,7 +102,7 @@ fn write_fault<N: Write>(notes: &mut Output<'_, N>) -> Status
     Status::InputOutput
 }
 
-/// Says that only the last entries of a range are drawn, if it has more than a picture has.
+/// Reports that only the last entries of a range are drawn, if it has more than a picture can have.
 fn report_cut<N: Write>(range: Range, entries: usize, notes: &mut Output<'_, N>)
     ensures wide { is_wide (window_on range entries) ≡ true → Puts notes.old notes.new cut_note }
     ensures out { is_wide (window_on range entries) ≡ true → IsWrittenOut notes.new }
@@ -114,7 +114,7 @@ fn report_cut<N: Write>(range: Range, entries: usize, notes: &mut Output<'_, N>)
     }
 }
 
-/// Writes the picture of a trace that has each name and some entry.
+/// Writes the picture of a trace that has the chosen names and entries.
 #[tactic(auto, using(crate::proofs::Whole::wrote, crate::proofs::Whole::cut_told))]
 fn write_whole<W: Write, N: Write>(
     alloc: Global,
@@ -142,7 +142,7 @@ fn write_whole<W: Write, N: Write>(
     }
 }
 
-/// Writes the picture of a trace, or says why there is none.
+/// Writes the picture of a trace, or reports why there is none.
 fn write_drawn<W: Write, N: Write>(
     alloc: Global,
     traced: &Traced,
@@ -200,7 +200,7 @@ fn write_story<W: Write, N: Write>(
     }
 }
 
-/// Writes the picture of what came before a fault, if a run had begun, and reports the fault.
+/// Writes the picture of the history up to a fault, if a run had begun, and reports the fault.
 fn draw_before_fault<W: Write, N: Write>(
     alloc: Global,
     view: &View<'_>,
@@ -229,7 +229,7 @@ fn draw_before_fault<W: Write, N: Write>(
     write_story(alloc, view, traced, &note, out, notes)
 }
 
-/// Reports the fault of a text, and draws what came before.
+/// Reports the fault of a text, and draws the history up to it.
 fn draw_faulty_text<W: Write, N: Write>(
     alloc: Global,
     view: &View<'_>,
@@ -292,7 +292,7 @@ fn draw_text<W: Write, N: Write>(
     draw_trace(alloc, view, text, out, notes)
 }
 
-/// Returns the first fault of a text behind which a read failed, if it has one.
+/// Returns the first fault of a text after which a read failed, `None` if there is none so far.
 #[tactic(auto, using(crate::proofs::Whole::no_fault_read, crate::proofs::Whole::no_fault_yet))]
 fn cut_off_fault(alloc: Global, text: &[u8]) -> Option<TraceFault>
     ensures { CutOffFault text.now result }
@@ -304,7 +304,7 @@ fn cut_off_fault(alloc: Global, text: &[u8]) -> Option<TraceFault>
     }
 }
 
-/// Says that a read failed.
+/// Reports that a read failed.
 fn read_fault<N: Write>(notes: &mut Output<'_, N>) -> Status
     ensures status { result ≡ InputOutput }
     ensures puts { Puts notes.old notes.new (codes "read fault\n") }
@@ -314,7 +314,8 @@ fn read_fault<N: Write>(notes: &mut Output<'_, N>) -> Status
     Status::InputOutput
 }
 
-/// Draws the beginning of a trace, behind which a read failed.
+/// Reports the first fault of a trace after which a read failed, and draws the history up to it. If
+/// there is no fault so far, reports the failed read.
 #[tactic(auto, using(crate::proofs::Whole::cut_off_refused))]
 fn draw_trace_so_far<W: Write, N: Write>(
     alloc: Global,
@@ -335,7 +336,8 @@ fn draw_trace_so_far<W: Write, N: Write>(
     }
 }
 
-/// Draws a text behind which a read failed: what there is of a trace, and nothing of histories.
+/// Reports a read that failed after a text. If the text is a trace with a fault, reports the fault
+/// instead, and draws the history up to it.
 fn draw_cut_off<W: Write, N: Write>(
     alloc: Global,
     view: &View<'_>,
@@ -354,7 +356,7 @@ fn draw_cut_off<W: Write, N: Write>(
     draw_trace_so_far(alloc, view, text, out, notes)
 }
 
-/// Reads a trace, and writes a picture of it, or of what came before its first fault; notes say
+/// Reads a trace, and writes a picture of it, or of the history up to its first fault. Notes say
 /// what is wrong. A text of histories of calls is drawn as such.
 ///
 /// Nothing is written to `out` before the input was read to its end.

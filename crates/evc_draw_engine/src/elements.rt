@@ -4,17 +4,17 @@ ghost use Rattle.std.specs.Prelude.{◌≡◌, ◌≤◌};
 use crate::names::Name;
 use std::alloc::AllocError;
 
-/// Whether there was memory for what was put.
+/// The outcome of a function that puts something: an error if memory ran out.
 pub(crate) type PutResult = Result<(), AllocError>;
 
-/// A place in a picture, in pixels.
+/// The coordinates of a pixel in a picture.
 #[derive(Clone, Copy)]
 pub(crate) struct Pixel {
     pub(crate) x: u64,
     pub(crate) y: u64,
 }
 
-/// Returns the place with these coordinates.
+/// Returns the pixel with these coordinates.
 pub(crate) fn xy(x: u64, y: u64) -> Pixel
     ensures across { result.x ≡ x }
     ensures down { result.y ≡ y }
@@ -23,7 +23,7 @@ pub(crate) fn xy(x: u64, y: u64) -> Pixel
 }
 
 impl Pixel {
-    /// Returns the place in the same height.
+    /// Returns the pixel with the same y and another x.
     pub(crate) fn at(self, x: u64) -> Pixel {
         Pixel { x, y: self.y }
     }
@@ -45,7 +45,7 @@ pub(crate) fn put_rect(out: &mut String, at: Pixel, width: u64, height: u64) -> 
     )
 }
 
-/// Puts the beginning of a text. The class may have a second word, which makes the text small.
+/// Puts the beginning of a text. Its class has a second word, `small`, if that is not empty.
 pub(crate) fn put_text_start(out: &mut String, class: &str, small: &str, at: Pixel) -> PutResult {
     write!(
         out,
@@ -64,7 +64,7 @@ pub(crate) fn put_number(out: &mut String, class: &str, at: Pixel, number: u64) 
     put_text_end(out)
 }
 
-/// Puts the name before a row.
+/// Puts the name to the left of a row.
 pub(crate) fn put_row_name(out: &mut String, at: Pixel, name: Name<'_>) -> PutResult {
     let small = if name.len() > 17 { " long" } else { "" };
     put_text_start(out, "name", small, at)?;
@@ -72,7 +72,7 @@ pub(crate) fn put_row_name(out: &mut String, at: Pixel, name: Name<'_>) -> PutRe
     put_text_end(out)
 }
 
-/// Returns what makes a text small that has so many letters, so that it fits its column.
+/// Returns the class with which a text of this many letters fits its column.
 pub(crate) fn squeeze(letters: usize) -> &'static str {
     match letters {
         ..14 => "",

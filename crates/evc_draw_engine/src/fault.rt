@@ -47,8 +47,8 @@ fn add_with_right(text: &mut Vec<u8>, line: &[u8], right: &Option<Reply>) -> Res
     Ok(())
 }
 
-/// Returns the text of the lines before a faulty one, and of that with its right reply, if it has
-/// one.
+/// Returns a trace: the lines before a faulty one, that line with its right reply if there is one,
+/// and `end`.
 #[tactic(auto, unfolding(crate::specs::Faults::mended))]
 fn mend_line(
     alloc: Global,
@@ -74,8 +74,8 @@ pub(crate) fn read_text(alloc: Global, text: &[u8]) -> Result<Traced, TraceFault
     read_trace(alloc, &mut rest)
 }
 
-/// Returns the trace of the lines before a faulty one, and of that with its right reply, if it has
-/// one; none if no run had begun.
+/// Returns the trace of the lines before a faulty one, and of that line with its right reply if
+/// there is one. `None` if no run had begun.
 pub(crate) fn history(
     alloc: Global,
     number: u64,
@@ -97,7 +97,7 @@ pub(crate) fn history(
     }
 }
 
-/// Returns the number of the line of a fault.
+/// Returns the number of the line of a fault, `None` if it has no line.
 pub(crate) fn fault_line(fault: &TraceFault) -> Option<u64>
     ensures { result ≡ fault_line fault.now }
 {
@@ -109,7 +109,7 @@ pub(crate) fn fault_line(fault: &TraceFault) -> Option<u64>
     }
 }
 
-/// Returns the right reply, if the reply alone is wrong.
+/// Returns the right reply, if only the reply is wrong.
 pub(crate) fn right_of(fault: &TraceFault) -> Option<Reply>
     ensures { result ≡ right_of fault.now }
 {
@@ -119,7 +119,8 @@ pub(crate) fn right_of(fault: &TraceFault) -> Option<Reply>
     }
 }
 
-/// Returns the position of the entry of a faulty line, if so many entries were read.
+/// Returns the position of the entry of a faulty line, if the history up to it has `entries`
+/// entries.
 pub(crate) fn position_in(right: &Option<Reply>, entries: usize) -> usize
     ensures { result ≡ position_in right.now entries }
 {

@@ -1,4 +1,4 @@
-//! What the audits of groups find: shades over accepting tries, and arrows from puts to gets.
+//! What the audits of groups find: shades over accepted tries, and arrows from puts to gets.
 ghost use Rattle.std.specs.Prelude.{◌≤◌};
 
 use crate::elements::{PutResult, put_rect, xy};
@@ -18,7 +18,7 @@ pub(crate) fn put_shade(out: &mut String, sheet: &Sheet<'_>, shade: &Shade) -> P
     out.push_str("</g>\n")
 }
 
-/// Returns where an end of an arrow stands.
+/// Returns the x of an end of an arrow.
 fn end_place(sheet: &Sheet<'_>, position: usize) -> u64 {
     if sheet.picture.window.shows(position) {
         sheet.centre(position)
@@ -27,14 +27,14 @@ fn end_place(sheet: &Sheet<'_>, position: usize) -> u64 {
     }
 }
 
-/// Returns the edge of a bar in a row that faces another row.
+/// Returns the y of the edge of a row's bars that is nearer to another row.
 fn facing(y: u64, other: u64) -> u64
     requires { y ≤ 2000 }
 {
     if y < other { y + 54 } else { y + 32 }
 }
 
-/// Returns the height at which an arrow goes along a row, on the side of another row.
+/// Returns the y at which an arrow goes along a row, on the side of another row.
 fn lane(y: u64, other: u64, number: u64) -> u64
     requires { y ≤ 2000 }
 {

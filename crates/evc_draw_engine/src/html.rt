@@ -25,8 +25,8 @@ svg { display: block; }
 </nav>
 ";
 
-/// The page after it: a zoom goes in steps, keeps in place what is in the middle of the window, and
-/// makes an entry no narrower than 28 pixels.
+/// The page after the picture. A zoom goes in steps and keeps the middle of the window in place. An
+/// entry is at least 28 pixels wide.
 pub(crate) const END: &str = "<script>
 const picture = document.querySelector('svg');
 const width = picture.width.baseVal.value, height = picture.height.baseVal.value;

@@ -1,4 +1,4 @@
-//! What a trace calls its workers and objects, and how calls are spelled.
+//! The names of a trace's workers and objects, and the text of its calls.
 
 use ec_core::{Act, Reply};
 use ec_count::{CellId, EventId, SeqId, SymbolTable, Target, WorkerId};
@@ -26,7 +26,7 @@ impl<'a> Name<'a> {
     }
 }
 
-/// The names of a heading.
+/// The names that a header declares.
 #[derive(Drop)]
 pub(crate) struct Names<'a> {
     words: &'a SymbolTable,
@@ -51,7 +51,7 @@ impl<'a> Names<'a> {
         Name(self.spellings.sequencer(sequencer))
     }
 
-    /// Returns the name of the group that an eventcount is of: what its own has before the point.
+    /// Returns the name of the group of an eventcount: its own name up to the dot.
     pub(crate) fn group(&self, event: EventId) -> Name<'a> {
         let word = self.spellings.event(event);
         match word.iter().position(|byte| *byte == b'.') {
@@ -60,7 +60,7 @@ impl<'a> Names<'a> {
         }
     }
 
-    /// Returns the name of what has a curve: a balance is called by its semaphore.
+    /// Returns the name of a curve: that of its object, or of its semaphore if it is a balance.
     pub(crate) fn curve(&self, object: &CurveSource) -> Name<'a> {
         match *object {
             CurveSource::Count(Counter::Event(event)) => self.event(event),
@@ -69,7 +69,7 @@ impl<'a> Names<'a> {
         }
     }
 
-    /// Returns the block of a cell, and which of the block's cells it is.
+    /// Returns the name of a cell: its block, and its index in the block.
     pub(crate) fn cell(&self, cell: CellId) -> CellName<'a> {
         let cell = cell.get();
         for number in 0..self.words.len() {
@@ -87,7 +87,7 @@ impl<'a> Names<'a> {
     }
 }
 
-/// Returns which cell of a target a cell is, if it is one of them.
+/// Returns the index of a cell in the block that a target is, `None` if it is not in it.
 fn place_in(cell: usize, target: &Target) -> Option<usize> {
     match *target {
         Target::Cells(first, n) => {
@@ -129,7 +129,7 @@ pub(crate) fn kind(act: &Act) -> &'static str {
     }
 }
 
-/// What an act asks for, after its word: as a trace has it.
+/// The arguments of an act, as a trace has them after the word.
 #[derive(Clone, Copy)]
 pub(crate) struct ActText<'a, 'n> {
     pub(crate) names: &'a Names<'n>,
@@ -165,8 +165,8 @@ impl fmt::Display for ReplyText {
     }
 }
 
-/// Bytes of a line that may be faulty: a question mark stands for each that is no plain letter, or
-/// that would need an escape.
+/// Bytes of a line that may be faulty. One that is not printable ASCII, or would need an escape, is
+/// shown as a question mark.
 #[derive(Clone, Copy)]
 pub(crate) struct Plain<'a>(pub(crate) &'a [u8]);
 

@@ -1,4 +1,4 @@
-//! What is said of a faulty line.
+//! The note on a faulty line.
 ghost use Rattle.std.specs.Prelude.{◌≤◌};
 
 use crate::elements::{PutResult, put_line, put_text_end, put_text_start, squeeze, xy};
@@ -21,11 +21,11 @@ pub(crate) struct Note<'a> {
     pub(crate) position: usize,
 }
 
-/// The round of a read or an await whose reply alone is wrong.
+/// The round of a read or an await whose reply is wrong.
 #[derive(Drop)]
 struct Round {
     worker: WorkerId,
-    /// The eventcount, by its number.
+    /// The number of the eventcount.
     event: usize,
     /// The position at which it began, if that is shown.
     begun: Option<usize>,
@@ -38,7 +38,8 @@ impl Round {
     }
 }
 
-/// Returns the round of a faulty line: its entry is then the last one that is shown.
+/// Returns the round of a faulty line, if its entry is the last one that is shown, and is of a read
+/// or an await.
 fn round_of(note: &Note<'_>, dots: &[Dot]) -> Option<Round> {
     let last = dots.last()?;
     let (Act::Read(event) | Act::Await(event, _)) = last.op else {
@@ -59,7 +60,7 @@ fn round_of(note: &Note<'_>, dots: &[Dot]) -> Option<Round> {
     })
 }
 
-/// Returns what is wrong with a line, and what was right.
+/// Returns what is wrong with a line, and the right reply if it is the reply.
 fn fault_words(alloc: Global, fault: &TraceFault) -> Result<String, AllocError> {
     match *fault {
         TraceFault::BadLine(_) => String::from_str(alloc, "no line that can stand here"),
@@ -80,7 +81,8 @@ fn height_at(window: Window, curve: &Curve, moment: usize) -> u64 {
     curve.heights.get(column).copied().unwrap_or(0)
 }
 
-/// Returns the total of the eventcount of a round when it began, and at the faulty entry.
+/// Returns the words on the total of a round's eventcount: when the round began, and at the faulty
+/// entry.
 fn total_words(
     alloc: Global,
     sheet: &Sheet<'_>,
@@ -100,7 +102,7 @@ fn total_words(
     }
 }
 
-/// Adds what the entries of a round read, each with its line.
+/// Adds a line on what each entry of a round read, with the entry's line in the text.
 fn add_reads(
     lines: &mut Vec<String>,
     alloc: Global,
@@ -118,7 +120,7 @@ fn add_reads(
     Ok(())
 }
 
-/// Returns what is said of a faulty line.
+/// Returns the lines of the note on a faulty line.
 fn lines_of(alloc: Global, sheet: &Sheet<'_>, note: &Note<'_>) -> Result<Vec<String>, AllocError> {
     let mut lines = Vec::new(alloc);
     let words = Plain(&note.line[..note.line.len().min(100)]);
@@ -134,7 +136,7 @@ fn lines_of(alloc: Global, sheet: &Sheet<'_>, note: &Note<'_>) -> Result<Vec<Str
     Ok(lines)
 }
 
-/// What is said of a faulty line, in lines; none if there is none.
+/// The lines of the note on a faulty line; empty if there is no such line.
 #[derive(Drop)]
 pub(crate) struct NoteLines {
     lines: Vec<String>,
@@ -149,7 +151,7 @@ impl NoteLines {
         Ok(NoteLines { lines })
     }
 
-    /// Returns how wide a picture with it is.
+    /// Returns the width of a picture with the note.
     pub(crate) fn width(&self, sheet: &Sheet<'_>) -> u64 {
         if self.lines.is_empty() {
             sheet.width()
@@ -158,7 +160,7 @@ impl NoteLines {
         }
     }
 
-    /// Returns how high it is.
+    /// Returns the height of the note.
     pub(crate) fn height(&self) -> u64
         ensures { result ≤ 1000 }
     {
@@ -168,7 +170,7 @@ impl NoteLines {
         }
     }
 
-    /// Puts it as lines, after an empty one.
+    /// Puts the note as lines, after an empty one.
     pub(crate) fn put_lines(&self, out: &mut String) -> PutResult {
         if !self.lines.is_empty() {
             out.push_str("\n")?;
@@ -180,7 +182,7 @@ impl NoteLines {
     }
 }
 
-/// Returns the reply that a line has.
+/// Returns the reply in a line, after `= `; empty if it has none.
 fn reply_in(line: &[u8]) -> &[u8] {
     match line.iter().position(|byte| *byte == b'=') {
         Some(place) => line.get(place.saturating_add(2)..).unwrap_or(b""),
@@ -214,7 +216,7 @@ fn put_column(out: &mut String, sheet: &Sheet<'_>, note: &Note<'_>) -> PutResult
     }
 }
 
-/// Puts what is said of a faulty line below the picture.
+/// Puts the note on a faulty line below the picture, and marks the line's column.
 pub(crate) fn put_note(out: &mut String, sheet: &Sheet<'_>, returned: &NoteLines) -> PutResult {
     if let Some(note) = &sheet.note {
         put_column(out, sheet, note)?;

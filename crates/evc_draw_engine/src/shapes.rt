@@ -11,8 +11,8 @@ use ec_core::{Act, Reply};
 use ec_draw::{Dot, PendingBar};
 use ec_order::{Call, Placed};
 
-/// Puts the value that an act has beside its object: a threshold, the value of a put, or the worker
-/// that a component is handed to.
+/// Puts the word of an act, and its argument other than the object: a threshold, the value of a
+/// put, or the worker that a component is handed to.
 fn put_act_words(out: &mut String, names: &Names<'_>, act: &Act) -> PutResult {
     let word = kind(act);
     match *act {
@@ -24,7 +24,7 @@ fn put_act_words(out: &mut String, names: &Names<'_>, act: &Act) -> PutResult {
     }
 }
 
-/// Returns how many letters these words have; nothing if they are few.
+/// Returns how many letters these words have, 0 if there is no argument.
 fn letters(names: &Names<'_>, act: &Act) -> usize {
     match *act {
         Act::Await(_, value) => 6 + digits(value),
@@ -53,7 +53,7 @@ fn put_object(out: &mut String, names: &Names<'_>, at: Pixel, act: &Act) -> PutR
     put_text_end(out)
 }
 
-/// Puts the two lines above a bar: what was asked for, and of which object.
+/// Puts the two lines above a bar: the act with its argument, and the object.
 fn put_label(out: &mut String, names: &Names<'_>, at: Pixel, act: &Act) -> PutResult
     requires { at.y ≤ 2000 }
 {
@@ -64,7 +64,8 @@ fn put_label(out: &mut String, names: &Names<'_>, at: Pixel, act: &Act) -> PutRe
     put_object(out, names, xy(x, y + 26), act)
 }
 
-/// Puts where the last round of an await began, if that is a later one, and is shown.
+/// Puts a line where the last round of a call began, if that is after its first entry, and is
+/// shown.
 fn put_round(out: &mut String, sheet: &Sheet<'_>, call: &Call) -> PutResult {
     let window = sheet.picture.window;
     if call.round <= call.first || call.round < window.from || window.to < call.round {
@@ -74,7 +75,7 @@ fn put_round(out: &mut String, sheet: &Sheet<'_>, call: &Call) -> PutResult {
     put_line(out, "round", xy(x, y + 32), xy(x, y + 54))
 }
 
-/// Puts the number that was returned, below the end of the bar, if that is shown.
+/// Puts the number that was returned below the end of the bar, if the end is shown.
 fn put_reply(out: &mut String, sheet: &Sheet<'_>, call: &Call) -> PutResult {
     let Reply::Number(number) = call.reply else {
         return Ok(());
@@ -105,7 +106,7 @@ pub(crate) fn put_bar(out: &mut String, sheet: &Sheet<'_>, placed: &Placed) -> P
     out.push_str("</g>\n")
 }
 
-/// Puts a pending call, whose bar goes on to the edge.
+/// Puts a pending call. Its bar extends to the right edge.
 pub(crate) fn put_open_bar(out: &mut String, sheet: &Sheet<'_>, begun: &PendingBar) -> PutResult {
     write!(out, "<g class='open {}'><title>", kind(&begun.op))?;
     put_open_words(out, sheet.names, begun)?;
@@ -118,7 +119,7 @@ pub(crate) fn put_open_bar(out: &mut String, sheet: &Sheet<'_>, begun: &PendingB
     out.push_str("</g>\n")
 }
 
-/// Puts the component that an entry read or raised, and what it read of it.
+/// Puts the component that an entry read or raised, and the number that it read.
 fn put_component(out: &mut String, at: Pixel, component: usize, number: Option<u64>) -> PutResult {
     let letters = digits(component as u64)
         + match number {
@@ -147,7 +148,7 @@ pub(crate) fn put_dot(out: &mut String, sheet: &Sheet<'_>, dot: &Dot) -> PutResu
     }
 }
 
-/// Puts the tie of a read or an await to the total that it returned.
+/// Puts a line from the mark of a read or an await to the total that it returned.
 fn put_tie(out: &mut String, sheet: &Sheet<'_>, from: Pixel, call: &Call) -> PutResult {
     let (Act::Read(event) | Act::Await(event, _)) = call.op else {
         return Ok(());
@@ -163,7 +164,8 @@ fn put_tie(out: &mut String, sheet: &Sheet<'_>, from: Pixel, call: &Call) -> Put
     put_line(out, "tie", from, xy(x, y))
 }
 
-/// Puts the mark of a call at its point, if that is shown, with its tie.
+/// Puts the mark of a call at its linearization point, if that is shown, with its line to the
+/// total.
 pub(crate) fn put_mark(out: &mut String, sheet: &Sheet<'_>, placed: &Placed) -> PutResult {
     let window = sheet.picture.window;
     if placed.point < window.from || window.to < placed.point {

@@ -46,7 +46,8 @@ fn put_column(out: &mut String, sheet: &Sheet<'_>, dot: &Dot) -> PutResult {
     put_number(out, "entry", xy(x, 30), dot.position as u64)
 }
 
-/// Puts the line of a curve: at each moment's number up to the entry that comes then.
+/// Puts the line of a curve. It is at a moment's number up to the middle of the next entry's
+/// column.
 fn put_path(out: &mut String, scale: &Scale, curve: &Curve) -> PutResult {
     let class = match curve.object {
         CurveSource::Count(_) => "curve",
@@ -85,7 +86,7 @@ fn put_curves(out: &mut String, sheet: &Sheet<'_>) -> PutResult {
     Ok(())
 }
 
-/// Puts what stands behind the calls: the columns, the curves, and what the audits of groups find.
+/// Puts what is drawn before the calls: the rows, the columns and the curves.
 fn put_back(out: &mut String, sheet: &Sheet<'_>) -> PutResult {
     put_rows(out, sheet)?;
     for dot in sheet.picture.dots.as_slice() {
@@ -124,7 +125,7 @@ fn put_bars(out: &mut String, sheet: &Sheet<'_>) -> PutResult {
     Ok(())
 }
 
-/// Puts the dots of the entries and the marks of the points.
+/// Puts the dots of the entries, and the marks at the linearization points.
 fn put_front(out: &mut String, sheet: &Sheet<'_>) -> PutResult {
     for dot in sheet.picture.dots.as_slice() {
         if sheet.chosen.draws(dot.worker, &dot.op) {

@@ -18,7 +18,7 @@ fn has_long(sheet: &Sheet<'_>) -> bool {
         })
 }
 
-/// Returns how wide the cells of all rows are.
+/// Returns the width of the cells of all rows.
 fn cell_width(sheet: &Sheet<'_>) -> usize {
     if has_long(sheet) { 8 } else { 4 }
 }
@@ -49,7 +49,7 @@ fn put_entries(out: &mut String, sheet: &Sheet<'_>, width: usize) -> PutResult {
     out.push_str("\n")
 }
 
-/// Puts a word at the right end of a cell, after dashes if a call goes on there.
+/// Puts a word at the right end of a cell, after dashes if a call continues there.
 fn put_cell(out: &mut String, width: usize, goes_on: bool, word: &str) -> PutResult {
     match (width, goes_on) {
         (4, false) => write!(out, "{word:>4}"),
@@ -67,7 +67,7 @@ fn put_number(out: &mut String, width: usize, number: u64) -> PutResult {
     }
 }
 
-/// Returns whether a call of a worker that is drawn goes on over an entry's column.
+/// Returns whether a drawn call of a worker continues in an entry's column.
 fn goes_on(sheet: &Sheet<'_>, worker: WorkerId, position: usize) -> bool {
     let mut calls = sheet.picture.calls.iter();
     let mut begun = sheet.picture.begun.iter();
@@ -147,7 +147,7 @@ fn put_rows(out: &mut String, sheet: &Sheet<'_>) -> PutResult {
     out.push_str("\n")
 }
 
-/// Puts a line for each call.
+/// Puts a line for each call that is drawn.
 fn put_calls(out: &mut String, sheet: &Sheet<'_>) -> PutResult {
     for placed in sheet.picture.calls.as_slice() {
         if sheet.chosen.draws(placed.call.worker, &placed.call.op) {
@@ -164,7 +164,7 @@ fn put_calls(out: &mut String, sheet: &Sheet<'_>) -> PutResult {
     Ok(())
 }
 
-/// Puts a line for all that the audits of groups find.
+/// Puts a line for each drawn delivery and accepted try.
 fn put_findings(out: &mut String, sheet: &Sheet<'_>) -> PutResult {
     for arrow in sheet.picture.arrows.as_slice() {
         if sheet.chosen.draws_arrow(arrow) {

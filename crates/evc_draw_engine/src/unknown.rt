@@ -1,4 +1,4 @@
-//! Names that were chosen, and that the trace doesn't have.
+//! Chosen names that the trace does not declare.
 ghost use Rattle.std.specs.Prelude.{◌≡◌};
 ghost use Rattle.std.specs.List.{flat_map, list_any};
 ghost use Rattle.ec_text.specs.Puts.{Puts, IsWrittenOut};
@@ -11,56 +11,56 @@ use ec_draw::Choice;
 use ec_text::Output;
 use std::io::Write;
 
-/// Returns whether a name stands for a worker.
+/// Returns whether the target of a name is a worker.
 fn is_worker(target: Option<Target>) -> bool
     ensures { result ≡ is_worker target }
 {
     matches!(target, Some(Target::Worker(_)))
 }
 
-/// Returns whether a name stands for an object.
+/// Returns whether the target of a name is an object.
 fn is_object(target: Option<Target>) -> bool
     ensures { result ≡ is_object target }
 {
     !matches!(target, None | Some(Target::Worker(_)))
 }
 
-/// Returns whether a name that was chosen among the workers stands for none.
+/// Returns whether no worker has a name.
 fn lacks_worker(words: &SymbolTable, name: &str) -> bool
     ensures { result ≡ lacks_worker words.now name.now }
 {
     !is_worker(words.find(name.as_bytes()))
 }
 
-/// Returns whether a name that was chosen among the objects stands for none.
+/// Returns whether no object has a name.
 fn lacks_object(words: &SymbolTable, name: &str) -> bool
     ensures { result ≡ lacks_object words.now name.now }
 {
     !is_object(words.find(name.as_bytes()))
 }
 
-/// Returns whether some name among the workers stands for none.
+/// Returns whether some of these names is that of no worker.
 fn any_lacks_worker(words: &SymbolTable, names: &[&str]) -> bool
     ensures { result ≡ list_any (λ s. lacks_worker words.now s.now) names.now }
 {
     names.iter().any(|name| lacks_worker(words, name))
 }
 
-/// Returns whether some name among the objects stands for none.
+/// Returns whether some of these names is that of no object.
 fn any_lacks_object(words: &SymbolTable, names: &[&str]) -> bool
     ensures { result ≡ list_any (λ s. lacks_object words.now s.now) names.now }
 {
     names.iter().any(|name| lacks_object(words, name))
 }
 
-/// Returns whether the trace doesn't have some name that was chosen.
+/// Returns whether some chosen name is not declared.
 pub(crate) fn has_unknown(words: &SymbolTable, choice: &Choice<'_>) -> bool
     ensures { result ≡ has_unknown choice.now words.now }
 {
     any_lacks_worker(words, choice.workers) || any_lacks_object(words, choice.objects)
 }
 
-/// Puts the note on a name.
+/// Puts the note on a name that is not declared.
 #[tactic(auto, unfolding(crate::specs::Unknown::unknown_note))]
 fn put_unknown<N: Write>(out: &mut Output<'_, N>, what: &[u8], name: &[u8])
     ensures { Puts out.old out.new (unknown_note what.now name.now) }
@@ -70,7 +70,7 @@ fn put_unknown<N: Write>(out: &mut Output<'_, N>, what: &[u8], name: &[u8])
     out.put(b" is declared\n");
 }
 
-/// Puts the note on a name among the workers, if there is none of that name.
+/// Puts the note on a name, if no worker has it.
 #[tactic(auto, unfolding(crate::specs::Unknown::worker_note))]
 fn put_worker_note<N: Write>(out: &mut Output<'_, N>, words: &SymbolTable, name: &str)
     ensures { Puts out.old out.new (worker_note words.now name.now) }
@@ -80,7 +80,7 @@ fn put_worker_note<N: Write>(out: &mut Output<'_, N>, words: &SymbolTable, name:
     }
 }
 
-/// Puts the note on a name among the objects, if there is none of that name.
+/// Puts the note on a name, if no object has it.
 #[tactic(auto, unfolding(crate::specs::Unknown::object_note))]
 fn put_object_note<N: Write>(out: &mut Output<'_, N>, words: &SymbolTable, name: &str)
     ensures { Puts out.old out.new (object_note words.now name.now) }
@@ -90,7 +90,7 @@ fn put_object_note<N: Write>(out: &mut Output<'_, N>, words: &SymbolTable, name:
     }
 }
 
-/// Puts the notes on the names among the workers.
+/// Puts the notes on those of these names that no worker has.
 fn put_worker_notes<N: Write>(out: &mut Output<'_, N>, words: &SymbolTable, names: &[&str])
     ensures { Puts out.old out.new (flat_map (λ s. worker_note words.now s.now) names.now) }
 {
@@ -99,7 +99,7 @@ fn put_worker_notes<N: Write>(out: &mut Output<'_, N>, words: &SymbolTable, name
     }
 }
 
-/// Puts the notes on the names among the objects.
+/// Puts the notes on those of these names that no object has.
 fn put_object_notes<N: Write>(out: &mut Output<'_, N>, words: &SymbolTable, names: &[&str])
     ensures { Puts out.old out.new (flat_map (λ s. object_note words.now s.now) names.now) }
 {
@@ -108,7 +108,7 @@ fn put_object_notes<N: Write>(out: &mut Output<'_, N>, words: &SymbolTable, name
     }
 }
 
-/// Puts a note on each name that the trace doesn't have.
+/// Puts a note on each chosen name that is not declared.
 fn put_unknown_notes<N: Write>(out: &mut Output<'_, N>, words: &SymbolTable, choice: &Choice<'_>)
     ensures { Puts out.old out.new (unknown_notes choice.now words.now) }
 {
@@ -116,7 +116,7 @@ fn put_unknown_notes<N: Write>(out: &mut Output<'_, N>, words: &SymbolTable, cho
     put_object_notes(out, words, choice.objects);
 }
 
-/// Writes a note on each name that the trace doesn't have.
+/// Writes a note on each chosen name that is not declared.
 pub(crate) fn report_unknown<N: Write>(
     words: &SymbolTable,
     choice: &Choice<'_>,

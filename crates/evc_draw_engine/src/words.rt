@@ -1,4 +1,4 @@
-//! What is said of a shape: the title of its element, or its line in a text.
+//! The words on a shape: the title of its element, or its line in a text.
 
 use crate::elements::PutResult;
 use crate::names::{ActText, Names, ReplyText, kind};
@@ -7,7 +7,7 @@ use ec_count::{EventId, WorkerId};
 use ec_draw::{Arrow, PendingBar, Shade};
 use ec_order::Placed;
 
-/// Puts a call, as an entry of a trace would spell it.
+/// Puts a call in the words of an entry of a trace.
 fn put_call(
     out: &mut String,
     names: &Names<'_>,
@@ -25,7 +25,7 @@ fn put_call(
     )
 }
 
-/// Puts a completed call, with its entries and its point.
+/// Puts a completed call, with its first and last entries and its linearization point.
 pub(crate) fn put_call_words(out: &mut String, names: &Names<'_>, placed: &Placed) -> PutResult {
     let call = &placed.call;
     put_call(out, names, call.worker, call.op, call.reply)?;
@@ -39,7 +39,7 @@ pub(crate) fn put_open_words(out: &mut String, names: &Names<'_>, begun: &Pendin
     write!(out, ", under way from entry {}", begun.first)
 }
 
-/// Puts what the audit of a group finds: what it is, the group, and a number.
+/// Puts what the audit of a group found: the word for it, the group, and its number.
 fn put_finding(
     out: &mut String,
     names: &Names<'_>,
@@ -50,7 +50,7 @@ fn put_finding(
     write!(out, "{what} {} {number}", names.group(event))
 }
 
-/// Puts a delivery, and where its item was put and got.
+/// Puts a delivery, and the entries at which its item was put and got.
 pub(crate) fn put_delivery_words(out: &mut String, names: &Names<'_>, arrow: &Arrow) -> PutResult {
     let delivery = &arrow.delivery;
     put_finding(out, names, "delivery", arrow.count, delivery.number)?;
@@ -65,7 +65,7 @@ pub(crate) fn put_delivery_words(out: &mut String, names: &Names<'_>, arrow: &Ar
     )
 }
 
-/// Puts an accepting try, with the values that it got and its entries.
+/// Puts an accepted try, with the values that it got and its first and last entries.
 pub(crate) fn put_version_words(out: &mut String, names: &Names<'_>, shade: &Shade) -> PutResult {
     let accepted = &shade.accepted;
     put_finding(out, names, "version", shade.count, accepted.version)?;

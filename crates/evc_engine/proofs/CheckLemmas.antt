@@ -35,13 +35,13 @@ text_parts a b c ls ms =
     ∙ ap (λ t. (ended_line a ++ lines_text ls) ++ (ended_line b ++ lines_text ms) ++ t) (append-nil (ended_line c))
     ∙ ap (λ t. t ++ ended_line c) (sym (append_assoc (ended_line a ++ lines_text ls) (ended_line b) (lines_text ms)))
 
--- a call told as one entry has the line of the call
+-- a call that is written as one entry has the line of the call
 lines_are : (names : NameTable) (ps : List Placed) → map (linearized_line names) (map linearized_entry ps) ≡ map (placed_line names) ps
 lines_are names [] = refl
 lines_are names (p ∷ ps) = ap (λ ls. placed_line names p ∷ ls) (lines_are names ps)
 
 module _ (h : HeadingModel) (entries : List Entry) (world : State) (timeline : LinearizerModel) where
-  -- its declarations are those of the heading
+  -- the linearizer's declarations are those of the header
   on_heading : IsReadInto h entries world timeline → IsAccepted timeline.setup (reverse entries)
   on_heading g = subst (λ (t : Tables). IsAccepted t (reverse entries)) (g.world_setup ∙ sym g.setup) g.world_stands.accepted
 
@@ -53,7 +53,7 @@ module _ (h : HeadingModel) (entries : List Entry) (world : State) (timeline : L
       ap (λ (l : List LinearizedEntry). lines_text (order_lines h entries (map (linearized_line h.words) l))) (is g.represents (on_heading g) ∙ ap (λ t. linearized_entries t (reverse entries)) g.setup)
       ∙ ap (λ ls. lines_text (order_lines h entries ls)) (lines_are h.words (ordered_by_points h.setup (reverse entries)))
 
-  -- and it tells a good order
+  -- the text has a linearization
   pub good_told : (ds : List LinearizedEntry) → IsReadInto h entries world timeline → (IsLinearizer timeline (reverse entries) → IsAccepted timeline.setup (reverse entries) → ds ≡ linearized_entries timeline.setup (reverse entries))
       → (IsLinearizer timeline (reverse entries) → IsAccepted timeline.setup (reverse entries) → IsGoodLinearization timeline.setup (reverse entries) ds) → TellsGoodOrder (record { heading = h; entries = entries }) (text_for (record { heading = h; entries = entries }))
   good_told ds g is good =

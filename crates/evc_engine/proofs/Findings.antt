@@ -1,4 +1,4 @@
--- What the audits of groups find, once all entries of a history were handed to them.
+-- What the audits of groups find after all entries of a history.
 use Rattle.std.proofs.Common.{◌≡◌, ℕ, ◌+◌, ◌<◌, ◌^◌, [], List, length, Some, slice_get, reverse, sym, subst, refl, ap, ap₂, ◌∙◌, arith, inl, inr}
 use Rattle.std.proofs.lemmas.Option.{slice_get_cases, slice_get_within, get_or_from_slice_get}
 use Rattle.ec_count.specs.Tables.{Tables, IsDeclared}
@@ -30,7 +30,7 @@ use Rattle.evc_engine.specs.declared.walked.Auditing.TheVariants as audits
 use Rattle.evc_engine.specs.declared.walked.BothAudit.{BothAudit}
 
 module _ (h : HeadingModel) (entries : List Entry) where
-  -- a claim of an audit's own declarations and shape is one of the heading's
+  -- what holds of an audit's own declarations holds of those of the header
   ends_at : (t : Tables) (P : List Entry → Type 0) → t ≡ h.setup → IsDeclared h.setup → IsAccepted h.setup (reverse entries) → P (reverse entries) → EndsAt t P entries
   ends_at t P same declared accepted represents = record {
     declared = subst IsDeclared (sym same) declared;
@@ -97,23 +97,24 @@ counts_both h entries (groups.Buffer b) a e = absurd e.represents
 counts_both h entries (groups.Database d) a e = absurd e.represents
 counts_both h entries (groups.Semaphore s) a e = absurd e.represents
 
--- there is a group with each number below how many they are
+-- there is a group with each number below the number of groups
 pub group_at : (gs : List Group) (n : ℕ) → n < length gs → (g : Group) × (slice_get gs n ≡ Some g)
 group_at gs n low = elim (slice_get_cases gs n).1 [
   | inl p ↦ (p.0, p.2)
   | inr past ↦ absurd (omega arith)
 ]
 
--- THE WHOLE WALK
+-- THE WHOLE PASS
 
--- each group of a heading has its audit after an accepted history
+-- each group of a header has its audit after an accepted history
 pub each_ends : (h : HeadingModel) (entries : List Entry) (list : List Auditing) → IsDeclared h.setup → IsAccepted h.setup (reverse entries) → All (FitsGroup h.setup) h.groups
     → EachRepresents h.setup (semaphores_of h.groups) h.groups list (reverse entries) → EachEndsFor h entries list
 each_ends h entries list declared accepted fits each = λ i g at.
     (let own = each i g at in
     (own.0, own.1, record { declared = declared; accepted = accepted; fits = subst (FitsGroup h.setup) (get_or_from_slice_get h.groups i g g at) (fits i g (slice_get_within h.groups i g at)); represents = own.2 }))
 
--- the audits of a heading's groups, each handed the entries whose calls are on its group
+-- the audits of a header's groups, to each of which the entries were passed whose calls are on its
+-- group
 pub walk_finds : (h : HeadingModel) (entries : List Entry) (all : List Semaphore) (starts : List Auditing) (first now : GroupAuditsModel Auditing) (world : State)
     → StandsAfter world entries → world.setup ≡ h.setup → WalksOn group_of AuditsOn first now (reverse entries) → first.groups ≡ h.groups → first.audits ≡ starts → all ≡ semaphores_of h.groups
     → EachRepresents h.setup all h.groups starts [] → All (FitsGroup h.setup) h.groups → EachEndsFor h entries now.audits

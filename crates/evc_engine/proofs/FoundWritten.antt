@@ -18,7 +18,7 @@ use Rattle.evc_engine.proofs.CheckLemmas.{reads_as}
 use Rattle.ec_core.specs.declared.audit.AuditFault.{AuditFault}
 use Rattle.evc_engine.specs.declared.status.Status.TheVariants as statuses
 
--- what was not written to
+-- contents to which nothing was written stay
 pub stays : (a : Option (List ℕ)) → Keeps a a
 stays None = tt
 stays (Some xs) = refl
@@ -31,7 +31,7 @@ module _ (bytes : List ℕ) (left : Option (List ℕ)) (h : HeadingModel) (old n
   pub some_written : (entries : List Entry) (found : List AuditResult) → IsOf bytes h entries → AreAudited h entries found → AuditWrites h found statuses.InputOutput old new → Audits bytes left statuses.InputOutput old new
   some_written entries found returned audited writes = inl (record { heading = h; entries = entries }, reads_as bytes h entries returned, record { found = found; audited = audited; writes = writes })
 
-  -- a group is not followed, or there was no memory
+  -- the rules of a group are broken, or memory ran out
   pub stop_told : (entries : List Entry) (i : ℕ) (fault : AuditFault) → IsOf bytes h entries → IsStop h entries i fault → Keeps old.out new.out → Notes old new (stop_note h i fault) → Audits bytes left (stop_status fault) old new
   stop_told entries i (faults.NotFollowed w k) returned breaks out note =
       inl (record { heading = h; entries = entries }, reads_as bytes h entries returned, record { group = i; worker = w; entry = k; breaks = breaks; out = out; note = note })

@@ -1,4 +1,4 @@
--- Notes leave their table.
+-- Notes are not left in the buffer.
 use Rattle.std.proofs.Common.{[]}
 use Rattle.ec_text.specs.Puts.{Holds}
 use Rattle.ec_text.proofs.shared.PutLemmas.{begins, ends_ok, ends_err}

@@ -1,4 +1,4 @@
--- What is refused with status 1 has one note.
+-- What is rejected with status 1 has one note.
 use Rattle.std.proofs.Common.{◌≡◌, ℕ, ◌<◌, ◌⊎◌, inl, inr, List, Some, Result, Err, sym, ap, ◌∙◌, subst, slice_get}
 use Rattle.std.specs.Io.KnownBytes.{Keeps}
 use Rattle.std.proofs.lemmas.Bool.{cases_order}
@@ -29,7 +29,7 @@ one_entry rules h w v k l one other = by_order (cases_order k l)
     by_order (inr (inl less)) = absurd ((breaks_first rules h w k one l).1 less other.before)
     by_order (inr (inr more)) = absurd ((breaks_first rules h v l other k).1 more one.before)
 
--- and by one worker
+-- a history breaks the rules first by one worker
 one_worker : (rules : ℕ → Rule) (h : List Entry) (w v k l : ℕ) → BreaksAt rules h w k → BreaksAt rules h v l → k ≡ l → w ≡ v
 one_worker rules h w v k l one other same =
     let is : Some one.entry ≡ Some other.entry = sym one.is ∙ ap (slice_get h) same ∙ other.is in
@@ -37,7 +37,7 @@ one_worker rules h w v k l one other same =
     sym one.by ∙ ap (λ (e : Entry). e.worker) entry ∙ other.by
 
 module _ (h : HeadingModel) (entries : List Entry) where
-  -- one group is the first that is not followed
+  -- one group is the first whose rules are broken
   no_earlier : (i j w v k l : ℕ) → IsNotFollowed h entries i w k → IsNotFollowed h entries j v l → i < j → ⊥
   no_earlier i j w v k l one other less =
       follow_or_break (group_rules h.setup h.groups one.group) entries w k one.breaks (other.before i one.group less one.is)

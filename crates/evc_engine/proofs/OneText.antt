@@ -82,7 +82,7 @@ all_shapes h (d ∷ ds) have may =
 
 -- ONE TEXT
 
--- a heading and a history that a trace may have
+-- a header and a history that a trace may have
 record IsRead (h : HeadingModel) (entries : List Entry) : Type 0 where
   declared : IsDeclared h.setup
   accepted : IsAccepted h.setup (reverse entries)
@@ -100,7 +100,7 @@ is_read bytes t reads =
     })
 
 module _ (h : HeadingModel) (entries : List Entry) (read : IsRead h entries) where
-  -- the lines of what was found, by the sort of the group
+  -- the lines of what was found are the same, by the sort of the group
   delivered : (b : Buffer) (name : List ℕ) (a c : AuditResult) → HasShape (groups.Buffer b) → IsAudited h entries (groups.Buffer b) a → IsAudited h entries (groups.Buffer b) c
       → audited_lines h name a ≡ audited_lines h name c
   delivered b name (audits.Deliveries xs) (audits.Deliveries ys) shape p q =
@@ -173,7 +173,7 @@ module _ (h : HeadingModel) (entries : List Entry) (read : IsRead h entries) whe
   whole_text found other p q =
       ap (λ x. lines_text (codes "evc-audit 1" ∷ x ++ codes "end" ∷ [])) (same_text 0 h.groups found other read.shapes p.all q.all p.each q.each)
 
--- one input is read as one heading and one history
+-- one input is read as one header and one history
 pub one_reading : (bytes : List ℕ) (t u : TraceModel) → ReadsAs bytes t → ReadsAs bytes u → t ≡ u
 one_reading bytes t u p q = (let same : Ok t ≡ Ok u = sym p.returned ∙ q.returned in cc)
 

@@ -40,7 +40,7 @@ found_alike h v entries (groups.Semaphore s) (audits.Versions list) p = absurd p
 found_alike h v entries (groups.Semaphore s) (audits.Pairs m n list) p = absurd p
 found_alike h v entries (groups.Both c) a p = p
 
--- the text of `check` is by the heading and the history alone
+-- the text of `check` depends only on the declarations and the history
 checked_same : (h : HeadingModel) (v : Version) (entries : List Entry) → check_text (record h { version = v }) entries ≡ check_text h entries
 unfolding check_text
 checked_same h v entries = refl
@@ -91,7 +91,8 @@ upgraded_so bytes left t Usage old new reads ends = absurd ends
 upgraded_so bytes left t Memory old new reads ends = absurd ends
 upgraded_so bytes left t Stopped old new reads ends = absurd ends
 
--- an upgraded outline declares the upgraded heading, so what is written for that is its trace
+-- an upgraded syntax tree declares the upgraded header, so what is written for that header is its
+-- trace
 pub headed_so : (o : HeaderTree) (h : HeadingModel) → heading_of_tree o ≡ h
     → heading_of_tree (upgraded_outline o) ≡ upgrade_heading h
 headed_so o h is = upgraded_headed o ∙ ap upgrade_heading is

@@ -1,4 +1,4 @@
--- The audits of groups in one walk.
+-- The audits of groups in one pass over the entries.
 use Rattle.std.proofs.Common.{sym, ◌≡◌, ℕ, List, [], ◌∷◌, length, refl, ap, ◌∙◌, subst}
 use Rattle.ec_count.specs.Tables.{Tables}
 use Rattle.ec_core.specs.declared.act.Act.{Act}
@@ -20,7 +20,7 @@ use Rattle.evc_engine.specs.Walks.{StandsFor, EachRepresents, group_of, BothOn, 
 -- ONE ENTRY
 
 module _ (place : ℕ) (op : Act) (x : Entry) where
-  -- an audit has taken an entry in
+  -- an audit has processed an entry
   abbrev Takes : {A : Type 0} → (A → A → List Entry → Type 0) → A → A → Type 0
   Takes {A} represents old new = (start : A) (past : List Entry) → place ≡ length past → op ≡ opening_act x.act (under_way x.worker past) → represents start old past → represents start new (x ∷ past)
 
@@ -41,7 +41,7 @@ module _ (place : ℕ) (op : Act) (x : Entry) where
   takes_both a b take (audits.Both s) past at is represents = take s past at is represents
   takes_both a b take start past at is represents = absurd represents
 
--- THE WHOLE WALK
+-- THE WHOLE PASS
 
 -- before the first entry
 stands_first : (t : Tables) (all : List Semaphore) (g : Group) (a : Auditing) → StandsFor t all g a [] → (group_of a ≡ g) × AuditsOn a a []
@@ -57,7 +57,7 @@ stands_first t all (groups.Both c) a represents = absurd represents
 pub walk_begins : (t : Tables) (all : List Semaphore) (gs : List Group) (list : List Auditing) → EachRepresents t all gs list [] → AreWalked group_of AuditsOn gs list list []
 walk_begins t all gs list each = λ i g at. (let here = each i g at in let first = stands_first t all g here.0 here.2 in (here.0, here.0, here.1, here.1, first.0, first.1))
 
--- and after the last
+-- after the last entry
 stands_last : (t : Tables) (all : List Semaphore) (g : Group) (a b : Auditing) (past : List Entry) → StandsFor t all g a [] → AuditsOn a b past → StandsFor t all g b past
 stands_last t all (groups.Buffer s) (audits.Deliveries a) (audits.Deliveries b) past represents on = (on.0 ∙ represents.0, on.1 ∙ represents.1, on.2)
 stands_last t all (groups.Database d) (audits.Versions a) (audits.Versions b) past represents on = (on.0 ∙ represents.0, on.1 ∙ represents.1, on.2)

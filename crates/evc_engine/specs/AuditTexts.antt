@@ -14,7 +14,7 @@ use Rattle.ec_heading.specs.Spelling.{NameTable, target_name, lines_text}
 use Rattle.evc_engine.specs.declared.audit_result.AuditResult.{AuditResult}
 use Rattle.evc_engine.specs.declared.audit_result.AuditResult.TheVariants as audits
 
--- a word behind a space
+-- a word after a space
 abbrev pub word_after_space : List ℕ → List ℕ
 word_after_space word = codes " " ++ word
 
@@ -31,7 +31,7 @@ delivered_words words d =
 abbrev pub delivery_line : NameTable → List ℕ → Delivery → List ℕ
 delivery_line words name d = codes "delivery " ++ name ++ delivered_words words d
 
--- numbers, each behind a space
+-- numbers, each after a space
 abbrev pub spaced_numbers : List ℕ → List ℕ
 spaced_numbers numbers = flat_map (λ n. word_after_space (decimal n)) numbers
 
@@ -42,18 +42,18 @@ version_words words a = word_after_space (decimal a.version) ++ word_after_space
 abbrev pub version_line : NameTable → List ℕ → AcceptedTry → List ℕ
 version_line words name a = codes "version " ++ name ++ version_words words a
 
--- what a balance is, by its parts; of a semaphore that is followed, if it is never negative
+-- the balance of its parts; it is never negative if the workers follow the semaphore's rules
 abbrev pub now_of : Balance → ℕ
 now_of b = b.initial + b.ups - b.downs
 
--- the parts of a balance, and what it is
+-- the parts of a balance, and the balance
 abbrev pub balance_words : Balance → ℕ → List ℕ
 balance_words b now = word_after_space (decimal b.initial) ++ word_after_space (decimal b.downs) ++ word_after_space (decimal b.ups) ++ word_after_space (decimal now)
 
 abbrev pub balance_line : List ℕ → Balance → ℕ → List ℕ
 balance_line name b now = codes "balance " ++ name ++ balance_words b now
 
--- a ticket behind the name of its semaphore
+-- the name of a semaphore, and a ticket of it
 abbrev pub ticket_words : List ℕ → ℕ → List ℕ
 ticket_words semaphore ticket = word_after_space semaphore ++ word_after_space (decimal ticket)
 
@@ -87,11 +87,11 @@ audited_lines h name (audits.Versions tries) = map (version_line h.words name) t
 audited_lines h name (audits.Balances balance now) = balance_line name balance now ∷ []
 audited_lines h name (audits.Pairs balance now list) = balance_line name balance now ∷ map (pair_line h.words (semaphore_word h.names 0 h.groups)) list.items
 
--- those of the groups from number i on
+-- the lines of what the audits of the groups from number i on found
 unfoldable pub groups_lines : HeadingModel → ℕ → List AuditResult → List (List ℕ)
 groups_lines h i [] = []
 groups_lines h i (a ∷ rest) = audited_lines h (group_word h.names i) a ++ groups_lines h (i + 1) rest
 
--- the text, for a heading and what the audits of its groups found
+-- the text, for a header and what the audits of its groups found
 unfoldable pub audit_text : HeadingModel → List AuditResult → List ℕ
 audit_text h found = lines_text (codes "evc-audit 1" ∷ groups_lines h 0 found ++ codes "end" ∷ [])

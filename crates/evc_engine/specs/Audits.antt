@@ -1,4 +1,4 @@
--- What `audit` answered and wrote, for an input whose bytes are known.
+-- The status of `audit` and what it wrote, for an input whose bytes are known.
 use Rattle.std.specs.Prelude.{◌≡◌, ◌⊎◌, ⊤, Option, ℕ, ◌<◌, List, length, reverse, Some, slice_get, codes}
 use Rattle.std.specs.Io.KnownBytes.{Appends, Keeps}
 use Rattle.ec_core.specs.declared.act.Entry.{Entry}
@@ -30,7 +30,8 @@ use Rattle.evc_engine.specs.Notes.{fault_note, break_note}
 
 -- FOLLOWING
 
--- the group with number i is the first that is not followed: entry k, of worker w, is the first that breaks its lists
+-- the group with number i is the first whose rules are broken: entry k, of worker w, is the first
+-- that breaks them
 pub record IsNotFollowed (h : HeadingModel) (entries : List Entry) (i w k : ℕ) : Type 0 where
   pub group : Group
   pub is : slice_get h.groups i ≡ Some group
@@ -53,27 +54,28 @@ IsFound h entries (groups.Semaphore s) (audits.Balances balance now) = (balance 
 IsFound h entries (groups.Both c) a = IsPairsOf entries c (semaphores_of h.groups) a
 IsFound h entries g a = ⊥
 
--- a group that is followed, and what its audit found
+-- the workers follow the rules of a group, and this is what its audit found
 abbrev pub IsAudited : HeadingModel → List Entry → Group → AuditResult → Type 0
 IsAudited h entries g a = FollowsGroup h.setup h.groups (reverse entries) g × IsFound h entries g a
 
--- each group is followed, and this is what the audits found, in order
+-- the workers follow the rules of each group, and this is what the audits found, in order
 pub record AreAudited (h : HeadingModel) (entries : List Entry) (found : List AuditResult) : Type 0 where
   pub all : length found ≡ length h.groups
   pub each : (i : ℕ) (g : Group) (a : AuditResult) → slice_get h.groups i ≡ Some g → slice_get found i ≡ Some a → IsAudited h entries g a
 
--- why there is no text: the audit of a group said so, since it is the first that is not followed, or memory was refused
+-- why there is no text: the fault of a group's audit, which is that its rules are the first that
+-- are broken, or that memory ran out
 abbrev pub IsStop : HeadingModel → List Entry → ℕ → AuditFault → Type 0
 IsStop h entries i (NotFollowed w k) = IsNotFollowed h entries i w k
 IsStop h entries i faults.Memory = ⊤
 
 -- THE END OF THE COMMAND
 
--- the note on a group that is not followed, by its number
+-- the note on a group whose rules are broken, by its number
 abbrev pub not_followed_note : HeadingModel → ℕ → ℕ → ℕ → List ℕ
 not_followed_note h i w k = break_note (group_word h.names i) (worker_word h.words w) k
 
--- how the command ends then, and its note
+-- the status of the command then, and its note
 abbrev pub stop_status : AuditFault → Status
 stop_status (NotFollowed w k) = Refused
 stop_status faults.Memory = Memory
@@ -88,13 +90,15 @@ AuditWrites h found Done old new = Appends old.out new.out (audit_text h found) 
 AuditWrites h found InputOutput old new = AppendsPrefix old.out new.out (audit_text h found) × Notes old new (codes "write fault\n")
 AuditWrites h found status old new = ⊥
 
--- the groups of a trace are followed, what their audits found was written, and the writing ended so
+-- the workers of a trace follow the rules of its groups, what the audits found was written, and the
+-- writing ended with this status
 pub record Reports (t : TraceModel) (status : Status) (old new : Outlets) : Type 0 where
   pub found : List AuditResult
   pub audited : AreAudited t.heading t.entries found
   pub writes : AuditWrites t.heading found status old new
 
--- some group of a trace is not followed, nothing was written, and the note of the first such group was put
+-- the rules of some group of a trace are broken, nothing was written, and the note on the first
+-- such group was put
 pub record NamesFirstBreak (t : TraceModel) (old new : Outlets) : Type 0 where
   pub group : ℕ
   pub worker : ℕ
@@ -112,10 +116,11 @@ AuditEnds t Memory old new = Keeps old.out new.out × Notes old new (codes "no m
 AuditEnds t Usage old new = ⊥
 AuditEnds t Stopped old new = ⊥
 
--- how `audit` ended: the bytes are a trace, each of its groups is followed, and what their audits found was written; or
--- they are a trace with a group that is not followed, or no trace, and nothing was written but the note of the first such
--- group or the first fault; or a failed read is told, and what the reader had given until then has no fault; or a failed
--- write or want of memory is told
+-- how `audit` ended: the bytes are a trace whose workers follow the rules of each group, and what
+-- the audits found was written; or they are a trace with a group whose rules are broken, or no
+-- trace, and nothing was written but the note on the first such group or the first fault; or a
+-- failed read is reported, and what the reader had returned until then has no fault; or a failed
+-- write is reported, or that memory ran out
 abbrev pub Audits : List ℕ → Option (List ℕ) → Status → Outlets → Outlets → Type 0
 Audits bytes left Done old new = (t : TraceModel) × ReadsAs bytes t × AuditEnds t Done old new
 Audits bytes left Refused old new =

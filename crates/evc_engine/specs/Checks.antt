@@ -1,4 +1,4 @@
--- What `check` answered and wrote, for an input whose bytes are known.
+-- The status of `check` and what it wrote, for an input whose bytes are known.
 use Rattle.std.specs.Prelude.{◌≡◌, ◌⊎◌, ℕ, List, reverse, Option, Ok, Err, codes}
 use Rattle.std.specs.Io.KnownBytes.{Appends, Keeps}
 use Rattle.ec_text.specs.Puts.{OutputModel, Puts, AppendsPrefix, IsWrittenOut}
@@ -15,16 +15,18 @@ use Rattle.evc_engine.specs.declared.status.Status.TheVariants.{Done, Refused, U
 use Rattle.evc_engine.specs.Notes.{fault_note}
 use Rattle.evc_engine.specs.Texts.{check_lines, check_text}
 
--- where the text and the notes go: what the writer of the text holds, and the notes on their way
+-- where the text and the notes go: the contents of the text's writer, and the buffered writer of
+-- the notes
 pub record Outlets : Type 0 where
   pub out : Option (List ℕ)
   pub notes : OutputModel
 
--- the note was put, and nothing else; and it doesn't wait: it was written, or the table stands as failed
+-- the note was put, and nothing else, and it is not left in the buffer: it was written, or a write
+-- has failed
 abbrev pub Notes : Outlets → Outlets → List ℕ → Type 0
 Notes old new note = Puts old.notes new.notes note × IsWrittenOut new.notes
 
--- no note was put: their writer holds what it held, and the same notes wait
+-- no note was put: their writer has the same contents, and the same notes are in the buffer
 abbrev pub KeepsNotes : Outlets → Outlets → Type 0
 KeepsNotes old new = new.notes ≡ old.notes
 
@@ -32,7 +34,7 @@ KeepsNotes old new = new.notes ≡ old.notes
 abbrev pub text_for : TraceModel → List ℕ
 text_for t = check_text t.heading t.entries
 
--- the text of a trace tells a linearization of its completed calls, each with its point
+-- the text of a trace has a linearization of its completed calls, each with its linearization point
 pub record TellsGoodOrder (t : TraceModel) (text : List ℕ) : Type 0 where
   pub placed : List Placed
   pub good : IsGood t.heading.setup (reverse t.entries) placed
@@ -47,7 +49,7 @@ Writes t Refused old new = ⊥
 Writes t Usage old new = ⊥
 Writes t Stopped old new = ⊥
 
--- the bytes are a trace, of this heading and this history, and they are read as such
+-- the bytes are a trace, with this header and this history, and they are read as such
 pub record ReadsAs (bytes : List ℕ) (t : TraceModel) : Type 0 where
   pub trace : IsTraceOf bytes t
   pub returned : outcome TRACE_MAX bytes ≡ Ok t
@@ -57,10 +59,11 @@ pub record RefusedFor (bytes : List ℕ) (fault : TraceFault) : Type 0 where
   pub none : IsNoTrace bytes
   pub returned : outcome TRACE_MAX bytes ≡ Err fault
 
--- how `check` ended, for an input that had these bytes and has those left: the bytes are a trace and its text was written,
--- which tells a linearization of its completed calls; or they are none, and nothing was written but the note of the first
--- fault; or a failed read is told, and what the reader had given until then has no fault; or a failed write or want of memory
--- is told
+-- how `check` ended, for an input that had these bytes and has those left: the bytes are a trace
+-- and its text was written, which has a linearization of its completed calls; or they are no trace,
+-- and nothing was written but the note on the first fault; or a failed read is reported, and what
+-- the reader had returned until then has no fault; or a failed write is reported, or that memory
+-- ran out
 abbrev pub Checks : List ℕ → Option (List ℕ) → Status → Outlets → Outlets → Type 0
 Checks bytes left Done old new = (t : TraceModel) × ReadsAs bytes t × Writes t Done old new
 Checks bytes left Refused old new = (fault : TraceFault) × RefusedFor bytes fault × Keeps old.out new.out × Notes old new (fault_note fault)

@@ -1,4 +1,4 @@
--- What `upgrade` answered and wrote, for an input whose bytes are known.
+-- The status of `upgrade` and what it wrote, for an input whose bytes are known.
 use Rattle.std.specs.Prelude.{◌≡◌, ◌⊎◌, ℕ, List, ◌++◌, length, Option, codes}
 use Rattle.std.specs.Io.KnownBytes.{Appends, Keeps}
 use Rattle.ec_text.specs.Puts.{AppendsPrefix}
@@ -24,7 +24,7 @@ use Rattle.evc_engine.specs.Notes.{fault_note}
 
 -- THE WRITING
 
--- how the writing of a trace in version 2 ended, whatever outline is behind its heading
+-- how the writing of a trace in version 2 ended, for each syntax tree of its header
 abbrev pub Rewrites : TraceModel → Status → Outlets → Outlets → Type 0
 Rewrites t Done old new = ((o : HeaderTree) → IsHeaderTree o → heading_of_tree o ≡ t.heading → Appends old.out new.out (trace_text (upgraded_outline o) t.entries)) × KeepsNotes old new
 Rewrites t InputOutput old new =
@@ -33,8 +33,9 @@ Rewrites t status old new = ⊥
 
 -- THE END OF THE COMMAND
 
--- the bytes are a trace, and the text is the trace of the same declarations and the same history in version 2: it is read as these, and
--- behind its first line it is the bytes, so it is as long, and is the bytes if they have version 2; and of both `check` writes the same
+-- the bytes are a trace, and the text is the trace with the same declarations and history in
+-- version 2: it is read as these, and has the same bytes after its first line, so it is as long,
+-- and is the same if the bytes have version 2; and `check` writes the same for both
 pub record IsUpgraded (bytes text : List ℕ) (t : TraceModel) : Type 0 where
   pub from : ReadsAs bytes t
   pub to : ReadsAs text (upgrade_trace t)
@@ -45,9 +46,10 @@ pub record IsUpgraded (bytes text : List ℕ) (t : TraceModel) : Type 0 where
   pub as_it_was : t.heading.version ≡ Two → text ≡ bytes
   pub checked_alike : text_for (upgrade_trace t) ≡ text_for t
 
--- how `upgrade` ended, for an input that had these bytes and has those left: the bytes are a trace and it was written in version 2; or
--- they are none, and nothing was written but the note of the first fault; or a failed read is told, and what the reader had given until
--- then has no fault; or a failed write or want of memory is told
+-- how `upgrade` ended, for an input that had these bytes and has those left: the bytes are a trace
+-- and it was written in version 2; or they are no trace, and nothing was written but the note on
+-- the first fault; or a failed read is reported, and what the reader had returned until then has no
+-- fault; or a failed write is reported, or that memory ran out
 abbrev pub Upgrades : List ℕ → Option (List ℕ) → Status → Outlets → Outlets → Type 0
 Upgrades bytes left Done old new = (t : TraceModel) × (text : List ℕ) × IsUpgraded bytes text t × Appends old.out new.out text × KeepsNotes old new
 Upgrades bytes left Refused old new = (fault : TraceFault) × RefusedFor bytes fault × Keeps old.out new.out × Notes old new (fault_note fault)
@@ -58,10 +60,10 @@ Upgrades bytes left Memory old new = Keeps old.out new.out × Notes old new (cod
 Upgrades bytes left Usage old new = ⊥
 Upgrades bytes left Stopped old new = ⊥
 
--- LAWS
+-- THEOREMS
 
--- what `check` and `audit` write does not depend on the version: the text of a history, what the audits find in it, the text of that,
--- and the first group that is not followed, with its note
+-- what `check` and `audit` write does not depend on the version: the text of a history, what the
+-- audits find in it, the text of that, and the first group whose rules are broken, with its note
 pub record HasNoVersion (h : HeadingModel) (v : Version) (entries : List Entry) : Type 0 where
   pub checked : check_text (record h { version = v }) entries ≡ check_text h entries
   pub found : (found : List AuditResult) → AreAudited h entries found → AreAudited (record h { version = v }) entries found

@@ -1,4 +1,4 @@
--- What one walk over the entries of a trace keeps of its groups.
+-- The audits of a trace's groups in one pass over its entries.
 use Rattle.std.specs.Prelude.{◌≡◌, List, reverse}
 use Rattle.ec_count.specs.Tables.{Tables, IsDeclared}
 use Rattle.ec_core.specs.declared.act.Entry.{Entry}
@@ -19,28 +19,29 @@ use Rattle.evc_engine.specs.declared.walked.Auditing.{Auditing}
 use Rattle.evc_engine.specs.declared.walked.BothAudit.{BothAudit}
 use Rattle.evc_engine.specs.declared.walked.Auditing.TheVariants as audits
 
--- the audit is that of the buffer, under these declarations, after a past
+-- the audit is that of the buffer, under these declarations, after the history so far
 abbrev pub DeliversFor : Tables → Buffer → Auditing → List Entry → Type 0
 DeliversFor t b (audits.Deliveries a) past = (a.shape ≡ b) × (a.setup ≡ t) × IsDelivering a past
 DeliversFor t b a past = ⊥
 
--- that of the database
+-- the audit is that of the database
 abbrev pub VersionsFor : Tables → Database → Auditing → List Entry → Type 0
 VersionsFor t d (audits.Versions a) past = (a.shape ≡ d) × (a.setup ≡ t) × IsVersioning a past
 VersionsFor t d a past = ⊥
 
--- that of the semaphore
+-- the audit is that of the semaphore
 abbrev pub CountsFor : Semaphore → Auditing → List Entry → Type 0
 CountsFor s (audits.Balance a) past = (a.shape ≡ s) × IsCounted a past
 CountsFor s a past = ⊥
 
--- those of `both`, if these are all semaphores
+-- the audits are those of `both`, if these are all semaphores
 abbrev pub PairsFor : Semaphore → List Semaphore → Auditing → List Entry → Type 0
 PairsFor c all (audits.Both a) past =
     (a.balance.shape ≡ c) × IsCounted a.balance past × (a.pairs.common ≡ c) × (a.pairs.shapes ≡ all) × IsPairing a.pairs past × (a.common ≡ c)
 PairsFor c all a past = ⊥
 
--- the audit is that of the group, under these declarations and with these semaphores, after a past
+-- the audit is that of the group, under these declarations and with these semaphores, after the
+-- history so far
 abbrev pub StandsFor : Tables → List Semaphore → Group → Auditing → List Entry → Type 0
 StandsFor t all (groups.Buffer b) a past = DeliversFor t b a past
 StandsFor t all (groups.Database d) a past = VersionsFor t d a past
@@ -54,18 +55,18 @@ EachRepresents t all gs list past = Each (λ g a. StandsFor t all g a past) gs l
 
 -- AT THE END
 
--- the audit is that of a group of a heading, after an accepted history of these entries under it
+-- the audit is that of a group of a header, after an accepted history of these entries under it
 pub record EndsFor (h : HeadingModel) (entries : List Entry) (g : Group) (a : Auditing) : Type 0 where
   pub declared : IsDeclared h.setup
   pub accepted : IsAccepted h.setup (reverse entries)
   pub fits : FitsGroup h.setup g
   pub represents : StandsFor h.setup (semaphores_of h.groups) g a (reverse entries)
 
--- those of all groups, in order
+-- the audits are those of all groups, in order
 abbrev pub EachEndsFor : HeadingModel → List Entry → List Auditing → Type 0
 EachEndsFor h entries list = Each (λ g a. EndsFor h entries g a) h.groups list
 
--- IN A WALK
+-- IN A PASS OVER THE ENTRIES
 
 -- the group of an audit
 abbrev pub group_of : Auditing → Group
@@ -74,11 +75,11 @@ group_of (audits.Versions a) = groups.Database a.shape
 group_of (audits.Balance a) = groups.Semaphore a.shape
 group_of (audits.Both a) = groups.Both a.pairs.common
 
--- of the same `both`, after a past
+-- it is the audits of the same `both` after the history so far
 abbrev pub BothOn : BothAudit → BothAudit → List Entry → Type 0
 BothOn start now past = BalancesOn start.balance now.balance past × PairsOn start.pairs now.pairs past × (now.common ≡ now.balance.shape)
 
--- of the same group, after a past
+-- it is the audit of the same group after the history so far
 abbrev pub AuditsOn : Auditing → Auditing → List Entry → Type 0
 AuditsOn (audits.Deliveries start) (audits.Deliveries now) past = DeliversOn start now past
 AuditsOn (audits.Versions start) (audits.Versions now) past = VersionsOn start now past

@@ -14,7 +14,7 @@ use ec_text::{Output, WriteFault};
 use ec_trace::{Group, Heading, Spellings};
 use std::io::Write;
 
-/// Puts a word behind a space.
+/// Puts a space and a word.
 fn put_spaced<W: Write>(out: &mut Output<'_, W>, word: &[u8])
     ensures { Puts out.old out.new (word_after_space word.now) }
 {
@@ -22,7 +22,7 @@ fn put_spaced<W: Write>(out: &mut Output<'_, W>, word: &[u8])
     out.put(word);
 }
 
-/// Puts a number behind a space.
+/// Puts a space and a number.
 fn put_spaced_number<W: Write>(out: &mut Output<'_, W>, n: u64)
     ensures { Puts out.old out.new (word_after_space (decimal n)) }
 {
@@ -55,7 +55,7 @@ fn put_delivery<W: Write>(
     out.put(b"\n");
 }
 
-/// Puts the line of an accepting try.
+/// Puts the line of an accepted try.
 fn put_version<W: Write>(
     out: &mut Output<'_, W>,
     spellings: &Spellings<'_>,
@@ -70,7 +70,7 @@ fn put_version<W: Write>(
     out.put(b"\n");
 }
 
-/// Puts what follows the name in the line of an accepting try.
+/// Puts what follows the name in the line of an accepted try.
 fn put_accepted<W: Write>(
     out: &mut Output<'_, W>,
     spellings: &Spellings<'_>,
@@ -83,7 +83,7 @@ fn put_accepted<W: Write>(
     put_values(out, accepted);
 }
 
-/// Puts the values of an accepting try, each behind a space.
+/// Puts the values of an accepted try, each after a space.
 fn put_values<W: Write>(out: &mut Output<'_, W>, accepted: &TryView<'_>)
     ensures { Puts out.old out.new (spaced_numbers accepted.now.values) }
 {
@@ -114,7 +114,7 @@ fn put_balance<W: Write>(out: &mut Output<'_, W>, name: &[u8], balance: &Balance
     out.put(b"\n");
 }
 
-/// Puts a ticket behind the name of its semaphore.
+/// Puts the name of a semaphore, and a ticket of it.
 fn put_ticket<W: Write>(out: &mut Output<'_, W>, semaphore: &[u8], ticket: u64)
     ensures { Puts out.old out.new (ticket_words semaphore.now ticket) }
 {
@@ -122,7 +122,7 @@ fn put_ticket<W: Write>(out: &mut Output<'_, W>, semaphore: &[u8], ticket: u64)
     put_spaced_number(out, ticket);
 }
 
-/// Returns the name of a group; the one without a name is `both`.
+/// Returns the name of a group. The one without a name is `both`.
 pub(crate) fn group_word(names: &Names, group: usize) -> &[u8]
     ensures { result.now ≡ group_word names.now group }
 {
@@ -142,8 +142,8 @@ fn is_line_of(sequencer: SeqId, group: &Group) -> bool
     }
 }
 
-/// Returns the name of the semaphore of a sequencer, of no bytes if none of the groups, which
-/// are numbered from `from` on, is one.
+/// Returns the name of the semaphore of a sequencer, an empty one if no group is that semaphore.
+/// The groups are numbered from `from` on.
 #[tactic(auto, unfolding(crate::specs::AuditTexts::semaphore_word))]
 fn semaphore_word<'a>(names: &'a Names, from: usize, groups: &[Group], sequencer: SeqId) -> &'a [u8]
     requires { from + length groups.now < 2 ^ 64 }
@@ -191,7 +191,7 @@ fn put_deliveries<W: Write>(
     }
 }
 
-/// Puts the lines of accepting tries.
+/// Puts the lines of accepted tries.
 fn put_versions<W: Write>(
     out: &mut Output<'_, W>,
     spellings: &Spellings<'_>,
@@ -271,7 +271,7 @@ fn put_audit<W: Write>(out: &mut Output<'_, W>, heading: &Heading, found: &[Audi
     out.put(b"end\n");
 }
 
-/// Writes the text, or a front of it.
+/// Writes the text of an audit; a proper prefix of it if a write fails.
 pub fn write_audit<W: Write>(
     out: &mut W,
     heading: &Heading,

@@ -1,4 +1,4 @@
-//! `audit`: a trace in; what the audits of its groups found out.
+//! `audit`: reads a trace, and writes what the audits of its groups found.
 ghost use Rattle.std.specs.Prelude.{◌≡◌, ℕ, List, Option, ◌++◌, ◌∷◌, [], IfSome, IfOk, IfErr, OnOk};
 ghost use Rattle.ec_core.specs.declared.act.Entry.{Entry};
 ghost use Rattle.ec_heading.specs.HeadingModel.{HeadingModel};
@@ -24,15 +24,15 @@ use ec_walk::GroupAudits;
 use std::alloc::{AllocError, Global};
 use std::io::{Read, Write};
 
-/// Why a trace that was read has no text: what the audit of a group answered.
+/// Why a trace that was read has no text: the fault of the audit of a group.
 #[derive(Clone, Copy)]
 struct Stop {
     group: usize,
     fault: AuditFault,
 }
 
-/// Why there is no text: what the audit of a group answered, the fault of the trace, or that there was no memory for the
-/// audits.
+/// Why there is no text: the fault of a group's audit, the fault of the trace, or that memory ran
+/// out for the audits.
 #[derive(Drop)]
 enum Halt {
     Stopped(Stop),
@@ -48,8 +48,8 @@ fn push_result(found: &mut Vec<AuditResult>, audited: AuditResult) -> Result<(),
     Ok(())
 }
 
-/// Returns what the audits of groups found, in the order of the groups, or the first group that is
-/// not followed.
+/// Returns what the audits of groups found, in the order of the groups; or the fault of the first
+/// audit that has one.
 fn found_by(
     alloc: Global,
     groups: &[Group],
@@ -76,7 +76,8 @@ fn found_by(
     Ok(found)
 }
 
-/// Reads the entries of a trace, each of which is handed to the audits of the groups: what they found, or why there is no text.
+/// Reads the entries of a trace, and passes each to the audits of the groups. Returns what these
+/// found, or why there is no text.
 fn found_in<R: Read>(
     alloc: Global,
     heading: &Heading,
@@ -105,7 +106,7 @@ fn found_in<R: Read>(
     }
 }
 
-/// Notes why there is no text.
+/// Reports the fault of a group's audit, and returns the status.
 fn note_stop<N: Write>(heading: &Heading, stop: Stop, notes: &mut Output<'_, N>) -> Status
     ensures status { result ≡ stop_status stop.fault }
     ensures note { Puts notes.old notes.new (stop_note heading.now stop.group stop.fault) }
@@ -123,7 +124,7 @@ fn note_stop<N: Write>(heading: &Heading, stop: Stop, notes: &mut Output<'_, N>)
     }
 }
 
-/// Writes what the audits of a trace's groups found, or notes why there is nothing to write.
+/// Writes what the audits of a trace's groups found, or reports why there is nothing to write.
 fn write_found<W: Write, N: Write>(
     heading: &Heading,
     found: Result<Vec<AuditResult>, Halt>,
@@ -153,12 +154,12 @@ fn write_found<W: Write, N: Write>(
     }
 }
 
-/// Reads a trace, and writes what its buffers, databases and semaphores did, group by group in
-/// the order of the declarations; notes say what is wrong.
+/// Reads a trace, and writes what its buffers, databases and semaphores did, group by group in the
+/// order of the declarations. Notes say what is wrong.
 ///
-/// The trace goes past once, and nothing is kept of its entries but what the audits find. Nothing is
-/// written to `out` before the trace was read to its end and each group was audited.
-// (Put into its caller, it would share the registers with each other task.)
+/// The trace is streamed once, and nothing of its entries is stored except what the audits find.
+/// Nothing is written to `out` before the trace was read to its end and each group was audited.
+// (Inlined into its caller, it would share the registers with the other commands.)
 #[inline(never)]
 pub fn audit<R: Read, W: Write, N: Write>(
     alloc: Global,

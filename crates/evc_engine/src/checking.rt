@@ -1,4 +1,4 @@
-//! `check`: a trace in; the order of its calls and the totals out.
+//! `check`: reads a trace, and writes a linearization of its calls and the totals.
 ghost use Rattle.std.specs.Prelude.{◌≡◌, ℕ, List, Option, IfSome, Ok, Err};
 ghost use Rattle.ec_core.specs.declared.act.Entry.{Entry};
 ghost use Rattle.ec_text.specs.Puts.{Puts, IsWrittenOut};
@@ -17,7 +17,7 @@ use ec_trace::{AuditedWorld, Heading, Lines, TraceFault, TraceOpening, open_trac
 use std::alloc::Global;
 use std::io::{Read, Write};
 
-/// Returns how a command ends that could not read its trace.
+/// Returns the status of a command that could not read its trace.
 pub(crate) fn status_of(fault: &TraceFault) -> Status
     ensures { result ≡ fault_status fault.now }
 {
@@ -32,7 +32,7 @@ pub(crate) fn status_of(fault: &TraceFault) -> Status
     }
 }
 
-/// Notes that a trace was not read, and returns how the command ends.
+/// Reports why a trace was not read, and returns the status of the command.
 pub fn note_unread<N: Write>(fault: &TraceFault, notes: &mut Output<'_, N>) -> Status
     ensures status { result ≡ fault_status fault.now }
     ensures note { Puts notes.old notes.new (fault_note fault.now) }
@@ -42,7 +42,7 @@ pub fn note_unread<N: Write>(fault: &TraceFault, notes: &mut Output<'_, N>) -> S
     status_of(fault)
 }
 
-/// Writes the text of a trace, of which this was gathered.
+/// Writes the text of a trace, from the world and the linearizer after its last entry.
 fn write_order<W: Write, N: Write>(
     heading: &Heading,
     world: &World,
@@ -68,8 +68,8 @@ fn write_order<W: Write, N: Write>(
     }
 }
 
-/// Writes the text of a trace, of which this was gathered. (It stands apart from its caller: so the room that it takes is not there
-/// while the trace is read.)
+/// Writes the text of a trace that was read. (It is not inlined, so that its stack frame does not
+/// exist while the trace is read.)
 #[inline(never)]
 fn write_linearization<W: Write, N: Write>(
     heading: &Heading,
@@ -86,8 +86,8 @@ fn write_linearization<W: Write, N: Write>(
     write_order(heading, &world, &timeline, out, notes)
 }
 
-/// Reads the entries of a trace, and writes its text or notes why there is none. (It stands apart from its caller, in which the heading
-/// is read, for the same reason.)
+/// Reads the entries of a trace, and writes its text or reports why there is none. (It is not
+/// inlined into its caller, which reads the header, for the same reason.)
 #[inline(never)]
 fn check_entries<R: Read, W: Write, N: Write>(
     alloc: Global,
@@ -112,11 +112,12 @@ fn check_entries<R: Read, W: Write, N: Write>(
     write_linearization(heading, watched, out, notes)
 }
 
-/// Reads a trace, and writes the order of its completed calls and the totals; notes say what is
-/// wrong.
+/// Reads a trace, and writes a linearization of its completed calls and the totals. Notes say what
+/// is wrong.
 ///
-/// The trace goes past once, and no run of it is kept. Nothing is written to `out` before the trace was read to its end.
-// (Put into its caller, it would share the registers with each other task.)
+/// The trace is streamed once, and no run of it is stored. Nothing is written to `out` before the
+/// trace was read to its end.
+// (Inlined into its caller, it would share the registers with the other commands.)
 #[inline(never)]
 pub fn check<R: Read, W: Write, N: Write>(
     alloc: Global,

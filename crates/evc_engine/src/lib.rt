@@ -1,4 +1,5 @@
-//! What the program does with its input: texts out as a function of bytes in.
+//! The commands `check`, `audit` and `upgrade`: what they write is a function of the bytes that
+//! they read.
 #![tactic(auto)]
 
 mod audit_result;

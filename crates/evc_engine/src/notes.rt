@@ -1,4 +1,4 @@
-//! The notes. A write of notes that fails is not told, and none is tried after it.
+//! The notes. A write of notes that fails is not reported, and no other is tried after it.
 ghost use Rattle.ec_text.specs.Puts.{Puts, IsWrittenOut};
 ghost use Rattle.evc_engine.specs.Notes.{fault_note, refused_words, wrong_words, line_words, broken_words, breaker_words, break_note};
 ghost use Rattle.evc_engine.specs.Audits.{not_followed_note};
@@ -10,7 +10,7 @@ use ec_text::Output;
 use ec_trace::{Heading, Spellings, TraceFault, put_reply};
 use std::io::Write;
 
-/// Puts what a note says of a refused act.
+/// Puts the words of a note on a refused act.
 pub fn put_refused<W: Write>(out: &mut Output<'_, W>, refusal: Refusal)
     ensures { Puts out.old out.new (refused_words refusal) }
 {
@@ -20,7 +20,7 @@ pub fn put_refused<W: Write>(out: &mut Output<'_, W>, refusal: Refusal)
     out.put(refusal.name().as_bytes());
 }
 
-/// Puts what a note says of a wrong reply.
+/// Puts the words of a note on a wrong reply.
 fn put_wrong<W: Write>(out: &mut Output<'_, W>, right: &Reply)
     ensures { Puts out.old out.new (wrong_words right.now) }
 {
@@ -63,7 +63,7 @@ fn put_fault<W: Write>(out: &mut Output<'_, W>, fault: &TraceFault)
     }
 }
 
-/// Puts the note on an entry that breaks a group.
+/// Puts the note on an entry that breaks the rules of a group.
 fn put_break<W: Write>(out: &mut Output<'_, W>, group: &[u8], worker: &[u8], entry: u64)
     ensures { Puts out.old out.new (break_note group.now worker.now entry) }
 {
@@ -71,7 +71,7 @@ fn put_break<W: Write>(out: &mut Output<'_, W>, group: &[u8], worker: &[u8], ent
     put_breaker(out, worker, entry);
 }
 
-/// Puts the beginning of that note: the group.
+/// Puts the beginning of the note on a broken rule: the group.
 fn put_broken<W: Write>(out: &mut Output<'_, W>, group: &[u8])
     ensures { Puts out.old out.new (broken_words group.now) }
 {
@@ -79,7 +79,7 @@ fn put_broken<W: Write>(out: &mut Output<'_, W>, group: &[u8])
     out.put(b" not followed: worker ");
 }
 
-/// Puts the end of that note: the entry and its worker.
+/// Puts the end of the note on a broken rule: the worker and the entry.
 fn put_breaker<W: Write>(out: &mut Output<'_, W>, worker: &[u8], entry: u64)
     ensures { Puts out.old out.new (breaker_words worker.now entry) }
 {
@@ -89,7 +89,7 @@ fn put_breaker<W: Write>(out: &mut Output<'_, W>, worker: &[u8], entry: u64)
     out.put(b"\n");
 }
 
-/// Says a fault of a trace: the note is put and written.
+/// Reports a fault of a trace: puts the note, and writes it out.
 pub fn report_fault<W: Write>(notes: &mut Output<'_, W>, fault: &TraceFault)
     ensures puts { Puts notes.old notes.new (fault_note fault.now) }
     ensures written { IsWrittenOut notes.new }
@@ -98,8 +98,8 @@ pub fn report_fault<W: Write>(notes: &mut Output<'_, W>, fault: &TraceFault)
     notes.flush();
 }
 
-/// Says that a group is not followed: the note has its number, and the first entry that breaks its
-/// rule, with that entry's worker.
+/// Reports that the workers break the rules of a group. The note has the group's name, the first
+/// entry that breaks a rule, and its worker.
 pub(crate) fn report_not_followed<W: Write>(
     notes: &mut Output<'_, W>,
     heading: &Heading,

@@ -15,8 +15,8 @@ use ec_text::{CachedDecimal, Output, WriteFault};
 use ec_trace::{DecimalCache, Heading, Spellings, put_next_entry};
 use std::io::Write;
 
-/// Puts LF and the line of a call, and has its point in `point` then. The line's point is mostly that of the line before, or one more, so
-/// that its digits need little work.
+/// Puts LF and the line of a call, and stores its linearization point in `point`. A point is
+/// usually that of the line before, or one more, so that few of its digits change.
 fn put_linearized<W: Write>(
     out: &mut Output<'_, W>,
     spellings: &Spellings<'_>,
@@ -31,7 +31,7 @@ fn put_linearized<W: Write>(
     put_next_entry(out, b" ", spellings, last, &dated.entry);
 }
 
-/// Puts the lines of the calls, in order, each behind LF.
+/// Puts the lines of the calls, in order, each after LF.
 fn put_order<W: Write>(out: &mut Output<'_, W>, spellings: &Spellings<'_>, calls: Linearization<'_>)
     ensures { Puts out.old out.new
         (flat_map (λ d. 10 ∷ linearized_line spellings.now d) calls.entry) }
@@ -60,7 +60,8 @@ fn put_text<W: Write>(
     out.put(b"end\n");
 }
 
-/// Writes the text, or a front of it. (It stands apart from its caller, which reads the trace: each way has the registers to itself.)
+/// Writes the text of `check`; a proper prefix of it if a write fails. (It is not inlined into its
+/// caller, which reads the trace, so that each has the registers for itself.)
 #[inline(never)]
 pub fn write_text<W: Write>(
     out: &mut W,

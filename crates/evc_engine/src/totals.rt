@@ -48,7 +48,7 @@ fn put_count<W: Write>(out: &mut Output<'_, W>, sort: &[u8], name: &[u8], count:
     out.put(b"\n");
 }
 
-/// Puts the spelling of one cell of a block.
+/// Puts the name of one cell of a block, as `C[1]`.
 fn put_spot<W: Write>(out: &mut Output<'_, W>, name: &[u8], place: u64)
     ensures { Puts out.old out.new (name.now ++ codes "[" ++ decimal place ++ codes "]") }
 {
@@ -69,7 +69,7 @@ fn put_cell<W: Write>(out: &mut Output<'_, W>, name: &[u8], place: u64, value: u
     out.put(b"\n");
 }
 
-/// Returns the value of the cell at a place of a block, 0 if it is not declared.
+/// Returns the value of the cell at an index of a block, 0 if it is not declared.
 #[tactic(auto, using(crate::proofs::Undeclared::far_cell))]
 fn value_at(world: &World, first: CellId, place: usize) -> u64
     ensures { (h : List Entry) → StandsFor world.now h → result ≡ cell_value (first + place) (reverse h) }
@@ -93,7 +93,7 @@ fn put_cells<W: Write>(out: &mut Output<'_, W>, world: &World, name: &[u8], firs
     }
 }
 
-/// Puts the totals of what a word spells.
+/// Puts the totals of the target of a word.
 fn put_target<W: Write>(out: &mut Output<'_, W>, world: &World, word: &[u8], target: &Target)
     ensures { (h : List Entry) → StandsFor world.now h
         → Puts out.old out.new (lines_text (totals_of (reverse h) word.now target.now)) }
@@ -113,7 +113,7 @@ fn put_target<W: Write>(out: &mut Output<'_, W>, world: &World, word: &[u8], tar
     }
 }
 
-/// Puts the totals of what the word at a place spells, if there is one.
+/// Puts the totals of the target of the word at an index of the symbol table, if there is one.
 fn put_place<W: Write>(out: &mut Output<'_, W>, world: &World, words: &SymbolTable, place: usize)
     ensures { (h : List Entry) → StandsFor world.now h
         → Puts out.old out.new (lines_text (totals_at (reverse h) (slice_get words.now place))) }
@@ -123,7 +123,7 @@ fn put_place<W: Write>(out: &mut Output<'_, W>, world: &World, words: &SymbolTab
     }
 }
 
-/// Puts the totals of all that a heading declares: in the order of the declarations, and of the
+/// Puts the totals of all that a header declares: in the order of the declarations, and of the
 /// objects of each.
 pub fn put_totals<W: Write>(out: &mut Output<'_, W>, heading: &Heading, world: &World)
     ensures { (h : List Entry) → StandsFor world.now h

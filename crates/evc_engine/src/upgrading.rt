@@ -1,4 +1,4 @@
-//! `upgrade`: a trace in; the same trace in version 2 out.
+//! `upgrade`: reads a trace, and writes the same trace in version 2.
 ghost use Rattle.std.specs.Prelude.{◌≡◌, IfSome};
 ghost use Rattle.evc_engine.specs.Upgrades.{Rewrites, Upgrades};
 ghost use Rattle.ec_text.specs.Puts.{IsWrittenOut};
@@ -32,11 +32,12 @@ fn write_upgraded<W: Write, N: Write>(
     }
 }
 
-/// Reads a trace, and writes the one of the same declarations and the same history in version 2;
-/// notes say what is wrong. A trace of version 2 comes out as it was.
+/// Reads a trace, and writes the trace with the same declarations and history in version 2. Notes
+/// say what is wrong. A trace of version 2 is written unchanged.
 ///
 /// Nothing is written to `out` before the trace was read to its end.
-// (Put into its caller, it would have that hold its half a megabyte of tables under each other task too.)
+// (Inlined into its caller, its half a megabyte of tables would be on the stack of the other
+// commands too.)
 #[inline(never)]
 #[tactic(auto, using(crate::proofs::UpgradeLemmas::upgraded_so))]
 pub fn upgrade<R: Read, W: Write, N: Write>(

@@ -1,4 +1,4 @@
-//! The audits of a trace's groups, for one walk over its entries.
+//! The audits of a trace's groups, in one pass over its entries.
 ghost use Rattle.std.specs.Prelude.{◌≡◌, ◌+◌, ◌^◌, ◌<◌, List, [], ◌∷◌, length, IfOk, MatchResult};
 ghost use Rattle.ec_core.specs.declared.act.Entry.{Entry};
 ghost use Rattle.ec_core.specs.Audits.{IsAuditFault};
@@ -22,7 +22,7 @@ use ec_trace::Group;
 use ec_walk::GroupAudit;
 use std::alloc::{AllocError, Global};
 
-/// Returns what a balance is, by its parts.
+/// Returns the balance of its parts: the initial units and the ups, without the downs.
 fn now_of(parts: &Balance) -> u64
     ensures { parts.now.initial + parts.now.ups < 2 ^ 64 → result ≡ now_of parts.now }
 {
@@ -41,8 +41,8 @@ pub(crate) struct BothAudit<'a> {
 }
 
 impl<'a> BothAudit<'a> {
-    /// Returns what they found of the entries so far: the pairs, by the rule of `both`, and the
-    /// balance.
+    /// Returns what the audits found of the entries so far: the pairs, by the rules of `both`, and
+    /// the balance.
     fn finish(self) -> Result<AuditResult, AuditFault>
         ensures { (h : HeadingModel) (entries : List Entry) (g : Group) → EndsFor h entries g (Auditing.Both self.entry)
             → MatchResult result (λ a. IsAudited h entries g a) (λ fault. IsAuditFault (group_rules h.setup h.groups g) entries fault) }
@@ -62,7 +62,8 @@ impl<'a> BothAudit<'a> {
     }
 }
 
-/// Takes an entry into the audit of a semaphore, unless its call is on another object: then the audit stands as before.
+/// Passes an entry to the audit of a semaphore, unless its call is on another object: then the
+/// audit stays as it is.
 #[inline(always)]
 fn take_on(
     audit: &mut BalanceAudit,
@@ -105,8 +106,8 @@ pub(crate) enum Auditing<'a> {
 }
 
 impl<'a> Auditing<'a> {
-    /// Makes what is kept before the first entry of a run on this setup, if these are all
-    /// semaphores.
+    /// Returns the audit of a group before the first entry of a run with this setup, if these are
+    /// all semaphores.
     fn new(
         alloc: Global,
         group: &'a Group,
@@ -129,8 +130,8 @@ impl<'a> Auditing<'a> {
 }
 
 impl<'a> Auditing<'a> {
-    /// Returns what it found of the entries so far, or the first of them that breaks the group's
-    /// lists of calls.
+    /// Returns what the audit found of the entries so far, or the first of them that breaks the
+    /// group's rules.
     pub(crate) fn finish(self) -> Result<AuditResult, AuditFault>
         ensures { (h : HeadingModel) (entries : List Entry) (g : Group)
             → EndsFor h entries g self.entry

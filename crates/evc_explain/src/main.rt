@@ -27,9 +27,9 @@ fn run<N: Write>(rt: &HostRuntime, file: Option<&str>, notes: &mut Output<'_, N>
     }
 }
 
-/// Writes what the command line gave in place of a text, and returns the exit status.
+/// Writes the help, the version or the error of a command line, and returns the exit status.
 fn end_by<N: Write>(rt: &HostRuntime, error: &Error, notes: &mut Output<'_, N>) -> u8 {
-    // (help goes to standard output, and that a note could not be written is not reported)
+    // (help and version go to standard output; a failed write to standard error is not reported)
     if error.print(rt).is_err() && !error.use_stderr() {
         notes.say(b"write fault\n");
         return Status::InputOutput.code();

@@ -1,7 +1,7 @@
 //! The texts of `evc-explain --help` and `evc-explain --version`.
 
-// What stands after `evc-explain ` in the answer to `evc-explain --version`: the number, and the
-// line of the toolchain that everything is proved and built with.
+// What follows `evc-explain ` in the output of `evc-explain --version`: the number, and the
+// toolchain that everything is proved and built with.
 pub(crate) const VERSION: &str = "0.2
 proved and built with rattle-kit-13";
 

@@ -21,7 +21,7 @@ fn file_argument<'a>(alloc: Global) -> Arg<'a>
         .action(ArgAction::Set)
 }
 
-/// Returns the program without its argument.
+/// Returns the command without its argument.
 fn bare_command<'a>(alloc: Global) -> Command<'a>
     ensures { app_of result ≡ bare_app }
 {
@@ -32,7 +32,7 @@ fn bare_command<'a>(alloc: Global) -> Command<'a>
         .version(help::VERSION)
 }
 
-/// Returns the program.
+/// Returns the command `evc-explain`.
 fn program<'a>(alloc: Global) -> Result<Command<'a>, AllocError>
     ensures { IfOk result (λ c. app_of c ≡ explain_app) }
 {
@@ -60,7 +60,7 @@ fn file_value<'a>(found: &ArgMatches<'a>) -> Option<&'a str>
 /// names.
 ///
 /// An `Err` that is not out of memory says what is wrong with the words, or is the text of the help
-/// or the version that they ask for. `Error::print` writes it if it belongs.
+/// or the version that they ask for. `Error::print` writes it where it belongs.
 pub fn file_named<'a>(alloc: Global, words: &'a [String]) -> Result<Option<&'a str>, Error>
     ensures file { IfOk result (λ f. option_map (λ w. w.now) f ≡ file_in (texts_of words.now)) }
     ensures faults { FailsBy (faults_in (texts_of words.now)) result }

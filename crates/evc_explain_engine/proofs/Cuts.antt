@@ -1,4 +1,4 @@
--- Where the lines of a text stand that is made of lines.
+-- Where the lines of a text are.
 use Rattle.std.proofs.Common.{◌≡◌, ◌≢◌, ◌≤◌, ℕ, zero, suc, ◌+◌, ◌-◌, List, [], ◌∷◌, ◌++◌, length}
 use Rattle.std.proofs.Common.{take, drop, cond, true, false, eqb, ltb, Option, Some, None, refl, ap}
 use Rattle.std.proofs.Common.{◌∙◌, ne_eqb, lt-ltb, arith, length-append, append_assoc, length-take}
@@ -24,7 +24,7 @@ drop_here xs ys y =
     let next : length xs + 1 ≡ suc (length xs) = omega arith in
     ap (λ n. drop n (xs ++ y ∷ ys)) next ∙ drop_past xs ys y
 
--- the LF behind a line is found from it on
+-- the LF after a line is found from the line on
 passes : (line more : List ℕ) (k : ℕ) → IsPlain line
     → position_from (λ b. eqb b 10) k (line ++ more)
     ≡ position_from (λ b. eqb b 10) (k + length line) more
@@ -35,7 +35,7 @@ passes (b ∷ line) more k plain =
     rw other (passes line more (k + 1) plain.1
     ∙ ap (λ n. position_from (λ b. eqb b 10) n more) count)
 
--- from the first place on
+-- from the first index on
 from_first : (line more : List ℕ) → IsPlain line
     → position_from (λ b. eqb b 10) 0 (line ++ more)
     ≡ position_from (λ b. eqb b 10) (length line) more
@@ -110,7 +110,7 @@ position_low k j (x ∷ xs) is =
       | false ↦ λ e. omega (arith, position_low (k + 1) j xs e)
     ] is
 
--- a line is as long as a front of it without an LF
+-- a line is at least as long as a prefix of the text without an LF
 pub first_long : (line more : List ℕ) → IsPlain line
     → length line ≤ length (first_line (line ++ more))
 first_long line more plain =

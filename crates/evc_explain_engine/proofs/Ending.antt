@@ -1,4 +1,4 @@
--- How workers are left.
+-- The states of workers at the end.
 use Rattle.std.proofs.Common.{◌≡◌, ◌∙◌, ℕ, ◌+◌, ◌<◌, ◌≤◌, List, [], ◌∷◌, ◌++◌, length, reverse, refl, sym, ap, arith}
 use Rattle.std.proofs.Common.{false, subst, Option, Some, IfSome, Result, Ok, Err, IfOk, inr, Vec}
 use Rattle.std.specs.declared.alloc.Global.{Global}
@@ -21,7 +21,7 @@ each_end : (t : Tables) (past : List Entry) (s : List ℕ) (w : ℕ) (os : List 
 each_end t past s w [] = refl
 each_end t past s w (o ∷ os) = omega (arith, each_end t past s (w + 1) os)
 
--- each worker is left somehow
+-- there is a state of each worker
 pub all_ends : (t : Tables) (past : List Entry) (s : List ℕ) (os : List Outcome)
     (old new : List End) → new ≡ old ++ ends_from t past s 0 os → old ≡ []
     → length new ≡ length os
@@ -36,7 +36,7 @@ all_declared n m own new same c all =
     subst (λ (k : ℕ). All (λ w. w < k) new) (sym same)
     (subst (All (λ w. w < n)) (sym c.1) (All-append (λ w. w < n) own c.0 all c.2))
 
--- the script comes to this, if the schedule of a longer plan leaves no worker that can go on
+-- the final states, if a longer schedule leaves no worker that can go on
 pub comes_to : (p q : Plan) (schedule seen : List ℕ) (r : Report) (os : List Outcome)
     (es : List End) → q.heading ≡ p.heading → q.programs ≡ p.programs
     → Continues p.heading.setup.workers p.schedule.items q.schedule.items
@@ -56,7 +56,7 @@ comes_to p q schedule seen r os es heading programs continues same report see ou
       all,
     )
 
--- a schedule that goes further after its run continues the script's own one
+-- a schedule that is extended after its run continues the script's own one
 pub goes_further : (p q : Plan) (before new : List ℕ) (r : Report) (os : List Outcome)
     → q.heading ≡ p.heading
     → Continues p.heading.setup.workers p.schedule.items q.schedule.items
@@ -87,7 +87,7 @@ still_continues p q new first heading long continues cut =
     (cut own (sym long)
     (subst (λ (k : ℕ). Continues k own q.schedule.items) (sym declared) continues))
 
--- they are as few as the workers
+-- there are at most as many states as workers
 pub few_ends : (p q : Plan) (r : Report) (os : List Outcome) (es : List End)
     → q.heading ≡ p.heading → p.heading.setup.workers ≤ 16
     → IsReport q.heading.setup q.programs.items q.schedule.items r → os ≡ r.outcomes.items
@@ -98,12 +98,12 @@ few_ends p q r os es heading few report out each =
     each ∙ ap length out ∙ report.outcomes.each ∙ declared in
     omega (arith, all, few)
 
--- what is so of what may be there is so of what is there
+-- what holds of an optional value, if there is one, holds of the value
 pub given : {X : Type 0} (o : Option X) (x : X) → o ≡ Some x → (P : X → Type 0) → IfSome o P
     → P x
 given o x is P so = subst (λ k. IfSome k P) is so
 
--- what is said beyond the schedule of a script
+-- what is written beyond the schedule of a script
 pub says_beyond : {E : Type 0} (p : Plan) (words : NameTable) (es seen : List End)
     (r : Result (Vec ℕ Global) E) → AreFinalEnds p es → seen ≡ es → words ≡ p.heading.words
     → IfOk r (λ bytes. bytes.items ≡ final_ends_text words seen)

@@ -1,4 +1,4 @@
--- Histories in turn, up to the first that is rejected.
+-- Histories in order, up to the first that is rejected.
 use Rattle.std.proofs.Common.{◌≡◌, ℕ, List, [], ◌∷◌, length, Result, Ok, Err, IfOk, Option, Some, None, refl}
 use Rattle.std.proofs.Common.{◌==◌, true, arith}
 use Rattle.std.proofs.lemmas.Bool.{eqb-true}
@@ -32,7 +32,7 @@ pub no_rest : (xs : List ℕ) → (length xs == 0) ≡ true → lines_of_text xs
 no_rest [] none = refl
 no_rest (x ∷ xs) none = absurd (omega (arith, eqb-true (length (x ∷ xs)) 0 none))
 
--- nothing is said of a history with a linearization
+-- a history with a linearization has no explanation
 pub judged_none : (text : List ℕ) (n : ℕ) (r : RecordingModel) (o : Option Explanation)
     → ((t : Explanation) → o ≡ Some t → ⊥) → Judges text n r o → Judges text n r None
 judged_none text n r None not judged = judged

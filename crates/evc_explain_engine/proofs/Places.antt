@@ -1,4 +1,4 @@
--- Where faulty lines stand.
+-- Where faulty lines are.
 use Rattle.std.proofs.Common.{◌≡◌, ◌∙◌, ℕ, ◌<◌, List, [], length, Option, Some, None, IfSome}
 use Rattle.std.proofs.Common.{Ok, Err, ap, sym, subst}
 use Rattle.std.specs.Prelude.{IfNone}
@@ -12,7 +12,7 @@ use Rattle.ec_explain.specs.TextLines.{line_at}
 use Rattle.evc_explain_engine.specs.BadLines.{Heads, IsInHeading, Opens, up_to}
 use Rattle.evc_explain_engine.proofs.Sought.{declared_fits, third_fits, undeclared}
 
--- the least fault of a line after the heading that was opened
+-- the lowest fault of the third line, as the line of the workers
 pub workers_fail : (text line : List ℕ) (h : HeadingModel) (fault : HeadFault) (o : Option HeadFault) → h
     ≡ empty_heading One 1 [] → line ≡ line_at 3 text → o ≡ Some fault
     → IfSome o (λ f. head_step h line ≡ Err f) → head_step (empty_heading One 1 []) (line_at 3 text)
@@ -23,7 +23,7 @@ workers_fail text line h fault o is at some fails =
     ap (λ (k : HeadingModel). head_step k (line_at 3 text)) (sym is)
     ∙ ap (λ (l : List ℕ). head_step h l) (sym at) ∙ failed
 
--- the heading that the lines before a line declare, which stayed as it was
+-- the header that the lines before a line declare, which is unchanged
 pub heading_opens : (text before : List ℕ) (n : ℕ) (h now : HeadingModel) (fault : HeadFault)
     (o : Option HeadFault) (found : Option HeadingModel) → before ≡ up_to n text → found ≡ Some h
     → Heads before found → o ≡ Some fault → IfSome o (λ f. now ≡ h)
@@ -34,7 +34,7 @@ heading_opens text before n h now fault o found is there opens some same =
     subst (λ (p : Option HeadingModel). Heads before p) there opens in
     subst (λ (b : List ℕ). Opens b now) is (subst (Opens before) (sym stayed) opened_h)
 
--- and the least fault of the line after it
+-- and the lowest fault of the line after it
 pub line_fails : (text line : List ℕ) (n : ℕ) (h now : HeadingModel) (fault : HeadFault)
     (o : Option HeadFault) → line ≡ line_at n text → o ≡ Some fault → IfSome o (λ f. now ≡ h)
     → IfSome o (λ f. head_step h line ≡ Err f) → head_step now (line_at n text) ≡ Err fault
@@ -45,7 +45,7 @@ line_fails text line n h now fault o at some same fails =
     ap (λ (k : HeadingModel). head_step k (line_at n text)) stayed
     ∙ ap (λ (l : List ℕ). head_step h l) (sym at) ∙ failed
 
--- IF THERE IS NO ROOM BEHIND THE LINES BEFORE
+-- IF THERE IS NO ROOM AFTER THE LINES BEFORE
 
 -- the third line fits
 pub third_there : (text line : List ℕ) (h now : HeadingModel) (o : Option HeadFault)

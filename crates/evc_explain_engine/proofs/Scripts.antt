@@ -1,4 +1,4 @@
--- What is said of scripts: first of those whose schedule was not played.
+-- The explanation of scripts: first of those whose schedule could not be simulated.
 use Rattle.std.proofs.Common.{◌≡◌, ℕ, List, Result, Ok, Err, IfOk, inl, inr}
 use Rattle.ec_runner.specs.declared.report.Report.{Report}
 use Rattle.ec_runner.specs.declared.report.SimFault.{SimFault}
@@ -16,14 +16,14 @@ unplayed text p (Ended place w) (Ok t) ended explanation = inr (place, w, ended,
 unplayed text p Memory (Ok t) ended explanation = absurd explanation
 unplayed text p fault (Err e) ended explanation = tt
 
--- and those whose schedule was played
+-- and those whose schedule was simulated
 pub played : {E : Type 0} (text : List ℕ) (p : Plan) (report : Report) (r : Result Explanation E)
     → IsReport p.heading.setup p.programs.items p.schedule.items report
     → IfOk r (TellsPlayed p report) → IfOk r (TellsPlan text p)
 played text p report (Ok t) is explanation = inl (report, is, explanation)
 played text p report (Err e) is explanation = tt
 
--- what is said of a plan is said of its text
+-- the explanation of a parsed script is that of its text
 pub scripted : {E : Type 0} (text : List ℕ) (p : Plan) (r : Result Explanation E)
     → outcome text ≡ Ok (shown_plan p) → IfOk r (TellsPlan text p) → IfOk r (TellsScript text)
 scripted text p (Ok t) is explanation = inl (p, is, explanation)

@@ -1,4 +1,4 @@
--- A bad line before `run` has a place: it doesn't fit what the lines before it declare.
+-- A bad line before `run` has a site: it doesn't fit what the lines before it declare.
 use Rattle.std.proofs.Common.{◌≡◌, ◌≢◌, ◌⊎◌, inl, inr, ℕ, ◌+◌, ◌-◌, ◌<◌, ◌≤◌, List, [], ◌∷◌}
 use Rattle.std.proofs.Common.{◌++◌, length, cond, Bool, true, false, ◌&&◌, ◌||◌, nat_lt, eqb, ltb}
 use Rattle.std.proofs.Common.{Option, Some, None, Result, Ok, Err, refl, sym, ap, subst, ◌∙◌, arith}
@@ -102,7 +102,7 @@ counted_here : (text : List ℕ) (n : ℕ) (f : IsFaultyAt text n) → Counted n
 counted_here text n f =
     leads_counted 1 n Opening f.before f.stage refl (omega (arith, f.number)) f.leads
 
--- what stands before it, and the line
+-- what precedes it, and the line
 before_is : (text : List ℕ) (n : ℕ) (f : IsFaultyAt text n)
     → text_before_line n text ≡ lines_text f.before
 before_is text n f =
@@ -144,7 +144,7 @@ some_workers h o =
     ap (λ (g : HeadingModel). g.setup.workers) o.declares in
     omega (arith, same, workers_number o.outline, o.is.workers.some)
 
--- lines that lead to an entry or the end, behind the lines before
+-- lines that lead to an entry or the end, after the lines before
 story_is : (text : List ℕ) (n : ℕ) (f : IsFaultyAt text n) (t : TraceModel) → f.stage ≡ Running t
     → length (up_to n text) ≤ TRACE_MAX → trace_before n text ≡ Some t
 story_is text n f t at room =
@@ -186,7 +186,7 @@ heading_is text n f h at has room =
     text_read TRACE_MAX (up_to n text) lines t room
     (record { spelled = spelled; each = each; leads = leads })
 
--- THE LINE FAILS IN THE HEADING
+-- THE LINE FAILS IN THE HEADER
 
 too_long : (h : HeadingModel) (line : List ℕ) → 8192 < length line
     → head_step h line ≡ Err heads.BadLine
@@ -235,12 +235,12 @@ fails text n f h at =
           (bad.0, ap (head_step h) shown ∙ bad.1))
     ]
 
--- WHERE IT STANDS
+-- WHERE IT IS
 
 some_none : (t : TraceModel) → None ≡ Some t → ⊥
 some_none t e = cc
 
--- the line before one behind `end`
+-- the line before one that follows `end`
 follows : (text : List ℕ) (n : ℕ) (f : IsFaultyAt text n) (t : TraceModel) → f.stage ≡ Ended t
     → follows_end n text ≡ true
 follows text n f t at =
@@ -264,7 +264,7 @@ follows text n f t at =
 true_false : true ≡ false → ⊥
 true_false e = cc
 
--- behind the second line, if the lines before it are no trace with `end`, it stands in the heading
+-- after the second line, if the lines before it, with `end`, are no trace, it is in the header
 record StandsIn (text : List ℕ) (n : ℕ) (f : IsFaultyAt text n) : Type 0 where
   heading : HeadingModel
   at : f.stage ≡ Declaring heading
@@ -313,7 +313,7 @@ third_alike v l line fault k e g =
       | false ↦ λ a b. opened_alike v l (workers_in (words_of line)) fault k a b
     ] e g
 
--- THE HEADING THAT IS OPENED
+-- THE HEADER THAT IS READ
 
 not_fault : {X : Type 0} (b : Bool) (f : TraceFault) (r : Result X TraceFault) (p : X)
     → cond b (Err f) r ≡ Ok p → r ≡ Ok p
@@ -387,9 +387,9 @@ opens_one xs h t room (left, r, empty_heading) is =
     bounded_under h TRACE_MAX (r.number + 1) begun xs (lines_of_text given.0)
     (goes_from start (take TRACE_MAX xs)) t refl (sym comes) is
 
--- NO LINE IS WITHOUT A PLACE
+-- NO LINE IS WITHOUT A SITE
 
--- if the third line fits, there is no room behind the lines before it
+-- if the third line fits, there is no room after the lines before it
 pub third_fits : (text : List ℕ) (k : HeadingModel) → IsInHeading text 3
     → head_step (empty_heading One 1 []) (line_at 3 text) ≡ Ok k → TRACE_MAX < length (up_to 3 text)
 third_fits text k sought fits = lt_of_not-le (λ room.

@@ -22,7 +22,7 @@ use Rattle.ec_trace.proofs.ReadRuns.{ran_back, entered_back, answered_back}
 use Rattle.ec_trace.proofs.shared.ReadTraces.{limit_back, limited_back, declared_back, first_back}
 use Rattle.ec_trace.proofs.LinesToTrees.{entry_heading}
 
--- a heading after its second line, with the third to come
+-- a header after its second line, before the third
 pub record IsEmpty (h : HeadingModel) : Type 0 where
   pub version : Version
   pub limit : ℕ
@@ -30,7 +30,7 @@ pub record IsEmpty (h : HeadingModel) : Type 0 where
   pub high : limit ≤ greatest_limit version
   pub is : h ≡ empty_heading version limit []
 
--- before line n the reading stands so
+-- the stage before line n
 abbrev pub Counted : ℕ → Stage → Type 0
 Counted n Opening = n ≡ 1
 Counted n (Limiting v) = n ≡ 2
@@ -137,7 +137,7 @@ pub lines_end : (lines : List (List ℕ)) (t : TraceModel) → Leads Opening lin
 lines_end [] t leads = cc
 lines_end (line ∷ lines) t leads = last_end Opening line lines t leads
 
--- THE HEADING STAYS BEHIND `run`
+-- THE HEADER STAYS THE SAME AFTER `run`
 
 -- entries may come, or the last line came, under this heading
 abbrev pub IsUnder : HeadingModel → Stage → Type 0

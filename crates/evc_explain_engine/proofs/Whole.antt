@@ -1,4 +1,4 @@
--- How a whole input was explained, from how its text was.
+-- How a whole input is explained, from how its text is.
 use Rattle.std.proofs.Common.{◌≡◌, ℕ, List, Option, Some, None, IfSome, subst, inl, inr}
 use Rattle.evc_engine.specs.declared.status.Status.{Status}
 use Rattle.evc_engine.specs.Checks.{Outlets}

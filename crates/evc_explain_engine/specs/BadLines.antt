@@ -1,4 +1,4 @@
--- Where the faulty line of a trace stands, and what is wrong with it there.
+-- Where the faulty line of a trace is, and what is wrong with it there.
 use Rattle.std.specs.Prelude.{◌≡◌, ℕ, ◌-◌, ◌<◌, ◌≤◌, Bool, true, false, bytes_eq, List, []}
 use Rattle.std.specs.Prelude.{◌++◌, length, Option, Some, None, Err, codes}
 use Rattle.ec_heading.specs.HeadingModel.{HeadingModel}
@@ -19,7 +19,7 @@ use Rattle.ec_explain.specs.declared.site.Site.TheVariants as sites
 use Rattle.ec_explain.specs.Findings.{finding_of_line, finding_of_text, finding_of_refusal, finding_of_wrong_reply, find_missing_end}
 use Rattle.evc_explain_engine.specs.Reasons.{trace_before}
 
--- the lines of a text up to its line `run` declare this
+-- the header of a text, up to its line `run`, is this
 abbrev pub Opens : List ℕ → HeadingModel → Type 0
 Opens text h = (left : Option (List ℕ)) × (r : LinesModel) × IsOpened text left r h
 
@@ -27,26 +27,27 @@ Opens text h = (left : Option (List ℕ)) × (r : LinesModel) × IsOpened text l
 abbrev pub up_to : ℕ → List ℕ → List ℕ
 up_to n text = text_before_line n text ++ codes "run\nend\n"
 
--- what the lines of a text up to its line `run` declare; or None, if it is no trace
+-- the header of a text, up to its line `run`; or None, and then the text is no trace
 abbrev pub Heads : List ℕ → Option HeadingModel → Type 0
 Heads text (Some h) = Opens text h
 Heads text None = (fault : TraceFault) × (outcome TRACE_MAX text ≡ Err fault)
 
--- whether line n stands behind the line `end`
+-- whether line n follows the line `end`
 abbrev pub follows_end : ℕ → List ℕ → Bool
 follows_end n text = bytes_eq (line_at (n - 1) text) (codes "end")
 
--- line n is the first faulty one of a text and bad, and stands before `run`: it isn't behind `end`,
--- and the lines before it are no trace with `end`
+-- line n is the first faulty one of a text and bad, and is before `run`: it doesn't follow `end`,
+-- and the lines before it, with `end`, are no trace
 pub record IsInHeading (text : List ℕ) (n : ℕ) : Type 0 where
   pub bad : outcome TRACE_MAX text ≡ Err (faults.BadLine n)
   pub before : trace_before n text ≡ None
   pub early : follows_end n text ≡ false
 
--- where line n of a text stands: the first and the second by their numbers; the third as a line of
--- workers, with its least fault; one after the declarations of those before it, with its least
--- fault there; one behind `run`, if those before it are a trace with `end`; and one behind `end`. It
--- is not known where it stands only if `run` and `end` behind those before it make a text too large
+-- where line n of a text is: the first and the second by their numbers; the third as the line of
+-- the workers, with its lowest fault; one after the declarations of those before it, with its
+-- lowest fault there; one after `run`, if those before it, with `end`, are a trace; and one after
+-- `end`. It is not known where it is only if those before it, with `run` and `end`, are too large a
+-- text
 abbrev pub IsSite : List ℕ → ℕ → Site → Type 0
 IsSite text n sites.First = n ≤ 1
 IsSite text n sites.Limit = n ≡ 2
@@ -62,7 +63,7 @@ IsSite text n sites.Script = ⊥
 IsSite text n sites.Calls = ⊥
 IsSite text n sites.Unknown = TRACE_MAX < length (up_to n text)
 
--- what is found of a bad line: the first cause that is so of the line where it stands
+-- what is found of a bad line: the first cause that holds of the line at its site
 pub record FindsBad (text : List ℕ) (n : ℕ) (f : Finding) : Type 0 where
   pub site : Site
   pub represents : IsSite text n site

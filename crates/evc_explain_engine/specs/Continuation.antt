@@ -1,4 +1,4 @@
--- What a script comes to if its workers go on in turn after its schedule.
+-- How a script ends if its workers go on in turn after its schedule.
 use Rattle.std.specs.Prelude.{◌≡◌, ◌⊎◌, ℕ, ◌<◌, Bool, true, false, List, [], ◌++◌, reverse, codes}
 use Rattle.std.specs.Prelude.{if◌then◌else◌}
 use Rattle.std.specs.List.{All, list_any, list_all}
@@ -14,7 +14,7 @@ use Rattle.evc_explain_engine.specs.declared.worker_ends.End.TheVariants as ends
 abbrev pub Continues : ℕ → List ℕ → List ℕ → Type 0
 Continues n old new = (more : List ℕ) × (new ≡ old ++ more) × All (λ w. w < n) more
 
--- how the workers are left after the run of a schedule
+-- the states of the workers after the run of a schedule
 abbrev pub ends_after : List ℕ → Report → List End
 ends_after schedule r =
     ends_from r.run.setup (reverse r.run.entries) schedule 0 r.outcomes.items
@@ -25,7 +25,7 @@ pub record IsMaximalRun (p : Plan) (schedule : List ℕ) (r : Report) : Type 0 w
   pub report : IsReport p.heading.setup p.programs.items schedule r
   pub still : list_any can_continue (ends_after schedule r) ≡ false
 
--- the workers are left so after some such run
+-- the workers have these states after some such run
 abbrev pub AreFinalEnds : Plan → List End → Type 0
 AreFinalEnds p es =
     (schedule : List ℕ) × (r : Report) × IsMaximalRun p schedule r × (es ≡ ends_after schedule r)
@@ -34,13 +34,13 @@ abbrev pub is_over : End → Bool
 is_over ends.Over = true
 is_over _ = false
 
--- how they are left, in words
+-- these states, in words
 unfoldable pub final_ends_text : NameTable → List End → List ℕ
 final_ends_text names es =
     if list_all is_over es then codes "If the workers go on in turn, all finish.\n"
     else codes "If the workers go on in turn:\n" ++ ends_text names es
 
--- what is said of a script beyond its schedule: nothing, or how the workers are left in the end
+-- what is written on a script beyond its schedule: nothing, or the final states of its workers
 abbrev pub IsContinuationText : Plan → List ℕ → Type 0
 IsContinuationText p bytes =
     (bytes ≡ []) ⊎ ((es : List End) × AreFinalEnds p es

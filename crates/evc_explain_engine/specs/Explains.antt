@@ -1,4 +1,4 @@
--- What the program answered and wrote, for an input whose bytes are known.
+-- The status of the program and what it writes, for an input whose bytes are known.
 use Rattle.std.specs.Prelude.{◌≡◌, ◌⊎◌, ℕ, List, Option, codes}
 use Rattle.std.specs.Io.KnownBytes.{Appends, Keeps}
 use Rattle.ec_text.specs.Puts.{AppendsPrefix}
@@ -17,26 +17,25 @@ Writes text done status old new =
     ⊎ ((status ≡ InputOutput) × AppendsPrefix old.out new.out text
     × Notes old new (codes "write fault\n"))
 
--- memory was refused, and nothing was written
+-- an allocation failed, and nothing was written
 abbrev pub IsOutOfMemory : Status → Outlets → Outlets → Type 0
 IsOutOfMemory status old new =
     (status ≡ Memory) × Keeps old.out new.out × Notes old new (codes "no memory\n")
 
--- how the program ended with a text that was read to its end: what is said of it was written
+-- how the program ended with a text that was read to its end: its explanation was written
 abbrev pub ExplainsText : List ℕ → Status → Outlets → Outlets → Type 0
 ExplainsText text status old new =
     IsOutOfMemory status old new
     ⊎ ((explanation : Explanation) × IsExplanation text explanation
     × Writes explanation.bytes.items explanation.status status old new)
 
--- a failed read is told, and nothing was written
+-- a failed read is reported, and nothing was written
 abbrev pub ReportsReadFault : Status → Outlets → Outlets → Type 0
 ReportsReadFault status old new =
     (status ≡ InputOutput) × Keeps old.out new.out × Notes old new (codes "read fault\n")
 
--- how the program ended, for an input that had these bytes and has those left: with what was looked
--- at of it, which is all of it, or of a longer one one byte more than a trace may have; or a read
--- failed
+-- how the program ended, for an input that had these bytes and has those left: the part that was
+-- read is explained, which is all of it, or one byte more than a trace may have; or a read failed
 abbrev pub Explains : List ℕ → Option (List ℕ) → Status → Outlets → Outlets → Type 0
 Explains bytes left status old new =
     IsOutOfMemory status old new

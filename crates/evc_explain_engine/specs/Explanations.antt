@@ -1,4 +1,4 @@
--- What is said of a text, and how the program ends.
+-- The explanation of a text: what is written on it, and the status of the program.
 use Rattle.std.specs.Prelude.{◌≡◌, ◌⊎◌, ℕ, ◌<◌, List, [], ◌++◌, length, Ok, Err}
 use Rattle.ec_trace.specs.TraceModel.{TraceModel}
 use Rattle.ec_trace.specs.declared.fault.TraceFault.{TraceFault}
@@ -33,45 +33,47 @@ use Rattle.evc_explain_engine.specs.Reasons.{reason_text}
 use Rattle.evc_explain_engine.specs.TextAndStatus.{HasTextAndStatus}
 use Rattle.evc_explain_engine.specs.BadLines.{Finds}
 
--- the text is no trace, and this is its first fault; a fault that says nothing of the text isn't
+-- the text is no trace, and this is its first fault; out of memory and a failed read say nothing of
+-- the text
 abbrev pub RefusedOr : List ℕ → TraceFault → Type 0
 RefusedOr text faults.Memory = Unit {0}
 RefusedOr text faults.Read = Unit {0}
 RefusedOr text fault = RefusedFor text fault
 
--- of a text that has this fault as a trace: what is found of it, and what is known of the entry of
--- its line by the history before it
+-- of a text that has this fault as a trace: what is found of it, and what the history before its
+-- line shows of the entry
 abbrev pub TellsFault : List ℕ → TraceFault → Explanation → Type 0
 TellsFault text fault t =
     (f : Finding) × Finds text fault f
     × HasTextAndStatus (finding_text f (reason_text text fault) text) Refused t
 
--- of a text that is meant to be a trace: it is one, and that is said; or it is none, and its first
--- fault is explained
+-- of a text that is meant to be a trace: it is one, and that is written; or it is none, and its
+-- first fault is explained
 abbrev pub TellsTrace : List ℕ → Explanation → Type 0
 TellsTrace text t =
     ((r : TraceModel) × ReadsAs text r × HasTextAndStatus (good_text r) Done t)
     ⊎ ((fault : TraceFault) × RefusedFor text fault × TellsFault text fault t)
 
--- of a script that was played: that it is good, who has not ended, and what it waits for
+-- of a script that was simulated: that it is good, who has not ended, and what it waits for
 abbrev pub played_text : Plan → Report → List ℕ
 played_text p r =
     good_script (shown_plan p)
     ++ run_ends_text p.heading.words r.run p.schedule.items r.outcomes.items
 
--- and what it comes to beyond its schedule, if its workers go on in turn
+-- and how it ends beyond its schedule, if its workers go on in turn
 abbrev pub TellsPlayed : Plan → Report → Explanation → Type 0
 TellsPlayed p r t =
     (more : List ℕ) × IsContinuationText p more × HasTextAndStatus (played_text p r ++ more) Done t
 
--- of a script whose schedule was not played for this; out of memory says nothing of it
+-- of a script whose schedule could not be simulated for this reason; out of memory says nothing of
+-- it
 abbrev pub IsUnplayed : List ℕ → NameTable → SimFault → Explanation → Type 0
 IsUnplayed text names (Ended place w) t =
     HasTextAndStatus (finding_text (finding_of_text causes.TurnOfEnded) (turn_text names place w) text) Refused t
 IsUnplayed text names sims.Memory t = ⊥
 
--- of a script: its schedule was played, and that is said; or it has a turn of a worker that has
--- ended
+-- of a parsed script: its schedule was simulated, and the result is written; or it has a turn of a
+-- worker that has ended
 abbrev pub TellsPlan : List ℕ → Plan → Explanation → Type 0
 TellsPlan text p t =
     ((r : Report) × IsReport p.heading.setup p.programs.items p.schedule.items r
@@ -79,16 +81,16 @@ TellsPlan text p t =
     ⊎ ((place w : ℕ) × EndsBeforePlace p.heading.setup p.programs.items p.schedule.items place w
     × IsUnplayed text p.heading.words (Ended place w) t)
 
--- of a text that is meant to be a script: it is one; or what is found of its first faulty line and
--- the least kind of its faults
+-- of a text that is meant to be a script: it is one; or what is found of its first faulty line, by
+-- the lowest kind of its errors
 abbrev pub TellsScript : List ℕ → Explanation → Type 0
 TellsScript text t =
     ((p : Plan) × (script_outcome text ≡ Ok (shown_plan p)) × TellsPlan text p t)
     ⊎ ((n : ℕ) × (kind : Kind) × (script_outcome text ≡ Err (n, kind))
     × HasTextAndStatus (finding_text (script_finding kind n text) [] text) Refused t)
 
--- of histories of calls: the text is too large; or each is linearizable, and that is said; or the
--- first that has a fault, or no linearization, or is not decided, is explained
+-- of histories of calls: the text is too large; or each is linearizable, and that is written; or
+-- the first that has a fault, or no linearization, or is not decided, is explained
 abbrev pub TellsCalls : List ℕ → Explanation → Type 0
 TellsCalls text t =
     ((TRACE_MAX < length text)

@@ -1,4 +1,4 @@
--- What is said of a good text.
+-- What is written on a good text.
 use Rattle.std.specs.Prelude.{ℕ, Bool, true, false, List, ◌++◌, length, count_by, codes, decimal}
 use Rattle.ec_core.specs.declared.act.Act.{Act}
 use Rattle.ec_core.specs.declared.act.Act.TheVariants.{Go}
@@ -18,7 +18,7 @@ is_begun_by act = true
 abbrev pub begins_call : Entry → Bool
 begins_call e = is_begun_by e.act
 
--- how many calls a history has, those pending at its end among them
+-- how many calls a history has, with those pending at its end
 abbrev pub calls_of : List Entry → ℕ
 calls_of entries = count_by begins_call entries
 
@@ -52,7 +52,7 @@ abbrev pub is_invocation : Action → Bool
 is_invocation (Invoke object op) = true
 is_invocation (Respond reply) = false
 
--- how many calls events have, pending ones among them
+-- how many calls events have, with pending ones
 abbrev pub calls_in : List Event → ℕ
 calls_in events = count_by (λ (e : Event). is_invocation e.action) events
 

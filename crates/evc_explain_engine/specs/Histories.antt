@@ -1,4 +1,4 @@
--- What is said of the histories of calls of a text.
+-- The explanation of the histories of calls of a text.
 use Rattle.std.specs.Prelude.{◌≡◌, ◌⊎◌, ℕ, ◌+◌, ◌-◌, ◌^◌, nat_lt, min, List}
 use Rattle.std.specs.Prelude.{[], ◌∷◌, ◌++◌, length, take, codes, Ok, Option, Some, None}
 use Rattle.std.specs.Prelude.{if◌then◌else◌}
@@ -38,7 +38,7 @@ use Rattle.evc_explain_engine.specs.declared.explanation.Explanation.{Explanatio
 use Rattle.evc_explain_engine.specs.Good.{ordered_text}
 use Rattle.evc_explain_engine.specs.TextAndStatus.{HasTextAndStatus}
 
--- HISTORIES THAT HAVE NONE
+-- HISTORIES WITHOUT A LINEARIZATION
 
 -- the number of the line of the event at a position, if n is that of the line after `end`
 abbrev pub event_line : ℕ → RecordingModel → ℕ → ℕ
@@ -47,11 +47,11 @@ event_line n r at = min (first_line n r + at) (2 ^ 64 - 1)
 abbrev pub if_before : ℕ → ℕ → List ℕ
 if_before at position = if nat_lt position at then position ∷ [] else []
 
--- the positions of the two events of a call, if they are before another one
+-- those of the positions of a call's two events that are before `at`
 abbrev pub ends_before : ℕ → Call → List ℕ
 ends_before at c = if_before at c.first ++ if_before at c.last
 
--- those of the events of the calls that a refusal names, before the first faulty event
+-- the positions of the events of the calls that a refusal names, before the first faulty event
 abbrev pub named_positions : Refusal → List ℕ
 named_positions x = flat_map (ends_before x.at) (faulty_calls x.fault)
 
@@ -104,8 +104,8 @@ reason_for (faults.Units f) =
     codes "Each p and pboth that has returned took a unit that was there or was added.\n"
 reason_for (faults.Value f) = cell_reason f
 
--- what is shown of a refusal: the certificate, as `evc-calls check` notes it; the lines that it
--- names; and why they leave no linearization
+-- what is written on a history without linearization: the certificate, as `evc-calls check` notes
+-- it; the lines that it names; and why they leave no linearization
 pub record IsRefusalText (text : List ℕ) (n : ℕ) (r : RecordingModel) (x : Refusal) (more : List ℕ) : Type 0
   where
     pub shown : Certificate
@@ -129,7 +129,7 @@ ExplainsRefused text n r t =
 abbrev pub undecided_finding : ℕ → RecordingModel → Undecided → Finding
 undecided_finding n r u = finding_at causes.NotDecided (event_line n r u.cause.second.first) 0
 
--- what is shown: which value it is, as `evc-calls check` notes it, and the line of the first put
+-- what is written: the value, as `evc-calls check` notes it, and the line of its first put
 abbrev pub undecided_text : List ℕ → ℕ → RecordingModel → Undecided → List ℕ
 undecided_text text n r u =
     undecided_note (scene_of n r u.object 0) u.cause ++ seen_at text n r u.cause.first.first
@@ -139,20 +139,20 @@ ExplainsUndecided text n r t =
     (u : Undecided) × IsOpen r u
     × HasTextAndStatus (finding_text (undecided_finding n r u) (undecided_text text n r u) text) Refused t
 
--- HISTORIES IN TURN
+-- HISTORIES, ONE AFTER ANOTHER
 
--- what is said of a text whose next history has this fault; out of memory says nothing of it
+-- the explanation of a text whose next history has this fault; out of memory says nothing of it
 abbrev pub IsUnread : List ℕ → TextFault → Explanation → Type 0
 IsUnread text (At n kind cause) t =
     HasTextAndStatus (finding_text (calls_finding kind n text) [] text) Refused t
 IsUnread text Memory t = ⊥
 
--- what is said of a history, unless it has a linearization
+-- the explanation of a history; None if it has a linearization
 abbrev pub Judges : List ℕ → ℕ → RecordingModel → Option Explanation → Type 0
 Judges text n r None = (order : List Placed) × HasOrder r order
 Judges text n r (Some t) = ExplainsRefused text n r t ⊎ ExplainsUndecided text n r t
 
--- of a text from line n on, with these lines, if this was said of the histories before: the
+-- of a text from line n on, with these lines, if `before` is written on the histories before: the
 -- first one has a fault, which is explained; or it has no linearization or is not decided, and that
 -- is explained; or it has one and is the last; or it has one, and others follow
 pub data ExplainsFrom (text : List ℕ) (t : Explanation) : List ℕ → ℕ → List (List ℕ) → Type 0 where

@@ -1,5 +1,5 @@
--- What is known of the entry of a faulty line, by the history before it: who has the right that it
--- lacks, and what the round has found whose reply is wrong.
+-- What is known of the entry of a faulty line, by the history before it: who has the right that its
+-- worker lacks, and what the round of a wrong reply has found.
 use Rattle.std.specs.Prelude.{ℕ, ◌-◌, ◌==◌, nat_lt, List, [], ◌∷◌, ◌++◌, length, reverse, codes}
 use Rattle.std.specs.Prelude.{decimal}
 use Rattle.std.specs.Prelude.{Bool, true, false, Option, Some, None, Result, Ok, Err}
@@ -44,7 +44,7 @@ right_words names (acts.Hand e b) = codes "signal " ++ target_name names (Event 
 abbrev pub worker_after : NameTable → ℕ → List ℕ
 worker_after names w = codes " " ++ target_name names (Worker w)
 
--- the names of workers, each behind a space
+-- the names of workers, each after a space
 abbrev pub names_text : NameTable → List ℕ → List ℕ
 names_text names ws = if length ws == 0 then codes " nobody" else flat_map (worker_after names) ws
 
@@ -57,7 +57,7 @@ holders_text names act ws = may_words names act ++ names_text names ws ++ codes 
 -- WHAT A ROUND HAS FOUND
 
 -- what a round has found up to its last act, with the right reply to that; the act is at line
--- `number`, before which there are so many entries
+-- `number`, after `entries` entries
 pub record Round : Type 0 where
   pub names : NameTable
   pub event : ℕ
@@ -113,7 +113,7 @@ begun_words r l =
     codes " when the round began, on line " ++ decimal (line_of r l.position) ++ codes ", and is "
     ++ decimal r.total
 
--- the count at both ends of a round that began with this
+-- the count at both ends of a round that began with this look
 unfoldable pub ends_text : Round → Look → List ℕ
 ends_text r l = count_words r l ++ begun_words r l ++ codes " now.\n"
 
@@ -147,16 +147,16 @@ abbrev pub read_back : Result TraceModel TraceFault → Option TraceModel
 read_back (Ok t) = Some t
 read_back (Err fault) = None
 
--- the trace of the lines before line n
+-- the trace of the lines before line n and `end`
 abbrev pub trace_before : ℕ → List ℕ → Option TraceModel
 trace_before n text = read_back (outcome TRACE_MAX (ended_before n text))
 
--- who has the right after a trace that this asks for
+-- who has, after a trace, the right that is needed
 abbrev pub holders_at : TraceModel → Asked → List ℕ
 holders_at t a = holders_text t.heading.words a.act
     (holders t.heading.setup (reverse t.entries) a.act)
 
--- the eventcount of the call that an act goes on with or begins after a trace
+-- the eventcount of the call that an act continues or begins after a trace
 abbrev pub event_at : TraceModel → Asked → ℕ
 event_at t a = event_or (opening_act a.act (under_way a.worker (reverse t.entries)))
 
@@ -180,7 +180,7 @@ is_reading (acts.Await e v) = true
 is_reading acts.Go = true
 is_reading _ = false
 
--- what is said of who asks at line n after a trace, if this is the right reply
+-- the text on the round of the act at line n after a trace, if this is the right reply
 abbrev pub round_for : ℕ → Reply → TraceModel → Asked → List ℕ
 round_for n right t a = if is_reading a.act then round_text (round_at n right t a) else []
 
@@ -198,7 +198,7 @@ refused_reason text n refusals.AlreadySignals =
     option_map_or (holders_before text n) (trace_before n text) []
 refused_reason text n _ = []
 
--- what is said of a text that has this fault
+-- what is known of the entry of a text that has this fault
 abbrev pub reason_text : List ℕ → TraceFault → List ℕ
 reason_text text (faults.Refused n refusal) = refused_reason text n refusal
 reason_text text (faults.WrongReply n right) =

@@ -1,4 +1,4 @@
--- What is said of a script whose schedule was played: who has not ended, and what it waits for.
+-- The states of the workers at the end of a schedule: who has not ended, and what it waits for.
 use Rattle.std.specs.Prelude.{◌≡◌, ℕ, ◌+◌, ◌==◌, ◌&&◌, nat_lt, not, Bool, true, false, List, []}
 use Rattle.std.specs.Prelude.{◌∷◌, ◌++◌}
 use Rattle.std.specs.Prelude.{reverse, codes, decimal, Option, Some, None, if◌then◌else◌}
@@ -29,15 +29,15 @@ await_of_act _ = None
 abbrev pub await_of_call : CallSoFar → Option PendingAwait
 await_of_call call = await_of_act call.op
 
--- the await that w is in after a past
+-- the pending await of w after a reversed history
 abbrev pub pending_await : ℕ → List Entry → Option PendingAwait
 pending_await w past = option_and_then await_of_call (under_way w past)
 
--- how a worker is left that is in this await, if this is the count
+-- the state of a worker with this pending await, if this is the count
 abbrev pub awaiting_end : PendingAwait → ℕ → End
 awaiting_end a n = if nat_lt n a.threshold then ends.Waits a n else ends.Reached a
 
--- how a worker is left that has not ended, and has a turn or not
+-- the state of a worker that has not ended, and has a turn or not
 abbrev pub running_end : Tables → List Entry → Bool → Option PendingAwait → End
 running_end t past true None = ends.Late
 running_end t past false None = ends.Still
@@ -46,7 +46,7 @@ running_end t past moved (Some a) = awaiting_end a (total_of t a.event past)
 abbrev pub has_turn : List ℕ → ℕ → Bool
 has_turn schedule w = list_any (λ v. v == w) schedule
 
--- how a worker is left after a past, whose program has ended so
+-- the state of a worker after a reversed history, by the outcome of its program
 abbrev pub end_of : Tables → List Entry → List ℕ → ℕ → Outcome → End
 end_of t past schedule w outcomes.Running =
     running_end t past (has_turn schedule w) (pending_await w past)
@@ -54,7 +54,7 @@ end_of t past schedule w (outcomes.Refused r) = ends.Refused r
 end_of t past schedule w outcomes.ValueTooLarge = ends.TooLarge
 end_of t past schedule w _ = ends.Over
 
--- how those are left from worker w on
+-- the states of the workers from w on
 abbrev pub ends_from : Tables → List Entry → List ℕ → ℕ → List Outcome → List End
 ends_from t past schedule w [] = []
 ends_from t past schedule w (o ∷ os) =
@@ -77,7 +77,7 @@ reached_words names w a =
     ++ target_name names (Event a.event)
     ++ codes " has reached " ++ decimal a.threshold
 
--- how worker w is left
+-- the state of worker w
 unfoldable pub end_text : NameTable → ℕ → End → List ℕ
 end_text names w (ends.Waits a n) = waits_words names w a ++ count_words names a n
 end_text names w (ends.Reached a) = reached_words names w a ++ codes ".\n"
@@ -109,7 +109,7 @@ can_continue ends.Still = true
 can_continue ends.Late = true
 can_continue _ = false
 
--- whether some wait, and no other can go on
+-- whether some wait, and none can go on
 abbrev pub is_deadlock : List End → Bool
 is_deadlock es = list_any is_waiting es && not (list_any can_continue es)
 
@@ -120,7 +120,7 @@ deadlock_text es =
 unfoldable pub ends_text : NameTable → List End → List ℕ
 ends_text names es = end_lines names 0 es ++ deadlock_text es
 
--- how the workers are left after a run of a schedule that has left their programs so
+-- the states of the workers after a run of a schedule, by the outcomes of their programs
 abbrev pub run_ends_text : NameTable → RunModel → List ℕ → List Outcome → List ℕ
 run_ends_text names run schedule outcomes =
     ends_text names (ends_from run.setup (reverse run.entries) schedule 0 outcomes)

@@ -1,4 +1,4 @@
-//! Where the faulty line of a trace stands, and what is wrong with it there.
+//! Where the faulty line of a trace is, and what is wrong with it there.
 ghost use Rattle.std.specs.Prelude.{◌≡◌, ◌<◌, ◌++◌, Some, None, Ok, Err, IfOk, IfSome, IfNone};
 ghost use Rattle.std.specs.Prelude.{false, codes, length};
 ghost use Rattle.ec_heading.specs.Heading.{head_step};
@@ -20,7 +20,7 @@ use ec_heading::{HeadFault, Heading, Version};
 use ec_trace::{TraceFault, TraceOpening, Traced, open_trace};
 use std::alloc::{AllocError, Global};
 
-/// Returns what a text declares up to its line `run`; `None` if it is no trace.
+/// Returns the header of a text, up to its line `run`; `None` if there is a fault up to there.
 fn heading_of(alloc: Global, text: &[u8]) -> Result<Option<Heading>, AllocError>
     ensures { IfOk result (Heads text.now) }
 {
@@ -53,7 +53,9 @@ fn up_to(alloc: Global, number: u64, text: &[u8]) -> Result<Vec<u8>, AllocError>
     Ok(bytes)
 }
 
-/// Returns the least fault of a line after a heading, which stays as it is then; `None` if it fits.
+/// Adds a line to a header, and returns the lowest fault of the line; `None` if it has none.
+///
+/// A line with a fault doesn't change the header.
 fn fault_of(heading: &mut Heading, line: &[u8]) -> Result<Option<HeadFault>, AllocError>
     ensures fits { IfOk result (λ found. IfNone found
         (head_step heading.old line.now ≡ Ok heading.new)) }
@@ -84,7 +86,7 @@ fn in_workers(alloc: Global, text: &[u8]) -> Result<Finding, AllocError>
     }
 }
 
-/// Returns what is wrong with a line after this heading, with this as its least fault.
+/// Returns what is wrong with a line after this header, by its lowest fault there.
 fn declared_at(heading: &Heading, fault: HeadFault, text: &[u8], number: u64) -> Finding
     requires opens { Opens (up_to number text.now) heading.now }
     requires fails { head_step heading.now (line_at number text.now) ≡ Err fault }
@@ -97,7 +99,7 @@ fn declared_at(heading: &Heading, fault: HeadFault, text: &[u8], number: u64) ->
     )
 }
 
-/// Returns what is found of a line if `run` and `end` make the lines before it too large a text.
+/// Returns what is found of a line if the lines before it, `run` and `end` are too large a text.
 fn unplaced_at(text: &[u8], number: u64) -> Finding
     requires { TRACE_MAX < length (up_to number text.now) }
     ensures { FindsBad text.now number result }
@@ -138,14 +140,14 @@ fn in_heading(alloc: Global, text: &[u8], number: u64) -> Result<Finding, AllocE
     in_declarations(alloc, text, number)
 }
 
-/// Returns whether a line stands after `end`.
+/// Returns whether a line follows the line `end`.
 fn follows_end(number: u64, text: &[u8]) -> bool
     ensures { result ≡ follows_end number text.now }
 {
     line_at(number.saturating_sub(1), text) == b"end".as_slice()
 }
 
-/// Returns what is wrong with a line after `run`, before which this trace stands.
+/// Returns what is wrong with a line after `run`, if the lines before it are this trace.
 fn in_run(traced: &Traced, text: &[u8], number: u64) -> Finding
     requires early { follows_end number text.now ≡ false }
     requires before { trace_before number text.now ≡ Some traced.now }

@@ -1,4 +1,4 @@
-//! What is said of a text, by what it is.
+//! Explains a text, by its format.
 ghost use Rattle.std.specs.Prelude.{◌≡◌, ◌≤◌, ◌<◌, IfOk, length};
 ghost use Rattle.std.specs.List.{All};
 ghost use Rattle.ec_trace.specs.declared.read.TheConstants.{TRACE_MAX};
@@ -29,7 +29,7 @@ use ec_trace::{TRACE_MAX, TraceFault};
 use evc_engine::Status;
 use std::alloc::{AllocError, Global};
 
-/// Returns what is found wrong with a text that has this fault as a trace.
+/// Returns the explanation of a text that has this fault as a trace.
 fn explain_fault(alloc: Global, text: &[u8], fault: &TraceFault) -> Result<Explanation, AllocError>
     requires { RefusedFor text.now fault.now }
     ensures { IfOk result (TellsFault text.now fault.now) }
@@ -39,7 +39,7 @@ fn explain_fault(alloc: Global, text: &[u8], fault: &TraceFault) -> Result<Expla
     explain_finding(alloc, &finding, reason.as_slice(), text)
 }
 
-/// Returns what is said of a trace.
+/// Returns the explanation of a trace.
 fn explain_trace(alloc: Global, text: &[u8]) -> Result<Explanation, AllocError>
     ensures { IfOk result (TellsTrace text.now) }
 {
@@ -53,7 +53,7 @@ fn explain_trace(alloc: Global, text: &[u8]) -> Result<Explanation, AllocError>
     }
 }
 
-/// Returns what is said of a script whose schedule was played.
+/// Returns the explanation of a script whose schedule was simulated.
 fn explain_played(
     alloc: Global,
     plan: &mut Plan,
@@ -81,7 +81,7 @@ fn explain_played(
     })
 }
 
-/// Returns what is said of a script whose schedule has a turn of a worker that has ended.
+/// Returns the explanation of a script whose schedule has a turn of a worker that has ended.
 fn explain_bad_turn(
     alloc: Global,
     text: &[u8],
@@ -101,7 +101,7 @@ fn explain_bad_turn(
     )
 }
 
-/// Returns what is said of a script whose schedule was not played.
+/// Returns the explanation of a script whose schedule could not be simulated.
 fn explain_unplayed(
     alloc: Global,
     text: &[u8],
@@ -116,7 +116,7 @@ fn explain_unplayed(
     }
 }
 
-/// Returns what is said of a script, by its parts.
+/// Returns the explanation of a parsed script.
 fn explain_plan(alloc: Global, text: &[u8], plan: &mut Plan) -> Result<Explanation, AllocError>
     requires { IsPlan (shown_plan plan.old) }
     ensures { IfOk result (TellsPlan text.now plan.old) }
@@ -128,7 +128,7 @@ fn explain_plan(alloc: Global, text: &[u8], plan: &mut Plan) -> Result<Explanati
     }
 }
 
-/// Returns what is said of a script.
+/// Returns the explanation of a script.
 fn explain_script(alloc: Global, text: &[u8]) -> Result<Explanation, AllocError>
     ensures { IfOk result (TellsScript text.now) }
 {
@@ -142,7 +142,7 @@ fn explain_script(alloc: Global, text: &[u8]) -> Result<Explanation, AllocError>
     }
 }
 
-/// Returns what is said of histories of calls.
+/// Returns the explanation of histories of calls.
 fn explain_calls(alloc: Global, text: &[u8]) -> Result<Explanation, AllocError>
     ensures { IfOk result (TellsCalls text.now) }
 {
@@ -152,7 +152,7 @@ fn explain_calls(alloc: Global, text: &[u8]) -> Result<Explanation, AllocError>
     explain_histories(alloc, text)
 }
 
-/// Returns what is said of a text, by how its first line begins.
+/// Returns the explanation of a text, by how its first line begins.
 pub(crate) fn explain_by_format(alloc: Global, text: &[u8]) -> Result<Explanation, AllocError>
     ensures { IfOk result (IsExplanation text.now) }
 {

@@ -1,4 +1,4 @@
-//! What a script comes to if its workers go on in turn after its schedule.
+//! How a script ends if its workers go on in turn after its schedule.
 ghost use Rattle.std.specs.Prelude.{◌≡◌, ℕ, ◌≤◌, ◌+◌, ◌<◌, List, IfOk, IfSome, OnOk, length};
 ghost use Rattle.std.specs.List.{All, list_all};
 ghost use Rattle.ec_runner.specs.Reported.{IsReport};
@@ -19,13 +19,13 @@ use std::io::Write;
 /// How many schedules are tried.
 const TRIES: usize = 64;
 
-/// No schedule is made longer that has more turns.
+/// A schedule that has more turns is not extended.
 const TURNS_MAX: usize = 1_048_576;
 
 /// The most rounds that are added at once.
 const ROUNDS_MAX: usize = 65_536;
 
-/// Adds a turn of each worker from one on whose program has not ended.
+/// Adds a turn of each worker from `first` on whose program has not ended.
 fn add_round(
     schedule: &mut Vec<WorkerId>,
     first: usize,
@@ -47,7 +47,7 @@ fn add_round(
     add_round(schedule, first + 1, rest)
 }
 
-/// Adds so many turns of each worker whose program has not ended, in turn.
+/// Adds `count` rounds, each with a turn of each worker whose program has not ended.
 fn add_rounds(
     schedule: &mut Vec<WorkerId>,
     outcomes: &[Outcome],
@@ -62,8 +62,8 @@ fn add_rounds(
     Ok(())
 }
 
-/// Plays the schedule of a script. If it has a turn of a worker that has ended, cuts it there, but
-/// keeps its first turns.
+/// Simulates the schedule of a script. If it has a turn of a worker that has ended, cuts it there,
+/// but not within its first turns, and returns `None`.
 fn play_or_cut(alloc: Global, plan: &mut Plan, first: usize) -> Result<Option<Report>, AllocError>
     requires programs { length plan.old.programs.items ≡ plan.old.heading.setup.workers }
     requires schedule { All (λ w. w < plan.old.heading.setup.workers) plan.old.schedule.items }
@@ -84,10 +84,10 @@ fn play_or_cut(alloc: Global, plan: &mut Plan, first: usize) -> Result<Option<Re
     }
 }
 
-/// Returns how the workers are left in the end if they go on in turn after the schedule of a script,
-/// if that is found.
+/// Returns the final states of the workers if they go on in turn after the schedule of a script;
+/// `None` if they are not found.
 ///
-/// Longer and longer schedules are played, each with twice as many rounds more as the one before.
+/// Longer and longer schedules are simulated. Each time twice as many rounds are added as before.
 fn final_ends(alloc: Global, plan: &mut Plan) -> Result<Option<Vec<End>>, AllocError>
     requires programs { length plan.old.programs.items ≡ plan.old.heading.setup.workers }
     requires few { plan.old.heading.setup.workers ≤ 16 }
@@ -137,7 +137,7 @@ fn is_over(end: &End) -> bool
     }
 }
 
-/// Puts how the workers are left in the end.
+/// Puts the final states of the workers.
 #[tactic(auto, unfolding(crate::specs::Continuation::final_ends_text))]
 fn put_final_ends<W: Write>(out: &mut Output<'_, W>, heading: &Heading, ends: &[End])
     requires { length ends.now ≤ 16 }
@@ -151,7 +151,7 @@ fn put_final_ends<W: Write>(out: &mut Output<'_, W>, heading: &Heading, ends: &[
     }
 }
 
-/// Returns how the workers are left in the end, as bytes.
+/// Returns the final states of the workers, in words.
 fn final_ends_bytes(alloc: Global, heading: &Heading, ends: &[End]) -> Result<Vec<u8>, AllocError>
     requires { length ends.now ≤ 16 }
     ensures { IfOk result (λ bytes. bytes.items ≡ final_ends_text heading.now.words ends.now) }
@@ -164,8 +164,9 @@ fn final_ends_bytes(alloc: Global, heading: &Heading, ends: &[End]) -> Result<Ve
     whole(bytes, done)
 }
 
-/// Returns what is said of a script beyond its schedule: how the workers are left in the end if they
-/// go on in turn, or nothing if the schedule leaves none that can go on.
+/// Returns what is written on a script beyond its schedule: the final states of the workers.
+///
+/// It is empty if no worker can go on after the schedule, or if no final states are found.
 pub(crate) fn continuation_bytes(alloc: Global, plan: &mut Plan) -> Result<Vec<u8>, AllocError>
     requires programs { length plan.old.programs.items ≡ plan.old.heading.setup.workers }
     requires few { plan.old.heading.setup.workers ≤ 16 }

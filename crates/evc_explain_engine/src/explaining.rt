@@ -1,4 +1,4 @@
-//! A text in; what is wrong with it, or that it is good, out.
+//! Reads a text, and writes its explanation.
 ghost use Rattle.std.specs.Prelude.{◌≡◌, IfSome, codes};
 ghost use Rattle.ec_text.specs.Puts.{Puts, IsWrittenOut};
 ghost use Rattle.evc_engine.specs.declared.status.Status.TheVariants.{Memory};
@@ -22,7 +22,7 @@ fn report_no_memory<N: Write>(notes: &mut Output<'_, N>) -> Status
     Status::Memory
 }
 
-/// Writes what is said of a text, and returns how the program ends.
+/// Writes an explanation, and returns the status of the program.
 fn write_explanation<W: Write, N: Write>(
     explanation: &Explanation,
     out: &mut W,

@@ -1,4 +1,4 @@
-//! What is said of a text, and how the program ends.
+//! The explanation of a text.
 ghost use Rattle.std.specs.Prelude.{◌≡◌, IfOk, IsOk};
 ghost use Rattle.evc_engine.specs.declared.status.Status.TheVariants.{Refused};
 ghost use Rattle.ec_explain.specs.Findings.{finding_text};
@@ -9,14 +9,14 @@ use ec_text::{Output, WriteFault};
 use evc_engine::Status;
 use std::alloc::{AllocError, Global};
 
-/// What is said of a text, and how the program ends.
+/// What is written on a text, and the status of the program.
 #[derive(Drop)]
 pub(crate) struct Explanation {
     pub(crate) bytes: Vec<u8>,
     pub(crate) status: Status,
 }
 
-/// Returns bytes, if they were written whole.
+/// Returns bytes, if none of the writes failed.
 pub(crate) fn whole(bytes: Vec<u8>, done: Result<(), WriteFault>) -> Result<Vec<u8>, AllocError>
     ensures { IfOk result (λ all. (all ≡ bytes) × IsOk done) }
 {
@@ -43,7 +43,7 @@ fn finding_bytes(
     whole(bytes, done)
 }
 
-/// Returns what is found wrong with a text, and what more is known of it.
+/// Returns the explanation of a text with this finding, and what more is known of it.
 pub(crate) fn explain_finding(
     alloc: Global,
     finding: &Finding,

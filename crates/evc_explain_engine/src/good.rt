@@ -1,4 +1,4 @@
-//! What is said of a good text.
+//! What is written on a good text.
 ghost use Rattle.std.specs.Prelude.{◌≡◌, ◌++◌, IfOk, decimal, length};
 ghost use Rattle.ec_text.specs.Puts.{Puts};
 ghost use Rattle.evc_explain_engine.specs.Good.{begins_call, calls_in, calls_of, calls_words};
@@ -121,7 +121,7 @@ fn is_invocation(event: &Event) -> bool
     matches!(event.action, Action::Invoke(_, _))
 }
 
-/// Returns how many calls events have, pending ones among them.
+/// Returns how many calls events have, with pending ones.
 fn calls_in(events: &[Event]) -> usize
     ensures { result ≡ calls_in events.now }
 {
@@ -148,7 +148,7 @@ fn put_ordered<W: Write>(out: &mut Output<'_, W>, recording: &Recording)
     out.put(b" workers.\n");
 }
 
-/// Returns that a trace is good, as bytes.
+/// Returns the text which says that a trace is good.
 pub(crate) fn good_bytes(alloc: Global, traced: &Traced) -> Result<Vec<u8>, AllocError>
     ensures { IfOk result (λ bytes. bytes.items ≡ good_text traced.now) }
 {
@@ -160,7 +160,7 @@ pub(crate) fn good_bytes(alloc: Global, traced: &Traced) -> Result<Vec<u8>, Allo
     whole(bytes, done)
 }
 
-/// Returns that a script is good, and what more is known of it, as bytes.
+/// Returns the text which says that a script is good, and what more is known of it.
 pub(crate) fn script_bytes(alloc: Global, plan: &Plan, more: &[u8]) -> Result<Vec<u8>, AllocError>
     ensures { IfOk result (λ bytes. bytes.items ≡ good_script (shown_plan plan.now) ++ more.now) }
 {
@@ -173,7 +173,7 @@ pub(crate) fn script_bytes(alloc: Global, plan: &Plan, more: &[u8]) -> Result<Ve
     whole(bytes, done)
 }
 
-/// Returns that calls are linearizable, as bytes.
+/// Returns the text which says that calls are linearizable.
 pub(crate) fn ordered_bytes(alloc: Global, recording: &Recording) -> Result<Vec<u8>, AllocError>
     ensures { IfOk result (λ bytes. bytes.items ≡ ordered_text recording.now) }
 {

@@ -1,4 +1,4 @@
-//! What is said of the histories of calls of a text.
+//! Explains the histories of calls of a text.
 ghost use Rattle.std.specs.Prelude.{◌≡◌, ◌≤◌, ◌++◌, ◌∷◌, [], IfOk, OnOk, length, if◌then◌else◌};
 ghost use Rattle.std.specs.Prelude.{nat_lt};
 ghost use Rattle.std.specs.List.{flat_map};
@@ -34,7 +34,7 @@ fn event_line(read: &Read<'_>, position: usize) -> u64
     first.saturating_add(position as u64)
 }
 
-/// Adds a position, if it is before another.
+/// Adds a position, if it is before `at`.
 fn add_if_before(positions: &mut Vec<usize>, at: usize, position: usize) -> Result<(), AllocError>
     ensures { OnOk result (positions.new.items ≡ positions.old.items ++ if_before at position) }
 {
@@ -44,7 +44,7 @@ fn add_if_before(positions: &mut Vec<usize>, at: usize, position: usize) -> Resu
     Ok(())
 }
 
-/// Adds the positions of the two events of a call, if they are before another.
+/// Adds those of the positions of a call's two events that are before `at`.
 fn add_ends(positions: &mut Vec<usize>, at: usize, call: &Call) -> Result<(), AllocError>
     ensures { OnOk result (positions.new.items ≡ positions.old.items ++ ends_before at call.now) }
 {
@@ -52,7 +52,7 @@ fn add_ends(positions: &mut Vec<usize>, at: usize, call: &Call) -> Result<(), Al
     add_if_before(positions, at, call.last)
 }
 
-/// Returns the positions of the events of calls, if they are before another.
+/// Returns those of the positions of calls' events that are before `at`.
 fn ends_of(alloc: Global, at: usize, calls: &[Call]) -> Result<Vec<usize>, AllocError>
     ensures { IfOk result (λ ps. ps.items ≡ flat_map (ends_before at) calls.now) }
 {
@@ -131,7 +131,7 @@ fn ticket_reason(fault: &calls_tickets::Fault) -> &'static [u8]
     }
 }
 
-/// Returns why a cell or a database has no linearization, by what differs.
+/// Returns why a cell or a database, whose values are distinct, has no linearization.
 fn distinct_reason(fault: &calls_distinct::Fault) -> &'static [u8]
     ensures { result.now ≡ distinct_reason fault.now }
 {
@@ -169,8 +169,8 @@ fn reason_for(fault: &Fault) -> &'static [u8]
     }
 }
 
-/// Returns what is shown of a refusal: the certificate, the lines that it names, and why they leave
-/// no linearization.
+/// Returns what is written on a history without linearization: the certificate, the lines that it
+/// names, and why they leave no linearization.
 fn refusal_text(
     alloc: Global,
     text: &[u8],
@@ -192,7 +192,7 @@ fn refusal_text(
     whole(bytes, done)
 }
 
-/// Returns what is said of a history that has no linearization.
+/// Returns the explanation of a history that has no linearization.
 fn explain_refused(
     alloc: Global,
     text: &[u8],
@@ -207,8 +207,8 @@ fn explain_refused(
     explain_finding(alloc, &finding, more.as_slice(), text)
 }
 
-/// Returns what is shown of a history that is not decided: which value it is, and the line of the
-/// first put.
+/// Returns what is written on a history that is not decided: the value that is the cause, and the
+/// line of its first put.
 fn undecided_text(
     alloc: Global,
     text: &[u8],
@@ -227,7 +227,7 @@ fn undecided_text(
     whole(bytes, done)
 }
 
-/// Returns what is said of a history that is not decided.
+/// Returns the explanation of a history that is not decided.
 fn explain_undecided(
     alloc: Global,
     text: &[u8],
@@ -243,7 +243,7 @@ fn explain_undecided(
     explain_finding(alloc, &finding, more.as_slice(), text)
 }
 
-/// Returns what is said of a history, unless it has a linearization.
+/// Returns the explanation of a history; `None` if it has a linearization.
 fn judge(alloc: Global, text: &[u8], read: &Read<'_>) -> Result<Option<Explanation>, AllocError>
     ensures { IfOk result (Judges text.now read.now.number read.now.recording) }
 {
@@ -257,7 +257,7 @@ fn judge(alloc: Global, text: &[u8], read: &Read<'_>) -> Result<Option<Explanati
     }
 }
 
-/// Returns what is said of a text whose next history has a fault.
+/// Returns the explanation of a text whose next history can't be read.
 fn explain_unread(alloc: Global, fault: TextFault, text: &[u8]) -> Result<Explanation, AllocError>
     ensures { IfOk result (IsUnread text.now fault) }
 {
@@ -277,7 +277,7 @@ fn add_ordered(alloc: Global, lines: &mut Vec<u8>, recording: &Recording) -> Res
     lines.extend_from_slice(bytes.as_slice())
 }
 
-/// Returns what is said of the histories of a text, up to the first that is rejected.
+/// Returns the explanation of the histories of a text, up to the first that is rejected.
 pub(crate) fn explain_histories(alloc: Global, text: &[u8]) -> Result<Explanation, AllocError>
     requires { length text.now ≤ TRACE_MAX }
     ensures { IfOk result (ExplainsHistories text.now) }

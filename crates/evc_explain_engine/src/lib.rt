@@ -1,4 +1,4 @@
-//! What `evc-explain` does with its input: a text in; what is wrong with it, and how to mend it, out.
+//! The engine of `evc-explain`: reads a text, and writes what is wrong with it and how to mend it.
 #![tactic(auto)]
 
 mod bad_lines;

@@ -127,7 +127,7 @@ fn ended_before(alloc: Global, number: u64, text: &[u8]) -> Result<Vec<u8>, Allo
     Ok(bytes)
 }
 
-/// Returns the trace of the lines before a line, if they are one with `end`.
+/// Returns the trace of the lines before a line and `end`; `None` if these are no trace.
 pub(crate) fn trace_before(
     alloc: Global,
     number: u64,
@@ -149,7 +149,7 @@ pub(crate) fn trace_before(
     }
 }
 
-/// Returns who has the right after a trace that is asked for.
+/// Returns the text on who has, after a trace, the right that is needed.
 fn holders_at(alloc: Global, traced: &Traced, asked: &Asked) -> Result<Vec<u8>, AllocError>
     ensures { IfOk result (λ bytes. bytes.items ≡ holders_at traced.now asked.now) }
 {
@@ -162,7 +162,7 @@ fn holders_at(alloc: Global, traced: &Traced, asked: &Asked) -> Result<Vec<u8>, 
     whole(bytes, done)
 }
 
-/// Returns the eventcount of the call that an act goes on with or begins after a trace.
+/// Returns the eventcount of the call that an act continues or begins after a trace.
 fn event_at(traced: &Traced, asked: &Asked) -> EventId
     ensures { result ≡ event_at traced.now asked.now }
 {
@@ -229,7 +229,7 @@ fn is_reading(act: &Act) -> bool
     }
 }
 
-/// Returns what is said of who asks after a trace, if this is the right reply.
+/// Returns the text on the round of an act after a trace; empty if the act reads no eventcount.
 fn round_for(
     alloc: Global,
     traced: &Traced,
@@ -246,7 +246,7 @@ fn round_for(
     round.bytes(alloc)
 }
 
-/// Returns who has the right that a line asks for, after a trace.
+/// Returns the text on who has, after a trace, the right that a line needs.
 fn holders_of_line(
     alloc: Global,
     number: u64,
@@ -261,7 +261,7 @@ fn holders_of_line(
     }
 }
 
-/// Returns who has the right that a line asks for.
+/// Returns the text on who has the right that a line needs, by the lines before it.
 fn holders_before(alloc: Global, number: u64, text: &[u8]) -> Result<Vec<u8>, AllocError>
     ensures { IfOk result (λ bytes. bytes.items
         ≡ option_map_or (holders_before text.now number) (trace_before number text.now) []) }
@@ -272,8 +272,7 @@ fn holders_before(alloc: Global, number: u64, text: &[u8]) -> Result<Vec<u8>, Al
     }
 }
 
-/// Returns what the round has found that the act of a line goes on with, after a trace, if this is
-/// its right reply.
+/// Returns the text on the round of the act of a line, after a trace, if this is its right reply.
 fn round_of_line(
     alloc: Global,
     number: u64,
@@ -289,7 +288,8 @@ fn round_of_line(
     }
 }
 
-/// Returns what the round has found that the act of a line goes on with, if this is its right reply.
+/// Returns the text on the round of the act of a line, by the lines before it, if this is its right
+/// reply.
 fn round_before(
     alloc: Global,
     number: u64,
@@ -305,7 +305,7 @@ fn round_before(
     }
 }
 
-/// Returns what is known of the entry of a refused line.
+/// Returns what is known of the refused entry of a line.
 fn refused_reason(
     alloc: Global,
     number: u64,

@@ -106,7 +106,7 @@ impl<'a> Round<'a> {
         }
     }
 
-    /// Puts the count where the round began.
+    /// Puts the count when the round began.
     #[tactic(auto, unfolding(crate::specs::Reasons::count_words))]
     fn put_count<W: Write>(&self, out: &mut Output<'_, W>, look: &Look)
         ensures { Puts out.old out.new (count_words (round_model self.now) look.now) }
@@ -128,7 +128,7 @@ impl<'a> Round<'a> {
         out.put_number(self.total);
     }
 
-    /// Puts the count at both ends of the round, which began with this.
+    /// Puts the count at both ends of the round, which began with this look.
     #[tactic(auto, unfolding(crate::specs::Reasons::ends_text))]
     fn put_ends<W: Write>(&self, out: &mut Output<'_, W>, look: &Look)
         ensures { Puts out.old out.new (ends_text (round_model self.now) look.now) }

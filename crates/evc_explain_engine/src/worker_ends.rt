@@ -1,4 +1,4 @@
-//! What is said of a script whose schedule was played.
+//! The states of the workers at the end of a schedule.
 ghost use Rattle.std.specs.Prelude.{◌≡◌, ◌++◌, ◌≤◌, ◌+◌, IfOk, OnOk, length, reverse};
 ghost use Rattle.std.specs.List.{list_any};
 ghost use Rattle.ec_count.specs.declared.target.Target.TheVariants.{Worker};
@@ -23,25 +23,25 @@ use ec_trace::Spellings;
 use std::alloc::{AllocError, Global};
 use std::io::Write;
 
-/// An await.
+/// A pending await.
 #[derive(Clone, Copy, Debug, PartialEq, Eq)]
 pub(crate) struct PendingAwait {
     pub(crate) event: EventId,
     pub(crate) threshold: u64,
 }
 
-/// How a worker is left at the end of a schedule.
+/// The state of a worker at the end of a schedule.
 #[derive(Clone, Copy, Debug, PartialEq, Eq)]
 pub(crate) enum End {
     /// Its program has ended.
     Over,
     /// It waits, and this is the count.
     Waits(PendingAwait, u64),
-    /// It awaits what has come, and has not read that yet.
+    /// The threshold of its await is reached, and it has not read that yet.
     Reached(PendingAwait),
-    /// It has no turn.
+    /// The schedule has no turn of it.
     Still,
-    /// It has turns, and too few.
+    /// The schedule has too few turns of it.
     Late,
     /// Its last act is refused.
     Refused(Refusal),
@@ -65,7 +65,7 @@ fn await_of_act(op: Act) -> Option<PendingAwait>
     }
 }
 
-/// Returns the await that a worker is in at the end of a run.
+/// Returns the pending await of a worker at the end of a run.
 fn pending_await(run: &Run, worker: WorkerId) -> Option<PendingAwait>
     ensures { result ≡ pending_await worker (reverse run.now.entries) }
 {
@@ -75,7 +75,7 @@ fn pending_await(run: &Run, worker: WorkerId) -> Option<PendingAwait>
     }
 }
 
-/// Returns how a worker is left that is in this await, if this is the count.
+/// Returns the state of a worker with this pending await, if this is the count.
 fn awaiting_end(awaited: PendingAwait, count: u64) -> End
     ensures { result ≡ awaiting_end awaited count }
 {
@@ -86,7 +86,7 @@ fn awaiting_end(awaited: PendingAwait, count: u64) -> End
     }
 }
 
-/// Returns how a worker is left that has not ended, and has a turn or not.
+/// Returns the state of a worker that has not ended; `moved` says whether it has a turn.
 fn running_end(run: &Run, moved: bool, awaited: Option<PendingAwait>) -> End
     ensures { result ≡ running_end run.now.setup (reverse run.now.entries) moved awaited }
 {
@@ -106,7 +106,7 @@ fn has_turn(schedule: &[WorkerId], worker: WorkerId) -> bool
     schedule.iter().any(|named| named.get() == worker.get())
 }
 
-/// Returns how a worker is left at the end of a run, whose program has ended so.
+/// Returns the state of a worker at the end of a run, by the outcome of its program.
 fn end_of(run: &Run, schedule: &[WorkerId], worker: WorkerId, outcome: &Outcome) -> End
     ensures { result
         ≡ end_of run.now.setup (reverse run.now.entries) schedule.now worker outcome.now }
@@ -123,7 +123,7 @@ fn end_of(run: &Run, schedule: &[WorkerId], worker: WorkerId, outcome: &Outcome)
     }
 }
 
-/// Adds how the workers are left from one on.
+/// Adds the states of the workers from `first` on.
 fn add_ends(
     ends: &mut Vec<End>,
     run: &Run,
@@ -145,7 +145,7 @@ fn add_ends(
     add_ends(ends, run, schedule, first + 1, rest)
 }
 
-/// Returns how the workers are left at the end of a run of a schedule.
+/// Returns the states of the workers at the end of a run of a schedule.
 pub(crate) fn ends_of(
     alloc: Global,
     run: &Run,
@@ -226,7 +226,7 @@ fn put_worker_words<W: Write>(
     out.put(words);
 }
 
-/// Puts how a worker is left.
+/// Puts the state of a worker.
 #[tactic(auto, unfolding(crate::specs::WorkerEnds::end_text))]
 fn put_end<W: Write>(
     out: &mut Output<'_, W>,
@@ -273,7 +273,7 @@ fn put_end<W: Write>(
     }
 }
 
-/// Puts how the workers are left from one on.
+/// Puts the states of the workers from `first` on.
 fn put_end_lines<W: Write>(
     out: &mut Output<'_, W>,
     spellings: &Spellings<'_>,
@@ -328,7 +328,7 @@ pub(crate) fn any_can_continue(ends: &[End]) -> bool
     ends.iter().any(|end| can_continue(end))
 }
 
-/// Returns whether some workers wait, and no other can go on.
+/// Returns whether the workers are deadlocked: some wait, and none can go on.
 fn is_deadlock(ends: &[End]) -> bool
     ensures { result ≡ is_deadlock ends.now }
 {
@@ -344,7 +344,7 @@ fn put_deadlock<W: Write>(out: &mut Output<'_, W>, ends: &[End])
     }
 }
 
-/// Puts how the workers are left.
+/// Puts the states of the workers, and whether they are deadlocked.
 #[tactic(auto, unfolding(crate::specs::WorkerEnds::ends_text))]
 pub(crate) fn put_ends<W: Write>(out: &mut Output<'_, W>, heading: &Heading, ends: &[End])
     requires { length ends.now ≤ 16 }
@@ -355,7 +355,7 @@ pub(crate) fn put_ends<W: Write>(out: &mut Output<'_, W>, heading: &Heading, end
     put_deadlock(out, ends);
 }
 
-/// Returns how the workers are left at the end of a run of a schedule, in words.
+/// Returns the states of the workers at the end of a run of a schedule, in words.
 pub(crate) fn run_ends_text(
     alloc: Global,
     heading: &Heading,

@@ -1,4 +1,4 @@
--- What is refused with status 1 has one note.
+-- What is rejected with status 1 has one note.
 use Rattle.std.proofs.Common.{◌≡◌, ℕ, List, Err, sym, ap, ap₂, subst, inl, inr}
 use Rattle.ec_script.specs.declared.fault.Kind.{Kind}
 use Rattle.ec_script.specs.declared.parsing.TheConstants.{SCRIPT_MAX}
@@ -22,7 +22,7 @@ one_fault bytes n m kind sort one other =
     let same = told_once (outcome (looked_at SCRIPT_MAX bytes)) (n, kind) (m, sort) one.returned other.returned in
     (ap (λ (x : ℕ × Kind). x.0) same, ap (λ (x : ℕ × Kind). x.1) same)
 
--- if the line and the kind are one, so is the note
+-- if the line and the kind are equal, so is the note
 same_note : (bytes : List ℕ) (n m : ℕ) (kind sort : Kind) → RefusedAt bytes n kind → RefusedAt bytes m sort → script_note m sort ≡ script_note n kind
 same_note bytes n m kind sort one other =
     let same = one_fault bytes n m kind sort one other in
@@ -32,7 +32,7 @@ both_say : (old new before after : Outlets) (note remark : List ℕ) → remark 
     → (said : List ℕ) × WritesOnlyNote old new said × WritesOnlyNote before after said
 both_say old new before after note remark same one other = (note, one, subst (WritesOnlyNote before after) same other)
 
--- one plan, whose schedule names one worker who has ended first
+-- a plan whose schedule names a worker that has ended has one note
 plans_say : (p : PlanModel) (old new before after : Outlets) → PlanEnds p Refused old new → PlanEnds p Refused before after
     → (note : List ℕ) × WritesOnlyNote old new note × WritesOnlyNote before after note
 plans_say p old new before after one other =

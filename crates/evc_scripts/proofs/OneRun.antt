@@ -1,4 +1,5 @@
--- A plan is known by its lines: it is played in one way, or names a worker that has ended.
+-- The lines of a plan determine how it is played: in one way, or not, since it names a worker that
+-- has ended.
 use Rattle.std.proofs.Common.{◌≡◌, ℕ, zero, suc, ◌<◌, List, [], ◌∷◌, length, map, reverse, take, Some, refl, sym, ap, ap₂, ◌∙◌, subst, arith, slice_get, Ok, inl, inr}
 use Rattle.std.proofs.lemmas.Option.{same_Some}
 use Rattle.ec_count.specs.Tables.{Tables}
@@ -93,7 +94,7 @@ plan_once p turns others outcomes ends one other =
     let after = subst (λ l. AreOutcomes other.programs p.heading.setup.workers l ends) (sym run) other.after in
     (run, same_outcomes one.programs other.programs p.heading.setup.workers turns outcomes ends same one.after after)
 
--- the outline of a heading is one
+-- a header has one syntax tree, so one history has one trace
 pub one_trace : (h : HeadingModel) (entries more : List Entry) (trace other : List ℕ) → entries ≡ more → IsTraceUnder h entries trace → IsTraceUnder h more other → trace ≡ other
 one_trace h entries more trace other same p q =
     let outlines : p.outline ≡ q.outline = sym (outline_found p.outline p.is) ∙ ap outline_of (p.declares ∙ sym q.declares) ∙ outline_found q.outline q.is in
@@ -116,7 +117,7 @@ never_made p place w programs h outcome early lines is =
     no_history p.heading.setup programs p.schedule place w h outcome
     (same_ended p.heading.setup early.programs programs (early.lines ∙ sym lines) p.schedule place w early.ended) is
 
--- THE PLACE OF WHO HAS ENDED
+-- THE PLACE OF A WORKER THAT HAS ENDED
 
 get_early : (k i : ℕ) (ws : List ℕ) → i < k → slice_get (take k ws) i ≡ slice_get ws i
 get_early zero i ws low = absurd (omega (arith, low))
@@ -130,7 +131,7 @@ take_early (suc k) zero ws low = refl
 take_early (suc k) (suc i) [] low = refl
 take_early (suc k) (suc i) (w ∷ ws) low = ap (λ l. w ∷ l) (take_early k i ws (omega (arith, low)))
 
--- the places before one who has ended were played, so none before him had
+-- the places before that of a worker that has ended were played, so no worker named there had ended
 not_before : (t : Tables) (programs others : List (List Command)) (schedule : List ℕ) (place w other v : ℕ) → map flat programs ≡ map flat others
     → EndsBeforePlace t programs schedule place w → EndsBeforePlace t others schedule other v
     → place < other → ⊥

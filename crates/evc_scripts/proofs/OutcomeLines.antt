@@ -1,4 +1,4 @@
--- The notes on how programs have ended, line by line.
+-- The note on the outcomes of programs, line by line.
 use Rattle.std.proofs.Common.{◌≡◌, ℕ, suc, ◌+◌, List, [], ◌∷◌, ◌++◌, Option, Some, length, take, slice_get, ap, sym, subst, ◌∙◌, refl, arith, append_assoc, append-nil}
 use Rattle.ec_machine.specs.declared.outcome.Outcome.{Outcome}
 use Rattle.ec_text.specs.Puts.{Puts, OutputModel}

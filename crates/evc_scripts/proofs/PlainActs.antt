@@ -1,4 +1,5 @@
--- What the workers of a plan did, its version can spell: no command of version 1 asks for a hand, and version 2 has each act.
+-- The version of a plan can encode the acts of its workers: no command of version 1 makes a hand,
+-- and version 2 has each act.
 use Rattle.std.proofs.Common.{◌≡◌, ℕ, zero, suc, ◌+◌, ◌<◌, Bool, true, false, ◌==◌, cond, if◌then◌else◌, nat_lt, List, [], ◌∷◌, ◌++◌, length, reverse, get_or, slice_get, Option, Some, None, is_some, Result, Ok, Err, refl, sym, subst, arith}
 use Rattle.std.specs.List.{AllByRecursion}
 use Rattle.std.proofs.lemmas.Bool.{eq-eqb, leb-false}
@@ -146,7 +147,7 @@ moved_left [] last returned have = have
 moved_left (c ∷ cs) last returned have =
     chosen_left (is_some (command_call last c returned)) (record { left = c ∷ cs; last = last; completed = returned }) (record { left = cs; last = last_number last returned; completed = [] }) have have.1
 
--- the commands that are left are some of the program's
+-- the commands that are left are among the program's
 left_of : (p : ProgramState) (calls : List CompletedCall) → AreOfOne p.left
     → AreOfOne (place_after p calls).left
 unfolding place_after
@@ -196,7 +197,7 @@ past_plain t programs (x ∷ turns) have are =
     (next_plain (program_at programs x.worker) (own x.worker (entries_of turns)) x.act (program_has programs x.worker have) are.0.due)
     (past_plain t programs turns have are.1)
 
--- what a schedule's turns made
+-- the history that a schedule's turns make
 pub turns_spelled : (v : Version) (t : Tables) (programs : List (List Command)) (turns : List Turn) → HasPrograms v programs → AreTurns t programs turns → CanSpellAll v (reverse (entries_of turns))
 turns_spelled One t programs turns have are =
     All-from_recursion (λ (e : Entry). can_spell One e.act ≡ true) (reverse (entries_of turns))
@@ -240,7 +241,7 @@ report_plain t programs turns report have is acc =
     let low = every_reverse (λ (e : Entry). e.worker < t.workers) (reverse h) (past_declared t (reverse h) acc) in
     each_own t.workers h (subst (AllByRecursion (λ (e : Entry). e.worker < t.workers)) (reverse-reverse h) low) (λ w lt. own_plain t programs turns w report have is lt)
 
--- what workers on threads did
+-- the history of workers on threads
 pub report_spelled : (v : Version) (t : Tables) (programs : List (List Command)) (turns : ℕ) (report : Report) → HasPrograms v programs → IsReportOf t programs turns report
     → IsAccepted t (reverse report.run.entries) → CanSpellAll v report.run.entries
 report_spelled One t programs turns report have is acc =

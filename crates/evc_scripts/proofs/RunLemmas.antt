@@ -1,4 +1,4 @@
--- What `run` has written, by what its parts have.
+-- What `run` writes, from the contracts of its parts.
 use Rattle.std.proofs.Common.{◌≡◌, ◌<◌, ◌≤◌, ◌⊎◌, inl, inr, ℕ, Bool, true, false, cond, List, length, map, reverse, Option, Some, None, IfSome, Ok, Err, refl, sym, ap, subst, ◌∙◌, arith}
 use Rattle.std.specs.Io.KnownBytes.{Appends, Keeps}
 use Rattle.std.specs.List.{list_any}
@@ -29,7 +29,7 @@ use Rattle.evc_scripts.specs.Runs.{HaveRun, WroteReport, HasNoReport, NamesWorke
 use Rattle.evc_scripts.proofs.PlainActs.{report_spelled}
 use Rattle.evc_scripts.proofs.SimEnds.{says, refused_at}
 
--- a report of a plan, and its trace by an outline of the heading
+-- a report of a plan, and its trace by a syntax tree of the header
 pub have_run : (plan : Plan) (report : Report) (turns : ℕ) (h : HasHeaderTree plan.heading) → HasOrders plan.heading.version (map flat plan.programs.items) → IsReportOf plan.heading.setup plan.programs.items turns report
     → IsAccepted report.run.setup (reverse report.run.entries)
     → HaveRun (shown_plan plan) turns (status_for report.outcomes.items) (trace_text h.outline report.run.entries) (outcomes_note plan.heading report.outcomes.items)

@@ -23,7 +23,7 @@ use Rattle.ec_script.specs.Flat.{flat, flat_one, flat_step, all_of}
 use Rattle.ec_heading.proofs.shared.Each.{each_append as every_append}
 use Rattle.evc_scripts.proofs.WrittenLines.{same_written}
 
--- WHAT A LINE SAYS OF ITS COMMAND
+-- THE CALLS OF A LINE
 
 abbrev line_call : ℕ → BlockItem → List CompletedCall → Option Act
 line_call last (Do c) = command_call last c
@@ -37,7 +37,7 @@ line_large last (Write d vs) = list_any (is_large last) vs
 line_large last (Begin n) = false
 line_large last End = false
 
--- a command of one line, which says its calls and whether its values are too large
+-- a command of one line, which determines its calls and whether its values are too large
 record IsSaid (c : Command) : Type 0 where
   line : BlockItem
   lines : flat_one c ≡ line ∷ []
@@ -52,7 +52,7 @@ unfolding repeated
 all_repeated zero cs all = tt
 all_repeated (suc n) cs all = every_append IsSaid cs (repeated n cs) all (all_repeated n cs all)
 
--- what a command comes to
+-- each command of an unrolled command is so
 abbrev ComesSaid : Command → Type 0
 ComesSaid c = AllSaid (unroll_command c)
 
@@ -115,7 +115,7 @@ of_one_line c d p q same = record {
   large = λ last. p.large last ∙ ap (line_large last) same ∙ sym (q.large last);
 }
 
--- the lines of commands, of which the first has one
+-- the lines of commands, the first of which has one line
 first_line : (c : Command) (cs : List Command) (p : IsSaid c) → flat (c ∷ cs) ≡ p.line ∷ flat cs
 unfolding all_of
 first_line c cs p = ap (λ l. l ++ flat cs) p.lines
@@ -138,7 +138,7 @@ of_same_lines (c ∷ cs) (d ∷ ds) p q same =
     let parts = cons_same p.0.line q.0.line (flat cs) (flat ds) (sym (first_line c cs p.0) ∙ same ∙ first_line d ds q.0) in
     (of_one_line c d p.0 q.0 parts.0, of_same_lines cs ds p.1 q.1 parts.1)
 
--- programs of the same lines come to such commands
+-- programs of the same lines, unrolled, run alike
 written_alike : (cs ds : List Command) → flat cs ≡ flat ds → Alike (unroll cs) (unroll ds)
 written_alike cs ds same = of_same_lines (unroll cs) (unroll ds) (written_said cs) (written_said ds) (same_written cs ds same)
 
@@ -208,7 +208,7 @@ calls_alike cs ds calls same = next_alike (place_after (start cs) calls) (place_
 pub same_next : (cs ds : List Command) (past : List Entry) → flat cs ≡ flat ds → next_act cs past ≡ next_act ds past
 same_next cs ds past same = ap (next_of (is_some (opening past))) (calls_alike cs ds (finished past) same)
 
--- how they have ended
+-- the outcome of programs of the same lines
 pub same_outcome : (cs ds : List Command) (past : List Entry) → flat cs ≡ flat ds → outcome_of cs past ≡ outcome_of ds past
 same_outcome cs ds past same =
     outcome_alike (place_after (start cs) (finished past)) (place_after (start ds) (finished past)) (place_alike (finished past) (start cs) (start ds) (start_alike cs ds same))

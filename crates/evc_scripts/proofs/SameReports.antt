@@ -1,4 +1,4 @@
--- Workers that ran programs of the same lines report alike.
+-- Workers that ran programs of the same lines have the same reports.
 use Rattle.std.proofs.Common.{◌≡◌, ℕ, List, [], ◌∷◌, reverse, sym, ap, ◌∙◌}
 use Rattle.ec_core.specs.declared.act.Entry.{Entry}
 use Rattle.ec_core.specs.declared.act.Refusal.{Refusal}

@@ -1,4 +1,4 @@
--- What `sim` has written, by what its parts have.
+-- What `sim` writes, from the contracts of its parts.
 use Rattle.std.proofs.Common.{◌≡◌, ◌≤◌, ◌<◌, ◌+◌, ◌⊎◌, inl, inr, ℕ, List, length, map, reverse, take, Option, Some, None, IfSome, Result, Ok, Err, refl, sym, ap, subst, ◌∙◌, arith}
 use Rattle.std.proofs.lemmas.List.{reverse-reverse, take_all, length-take}
 use Rattle.ec_count.specs.Tables.{Tables}
@@ -29,7 +29,7 @@ use Rattle.evc_scripts.proofs.PlainActs.{turns_spelled}
 
 -- A REPORT
 
--- a report of a plan, and its trace by an outline of the heading
+-- a report of a plan, and its trace by a syntax tree of the header
 pub is_played : (plan : Plan) (report : Report) (h : HasHeaderTree plan.heading) → HasOrders plan.heading.version (map flat plan.programs.items) → IsReport plan.heading.setup plan.programs.items plan.schedule.items report
     → IsPlayed (shown_plan plan) (trace_text h.outline report.run.entries) (outcomes_note plan.heading report.outcomes.items)
 is_played plan report h has r = record {
@@ -48,7 +48,7 @@ is_played plan report h has r = record {
 
 -- BYTES
 
--- a text that is within its bound is all that there is
+-- if the text that was read is within its bound, it is all bytes
 all_of_it : (max : ℕ) (bytes : List ℕ) → length (looked_at max bytes) ≤ max → looked_at max bytes ≡ bytes
 all_of_it max bytes short =
     let small : length bytes ≤ max + 1 = omega (arith, length-take (max + 1) bytes, short) in

@@ -1,4 +1,4 @@
--- The lines of a program say the lines of what it comes to when its repeats are written out.
+-- The lines of a program determine the lines of the program with its repeats unrolled.
 use Rattle.std.proofs.Common.{◌≡◌, ℕ, zero, suc, List, [], ◌∷◌, ◌++◌, map, refl, sym, ap, ◌∙◌, subst, append_assoc, append-nil}
 use Rattle.ec_database.specs.Shapes.{Database}
 use Rattle.ec_machine.specs.declared.command.Value.{Value}
@@ -14,14 +14,14 @@ use Rattle.ec_script.specs.declared.block_item.BlockItem.TheVariants.{Do, Write,
 use Rattle.ec_script.specs.Flat.{flat, flat_one, flat_step, all_of}
 use Rattle.ec_script.proofs.shared.WrittenOut.{FlatIs}
 
--- LINES, WRITTEN OUT
+-- UNROLLED LINES
 
 unfoldable times : ℕ → List BlockItem → List BlockItem
 times zero os = []
 times (suc n) os = os ++ times n os
 
--- the lines without their repeats: each block so many times. Of the blocks that are not ended, the innermost first, it is known
--- how many times each is to stand, and the lines before it
+-- the lines without their repeats: each block as many times as its repeat says. The open blocks,
+-- the innermost first, are given with how many times each is repeated, and the lines before it
 unfoldable spread : List BlockItem → List (ℕ × List BlockItem) → List BlockItem → List BlockItem
 spread [] blocks done = done
 spread (Do c ∷ os) blocks done = spread os blocks (done ++ Do c ∷ [])
@@ -44,7 +44,7 @@ flat_repeated (suc n) xs = flat_append xs (repeated n xs) ∙ ap (λ l. flat xs 
 
 -- ONE COMMAND
 
--- its lines, written out, are those of what it comes to
+-- its unrolled lines are the lines of the unrolled command
 abbrev Spreads : Command → Type 0
 Spreads c = (os : List BlockItem) (blocks : List (ℕ × List BlockItem)) (done : List BlockItem) → spread (flat_one c ++ os) blocks done ≡ spread os blocks (done ++ flat (unroll_command c))
 
@@ -76,7 +76,7 @@ block_spreads : (y : Command-F ((c : Command) × Spreads c)) → BlockSpreads (m
 block_spreads (layer.Repeat n block) = all_spread block.items
 block_spreads _ = tt
 
--- a line that stands for itself
+-- a line that unrolls to itself
 abbrev IsKept : BlockItem → Type 0
 IsKept o = (os : List BlockItem) (blocks : List (ℕ × List BlockItem)) (done : List BlockItem) → spread (o ∷ os) blocks done ≡ spread os blocks (done ++ o ∷ [])
 
@@ -143,6 +143,6 @@ spread_whole : (cs : List Command) → spread (flat cs) [] [] ≡ flat (unroll c
 unfolding spread
 spread_whole cs = ap (λ l. spread l [] []) (sym (append-nil (flat cs))) ∙ program_spreads cs [] [] []
 
--- programs of the same lines come to the same lines
+-- programs of the same lines have the same unrolled lines
 pub same_written : (cs others : List Command) → flat cs ≡ flat others → flat (unroll cs) ≡ flat (unroll others)
 same_written cs others same = sym (spread_whole cs) ∙ ap (λ l. spread l [] []) same ∙ spread_whole others

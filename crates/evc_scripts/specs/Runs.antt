@@ -1,4 +1,4 @@
--- What `run` answered and wrote, for an input whose bytes are known.
+-- What `run` returned and wrote, for an input whose bytes are known.
 use Rattle.std.specs.Prelude.{◌≡◌, ◌⊎◌, ℕ, ◌<◌, Bool, true, false, ◌||◌, List, reverse, Ok, Err, Option, codes, if◌then◌else◌, ◌++◌}
 use Rattle.std.specs.List.{list_any}
 use Rattle.std.specs.Io.KnownBytes.{Appends, Keeps}
@@ -38,14 +38,14 @@ is_cut_short outcomes.Stopped = true
 is_cut_short outcomes.OutOfTurns = true
 is_cut_short _ = false
 
--- how the command ends once the trace and the outcomes were written
+-- the status of the command if the trace and the outcomes were written
 abbrev pub status_for : List Outcome → Status
 status_for os = if list_any is_memory os then Memory else (if list_any is_cut_short os then Stopped else Done)
 
 -- WHAT THE WORKERS DID
 
--- a report of workers that ran by the programs of the plan, each with so many turns at most; their run, which is accepted, its trace, and
--- the note on how they ended
+-- a report of workers that ran the programs of the plan, each with at most this many turns; their
+-- run, which is accepted, its trace, and the note on their outcomes
 pub record HaveRun (p : PlanModel) (turns : ℕ) (status : Status) (trace note : List ℕ) : Type 0 where
   pub programs : List (List Command)
   pub lines : AreProgramsOf p programs
@@ -56,11 +56,11 @@ pub record HaveRun (p : PlanModel) (turns : ℕ) (status : Status) (trace note :
   pub noted : note ≡ outcomes_note p.heading report.outcomes.items
   pub ended : status ≡ status_for report.outcomes.items
 
--- the trace and the outcomes were written, and the command ended so
+-- the trace and the note on the outcomes were written, and the command ended with this status
 abbrev pub WroteReport : PlanModel → ℕ → Status → Outlets → Outlets → Type 0
 WroteReport p turns status old new = (trace note : List ℕ) × HaveRun p turns status trace note × Appends old.out new.out trace × Notes old new note
 
--- how it ended where there is no report, and its note
+-- the status if there is no report, and the note
 abbrev pub run_fault_status : RunFault → Status
 run_fault_status (Mismatch w) = Stopped
 run_fault_status Spawn = InputOutput
@@ -84,8 +84,8 @@ NamesWorker t (Mismatch w) = w < t.workers
 NamesWorker t Spawn = Unit {0}
 NamesWorker t faults.Memory = Unit {0}
 
--- there is no report, for a reason of this status: a mismatch is of workers that ran by the programs of the plan and ended, and
--- names a declared one
+-- there is no report, for a fault with this status: a mismatch is of workers that ran the programs
+-- of the plan and ended, and names a declared one
 pub record HasNoReport (p : PlanModel) (turns : ℕ) (status : Status) (old new : Outlets) : Type 0 where
   pub fault : RunFault
   pub programs : List (List Command)
@@ -116,10 +116,12 @@ TextRuns text turns Memory old new =
     ((p : PlanModel) × (outcome text ≡ Ok p) × RunEnds p turns Memory old new) ⊎ WritesOnlyNote old new (codes "no memory\n")
 TextRuns text turns status old new = (p : PlanModel) × (outcome text ≡ Ok p) × RunEnds p turns status old new
 
--- how `run` ended: the bytes are a script, its workers ran, and the trace of what they did was written, with no worker stopped, out of
--- turns or out of memory; or the bytes are no script, and nothing was written but the note of the first faulty line; or a worker was stopped
--- or out of turns (5) or out of memory (4), and the trace was written; or what a worker did is not what it was told (5), and nothing was
--- written; or a failed read, write or start of a thread is told, or want of memory. It reads as `sim` does
+-- how `run` ended: the bytes are a script, its workers ran, and their trace was written, with no
+-- worker stopped, out of turns or out of memory (0); or the bytes are no script, and only the note
+-- on the first faulty line was written (1); or a worker was stopped or out of turns (5) or out of
+-- memory (4), and the trace was written; or a worker's summary does not fit the run (5), and only a
+-- note was written; or a failed read, write or start of a thread is reported (3), or out of memory
+-- (4). It reads as `sim` does
 abbrev pub Runs : ℕ → List ℕ → Option (List ℕ) → Status → Outlets → Outlets → Type 0
 Runs turns bytes left Refused old new = (n : ℕ) × (kind : Kind) × RefusedAt bytes n kind × WritesOnlyNote old new (script_note n kind) × IsReadUp SCRIPT_MAX bytes left
 Runs turns bytes left InputOutput old new =

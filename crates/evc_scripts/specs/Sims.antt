@@ -1,4 +1,4 @@
--- What `sim` answered and wrote, for an input whose bytes are known.
+-- What `sim` returned and wrote, for an input whose bytes are known.
 use Rattle.std.specs.Prelude.{◌≡◌, ◌⊎◌, ℕ, List, map, reverse, Ok, Err, Option, codes}
 use Rattle.std.specs.Io.KnownBytes.{Appends, Keeps}
 use Rattle.ec_core.specs.declared.act.Entry.{Entry}
@@ -45,7 +45,7 @@ pub record EndsEarly (p : PlanModel) (place w : ℕ) : Type 0 where
   pub lines : AreProgramsOf p programs
   pub ended : EndsBeforePlace p.heading.setup programs p.schedule place w
 
--- the trace of a history under a heading, whose version can spell it
+-- the trace of a history with this header, whose version can encode it
 pub record IsTraceUnder (h : HeadingModel) (entries : List Entry) (trace : List ℕ) : Type 0 where
   pub outline : HeaderTree
   pub is : IsHeaderTree outline
@@ -53,7 +53,7 @@ pub record IsTraceUnder (h : HeadingModel) (entries : List Entry) (trace : List 
   pub spelled : CanSpellAll h.version entries
   pub text : trace ≡ trace_text outline entries
 
--- a plan was played: this is the trace of what its workers did, and this is how they ended
+-- a plan was played: this is the trace of its workers, and this the note on their outcomes
 pub record IsPlayed (p : PlanModel) (trace note : List ℕ) : Type 0 where
   pub turns : List Turn
   pub outcomes : List Outcome
@@ -61,7 +61,7 @@ pub record IsPlayed (p : PlanModel) (trace note : List ℕ) : Type 0 where
   pub written : IsTraceUnder p.heading (reverse (entries_of turns)) trace
   pub noted : note ≡ outcomes_note p.heading outcomes
 
--- how the command ends where the schedule was not played, and its note
+-- the status if the schedule was not played, and the note
 abbrev pub fault_status : SimFault → Status
 fault_status (Ended place w) = Refused
 fault_status faults.Memory = Memory
@@ -91,19 +91,21 @@ TextEnds text status old new = (p : PlanModel) × (outcome text ≡ Ok p) × Pla
 
 -- THE COMMAND
 
--- the bytes are a script that says this plan, and they are read as such
+-- the bytes are a script that says this plan, and they are parsed to it
 pub record SaysPlan (bytes : List ℕ) (p : PlanModel) : Type 0 where
   pub script : IsScript bytes p
   pub returned : outcome (looked_at SCRIPT_MAX bytes) ≡ Ok p
 
--- the bytes are no script, and this line is their first at fault
+-- the bytes are no script, and this is their first faulty line
 pub record RefusedAt (bytes : List ℕ) (n : ℕ) (kind : Kind) : Type 0 where
   pub none : IsNoScript bytes
   pub returned : outcome (looked_at SCRIPT_MAX bytes) ≡ Err (n, kind)
 
--- how `sim` ended: the bytes are a script, its schedule was played, and the trace was written; or they are a script whose
--- schedule names a worker that has ended, or no script, and nothing was written but a note; or a failed read or write is told, or want of
--- memory. It reads all that it looks at before it looks, and tells a failed read only before it has read more than a script may have
+-- how `sim` ended: the bytes are a script, its schedule was played, and the trace was written (0);
+-- or they are a script whose schedule names a worker that has ended, or no script, and only a note
+-- was written (1); or a failed read or write (3) or out of memory (4) is reported. It parses
+-- nothing before it has read all that it needs; a failed read is reported only if it comes before
+-- more bytes were read than a script may have
 abbrev pub Sims : List ℕ → Option (List ℕ) → Status → Outlets → Outlets → Type 0
 Sims bytes left Done old new = (p : PlanModel) × SaysPlan bytes p × PlanEnds p Done old new × IsReadUp SCRIPT_MAX bytes left
 Sims bytes left Refused old new =

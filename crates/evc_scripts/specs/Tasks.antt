@@ -1,4 +1,4 @@
--- What a task does to the input and the outlets.
+-- How a task changes the input and the outlets.
 use Rattle.std.specs.Prelude.{ℕ, List, Option}
 use Rattle.evc_cli.specs.declared.choice.Task.{Task}
 use Rattle.evc_cli.specs.declared.choice.Task.TheVariants.{Check, Audit, Upgrade, Sim, Run}

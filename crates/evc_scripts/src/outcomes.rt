@@ -14,7 +14,7 @@ use ec_trace::{Heading, Spellings};
 use evc_engine::{put_line, put_refused};
 use std::io::Write;
 
-/// Puts how a program has ended.
+/// Puts the outcome of a program.
 fn put_outcome<W: Write>(out: &mut Output<'_, W>, outcome: &Outcome)
     ensures { Puts out.old out.new (outcome_words outcome.now) }
 {
@@ -29,7 +29,7 @@ fn put_outcome<W: Write>(out: &mut Output<'_, W>, outcome: &Outcome)
     }
 }
 
-/// Puts how the program of a worker has ended.
+/// Puts the outcome of a worker's program.
 fn put_outcome_of<W: Write>(
     out: &mut Output<'_, W>,
     spellings: &Spellings<'_>,
@@ -44,7 +44,7 @@ fn put_outcome_of<W: Write>(
     put_outcome(out, outcome);
 }
 
-/// Puts the line of a worker, with its LF.
+/// Puts the line of a worker's outcome, with its LF.
 fn put_outcome_line<W: Write>(
     out: &mut Output<'_, W>,
     spellings: &Spellings<'_>,
@@ -77,7 +77,7 @@ fn put_outcomes<W: Write>(out: &mut Output<'_, W>, spellings: &Spellings<'_>, ou
     }
 }
 
-/// Notes how the programs of the workers have ended, and writes it.
+/// Writes the note on the outcomes of the workers' programs.
 pub(crate) fn note_outcomes<N: Write>(
     notes: &mut Output<'_, N>,
     heading: &Heading,
@@ -101,7 +101,7 @@ fn put_kind<W: Write>(out: &mut Output<'_, W>, kind: Kind)
     out.put(kind.name().as_bytes());
 }
 
-/// Puts the note on a line of a script.
+/// Puts the note on a faulty line of a script.
 fn put_script_fault<W: Write>(out: &mut Output<'_, W>, line: u64, kind: Kind)
     ensures { Puts out.old out.new (script_note line kind) }
 {
@@ -110,7 +110,7 @@ fn put_script_fault<W: Write>(out: &mut Output<'_, W>, line: u64, kind: Kind)
     out.put(b"\n");
 }
 
-/// Notes the first faulty line of a script, and writes it.
+/// Writes the note on the first faulty line of a script.
 pub(crate) fn note_kind<N: Write>(notes: &mut Output<'_, N>, line: u64, kind: Kind)
     ensures puts { Puts notes.old notes.new (script_note line kind) }
     ensures written { IsWrittenOut notes.new }
@@ -119,7 +119,7 @@ pub(crate) fn note_kind<N: Write>(notes: &mut Output<'_, N>, line: u64, kind: Ki
     notes.flush();
 }
 
-/// Puts the note on a place of a schedule.
+/// Puts the note on a place of a schedule that names a worker that has ended.
 fn put_ended<W: Write>(out: &mut Output<'_, W>, place: u64, worker: &[u8])
     ensures { Puts out.old out.new (ended_words place worker.now) }
 {
@@ -130,7 +130,7 @@ fn put_ended<W: Write>(out: &mut Output<'_, W>, place: u64, worker: &[u8])
     out.put(b" has ended\n");
 }
 
-/// Notes that a place of the schedule, counted from 0, names a worker that has ended, and writes it.
+/// Writes the note on a place of the schedule, counted from 0, that names a worker that has ended.
 pub(crate) fn note_ended<N: Write>(
     notes: &mut Output<'_, N>,
     heading: &Heading,
@@ -145,7 +145,7 @@ pub(crate) fn note_ended<N: Write>(
     notes.flush();
 }
 
-/// Puts the note on a worker whose log does not fit the run.
+/// Puts the note on a worker whose summary does not fit the run.
 fn put_mismatch<W: Write>(out: &mut Output<'_, W>, worker: &[u8])
     ensures { Puts out.old out.new (mismatch_words worker.now) }
 {
@@ -154,8 +154,8 @@ fn put_mismatch<W: Write>(out: &mut Output<'_, W>, worker: &[u8])
     out.put(b"\n");
 }
 
-/// Notes that what a worker was told is not what it did, and writes it. No run is known to come to
-/// this; it is public so that a test can write the note.
+/// Writes the note on a worker whose summary does not fit the run. No run is known to need it; the
+/// function is public so that a test can write the note.
 pub fn note_mismatch<N: Write>(notes: &mut Output<'_, N>, heading: &Heading, worker: WorkerId)
     ensures puts { Puts notes.old notes.new (mismatch_words (worker_word heading.now.words worker)) }
     ensures written { IsWrittenOut notes.new }

@@ -1,5 +1,5 @@
-//! `sim`: a script in; the trace of its schedule out, and in the notes how each worker's program has
-//! ended.
+//! The command `sim`: reads a script, plays its schedule, and writes the trace and, in the notes,
+//! the outcomes of the workers.
 ghost use Rattle.std.specs.Prelude.{◌≡◌, IfSome};
 ghost use Rattle.ec_text.specs.Puts.{Puts, IsWrittenOut};
 ghost use Rattle.ec_runner.specs.Reported.{IsReport};
@@ -17,7 +17,7 @@ use evc_engine::Status;
 use std::alloc::Global;
 use std::io::{Read, Write};
 
-/// Writes the trace of a report, and notes how the workers have ended.
+/// Writes the trace of a report and the note on the outcomes, and returns the status.
 fn write_report<W: Write, N: Write>(
     plan: &Plan,
     report: &Report,
@@ -41,7 +41,7 @@ fn write_report<W: Write, N: Write>(
     }
 }
 
-/// Notes why a plan's schedule was not played.
+/// Writes the note why a plan's schedule was not played, and returns the status.
 fn note_fault<N: Write>(heading: &Heading, fault: SimFault, notes: &mut Output<'_, N>) -> Status
     ensures status { result ≡ fault_status fault }
     ensures note { Puts notes.old notes.new (sim_fault_note heading.now fault) }
@@ -59,7 +59,7 @@ fn note_fault<N: Write>(heading: &Heading, fault: SimFault, notes: &mut Output<'
     }
 }
 
-/// Plays a plan's schedule, and writes what its workers did.
+/// Plays a plan's schedule, and writes the trace and the outcomes.
 fn sim_plan<W: Write, N: Write>(
     alloc: Global,
     plan: &Plan,
@@ -78,7 +78,7 @@ fn sim_plan<W: Write, N: Write>(
     }
 }
 
-/// Reads a text as a script, and plays its schedule.
+/// Parses a script, and plays its schedule.
 fn sim_text<W: Write, N: Write>(
     alloc: Global,
     text: &[u8],
@@ -103,11 +103,11 @@ fn sim_text<W: Write, N: Write>(
     }
 }
 
-/// Reads a script, and writes the trace of what its workers do by its schedule; then notes say how
-/// each worker's program has ended. If the script or its schedule is refused, a note says why.
+/// Reads a script, and writes the trace of its workers by its schedule. Then the notes say how each
+/// worker's program has ended. If the script or its schedule is rejected, a note says why.
 ///
 /// Nothing is written to `out` before the schedule was played to its end.
-// (Put into its caller, it would have that hold its half a megabyte of tables under each other task too.)
+// (If it were inlined, its half a megabyte of tables would be on the stack for every task.)
 #[inline(never)]
 pub fn sim<R: Read, W: Write, N: Write>(
     alloc: Global,

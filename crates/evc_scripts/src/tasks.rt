@@ -1,4 +1,4 @@
-//! What a task of the command line does.
+//! The tasks of the command line.
 ghost use Rattle.std.specs.Prelude.{◌≡◌, IfErr, IfOk, IfSome, ℕ};
 ghost use Rattle.evc_engine.specs.Checks.{Checks};
 ghost use Rattle.evc_cli.specs.declared.choice.Task.TheVariants.{Run};
@@ -15,10 +15,11 @@ use std::io::{Read, Write};
 use std::sync::Wait;
 use std::thread::Threads;
 
-/// Does what the task says, if that takes no threads: the input from `reader`, the text to `out`,
-/// the notes to `notes`. By its type it never waits.
+/// Does a task that needs no threads: it reads the input from `reader`, and writes the text to
+/// `out` and the notes to `notes`. By its type it never waits.
 ///
-/// `Err` tells the turns of `Task::Run`, which alone takes threads; then nothing was read or written.
+/// Returns `Err` with the turns of a `Task::Run`, the only task that needs threads; then nothing
+/// was read or written.
 pub fn engine_without_threads<R: Read, W: Write, N: Write>(
     alloc: Global,
     task: Task,
@@ -43,10 +44,11 @@ pub fn engine_without_threads<R: Read, W: Write, N: Write>(
     }
 }
 
-/// Does what the task says: the input from `reader`, the text to `out`, the notes to `notes`.
+/// Does a task: it reads the input from `reader`, and writes the text to `out` and the notes to
+/// `notes`.
 ///
-/// By its type it may wait for every task, since one of them is `run`; `engine_without_threads`, by
-/// which it does the others, never does.
+/// By its type it may wait, since one of the tasks is `run`. `engine_without_threads`, which does
+/// the others, never waits.
 pub fn engine<H: Threads + Wait + Sync, R: Read, W: Write, N: Write>(
     rt: &H,
     alloc: Global,

@@ -1,4 +1,4 @@
-//! What the commands on scripts write: a trace, and how the workers have ended.
+//! The output of `sim` and `run`: a trace, and the outcomes of the workers.
 ghost use Rattle.std.specs.Prelude.{◌≡◌, ◌≤◌, true, false, length, codes, if◌then◌else◌};
 ghost use Rattle.std.specs.Io.KnownBytes.{Appends};
 ghost use Rattle.ec_text.specs.Puts.{Puts, AppendsPrefix, IsWrittenOut};
@@ -13,8 +13,8 @@ use ec_text::Output;
 use ec_trace::{Heading, write_trace};
 use std::io::Write;
 
-/// Writes the trace of a run, and then notes how the workers have ended; if a write fails, notes
-/// that. Tells whether all was written.
+/// Writes the trace of a run, and then the note on the workers' outcomes; if a write of the trace
+/// fails, a note on that instead. Returns whether the whole trace was written.
 pub(crate) fn write_run<W: Write, N: Write>(
     heading: &Heading,
     run: &Run,

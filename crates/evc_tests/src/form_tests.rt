@@ -1,7 +1,7 @@
-//! What small types tell of themselves: sorts of declarations, versions and faults.
+//! Properties of small types: sorts of declarations, versions and faults.
 use ec_trace::{DeclKind, HeadFault, Version};
 
-/// A sort by its word: whether it has a name, and whether its number may be 0.
+/// A sort and its word: whether it has a name, and whether its number may be 0.
 type Form = (&'static str, DeclKind, bool, bool);
 
 static FORMS: [Form; 7] = [
@@ -14,7 +14,7 @@ static FORMS: [Form; 7] = [
     ("both", DeclKind::Both, false, true),
 ];
 
-/// Returns whether a sort has its form. It is called by names, or by its own word.
+/// Returns whether a sort has this form. A declaration is called by a name, or by its own word.
 fn has_form(form: &Form) -> bool {
     let (word, sort, named, from_zero) = *form;
     sort.word() == word.as_bytes()

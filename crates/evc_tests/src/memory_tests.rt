@@ -4,13 +4,13 @@ use evc_cli::Task;
 use evc_engine::{Status, audit};
 use evc_scripts::engine_without_threads;
 
-/// A trace of a semaphore that nobody uses.
+/// A trace of a semaphore that no worker uses.
 const UNUSED: &str = "evc-trace 1\nlimit 10\nworkers a\nsemaphore S 1 use a\nrun\nend\n";
 
-/// Its audit.
+/// The audit of that trace.
 const UNUSED_AUDIT: &str = "evc-audit 1\nbalance S 1 0 0 1\nend\n";
 
-/// A script of no programs.
+/// A script without programs.
 const IDLE: &str = "evc-script 1\nlimit 10\nworkers a\n";
 
 #[test]

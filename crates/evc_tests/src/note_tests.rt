@@ -1,4 +1,4 @@
-//! The note of a mismatch, which no run is known to come to, and what is put after a failed write.
+//! The note of a mismatch, which no known run has, and what is written after a failed write.
 use ec_count::WorkerId;
 use ec_text::{InlineText, Output};
 use ec_trace::read_trace;
@@ -48,7 +48,7 @@ impl Write for Fickle {
 /// A trace with two workers and no entry.
 const TWO_WORKERS: &str = "evc-trace 1\nlimit 10\nworkers a b\nrun\nend\n";
 
-/// Notes a mismatch of the second worker, so often.
+/// Notes a mismatch of the second worker, so many times.
 fn note<N: Write>(alloc: Global, notes: &mut Output<'_, N>, times: usize) -> Result<(), Fail> {
     let Ok(traced) = read_trace(alloc, &mut TWO_WORKERS.as_bytes()) else {
         return Err(Fail::new("no trace"));

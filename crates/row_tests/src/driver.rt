@@ -1,19 +1,19 @@
-//! How lines are answered.
+//! Answers lines, and checks that a failed allocation has changed nothing.
 use crate::fault::Fault;
 use crate::output::TestOutput;
 use std::alloc::Global;
 
-/// What lines are about.
+/// What the lines are about.
 pub trait Driver {
-    /// Makes the call of a line, and writes what it returns. After `Fault::Memory` all is as it
-    /// was before, and nothing was written.
+    /// Makes the call of a line, and writes what it returns. `Fault::Memory` leaves everything
+    /// unchanged, and writes nothing.
     fn answer(&mut self, alloc: Global, line: &str, out: &mut TestOutput) -> Result<(), Fault>;
 
-    /// Writes all that can be asked, which takes no memory.
+    /// Writes all that can be asked, without an allocation.
     fn write_all(&self, out: &mut TestOutput) -> Result<(), Fault>;
 }
 
-/// Sums up all that can be asked, or nothing if it is not watched.
+/// Returns a checksum of all that can be asked, or 0 if it is not watched.
 fn sum_of<D: Driver>(driver: &D, watched: bool) -> Result<u64, Fault> {
     let mut out = TestOutput::Sum(0);
     if watched {
@@ -25,7 +25,7 @@ fn sum_of<D: Driver>(driver: &D, watched: bool) -> Result<u64, Fault> {
     }
 }
 
-/// Answers a line, and once more if an allocation failed.
+/// Answers a line, and repeats the call if an allocation failed.
 fn answer_line<D: Driver>(
     alloc: Global,
     driver: &mut D,

@@ -1,9 +1,9 @@
 //! Makes calls of the libraries, one for each line of standard input, and writes what they return,
-//! for rows of `tests/rows`. Nothing is proved of it but that it is safe and ends.
+//! for golden tests of `tests/rows`. Only its safety and termination are proved.
 //!
 //! The first word on the command line says what the lines are about: `kernel`, `setup` or `workers`.
-//! With a second word it is watched: if an allocation failed, it says whether all is as it was
-//! before the call.
+//! With a second word the program also says, if an allocation fails, whether the call has changed
+//! anything.
 #![tactic(auto)]
 
 mod driver;
@@ -28,7 +28,7 @@ use std::thread::Threads;
 use std::{env, io};
 use workers::answer_script;
 
-/// Answers the lines of a text about what a word names.
+/// Answers the lines of a text about what the first word names.
 fn answer<R: Threads + Wait + Sync>(
     rt: &R,
     alloc: Global,

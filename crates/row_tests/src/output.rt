@@ -1,10 +1,10 @@
-//! Where answers are written.
+//! Where answers are written: to standard output, or into a checksum.
 use crate::fault::Fault;
 use std::fmt::Display;
 use std::io;
 use std::io::{BufWriter, Stdout, Write};
 
-/// Standard output, or a sum of the bytes, in their order.
+/// Standard output, or a checksum of the bytes, which depends on their order.
 #[derive(Drop)]
 pub enum TestOutput {
     Text(BufWriter<Stdout>),
@@ -34,7 +34,7 @@ impl Write for TestOutput {
 }
 
 impl TestOutput {
-    /// Writes a text. The macros of formatted texts call it.
+    /// Writes a text. The macros `write!` and `writeln!` call it.
     pub fn write_fmt<T: Display + Drop>(&mut self, text: T) -> Result<(), Fault> {
         Ok(Write::write_fmt(self, text)?)
     }

@@ -1,4 +1,4 @@
-//! What drivers write: what names and words stand for, and the objects of groups.
+//! What drivers write: the targets of names and words, and the objects of groups.
 use crate::fault::Fault;
 use crate::line::tell;
 use crate::output::TestOutput;
@@ -7,7 +7,7 @@ use ec_count::{Names, Setup, SymbolTable, Target};
 use ec_database::DatabaseShape;
 use ec_semaphore::SemaphoreShape;
 
-/// Writes what a name or a word stands for.
+/// Writes the target of a name or a word.
 pub fn write_target(target: Target, out: &mut TestOutput) -> Result<(), Fault> {
     match target {
         Target::Worker(worker) => writeln!(out, "worker {}", worker.get())?,
@@ -19,7 +19,7 @@ pub fn write_target(target: Target, out: &mut TestOutput) -> Result<(), Fault> {
     Ok(())
 }
 
-/// Writes what was found, or `-`.
+/// Writes the target that was found, or `-`.
 pub fn write_found(found: Option<Target>, out: &mut TestOutput) -> Result<(), Fault> {
     match found {
         Some(target) => write_target(target, out),
@@ -27,7 +27,7 @@ pub fn write_found(found: Option<Target>, out: &mut TestOutput) -> Result<(), Fa
     }
 }
 
-/// Writes the name at a place, and what it stands for, or `-`.
+/// Writes the name at an index and its target, or `-`.
 pub fn write_name(names: &Names, place: usize, out: &mut TestOutput) -> Result<(), Fault> {
     let Some((name, target)) = names.at(place) else {
         return tell("-", out);
@@ -36,7 +36,7 @@ pub fn write_name(names: &Names, place: usize, out: &mut TestOutput) -> Result<(
     write_target(target, out)
 }
 
-/// Writes the word at a place, and what it stands for, or `-`.
+/// Writes the word at an index and its target, or `-`.
 pub fn write_word(words: &SymbolTable, place: usize, out: &mut TestOutput) -> Result<(), Fault> {
     let Some((word, target)) = words.at(place) else {
         return tell("-", out);
@@ -46,7 +46,7 @@ pub fn write_word(words: &SymbolTable, place: usize, out: &mut TestOutput) -> Re
     write_target(target, out)
 }
 
-/// Writes how many there are of each sort, and ends no line.
+/// Writes how many there are of each sort, without a line feed.
 pub fn write_sizes(setup: &Setup, out: &mut TestOutput) -> Result<(), Fault> {
     let (workers, events) = (setup.workers(), setup.events());
     let (lines, cells) = (setup.sequencers(), setup.cells());

@@ -1,4 +1,4 @@
-"""Random changes of histories of calls, and random texts of one."""
+"""Random changes of histories of calls, and random histories."""
 
 from trying.calls.threads import Threads
 
@@ -7,7 +7,7 @@ ODD = ("\t", "\r", " ", "\0", "\xff", "x", "0", "[", "\xef\xbb\xbf", "x" * 9000)
 
 
 def changed_reply(draw, lines):
-    """Changes a reply, mostly to one that suits the call."""
+    """Changes a reply, usually to one that suits the call."""
     places = [at for at, line in enumerate(lines) if " returns " in line]
     others = [at for at in places if not lines[at].endswith(" done")]
     if draw.random() < 0.8:
@@ -38,7 +38,7 @@ def swapped_events(draw, lines):
 
 
 def moved_event(draw, lines):
-    """Moves an event among those of other workers, so that other calls precede it or follow it."""
+    """Moves an event among those of other workers, so that other calls precede its call or follow it."""
     places = [at for at, line in enumerate(lines) if " returns " in line or " calls " in line]
     if not places:
         return
@@ -54,7 +54,7 @@ def moved_event(draw, lines):
 
 
 def swapped_replies(draw, lines):
-    """Swaps the replies of two calls that ask for the same of one object."""
+    """Swaps the replies of two calls of one operation on one object."""
     asked, alike = {}, {}
     for at, line in enumerate(lines):
         worker, *rest = line.split(" ")
@@ -70,7 +70,7 @@ def swapped_replies(draw, lines):
 
 
 def lowered_read(draw, lines):
-    """Makes a read return no more than the advances that had returned when it was called."""
+    """Makes a read return only the count of the advances that had returned when it was called."""
     made, asked, places = {}, {}, []
     for at, line in enumerate(lines):
         worker, *rest = line.split(" ")
@@ -90,7 +90,7 @@ def lowered_read(draw, lines):
 
 
 def dropped_call(draw, lines):
-    """Takes out a call with its response, so that others have no right replies."""
+    """Removes a call with its response, so that replies of others may be wrong."""
     places = [at for at, line in enumerate(lines) if " calls " in line]
     if places:
         at = draw.choice(places)
@@ -125,7 +125,7 @@ def changed_line(draw, lines):
 
 
 def random_text(draw):
-    """A random history, good or broken."""
+    """Returns a random history, good or broken."""
     lines = Threads(draw).text()
     changes = draw.choices(
         (

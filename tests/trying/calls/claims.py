@@ -1,4 +1,4 @@
-"""What a note on a history without a linearization claims: it is counted, and leaves no linearization."""
+"""Checks by counting what a note on a history without a linearization claims, and that it excludes a linearization."""
 
 from trying.calls.notes import said_in
 from trying.calls.orders import text_of_reply
@@ -23,8 +23,8 @@ from trying.counting import Fault, need
 
 
 def note_faults(history, verdict, note):
-    """What is wrong with the note (without its line feed) on a history that has this verdict, which
-    is not `linearizable`; or None."""
+    """Returns what is wrong with the note (without its line feed) on a history with this verdict, which is not
+    `linearizable`, or None."""
     line, said = said_in(note)
     if not said:
         return "it has none of the forms"
@@ -46,8 +46,8 @@ def note_faults(history, verdict, note):
 
 
 def check_undecided(history, words):
-    """Sees that the object is not decided: the value was got, and put more than once, and the puts
-    at these two lines overlap."""
+    """Checks that the object is not decided: the value was returned by a get, and put more than once, and the puts at
+    these two lines overlap."""
     part = next((part for part in history.parts() if part.key == words["X"]), None)
     need(part is not None and is_open(part), f"{words['X']} is decided")
     is_database = part.key in history.databases
@@ -69,8 +69,8 @@ def ordinal(number):
 
 
 class Claim:
-    """What a note claims of a history. Each method checks one form: it counts what the form says,
-    and sees that this leaves no linearization."""
+    """What a note claims of a history. Each method checks one form: it counts what the form says, and checks that this
+    excludes a linearization."""
 
     def __init__(self, history, line):
         self.history, self.at = history, line - history.first_line
@@ -82,7 +82,7 @@ class Claim:
                     self.part, self.calls, self.call = part, calls, call
 
     def own(self, kind, name=None):
-        """Sees that the line is of a response on an object of this kind, and this name."""
+        """Checks that the line is of a response on an object of this kind, and of this name if there is one."""
         need(self.call is not None, "the line is of no response")
         need(self.part.kind == kind, f"the line is of {self.part.kind}")
         need(name in (None, self.call.object), f"the line is of {self.call.object}")
@@ -91,7 +91,7 @@ class Claim:
         need(int(number) == self.history.line_of(position), f"line {number} is not {what}")
 
     def response(self, number):
-        """The call on the same object that returned at this line."""
+        """Returns the call on the same object that returned at this line."""
         position = int(number) - self.history.first_line
         found = [call for call in self.calls if call.last == position]
         need(found, f"line {number} is no response on this object before line N")
@@ -106,7 +106,7 @@ class Claim:
     # Eventcounts
 
     def reads(self, words, call, name="returned"):
-        """Sees that a read or an await is named by what it returned."""
+        """Checks that a read or an await is named by what it returned."""
         need(call.op[0] in ("read", "await"), "it is neither a read nor an await")
         if call.reply == "timeout":
             right = f"gave up on {call.op[1]}"
@@ -150,7 +150,7 @@ class Claim:
         need(count > 0, "the form is that with advances")
 
     def after_an_earlier(self, words):
-        """Sees that an earlier read and the advances since then are too many, and counts these."""
+        """Checks that an earlier read and the advances since then are too many, and returns how many advances."""
         self.own("eventcount")
         self.reads(words, self.call)
         earlier = self.response(words["K"])

@@ -57,7 +57,7 @@ NAME = re.compile(r"[A-Za-z][A-Za-z0-9_]{0,15}")
 
 
 def number_of(word):
-    """The number that digits spell. More than 18 of them are above every bound."""
+    """Returns the number that digits represent. More than 18 of them are above every bound."""
     return int(word) if len(word) <= 18 else MOST_NUMBER + 1
 
 
@@ -70,7 +70,7 @@ def is_name(word):
 
 
 def cause_of(kind, line):
-    """Why a line has a fault of this kind, in words."""
+    """Returns why a line has a fault of this kind, in words."""
     if kind > 2:
         return CAUSES[kind]
     if len(line) > MOST_OF_A_LINE:

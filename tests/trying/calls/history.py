@@ -6,7 +6,7 @@ from typing import NamedTuple, Optional
 
 class Call(NamedTuple):
     """A call. Its positions are those of its events. `last` and `reply` are None while it is
-    pending. `op` is what it does: ("advance",), ("read",), ("await", v), ("ticket",),
+    pending. `op` is its operation: ("advance",), ("read",), ("await", v), ("ticket",),
     ("put", value), ("get",), ("take", names) or ("give", name). `text` is how it is written."""
 
     worker: str
@@ -29,9 +29,9 @@ class History:
         self.workers = []
         self.taken = set()
         self.declared = []  # (sort, name, number)
-        self.eventcounts = {}  # spelling: (signal, observe, whether it is a group's)
-        self.sequencers = {}  # spelling: (take, whether it is a group's)
-        self.cells = {}  # spelling: (write, read, whether it is a group's)
+        self.eventcounts = {}  # name: (signal, observe, whether it is a group's)
+        self.sequencers = {}  # name: (take, whether it is a group's)
+        self.cells = {}  # name with its index: (write, read, whether it is a group's)
         self.databases = {}  # name: (cells, write, read)
         self.semaphores = {}  # name: (units at first, use)
         self.both = None  # who uses it
@@ -47,8 +47,8 @@ class History:
         return self.first_line + self.events
 
     def parts(self):
-        """The calls on each object, and what the object is. Semaphores from which one call takes
-        together are one object."""
+        """Returns the calls on each object, and what the object is. Semaphores from which one call
+        takes together are one object."""
         joined = {name: name for name in self.semaphores}
 
         def root(name):
@@ -82,7 +82,7 @@ class Part:
             self.start = history.starts.get(key, 0)
 
     def before(self, position):
-        """The calls as they are known before the event at this position."""
+        """Returns the calls as they are known before the event at this position."""
         known = lambda call: call.last is None or call.last < position
         return [
             call if known(call) else call._replace(last=None, reply=None)
@@ -91,7 +91,7 @@ class Part:
         ]
 
     def cut(self, position):
-        """The part as it is known before the event at this position."""
+        """Returns the part as it is known before the event at this position."""
         part = copy.copy(self)
         part.calls = self.before(position)
         return part

@@ -10,7 +10,7 @@ EMPTY = b"evc-calls 1\nlimit 9\nworkers a\nrun\nend\n"
 
 
 def hostile_texts():
-    """Texts, and the notes on them, or None if only the second reading says what is right."""
+    """Yields texts, and the notes on them, or None if only the second reading says what is right."""
     good = HEAD + CALL + b"end\n"
     header = "line 1: 1 BadHeader: "
     yield b"", "line 1: 12 Unfinished: the text ends too early"
@@ -46,8 +46,8 @@ def hostile_texts():
 
 
 def largest_texts():
-    """A text of the most bytes that are read: a history of many calls, of which each has one point
-    that it may have, and one without calls."""
+    """Yields a text of the most bytes that are read: a history of many calls, each of which has only
+    one possible point, and a history without calls."""
     order = b"evc-order 1\ntotals\nend\n"
     head = HEAD.replace(b"limit 9", b"limit 281474976710655")
     count = (MOST_BYTES - len(head) - len(b"end\n") - len(EMPTY)) // len(CALL)
@@ -59,7 +59,7 @@ def largest_texts():
 
 
 def filler(size):
-    """A history without calls of so many bytes, from 38 to 66."""
+    """Returns a history without calls of so many bytes, from 38 to 66."""
     more = size - len(EMPTY)
     name, limit = b"a" * (min(more, 15) + 1), b"9" * (max(more - 15, 0) + 1)
     return EMPTY.replace(b"s a", b"s " + name).replace(b"t 9", b"t " + limit)

@@ -1,4 +1,4 @@
-"""The lines of a history of calls: what they declare, and what they ask for."""
+"""The lines of a history of calls: what they declare, and which calls they invoke."""
 
 from trying.calls.format import BOUNDS, MOST_NUMBER, is_digits, is_name, number_of
 
@@ -13,8 +13,8 @@ DECLARATIONS = {
 
 
 def declaration_of(words):
-    """The sort, the name, the number and the two lists of a line that has the form of a
-    declaration, else None."""
+    """Returns the sort, the name, the number and the two lists of a line that has the form of a
+    declaration, or None."""
     if words[0] == "both":
         is_one = len(words) > 2 and words[1] == "use"
         return ("both", None, None, words[2:], []) if is_one else None
@@ -37,7 +37,7 @@ def declaration_of(words):
 
 
 def declared(history, sort, name, number, one, other):
-    """Adds what is declared, and gives the kinds of its faults."""
+    """Adds what is declared, and returns the kinds of its faults."""
     kinds = set()
     if sort == "both":
         if history.both is not None:
@@ -67,7 +67,7 @@ def declared(history, sort, name, number, one, other):
 
 
 def add_objects(history, sort, name, number, one, other):
-    """Puts the objects of a declaration into the tables."""
+    """Adds the objects of a declaration to the tables."""
     history.declared.append((sort, name, number))
     if sort == "eventcount":
         history.eventcounts[name] = one, other, False
@@ -95,7 +95,7 @@ def add_objects(history, sort, name, number, one, other):
             history.cells[f"{name}[{at}]"] = one, other, sort != "cells"
 
 
-# For each call: how many words for objects it has, and whether no, one or more numbers.
+# For each call: how many words for objects it has, and whether it has no number, one or more.
 CALLS = {
     "advance": (1, "none"),
     "read": (1, "none"),
@@ -110,7 +110,7 @@ CALLS = {
     "snapshot": (1, "none"),
 }
 
-# The table of a call's object, and the place in it of those who may make the call.
+# The table of a call's object, and the index in an entry of those who may make the call.
 TABLES = {
     "advance": ("eventcounts", 0),
     "read": ("eventcounts", 1),
@@ -127,8 +127,8 @@ TABLES = {
 
 
 def asked_of(history, words):
-    """The object, the op, the lists of those who may make the call, and the kinds of its faults
-    that do not depend on the worker; None if the words have not the form of a call."""
+    """Returns the object, the operation, the lists of those who may make the call, and the kinds of
+    its faults that do not depend on the worker. None if the words do not have the form of a call."""
     name = words[0]
     objects, numbers = CALLS.get(name, (0, "none"))
     counts = {"none": (0, 0), "one": (1, 1), "more": (1, len(words))}

@@ -17,7 +17,7 @@ DREW = (
 )
 HELD = f"(?P<X>[^ ]+) returned (?P<value>{VALUE})"
 
-# The forms of notes on histories: what it is called, and all after `line N: `. The note on what is
+# The forms of notes on histories: the name of the form, and all after `line N: `. The note on what is
 # not decided has no line.
 NOTES = {
     "few": f"{RETURNED}, but only {ADVANCES} had been called{FROM}",
@@ -46,7 +46,7 @@ NOTE = re.compile(f"(?:line (?P<N>{NUMBER}): )?(?P<rest>.*)")
 
 
 def said_in(note):
-    """The line that a note names, or None; and the forms that it has, with their words."""
+    """Returns the line that a note names, or None; and the forms that it has, with their words."""
     form = NOTE.fullmatch(note)
     if not form:
         return None, []
@@ -57,7 +57,7 @@ def said_in(note):
 
 
 def form_of(note):
-    """What a note is: the name of a form, or the name of the kind of a fault, or nothing."""
+    """Returns what a note is: the name of a form, the name of the kind of a fault, or an empty text."""
     _, said = said_in(note)
     kinds = [name for number, name in KINDS.items() if f": {number} {name}: " in note]
     return [*kinds, *(name for name, _ in said), ""][0]

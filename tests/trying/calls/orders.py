@@ -1,4 +1,4 @@
-"""Checking the orders that a program wrote of histories of calls."""
+"""Checks the orders that a program wrote of histories of calls."""
 
 import re
 
@@ -23,7 +23,7 @@ class Order:
             for call in part.calls:
                 self.parts[call] = part
         self.states = {part.key: first_state(part) for part in self.parts.values()}
-        self.effects = {}  # how many calls of an object took effect, by what they are
+        self.effects = {}  # how many calls took effect, by object and operation
 
     def add(self, line):
         form = ORDER_LINE.fullmatch(line)
@@ -42,7 +42,7 @@ class Order:
         self.take_effect(call, line)
 
     def call_at(self, point, worker):
-        """The call of a worker that is left and may take effect at this point."""
+        """Returns the call of a worker that is left and may take effect at this point, or None."""
         for call in self.left:
             end = self.history.events if call.last is None else call.last
             if call.worker == worker and call.first < point <= end:
@@ -69,7 +69,7 @@ class Order:
             raise Fault(f"the completed call `{missing[0].worker} {missing[0].text}` is missing")
 
     def totals(self):
-        """The lines of the totals."""
+        """Yields the lines of the totals."""
         for sort, name, number in self.history.declared:
             made = lambda word: self.effects.get((name or "both", word), 0)
             if sort == "eventcount":
@@ -90,13 +90,13 @@ class Order:
             if sort in ("cells", "buffer", "database"):
                 values = self.states.get(name, (0,) * number)
                 for at in range(number):
-                    spelled = f"{name}[{at}]"
-                    value = values[at] if sort == "database" else self.states.get(spelled, 0)
-                    yield f"cell {spelled} {value}"
+                    cell = f"{name}[{at}]"
+                    value = values[at] if sort == "database" else self.states.get(cell, 0)
+                    yield f"cell {cell} {value}"
 
 
 def check_order(history, lines):
-    """Takes the lines of one order text from an iterator, and raises Wrong if one is wrong."""
+    """Takes the lines of one order text from an iterator, and raises a Fault if one is wrong."""
     line = lambda: next(lines, "the end of the output")
     head = line()
     if head != "evc-order 1":
@@ -112,7 +112,7 @@ def check_order(history, lines):
 
 
 def order_faults(histories, output):
-    """What is wrong with the order texts of these histories, as text; or None."""
+    """Returns what is wrong with the order texts of these histories, or None."""
     if not output:
         return "there is no output" if histories else None
     if not output.endswith("\n"):

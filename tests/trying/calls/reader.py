@@ -1,4 +1,4 @@
-"""Reading a text of histories of calls up to its first fault."""
+"""Reads a text of histories of calls up to its first fault."""
 
 from trying.calls.format import (
     MOST_BYTES,
@@ -16,7 +16,7 @@ from trying.calls.lines import asked_of, declaration_of, declared
 
 
 def scan(text):
-    """The histories of a text that end before its first fault, that fault's note or None, and the line that it
+    """Returns the histories of a text that end before its first fault, that fault's note or None, and the line that it
     names."""
     lines = text.split(b"\n")
     rest = lines.pop()
@@ -33,13 +33,13 @@ def scan(text):
 
 
 def read(text):
-    """The histories of a text that end before its first fault, and that fault's note or None."""
+    """Returns the histories of a text that end before its first fault, and that fault's note or None."""
     return ([], "too large") if len(text) > MOST_BYTES else scan(text)[:2]
 
 
 class Reader:
-    """Reads lines one by one. The place says what is expected: `header`, `limit`, `workers`,
-    `declarations`, `from` (declarations are over) or `events`."""
+    """Reads lines one by one. `place` says what is expected: `header`, `limit`, `workers`,
+    `declarations`, `from` (no more declarations) or `events`."""
 
     def __init__(self):
         self.histories = []
@@ -49,7 +49,7 @@ class Reader:
         self.advances = {}  # how many advances of an eventcount a worker called
 
     def take(self, line, number):
-        """Reads a line, and gives the least kind of its faults, or None."""
+        """Reads a line, and returns the least kind of its faults, or None."""
         if self.place == "header":
             if line != b"evc-calls 1":
                 return 1
@@ -170,7 +170,7 @@ class Reader:
 
 
 def suits(call, reply, history):
-    """Whether this is a reply of the call's row: `done`, `timeout` or a tuple of numbers."""
+    """Returns whether a call may have this reply: `done`, `timeout` or a tuple of numbers."""
     name = call.op[0]
     if reply == "done":
         return name in ("advance", "await", "put", "take", "give")

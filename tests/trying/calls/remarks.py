@@ -7,7 +7,7 @@ from trying.calls.theorems import least_of, made_between, readers
 
 
 def surely(part, end):
-    """The count that each linearization has reached at the end."""
+    """Returns the count that each linearization has reached at the end."""
     reached = [part.start + made_between(part.calls, -1, end)]
     for call in readers(part.calls):
         reached.append(least_of(call) + made_between(part.calls, call.last, end))
@@ -15,7 +15,7 @@ def surely(part, end):
 
 
 def surely_by_search(part):
-    """The same by trying orders: as few pending advances take effect as can be."""
+    """Returns the same by trying orders: as few pending advances as possible take effect."""
     done = [call for call in part.calls if call.last is not None]
     pending = [call for call in part.calls if call.last is None and call.op == ("advance",)]
     for number in range(len(pending) + 1):
@@ -27,8 +27,8 @@ def surely_by_search(part):
 
 
 def remarks(history):
-    """The remarks on a linearizable history, by lines: of pending awaits whose threshold was surely
-    reached."""
+    """Returns the remarks on a linearizable history, by lines: on pending awaits whose threshold was
+    surely reached."""
     found = []
     for part in history.parts():
         for call in part.calls if part.kind == "eventcount" else ():

@@ -29,7 +29,7 @@ class Right:
         return 1 if self.fault else 0
 
     def faults(self, ran):
-        """What is wrong with what came of a command."""
+        """Returns what is wrong with the result of a command."""
         status, output, notes = ran
         found = []
         if status != self.status:
@@ -58,7 +58,7 @@ class Right:
 
 
 def way_faults(right):
-    """What differs between the two ways of the second """
+    """Returns what differs between the two ways of the second reading."""
     for history in [*right.good, *([right.bad] if right.bad else [])]:
         other = judge(history, fault_by_search)
         if other != (right.verdict or Verdict("linearizable")):

@@ -1,11 +1,11 @@
-"""What the objects of calls may give, and whether their calls have a linearization, by trying orders."""
+"""What the objects of calls may return, and whether their calls have a linearization, by trying orders."""
 
 import sys
 
 
 def after(kind, state, op, reply):
-    """The state after a call with this reply, or None if the object cannot give it. Of a pending
-    call the reply is None, and the call gives what there is; it does not give up."""
+    """Returns the state after a call with this reply, or None if the object cannot return it. A pending
+    call has the reply None: it returns what the state gives, and does not time out."""
     name = op[0]
     if kind == "semaphores":
         return after_on_semaphores(state, op, reply)
@@ -25,7 +25,7 @@ def after(kind, state, op, reply):
 
 
 def after_on_semaphores(state, op, reply):
-    """The same for semaphores; the state is a sorted tuple of names and units."""
+    """Returns the same for semaphores. The state is a sorted tuple of names and units."""
     if reply == "timeout":
         return state
     units = dict(state)
@@ -41,13 +41,13 @@ def first_state(part):
     return tuple(sorted(part.start.items())) if part.kind == "semaphores" else part.start
 
 
-def is_silent(op, reply):
-    """Whether the call leaves each object as it is."""
+def is_read_only(op, reply):
+    """Returns whether the call changes no object."""
     return op[0] in ("read", "await", "get") or reply == "timeout"
 
 
 class Search:
-    """Looks for a linearization of the calls on one object. What was tried in vain is kept."""
+    """Looks for a linearization of the calls on one object. States from which there is none are kept."""
 
     def __init__(self, kind, calls):
         self.kind, self.calls = kind, calls
@@ -59,8 +59,8 @@ class Search:
         self.order = []
 
     def finds(self, taken, state):
-        """Whether the calls that are not taken yet can follow. A completed call that may stand
-        next and leaves the object as it is stands next: it is in nobody's way."""
+        """Returns whether the calls that are not taken yet can follow. If a completed call may come
+        next and is read-only, only that is tried next: it excludes no order of the others."""
         if taken & self.need == self.need:
             return True
         if (taken, state) in self.vain:
@@ -70,12 +70,12 @@ class Search:
         for i, call in enumerate(self.calls):
             if taken >> i & 1 or self.before[i] & ~taken:
                 continue
-            if call.last is None and is_silent(call.op, call.reply):
+            if call.last is None and is_read_only(call.op, call.reply):
                 continue
             then = after(self.kind, state, call.op, call.reply)
             if then is not None:
                 choices.append((i, then))
-                if is_silent(call.op, call.reply):
+                if is_read_only(call.op, call.reply):
                     choices = choices[-1:]
                     break
         return any(self.takes(taken, i, then) for i, then in choices)
@@ -89,15 +89,15 @@ class Search:
 
 
 def search(kind, state, calls):
-    """The calls in an order that is a linearization, or None."""
+    """Returns the calls in an order that is a linearization, or None."""
     sys.setrecursionlimit(max(sys.getrecursionlimit(), 20 * len(calls) + 1000))
     tried = Search(kind, calls)
     return [calls[i] for i in tried.order] if tried.finds(0, state) else None
 
 
 def first_with(holds, positions):
-    """The first of these ascending positions that this holds of, or None. It holds of each
-    position after one that it holds of."""
+    """Returns the first of these ascending positions for which this holds, or None. If it holds for
+    a position, it holds for all later ones."""
     low, high = 0, len(positions)
     while low < high:
         middle = (low + high) // 2
@@ -109,7 +109,7 @@ def first_with(holds, positions):
 
 
 def fault_by_search(part):
-    """The position of the first event with which the part has no linearization, or None."""
+    """Returns the position of the first event with which the part has no linearization, or None."""
     state = first_state(part)
     fails = lambda position: search(part.kind, state, part.before(position + 1)) is None
     return first_with(fails, part.responses())

@@ -7,7 +7,7 @@ GROUPS |= {b"semaphore": (b"v", b"p"), b"both": (b"v", b"p")}
 
 
 def group_objects(lines):
-    """The names of the objects of groups, and the blocks of cells that belong to them."""
+    """Returns the names of the objects of groups, and of the blocks of cells that belong to them."""
     names, blocks = set(), set()
     for line in lines:
         sort, *words = line.split(b" ")
@@ -19,14 +19,14 @@ def group_objects(lines):
 
 
 def calls_of(trace):
-    """The history of the calls of a trace, or None and the note that says why there is none."""
+    """Returns the history of the calls of a trace, or None and the note that says why there is none."""
     lines = trace.splitlines()
     run = lines.index(b"run")
     names, blocks = group_objects(lines[3:run])
     calls = [b"evc-calls 1", *lines[1:run], b"run"]
     for place, line in enumerate(lines[run + 1 : -1]):
-        front, reply = line.split(b" = ")
-        worker, act, *words = front.split(b" ")
+        call, reply = line.split(b" = ")
+        worker, act, *words = call.split(b" ")
         why = None
         if act == b"hand":
             why = b"a component is handed over"
@@ -46,7 +46,7 @@ def totals_of(order):
 
 
 def faults_of_calls(calls, evc, trace):
-    """What is wrong with what `of` does with a text."""
+    """Returns what is wrong with what `of` does with a text."""
     status, order, notes = evc.ends(["check"], trace)
     ran = calls.ends(["of"], trace)
     if status != 0:
@@ -59,7 +59,7 @@ def faults_of_calls(calls, evc, trace):
     if not history:
         return []
     status, other, notes = calls.ends(["check"], history)
-    # (a pending await whose threshold was passed is remarked, as in every history)
+    # (there is a remark on a pending await whose threshold was reached, as for every history)
     noted = [it for it in notes.splitlines() if not it.startswith(b"remark: ")]
     faults = [f"check ends with {status}, {notes}"] if status or noted else []
     if not faults and totals_of(other) != totals_of(order):
@@ -68,7 +68,7 @@ def faults_of_calls(calls, evc, trace):
 
 
 def left_note(history, made):
-    """The note on the calls that leave no step, if so many are made."""
+    """Returns the note on the calls that leave no step, if so many are made."""
     events = history.splitlines()
     events = events[events.index(b"run") :]
     count = sum(line.split(b" ")[1:2] == [b"calls"] for line in events) - made
@@ -80,8 +80,8 @@ def left_note(history, made):
 
 
 def made_of(history, order):
-    """The lines of an order whose calls are made, and the totals then: a pending ticket past the
-    limit is left out, and a call that timed out."""
+    """Returns the lines of an order whose calls are made, and the totals then. A pending ticket beyond
+    the limit is left out, and so is a call that timed out."""
     limit = int(history.splitlines()[1].split(b" ")[1])
     made, drawn = [], {}
     for line in without_points(order):
@@ -101,13 +101,13 @@ def made_of(history, order):
 
 
 def without_points(order):
-    """The lines of an order without their points, and those without a hidden reply."""
+    """Returns the lines of an order without their points."""
     lines = order.splitlines()
     return [line.split(b" ", 1)[1] for line in lines[1 : lines.index(b"totals")]]
 
 
 def is_made_as(call, step):
-    """Whether a line of the kernel's order may stand for one of the order of calls."""
+    """Returns whether a line of the order of steps corresponds to one of the order of calls."""
     one, reply = call.split(b" = ")
     other, given = step.split(b" = ")
     if one != other:
@@ -117,7 +117,7 @@ def is_made_as(call, step):
 
 
 def entries_are_together(trace):
-    """Whether the entries of each call stand next to each other."""
+    """Returns whether the entries of each call are next to each other."""
     lines = trace.splitlines()
     pending = None
     for line in lines[lines.index(b"run") + 1 : -1]:
@@ -129,7 +129,7 @@ def entries_are_together(trace):
 
 
 def obstacle_of(history):
-    """The note on what keeps a history that is accepted from having a trace, or None."""
+    """Returns the note on why an accepted history has no trace, or None."""
     lines = history.splitlines()
     end = lines.index(b"end")
     if len(lines) > end + 1:
@@ -146,7 +146,7 @@ def obstacle_of(history):
 
 
 def faults_of_trace(calls, evc, history):
-    """What is wrong with what `trace` does with a text."""
+    """Returns what is wrong with what `trace` does with a text."""
     status, order, notes = calls.ends(["check"], history)
     ran = calls.ends(["trace"], history)
     try:
@@ -176,5 +176,5 @@ def faults_of_trace(calls, evc, history):
         faults.append("the steps of a call do not stand together")
     head = history.splitlines()[1 : history.splitlines().index(b"run") + 1]
     if ran[1].splitlines()[: len(head) + 1] != [b"evc-trace 2", *head]:
-        faults.append("the heading is another")
+        faults.append("the header is another")
     return faults

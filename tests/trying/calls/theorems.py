@@ -1,4 +1,4 @@
-"""Whether the calls on an object have a linearization, by the theorems: what shows that there is none is counted."""
+"""Decides by the theorems whether the calls on an object have a linearization: counts what shows that there is none."""
 
 import bisect
 
@@ -6,14 +6,14 @@ from trying.calls.search import first_with
 
 
 def least_of(call):
-    """The least count that a completed read or await leaves possible."""
+    """Returns the least count that a completed read or await leaves possible."""
     if call.reply == "done":
         return call.op[1]
     return 0 if call.reply == "timeout" else call.reply
 
 
 def most_of(call):
-    """The greatest, or None if there is none."""
+    """Returns the greatest count that it leaves possible, or None if there is none."""
     if call.reply == "timeout":
         return call.op[1] - 1
     return None if call.reply == "done" else call.reply
@@ -24,12 +24,12 @@ def readers(calls):
 
 
 def called_before(calls, position):
-    """How many advances were called before the event at this position."""
+    """Returns how many advances were called before the event at this position."""
     return sum(1 for call in calls if call.op == ("advance",) and call.first < position)
 
 
 def made_between(calls, low, high):
-    """How many advances were called and returned between these positions."""
+    """Returns how many advances were called and returned between these positions."""
     return sum(
         1
         for call in calls
@@ -38,14 +38,14 @@ def made_between(calls, low, high):
 
 
 def is_below(call):
-    """Whether an await returned less than it awaited, or gave up on 0."""
+    """Returns whether an await returned less than it awaited, or timed out on 0."""
     if call.op[0] != "await" or call.reply == "done":
         return False
     return call.op[1] == 0 if call.reply == "timeout" else call.reply < call.op[1]
 
 
 def counts_wrong(part, call, others):
-    """Whether this read or await shows a fault of the eventcount."""
+    """Returns whether this read or await shows a fault of the eventcount."""
     most = most_of(call)
     if is_below(call) or part.start + called_before(part.calls, call.last) < least_of(call):
         return True
@@ -64,7 +64,7 @@ def fault_of_eventcount(part):
 
 
 def may_have_drawn(calls, call):
-    """How many tickets can have drawn the numbers up to that of this completed call."""
+    """Returns how many tickets can have drawn the numbers up to that of this completed call."""
     return sum(
         1
         for one in calls
@@ -73,7 +73,7 @@ def may_have_drawn(calls, call):
 
 
 def tickets_fail(calls):
-    """Whether tickets show a fault: a number returned twice, two turned round, or too few."""
+    """Returns whether tickets show a fault: a number returned twice, two in the wrong order, or too few."""
     known = [call for call in calls if call.last is not None]
     if len({call.reply for call in known}) < len(known):
         return True
@@ -87,7 +87,7 @@ def fault_of_sequencer(part):
 
 
 def takers(calls, name, position):
-    """How many calls had taken a unit of this semaphore with the event at this position."""
+    """Returns how many calls had taken a unit of this semaphore, up to the event at this position."""
     return sum(
         1
         for call in calls
@@ -112,7 +112,7 @@ def fault_of_semaphores(part):
 
 
 def value_of(call):
-    """The value of a put, or of a get that returned; else None."""
+    """Returns the value of a put, or of a get that returned, or None."""
     return call.op[1] if call.op[0] == "put" else call.reply
 
 
@@ -125,7 +125,7 @@ def gets_of(calls):
 
 
 def times_put(calls, start, value):
-    """How often a value was put; the cell's first value was put at the start."""
+    """Returns how often a value was put. The cell's first value was put at the start."""
     return sum(1 for call in puts_of(calls) if call.op[1] == value) + (value == start)
 
 
@@ -139,21 +139,21 @@ def puts_overlap(calls):
 
 
 def doubled(calls, start):
-    """The values that were got, and put more than once."""
+    """Returns the values that were returned by gets, and put more than once."""
     return {call.reply for call in gets_of(calls) if times_put(calls, start, call.reply) > 1}
 
 
 def is_open(part):
-    """Whether the part is a cell that is not decided."""
+    """Returns whether the part is a cell that is not decided."""
     if part.kind != "cell" or not puts_overlap(part.calls):
         return False
     return bool(doubled(part.calls, part.start))
 
 
 def blocks_of(calls, start):
-    """The calls of a cell that stand together, if each value that was got was put once: those of
-    one value; and a put whose value was not got by itself. Each block is the least response, the
-    greatest invocation, and whether it is that of the first value."""
+    """Yields the blocks of calls of a cell whose returned values were each put once: the calls of one
+    value are a block, and so is a put whose value was not returned. Each block is given by its least
+    response, its greatest invocation, and whether it is that of the first value."""
     got, blocks = {call.reply for call in gets_of(calls)}, {}
     for at, call in enumerate(puts_of(calls) + gets_of(calls)):
         value = value_of(call)
@@ -166,7 +166,7 @@ def blocks_of(calls, start):
 
 
 def distinct_fails(calls, start):
-    """Whether a cell of which no value that was got was put more than once has a fault."""
+    """Returns whether a cell has a fault, if no value that a get returned was put more than once."""
     for call in gets_of(calls):
         puts = [put for put in puts_of(calls) if put.op[1] == call.reply]
         if call.reply != start and not any(put.first < call.last for put in puts):
@@ -183,8 +183,8 @@ def distinct_fails(calls, start):
 
 
 def serial_fails(calls, start):
-    """Whether a cell whose puts do not overlap has a fault: each get takes the earliest put that
-    it may have seen, and none is left for one of them."""
+    """Returns whether a cell whose puts do not overlap has a fault: each get takes the earliest put
+    that it may have seen, and for one get none is left."""
     puts = sorted(puts_of(calls), key=lambda call: call.first)
     values, placed = [start] + [call.op[1] for call in puts], []
     for get in sorted(gets_of(calls), key=lambda call: call.first):
@@ -206,5 +206,5 @@ def fault_of_cell(part):
 
 
 def fault_by_theorem(part):
-    """The same as `fault_by_search`, for a part that is decided."""
+    """Returns the same as `fault_by_search`, for a part that is decided."""
     return globals()[f"fault_of_{part.kind}"](part)

@@ -89,7 +89,7 @@ class Threads:
     # Steps
 
     def move(self, worker):
-        """A worker calls, or its call takes effect, or it returns."""
+        """Makes a worker invoke a call, or its call take effect, or the call return."""
         if worker not in self.busy:
             own = [call for call in self.calls if call[0] == worker]
             if self.left and own and not self.waits(call := self.draw.choice(own)):
@@ -103,7 +103,7 @@ class Threads:
             del self.busy[worker]
 
     def waits(self, call):
-        """Whether puts wait for each other, and one is pending."""
+        """Returns whether the call is a put that has to wait for a pending one, as puts must not overlap."""
         if not self.is_serial or call[1] not in ("put", "write"):
             return False
         return any(it[0][1:2] == (call[2],) and it[0][0] == call[1] for it in self.busy.values())
@@ -126,7 +126,7 @@ class Threads:
         return self.fresh + self.draw.choice((0, 0, 999999999999999000))
 
     def effect(self, word, name, *more):
-        """Lets a call take effect, and gives its reply; None if it goes on waiting."""
+        """Lets a call take effect, and returns its reply, or None if it goes on waiting."""
         state = self.states[name]
         if word in ("advance", "ticket", "v"):
             self.states[name] += 1

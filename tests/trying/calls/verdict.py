@@ -7,8 +7,8 @@ from trying.calls.theorems import fault_by_theorem, is_open
 
 
 class Verdict(NamedTuple):
-    """What holds of a history: `linearizable`; `refused` with the position of the first faulty
-    event; or `undecided` with the cells that are in the way."""
+    """The verdict on a history: `linearizable`; `refused` with the position of the first faulty
+    event; or `undecided` with the cells that are not decided."""
 
     name: str
     position: Optional[int] = None
@@ -16,7 +16,7 @@ class Verdict(NamedTuple):
 
 
 def opened_at(part):
-    """The position of the first event with which a part is not decided, or None."""
+    """Returns the position of the first event with which a part is not decided, or None."""
     if not is_open(part):
         return None
     ends = sorted(at for call in part.calls for at in (call.first, call.last) if at is not None)
@@ -24,8 +24,8 @@ def opened_at(part):
 
 
 def judge(history, way=fault_by_theorem):
-    """The verdict on a history. An object with a fault counts more than one that is not decided.
-    A cell with a fault before it ceases to be decided has that fault."""
+    """Returns the verdict on a history. An object with a fault counts more than one that is not
+    decided. A cell with a fault before the event with which it is not decided has that fault."""
     unclear, faults = [], []
     for part in history.parts():
         opened = opened_at(part)

@@ -1,4 +1,4 @@
-"""What `evc-calls watch` is to do of a text of histories, line by line, by the second reading."""
+"""What `evc-calls watch` has to do with a text of histories, line by line, by the second reading."""
 
 import re
 
@@ -24,8 +24,8 @@ class WatchClaim(Claim):
     """What a note of `watch` claims of a history."""
 
     def sure(self, words):
-        """The most that the calls before show: the advances that had returned, or what an earlier
-        call says, with the advances that were called after it and returned."""
+        """Checks the most advances that earlier calls show: those that had returned, or those that an earlier
+        reply implies, plus the ones that were called after it and returned."""
         self.own("eventcount")
         self.reads(words, self.call)
         self.line(words["L"], self.call.first, "its invocation")
@@ -58,7 +58,7 @@ FORMS |= {name: re.compile(NOTES[name]) for name in ("few", "below")}
 
 
 def claim_faults(history, position, note):
-    """What is wrong with the note on the event at this position, without its line feed."""
+    """Returns what is wrong with the note (without its line feed) on the event at this position, or None."""
     form = NOTE.fullmatch(note)
     if not form or form["N"] is None:
         return f"no form: {note}"
@@ -76,7 +76,7 @@ def claim_faults(history, position, note):
 
 
 def stop_of(history):
-    """The first event that ends the command, as its position and what it is; or None."""
+    """Returns the first event that ends the command, as its position and why it does, or None."""
     cells = [call.first for call in history.calls if call.op[0] in ("put", "get")]
     end = min(cells, default=history.events)
     faults = []
@@ -90,7 +90,7 @@ def stop_of(history):
 
 
 def overlaps(history):
-    """How many other calls are pending when a call is invoked, added up."""
+    """Returns how many other calls are pending when a call is invoked, added up over all calls."""
     pending = total = 0
     ends = {call.last for call in history.calls if call.last is not None}
     firsts = {call.first for call in history.calls}
@@ -104,7 +104,7 @@ def overlaps(history):
 
 
 class Watched:
-    """What `watch` is to do of a text."""
+    """What `watch` has to do with a text."""
 
     def __init__(self, text):
         self.whole, self.fault, number = scan(text)
@@ -136,7 +136,7 @@ class Watched:
         return f"{len(self.whole)} histories, {calls} calls, overlap {overlap}\n".encode()
 
     def note_fault(self, notes):
-        """What is wrong with the notes."""
+        """Returns what is wrong with the notes, or None."""
         if not self.stop:
             right = f"{self.fault}\n" if self.fault else ""
             return None if notes == right else f"right is {right!r}"
@@ -149,7 +149,7 @@ class Watched:
         return claim_faults(self.history, position, notes[:-1])
 
     def faults(self, ran):
-        """What is wrong with what came of a command."""
+        """Returns what is wrong with the result of a command."""
         status, output, notes = ran
         found = []
         if status != self.status:
@@ -161,7 +161,7 @@ class Watched:
 
 
 def agreement_faults(watched, checked):
-    """What is wrong between `watch` and `check` of one text."""
+    """Returns what differs between `watch` and `check` of one text."""
     if watched[0] == 5:
         return []
     if watched[0] != checked[0]:
@@ -174,5 +174,5 @@ def agreement_faults(watched, checked):
     (one, is_text), (other, is_other_text) = ((int(it[1]), bool(it[2])) for it in lines)
     if is_text == is_other_text:
         return [] if one == other else [f"watch names line {one}, check line {other}"]
-    # (an event is refused at once, and `check` reads the whole history first)
+    # (`watch` stops at a faulty event at once, and `check` reads the whole history first)
     return [] if one < other and is_other_text else [f"watch: {watched[2]}, check: {checked[2]}"]

@@ -1,4 +1,4 @@
-"""Comparing the two ways of the second reading, orders and theorems, on random calls of one object."""
+"""Compares the two ways of the second reading, orders and theorems, on random calls of one object."""
 
 import random
 
@@ -40,7 +40,7 @@ ALPHABETS = {
 
 
 def random_part(draw, declaration, letters):
-    """A text of random calls on one object, with random replies."""
+    """Returns a text of random calls on one object, with random replies."""
     busy, lines = {}, []
     for _ in range(draw.randint(2, 20)):
         worker = draw.choice("abcd")
@@ -59,7 +59,7 @@ def random_part(draw, declaration, letters):
 
 
 def counts_agree(history, verdict):
-    """Whether both ways find the same counts that are sure, of a linearizable history."""
+    """Returns whether both ways find the same counts that were surely reached, if the history is linearizable."""
     if verdict.name != "linearizable":
         return True
     counted = [part for part in history.parts() if part.kind == "eventcount"]

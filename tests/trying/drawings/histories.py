@@ -46,7 +46,7 @@ class History:
                 self.calls[i] = self.calls[i]._replace(last=at, reply=rest)
 
     def points(self, order):
-        """The point of each call, by the lines of an order: those of a worker are in the order of its calls."""
+        """Returns the point of each call, by the lines of an order: those of a worker are in the order of its calls."""
         points, rest = {}, {w: [c for c in self.calls if c.worker == w] for w in self.workers}
         for line in order.split("\n")[1:]:
             if line == "totals":
@@ -69,7 +69,7 @@ class Text(NamedTuple):
 
 
 def text_of(output, workers):
-    """Reads a picture as a text."""
+    """Reads a picture that is a text."""
     lines = output.split("\n")
     events = [int(it) for it in lines[0][18:].split()]
     places = (len(lines[0]) - 18) // len(events) if events else 4
@@ -92,7 +92,7 @@ def text_of(output, workers):
 
 
 def counts(kind, act, reply=None):
-    """Whether a call raises a count: advances of an eventcount, tickets of a sequencer, or units given and taken."""
+    """Returns whether a call adds to a count: advances, tickets, or units of a semaphore that are given or taken."""
     word, *names = act.split()
     if reply == "timeout":
         return False
@@ -103,14 +103,14 @@ def counts(kind, act, reply=None):
 
 
 def tally(calls, kind, position):
-    """How many had been called, and how many had returned, when the event at a position comes."""
+    """Returns how many calls of a kind are invoked and how many have returned before the event at a position."""
     called = sum(counts(kind, c.act) and c.first < position for c in calls)
     returned = sum(c.last is not None and c.last < position and counts(kind, c.act, c.reply) for c in calls)
     return called, returned
 
 
 def bounds(history, name, position):
-    """The least and the greatest number of an object when the event at a position comes."""
+    """Returns the least and the greatest number that an object may have before the event at a position."""
     if name in history.units:
         given, taken = (tally(history.calls, (sort, name), position) for sort in ("given", "taken"))
         units = history.units[name]
@@ -122,7 +122,7 @@ def bounds(history, name, position):
 
 
 def moved(history, name, points, position):
-    """The number of an object along the order when the event at a position comes."""
+    """Returns the number of an object, along the order, before the event at a position."""
     done = [c for c, point in points.items() if point <= position]
     if name in history.units:
         given = sum(counts(("given", name), c.act) for c in done)

@@ -1,4 +1,4 @@
-"""What options choose of a trace of 1000 entries and of one with none, and the rows of some texts, told by hand."""
+"""What options choose of a trace of 1000 entries and of one with none, and the rows of some texts, written by hand."""
 
 LONG = b"evc-trace 1\nlimit 9999\nworkers a\neventcount E signal a\nrun\n" + b"a advance E = done\n" * 1000 + b"end\n"
 EMPTY = b"evc-trace 1\nlimit 9\nworkers a\neventcount E signal a\nrun\nend\n"
@@ -65,7 +65,7 @@ OF_EMPTY = [
 
 
 def wrong_options(draw):
-    """Of some options what is drawn or told, and what is wrong with that."""
+    """Yields some options, and what is wrong with what is drawn or reported with them."""
     for words, right, beginning in OF_LONG:
         status, drawn, notes = draw.says(*words, text=LONG)
         good = status == right and notes.startswith(beginning) and bool(notes) == bool(beginning)
@@ -79,16 +79,16 @@ def wrong_options(draw):
 
 
 def texts_by_hand():
-    """Traces of which the rows that `--text` writes are told by hand: of each its name, the trace, the options
-    beside `--text`, the width of its cells, and the names and the cells of its rows. The first cell is that of the
-    moment before the first entry."""
-    heading = b"evc-trace 1\nlimit 9999\nworkers a b\nsemaphore S %d use a b\nrun\n"
+    """Yields traces for which the rows of `--text` are given by hand: the name, the trace, the options besides
+    `--text`, the width of the cells, and the names and the cells of the rows. The first cell is that of the moment
+    before the first entry."""
+    header = b"evc-trace 1\nlimit 9999\nworkers a b\nsemaphore S %d use a b\nrun\n"
     run_ = b"a ticket S.p = 0\na await S.v 0 = pending\na go = 0\na advance S.v = done\nend\n"
     for initial, width in (999, 4), (1000, 8), (1000000, 8):
         balances = [initial, initial, initial, initial - 1, initial]
         yield (
             f"a semaphore of {initial}",
-            heading % initial + run_,
+            header % initial + run_,
             [],
             width,
             [
@@ -100,23 +100,23 @@ def texts_by_hand():
                 ("S", balances),
             ],
         )
-    heading = b"evc-trace 1\nlimit 10\nworkers a c\neventcount E signal a observe c\nrun\n"
-    heading += b"a advance E = done\nc read E = 1\n"
+    header = b"evc-trace 1\nlimit 10\nworkers a c\neventcount E signal a observe c\nrun\n"
+    header += b"a advance E = done\nc read E = 1\n"
     own = [("a", ["", 0, ""]), ("c", ["", "", 0])]
     for line in b"c advance E = done", b"c read E", b"":
-        faulty = heading + line + b"\nend\n"
+        faulty = header + line + b"\nend\n"
         yield f"the line {line}", faulty, [], 4, [("entry", ["", 0, 1, "!"]), *own, ("E", [0, 1, 1, 1])]
         yield f"the line {line}, not shown", faulty, ["--to", "1"], 4, [("entry", ["", 0, 1]), *own, ("E", [0, 1, 1])]
         rows = [("entry", ["", "!"]), ("a", [""]), ("c", [""]), ("E", [1, 1])]
         yield f"only the line {line}", faulty, ["--from", "2"], 4, rows
     for line in b"c read E = 1", b"c read E = 7":
         rows = [("entry", ["", 0, 1, 2]), ("a", ["", 0, "", ""]), ("E", [0, 1, 1, 1])]
-        yield f"the line {line}", heading + line + b"\nend\n", ["--worker", "a"], 4, rows
+        yield f"the line {line}", header + line + b"\nend\n", ["--worker", "a"], 4, rows
 
 
 def wrong_rows(draw):
-    """Of each of these traces its name, and what is wrong with its rows."""
+    """Yields the name of each of these traces, and what is wrong with its rows."""
     for name, text, options, width, rows in texts_by_hand():
-        wanted = "".join(name.ljust(23) + "".join(str(it).rjust(width) for it in cells) + "\n" for name, cells in rows)
+        right = "".join(name.ljust(23) + "".join(str(it).rjust(width) for it in cells) + "\n" for name, cells in rows)
         rows = draw.says("--text", *options, text=text)[1].partition("\n\n")[0] + "\n"
-        yield name, None if rows == wanted else f"rows\n{rows} and not\n{wanted}"
+        yield name, None if rows == right else f"rows\n{rows} and not\n{right}"

@@ -1,4 +1,4 @@
-"""Reading the pictures of traces: as SVG, and as text."""
+"""Reads the pictures of traces: as SVG, and as text."""
 
 import re
 import xml.etree.ElementTree as tree
@@ -10,16 +10,16 @@ TITLE = re.compile(r"(.*), entries (\d+) to (\d+), point (\d+)")
 
 
 def heights_of(path, foot, low, high):
-    """The numbers of a curve whose least and greatest these are, and whose least stands at this height."""
+    """Returns the numbers of a curve. Its least is `low`, at the height `foot`, and its greatest is `high`."""
     span = max(high - low, 1)
     rises = {52 * n // span: low + n for n in range(span + 1)}
     return [rises[foot - int(path[at + 1])] for at in range(3, len(path), 4)]
 
 
 def drawn(picture):
-    """The calls of a picture, as the lines of `check`, the last count of each curve, how many entries and calls
-    under way it has, what stands beside the dots, the names of the rows, and the findings: arrows and shades with
-    their columns, and balances."""
+    """Returns the calls of a picture, as the lines of `check`, the last count of each curve, how many entries and
+    pending calls it has, the labels of the dots, the names of the rows, and the findings: arrows and shades with their
+    columns, and balances."""
     top = tree.fromstring(picture)
     calls, begun, marks = [], 0, []
     arrows, shades = [], []
@@ -68,8 +68,8 @@ def drawn(picture):
 
 
 def bars_of(picture):
-    """Of each call of a picture its first entry and its last, which one under way has not, where its bar begins and
-    ends, what is told below it, and where a line is within it."""
+    """Yields, for each call of a picture, its first entry and its last (None if it is pending), where its bar begins
+    and ends, what is written below it, and where lines are within it."""
     for group in tree.fromstring(picture).iter(SPACE + "g"):
         if group.get("class") in ("version", "delivery"):
             continue
@@ -81,9 +81,9 @@ def bars_of(picture):
         yield first, last, int(bar.get("x")), int(bar.get("x")) + int(bar.get("width")), below, rounds
 
 
-def told(text, groups=()):
-    """The calls of a text, as the lines of `check`, the last number of each count's row, the worker in whose row
-    each entry has a mark, if one has, how many calls are under way, and the findings: the lines of deliveries and
+def read_text(text, groups=()):
+    """Returns the calls of a text, as the lines of `check`, the last number of each count's row, the worker in whose
+    row each entry has a mark, if one has, how many calls are pending, and the findings: the lines of deliveries and
     versions, and the balances of these groups."""
     top, below = text.split("\n\n")
     lines = below.split("\n")[:-1]
@@ -95,8 +95,8 @@ def told(text, groups=()):
     heads, *rows = top.split("\n")
     # (the first cell of a row is that of the moment before the first entry: only a count has a number there)
     first = re.search(r"\d+", heads)
-    behind = 23 + (first.end() - 23) // 2 if first else 39
-    counts = [it for it in rows if re.fullmatch(r"[\w.]+ +[\d ]+", it) and it[:23].strip() and it[23:behind].strip()]
+    end = 23 + (first.end() - 23) // 2 if first else 39
+    counts = [it for it in rows if re.fullmatch(r"[\w.]+ +[\d ]+", it) and it[:23].strip() and it[23:end].strip()]
     totals = {it.split()[0]: it.split()[-1] for it in counts if it.split()[0] not in groups}
     balances = {it.split()[0]: [int(n) for n in it.split()[1:]] for it in counts if it.split()[0] in groups}
     marks = []

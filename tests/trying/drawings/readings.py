@@ -7,7 +7,7 @@ from trying.counting import Fault
 
 
 def signallers(line):
-    """The eventcounts that a declaration declares, each with its signallers."""
+    """Returns the eventcounts that a declaration declares, each with its signallers."""
     word = re.split(r" (?:signal|observe|take|write|read|produce|consume|use) ", " " + line)
     kind, name = (word[0].split() + [""])[:2]
     if kind == "eventcount":
@@ -21,14 +21,14 @@ def signallers(line):
 
 @functools.lru_cache(64)
 def entries_of(text):
-    """Of each entry its worker, the object of its call, what stands beside its dot (the component that it read or
-    raised, and the number that it read of it), and whether it is told Pending."""
-    heading, body = text.decode().split("\nrun\n")
-    events = {name: list(who) for line in heading.split("\n") for name, who in signallers(line).items()}
-    counts, under_way, found = {name: [0] * len(who) for name, who in events.items()}, {}, []
+    """Returns, for each entry, its worker, the object of its call, the label of its dot (the component that it read or
+    incremented, and the number that it read of it), and whether its reply is `pending`."""
+    header, body = text.decode().split("\nrun\n")
+    events = {name: list(who) for line in header.split("\n") for name, who in signallers(line).items()}
+    counts, pending, found = {name: [0] * len(who) for name, who in events.items()}, {}, []
     for line in body.split("\n")[:-2]:
         worker, act, *rest = line.split()
-        name, at = under_way[worker] if act == "go" else (rest[0], 0)
+        name, at = pending[worker] if act == "go" else (rest[0], 0)
         label = None
         if act == "advance":
             at = events[name].index(worker)
@@ -36,7 +36,7 @@ def entries_of(text):
             label = str(at)
         elif act in ("read", "await", "go"):
             label = f"{at}={counts[name][at]}"
-            under_way[worker] = name, (at + 1) % len(events[name])
+            pending[worker] = name, (at + 1) % len(events[name])
         elif act == "hand":
             events[name][events[name].index(worker)] = rest[1]
         found.append((worker, name, label, line.endswith("= pending")))
@@ -44,8 +44,8 @@ def entries_of(text):
 
 
 def groups_of(text):
-    """The groups that a trace declares, in order: of each its kind, its name, and its number of cells or its initial
-    value."""
+    """Returns the groups that a trace declares, in order: the kind, the name, and the number of cells or the initial
+    value of each."""
     found = []
     for line in text.decode().split("\nrun\n")[0].split("\n")[3:]:
         words = line.split()
@@ -58,12 +58,12 @@ def groups_of(text):
 
 @functools.lru_cache(64)
 def calls_of(text):
-    """The finished calls of a trace, by their ends: of each its worker, its words, its reply, and its first and its
-    last entry."""
+    """Returns the completed calls of a trace, in the order of their responses: the worker, the words, the reply, and
+    the first and the last entry of each."""
     begun, found = {}, []
     for at, line in enumerate(text.decode().split("\nrun\n")[1].split("\n")[:-2]):
-        front, reply = line.split(" = ")
-        worker, *words = front.split()
+        call, reply = line.split(" = ")
+        worker, *words = call.split()
         if words != ["go"]:
             begun[worker] = (words, at)
         if reply != "pending":
@@ -71,24 +71,24 @@ def calls_of(text):
     return found
 
 
-def under_way(text):
-    """The first entries of the calls of a trace that are under way at its end."""
+def pending_calls(text):
+    """Returns the first entries of the calls of a trace that are pending at its end."""
     begun = {}
     for at, line in enumerate(text.decode().split("\nrun\n")[1].split("\n")[:-2]):
-        front, reply = line.split(" = ")
-        worker, *words = front.split()
+        call, reply = line.split(" = ")
+        worker, *words = call.split()
         begun[worker] = None if reply != "pending" else begun[worker] if words == ["go"] else at
     return [it for it in begun.values() if it is not None]
 
 
 def moves_of(calls, name, act):
-    """The entries that put into a buffer, or that get from it."""
+    """Returns the entries that put into a buffer, or that get from it."""
     return [last for _, words, _, _, last in calls if words[0] == act and words[1].split("[")[0] == name]
 
 
 def tries_of(calls, name, cells):
-    """The accepting tries of a database, by their last entries: as `audit` has them, with their first and last
-    entries."""
+    """Returns the accepting tries of a database, in the order of their last entries: the lines of `audit`, with the
+    first and the last entry of each."""
     lists, found = {}, []
     for worker, words, reply, first, last in calls:
         object_ = words[1].split("[")[0]
@@ -107,14 +107,14 @@ def tries_of(calls, name, cells):
 
 
 def balances_of(calls, name, initial, entries):
-    """The balance of a semaphore at each moment."""
+    """Returns the balance of a semaphore at each moment."""
     ups = [last for _, words, _, _, last in calls if words == ["advance", f"{name}.v"]]
     downs = [last for _, words, _, _, last in calls if words[:2] == ["await", f"{name}.v"]]
     return [initial + sum(at < k for at in ups) - sum(at < k for at in downs) for k in range(entries + 1)]
 
 
 class Findings:
-    """What is wanted of the findings of a trace, given the text of `audit`, or the name of the group that it says is
+    """The findings that are expected of a trace, given the lines of `audit`, or the name of the group that it says is
     not followed."""
 
     def __init__(self, text, audit, broken):
@@ -124,8 +124,8 @@ class Findings:
             kind, name, *words = line.split()
             if kind == "delivery":
                 put, got = (moves_of(calls, name, act)[int(words[0])] for act in ("put", "get"))
-                told = f"{line}, put at entry {put}, got at entry {got}"
-                self.arrows.append((told, words[1:3], f"{name}.in", put, got))
+                title = f"{line}, put at entry {put}, got at entry {got}"
+                self.arrows.append((title, words[1:3], f"{name}.in", put, got))
             elif kind == "balance":
                 self.balances[name] = balances_of(calls, name, int(words[0]), entries)
                 if self.balances[name][-1] != int(words[3]):
@@ -136,8 +136,8 @@ class Findings:
                 if [it[0] for it in own] != [line for line in audit if line.startswith(f"version {name} ")]:
                     raise Fault(f"own tries of {name}: {own}")
                 for line, first, last in own:
-                    told = f"{line}, entries {first} to {last}"
-                    self.shades.append((told, line.split()[3], f"{name}.start", first, last))
+                    title = f"{line}, entries {first} to {last}"
+                    self.shades.append((title, line.split()[3], f"{name}.start", first, last))
 
 
 def findings_of(check, text):
@@ -147,7 +147,7 @@ def findings_of(check, text):
 
 
 def objects_of(text):
-    """The names by which objects of a trace can be asked for: of its declarations, and of what belongs to a group."""
+    """Returns the names by which objects of a trace can be asked for: of its declarations, and of parts of groups."""
     found = []
     for line in text.decode().split("\nrun\n")[0].split("\n")[3:]:
         found += [*signallers(line), line.split()[0] if line.split()[0] == "both" else line.split()[1]]
@@ -155,6 +155,6 @@ def objects_of(text):
 
 
 def is_asked(name, names):
-    """Whether an object was asked for by its name, or by that of its block or its group. Where no name was given all
-    were."""
+    """Returns whether an object was asked for by its name, or by that of its block or its group. No names stand for
+    all objects."""
     return not names or any(name == it or name.startswith(f"{it}.") or name.split("[")[0] == it for it in names)

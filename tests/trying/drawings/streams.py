@@ -14,8 +14,8 @@ LONGEST = HEADING + b"a read E = 0\n" * 5162213 + b"a advance E = done\nend\n"
 
 
 def wrong_sizes(draw):
-    """Of the longest trace, of one byte more and of a text without end the name, and what is wrong with what comes
-    of it."""
+    """Yields the names of the longest trace, of one that is a byte longer and of a text without end, and what is wrong
+    with the result of each."""
     status, answer, notes = draw.says("--text", "--from", "5162213", text=LONGEST)
     last = "a advance E = done, entries 5162213 to 5162213, point 5162213\n"
     right = (len(LONGEST), status, notes, answer.rpartition("\n\n")[2]) == (TRACE_MAX, 0, "", last)
@@ -28,7 +28,7 @@ def wrong_sizes(draw):
 
 
 def wrong_streams(draw, text):
-    """Of what can't be read or written the name, and what is wrong with what comes of it."""
+    """Yields the names of what can't be read or written, and what is wrong with the result of each."""
     for words in [], ["--text"], ["--to", "2", "--object", "E"]:
         yield f"{words} of a folder", faults_of_folder(draw, words)
     for words in [], ["--text"], ["--help"], ["--version"]:
@@ -37,7 +37,7 @@ def wrong_streams(draw, text):
 
 
 def wrong_words():
-    """Words that ask for no picture, and what stands first in what is said of them."""
+    """Yields words that ask for no picture, and the beginning of what is said of them."""
     for words in [b"\xff"], [b"--text", b"--worker", b"a\xff"], [b"--from", b"1\xc3"]:
         yield words, b"error: a word of the command line is not UTF-8\n"
     for many in 100, 4000, 100_000:
@@ -56,8 +56,8 @@ def wrong_notes(draw):
 
 
 def wrong_files(draw, text):
-    """Of a file that is named, of one that is not there and of a folder the name, and what is wrong with what comes
-    of it."""
+    """Yields the names of a file, of one that doesn't exist and of a folder, and what is wrong with the result of
+    each."""
     with tempfile.TemporaryDirectory() as room:
         path = Path(room) / "a.trace"
         path.write_bytes(text)
@@ -70,7 +70,7 @@ def wrong_files(draw, text):
 
 
 def wrong_pages(draw, texts):
-    """Of some traces the name, and what is wrong with their pages: each has the picture whole, and its script."""
+    """Yields the names of some traces, and what is wrong with their pages: each has the whole picture, and a script."""
     for name, text in texts:
         page, picture = draw.says("--html", text=text), draw.says(text=text)
         whole = page[1].startswith("<!DOCTYPE html>\n") and page[1].endswith("</script>\n") and picture[1] in page[1]

@@ -1,10 +1,10 @@
-"""Traces that are drawn: random ones, of groups, of as many objects as there can be, and such as are refused."""
+"""Traces that are drawn: random ones, of groups, of as many objects as there can be, and some that are rejected."""
 
 import re
 
 
 def random_trace(dice, workers=None, components=3, entries=None):
-    """A trace of an accepted history, by a simulator of its own."""
+    """Returns a trace of an accepted history, made by a simulator of its own."""
     workers = [f"w{i}" for i in range(workers or dice.randint(1, 6))]
     most = min(components, len(workers))
     events = {f"E{i}": dice.sample(workers, dice.randint(1, most)) for i in range(dice.randint(1, 3))}
@@ -13,10 +13,10 @@ def random_trace(dice, workers=None, components=3, entries=None):
     names = " ".join(workers)
     lines += [f"sequencer T take {names}", f"cells C 2 write {names} read {names}", "run"]
     counts = {e: [0] * len(s) for e, s in events.items()}
-    under_way, tickets, cells = {}, 0, [0, 0]
+    pending, tickets, cells = {}, 0, [0, 0]
     for _ in range(entries if entries is not None else dice.randint(0, 60)):
         w = dice.choice(workers)
-        if w in under_way:
+        if w in pending:
             act = "go"
         else:
             e = dice.choice(list(events))
@@ -36,15 +36,15 @@ def random_trace(dice, workers=None, components=3, entries=None):
             reply = "done" if word[0] == "put" else str(cells[at])
         else:
             if word[0] != "go":
-                under_way[w] = [word[1], int(word[2]) if word[0] == "await" else 0, 0, 0]
-            call = under_way[w]
+                pending[w] = [word[1], int(word[2]) if word[0] == "await" else 0, 0, 0]
+            call = pending[w]
             call[3] += counts[call[0]][call[2]]
             call[2] += 1
             reply = "pending"
             if call[2] == len(events[call[0]]):
                 if call[3] >= call[1]:
                     reply = str(call[3])
-                    del under_way[w]
+                    del pending[w]
                 else:
                     call[2] = call[3] = 0
         lines.append(f"{w} {act} = {reply}")
@@ -52,7 +52,7 @@ def random_trace(dice, workers=None, components=3, entries=None):
 
 
 def random_groups(dice, check):
-    """A trace of groups, made by `sim` of a random script by a random schedule."""
+    """Returns a trace of groups, made by `sim` from a random script with a random schedule."""
     workers = [f"w{i}" for i in range(dice.randint(3, 6))]
     half = dice.randint(1, len(workers) - 1)
     write, read = workers[:half], workers[half:]
@@ -83,8 +83,7 @@ def random_groups(dice, check):
 
 
 def trace_of_objects(many):
-    """A trace with so many eventcounts and sequencers, and as many cells, in blocks of four at most, with calls on
-    each."""
+    """Returns a trace with so many eventcounts, sequencers and cells, in blocks of four at most, and calls on each."""
     lines = ["evc-trace 1", "limit 1", "workers a b"]
     lines += [f"eventcount E{i} signal a observe b" for i in range(many)]
     lines += [f"sequencer T{i} take a" for i in range(many)]
@@ -97,9 +96,9 @@ def trace_of_objects(many):
 
 
 def long_groups(dice, check, entries):
-    """A trace of groups with so many entries, made by `sim`: two workers that produce and consume, write and read
-    eight cells and take from a semaphore again and again. Each goes on for some entries at a time, so that some
-    tries are accepted."""
+    """Returns a trace of groups with so many entries, made by `sim`: two workers that produce and consume, write and
+    read eight cells and take from a semaphore again and again. Each takes some steps at a time, so that some tries are
+    accepted."""
     first, second = (" ".join(str(10 * it + n) for n in range(8)) for it in (1, 2))
     lines = ["evc-script 1", "limit 100000", "workers a b", "buffer B 2 produce a consume b"]
     lines += ["database D 8 write a read b", "semaphore S 1 use a b"]
@@ -114,7 +113,7 @@ def long_groups(dice, check, entries):
 
 
 def changed(text, dice):
-    """A trace in which some reply is another."""
+    """Returns a trace in which some reply is changed."""
     lines = text.split(b"\n")
     at = dice.randrange(lines.index(b"run") + 1, len(lines) - 1)
     if b" = " in lines[at]:
@@ -123,14 +122,14 @@ def changed(text, dice):
 
 
 def twice(text):
-    """A trace with its last entry twice, which mostly is refused."""
+    """Returns a trace with its last entry twice, which usually is rejected."""
     lines = text.split(b"\n")
     return b"\n".join(lines[:-2] + lines[-3:])
 
 
 def one_more(text):
-    """A trace of groups in which a worker that has no call under way draws one more ticket of the producers, which
-    may break its lists."""
+    """Returns a trace of groups in which producers without a pending call draw one more ticket each, which may break
+    their lists."""
     lines = text.decode().split("\n")
     at = lines.index("run") + 1
     last = {line.split()[0]: line for line in lines[at:-2]}
@@ -142,19 +141,19 @@ def one_more(text):
 
 
 def hostile(text):
-    """Texts that are no traces, by their names."""
-    heading, body = text.split(b"\nrun\n")
+    """Returns texts that are no traces, by their names."""
+    header, body = text.split(b"\nrun\n")
     lines = body.split(b"\n")
     return {
         "nothing": b"",
         "only zeros": b"\0" * 9000,
         "a picture": b"<svg xmlns='http://www.w3.org/2000/svg'><script>alert(1)</script></svg>\n",
-        "a heading alone": heading + b"\n",
-        "a run that never ends": heading + b"\nrun\n" + b"\n".join(lines[:1]) + b"\n",
-        "an entry with an element": heading + b"\nrun\n<b>&amp;</b> read E = 1\nend\n",
-        "an entry that ends a section": heading + b"\nrun\na ]]> E = 1\nend\n",
-        "an entry with bytes of all sorts": heading + b"\nrun\n" + bytes({*range(256)} - {10}) + b"\nend\n",
-        "an entry that is too long": heading + b"\nrun\n" + b"x" * 9000 + b"\nend\n",
-        "an empty line": heading + b"\nrun\n\nend\n",
-        "lines behind the end": text + b"a read E = 1\n",
+        "only a header": header + b"\n",
+        "a run that never ends": header + b"\nrun\n" + b"\n".join(lines[:1]) + b"\n",
+        "an entry with an element": header + b"\nrun\n<b>&amp;</b> read E = 1\nend\n",
+        "an entry that ends a section": header + b"\nrun\na ]]> E = 1\nend\n",
+        "an entry with bytes of all sorts": header + b"\nrun\n" + bytes({*range(256)} - {10}) + b"\nend\n",
+        "an entry that is too long": header + b"\nrun\n" + b"x" * 9000 + b"\nend\n",
+        "an empty line": header + b"\nrun\n\nend\n",
+        "lines after the end": text + b"a read E = 1\n",
     }

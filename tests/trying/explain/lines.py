@@ -1,4 +1,4 @@
-"""What is wrong with what evc-explain shows of a line that is rejected, and why it is."""
+"""What is wrong with what evc-explain shows of a line that is rejected, and with its reasons."""
 
 import re
 
@@ -8,7 +8,7 @@ def plain(line):
 
 
 def faults_of_line(text, number, output):
-    """What is wrong with how a line is shown: the line as it stands, and the mark within it."""
+    """Returns what is wrong with how a line is shown: the line as it is, and the mark within it."""
     lines = text.split(b"\n")
     line = plain(lines[number - 1]) if number <= len(lines) else b""
     shown = output.split(b"\n")
@@ -36,7 +36,7 @@ COUNT = re.compile(rb"The count of (\S+) was (\d+) when the round began, on line
 
 
 def faults_of_reason(lines, number, more):
-    """What is wrong with a line that is said to show why, or with what is said of the history before."""
+    """Returns what is wrong with a line that is said to show why, or with what is said of the history before."""
     seen = re.fullmatch(rb"See line (\d+): (.*)", more)
     if not seen:
         known = any(it.fullmatch(more) for it in (REASONS, COMPONENT, COUNT))
@@ -46,13 +46,13 @@ def faults_of_reason(lines, number, more):
 
 
 def total(lines, event, before):
-    """How often an eventcount was advanced before a line."""
+    """Returns how often an eventcount was advanced before a line."""
     return sum(it.split(b" ")[1:3] == [b"advance", event] for it in lines[lines.index(b"run") + 1 : before - 1])
 
 
 def faults_of_round(lines, number, reasons):
-    """What is wrong with the components of a round: each is read by an entry of the worker, in order, up to
-    the faulty line, and has what its signaller advanced; and the counts are those at these lines."""
+    """Returns what is wrong with the components of a round: each is read by an entry of the worker, in order, up to the
+    faulty line, and is the number of its signaller's advances; and the counts are those at these lines."""
     found = [it for it in map(COMPONENT.fullmatch, reasons) if it]
     if not found:
         return []
@@ -80,7 +80,7 @@ def faults_of_round(lines, number, reasons):
 
 
 def faults_of_certificate(lines, shown, note):
-    """What is wrong with what is shown of a certificate: the note of evc-calls check, and each line that it
+    """Returns what is wrong with what is shown of a certificate: the note of evc-calls check, and each line that it
     names."""
     at, said = re.fullmatch(rb"line (\d+): (.*)", note).groups()
     seen = {int(it[1]): it[2] for it in (re.fullmatch(rb"See line (\d+): (.*)", it) for it in shown) if it}

@@ -1,4 +1,4 @@
-"""The C library: a driver that makes calls of it, built by the toolchain, and the programs that it is compared with."""
+"""The C library: a driver that calls it, built by the toolchain, and the programs that it is compared with."""
 
 import os
 import struct
@@ -28,17 +28,17 @@ class Answer:
 
 
 def histories_in(text):
-    """How many histories of calls a text may have."""
+    """Returns how many histories of calls a text may have."""
     return max(text.count(b"evc-calls 1\n"), 1)
 
 
 def notes_room_of(command, text):
-    """The room that library/evc.h tells for the notes of a command."""
+    """Returns the room that library/evc.h asks for the notes of a command."""
     return len(text) + 4096 * histories_in(text) if command == CALLS else NOTES_ROOM
 
 
 def room_of(command, text):
-    """The room that library/evc.h tells for the text of a command."""
+    """Returns the room that library/evc.h asks for the text of a command."""
     if command == WATCH:
         return 32
     if command == CALLS:
@@ -64,7 +64,7 @@ def by_program(programs, command, text):
 
 
 def answer_in(data):
-    """The first answer of some bytes, and the bytes behind it."""
+    """Returns the first answer of some bytes, and the bytes after it."""
     if len(data) < 24:
         raise Fault("the driver ended early")
     status, changed, text, notes = struct.unpack_from("<BB6xQQ", data)
@@ -99,14 +99,14 @@ def short(answer):
 
 
 def archive(library, folder):
-    """The archive libevc.a: the library, and what it takes memory by."""
+    """Makes the archive libevc.a: the library, and the functions by which it allocates."""
     kit, whole = toolchain(), os.path.join(folder, "libevc.a")
     tool = os.path.join(kit, "toolchain", "bin", "llvm-ar")
     subprocess.run([tool, "qcLD", whole, library, os.path.join(kit, "c", "liblibc_c.a")], check=True)
     return whole
 
 
-# What library/evc.h takes of a compiler's own headers.
+# What library/evc.h uses of a compiler's own headers.
 HEADERS = {
     "stddef.h": "typedef __SIZE_TYPE__ size_t;\n",
     "stdint.h": "".join(f"typedef __UINT{it}_TYPE__ uint{it}_t;\n" for it in (8, 32, 64)),
@@ -114,7 +114,7 @@ HEADERS = {
 
 
 def driver_of(library, folder):
-    """Builds the driver by the toolchain alone."""
+    """Builds the driver with the toolchain only."""
     kit = toolchain()
     headers, made, program = (os.path.join(folder, it) for it in ("headers", "driver.o", "driver"))
     os.mkdir(headers)

@@ -1,4 +1,4 @@
-"""Monitors of the C library, which are given histories of calls line by line, beside `evc-calls watch`."""
+"""Monitors of the C library, which are given histories of calls line by line, compared with `evc-calls watch`."""
 
 import struct
 
@@ -8,16 +8,16 @@ from trying.library.refusals import NOTHING_REFUSED, fault_of_refusals
 from trying.refusing import NO_MEMORY
 
 
-def watched(told):
-    """What `evc-calls watch` would have answered where a monitor did this, and the line of its first status."""
-    histories, calls, others, line = struct.unpack("<4Q", told.text)
+def watched(given):
+    """Returns the answer of `evc-calls watch` that corresponds to a monitor's, and the line of its first status."""
+    histories, calls, others, line = struct.unpack("<4Q", given.text)
     overlap = f"{others // calls}.{others * 100 // calls % 100:02}" if calls else "0.00"
-    text = f"{histories} histories, {calls} calls, overlap {overlap}\n".encode() if told.status == 0 else b""
-    return Answer(told.status, text, told.notes), line
+    text = f"{histories} histories, {calls} calls, overlap {overlap}\n".encode() if given.status == 0 else b""
+    return Answer(given.status, text, given.notes), line
 
 
 def line_named(note):
-    """The line that a note begins with, or 0."""
+    """Returns the line that a note begins with, or 0."""
     words = note.split(b":")[0].split(b" ")
     return int(words[1]) if words[0] == b"line" and len(words) == 2 else 0
 
@@ -27,14 +27,14 @@ def lines_in(text):
 
 
 def fault_of_monitor(driver, programs, text):
-    """What is wrong with a monitor of these lines."""
+    """Returns what is wrong with a monitor of these lines."""
     right = by_program(programs, WATCH, text)
     try:
-        told, line = watched(driver.ask(request(WATCH, text, 32)))
+        given, line = watched(driver.ask(request(WATCH, text, 32)))
     except Fault as fault:
         return str(fault)
-    if told != right:
-        return f"the monitor answers {short(told)}, and the program {short(right)}"
+    if given != right:
+        return f"the monitor answers {short(given)}, and the program {short(right)}"
     # (of a text that ends too early no line is at fault)
     named = line_named(right.notes)
     at_the_end = 0 if named == text.count(b"\n") + 1 else named
@@ -42,12 +42,12 @@ def fault_of_monitor(driver, programs, text):
 
 
 def fault_of_refused_monitor(refuser, path, programs, text):
-    """What is wrong with a monitor of these lines where each request for memory is refused in turn."""
+    """Returns what is wrong with a monitor of these lines if each allocation fails in turn."""
     right = by_program(programs, WATCH, text)
     no_memory = Answer(4, b"", NO_MEMORY)
 
-    def is_right(told, was_refused):
-        answer = watched(told)[0]
+    def is_right(given, was_refused):
+        answer = watched(given)[0]
         return answer == right or was_refused and answer == no_memory
 
     return fault_of_refusals(refuser, path, request(WATCH, text, 32), is_right)

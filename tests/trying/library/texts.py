@@ -9,16 +9,16 @@ from trying.running import run
 RANDOM_TEXTS = 6000
 
 
-def worked_calls():
-    """The rows of histories of calls."""
+def golden_calls():
+    """Yields the golden tests of histories of calls."""
     for row in rows_in("tests/evc-calls.rows"):
         if [command.words for command in row.commands] == [[b"check"]]:
             yield row.name, CALLS, row.input
 
 
-def worked(programs):
-    """Each stage of a worked row that the library has a call for, with its input."""
-    yield from worked_calls()
+def golden(programs):
+    """Yields each stage of a golden test that the library has a call for, with its input."""
+    yield from golden_calls()
     found, faults = read_rows()
     for fault in faults:
         print(fault)
@@ -32,7 +32,7 @@ def worked(programs):
 
 
 def changed(chance, text, others):
-    """A text with some of its bytes, words or lines changed."""
+    """Returns a text with some of its bytes, words or lines changed."""
     lines = text.split(b"\n")
     for _ in range(chance.choice([0, 1, 1, 1, 2, 3])):
         at = chance.randrange(len(lines))
@@ -61,7 +61,7 @@ def changed(chance, text, others):
 
 
 def random_texts(found):
-    """Texts made of the worked ones, each with a command."""
+    """Yields texts made of those of golden tests, each with a command."""
     chance = random.Random(20)
     kinds = {b"sim": [], CALLS: [], b"check": []}
     for _, command, text in found:

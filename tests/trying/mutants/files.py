@@ -1,48 +1,48 @@
-"""The files of wrong bodies, of which the head of tests/bodies.py has the form."""
+"""The files of mutants. The head of tests/mutants.py has their format."""
 
 import os
 from dataclasses import dataclass, field
 
 
 @dataclass
-class Body:
-    """One wrong body of a crate."""
+class Mutant:
+    """One mutant of a crate."""
 
     crate: str
     name: str
-    # The file in must-fail/ that it stands in, without its ending.
-    stands_in: str
-    # What it changes: (file, old text, new text), in turn.
+    # The name of its file in must-fail/, without the ending.
+    edit: str
+    # What it changes, in order: (file, old text, new text).
     pairs: list = field(default_factory=list)
-    # The functions that have to be refused, where these are not the changed ones.
+    # The functions whose proofs have to fail, if these are not the changed ones.
     refused_in: list = field(default_factory=list)
-    # 0 where it is put into the function that it changes, else the number of the twin that it is put into.
+    # 0 if it is put into the function that it changes, otherwise the number of the twin that it is put into.
     twin: int = 0
 
 
-class BadBody(Exception):
-    """A wrong body that can't be tried, and why."""
+class BadMutant(Exception):
+    """A mutant that can't be tried, and why."""
 
 
 def names_of_files(folder):
-    """Returns the names of a crate's files of wrong bodies, without their ending."""
+    """Returns the names of a crate's files of mutants, without their ending."""
     place = os.path.join(folder, "must-fail")
     names = os.listdir(place) if os.path.isdir(place) else []
     return sorted(it.removesuffix(".edit") for it in names if it.endswith(".edit"))
 
 
-def bodies_in(folder, stands_in):
-    """Returns the bodies of one file, in order."""
+def mutants_in(folder, edit):
+    """Returns the mutants of one file, in order."""
     crate = os.path.basename(folder)
     found, file, old = [], None, None
-    with open(os.path.join(folder, "must-fail", f"{stands_in}.edit"), encoding="utf-8") as text:
+    with open(os.path.join(folder, "must-fail", f"{edit}.edit"), encoding="utf-8") as text:
         lines = text.read().split("\n")
     if not any(it.startswith("body: ") for it in lines):
-        found.append(Body(crate, stands_in, stands_in))
+        found.append(Mutant(crate, edit, edit))
     for line in lines:
         word, _, rest = line.partition(": ")
         if word == "body":
-            found.append(Body(crate, rest.strip(), stands_in))
+            found.append(Mutant(crate, rest.strip(), edit))
         elif word == "file":
             file = rest.strip()
         elif word == "old":
@@ -54,13 +54,13 @@ def bodies_in(folder, stands_in):
     return found
 
 
-def bodies_of(folder):
-    """Returns all wrong bodies of a crate; two of one name are an error."""
-    found = [body for name in names_of_files(folder) for body in bodies_in(folder, name)]
+def mutants_of(folder):
+    """Returns all mutants of a crate. Two of one name are an error."""
+    found = [mutant for name in names_of_files(folder) for mutant in mutants_in(folder, name)]
     names = [it.name for it in found]
     twice = sorted({it for it in names if names.count(it) > 1})
     if twice:
-        raise BadBody(f"{os.path.basename(folder)} has two wrong bodies named {', '.join(twice)}")
+        raise BadMutant(f"{os.path.basename(folder)} has two mutants named {', '.join(twice)}")
     return found
 
 

@@ -1,4 +1,4 @@
-"""The functions of source files, and those that a wrong body changes, or that read what it changes."""
+"""The functions of source files, and those that a mutant changes, or that read what it changes."""
 
 import glob
 import os
@@ -10,13 +10,13 @@ from trying.mutants.files import read
 
 @dataclass(frozen=True)
 class Function:
-    """A function of a source file, by the end of the name that a check prints."""
+    """A function of a source file, named by the end of the name that a check prints."""
 
     file: str
     name: str
     first: int
     last: int
-    # Whether it stands in a trait, or in what a type has of one.
+    # Whether it is in a trait, or in an impl of one.
     is_of_trait: bool = False
 
 
@@ -27,19 +27,18 @@ ITEM = re.compile(
 
 
 def word_of(type_name):
-    """Returns the bare name of a type or a trait, as `Board` of `crate::board::Board<'a, A>`."""
+    """Returns the bare name of a type or a trait: `Board` of `crate::board::Board<'a, A>`."""
     return re.sub(r"<.*", "", type_name.strip().lstrip("&")).split("::")[-1].strip()
 
 
 def block_name(head):
-    """Returns what a check puts before the names of the methods of an `impl`: the type, and the trait where there is
-    one."""
+    """Returns what a check puts before the names of an `impl`'s methods: the type, and the trait if there is one."""
     trait, is_of_trait, type_name = re.sub(r"\bwhere\b.*", "", head).partition(" for ")
     return word_of(type_name) + word_of(trait) if is_of_trait else word_of(trait)
 
 
 def functions_of(file, text):
-    """Returns the functions of a source file, each from its head to the line before the next item's head."""
+    """Returns the functions of a source file, each from its head to the brace that closes it."""
     found, block, block_indent, is_of_trait = [], "", -1, False
     module = os.path.splitext(os.path.basename(file))[0]
     lines = text.split("\n")
@@ -63,7 +62,7 @@ def functions_of(file, text):
 
 
 def function_at(file, text, old):
-    """Returns the function of the file that the text `old` stands in, or None where it stands in none."""
+    """Returns the function of the file that the text `old` is in, or None if it is in none."""
     place = text.find(old)
     first = text.count("\n", 0, place + len(old) - len(old.lstrip())) + 1
     inside = [it for it in functions_of(file, text) if it.first <= first <= it.last]
@@ -79,14 +78,14 @@ def lines_of(folder, function):
     return lines[first - 1 : function.last]
 
 
-def stands_alone(folder, body):
-    """Returns whether the body changes a type, so that functions beside its own may no longer be proved."""
-    outside = [old for file, old, _ in body.pairs if not function_at(file, read(folder, file), old)]
+def changes_type(folder, mutant):
+    """Returns whether the mutant changes a type, so that other functions than its own may no longer be proved."""
+    outside = [old for file, old, _ in mutant.pairs if not function_at(file, read(folder, file), old)]
     return any(not old.strip().startswith(("///", "const ", '"')) for old in outside)
 
 
 def readers(folder, constant):
-    """Returns the functions of a crate that name a constant."""
+    """Yields the functions of a crate that name a constant."""
     for at, _, files in os.walk(os.path.join(folder, "src")):
         for name in sorted(files):
             file = os.path.relpath(os.path.join(at, name), folder)
@@ -96,15 +95,15 @@ def readers(folder, constant):
                     yield it.name
 
 
-def reads_by(folder, body):
-    """Returns the functions that read a constant which the body changes."""
-    outside = [old for file, old, _ in body.pairs if not function_at(file, read(folder, file), old)]
+def reads_by(folder, mutant):
+    """Returns the functions that read a constant which the mutant changes."""
+    outside = [old for file, old, _ in mutant.pairs if not function_at(file, read(folder, file), old)]
     constants = [found[1] for it in outside if (found := re.match(r"\s*const (\w+)", it))]
     return {name for it in constants for name in readers(folder, it)}
 
 
 def texts_of_functions(folder):
-    """Returns the functions of a crate, but for its tests, each with its text."""
+    """Returns the functions of a crate, except its tests, each with its text."""
     found = []
     for file in sorted(glob.glob(os.path.join(folder, "src", "**", "*.rt"), recursive=True)):
         short = os.path.relpath(file, folder)
@@ -115,7 +114,7 @@ def texts_of_functions(folder):
 
 
 def callers(texts, names):
-    """Returns these names of functions, and those of all functions that call them, by others too."""
+    """Returns these names of functions, and those of all functions that call them, directly or through others."""
     found, more = set(), set(names)
     while more:
         found |= more
@@ -124,15 +123,15 @@ def callers(texts, names):
     return found
 
 
-def only_function(folder, body):
-    """Returns the one function that a body changes, and that is to be refused, or None where it isn't so."""
-    found = {function_at(file, read(folder, file), old) for file, old, _ in body.pairs}
+def only_function(folder, mutant):
+    """Returns the one function that a mutant changes and whose proof has to fail, or None if there is no such one."""
+    found = {function_at(file, read(folder, file), old) for file, old, _ in mutant.pairs}
     only = found.pop() if len(found) == 1 else None
-    return only if only and body.refused_in in ([], [only.name]) else None
+    return only if only and mutant.refused_in in ([], [only.name]) else None
 
 
-def can_have_twin(folder, body):
-    """Returns whether the function that a body changes can stand twice in its file: it is of no trait, and is proved by
-    itself, and not together with others that call it again."""
-    only = only_function(folder, body)
+def can_have_twin(folder, mutant):
+    """Returns whether the function that a mutant changes can be in its file twice: it is of no trait, and is proved by
+    itself, not in a cycle with functions that call it."""
+    only = only_function(folder, mutant)
     return only is not None and not only.is_of_trait and not any("#[cycle(" in it for it in lines_of(folder, only))

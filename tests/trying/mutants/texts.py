@@ -1,9 +1,9 @@
-"""The texts of a crate with wrong bodies put into them.
+"""The texts of a crate with mutants put into them.
 
-A second body of one function goes into a twin: a copy of that function, under a name of its own and with its proof
-files. Where it has such files, a copy that is as the function was stands beside it, and has to be proved: so it is the
-body that is refused, and not a file that doesn't fit in its new place. A function without such files is proved alike
-under any name.
+A second mutant of one function goes into a twin: a copy of that function, under a name of its own and with its proof
+files. If it has such files, an unchanged copy of the function is added too, and has to be proved. So what fails is the
+mutant, and not a file that doesn't fit in its new place. A function without such files is proved in the same way under
+any name.
 """
 
 import glob
@@ -16,12 +16,12 @@ from trying.mutants.functions import functions_of, lines_of, only_function
 UNCHANGED = 0
 
 
-def applied(folder, body, texts):
-    """Returns these texts with the body put into them, or None where a text of it doesn't stand there exactly once."""
-    if body.twin:
-        return with_twin(folder, only_function(folder, body), body.twin, body.pairs, texts)
+def applied(folder, mutant, texts):
+    """Returns these texts with the mutant put into them, or None if a text of it isn't there exactly once."""
+    if mutant.twin:
+        return with_twin(folder, only_function(folder, mutant), mutant.twin, mutant.pairs, texts)
     texts = dict(texts)
-    for file, old, new in body.pairs:
+    for file, old, new in mutant.pairs:
         text = texts[file] if file in texts else read(folder, file)
         if text.count(old) != 1:
             return None
@@ -30,11 +30,11 @@ def applied(folder, body, texts):
 
 
 def all_applied(folder, together):
-    """Returns the texts with all of these bodies put into them, or None where one no longer fits. Twins come last,
-    since what they are made from is the text of the repository."""
+    """Returns the texts with all of these mutants put into them, or None if one no longer fits. Twins come last, since
+    they are made from the text of the repository."""
     texts = {}
-    for body in sorted(together, key=lambda it: it.twin):
-        texts = applied(folder, body, texts)
+    for mutant in sorted(together, key=lambda it: it.twin):
+        texts = applied(folder, mutant, texts)
         if texts is None:
             return None
     for function in twinned(folder, together):
@@ -54,7 +54,7 @@ def name_of_twin(name, number):
 
 
 def with_twin(folder, function, number, pairs, texts):
-    """Returns these texts with a twin of a function behind it, in which these pairs of texts are changed."""
+    """Returns these texts with a twin of a function after it, in which these pairs of texts are changed."""
     word = function.name.split("::")[-1]
     twin = "\n".join(lines_of(folder, function))
     for _, old, new in pairs:

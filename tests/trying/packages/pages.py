@@ -20,7 +20,7 @@ def cells_of(row):
 
 
 def missing_in(source, page):
-    """Returns the cells of the tables that the source of a man page names, and the page has not."""
+    """Yields the cells of the tables that the source of a man page names, and that the page doesn't have."""
     lines = re.sub(r"\\f[BR]|\\&", "", page).replace("\\-", "-").replace("\\e", "\\").split("\n")
     for place, columns, head in re.findall(r'^\.\\" TABLE (\S+) ([\d,]*) ?(\|.*)$', source, re.M):
         _, rows = f"\n{read(TOP, place)}".split(f"\n{head}\n")
@@ -65,7 +65,7 @@ def set_pages(place, count):
 
 
 def script_of_pages():
-    """The script tests/pages as a module."""
+    """Returns the script tests/pages as a module."""
     loader = importlib.machinery.SourceFileLoader("pages", str(TOP / "tests" / "pages"))
     module = importlib.util.module_from_spec(importlib.util.spec_from_loader(loader.name, loader))
     loader.exec_module(module)

@@ -8,7 +8,7 @@ import subprocess
 
 from trying.files import TOP
 
-# What of the machine a fresh root has, each under a layer of its own.
+# The folders of the machine that a fresh root has, each under a layer of its own.
 LAYERS = ["bin", "sbin", "lib", "lib32", "lib64", "libx32", "usr", "etc", "var"]
 
 
@@ -49,7 +49,7 @@ class Folder:
         os.mkdir(self.work)
 
     def ran(self, command):
-        """Runs a command in the folder for work, with nothing of this environment. {words} are places of the
+        """Runs a command in the folder for work, without anything of this environment. {words} are paths of the
         package."""
         environment = {
             "HOME": self.inside,
@@ -66,7 +66,7 @@ class Folder:
         return self.ran(f"command -v {program}")[0] == 0
 
     def written(self, command):
-        """Returns a command with the places of the package in it."""
+        """Returns a command with the paths of the package filled in."""
         libraries = f"{self.usr}/lib/x86_64-linux-gnu"
         if shutil.which("pkg-config"):
             flags = "$(pkg-config --cflags --libs evc)"
@@ -99,7 +99,7 @@ class Folder:
         return ran(["dpkg", f"--root={self.root}", "--force-depends", "--force-not-root", *words], self.root)
 
     def left(self):
-        """Returns what is left of the package, besides what dpkg keeps of itself."""
+        """Returns what is left of the package, besides dpkg's own files."""
         found = []
         for folder, _, names in os.walk(self.root):
             inside = os.path.relpath(folder, self.root)
@@ -113,7 +113,7 @@ class Folder:
 class FreshRoot(Folder):
     """A root that has what this machine has, but not the repository. What is written into it goes into layers."""
 
-    # (the process has a namespace of mounts of its own: they go when it ends, and nothing is removed before that)
+    # (the process has its own mount namespace: the mounts are gone when it ends, and nothing is removed before that)
     def __init__(self, folder):
         super().__init__(folder)
         self.usr, self.inside, self.layers = "/usr", "/work", os.path.join(folder, "layers")
@@ -166,7 +166,7 @@ class FreshRoot(Folder):
         return self.ran(f"dpkg --no-triggers {shlex.join(words)}")
 
     def layered(self):
-        """Lists what the layers of the root have beside folders that the machine has too."""
+        """Yields what the layers of the root have, except folders that the machine has too."""
         for layer in set(LAYERS) - {"var"}:
             upper = os.path.join(self.layers, layer)
             for folder, folders, names in os.walk(upper):
@@ -180,7 +180,7 @@ class FreshRoot(Folder):
 
 
 def can_be_fresh(folder):
-    """Whether a fresh root can be made here: by root, in a namespace of mounts, on a machine with dpkg."""
+    """Returns whether a fresh root can be made here: by root, in a mount namespace, on a machine with dpkg."""
     if os.geteuid() != 0 or not all(map(shutil.which, ("unshare", "chroot", "mount", "dpkg"))):
         return False
     places = [os.path.join(folder, it) for it in ("try", "upper", "below")]

@@ -1,4 +1,4 @@
-"""What a program with a recorder of calls is asked for (tests/recorder.c, tests/recorder.rs)."""
+"""Tests of programs with a recorder of calls (tests/recorder.c, tests/recorder.rs)."""
 
 import os
 import re
@@ -104,7 +104,7 @@ def try_hang(program, tools, folder, clock, judge):
 
 
 def try_hang_without_room(program, tools, folder, judge):
-    """A hang where the text can't be written: it says so, and the file of the record has all."""
+    """Checks a hang if the text can't be written: it says so, and the file of the record has all."""
     said = ran([program, "run", "counter", "hang", "/dev/full", "x.record"], folder, **HANGING)
     note = "hung: no call began or returned for 0.5 s\nnot written: /dev/full\n"
     need((said.returncode, said.stderr) == (5, note), said.stdout + said.stderr)
@@ -131,7 +131,7 @@ def try_unwritten(program, folder):
 
 
 def little_room():
-    """Lets files grow to 200000 bytes only: a full disk."""
+    """Lets files grow to only 200000 bytes, as on a full disk."""
     signal.signal(signal.SIGXFSZ, signal.SIG_IGN)
     resource.setrlimit(resource.RLIMIT_FSIZE, (200000, 200000))
 
@@ -144,7 +144,7 @@ def try_no_room(program, folder):
 
 
 def try_program(name, program, tools, folder, count, judge):
-    """Asks a program for all but what needs a clock that is wrong."""
+    """Runs all tests of a program except those that need a clock that is wrong."""
     for clock in tools["clocks"]:
         count.tried(f"{name}, each call, {clock}", try_all, program, folder, clock)
         for kind, test in (("full", try_full), ("hung", try_hang)):
@@ -168,7 +168,7 @@ def try_program(name, program, tools, folder, count, judge):
 
 
 def try_skew(program, folder, clock, judge):
-    # (each of 4000 calls waits for the amount)
+    # (each of 4000 calls waits as long as the bound on the skew)
     said = ran([program, "skew", clock, "100000", "x.calls"], folder)
     need(said.stdout == "1 |\n", f"a bound too small, or a fault: {said.stdout}")
     judge.says(os.path.join(folder, "x.calls"))
@@ -181,7 +181,7 @@ def try_apart(program, folder, clock):
 
 
 def try_recover(tools, folder):
-    """Gives recover what is no record: it says so, and does not crash."""
+    """Gives recover files that are no records: it has to say so, and not to crash."""
     ran([tools["program"], "run", "counter", "right", "x.calls", "x.record"], folder)
     with open(os.path.join(folder, "x.record"), "rb") as file:
         record = file.read()

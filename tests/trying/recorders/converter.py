@@ -17,7 +17,7 @@ def converted(folder, *words, text=None):
 
 
 def try_form(folder, form):
-    """Converts the text with each call, and back: workers are then called by their places."""
+    """Converts the text with each call, and back. Workers are then named by their positions."""
     said = converted(folder, form, text=WHOLE)
     need(said.returncode == 0 and "timeout" not in said.stdout, said.stderr)
     starts = ["--initial", "S=2", "--from", "E=3"]

@@ -11,7 +11,7 @@ from trying.recorders.tools import RUSTC, WARNINGS, built, calls_of, compilers, 
 
 
 def try_example(words, folder, judge):
-    """Builds an example and runs it with each bug: the judge has to refuse those alone."""
+    """Builds an example and runs it with each bug: the judge has to reject exactly the runs with a bug."""
     built(words, folder)
     for bug in ("", "lost", "twice", "early", "lock"):
         ran([os.path.join(folder, "example"), "x.calls", *bug.split()], folder)
@@ -36,7 +36,7 @@ def try_examples(folder, count, judge):
 
 
 def try_example_of_rounds(folder, count, judge):
-    """Builds a whole test, in C and in Rust, and runs it as it is and with its bug."""
+    """Builds a complete test, in C and in Rust, and runs it as it is and with its bug."""
     if judge.library is None:
         return
     libraries, here = os.path.dirname(judge.library), os.path.join(TOP, "recorder")
@@ -60,13 +60,13 @@ def try_example_of_rounds(folder, count, judge):
 
 
 def try_bug(words, folder, statuses):
-    """Runs an example with its bug: it is refused, or hangs where no read shows what is lost."""
+    """Runs an example with its bug: it is rejected, or hangs if no read shows what is lost."""
     said = ran(words, folder)
     need(said.returncode in statuses, f"it ended with {said.returncode}: {said.stderr}")
 
 
 def try_shown(folder, judge, name, words, runs):
-    """Builds an example, and looks at how the output of each run begins, by its words."""
+    """Builds an example, and checks how the output of each run with some words begins."""
     out = os.path.join(folder, name)
     built = ran([*words, "-o", out], folder)
     need(built.returncode == 0, built.stderr)
@@ -77,7 +77,7 @@ def try_shown(folder, judge, name, words, runs):
 
 
 def try_presses(folder, words):
-    """The bug of presses.rs: a sheet is lost, as `evc check` says."""
+    """Checks the bug of presses.rs: a sheet is lost, as `evc check` says."""
     out, trace = os.path.join(folder, "presses"), os.path.join(folder, "shared.trace")
     built = ran([*words, "-o", out], folder)
     need(built.returncode == 0, built.stderr)
@@ -88,7 +88,7 @@ def try_presses(folder, words):
 
 
 def try_other_examples(folder, count, judge):
-    """The examples of monitors and of steps, right and with their bugs."""
+    """Tries the examples of monitors and of steps, right and with their bugs."""
     source = os.path.join(TOP, "recorder")
     compiler = next((it for it in ("gcc", "clang") if shutil.which(it)), None)
     if compiler:
@@ -104,7 +104,7 @@ def try_other_examples(folder, count, judge):
 
 
 def try_real(folder, judge):
-    """Runs objects of real libraries, and planted bugs: these until they are found."""
+    """Runs objects of real libraries, and planted bugs until they are found."""
     words = [os.path.join(TOP, "examples", "real", "run"), "--kinds", "right,bug", "--rounds", "10"]
     words += ["--shapes", "ring,mixed", "--once", "--bug-rounds", "20000"]
     environment = {**os.environ, "EVC_CALLS": judge.program or "", "LIBEVC": judge.library or ""}

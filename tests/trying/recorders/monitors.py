@@ -49,7 +49,7 @@ def try_monitor(program, folder, judge, asked, status, note):
 
 
 def monitors_by_library(library):
-    """Returns the programs to be built of tests/monitor.c with the library."""
+    """Yields the programs that are built from tests/monitor.c with the library."""
     source = os.path.join(TOP, "tests", "monitor.c")
     header = os.path.join(TOP, "library", "evc.h")
     linked = ["-include", header, "-pthread", source, "-x", "none", library]
@@ -60,8 +60,8 @@ def monitors_by_library(library):
 
 
 def monitors_in_c():
-    """Returns the programs to be built of tests/monitor.c: of the first compiler and its sanitizers,
-    which are asked for all, and of the others."""
+    """Yields the programs that are built from tests/monitor.c: those of the first compiler and its
+    sanitizers run all tests, those of other compilers only some."""
     source, (first, *others) = os.path.join(TOP, "tests", "monitor.c"), compilers()
     for name, language, words in [first, *others]:
         words = [name, *words, "-O2" if name == first[0] else "-O0", *WARNINGS, "-pthread", source]
@@ -72,7 +72,7 @@ def monitors_in_c():
 
 
 def place_of(folder, name, number):
-    """Where a monitor is built: the place says of itself whether it has a sanitizer."""
+    """Returns where a monitor is built. The path says whether it has a sanitizer."""
     return os.path.join(folder, f"{'sanitized' if 'sanitizer' in name else 'monitor'}-{number}")
 
 
@@ -93,7 +93,7 @@ def try_monitors(folder, count, judge):
 
 
 def try_monitors_by_library(folder, count, judge):
-    """The same threads, judged by the library's monitor."""
+    """Tries the same threads, judged by the library's monitor."""
     if judge.library is None:
         print("monitors are not judged by the library: there is none of these sources, and no LIBEVC")
         return

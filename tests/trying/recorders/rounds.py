@@ -22,7 +22,7 @@ from trying.recorders.tools import (
 
 
 def try_stress(program, folder, judge, words, status, said, note=""):
-    """Runs rounds, and looks at what was said and, if a history was kept, at that."""
+    """Runs rounds, and checks what was said and, if a history was kept, that history."""
     for name in ("refused.calls", "refused.calls.note"):
         if os.path.exists(os.path.join(folder, name)):
             os.remove(os.path.join(folder, name))
@@ -63,7 +63,7 @@ STRESSES = [
     ("silent mixed counter 10", 0, "passed", "^weak: the calls hardly overlapped"),
     ("outside mixed counter 10", 5, "HUNG", "^no call is pending: a thread hangs between its calls"),
 ]
-# (each is found in one of its first rounds; the others are there for a machine that is busy)
+# (each is found in one of its first rounds; the others are needed on a busy machine)
 FOUND = [
     ("wake ring counter 1000", 5, "HUNG", NOT_RETURNED + REMARK),
     ("lost mixed counter 1000", 1, "REFUSED"),
@@ -77,7 +77,7 @@ BY_PROGRAM = [RIGHT[0], FOUND[0], FOUND[1]]
 
 
 def try_asked(what, program, tools, folder, count, judge, asked, is_whole):
-    """Asks a program for these rounds, and if that is all, for an abort and for a history that can't be kept."""
+    """Runs these rounds of a program, and if `is_whole` also an abort and a history that can't be kept."""
     for words, *right in (it for it in asked if IS_X86 or "tsc" not in it[0]):
         count.tried(f"{what}: {words}", try_stress, program, folder, judge, words.split(), *right)
     if is_whole:
@@ -86,7 +86,7 @@ def try_asked(what, program, tools, folder, count, judge, asked, is_whole):
 
 
 def try_abort(program, tools, folder, judge):
-    """Aborts in a round: the file has that round, from which its history is recovered."""
+    """Aborts in a round: the file has to have that round, from which its history is recovered."""
     said = ran([program, "abort", "mixed", "counter", "10"], folder)
     need(said.returncode == -signal.SIGABRT, f"it ended with {said.returncode}: {said.stderr}")
     calls, pending = recovered(tools, folder)
@@ -95,7 +95,7 @@ def try_abort(program, tools, folder, judge):
 
 
 def try_unkept(program, folder, judge):
-    """Has a history kept in a folder that is not there: it is on standard error."""
+    """Has a history kept in a folder that doesn't exist: it has to be on standard error."""
     said = ran([program, "unkept", "mixed", "counter", "1000"], folder)
     need(said.returncode == 1 and "the history is in refused" not in said.stderr, said.stderr)
     note, _, text = said.stderr.partition("so here it is\n")

@@ -1,4 +1,4 @@
-"""The recorders of steps: a program that hangs, and names."""
+"""Tests of the recorders of steps: a program that hangs, and names."""
 
 import os
 
@@ -7,7 +7,7 @@ from trying.recorders.tools import lines_of, ran
 
 
 def try_steps(program, folder, kind):
-    """Steps under a lock, with a gate and pauses. One that hangs leaves what there was."""
+    """Records steps under a lock, with a gate and pauses. If the program hangs, it leaves the trace so far."""
     said = ran([program, "steps", kind, "x.trace"], folder)
     if kind == "right":
         need(said.stdout == "|no fault\n", said.stdout + said.stderr)

@@ -40,7 +40,7 @@ class Timed(Count):
         return not faults
 
     def show_times(self):
-        """Shows the seconds of a processor, and those that went by, of the longest tests."""
+        """Shows the CPU time and the wall-clock time of the longest tests, in seconds."""
         for taken, passed, name in sorted(self.times, reverse=True)[:40]:
             print(f"{taken:7.2f} {passed:7.2f}  {name}")
         print(f"{sum(it[0] for it in self.times):7.2f} {sum(it[1] for it in self.times):7.2f}  all")
@@ -84,7 +84,7 @@ def calls_of(path):
 
 
 class Judge:
-    """The program that says whether a history is linearizable, and the library."""
+    """The program that decides whether a history is linearizable, and the library."""
 
     def __init__(self, folder):
         self.library = library_of(folder)
@@ -106,7 +106,7 @@ class Judge:
 
 
 def library_of(folder):
-    """Returns libevc.a, or None: that in LIBEVC, or that of release/ if it is of these sources."""
+    """Returns libevc.a, or None: the one in LIBEVC, or that of release/ if it is of these sources."""
     given = os.environ.get("LIBEVC")
     if given:
         return os.path.abspath(given)
@@ -132,20 +132,20 @@ def built(words, folder):
 
 
 def is_built(count, what, words, folder):
-    """Builds a program as a test, and returns whether it is there. If the compiler lacks a sanitizer, that is no
-    test."""
+    """Builds a program as a test, and returns whether that worked. If the compiler lacks a sanitizer, nothing is
+    tested."""
     if "sanitizer" in what and ran(words, folder).returncode != 0:
         return False
     return count.tried(f"{what}, built", built, words, folder)
 
 
 def sanitized(sanitizer):
-    """The words by which a compiler builds with a sanitizer that stops at what it finds."""
+    """Returns the options by which a compiler builds with a sanitizer that stops at what it finds."""
     return [f"-fsanitize={sanitizer}", "-fno-sanitize-recover=all", "-g", "-O0"]
 
 
 def compilers():
-    """Returns the compilers that are there, each with its words and the language."""
+    """Returns the compilers that are installed, each with its options and the language."""
     found = []
     for c, plus in (("gcc", "g++"), ("clang", "clang++")):
         for name, language, words in (

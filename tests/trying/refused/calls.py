@@ -1,4 +1,4 @@
-"""Golden tests over calls of the libraries of which requests for memory and starts of threads are refused."""
+"""Golden tests over calls of the libraries in which allocations and starts of threads fail."""
 
 import os
 from concurrent.futures import ThreadPoolExecutor
@@ -10,10 +10,10 @@ from trying.rows import read_rows
 
 WITH_THREADS = "workers"
 
-# How many bytes the text of a row has at most that is run with refusals.
+# The most bytes of a test's text that is run with failing allocations.
 SHORT = 400_000
 
-# The rows that tell how many requests one of their calls makes: the place of its answer, and that number.
+# The tests that say how many allocations one of their calls makes: the position of its answer, and that number.
 REQUESTS = {
     "run_whose_second_segment_is_begun": (4096, 4),
     "board_whose_second_segment_is_begun": (4096, 4),
@@ -24,7 +24,7 @@ REQUESTS = {
     "list_that_is_widened": (1, 1),
 }
 
-# The rows that end with calls that take no memory, each with the one without these.
+# The tests that end with calls that don't allocate, each with the same test without these.
 NO_MORE = {
     "heading_with_lines_of_sixteen_buffers_upgraded": "heading_with_lines_of_sixteen_buffers",
     "run_whose_second_segment_is_begun_and_who_signals_then": "run_whose_second_segment_is_begun",
@@ -35,15 +35,15 @@ NO_MORE = {
 
 
 def rows_over_calls():
-    """The rows of tests/rows that are over calls, but those of long texts and those of programs: what has been read
-    of a program is the caller's own."""
+    """Returns the golden tests over calls, except those of long texts and those of programs: what has been read of a
+    program is kept by the caller itself."""
     rows = [row for row in read_rows()[0] if row.sort and len(row.input) <= SHORT]
     return [row for row in rows if b"\nprogram\n" not in row.input]
 
 
 def place_of_refusal(output, right):
-    """Before which line of the right text the caller says that it had no memory: None where it doesn't say so, and
-    -1 where it writes another text."""
+    """Returns before which line of the right text the caller says that it had no memory: None if it doesn't say so, and
+    -1 if it writes another text."""
     if output == right:
         return None
     lines = output.splitlines(keepends=True)
@@ -52,7 +52,7 @@ def place_of_refusal(output, right):
 
 
 def fault_of_row(ran, right):
-    """What is wrong with a run of the caller. Where it can't read its command line, it has written nothing."""
+    """Returns what is wrong with a run of the caller. If it can't read its command line, it has to write nothing."""
     if ran.was_refused and (ran.status, ran.output, ran.notes) == (1, b"", b"Error: Kind(OutOfMemory)\n"):
         return None
     if ran.notes:
@@ -62,12 +62,12 @@ def fault_of_row(ran, right):
     if ran.status != 0 or place_of_refusal(ran.output, right) == -1:
         return f"status {ran.status}, {ran.output[-200:]}"
     if not ran.was_refused and ran.output != right:
-        return "tells want of memory where nothing was refused"
+        return "reports out of memory though no allocation failed"
     return None
 
 
 def faults_of_row(refuser, caller, row):
-    """What is wrong with a row, the requests of which are refused one after another, and how many there are."""
+    """Returns what is wrong with a test if each allocation fails in turn, and how many allocations it makes."""
     right = row.commands[0].output
     faults, places, number = [], [], 0
     for number, ran in refuser.refusals([caller, row.sort, "watched"], row.input):
@@ -75,9 +75,9 @@ def faults_of_row(refuser, caller, row):
         if fault:
             faults.append(f"request {number}: {fault}")
         places.append(place_of_refusal(ran.output, right))
-    place, wanted = REQUESTS.get(row.title, (0, None))
-    if wanted is not None and places.count(place) != wanted:
-        faults.append(f"{places.count(place)} requests of one call were refused, and not {wanted}")
+    place, expected = REQUESTS.get(row.title, (0, None))
+    if expected is not None and places.count(place) != expected:
+        faults.append(f"{places.count(place)} requests of one call were refused, and not {expected}")
     return faults, number - 1
 
 
@@ -103,14 +103,14 @@ def try_rows(refuser, caller, count):
 
 
 def fault_of_more(requests, name, other):
-    """What is wrong where one makes so many requests, and the other, which leaves out calls that take none, so many."""
+    """Returns what is wrong if a test doesn't make as many allocations as one without its calls that don't allocate."""
     if requests.get(name) == requests.get(other):
         return None
     return f"makes {requests.get(name)} requests, and {other} makes {requests.get(other)}"
 
 
 def try_upgrade(refuser, texts, count):
-    """Upgrading a trace takes no memory."""
+    """Checks that upgrading a trace doesn't allocate."""
     requests = {}
     for word in ("read", "upgrade"):
         runs = [ran for _, ran in refuser.refusals([texts, word], example("two-producers.trace"))]

@@ -1,4 +1,4 @@
-"""The golden test of workers by a scheduling hook, of which requests for memory and starts of threads are refused."""
+"""The golden test of workers by a scheduling hook, in which allocations and starts of threads fail."""
 
 from trying.counting import tried
 from trying.refused.calls import rows_over_calls
@@ -9,12 +9,12 @@ WORKERS = "a_worker_beside_two_that_wait"
 # How many threads it starts.
 STARTS = 8
 
-# What comes of a run: that all went well, or what was refused.
+# The result of a run: that all went well, or what failed.
 SERVED = b"Finished\n" * 4
 MEMORY = b"there was no memory\n"
 THREAD = b"a thread could not be started\n"
 
-# How the four end where one has no memory: the others finish, but for those that the first would have let go.
+# How the four end if one has no memory: the others finish, except those that the first would have released.
 ONE_WORKER = [
     b"Memory\nStopped\nStopped\nFinished\n",
     b"Finished\nMemory\nFinished\nFinished\n",
@@ -23,37 +23,37 @@ ONE_WORKER = [
 ]
 
 
-def told_by(ran):
-    """What one of the two runs told, where the other went well; nothing where there was no memory before the first;
-    and else none."""
+def outcome_of(ran):
+    """Returns the outcome of one of the two runs if the other went well, b"" if there was no memory before the first,
+    and otherwise None."""
     if ran.was_refused and (ran.status, ran.output) in ((1, b""), (4, b"")):
         return b""
     if (ran.status, ran.notes) == (0, b""):
-        for told in (SERVED, MEMORY, THREAD, *ONE_WORKER):
-            if ran.output in (told + SERVED, SERVED + told):
-                return told
+        for outcome in (SERVED, MEMORY, THREAD, *ONE_WORKER):
+            if ran.output in (outcome + SERVED, SERVED + outcome):
+                return outcome
     return None
 
 
 def faults_of_refusals(refuser, command, row, refused, right):
-    """What is wrong with the row, the requests or starts of which are refused one after another, and what was told."""
+    """Returns what is wrong with the test if its allocations or starts fail in turn, and the outcomes of its runs."""
     faults, seen = [], []
     for number, ran in refuser.refusals(command, row.input, refused):
-        told = told_by(ran)
-        if told not in (right if ran.was_refused else [SERVED]):
+        outcome = outcome_of(ran)
+        if outcome not in (right if ran.was_refused else [SERVED]):
             faults.append(f"{refused.lower()} {number}: status {ran.status}, {ran.output[:200]}, {ran.notes[:200]}")
-        seen.append(told)
+        seen.append(outcome)
     return faults, seen[:-1]
 
 
 def faults_of_workers_row(refuser, caller, row):
-    """What is wrong with the row of workers."""
+    """Returns what is wrong with the golden test of workers."""
     command = [caller, row.sort]
     faults, seen = [], []
     for _ in range(ROUNDS):
-        more, told = faults_of_refusals(refuser, command, row, "REQUEST", [b"", SERVED, MEMORY, THREAD, *ONE_WORKER])
+        more, ended = faults_of_refusals(refuser, command, row, "REQUEST", [b"", SERVED, MEMORY, THREAD, *ONE_WORKER])
         faults += more
-        seen += told
+        seen += ended
         if MEMORY in seen and {*ONE_WORKER} & {*seen}:
             break
     else:

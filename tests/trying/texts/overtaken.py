@@ -9,8 +9,8 @@ OVERTAKEN = b"evc-trace 1\nlimit 4294967295\nworkers a b c d e\neventcount E sig
 
 
 def overtaken_steps():
-    """Steps of a and b, who advance, and of c and d, who read and await, in a random order without end. An await is
-    of at most three more than the total, so some fall short."""
+    """Yields steps of a and b, which advance, and of c and d, which read and await, in a random order without end. A
+    threshold is at most three above the total, so the sums of some awaits are below it."""
     bits = random.Random(1979).getrandbits
     counts, pending = [0, 0], {}
     while True:
@@ -39,7 +39,7 @@ def overtaken_steps():
 
 
 def overtaken_trace():
-    """As many of these steps as a trace has room for, between the two steps of a read by e."""
+    """Returns a trace of as many of these steps as it has room for, between the two steps of a read by e."""
     text = bytearray(OVERTAKEN + b"e read E = pending\n")
     for step in overtaken_steps():
         if len(text) + len(step) + len(b"e go = 1000000\nend\n") > TRACE_MAX:
@@ -48,9 +48,9 @@ def overtaken_trace():
 
 
 def timed_calls(lines):
-    """The reads and awaits of these entries on E, which has two components, as lines of an order, by their points;
-    and the total. A second reading of the entries, by the definitions: a point is the least moment of the last round
-    at which the total was the reply, and at one point the calls go by their last entries."""
+    """Returns the reads and awaits of these entries on E, which has two components, as lines of an order, by their
+    points; and the total. It follows the definitions: a point is the least moment of the last round at which the total
+    was the reply, and calls with one point are in the order of their last entries."""
     reached, pending, timed = [0], {}, {}
     for at, line in enumerate(lines):
         worker, word, *rest = line.split()
@@ -71,7 +71,7 @@ def timed_calls(lines):
 
 
 def order_of(text):
-    """What `check` has to write of such a trace."""
+    """Returns what `check` has to write of such a trace."""
     lines = text[len(OVERTAKEN) : -len(b"\nend\n")].split(b"\n")
     timed, total = timed_calls(lines)
     order = bytearray(b"evc-order 1\n")
@@ -83,8 +83,8 @@ def order_of(text):
 
 
 def faults_of_overtaken_calls(program):
-    """What is wrong with the order of 64 MiB of reads and awaits, hundreds of thousands of each, and of millions of
-    advances."""
+    """Returns what is wrong with the order of 64 MiB of reads and awaits, hundreds of thousands of each, and of
+    millions of advances."""
     text = overtaken_trace()
     right = order_of(text)
     few = [it for it in (b" read E = ", b" await E ") if right.count(it) < 300_000]

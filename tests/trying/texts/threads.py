@@ -1,4 +1,4 @@
-"""Workers that meet often, on threads: their traces differ from run to run, but not what is found in them."""
+"""Workers on threads that contend often: their traces differ from run to run, but not what is found in them."""
 
 ALL = b" ".join(b"w%d" % it for it in range(16))
 FIRST, SECOND = (b" ".join(b"w%d" % it for it in range(low, low + 8)) for low in (0, 8))
@@ -31,7 +31,7 @@ def finished(names):
 
 
 def trace_of(program, script):
-    """The trace of workers that all finish."""
+    """Returns the trace of workers that all finish."""
     status, trace, notes = program.ends(["run"], script)
     if (status, notes) != (0, finished(ALL)):
         raise ValueError(f"run ended with status {status}: {notes[:200]}")
@@ -39,7 +39,7 @@ def trace_of(program, script):
 
 
 def faults_of_advances(program):
-    """The total is that of all advances, and each read is told its worker's own at least."""
+    """Checks that the total is that of all advances, and that each read returns at least its worker's own."""
     lines = program.output(["check"], trace_of(program, ADVANCES)).split(b"\n")
     reads = [int(line.rpartition(b" ")[2]) for line in lines if b" read E = " in line]
     faults = []
@@ -51,7 +51,7 @@ def faults_of_advances(program):
 
 
 def faults_of_items(program):
-    """Each item is delivered once, and each consumer gets a hundred of them."""
+    """Checks that each item is delivered once, and that each consumer gets a hundred of them."""
     lines = program.output(["audit"], trace_of(program, ITEMS)).split(b"\n")
     found = [line.split(b" ") for line in lines[1:-2]]
     faults = []
@@ -69,7 +69,7 @@ def faults_of_items(program):
 
 
 def faults_of_turns(program):
-    """One worker makes just as many steps as it has turns, and ends where these are enough."""
+    """Checks that one worker makes exactly as many steps as it has turns, and ends if these are enough."""
     faults = []
     head = b"evc-trace 1\nlimit 1000000\nworkers a\neventcount E signal a\nrun\n"
     script = b"evc-script 1\nlimit 1000000\nworkers a\neventcount E signal a\nworker a\n"
@@ -86,7 +86,7 @@ def faults_of_turns(program):
 
 
 def faults_of_many_workers(program):
-    """Each number of workers has its threads, and each of them ends: with an empty program, and with one."""
+    """Checks that any number of workers is run on threads, and that all end: with empty programs, and with others."""
     faults = []
     for many in range(1, 17):
         names = b" ".join(b"w%d" % it for it in range(many))

@@ -11,7 +11,7 @@ def first_state(kind):
 
 
 def step(state, op, reply):
-    """The state after a call with this reply, or None where the object can't give it."""
+    """Returns the state after a call with this reply, or None if the object can't give it."""
     name, *args = op
     n = state[0]
     if name == "advance":
@@ -38,7 +38,7 @@ def step(state, op, reply):
 
 
 def natural(state, op):
-    """The reply of a pending call that takes effect here, or None where it can't."""
+    """Returns the reply of a pending call that takes effect here, or None if it can't."""
     name, *args = op
     if name in ("read", "get", "ticket"):
         return state[0]
@@ -50,8 +50,8 @@ def natural(state, op):
 
 
 class Calls:
-    """The calls of a history: those that began, each with the positions of its events. The last
-    one is None while the call is pending."""
+    """The calls of a history, each with the positions of its invocation and its response, which is None if the call is
+    pending."""
 
     def __init__(self, kinds, events):
         self.kinds, self.calls, open_of = kinds, [], {}
@@ -65,8 +65,8 @@ class Calls:
 
 
 def is_linearizable(kinds, events):
-    """Whether some order of all completed calls and some pending ones is a run that keeps the
-    real-time order."""
+    """Returns whether some order of all completed calls and some pending ones is a legal sequential history that keeps
+    the real-time order."""
     calls = Calls(kinds, events).calls
     count = len(calls)
     need = sum(1 << i for i, c in enumerate(calls) if c[5] is not None)
@@ -95,7 +95,7 @@ def is_linearizable(kinds, events):
 
 
 def first_fault(kinds, events):
-    """The position of the first event with which there is no linearization, or None."""
+    """Returns the position of the first event with which there is no linearization, or None."""
     if is_linearizable(kinds, events):
         return None
     low, high = 0, len(events)
@@ -120,8 +120,8 @@ def is_open(kind, events, k):
 
 
 def watched_fault(kinds, events):
-    """The position of the first event with which the objects that a monitor watches have no
-    linearization, or None."""
+    """Returns the position of the first event with which the objects that a monitor watches have no linearization, or
+    None."""
     busy, own = {}, []
     for at, (worker, what, *rest) in enumerate(events):
         if what == "calls":

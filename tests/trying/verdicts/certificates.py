@@ -1,4 +1,4 @@
-"""What the certificate of a fault says of a history of calls, by counting."""
+"""Checks by counting what the certificate of a fault says of a history of calls."""
 
 from trying.verdicts.brute import Calls, is_linearizable
 
@@ -16,8 +16,7 @@ def most(op, reply):
 
 
 def certificate_faults(kinds, events, at, k, name, words):
-    """What is wrong with a certificate: the fault that the events up to position `at` have on
-    object k."""
+    """Returns what is wrong with a certificate: the fault that the events up to position `at` have on object k."""
     calls = [c for c in Calls(kinds, events[: at + 1]).calls if c[1] == k]
     numbers = [int(word) for word in words if "-" not in word]
     named = []
@@ -80,7 +79,7 @@ def certificate_faults(kinds, events, at, k, name, words):
 
 
 def kept(calls, holds):
-    """The events of those calls of one object for which this holds."""
+    """Returns the events of those calls of one object for which this holds."""
     ends = []
     for i, c in enumerate(calls):
         if holds(c):

@@ -10,7 +10,7 @@ from trying.verdicts.certificates import certificate_faults
 
 
 def order_faults(kinds, events, placed):
-    """What is wrong with an order: a list of (point, worker, object, op, reply)."""
+    """Returns what is wrong with an order: a list of (point, worker, object, op, reply)."""
     calls = Calls(kinds, events).calls
     end = len(events)
     left = list(range(len(calls)))
@@ -44,7 +44,7 @@ def read_reply(word):
 
 
 def read_verdicts(text):
-    """The verdicts of the driver, one of each history."""
+    """Yields the verdicts of the driver, one for each history."""
     lines = iter(text.split("\n"))
     for line in lines:
         if not line:
@@ -74,7 +74,7 @@ def text_of(kinds, events):
 
 
 def compare(kinds, events, verdict, stopped):
-    """What is wrong with a verdict of a history, and with where the monitor stopped."""
+    """Returns what is wrong with a verdict on a history, or with where the monitor stopped."""
     name, rest = verdict
     parts = range(len(kinds))
     fault = first_fault(kinds, events)
@@ -110,7 +110,7 @@ def answer(driver, mode, text):
 
 
 def stops_of(driver, text):
-    """Where the monitor stops at each history, or None."""
+    """Returns for each history where the monitor stops, or None."""
     return [None if word == "-" else int(word) for word in answer(driver, "monitor", text).split()]
 
 

@@ -5,7 +5,7 @@ import random
 
 from trying.verdicts.brute import first_state, natural, step
 
-# The calls that the histories of one object are made of: what is asked, and what may be returned.
+# The calls of which the histories of one object are made: the operations, and the replies of each.
 VALUES = [
     (["put", 0], ["done"]),
     (["put", 1], ["done"]),
@@ -38,7 +38,7 @@ ALPHABETS = {
 
 
 def shapes(count):
-    """Each way in which so many calls may overlap, as events ('calls' or 'returns', which call)."""
+    """Returns each way in which so many calls may overlap, as events ('calls' or 'returns', which call)."""
 
     def go(begun, pending):
         if begun == count:
@@ -54,7 +54,7 @@ def shapes(count):
 
 
 def small_histories(kind, count, letters):
-    """All histories of so many calls of one object, each call by a worker of its own."""
+    """Yields all histories of so many calls of one object, each call by a worker of its own."""
     for shape in shapes(count):
         ended = {i for what, i in shape if what == "returns"}
         completed = [(op, reply) for op, replies in letters for reply in replies]
@@ -66,8 +66,8 @@ def small_histories(kind, count, letters):
 
 
 def random_history(rng, kinds, count, workers):
-    """A history that a run of the objects gave, with calls begun earlier and ended later, and
-    perhaps one reply changed."""
+    """Returns a history from a simulation of the objects: a call takes effect between its two events. In some histories
+    one reply is changed."""
     states = [first_state(kind) for kind in kinds]
     busy, events, changed = {}, [], rng.random() < 0.5
     begun = 0
@@ -109,7 +109,7 @@ def random_histories(seed, count):
 
 
 def long_history(rng, kind, count, workers):
-    """Events of many calls of one object, as text, made by a run of it."""
+    """Returns a history of many calls of one object, as text, from a simulation of it."""
     sort = kind[0]
     state, busy, fresh = 1 if sort == "semaphores" else 0, {}, 0
     lines = [" ".join(map(str, kind)), "run"]

@@ -1,4 +1,4 @@
--- The lines that an entry gives, by the words of a heading.
+-- The lines that an entry gives, with the names of a header.
 use Rattle.std.specs.Prelude.{ℕ, List, [], ◌∷◌, ◌++◌, codes, if◌then◌else◌, slice_get}
 use Rattle.std.specs.List.{join_with_byte}
 use Rattle.std.specs.Option.{option_map_or}
@@ -16,7 +16,7 @@ call_text names x =
     ++ 32 ∷ join_with_byte 32 (act_words names x.act) ++ 10 ∷ []
     else []
 
--- the line of the call that it ends, if it ends one
+-- the line of the response to the call that it ends, if it ends one
 abbrev pub return_text : NameTable → Entry → List ℕ
 return_text names x =
     if is_pending x.reply then [] else (

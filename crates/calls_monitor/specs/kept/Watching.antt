@@ -1,4 +1,4 @@
--- What is kept of the events so far, and what the parts of a monitor do.
+-- What the state of a monitor represents, and what its parts do.
 use Rattle.std.specs.Prelude.{◌≡◌, ℕ, ◌+◌, ◌-◌, ◌^◌, ◌<◌, ◌≤◌, List, ◌∷◌, length, map, set}
 use Rattle.std.specs.Prelude.{Some, slice_get, Result, Ok, Err}
 use Rattle.calls_core.specs.declared.history.TheConstants.{WORKERS}
@@ -24,11 +24,11 @@ use Rattle.calls_monitor.specs.Refusals.{Explains}
 
 -- ONE OBJECT
 
--- how many calls were begun
+-- how many calls were invoked
 abbrev pub call_count : List Event → ℕ
 call_count past = length (completed_calls past) + length (pending_calls past)
 
--- what is kept of an object of this kind represents the events of its calls, which have a
+-- the monitor of an object of this kind represents the events of its calls, which have a
 -- linearization
 abbrev pub WatchesOf : Kind → List Event → Watch → Type 0
 WatchesOf (Eventcount n) past (Count m) = IsTaken n past m
@@ -50,7 +50,8 @@ abbrev pub VerdictOf : Kind → List Event → Event → Watch → Result Unit R
 VerdictOf kind past x new (Ok u) = WatchesOf kind (x ∷ past) new
 VerdictOf kind past x new (Err r) = Explains kind past x r
 
--- of all calls of the object that the old watch represents, if they are not too many to count
+-- the result of event x, for all histories of the object that the old monitor represents, if their
+-- calls are not too many to count
 abbrev pub JudgesOf : Watch → Watch → Event → Result Unit Refusal → Type 0
 JudgesOf old new x result =
     (kind : Kind) (past : List Event) → IsHistoryOf kind (x ∷ past) → WatchesOf kind past old
@@ -61,13 +62,13 @@ JudgesOf old new x result =
 abbrev pub entry : PendingCall → Pending
 entry o = record { worker = o.worker; object = o.object }
 
--- the monitor represents a past
+-- the monitor represents the history so far
 pub record Watches (kinds : List Kind) (past : List Event) (m : Monitor) : Type 0 where
   pub pending : m.pending.items ≡ map entry (pending_calls past)
   pub each : (k : ℕ) (kind : Kind) → slice_get kinds k ≡ Some kind
       → (w : Watch) × (slice_get m.objects.items k ≡ Some w) × WatchesOf kind (part k past) w
 
--- an event was handed to the watch w of object j
+-- an event was passed to the monitor w of object j
 abbrev pub IsHandedTo : Watch → List Watch → List Watch → ℕ → Event → Result Unit Rejection
     → Type 0
 IsHandedTo w old new j x (Ok u) = (v : Watch) × (new ≡ set old j v) × JudgesOf w v x (Ok u)

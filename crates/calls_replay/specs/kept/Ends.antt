@@ -15,7 +15,7 @@ use Rattle.calls_replay.specs.Obstacles.{IsPlain, IsObstacle, obstacle_note}
 use Rattle.calls_replay.specs.Replays.{IsTraceOfOrder, left_out, left_note, differs_note}
 use Rattle.calls_replay.specs.Replays.{ReplaysText}
 
--- how the writing of the trace of an order ended
+-- how the writing of the trace of a linearization ended
 abbrev pub WritesSteps : RecordingModel → List Placed → Status → Outlets → Outlets → Type 0
 WritesSteps r order Done old new =
     (trace : List ℕ) × IsTraceOfOrder r order trace × Appends old.out new.out trace
@@ -47,7 +47,7 @@ IsHindered n r rest Usage old new =
     × Puts old.notes new.notes (obstacle_note r n why)
 IsHindered n r rest _ old new = ⊥
 
--- how the command ended with a history that was read, of which n is the line after its `end`
+-- how the command ended with a history that was read; n is the line after its `end`
 abbrev pub ReplaysRead : ℕ → RecordingModel → List ℕ → Status → Outlets → Outlets → Type 0
 ReplaysRead n r rest status old new =
     WritesOrder r rest status old new

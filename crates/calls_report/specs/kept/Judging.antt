@@ -16,11 +16,11 @@ use Rattle.calls_report.specs.Notes.{scene_of, SaysRefusal, undecided_note}
 use Rattle.calls_report.specs.Checks.{JudgedHistory, HasOrder, IsRefused, IsOpen, history_text, texts_of}
 use Rattle.calls_report.specs.Checks.{remarks_on, AreJudged, IsJudged}
 
--- the text of the history and of an order of its calls was put
+-- the output for the history was put, with a linearization
 abbrev pub PutsOrder : RecordingModel → OutputModel → OutputModel → Type 0
 PutsOrder r old new = (order : List Placed) × HasOrder r order × Puts old new (history_text r order)
 
--- why no text of the history was put, of which n is the line after its `end`
+-- why no linearization of the history was put; n is the line after its `end`
 abbrev pub StopsBy : ℕ → RecordingModel → OutputModel → OutputModel → Stop → Type 0
 StopsBy n r old new stops.Refused = (x : Refusal) × IsRefused r x × SaysRefusal n r x old new
 StopsBy n r old new stops.NotDecided =

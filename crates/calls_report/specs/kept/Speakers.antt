@@ -1,4 +1,4 @@
--- The words of a history, as the code holds them.
+-- What the text of calls depends on, as the code represents it.
 use Rattle.std.specs.Prelude.{ℕ, List}
 use Rattle.ec_heading.specs.HeadingModel.{HeadingModel}
 use Rattle.calls_core.specs.declared.history.Op.{Op}

@@ -1,4 +1,4 @@
--- What is counted over an order.
+-- The sums over an order.
 use Rattle.std.specs.Prelude.{◌≡◌, ℕ, ◌+◌, ◌==◌, ◌&&◌, ◌||◌, List, slice_index_or, if◌then◌else◌}
 use Rattle.calls_core.specs.declared.history.Call.{Call}
 use Rattle.calls_core.specs.declared.history.Placed.{Placed}
@@ -7,7 +7,7 @@ use Rattle.calls_report.specs.declared.sums.Sums.{Sums}
 use Rattle.calls_report.specs.Totals.{effects, value_after, added_units, taken_units, pairs}
 use Rattle.calls_report.specs.Totals.{is_effect, put_value, adds_to, is_pair}
 
--- these are the numbers of the objects, or of the groups, 0 if none is kept
+-- these are the numbers of the objects, or of the groups, 0 if none is stored
 abbrev pub AreOf : (ℕ → ℕ) → List ℕ → Type 0
 AreOf f numbers = (i : ℕ) → slice_index_or numbers i 0 ≡ f i
 

@@ -1,4 +1,4 @@
--- What the stages of the pass are. Only the proofs need this.
+-- The invariant of the stages of the pass. Only the proofs and the private contracts use this.
 use Rattle.std.specs.Prelude.{◌≡◌, ℕ, suc, ◌<◌, ◌≤◌, ◌⊎◌, ◌==◌, Bool, true, false, List, []}
 use Rattle.std.specs.Prelude.{◌∷◌, ◌++◌, length, map, Option, Some, None, slice_get, take}
 use Rattle.std.specs.Prelude.{drop, if◌then◌else◌}
@@ -47,7 +47,7 @@ abbrev pub all_calls : List StageView → List Call
 all_calls [] = []
 all_calls (h ∷ hs) = held_calls h ++ all_calls hs
 
--- THE PASS KEEPS
+-- ONE STAGE, AND TWO IN A ROW
 
 abbrev pub is_put : Op → Bool
 is_put (Put v) = true
@@ -102,7 +102,7 @@ pub record Follows (a b : StageView) : Type 0 where
   pub moments : a.moment ≤ b.moment
   pub gets : Each (λ (g : Call). g.first ≤ b.moment) a.gets
 
--- the first one has no put
+-- the first stage has no put
 abbrev pub Begins : List StageView → Type 0
 Begins [] = ⊥
 Begins (h ∷ hs) = h.put ≡ None
@@ -113,7 +113,7 @@ abbrev pub points : Option ℕ → ℕ → Bool
 points None k = false
 points (Some i) k = i == k
 
--- the gets of a link and of those that it rests on, among links with the latest first
+-- the gets of a link and of those that it depends on, among links with the latest first
 abbrev pub gets_of_link : Option ℕ → List Link → List Call
 gets_of_link i [] = []
 gets_of_link i (l ∷ ls) =
@@ -156,7 +156,7 @@ abbrev pub current_puts : Option Current → List PendingCall
 current_puts None = []
 current_puts (Some k) = k.call ∷ []
 
--- as if its response were at the end
+-- the pending put counts as one with its response at the end
 abbrev pub IsCurrent : ℕ → Option Current → Type 0
 IsCurrent end None = Unit {0}
 IsCurrent end (Some k) = k.stage.put ≡ Some (completion end Done k.call)
@@ -182,17 +182,17 @@ pub record AreStages (end t : ℕ) (done : List Call) (pending : List PendingCal
 
 -- WHAT AN EVENT DOES TO A STAGE
 
--- the stage of the value at first
+-- the stage of the initial value
 abbrev pub first_stage : StageView
 first_stage = record { put = None; value = 0; moment = 0; link = None; gets = [] }
 
--- the moment of a pending put from which a get at position at has its value, or that has its
--- response there: a link has said it, or it is this position
+-- the moment of a pending put, if at position `at` a get returns its value or it has its response:
+-- the moment that a link showed, or else this position
 abbrev pub moment_bound : Option ℕ → ℕ → ℕ → ℕ
 moment_bound None m at = at
 moment_bound (Some i) m at = m
 
--- the link, or the one that comes next if there is none
+-- the link of a stage, or the next link if it has none
 abbrev pub link_index : Option ℕ → ℕ → Option ℕ
 link_index None n = Some n
 link_index (Some i) n = Some i
@@ -219,7 +219,7 @@ with_get c h = record {
   gets = h.gets ++ c ∷ [];
 }
 
--- if n is the number of links
+-- a get of a pending put's value is added, if n is the number of links
 abbrev pub with_late : Call → ℕ → StageView → StageView
 with_late c n h = record {
   put = h.put;
@@ -254,8 +254,8 @@ abbrev pub NextEarlier : ℕ → List StageView → Option ℕ → Type 0
 NextEarlier first [] because = ⊥
 NextEarlier first (h ∷ hs) because = (h.moment < first) × (because ≡ h.link)
 
--- the stage at index i, the last one whose put was over, has another value, or is followed by an
--- early put
+-- the stage h, the last one whose put was over, has another value than x, or is followed by a put
+-- that took effect before position first
 abbrev pub IsReason : ℕ → ℕ → StageView → List StageView → Option ℕ → Type 0
 IsReason first x h back because =
     ((h.value ≡ x → ⊥) × (because ≡ None)) ⊎ ((h.value ≡ x) × NextEarlier first back because)
@@ -280,7 +280,7 @@ abbrev pub IsFound : List StageView → ℕ → ℕ → ℕ → PutChoice → Ty
 IsFound hs n first x (At i) = IsAt hs n first x i
 IsFound hs n first x (Shut because) = IsShutOut hs n first x because
 
--- what is said of the stage at index i, whose put was over
+-- the result for the stage at index i, whose put was over
 abbrev pub IsEarly : List StageView → ℕ → ℕ → ℕ → PutChoice → Type 0
 IsEarly hs first x i (At j) = (j ≡ i) × ((h : StageView) → slice_get hs i ≡ Some h
     → (h.value ≡ x) × NextLater first (drop (suc i) hs))

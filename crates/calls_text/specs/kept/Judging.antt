@@ -1,5 +1,4 @@
--- An event, judged by the calls that are pending and by how many advances were called, whatever
--- came before.
+-- An event, judged by the pending calls and the tally of advances, without the events before it.
 use Rattle.std.specs.Prelude.{◌≡◌, ℕ, ◌+◌, ◌<◌, Bool, false, nat_le, List, Option, Some, None, is_some}
 use Rattle.std.specs.Prelude.{Result, Ok, Err, if◌then◌else◌}
 use Rattle.ec_text.specs.Words.{words_of}
@@ -40,7 +39,7 @@ spent_at limit t w _ _ = false
 abbrev pub spent_by : Running → ℕ → CallWord → Object → Bool
 spent_by r w v o = spent_at r.recording.heading.setup.limit r.tally w v o
 
--- whose event it is, what happens, and the lists after it
+-- the worker and the action of an event, and the lists after it
 pub record Happening : Type 0 where
   pub worker : ℕ
   pub action : Action
@@ -92,7 +91,7 @@ unfoldable pub event_by : Running → List ℕ → Result Happening Kind
 event_by r line = if is_no_line line then Err kinds.BadLine
     else phrased_by r (phrase_in (words_of line))
 
--- WHAT AN EVENT LEAVES
+-- THE STATE AFTER AN EVENT
 
 -- one more if the event is an advance
 abbrev pub IsTallied : Tally → Tally → Event → Type 0
@@ -111,7 +110,7 @@ MayComeBy r x =
     (ks : List sorts.Kind) → AreKinds r.recording.heading r.recording.from ks
     → IsNext ks x.action (pending_by r x.worker)
 
--- the event came, and is not kept
+-- the state after the event, which is not stored
 pub record GoesOn (old new : Running) (x : Event) : Type 0 where
   pub at : x.at ≡ old.count
   pub count : new.count ≡ old.count + 1
@@ -120,7 +119,7 @@ pub record GoesOn (old new : Running) (x : Event) : Type 0 where
   pub recording : new.recording ≡ record old.recording { lists = new.recording.lists }
   pub next : MayComeBy old x
 
--- what was answered to a line, or to a part of it
+-- what was returned for a line, or for a part of it
 abbrev pub Answers : Running → Running → Result Event LineFault → Result Happening Kind → Type 0
 Answers old new (Ok x) happened =
     (happened ≡ Ok (record {

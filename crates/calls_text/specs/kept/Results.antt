@@ -1,4 +1,4 @@
--- What functions answer of a line.
+-- What functions return for a line.
 use Rattle.std.specs.Prelude.{◌≡◌, ℕ, [], Result, Ok, Err}
 use Rattle.ec_heading.specs.declared.version.Version.TheVariants.{Two}
 use Rattle.ec_heading.specs.HeaderTree.{empty_heading}
@@ -6,7 +6,7 @@ use Rattle.calls_text.specs.declared.fault.Kind.{Kind}
 use Rattle.calls_text.specs.declared.fault.LineFault.{LineFault}
 use Rattle.calls_text.specs.Reading.{Draft, draft_of, StepFails}
 
--- the limit of a heading, or the kind of fault
+-- the limit of a header, or the kind of fault
 abbrev pub IsLimit : Result ℕ Kind → Result Draft Kind → Type 0
 IsLimit (Ok n) stepped = stepped ≡ Ok (draft_of (empty_heading Two n []))
 IsLimit (Err kind) stepped = stepped ≡ Err kind

@@ -1,4 +1,4 @@
--- What the code keeps of a history while its events come.
+-- What the code stores of a history while its events are read.
 use Rattle.std.specs.Prelude.{◌≡◌, ℕ, ◌<◌, List, length, reverse, Some, slice_get}
 use Rattle.ec_count.specs.Tables.{IsDeclared}
 use Rattle.calls_core.specs.declared.history.Kind as sorts
@@ -16,14 +16,14 @@ use Rattle.calls_text.specs.declared.object.Object.TheVariants as objects
 use Rattle.ec_heading.specs.HeadingModel.{HeadingModel}
 use Rattle.ec_heading.specs.declared.group.Group.TheVariants as groups
 
--- these were the events so far, whether they are kept or not
+-- these were the events so far, whether they are stored or not
 pub record IsRunning (events : List Event) (r : Running) : Type 0 where
   pub pending : r.pending.items ≡ pending_calls (reverse events)
   pub counted : IsCounted r.tally events
   pub count : r.count ≡ length events
   pub declared : IsDeclared r.recording.heading.setup
 
--- the events so far are kept
+-- the events so far are stored
 abbrev pub IsKeeping : Running → Type 0
 IsKeeping r = IsRunning r.recording.events r
 
@@ -41,7 +41,7 @@ abbrev pub IsPlaced : HeadingModel → Object → Type 0
 IsPlaced h (objects.Database i d) = i < length h.groups
 IsPlaced h _ = Unit {0}
 
--- the object is of the sort that the call asks for; its groups are those at its places
+-- the object is of the sort that the call needs; its groups are those at its indices
 abbrev pub Fits : HeadingModel → CallWord → Object → Type 0
 Fits h verbs.Advance (objects.Event e) = Unit {0}
 Fits h verbs.Read (objects.Event e) = Unit {0}

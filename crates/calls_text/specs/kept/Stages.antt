@@ -1,4 +1,4 @@
--- The stages of reading, as the code holds them.
+-- The stages of reading, as the code represents them.
 use Rattle.std.specs.Prelude.{ℕ, ◌≡◌, List, [], ◌∷◌, ◌++◌, Option, Some, None, Result, Ok, Err, Bool, true}
 use Rattle.std.specs.Prelude.{bytes_eq, codes}
 use Rattle.calls_core.specs.declared.history.Event.{Event}
@@ -10,7 +10,7 @@ use Rattle.calls_text.specs.Reading.{Stage, Opening, Limiting, Declaring, Runnin
 use Rattle.calls_text.specs.Reading.{is_run, with_events}
 use Rattle.calls_text.specs.kept.Runs.{IsRunning, IsKeeping, IsNextOf}
 
--- WITH THE EVENTS THAT ARE KEPT
+-- WITH THE EVENTS THAT ARE STORED
 
 abbrev pub stage_with_all : held.Stage → Stage
 stage_with_all holds.Opening = Opening
@@ -33,20 +33,20 @@ kept_events (holds.Running r) = r.recording.events
 kept_events (holds.Ended r) = r.events
 kept_events _ = []
 
--- the event may be the next of those that are kept
+-- the event may be the next of those that are stored
 abbrev pub IsNextIn : held.Stage → Event → Type 0
 IsNextIn (holds.Running r) e = IsNextOf r.recording e
 IsNextIn _ e = ⊥
 
--- the event is kept
+-- the event is stored
 abbrev pub Keeps : held.Stage → held.Stage → Event → Type 0
 Keeps (holds.Running r) new e = new ≡ holds.Running (record r
     { recording = with_events r.recording (r.recording.events ++ e ∷ []) })
 Keeps _ new e = ⊥
 
--- WITH EVENTS THAT NEED NOT BE KEPT
+-- WITH EVENTS THAT NEED NOT BE STORED
 
--- what the lines have built, if these were the events
+-- the stage of reading, if these were the events
 abbrev pub seen_with : List Event → held.Stage → Stage
 seen_with events holds.Opening = Opening
 seen_with events holds.Limiting = Limiting

@@ -1,4 +1,4 @@
--- What is gathered of the events so far.
+-- How the recorded tickets represent the history so far.
 use Rattle.std.specs.Prelude.{◌≡◌, List, ◌∷◌, reverse, Bool, true, false}
 use Rattle.calls_core.specs.declared.history.Kind.TheVariants.{Sequencer}
 use Rattle.calls_core.specs.declared.history.Event.{Event}

@@ -1,4 +1,4 @@
--- What is kept of the objects that were decided.
+-- What the findings say about the objects that were decided.
 use Rattle.std.specs.Prelude.{◌≡◌, ◌⊎◌, ℕ, ◌+◌, ◌<◌, ◌≤◌, List, length, reverse, Option}
 use Rattle.std.specs.Prelude.{Some}
 use Rattle.std.specs.Prelude.{None, slice_get}
@@ -19,7 +19,7 @@ use Rattle.calls_verdict.specs.declared.findings.Findings.{Findings}
 use Rattle.calls_verdict.specs.Verdicts.{IsOrderedBefore, IsDecision, HasFault, HasOpen, IsVerdict}
 use Rattle.calls_verdict.specs.Verdicts.{IsClear}
 
--- up to here each object was decided: the position of the refusal, or the end
+-- the position up to which each object was decided: that of the refusal, or the end
 abbrev pub limit : ℕ → Option Refusal → ℕ
 limit t None = t
 limit t (Some r) = r.at
@@ -42,7 +42,7 @@ pub record ArePlaced (kinds : List Kind) (past : List Event) (n : ℕ) (ps : Lis
         → IsPlacedOrder (IsSequentialRun (start kinds k)) (calls_on k (completed_calls past))
         (pending_on k (pending_calls past)) (clock past) (placed_on k ps)
 
--- what is found of the first n objects
+-- the findings are those of the first n objects
 pub record AreFound (kinds : List Kind) (past : List Event) (n : ℕ) (found : Findings) : Type 0 where
   pub clear : (k : ℕ) (kind : Kind) → k < n → slice_get kinds k ≡ Some kind → (m : ℕ)
       → m ≤ limit (clock past) found.refusal → IsClear kind (until m (part k past))
@@ -57,19 +57,19 @@ HasRoom own (Ordered cs) = Unit {0}
 HasRoom own (Refused i f) = i < length own
 HasRoom own (Open i u) = Unit {0}
 
--- with a decision on object k, whose events these are
+-- a decision on object k is added, whose events are own
 abbrev pub IsAddedTo : ℕ → List Event → Decision → Findings → Findings → Type 0
 IsAddedTo k own d old new =
     (kinds : List Kind) (past : List Event) (kind : Kind) → IsHistory kinds past
     → slice_get kinds k ≡ Some kind → reverse own ≡ part k past → IsDecision kind own (clock past) d
     → AreFound kinds past k old → AreFound kinds past (k + 1) new
 
--- the one with the lesser position
+-- the refusal with the lesser position
 abbrev pub IsEarlier : Option Refusal → Refusal → Refusal → Type 0
 IsEarlier None next r = r ≡ next
 IsEarlier (Some old) next r = ((r ≡ old) × (old.at ≤ next.at)) ⊎ ((r ≡ next) × (next.at < old.at))
 
--- what is found of all objects gives this verdict
+-- the findings on all objects give this verdict
 abbrev pub Gives : Findings → Verdict → Type 0
 Gives found v = (kinds : List Kind) (past : List Event) → IsHistory kinds past
     → AreFound kinds past (length kinds) found → IsVerdict kinds past v

@@ -52,7 +52,7 @@ SaysAt NotDecided n ps old new = SaysUnwatched n ps old new
 SaysAt Memory n ps old new = Puts old new (codes "no memory\n")
 SaysAt _ n ps old new = ⊥
 
--- after some histories it is said why there are no more
+-- after some histories, a note says why there are no more
 pub record SaysStop (ps : List (List ℕ)) (status : Status) (old new : OutputModel) : Type 0 where
   pub reads : List OneRead
   pub start : ℕ

@@ -1,4 +1,4 @@
--- What is kept of a text while its lines come.
+-- What the state of `watch` represents, after some lines of a text.
 use Rattle.std.specs.Prelude.{◌≡◌, ◌≢◌, ◌<◌, ◌⊎◌, ℕ, ◌+◌, List, [], ◌∷◌, ◌++◌, length, reverse, Option, Some, None}
 use Rattle.std.specs.Prelude.{Result, Ok, Err, true, false, ⊤}
 use Rattle.std.specs.List.{All}
@@ -46,8 +46,8 @@ IsMonitored _ events m = Unit {0}
 
 -- THE TEXT
 
--- of a text with these parts the lines came up to those that are left: histories that are
--- linearizable, and the beginning of one more
+-- ps are the parts of a text, and qs those that are left. Before them came linearizable histories,
+-- and a prefix of one more, which is linearizable
 pub record IsWatching (ps qs : List (List ℕ)) (w : Watcher) : Type 0 where
   pub reads : List OneRead
   pub start : ℕ
@@ -127,7 +127,7 @@ IsJudged m x new (Err (stops.Refused y report)) =
 IsJudged m x new (Err stops.Memory) = Unit {0}
 IsJudged m x new (Err _) = ⊥
 
--- a load, after an event with which so many calls are pending
+-- a load after an event, after which so many calls are pending
 pub record IsLoadAfter (old : Load) (x : Event) (pending : ℕ) (new : Load) : Type 0 where
   pub histories : new.histories ≡ old.histories
   pub calls : new.calls ≡ old.calls + invocation_count x.action
@@ -161,7 +161,7 @@ IsEventJudged m x old new (Err stops.NotWatched) =
 IsEventJudged m x old new (Err stops.Memory) = Unit {0}
 IsEventJudged m x old new (Err _) = ⊥
 
--- a history has ended, and the next may come
+-- a history has ended, and the next may begin
 abbrev pub IsBegunAgain : Watcher → Watcher → Result (Unit {0}) Stop → Type 0
 IsBegunAgain old new (Ok u) =
     (stage_with_events [] new.follower ≡ Opening) × HasEvents [] new.follower
@@ -182,8 +182,8 @@ GoesOnBy lines.End old new result = IsBegunAgain old new result
 
 -- PIECES
 
--- of a text with these parts the bytes came up to those that are left, and the last of them begin a
--- line
+-- ps are the parts of a text, and rest the bytes that are left. The last bytes before them are a
+-- prefix of a line
 pub record IsFed (ps : List (List ℕ)) (rest : List ℕ) (f : Feeder) : Type 0 where
   pub watching : IsWatching ps (lines_of_text (f.part.items ++ rest)) f.watcher
   pub plain : All (λ b. b ≢ 10) f.part.items
@@ -192,7 +192,7 @@ abbrev pub Feeds : Result (Unit {0}) Stop → List (List ℕ) → List ℕ → F
 Feeds (Ok u) ps rest f = IsFed ps rest f
 Feeds (Err stop) ps rest f = Stops stop ps f.watcher
 
--- bytes were added to the beginning of a line, or that is too long
+-- bytes were appended to the prefix of a line, or the line is too long
 abbrev pub GathersTo : Result (Unit {0}) Stop → List ℕ → Feeder → Feeder → Type 0
 GathersTo (Ok u) bytes old new =
     (new.part.items ≡ old.part.items ++ bytes) × (new.watcher ≡ old.watcher)

@@ -57,7 +57,7 @@ delivering_off a x past off s = record {
   list = λ ok. s.list ok ∙ sym (collected_off a.shape x past off);
 }
 
--- nor need it take in a go that ends no call
+-- nor does it need a go that ends no call
 writers_going : (b : Buffer) (w : ℕ) (past : List Entry) → writers_of b (going w ∷ past) ≡ writers_of b past
 unfolding writers_of
 writers_going b w past = refl

@@ -25,7 +25,7 @@ use Rattle.ec_core.specs.Progress.{Progress, RoundSoFar}
 use Rattle.ec_core.specs.Fields.{stored_progress, component_in, right_in, already_in, is_full, is_full_for, count_value, read_with, read_component, read_effect, IsNamed}
 use Rattle.ec_core.proofs.shared.Signalling.{signallers_length}
 
--- a place is within the list
+-- a position is within the list
 pub place_within : (w : ℕ) (ws : List ℕ) (low c : ℕ) → position_from (λ v. v == w) low ws ≡ Some c → c < low + length ws
 place_within w [] low c h = cc
 place_within w (v ∷ ws) low c h =
@@ -49,7 +49,7 @@ component_few t past e w c d h = omega (arith, place_within w (signallers_at t e
 pub component_is : (s : State) (past : List Entry) (e w : ℕ) → Represents s past → e < 32 → component_in s e w ≡ component_at s.setup e past w
 component_is s past e w st lt = ap (λ o. index_of w (unwrap_or o [])) (st.signal e lt)
 
--- a world keeps of the call under way what its history says
+-- a world stores the progress of a pending call that its history says
 pub kept_is : (s : State) (past : List Entry) (w : ℕ) → Represents s past → w < 16 → stored_progress s w ≡ progress_of s.setup w past
 kept_is s past w st lt = ap (λ o. unwrap_or o None) (st.calls w lt)
 
@@ -88,7 +88,7 @@ right_is s past w (Put x v) st named = refl
 right_is s past w (Get x) st named = refl
 right_is s past w (Hand e b) st named = ap is_some (component_is s past e w st named)
 
--- whether the worker that is handed to signals already is as the history says
+-- whether the receiver of a hand signals already is as the history says
 pub already_is : (s : State) (past : List Entry) (act : Act) → Represents s past → IsNamed act → already_in s act ≡ signals_already s.setup past act
 already_is s past (Hand e b) st named = ap is_some (component_is s past e b st named)
 already_is s past (Advance e) st named = refl
@@ -114,7 +114,7 @@ chosen_none : {F : Type 0} (b : Bool) (f : F) (o : Option F) → cond b (Some f)
 chosen_none true f o h = cc
 chosen_none false f o h = (refl, h)
 
--- what an answer that is no refusal tells of the tests
+-- what an answer that is no refusal says of the tests
 pub record IsAllowed (t : Tables) (past : List Entry) (w : ℕ) (act : Act) : Type 0 where
   pub declared : nat_le t.workers w ≡ false
   pub free : (is_some (under_way w past) && not (is_go act)) ≡ false
@@ -130,7 +130,7 @@ accepted_or : (o : Option Refusal) (x y : Reply) → refused_or o x ≡ Ok y →
 accepted_or None x y h = (refl, cc)
 accepted_or (Some r) x y h = cc
 
--- an act that is told a reply passed each test, and the reply is the right one
+-- an act that gets a reply passed each test, and the reply is the right one
 pub allowed : (t : Tables) (past : List Entry) (w : ℕ) (act : Act) (reply : Reply) → answer_of t past w act ≡ Ok reply
     → IsAllowed t past w act × (reply_of t past w act ≡ reply)
 unfolding answer_of
@@ -167,7 +167,7 @@ reading_step t past w (Put x v) reply a r h = subst (λ p. IsReadingCall t (cond
 reading_step t past w (Get x) reply a r h = subst (λ p. IsReadingCall t (cond (is_pending p) (call_with_act (Get x) past (under_way w past)) None)) r tt
 reading_step t past w (Hand e f) reply a r h = subst (λ p. IsReadingCall t (cond (is_pending p) (call_with_act (Hand e f) past (under_way w past)) None)) r tt
 
--- each call under way in an accepted history was begun by a read or an await of a declared eventcount
+-- each pending call in an accepted history was begun by a read or an await of a declared eventcount
 pub call_reads : (t : Tables) (past : List Entry) (w : ℕ) → IsAccepted t past → IsReadingCall t (under_way w past)
 unfolding under_way
 call_reads t [] w acc = tt
@@ -191,7 +191,7 @@ reading_event t (Put x v) h = absurd h
 reading_event t (Get x) h = absurd h
 reading_event t (Hand e f) h = absurd h
 
--- counting round: the next remainder is one more, or 0 if that makes the whole
+-- counting modulo n: the next remainder is one more, or 0 if that is n
 pub mod_next : (n k : ℕ) → 0 < n → suc k % n ≡ cond (nat_le n (k % n + 1)) 0 (k % n + 1)
 mod_next n k h =
     elim (nat_le n (k % n + 1)) as (λ b. nat_le n (k % n + 1) ≡ b → suc k % n ≡ cond b 0 (k % n + 1)) [
@@ -207,7 +207,7 @@ mod_next n k h =
           suc-mod k n ∙ mod-eq_of_lt lt ∙ one)
     ] refl
 
--- how far the round of a call has come
+-- the progress of the round of a call
 abbrev pub round_of : Progress → RoundSoFar
 round_of u = record { index = u.index; sum = u.sum }
 
@@ -222,7 +222,8 @@ way_on : (op : Act) (b : Bool) (next c total : ℕ) (f : ℕ → ℕ) → next �
 way_on op true next c total f e z g = way_round (round_reply op total) next f e z
 way_on op false next c total f e z g = cc
 
--- one more read tells what the history says, and a call that goes on has come as far as the call of the history
+-- one more read has the reply that the history says, and a call that stays pending has the progress
+-- of that of the history
 pub read_is : (s : State) (past : List Entry) (op : Act) (moments : List (List Entry)) → Represents s past → event_or op < 32
     → 0 < component_count s.setup (event_or op) → next_component s.setup (event_or op) moments < 16
     → read_effect s (call_progress s.setup (record { op = op; moments = moments }))

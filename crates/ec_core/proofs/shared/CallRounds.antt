@@ -19,7 +19,7 @@ use Rattle.ec_core.proofs.shared.Moments.{accepted_at, accepted_of, moment_befor
 use Rattle.ec_core.proofs.shared.Pasts.{past_itself, past_of_past, gone_before, call_before, IsCallBefore}
 use Rattle.ec_core.proofs.shared.Totals.{round_between}
 
--- each moment came after all that stand below it
+-- each moment came after all that follow it in the list
 abbrev pub IsStacked : List (List Entry) → Type 0
 IsStacked [] = Unit {0}
 IsStacked (p ∷ ps) = EachIsPastOf ps p × IsStacked ps
@@ -57,7 +57,7 @@ each_at [] n late h lt = absurd (omega arith)
 each_at (p ∷ ps) zero late h lt = h.0
 each_at (p ∷ ps) (suc n) late h lt = each_at ps n late h.1 (omega arith)
 
--- the n-th moment is a past of each above it
+-- the n-th moment came no later than each of those before it in the list
 stack_low : (ps : List (List Entry)) (n : ℕ) → IsStacked ps → n < length ps → IsPastOfEach (get_or ps n []) (take (suc n) ps)
 stack_low [] n h lt = absurd (omega arith)
 stack_low (p ∷ ps) zero h lt = (past_itself p, tt)
@@ -74,7 +74,7 @@ sum_taken t e zero ps = refl
 sum_taken t e (suc n) [] = refl
 sum_taken t e (suc n) (p ∷ ps) = (let rest = sum_taken t e n ps in cc)
 
--- a past of a history is the one at the moment that its length says
+-- a suffix of a reversed history is that at the moment of its length
 pub past_by_length : (h : List Entry) (p : List Entry) → IsPastOf p (reverse h) → past_at (length p) h ≡ p
 past_by_length h p is =
     let whole : h ≡ reverse p ++ reverse is.since = sym (reverse-reverse h) ∙ ap reverse is.is ∙ reverse-append is.since p in
@@ -82,7 +82,7 @@ past_by_length h p is =
     ap (take (length p)) whole ∙ ap (λ n. take n (reverse p ++ reverse is.since)) (sym (length-reverse p)) ∙ take-append_seam (reverse p) (reverse is.since) in
     ap reverse prefix ∙ reverse-reverse p
 
--- if a call has gone whole rounds, its last entry stands n - 1 places after its round's start
+-- if a call has made whole rounds, its last entry is n - 1 entries after its round's first one
 whole_rounds : (k n : ℕ) → 0 < n → suc k % n ≡ 0 → (k % n ≡ n - 1) × (n ≤ suc k)
 whole_rounds k n some h =
     elim (nat_le n (k % n + 1)) as (λ b. nat_le n (k % n + 1) ≡ b → cond b 0 (k % n + 1) ≡ 0 → (k % n ≡ n - 1) × (n ≤ suc k)) [

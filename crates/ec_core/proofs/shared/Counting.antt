@@ -1,4 +1,4 @@
--- The counts of a past, in order of time.
+-- The counts of a history, in order of time.
 use Rattle.std.proofs.Common.{◌≡◌, ℕ, zero, suc, ◌+◌, ◌<◌, ◌≤◌, Bool, true, false, ◌&&◌, List, [], ◌∷◌, reverse, take, count_by, Option, Some, None, ◌⊎◌, inl, inr, unwrap_or, slice_get, refl, ap, sym, ◌∙◌, arith, subst, cond, ◌==◌, ◌≢◌, add-one}
 use Rattle.std.specs.Option.{option_map_or, option_and_then}
 use Rattle.std.proofs.Math.Nat.{zero-add}

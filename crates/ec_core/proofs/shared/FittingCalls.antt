@@ -1,4 +1,5 @@
--- A history follows exactly if each worker's finished calls fit, one after another, and so does its call under way.
+-- A history conforms exactly if each worker's completed calls fit, one after another, and so does
+-- its pending call.
 use Rattle.std.proofs.Common.{◌≡◌, ℕ, Bool, true, false, not, ◌&&◌, ◌||◌, List, [], ◌∷◌, ◌++◌, Option, Some, None, is_some, refl, ap, sym, ◌∙◌, subst, cond, ◌==◌, ◌⊎◌, inl, inr}
 use Rattle.std.proofs.lemmas.Bool.{eqb-true, eq-eqb}
 use Rattle.ec_count.specs.Tables.{Tables, IsDeclared}
@@ -21,17 +22,18 @@ use Rattle.ec_core.proofs.shared.Scans.{call_own, call_other}
 abbrev pub is_fitting : Rule → List CompletedCall → Act → Bool
 is_fitting r b op = not (r.concerns b op) || r.fits b op
 
--- the part of its list that a worker has behind it after these calls, if it had some before them
+-- the part of its list that a worker has completed after these calls, given the part before them
 abbrev pub list_after : Rule → List CompletedCall → List CompletedCall → List CompletedCall
 list_after r b [] = b
 list_after r b (c ∷ cs) = list_after r (extend_list r b c) cs
 
--- each call fits where it stands
+-- each call fits at its position
 abbrev pub AreFitting : Rule → List CompletedCall → List CompletedCall → Type 0
 AreFitting r b [] = Unit {0}
 AreFitting r b (c ∷ cs) = (is_fitting r b c.op ≡ true) × AreFitting r (extend_list r b c) cs
 
--- the list after some calls and then others is that after the others, begun where the first leave it
+-- the list after some calls and then others is that after the others, begun with what the first
+-- leave
 pub after_more : (r : Rule) (b xs ys : List CompletedCall) → list_after r b (xs ++ ys) ≡ list_after r (list_after r b xs) ys
 after_more r b [] ys = refl
 after_more r b (c ∷ xs) ys = after_more r (extend_list r b c) xs ys
@@ -50,23 +52,23 @@ pub fitting_back : (r : Rule) (b xs ys : List CompletedCall) → AreFitting r b 
 fitting_back r b [] ys f = f
 fitting_back r b (c ∷ xs) ys f = fitting_back r (extend_list r b c) xs ys f.1
 
--- FINISHED CALLS
+-- COMPLETED CALLS
 
--- an entry's call, as a finished one: the act that began it and the reply
+-- an entry's call, as a completed one: the act that began it and the reply
 abbrev pub told_at : Entry → List Entry → CompletedCall
 told_at x past = record { op = op_at x past; reply = x.reply }
 
--- an entry leaves the finished calls of other workers as they are
+-- an entry leaves the completed calls of other workers as they are
 pub finished_other : (w : ℕ) (x : Entry) (past : List Entry) → (x.worker == w) ≡ false → finished_by w (x ∷ past) ≡ finished_by w past
 unfolding finished_by
 finished_other w x past h = rw h refl
 
--- an entry that is told pending leaves its worker's finished calls as they are
+-- an entry with the reply Pending leaves its worker's completed calls as they are
 pub finished_same : (x : Entry) (past : List Entry) → is_pending x.reply ≡ true → finished_by x.worker (x ∷ past) ≡ finished_by x.worker past
 unfolding finished_by
 finished_same x past h = rw (eq-eqb x.worker x.worker refl, h) refl
 
--- an entry that is told more than pending adds its call to its worker's finished calls
+-- an entry with another reply adds its call to its worker's completed calls
 pub finished_more : (x : Entry) (past : List Entry) → is_pending x.reply ≡ false → finished_by x.worker (x ∷ past) ≡ finished_by x.worker past ++ told_at x past ∷ []
 unfolding finished_by
 finished_more x past h = rw (eq-eqb x.worker x.worker refl, h) refl
@@ -88,7 +90,7 @@ own_is r x past h =
           ∙ sym (after_more r [] (finished_by w past) (told_at x past ∷ [])) ∙ ap (list_after r []) (sym (finished_more x past e))
     ] refl
 
--- the list that a worker is in is that after its finished calls
+-- a worker's current list is that after its completed calls
 pub block_is : (r : Rule) (w : ℕ) (past : List Entry) → block r w past ≡ list_after r [] (finished_by w past)
 unfolding block finished_by
 block_is r w [] = refl
@@ -100,19 +102,19 @@ block_is r w (x ∷ past) =
       | false ↦ λ e. other_block r w x past e ∙ block_is r w past ∙ ap (list_after r []) (sym (finished_other w x past e))
     ] refl
 
--- THE CALL UNDER WAY
+-- THE PENDING CALL
 
 -- a call, if there is one, is next in the list, or does not concern it
 abbrev pub IsFittingCall : Rule → List CompletedCall → Option CallSoFar → Type 0
 IsFittingCall r b None = Unit {0}
 IsFittingCall r b (Some call) = is_fitting r b call.op ≡ true
 
--- a worker's finished calls fit, and so does its call under way
+-- a worker's completed calls fit, and so does its pending call
 pub record FitsAlone (r : Rule) (w : ℕ) (past : List Entry) : Type 0 where
   pub calls : AreFitting r [] (finished_by w past)
   pub going : IsFittingCall r (block r w past) (under_way w past)
 
--- FROM FOLLOWING
+-- FROM CONFORMANCE
 
 due_fits : (c f : Bool) → (c ≡ false) ⊎ ((c ≡ true) × (f ≡ true)) → (not c || f) ≡ true
 due_fits true f (inl h) = cc
@@ -254,7 +256,7 @@ all_before rules t x past acc f w =
       | false ↦ λ e. other_before (rules w) w x past e (f w)
     ] refl
 
--- an accepted history follows if each worker alone makes calls that fit
+-- an accepted history conforms if the calls of each worker fit
 pub follow_alone : (rules : ℕ → Rule) (t : Tables) (past : List Entry) → IsAccepted t past → ((w : ℕ) → FitsAlone (rules w) w past) → Follow rules past
 follow_alone rules t [] acc f = tt
 follow_alone rules t (x ∷ past) acc f = (

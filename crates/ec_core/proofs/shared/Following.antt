@@ -1,4 +1,4 @@
--- Steps of workers that follow their lists.
+-- Steps of workers that conform to their lists.
 use Rattle.std.proofs.Common.{◌≡◌, ℕ, suc, ◌+◌, ◌<◌, ◌≤◌, Bool, true, false, not, ◌&&◌, ◌||◌, List, [], ◌∷◌, ◌++◌, length, Option, Some, None, is_some, nat_le, unwrap_or, refl, ap, sym, ◌∙◌, arith, subst, cond, ◌==◌, ◌⊎◌, inl, inr}
 use Rattle.std.proofs.lemmas.Bool.{eqb-true, eq-eqb, and_parts, leb-true, leb-false}
 use Rattle.std.proofs.lemmas.Nat.{mod_below}
@@ -25,19 +25,19 @@ pub other_block : (r : Rule) (w : ℕ) (x : Entry) (past : List Entry) → (x.wo
 unfolding block
 other_block r w x past h = rw h refl
 
--- an entry takes its worker's list a step on, by the act that began its call and its reply
+-- an entry extends its worker's list, by the act that began its call and its reply
 pub own_block : (r : Rule) (x : Entry) (past : List Entry)
     → block r x.worker (x ∷ past) ≡ block_after r (block r x.worker past) (opening_act x.act (under_way x.worker past)) x.reply
 unfolding block
 own_block r x past = rw (eq-eqb x.worker x.worker refl) refl
 
--- a call that goes on leaves the list as it is
+-- a call that stays pending leaves the list as it is
 pub pending_after : (r : Rule) (b : List CompletedCall) (op : Act) (reply : Reply) → is_pending reply ≡ true → block_after r b op reply ≡ b
 pending_after r b op Pending h = refl
 pending_after r b op Done h = cc
 pending_after r b op (Number n) h = cc
 
--- an entry that is told pending leaves the lists of all workers as they are
+-- an entry with the reply Pending leaves the lists of all workers as they are
 pub block_pending : (r : Rule) (w : ℕ) (x : Entry) (past : List Entry) → is_pending x.reply ≡ true → block r w (x ∷ past) ≡ block r w past
 unfolding block
 block_pending r w x past h =
@@ -73,7 +73,7 @@ same_test f y t act (Put x v) go read await (inr k) = absurd k.0
 same_test f y t act (Get x) go read await (inr k) = absurd k.0
 same_test f y t act (Hand e g) go read await (inr k) = absurd k.0
 
--- WHAT A CALL IS TOLD
+-- REPLIES TO A CALL
 
 read_ends : (t : Tables) (op : Act) (past : List Entry) (moments : List (List Entry)) → IsAccepted t past → 0 < component_count t (event_or op) → EachIsPastOf moments past
     → (read_reply t op past moments ≡ Pending) ⊎ ((s : ℕ) × (s ≤ total (event_or op) past) × (read_reply t op past moments ≡ round_reply op s))
@@ -95,7 +95,7 @@ read_ends t op past moments acc some pasts =
       | false ↦ λ h. inl refl
     ] refl
 
--- the pasts of the earlier entries of the call that an act is part of
+-- the moments of the earlier entries of the call that an act is part of
 abbrev pub moments_of : Act → Option CallSoFar → List (List Entry)
 moments_of Go None = []
 moments_of Go (Some call) = call.moments
@@ -177,7 +177,7 @@ told_any t past w (Hand f g) o reply d acc b e h known going r = sym h
 abbrev pub op_at : Entry → List Entry → Act
 op_at x past = opening_act x.act (under_way x.worker past)
 
--- each entry of an accepted history is told what the act that began its call may be told
+-- the reply of each entry of an accepted history is one that the act that began its call may get
 pub step_told : (t : Tables) (x : Entry) (past : List Entry) → IsDeclared t → IsAccepted t (x ∷ past) → IsTold t past (op_at x past) x.reply
 step_told t x past d acc =
     let k = allowed t past x.worker x.act x.reply acc.0 in
@@ -226,7 +226,7 @@ right_after r b (Put x v) past Pending o h k = h
 right_after r b (Get x) past Pending o h k = h
 right_after r b (Hand e f) past Pending o h k = h
 
--- the call under way is right where it stands
+-- the pending call is right in the current list
 pub right_call : (rules : ℕ → Rule) (past : List Entry) (w : ℕ) → Follow rules past → IsRightCall (rules w) (block (rules w) w past) (under_way w past)
 unfolding under_way block
 right_call rules [] w f = tt
@@ -338,20 +338,20 @@ due_is due op h = (value_of op, valued op ∙ ap (λ a. with_value a (value_of o
 
 -- HOW A LIST GROWS
 
--- a finished call that the list has next makes it longer, or ends it
+-- a completed call that the list has next extends it, or ends it
 grown : (r : Rule) (calls : List CompletedCall) (op : Act) (reply : Reply) → r.concerns calls op ≡ true → is_pending reply ≡ false
     → block_after r calls op reply ≡ cond (r.ends (calls ++ record { op = op; reply = reply } ∷ [])) [] (calls ++ record { op = op; reply = reply } ∷ [])
 grown r calls op Pending on h = cc
 grown r calls op Done on h = rw on refl
 grown r calls op (Number n) on h = rw on refl
 
--- a finished call that concerns its worker's list makes it longer, or begins it anew if it is whole
+-- a completed call that concerns its worker's list extends it, or begins it again if it is whole
 pub after_told : (r : Rule) (x : Entry) (past : List Entry) (calls : List CompletedCall) (op : Act) → block r x.worker past ≡ calls → op_at x past ≡ op → r.concerns calls op ≡ true → is_pending x.reply ≡ false
     → block r x.worker (x ∷ past) ≡ cond (r.ends (calls ++ record { op = op; reply = x.reply } ∷ [])) [] (calls ++ record { op = op; reply = x.reply } ∷ [])
 after_told r x past calls op at is on done =
     own_block r x past ∙ ap (λ z. block_after r z (op_at x past) x.reply) at ∙ ap (λ o. block_after r calls o x.reply) is ∙ grown r calls op x.reply on done
 
--- an entry that is told pending leaves its worker's list as it is
+-- an entry with the reply Pending leaves its worker's list as it is
 pub after_pending : (r : Rule) (x : Entry) (past : List Entry) → x.reply ≡ Pending → block r x.worker (x ∷ past) ≡ block r x.worker past
 after_pending r x past e = own_block r x past ∙ ap (λ p. block_after r (block r x.worker past) (op_at x past) p) e
 

@@ -1,4 +1,4 @@
--- What a hand does to those who signal, in a history if each act was answered.
+-- What a hand does to the signallers, if no act is refused.
 use Rattle.std.proofs.Common.{◌≡◌, ℕ, ◌+◌, true, false, not, ◌||◌, List, [], ◌∷◌, Option, Some, None, is_some, Ok, refl, ap, sym, ◌∙◌, cond, ◌==◌}
 use Rattle.std.specs.List.{position_from}
 use Rattle.std.proofs.lemmas.Bool.{eqb-true}
@@ -14,7 +14,7 @@ use Rattle.ec_core.specs.Acceptance.{answer_of, IsAccepted}
 use Rattle.ec_core.proofs.shared.Answering.{allowed}
 use Rattle.ec_core.proofs.shared.Signalling.{different_signallers}
 
--- who has no place in a list is no member of it
+-- who has no position in a list is not a member of it
 pub no_member : (w : ℕ) (ws : List ℕ) (low : ℕ) → position_from (λ v. v == w) low ws ≡ None → is_member w ws ≡ false
 no_member w [] low h = refl
 no_member w (x ∷ xs) low h =
@@ -27,7 +27,7 @@ none_from : (o : Option ℕ) → is_some o ≡ false → o ≡ None
 none_from None h = refl
 none_from (Some c) h = cc
 
--- a worker that an answered hand is to is none of those who signal
+-- a worker without a component is not a signaller
 pub new_signaller : (t : Tables) (past : List Entry) (e b : ℕ) → is_some (component_at t e past b) ≡ false → is_member b (signallers_at t e past) ≡ false
 new_signaller t past e b h = no_member b (signallers_at t e past) 0 (none_from (component_at t e past b) h)
 
@@ -35,7 +35,7 @@ replaced_different : (o : Option ℕ) (b : ℕ) (ws : List ℕ) → is_member b 
 replaced_different None b ws new different = different
 replaced_different (Some c) b ws new different = set_distinct ws c b new different
 
--- an act that is answered leaves the signallers different
+-- an act that is not refused leaves the signallers different
 handed_different : (t : Tables) (e w : ℕ) (act : Act) (past : List Entry) (reply : Reply) → answer_of t past w act ≡ Ok reply
     → has_repeat (signallers_at t e past) ≡ false → has_repeat (signallers_after e w act (signallers_at t e past)) ≡ false
 handed_different t e w (Advance f) past reply answered different = different
@@ -60,7 +60,7 @@ unfolding signallers_at
 signallers_differ t e [] d acc = different_signallers t e d
 signallers_differ t e (x ∷ past) d acc = handed_different t e x.worker x.act past x.reply acc.0 (signallers_differ t e past d acc.1)
 
--- an act that is answered leaves the signallers of a fixed eventcount as they are
+-- an act that is not refused leaves the signallers of a fixed eventcount as they are
 handed_fixed : (t : Tables) (e w : ℕ) (act : Act) (past : List Entry) (reply : Reply) (ws : List ℕ) → answer_of t past w act ≡ Ok reply
     → may_hand t e ≡ false → signallers_after e w act ws ≡ ws
 handed_fixed t e w (Advance f) past reply ws answered fixed = refl

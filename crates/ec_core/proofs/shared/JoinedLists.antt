@@ -1,4 +1,5 @@
--- A worker follows exactly if its calls are whole lists joined end to end and the beginning of one more.
+-- A worker conforms exactly if its calls are whole lists joined end to end, then a prefix of a
+-- list.
 use Rattle.std.proofs.Common.{◌≡◌, ℕ, ◌<◌, Bool, true, false, not, ◌||◌, List, [], ◌∷◌, ◌++◌, All, append_assoc, length, reverse, take, slice_get, Option, Some, None, IfSome, refl, ap, sym, ◌∙◌, arith, subst, cond, ◌⊎◌, inl, inr}
 use Rattle.std.specs.List.{flat_map}
 use Rattle.std.proofs.lemmas.List.{append-nil, take-append-le}
@@ -14,7 +15,7 @@ use Rattle.ec_core.proofs.shared.Joining.{get_back, last_get}
 use Rattle.std.proofs.lemmas.List.Elements.{All-head, All-tail}
 use Rattle.ec_core.proofs.shared.FittingCalls.{is_fitting, list_after, AreFitting, after_more, fitting_more, block_is, IsFittingCall, FitsAlone, fits_alone, follow_alone}
 
--- BEGINNINGS
+-- PREFIXES
 
 nothing_begun : (r : Rule) → IsBeginning r []
 nothing_begun r k c at = cc
@@ -33,7 +34,7 @@ begun_more r b c h next k d at =
           subst P (sym here) (subst Q p.1 next))
     ]
 
--- the call that stands after b is next there
+-- the call after b is next there
 begun_next : (r : Rule) (b : List CompletedCall) (c : CompletedCall) (cs : List CompletedCall) → IsBeginning r (b ++ c ∷ cs) → ComesNext r b c.op
 begun_next r b c cs h =
     let at : slice_get (b ++ c ∷ cs) (length b) ≡ Some c = get_back b (c ∷ cs) (length b) 0 (omega arith) in
@@ -69,7 +70,7 @@ cons_after b c cs = sym (append_assoc b (c ∷ []) cs)
 
 -- CALLS THAT FIT ARE CUT INTO PIECES
 
--- calls that come after b are cut into pieces and the beginning of a list
+-- calls that come after b are cut into pieces and a prefix of a list
 record IsCut (P : List CompletedCall → Type 0) (r : Rule) (b cs : List CompletedCall) : Type 0 where
   pieces : List (List CompletedCall)
   last : List CompletedCall
@@ -94,7 +95,7 @@ cut_first P r b c cs p whole here ends rest = record {
   goes_on = rest.goes_on;
 }
 
--- a call is taken into the list
+-- a call is added to the list
 cut_on : (P : List CompletedCall → Type 0) (r : Rule) (b : List CompletedCall) (c : CompletedCall) (cs : List CompletedCall) → extend_list r b c ≡ b ++ c ∷ [] → IsCut P r (b ++ c ∷ []) cs → IsCut P r b (c ∷ cs)
 cut_on P r b c cs goes rest = record {
   pieces = rest.pieces;
@@ -106,7 +107,7 @@ cut_on P r b c cs goes rest = record {
   goes_on = rest.goes_on;
 }
 
--- a call that concerns the list and fits ends it or goes on with it
+-- a call that concerns the list and fits ends it or continues it
 cut_call : (P : List CompletedCall → Type 0) (r : Rule) (b : List CompletedCall) (c : CompletedCall) (cs : List CompletedCall) → ((l : List CompletedCall) → IsWholeList r l → P l)
     → IsBeginning r b → is_whole r b ≡ false → r.concerns b c.op ≡ true → is_fitting r b c.op ≡ true
     → (IsBeginning r (extend_list r b c) → is_whole r (extend_list r b c) ≡ false → IsCut P r (extend_list r b c) cs) → IsCut P r b (c ∷ cs)
@@ -131,7 +132,7 @@ cut_call P r b c cs whole begun goes on fits rest =
 abbrev settled : Rule → List CompletedCall → List CompletedCall
 settled r b = cond (is_whole r b) [] b
 
--- each of the calls concerns the list where it stands
+-- each of the calls concerns the list at its position
 abbrev AllConcern : Rule → List CompletedCall → List CompletedCall → Type 0
 AllConcern r b [] = Unit {0}
 AllConcern r b (c ∷ cs) = (r.concerns b c.op ≡ true) × AllConcern r (b ++ c ∷ []) cs
@@ -143,7 +144,7 @@ record IsRun (r : Rule) (b cs after : List CompletedCall) : Type 0 where
 run_call : (r : Rule) (b : List CompletedCall) (c : CompletedCall) → r.concerns b c.op ≡ true → extend_list r b c ≡ settled r (b ++ c ∷ [])
 run_call r b c on = extended_on r b c on ∙ ap (λ v. cond v [] (b ++ c ∷ [])) (sym (whole_more r b c))
 
--- the calls of a list, or of the beginning of one, fit
+-- the calls of a list, or of a prefix of one, fit
 run : (r : Rule) (b cs : List CompletedCall) → AllConcern r b cs → IsBeginning r (b ++ cs) → is_whole r b ≡ false → IsRun r b cs (settled r (b ++ cs))
 run r b [] on begun goes = record {
   fits = tt;
@@ -171,7 +172,7 @@ run_whole r l on whole =
     let k = run r [] l on whole.each refl in
     record { fits = k.fits; after_is = k.after_is ∙ ap (λ v. cond v [] l) whole.whole }
 
--- one run after another
+-- one sequence of fitting calls after another
 run_both : (r : Rule) (xs ys after : List CompletedCall) → IsRun r [] xs [] → IsRun r [] ys after → IsRun r [] (xs ++ ys) after
 run_both r xs ys after a b =
     let F : List CompletedCall → Type 0 = λ z. AreFitting r z ys in
@@ -180,7 +181,7 @@ run_both r xs ys after a b =
       after_is = after_more r [] xs ys ∙ ap (λ z. list_after r z ys) a.after_is ∙ b.after_is;
     }
 
--- pieces, each of which fits and leaves no list open, and the beginning of a list
+-- pieces, each of which fits and leaves no list open, and a prefix of a list
 run_pieces : (P : List CompletedCall → Type 0) (r : Rule) (pieces : List (List CompletedCall)) (last : List CompletedCall) → ((p : List CompletedCall) → P p → IsRun r [] p []) → All P pieces
     → IsRun r [] last (settled r last) → IsRun r [] (flat_map (λ p. p) pieces ++ last) (settled r last)
 run_pieces P r [] last one each end = end
@@ -189,7 +190,7 @@ run_pieces P r (p ∷ ps) last one each end =
     let R : List CompletedCall → Type 0 = λ z. IsRun r [] z (settled r last) in
     subst R (sym (append_assoc p (flat_map (λ q. q) ps) last)) (run_both r p (flat_map (λ q. q) ps ++ last) (settled r last) (one p (All-head P p ps each)) rest)
 
--- RULES THAT SPEAK OF THE CALLS ON A GROUP
+-- RULES THAT CONCERN THE CALLS ON A GROUP
 
 abbrev AllOn : (Act → Bool) → List CompletedCall → Type 0
 AllOn is_on [] = Unit {0}
@@ -318,19 +319,20 @@ joined_fits r is_on w past speaks j =
       going = fits_next r is_on (block r w past) j.last (under_way w past) speaks after j.next;
     }
 
--- to follow is to make, on the group, whole lists of calls joined end to end, and the beginning of one more
+-- to conform is to make, on the group, whole lists of calls joined end to end, then a prefix of one
+-- more
 pub following_joins : FollowingMeansJoinedLists
 following_joins t rules is_on h d acc speaks = (
   λ f w. joined_from (rules w) (is_on w) w (reverse h) (speaks w) (fits_alone rules t (reverse h) d acc f w),
   λ j. follow_alone rules t (reverse h) acc (λ w. joined_fits (rules w) (is_on w) w (reverse h) (speaks w) (j w)),
 )
 
--- LISTS THAT NO OTHER CALL BREAKS
+-- LISTS WITHIN WHICH THE WORKER MAKES NO OTHER CALL
 
 abbrev IsPiece : Rule → (Act → Bool) → List CompletedCall → Type 0
 IsPiece r is_on p = IsOther is_on p ⊎ IsWholeList r p
 
--- a call that is not on the group stands by itself
+-- a call that is not on the group is a piece of its own
 cut_other : (r : Rule) (is_on : Act → Bool) (b : List CompletedCall) (c : CompletedCall) (cs : List CompletedCall) → IsUnbroken r is_on → r.concerns b c.op ≡ false
     → IsCut (IsPiece r is_on) r (extend_list r b c) cs → IsCut (IsPiece r is_on) r b (c ∷ cs)
 cut_other r is_on [] c cs u e rest =
@@ -423,7 +425,8 @@ side_fits r is_on w past u j =
       going = next_some r is_on (block r w past) j.last (under_way w past) u after j.next;
     }
 
--- to follow is to make whole lists with calls on other objects between them, and the beginning of one more
+-- to conform is to make whole lists with calls on other objects between them, then a prefix of one
+-- more
 pub following_stands : FollowingMeansUnbrokenLists
 following_stands t rules is_on h d acc u = (
   λ f w. side_from (rules w) (is_on w) w (reverse h) (u w) (fits_alone rules t (reverse h) d acc f w),

@@ -1,4 +1,4 @@
--- The moments of a call under way came before.
+-- The moments of a pending call came before.
 use Rattle.std.proofs.Common.{◌≡◌, ℕ, Bool, true, false, List, [], ◌∷◌, ◌++◌, append_assoc, Option, Some, None, refl, ap, sym, ◌∙◌, cond, ◌==◌}
 use Rattle.ec_core.specs.declared.act.Act.{Act}
 use Rattle.ec_core.specs.declared.act.Act.TheVariants.{Advance, Read, Await, Go, Ticket, Put, Get, Hand}
@@ -8,7 +8,7 @@ use Rattle.ec_core.specs.declared.act.Entry.{Entry}
 use Rattle.ec_core.specs.Calls.{CallSoFar, under_way, call_with_act, is_pending}
 use Rattle.ec_core.specs.Rounds.{IsPastOf, EachIsPastOf}
 
--- each past is one of itself
+-- each reversed history is a suffix of itself
 pub past_itself : (past : List Entry) → IsPastOf past past
 past_itself past = record { since = []; is = refl }
 
@@ -50,7 +50,7 @@ kept_before : (b : Bool) (o : Option CallSoFar) (past : List Entry) → IsCallBe
 kept_before true o past h = h
 kept_before false o past h = tt
 
--- the moments of a call under way are pasts of the moment at which it is
+-- the moments of a pending call came before the moment at which it is pending
 pub call_before : (w : ℕ) (past : List Entry) → IsCallBefore (under_way w past) past
 unfolding under_way
 call_before w [] = tt

@@ -1,4 +1,4 @@
--- A walk over the entries of a history keeps what its calls are.
+-- A pass over the entries of a history stores its pending calls.
 use Rattle.std.proofs.Common.{◌≡◌, ℕ, suc, ◌+◌, ◌-◌, ◌%◌, ◌<◌, Bool, true, false, List, [], ◌∷◌, length, Option, Some, None, refl, ap, sym, ◌∙◌, arith, cond, ◌==◌, nat_le, slice_get, slice_set, add-one}
 use Rattle.std.specs.Option.{option_map, option_map_or}
 use Rattle.std.proofs.lemmas.Bool.{eqb-true}
@@ -18,7 +18,7 @@ use Rattle.ec_core.proofs.shared.Scans.{set_is, call_own, call_other}
 
 -- A CALL HAS AN ENTRY
 
--- the newest of a call's moments is the past of its latest entry
+-- the newest of a call's moments is that of its latest entry
 abbrev pub IsGone : List Entry → Option CallSoFar → Type 0
 IsGone past None = Unit {0}
 IsGone past (Some call) = (rest : List (List Entry)) × (call.moments ≡ past ∷ rest)
@@ -106,7 +106,7 @@ takes t calls past x i place call after d acc here s at small went is =
           (λ e. ap (option_map (pending_call t)) (sym (call_other w x past (ap (λ v. v == w) (sym at) ∙ e))));
     }
 
--- that, as the walk has it
+-- the same, as the pass has it
 abbrev pub Taking : List (Option PendingCall) → ℕ → Entry → Option PendingCall → List (Option PendingCall) → Tables → Type 0
 Taking calls place x given after t = (past : List Entry) → IsAccepted t past → place ≡ length past → AreCalls t calls past → Takes t past x given after
 

@@ -1,4 +1,4 @@
--- Where a call began, what a read tells of that moment, and counts by worker.
+-- Where a call began, what the reply to a read says of that moment, and counts by worker.
 use Rattle.std.proofs.Common.{◌≡◌, ◌≢◌, ℕ, zero, suc, ◌+◌, ◌<◌, ◌≤◌, Bool, true, false, ◌&&◌, List, [], ◌∷◌, length, Option, Some, None, nat_le, Ok, refl, ap, sym, ◌∙◌, arith, subst, cond, ◌==◌, ◌⊎◌, inl, inr}
 use Rattle.std.proofs.lemmas.Bool.{eqb-true, eqb-false, eq-eqb, leb-true, leb-false}
 use Rattle.std.proofs.Math.Nat.{zero-add, mod-eq_of_lt}
@@ -75,13 +75,13 @@ total_by t e past acc = made_is (is_advance e) t past acc ∙ total_made e past
 pub issued_by : (t : Tables) (q : ℕ) (past : List Entry) → IsAccepted t past → sum_to (λ w. made_by (is_ticket q) w past) t.workers ≡ issued q past
 issued_by t q past acc = made_is (is_ticket q) t past acc ∙ issued_made q past
 
--- if no number is greater than the other at its place, neither is the sum
+-- if no number is greater than the other with its index, neither is the sum
 pub sum_least : (n : ℕ) (f g : ℕ → ℕ) → ((c : ℕ) → f c ≤ g c) → sum_to f n ≤ sum_to g n
 unfolding sum_to
 sum_least zero f g h = omega arith
 sum_least (suc n) f g h = (let here : f n ≤ g n = h n in let rest : sum_to f n ≤ sum_to g n = sum_least n f g h in omega arith)
 
--- if no number is greater than the other at its place, and one is less, so is the sum
+-- if no number is greater than the other with its index, and one is less, so is the sum
 pub sum_less : (n : ℕ) (f g : ℕ → ℕ) (w : ℕ) → ((c : ℕ) → f c ≤ g c) → w < n → f w < g w → sum_to f n < sum_to g n
 unfolding sum_to
 sum_less zero f g w h lt less = absurd (omega arith)
@@ -104,7 +104,7 @@ abbrev pub oldest : List Entry → List (List Entry) → List Entry
 oldest p [] = p
 oldest p (q ∷ ps) = oldest q ps
 
--- the past of the first entry of the call that an entry is part of
+-- the reversed history before the invocation of the call that an entry is part of
 abbrev pub began : Entry → List Entry → List Entry
 began x past = oldest past (moments_of x.act (under_way x.worker past))
 
@@ -125,7 +125,7 @@ moments_stacked (Put y v) o h = tt
 moments_stacked (Get y) o h = tt
 moments_stacked (Hand e f) o h = tt
 
--- the past at which an entry's call began is a past of that of each entry of the call so far
+-- an entry's call began no later than each entry of the call so far
 pub began_past : (x : Entry) (past : List Entry) → IsPastOf (began x past) past × IsPastOfEach (began x past) (moments_of x.act (under_way x.worker past))
 began_past x past = oldest_past past (moments_of x.act (under_way x.worker past)) (moments_before x.act (under_way x.worker past) past (call_before x.worker past)) (moments_stacked x.act (under_way x.worker past) (call_stacked x.worker past))
 
@@ -168,7 +168,7 @@ begun_after r w (Put y v) past now o e h = sym e
 begun_after r w (Get y) past now o e h = sym e
 begun_after r w (Hand f g) past now o e h = sym e
 
--- the list that a worker is in is the one that it was in when its call under way began
+-- a worker's current list is the one that it was in when its pending call began
 begun : (r : Rule) (w : ℕ) (past : List Entry) → IsBegun r w past (under_way w past)
 unfolding under_way
 begun r w [] = tt
@@ -197,7 +197,7 @@ began_of r w (Hand e f) past o h = refl
 pub began_block : (r : Rule) (x : Entry) (past : List Entry) → block r x.worker (began x past) ≡ block r x.worker past
 began_block r x past = began_of r x.worker x.act past (under_way x.worker past) (begun r x.worker past)
 
--- WHAT A READ TELLS
+-- WHAT A READ RETURNS
 
 abbrev IsShort : Tables → Act → List (List Entry) → Type 0
 IsShort t (Read e) moments = length moments < component_count t e
@@ -207,7 +207,7 @@ abbrev IsShortCall : Tables → Option CallSoFar → Type 0
 IsShortCall t None = Unit {0}
 IsShortCall t (Some call) = IsShort t call.op call.moments
 
--- a read that is under way has not yet read each component
+-- a pending read has not yet read each component
 short_next : (t : Tables) (e : ℕ) (past : List Entry) (moments : List (List Entry)) → length moments < component_count t e → read_reply t (Read e) past moments ≡ Pending → suc (length moments) < component_count t e
 unfolding read_reply
 short_next t e past moments lt =
@@ -295,7 +295,7 @@ read_low_at t e early past moments s acc lt before each pasts =
       | false ↦ λ h p. cc
     ] refl
 
--- a read tells at least the total at the moment at which it began
+-- a read returns at least the total at the moment at which it began
 pub read_low : (t : Tables) (x : Entry) (past : List Entry) (e s : ℕ) → IsDeclared t → IsAccepted t (x ∷ past) → op_at x past ≡ Read e → x.reply ≡ Number s → total e (began x past) ≤ s
 read_low t x past e s d acc op returned =
     let k = allowed t past x.worker x.act x.reply acc.0 in

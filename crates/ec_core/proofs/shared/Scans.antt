@@ -1,4 +1,4 @@
--- What a walk keeps of a worker, with one more entry.
+-- What a pass stores of a worker, after one more entry.
 use Rattle.std.proofs.Common.{◌≡◌, ℕ, ◌<◌, true, false, List, ◌∷◌, Some, None, refl, ap, sym, ◌∙◌, subst, cond, ◌==◌, slice_get, slice_set}
 use Rattle.std.proofs.lemmas.Bool.{eqb-true, eq-eqb}
 use Rattle.ec_core.specs.declared.act.Entry.{Entry}
@@ -14,7 +14,7 @@ pub call_own : (x : Entry) (past : List Entry) → under_way x.worker (x ∷ pas
 unfolding under_way
 call_own x past = rw (eq-eqb x.worker x.worker refl) refl
 
--- an entry leaves the calls under way of other workers as they are
+-- an entry leaves the pending calls of other workers as they are
 pub call_other : (w : ℕ) (x : Entry) (past : List Entry) → (x.worker == w) ≡ false → under_way w (x ∷ past) ≡ under_way w past
 unfolding under_way
 call_other w x past h = rw h refl
@@ -27,7 +27,7 @@ set_is {X} xs i j y was now at here z same other =
       | false ↦ λ h. here ∙ ap Some (other h)
     ] refl
 
--- what is kept of the lists, with that of its worker brought up to an entry
+-- the progress in the lists, with that of its worker updated by an entry
 pub lists_after : (rules : ℕ → Rule) (keeps : List CompletedCall → ListProgress) (kept : List ListProgress) (x : Entry) (past : List Entry) (k : ListProgress)
     → AreListProgress rules keeps kept past → x.worker < 16
     → k ≡ keeps (block_after (rules x.worker) (block (rules x.worker) x.worker past) (opening_act x.act (under_way x.worker past)) x.reply)

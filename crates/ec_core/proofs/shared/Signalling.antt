@@ -35,7 +35,7 @@ handed_length e w (Put x v) ws = refl
 handed_length e w (Get x) ws = refl
 handed_length e w (Hand f b) ws = elim (f == e) as (λ t. length (cond t (replace_at (index_of w ws) b ws) ws) ≡ length ws) [ true ↦ replaced_length (index_of w ws) b ws | false ↦ refl ]
 
--- handing over changes no number of components
+-- a hand changes no number of components
 pub signallers_length : (t : Tables) (e : ℕ) (past : List Entry) → length (signallers_at t e past) ≡ component_count t e
 unfolding signallers_at
 signallers_length t e [] = refl

@@ -1,4 +1,4 @@
--- A world that stands for a history stands, after a step, for that history with the step's entry.
+-- A world that represents a history represents, after a step, that history with the step's entry.
 use Rattle.std.proofs.Common.{◌≡◌, ℕ, suc, ◌+◌, ◌%◌, ◌<◌, Bool, true, false, ◌&&◌, List, [], ◌∷◌, ◌++◌, reverse, length, Option, Some, None, is_some, nat_le, unwrap_or, not, Result, MatchResult, Ok, Err, refl, ap, sym, ◌∙◌, arith, subst, cond, slice_get, slice_set, ◌==◌}
 use Rattle.std.proofs.lemmas.List.{reverse-append}
 use Rattle.std.specs.Option.{option_map, option_map_or, option_and_then}
@@ -42,7 +42,7 @@ begun_is : (t : Tables) (op : Act)
 unfolding sum_read
 begun_is t op = ap (λ i. (let w : Progress = record { op = op; index = i; sum = sum_read t (event_or op) i [] } in w)) (zero-mod (component_count t (event_or op)))
 
--- the refusal that the history asks for, or what the act comes to
+-- the refusal that the history gives, or the effect of the act
 planned_is : (s : State) (past : List Entry) (w : ℕ) (act : Act) → Represents s past → w < 16 → IsNamed act
     → effect_or_refusal s past w act
     ≡ refused_or (refusal_of s.setup past w act) (effect_in s w act)
@@ -65,7 +65,7 @@ issued_quiet q x past h = rw h (zero-add (issued q past))
 one_more : (n limit : ℕ) → (n == limit) ≡ false → count_up (record { value = n; limit = limit }) ≡ record { value = 1 + n; limit = limit }
 one_more n limit h = rw h (let same : n + 1 ≡ 1 + n = omega arith in ap (λ v. (let x : CountModel = record { value = v; limit = limit } in x)) same)
 
--- what counts is one more if the test passes, and there it is not at the limit
+-- a count rises by one if the test passes, since then it is not at the limit
 counted : (b : Bool) (n limit : ℕ) → (b ≡ true → (n == limit) ≡ false)
     → cond b (option_map count_up (Some (record { value = n; limit = limit }))) (Some (record { value = n; limit = limit }))
     ≡ Some (record { value = cond b 1 0 + n; limit = limit })
@@ -74,7 +74,7 @@ counted false n limit h = (let same : n ≡ 0 + n = omega arith in ap (λ v. (le
 
 -- CALLS
 
--- a step that leaves no call under way, by a worker that had none
+-- a step that leaves no call pending, by a worker that had none
 calls_kept : (s : State) (past : List Entry) (x : Entry) → Represents s past → is_pending x.reply ≡ false → under_way x.worker past ≡ None
     → (v : ℕ) → v < 16 → slice_get s.calls v ≡ Some (progress_of s.setup v (x ∷ past))
 unfolding under_way
@@ -108,27 +108,27 @@ shown_if t false call = refl
 
 -- READS
 
--- what changes the worker's call alone
+-- an effect that changes only the worker's call
 abbrev IsOfCall : Effect → Type 0
 IsOfCall (effects.Begin u) = Unit {0}
 IsOfCall (effects.GoOn r) = Unit {0}
 IsOfCall (effects.End n) = Unit {0}
 IsOfCall _ = ⊥
 
--- the call that it leaves, given the one before it
+-- the call after it, given the one before it
 abbrev left_by : Option Progress → Effect → Option Progress
 left_by o (effects.Begin u) = Some u
 left_by o (effects.GoOn r) = option_map (with_round r) o
 left_by o (effects.End n) = None
 left_by o _ = o
 
--- what a read comes to: it is told a reply, and leaves a call, given the one before it
+-- the effect of a read: its reply, and the call after it, given the one before it
 record IsReadAs (reply : Reply) (before after : Option Progress) (e : Effect) : Type 0 where
   of_call : IsOfCall e
   told_is : reply_of_effect e ≡ reply
   left : left_by before e ≡ after
 
--- what a read may be told
+-- which replies a read may get
 abbrev IsToRead : Reply → Type 0
 IsToRead Done = ⊥
 IsToRead (Number n) = Unit {0}
@@ -202,7 +202,7 @@ go_is s past st (Some call) h =
     subst (IsReadAs reply (Some (call_progress t call)) (option_map (call_progress t) (cond (is_pending reply) (Some later) None))) (sym is)
     (subst (λ after. IsReadAs reply (Some (call_progress t call)) after (read_with reply r)) (shown_if t (is_pending reply) later) (later_as (call_progress t call) reply r (reply_reads t call.op past call.moments)))
 
--- a step that goes on with the worker's call
+-- a step that continues the worker's call
 calls_gone : (s : State) (past : List Entry) (x : Entry) (r : RoundSoFar) → Represents s past
     → option_map (with_round r) (progress_of s.setup x.worker past) ≡ option_map (call_progress s.setup) (cond (is_pending x.reply) (call_with_act x.act past (under_way x.worker past)) None)
     → (v : ℕ) → v < 16 → slice_get (apply_effect s x.worker (effects.GoOn r)).calls v ≡ Some (progress_of s.setup v (x ∷ past))
@@ -346,7 +346,7 @@ read_stands s past x (effects.Hand e b) st small h a t p n of is = absurd of
 replaced_once : (b : ℕ) (o : Option ℕ) (ws : List ℕ) → is_member b ws ≡ false → cond (is_member b ws) ws (replace_at o b ws) ≡ replace_at o b ws
 replaced_once b o ws new = ap (λ is. cond is ws (replace_at o b ws)) new
 
--- a hand changes the signallers of its eventcount alone
+-- a hand changes only the signallers of its eventcount
 hand_stands : (s : State) (past : List Entry) (w e b : ℕ) → Represents s past → answer_of s.setup past w (Hand e b) ≡ Ok Done
     → under_way w past ≡ None → is_some (component_at s.setup e past b) ≡ false → Represents (apply_effect s w (effects.Hand e b)) (entry w (Hand e b) Done ∷ past)
 unfolding signallers_at issued cell_value
@@ -376,7 +376,7 @@ some_of : (o : Option ℕ) → not (is_some o) ≡ false → o ≡ Some (unwrap_
 some_of None h = cc
 some_of (Some c) h = refl
 
--- what an accepted act comes to is the right reply, and the state for the history with its entry
+-- the effect of an accepted act has the right reply, and the state of the history with its entry
 abbrev IsRight : State → List Entry → ℕ → Act → Reply → Effect → Type 0
 IsRight s past w act reply e = (reply_of_effect e ≡ reply)
     × Represents (apply_effect s w e) (entry w act reply ∷ past)
@@ -424,7 +424,7 @@ opened_is : (t : Tables) (o : Option CallSoFar) → option_map_or (λ (u : Progr
 opened_is t None = refl
 opened_is t (Some call) = refl
 
--- a world has what began the call that an act is part of, as its history says
+-- a world has the act that began the call that an act is part of, as its history says
 op_is : (s : State) (past : List Entry) (w : ℕ) (act : Act) → Represents s past → w < 16 → op_in s w act ≡ opening_act act (under_way w past)
 op_is s past w Go st lt = ap (λ (o : Option Progress). option_map_or (λ (u : Progress). u.op) o Go) (kept_is s past w st lt) ∙ opened_is s.setup (under_way w past)
 op_is s past w (Advance e) st lt = refl
@@ -440,7 +440,7 @@ opened_on : (past : List Entry) (o : Option CallSoFar)
 opened_on past None = refl
 opened_on past (Some call) = refl
 
--- after a go that is told Pending the same act began the call
+-- after a go with the reply Pending the same act began the call
 op_after : (s : State) (past : List Entry) (w : ℕ) (reply : Reply) → Represents s (entry w Go reply ∷ past) → w < 16 → Pending ≡ reply → op_in s w Go ≡ opening_act Go (under_way w past)
 unfolding under_way
 op_after s past w reply st lt reply_of_effect =
@@ -471,7 +471,7 @@ go_op s past w reply (effects.Put x v) st lt of k = absurd of
 go_op s past w reply (effects.Get n) st lt of k = absurd of
 go_op s past w reply (effects.Hand e b) st lt of k = absurd of
 
--- if the call is still there, the world has what began it
+-- if the call is still there, the world has the act that began it
 op_right : (s : State) (past : List Entry) (w : ℕ) (act : Act) (reply : Reply) → Represents s past → w < 16 → IsRight s past w act reply (effect_in s w act)
     → op_in (still_there s w (effect_in s w act)) w act ≡ opening_act act (under_way w past)
 op_right s past w Go reply st lt k = go_op s past w reply (effect_in s w Go) st lt (next_of_call s (stored_progress s w)) k
@@ -501,7 +501,7 @@ open_stands t signal zeros row tickets cells calls nought signal_is d is rows ro
   calls = calls_is;
 }
 
--- one more entry of a history is the newest of its past
+-- one more entry of a history is the newest of the reversed history
 pub past_after : (h : List Entry) (x : Entry) → reverse (h ++ x ∷ []) ≡ x ∷ reverse h
 past_after h x = reverse-append h (x ∷ [])
 
@@ -523,7 +523,7 @@ plan_by s h w act st lt named None is =
       op = op_right s (reverse h) w act (reply_of s.setup (reverse h) w act) st lt k;
     }
 
--- what is planned by the fields of a world is right after its history
+-- the effect that the fields of a world give is right after its history
 pub plan_is : (s : State) (h : List Entry) (w : ℕ) (act : Act) (r : Result Effect Refusal) → StandsFor s h → w < 16 → IsNamed act → r ≡ effect_or_refusal s (reverse h) w act
     → MatchResult r (IsRightStep s h w act) (λ r. answer_of s.setup (reverse h) w act ≡ Err r)
 plan_is s h w act r st lt named is =

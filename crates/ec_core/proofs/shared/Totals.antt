@@ -24,7 +24,7 @@ one_at (suc n) f d h =
     let rest : sum_to (λ c. cond (d == c) 1 0 + f c) n ≡ sum_to f n = one_at n f d (omega arith) in
     rw (off, rest) (omega arith)
 
--- one more at one place is one more in all
+-- one more in one summand is one more in the sum
 pub one_more : (n : ℕ) (f : ℕ → ℕ) (d : ℕ) → d < n → sum_to (λ c. cond (d == c) 1 0 + f c) n ≡ 1 + sum_to f n
 unfolding sum_to
 one_more zero f d h = absurd (omega arith)
@@ -41,7 +41,7 @@ unfolding sum_to
 same_sum zero f = refl
 same_sum (suc n) f = (let rest : sum_to (λ c. 0 + f c) n ≡ 0 + sum_to f n = same_sum n f in omega arith)
 
--- if an entry raises one of so many counts the sum is one more, and else the same
+-- if an entry raises one of so many counts the sum is one more, and otherwise the same
 pub raised_sum : (b : Bool) (o : Option ℕ) (n : ℕ) (f : ℕ → ℕ) → (b ≡ true → (d : ℕ) × (o ≡ Some d) × (d < n))
     → sum_to (λ c. cond (b && is_place c o) 1 0 + f c) n ≡ cond b 1 0 + sum_to f n
 raised_sum true o n f h =
@@ -49,7 +49,7 @@ raised_sum true o n f h =
     rw k.1 (one_more n f k.0 k.2)
 raised_sum false o n f h = same_sum n f
 
--- what an option that is some holds
+-- the value of an option that is some
 pub some_of : (o : Option ℕ) → not (is_some o) ≡ false → (d : ℕ) × (o ≡ Some d)
 some_of None h = cc
 some_of (Some d) h = (d, refl)
@@ -72,7 +72,7 @@ advance_place t past w e (Put x v) right is = cc
 advance_place t past w e (Get x) right is = cc
 advance_place t past w e (Hand f g) right is = cc
 
--- so many times 0 is 0
+-- a sum of zeros is 0
 pub zeros : (n : ℕ) → sum_to (λ c. 0) n ≡ 0
 unfolding sum_to
 zeros zero = refl
@@ -138,7 +138,7 @@ sum_same (suc n) f g h =
     let rest : sum_to f n ≡ sum_to g n = sum_same n f g (λ c lt. h c (omega arith)) in
     cc)
 
--- in a world that stands for a history the counts of an eventcount's components add up to its total
+-- in a world that represents a history the counts of an eventcount's components add up to its total
 pub total_now : (s : State) (h : List Entry) (e : ℕ) → StandsFor s h → e < 32
     → sum_to (λ c. count_value (count_at s.counts e c)) (component_count s.setup e)
     ≡ total e (reverse h)

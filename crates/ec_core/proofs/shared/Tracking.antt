@@ -1,4 +1,4 @@
--- A walk keeps what it says it keeps, also if entries whose calls are not on a group are left out.
+-- A pass has the state that it says, also if entries whose calls are not on a group are left out.
 use Rattle.std.proofs.Common.{◌≡◌, ℕ, zero, suc, ◌+◌, ◌<◌, Bool, true, false, not, ◌||◌, List, [], ◌∷◌, ◌++◌, Option, Some, None, is_some, refl, ap, sym, ◌∙◌, subst, ◌==◌, add-one, take, length, reverse, slice_get, slice_set}
 use Rattle.std.proofs.lemmas.Bool.{eqb-true, and_parts}
 use Rattle.std.proofs.lemmas.List.{reverse-append, reverse-reverse, length-reverse}
@@ -46,7 +46,7 @@ after_early h y x k at =
     ap (λ n. past_at n (h ++ y ∷ [])) (add-one k) ∙ past_next (h ++ y ∷ []) k x (get_early h y x k at) ∙ ap (λ p. x ∷ p) (take_early h y x k at)
     ∙ sym (ap (λ n. past_at n h) (add-one k) ∙ past_next h k x at)
 
--- a first break stays the first, whatever comes after it
+-- a first violation stays the first, whatever comes after it
 break_stays : (rules : ℕ → Rule) (h : List Entry) (y : Entry) (w k : ℕ) → BreaksAt rules h w k → BreaksAt rules (h ++ y ∷ []) w k
 break_stays rules h y w k b = record {
   entry = b.entry;
@@ -68,7 +68,7 @@ pub none_before : (rules : ℕ → Rule) (fault : Option AuditFault) (past : Lis
 none_before rules None past is f = f
 none_before rules (Some fault) past is b = cc
 
--- an entry that is not right is the first break of a past that followed
+-- an entry that is not right is the first violation, if the history before it conformed
 pub found_break : (rules : ℕ → Rule) (x : Entry) (past : List Entry) (place : ℕ) (right : Bool) → place ≡ length past → Follow rules past
     → right ≡ is_right (rules x.worker) (block (rules x.worker) x.worker past) x.act → right ≡ false → IsFinding rules (Some (NotFollowed x.worker place)) (x ∷ past)
 found_break rules x past place right at f is wrong =
@@ -95,11 +95,11 @@ pub tracked_first : (rules : ℕ → Rule) (keeps : List CompletedCall → ListP
 unfolding block
 tracked_first rules keeps kept start e k = record { lists = λ w lt. k w lt ∙ ap Some e; finding = tt }
 
--- what is kept of the lists stays if a call goes on
+-- the progress in the lists is unchanged if a call stays pending
 lists_pending : (rules : ℕ → Rule) (keeps : List CompletedCall → ListProgress) (kept : List ListProgress) (x : Entry) (past : List Entry) → is_pending x.reply ≡ true → AreListProgress rules keeps kept past → AreListProgress rules keeps kept (x ∷ past)
 lists_pending rules keeps kept x past pending s = λ w lt. s w lt ∙ ap (λ b. Some (keeps b)) (sym (block_pending (rules w) w x past pending))
 
--- one more entry whose call goes on, in the words of the code
+-- one more entry whose call stays pending, in the words of the code
 pub tracked_pending : (rules : ℕ → Rule) (keeps : List CompletedCall → ListProgress) (kept : List ListProgress) (fault found : Option AuditFault) (x : Entry) (past : List Entry)
     → IsTrackerModel rules keeps (tracked kept fault) past → is_pending x.reply ≡ true → IsFinding rules found (x ∷ past) → IsTrackerModel rules keeps (tracked kept found) (x ∷ past)
 tracked_pending rules keeps kept fault found x past s pending finding = record { lists = lists_pending rules keeps kept x past pending s.lists; finding = finding }
@@ -150,7 +150,7 @@ block_off rules x past w off =
       | false ↦ λ h. other_block (rules w) w x past h
     ] refl
 
--- if the rules speak of the calls on a group, an entry whose call is not on it changes nothing
+-- if the rules concern only calls on a group, an entry whose call is not on it changes nothing
 pub tracked_off : (rules : ℕ → Rule) (keeps : List CompletedCall → ListProgress) (is_on : Act → Bool) (z : TrackerModel) (x : Entry) (past : List Entry)
     → ((w : ℕ) → SpeaksOf (rules w) is_on) → is_on (op_at x past) ≡ false → IsTrackerModel rules keeps z past → IsTrackerModel rules keeps z (x ∷ past)
 tracked_off rules keeps is_on z x past speaks off s =

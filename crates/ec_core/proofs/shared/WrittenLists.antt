@@ -1,4 +1,4 @@
--- The calls that were answered are a beginning of the written list.
+-- The calls that were answered are a prefix of the written list.
 use Rattle.std.proofs.Common.{◌≡◌, ◌<◌, List, [], ◌∷◌, ◌++◌, append_assoc, length, take, Option, Some, ap, sym, ◌∙◌, arith, inl, inr}
 use Rattle.std.proofs.lemmas.List.{append-nil, take-append-le}
 use Rattle.std.proofs.Math.Seq.{take-append_seam}
@@ -8,7 +8,7 @@ use Rattle.ec_core.specs.Procedures.{IsWritten}
 use Rattle.ec_core.specs.FollowingLaws.{AnsweredCallsAreWritten}
 use Rattle.ec_core.proofs.shared.Joining.{last_get}
 
--- a beginning of a written list, and the call that the list has next, are a beginning of it
+-- a prefix of a written list, and the call that the list has next, are a prefix of it
 pub written_more : (list : List CompletedCall → Option Act) (done : List CompletedCall) (c : CompletedCall) → IsWritten list done → list done ≡ Some c.op → IsWritten list (done ++ c ∷ [])
 written_more list done c h next k d at =
     elim (last_get done c d k at) [

@@ -1,4 +1,4 @@
--- If nothing speaks against it, an object is added.
+-- If no fault applies, an object is added.
 use Rattle.std.proofs.Common.{◌≡◌, ℕ, ◌+◌, ◌<◌, ◌≤◌, ◌==◌, nat_le, nat_lt, Bool, false, ◌||◌, List, [], ◌∷◌, length, None, refl}
 use Rattle.std.specs.Prelude.{IsOk, Result, Ok, Err}
 use Rattle.std.specs.Result.{result_err}
@@ -7,12 +7,12 @@ use Rattle.ec_count.specs.declared.setup.SetupFault.TheVariants.{TooMany, Unknow
 use Rattle.ec_count.specs.Members.{has_repeat, is_faulty}
 use Rattle.ec_count.specs.Tables.{Tables, first_that, names_unknown, event_fault, list_fault, cells_fault}
 
--- a call that answers no fault has its result
+-- a call that returns no fault has a result
 pub ok_of : {T E : Type 0} (r : Result T E) → result_err r ≡ None → IsOk r
 ok_of (Ok x) h = refl
 ok_of (Err e) h = cc
 
--- where no test holds there is no fault
+-- if no test holds there is no fault
 none_holds : (a b c d : Bool) → a ≡ false → b ≡ false → c ≡ false → d ≡ false → first_that ((a, TooMany) ∷ (b, UnknownWorker) ∷ (c, Repeated) ∷ (d, Empty) ∷ []) ≡ None
 none_holds a b c d p q r s = rw (p, q, r, s) refl
 

@@ -3,7 +3,7 @@ use Rattle.std.proofs.Common.{◌≡◌, ℕ, zero, suc, List, [], ◌∷◌, �
 use Rattle.ec_count.specs.Tables.{Tables, with_event, with_fixed_event, with_cells}
 use Rattle.ec_count.specs.Declares.{KeepsObjects, with_sequencer}
 
--- an element stays at its place where more follow
+-- an element stays at its position if more follow
 pub still_there : {X : Type 0} (xs ys : List X) (i : ℕ) (x : X) → slice_get xs i ≡ Some x → slice_get (xs ++ ys) i ≡ Some x
 still_there [] ys i x h = cc
 still_there (y ∷ xs) ys zero x h = h

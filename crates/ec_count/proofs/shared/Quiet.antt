@@ -1,4 +1,4 @@
--- A silent worker has no right that changes anything.
+-- A read-only worker has no right to change anything.
 use Rattle.std.proofs.Common.{◌≡◌, ℕ, zero, suc, ◌+◌, ◌<◌, ◌==◌, nat_lt, Bool, true, false, not, ◌||◌, ◌&&◌, List, [], ◌∷◌, slice_get, Some, None, refl, ap, sym, ◌∙◌, cond}
 use Rattle.std.specs.List.{list_any, position_from}
 use Rattle.std.specs.Option.{option_map_or}
@@ -53,7 +53,7 @@ write_none t w x h =
       | Some a ↦ λ at. none_at (λ (b : Access). is_member w b.write) t.cells x a h at
     ] refl
 
--- a silent worker is declared, and has no right to change anything
+-- a read-only worker is declared, and has no right to change anything
 pub silent_has_none : (t : Tables) (w : ℕ) → is_silent t w ≡ true → (w < t.workers) × HasNoRight t w
 silent_has_none t w h =
     let p = and_parts (nat_lt w t.workers && not (signals_any t w) && not (takes_any t w)) (not (writes_any t w)) h in
@@ -67,7 +67,7 @@ silent_has_none t w h =
       },
     )
 
--- a declared worker that has no right to change anything is silent
+-- a declared worker that has no right to change anything is read-only
 pub silent_from_none : (t : Tables) (w : ℕ) → w < t.workers → HasNoRight t w → is_silent t w ≡ true
 silent_from_none t w lt h =
     let signals : signals_any t w ≡ false = none_from (λ (r : Rights). is_member w r.signal) t.events (λ e r at. no_member (λ v. v == w) 0 r.signal (ap (λ o. index_of w (option_map_or (λ (x : Rights). x.signal) o [])) (sym at) ∙ h.signals e)) in

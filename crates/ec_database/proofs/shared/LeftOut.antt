@@ -28,7 +28,7 @@ versioning_off a x past off s =
       list = λ ok. s.list ok ∙ sym (tries_off a.shape writers x past off);
     }
 
--- nor need it take in a go that ends no call
+-- nor does it need a go that ends no call
 held_going : (d : Database) (writers : ℕ → Bool) (rows : List (List ℕ)) (w : ℕ) (past : List Entry) → HoldsGot d writers rows past → HoldsGot d writers rows (going w ∷ past)
 held_going d writers rows w past held = λ v lt role.
     (let P : List CompletedCall → Type 0 = λ calls. HasRow rows v (got_so_far calls) in

@@ -1,5 +1,5 @@
--- What the objects of a declaration are, sort by sort: they come after what was there, are apart, are all that the tables
--- have more, and keep what is true of the tables.
+-- What the objects of a declaration are, kind by kind: they come after those before, are disjoint,
+-- are all that the tables gain, and preserve what is true of the tables.
 use Rattle.std.proofs.Common.{◌≡◌, ◌≢◌, ℕ, ◌+◌, ◌<◌, ◌≤◌, List, [], ◌∷◌, ◌++◌, length, Bool, true, false, eqb, ltb, ◌||◌, None, Some, refl, sym, ap, subst, arith, nat_lt, nat_le, inl, inr, ◌⊎◌, replicate, length-append, zero, suc, zero-add, slice_get, ◌∙◌, ne_eqb}
 use Rattle.std.specs.List.{AllByRecursion, list_any}
 use Rattle.std.proofs.lemmas.Bool.{true≢false, and_from, and_right, or_parts, or_from, or_left, ltb-true, lt-ltb, le-ltb, leb-true, le-leb, ltb-false, cases_lt}
@@ -34,7 +34,7 @@ use Rattle.ec_heading.proofs.shared.ReadNames.{is_shared, AreApart, HasName, is_
 
 -- TARGETS WITHIN THE TABLES
 
--- whether a target is within the tables and groups of a heading
+-- whether a target is within the tables and groups of a header
 abbrev pub is_below : HeadingModel → Target → Bool
 is_below h (Worker w) = nat_lt w h.setup.workers
 is_below h (Event e) = nat_lt e (length h.setup.events)
@@ -42,7 +42,7 @@ is_below h (Sequencer q) = nat_lt q (length h.setup.takers)
 is_below h (Cells x n) = nat_le (x + n) (length h.setup.cells)
 is_below h (Group i) = nat_lt i (length h.groups)
 
--- whether a target is behind the ends of the tables and groups of a heading
+-- whether a target is after the ends of the tables and groups of a header
 abbrev pub is_beyond : HeadingModel → Target → Bool
 is_beyond h (Worker w) = false
 is_beyond h (Event e) = nat_le (length h.setup.events) e
@@ -50,7 +50,7 @@ is_beyond h (Sequencer q) = nat_le (length h.setup.takers) q
 is_beyond h (Cells x n) = nat_le (length h.setup.cells) x
 is_beyond h (Group i) = nat_le (length h.groups) i
 
--- what is beyond is apart from what is below
+-- a target within is disjoint from one after the ends
 pub beyond_apart : (h : HeadingModel) (x y : Target) → is_below h x ≡ true → is_beyond h y ≡ true → is_shared x y ≡ false
 beyond_apart h (Event d) (Event e) b a = (let low = ltb-true _ _ b in let high = leb-true _ _ a in ne_eqb d e (λ same. omega arith))
 beyond_apart h (Sequencer p) (Sequencer q) b a = (let low = ltb-true _ _ b in let high = leb-true _ _ a in ne_eqb p q (λ same. omega arith))
@@ -79,7 +79,7 @@ objects_beyond sorts.Both h n = (itself_beyond (length h.setup.events), (itself_
 other_number : (n : ℕ) → eqb n (n + 1) ≡ false
 other_number n = ne_eqb n (n + 1) (λ e. omega arith)
 
--- the objects of a declaration are apart
+-- the objects of a declaration are disjoint
 pub objects_apart : (s : DeclKind) (h : HeadingModel) (n : ℕ)
     → AreApart (objects_of s (next_ids h) n)
 objects_apart sorts.EventCount h n = (tt, tt)
@@ -99,7 +99,7 @@ below_grows h l (Sequencer q) g more b = (let low = ltb-true _ _ b in lt-ltb _ _
 below_grows h l (Cells x n) g more b = (let low = leb-true _ _ b in le-leb _ _ (omega (arith, g.cells)))
 below_grows h l (Group i) g more b = (let low = ltb-true _ _ b in lt-ltb _ _ (omega arith))
 
--- WHAT THE TABLES HAVE AFTER A DECLARATION, SORT BY SORT
+-- WHAT THE TABLES HAVE AFTER A DECLARATION, KIND BY KIND
 
 pub counted : {X : Type 0} (xs : List X) (x : X) → length (xs ++ x ∷ []) ≡ length xs + 1
 counted xs x = length-append xs (x ∷ [])
@@ -110,7 +110,7 @@ counted_twice xs x y = omega (arith, length-append (xs ++ x ∷ []) (y ∷ []), 
 pub counted_cells : {X : Type 0} (xs : List X) (n : ℕ) (x : X) → length (xs ++ replicate n x) ≡ length xs + n
 counted_cells xs n x = omega (arith, length-append xs (replicate n x), length-replicate n x)
 
--- the objects of a declaration are all that its tables have more
+-- the objects of a declaration are all that the tables gain
 pub record Covers (h : HeadingModel) (u : Tables) (os : NameTable) : Type 0 where
   pub events : (e : ℕ) → e < length u.events → (e < length h.setup.events) ⊎ HasName os (Event e)
   pub sequencers : (q : ℕ) → q < length u.takers → (q < length h.setup.takers) ⊎ HasName os (Sequencer q)
@@ -213,7 +213,7 @@ covers sorts.Database h n ws vs = record {
 covers sorts.Semaphore h n ws vs = users_cover h ws
 covers sorts.Both h n ws vs = users_cover h ws
 
--- and each of them is there
+-- and each of them is in the tables then
 cells_there : (h l : HeadingModel) (n : ℕ) (ws vs : List ℕ) → l.setup.cells ≡ h.setup.cells ++ replicate n (record { write = ws; read = vs }) → is_below l (Cells (length h.setup.cells) n) ≡ true
 cells_there h l n ws vs is = (let c : length l.setup.cells ≡ length h.setup.cells + n = ap length is ∙ counted_cells h.setup.cells n (record { write = ws; read = vs }) in le-leb (length h.setup.cells + n) (length l.setup.cells) (omega arith))
 

@@ -1,4 +1,4 @@
--- What the table of sorts says, sort by sort.
+-- What the table of kinds of declarations says, kind by kind.
 use Rattle.std.proofs.Common.{◌≡◌, ℕ, ◌≤◌, List, [], ◌∷◌, length, Bool, true, false, not, ◌&&◌, eqb, nat_le, nat_lt, cond, Option, Some, None, refl, sym, ap, subst, ◌∙◌, arith, bytes_eq, ne_eqb, lit≤}
 use Rattle.std.specs.List.{list_all, AllByRecursion}
 use Rattle.std.proofs.lemmas.Bool.{true≢false, and_parts, and_from, leb-true, le-leb, ltb-true}
@@ -112,14 +112,14 @@ literal w h =
       short = leb-true (length w) 10 p.1;
     }
 
--- a byte that is no small letter stands in no word of small letters
+-- a byte that is no small letter is in no word of small letters
 pub literal_lacks : (c : ℕ) (w : List ℕ) → is_letter c ≡ false → AllByRecursion (λ b. is_letter b ≡ true) w → AllByRecursion (λ b. eqb b c ≡ false) w
 literal_lacks c [] off h = tt
 literal_lacks c (b ∷ w) off h = (ne_eqb b c (λ same. true≢false (sym h.0 ∙ ap is_letter same ∙ off)), literal_lacks c w off h.1)
 
 -- WHAT A DECLARATION IS CALLED
 
--- 1 to 16 bytes, each of which may stand in a name
+-- 1 to 16 bytes that names may have
 pub record IsCalled (name : List ℕ) : Type 0 where
   pub bytes : AllByRecursion (λ b. is_name_byte b ≡ true) name
   pub some : 1 ≤ length name
@@ -139,7 +139,7 @@ letter_bytes : (w : List ℕ) → AllByRecursion (λ b. is_letter b ≡ true) w 
 letter_bytes [] h = tt
 letter_bytes (b ∷ w) h = (letter_byte b h.0, letter_bytes w h.1)
 
--- a name has 1 to 16 bytes, each of which may stand in a name
+-- a name has 1 to 16 bytes that names may have
 pub name_called : (w : List ℕ) → is_name w ≡ true → IsCalled w
 unfolding is_name
 name_called [] h = absurd (true≢false (sym h))
@@ -159,15 +159,15 @@ literal_called w h =
     some_bytes [] e = absurd (true≢false e)
     some_bytes (b ∷ w) e = omega arith
 
--- if the form of a sort has a name, its declaration is called by a name
+-- if the form of a kind has a name, its declaration is called by a name
 pub called_name : (s : DeclKind) (name : List ℕ) → has_name s ≡ true → is_called s name ≡ true → is_name name ≡ true
 called_name s name has h = sym (ap (λ b. cond b (is_name name) (bytes_eq name (sort_word s))) has) ∙ h
 
--- if the form of a sort has none, its declaration is called by the sort's own word
+-- if the form of a kind has none, its declaration is called by the kind's own word
 pub called_word : (s : DeclKind) (name : List ℕ) → has_name s ≡ false → is_called s name ≡ true → name ≡ sort_word s
 called_word s name has h = (bytes_eq-Decides name (sort_word s)).0 (sym (ap (λ b. cond b (is_name name) (bytes_eq name (sort_word s))) has) ∙ h)
 
--- what a declaration may be called has 1 to 16 bytes, each of which may stand in a name
+-- what a declaration may be called has 1 to 16 bytes that names may have
 pub called : (s : DeclKind) (name : List ℕ) → is_called s name ≡ true → IsCalled name
 called s name h =
     elim (has_name s) as (λ b. cond b (is_name name) (bytes_eq name (sort_word s)) ≡ true → IsCalled name) [

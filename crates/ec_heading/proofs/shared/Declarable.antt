@@ -1,4 +1,4 @@
--- A declaration may stand exactly if its line has no fault.
+-- A declaration is allowed exactly if its line has no fault.
 use Rattle.std.proofs.Common.{◌≡◌, ℕ, ◌+◌, ◌≤◌, List, [], ◌∷◌, ◌++◌, length, Bool, true, false, not, ◌||◌, ◌&&◌, Option, Some, None, is_some, unwrap_or, Err, refl, sym, ap, subst, ◌∙◌, arith, eqb, nat_le, nat_lt, leb, ltb, append_assoc, append-nil, eqb-true, lit≤}
 use Rattle.std.proofs.lemmas.Bool.{true≢false, or_parts, or_from, and_parts, and_left, and_right, ltb-false, le-ltb, leb-false, lt-leb, leb-true, not-false, not_from_true, ne_eqb}
 use Rattle.ec_count.specs.declared.setup.SetupFault.TheVariants as setups
@@ -39,16 +39,16 @@ pub pass : {F : Type 0} (b : Bool) (f : F) (rest : List (Bool × F)) → b ≡ f
 pass true f rest b e = absurd (true≢false b)
 pass false f rest b e = e
 
--- THE HEADINGS OF AN OUTLINE'S WORKERS
+-- THE HEADERS WITH A SYNTAX TREE'S WORKERS
 
--- the workers of the heading have these names, and its other words stand for none
+-- the workers of the header have these names, and its other words denote no worker
 pub record Heads (ws : List (List ℕ)) (h : HeadingModel) : Type 0 where
   pub count : h.setup.workers ≡ length ws
   pub others : Named
   pub words : h.words ≡ with_others ws others
   pub none : HasNoWorker others
 
--- the workers of a heading without declarations are those that it was opened with
+-- the workers of a header without declarations are those that it was opened with
 pub heads_opened : (version : Version) (limit : ℕ) (ws : List (List ℕ)) → Heads ws (empty_heading version limit ws)
 heads_opened version limit ws = record { count = refl; others = []; words = sym (append-nil (number_names 0 ws)); none = tt }
 
@@ -86,12 +86,12 @@ heads_more ws h d heads =
       none = no_worker-append heads.others (spelled_objects d.name (objects_of d.sort (next_ids h) d.number)) heads.none (no_worker_spelled d.name objects (no_worker_there d.sort (next_ids h) d.number));
     }
 
--- declarations leave a heading the workers that it has
+-- declarations don't change the workers of a header
 pub heads_all : (ws : List (List ℕ)) (h : HeadingModel) (ds : List Declaration) → Heads ws h → Heads ws (with_declarations h ds)
 heads_all ws h [] heads = heads
 heads_all ws h (d ∷ ds) heads = heads_all ws (with_declaration h d) ds (heads_more ws h d heads)
 
--- WHAT THE TABLES ASK
+-- WHAT THE TABLES REQUIRE
 
 -- the tests of a declaration's objects, all passed
 pub record HasRoom (s : DeclKind) (t : Tables) (n : ℕ) (first second : List ℕ) : Type 0 where
@@ -146,7 +146,7 @@ unknown t ws = names_unknown t ws
 abbrev empty : List ℕ → Bool
 empty ws = eqb (length ws) 0
 
--- two lists with roles of their own
+-- two lists that have to be disjoint
 roles_taken : (s : DeclKind) (t : Tables) (n : ℕ) (first second : List ℕ) → needs_second s ≡ true → needs_disjoint_lists s ≡ true → eqb n 0 ≡ false → HasRoom s t n first second → roles_fault t (is_full_for s t n) first second (eqb n 0) ≡ None
 roles_taken s t n first second needs keeps more h =
     let other : empty second ≡ false = ap (λ (b : Bool). b && empty second) (sym needs) ∙ h.needed in
@@ -390,7 +390,7 @@ first_some : (words : Named) (ws : List (List ℕ)) → HasWords ws → has_unkn
 first_some words ws (v, vs, is) known =
     subst (λ (us : List (List ℕ)). eqb (length (ids_in words us)) 0 ≡ false) (sym is) (ids_some words v vs (subst (λ (us : List (List ℕ)). has_unknown words us ≡ false) is known))
 
--- a second list that must be there names somebody
+-- a second list that must be there names a worker
 second_some : (needs : Bool) (o : Option (List ℕ)) (words : Named) (q : Option (List (List ℕ))) → SecondFits needs o q → has_unknown words (unwrap_or q []) ≡ false → (needs && eqb (length (ids_in words (unwrap_or q []))) 0) ≡ false
 second_some needs o words None fits known = and_left _ _ fits
 second_some needs None words (Some vs) fits known = absurd fits
@@ -442,7 +442,7 @@ is_clean h p d may number first second =
       apart = r.apart;
     }
 
--- nobody stands in a list and in an empty one
+-- no worker is in a list and in an empty one
 shares_none : (ws : List ℕ) → shares ws [] ≡ false
 shares_none [] = refl
 shares_none (w ∷ ws) = shares_none ws
@@ -450,7 +450,7 @@ shares_none (w ∷ ws) = shares_none ws
 pub no_second : (b : Bool) (first second : List ℕ) → second ≡ [] → false ≡ (b && shares first second)
 no_second b first second none = sym (and_right b (shares first second) (ap (shares first) none ∙ shares_none first))
 
--- the fault of a line is a kind of its own, and not want of memory
+-- the fault of a line is never out of memory
 one_of : (b : Bool) (g f : HeadFault) (rest : List (Bool × HeadFault)) → FailsAs g (Err g) → (first_that rest ≡ Some f → FailsAs f (Err f)) → first_that ((b, g) ∷ rest) ≡ Some f → FailsAs f (Err f)
 one_of true g f rest own others e = (let same : g ≡ f = cc in subst (λ (k : HeadFault). FailsAs k (Err k)) same own)
 one_of false g f rest own others e = others e

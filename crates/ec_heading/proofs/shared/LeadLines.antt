@@ -1,4 +1,4 @@
--- The lines of a heading are those of its outline.
+-- The lines of a header are those of its syntax tree.
 use Rattle.std.proofs.Common.{◌≡◌, ℕ, ◌≤◌, List, [], ◌∷◌, ◌++◌, Ok, map, refl, sym, ap, ap₂, subst, ◌∙◌}
 use Rattle.ec_heading.specs.declared.version.Version.{Version}
 use Rattle.ec_heading.specs.Versions.{greatest_limit}
@@ -17,7 +17,7 @@ declarations_lead ws h [] are heads may = refl
 declarations_lead ws h (d ∷ ds) are heads may =
     (with_declaration h d, line_declared ws are h heads d may.0, declarations_lead ws (with_declaration h d) ds are (heads_more ws h d heads) may.1)
 
--- the lines of an outline, each in its turn, lead from its limit alone to what it declares
+-- the lines of a syntax tree, in order, lead from a header with only its limit to what it declares
 pub outline_leads : OutlineLinesLead
 outline_leads o is =
     (empty_heading o.version o.limit o.workers, workers_read o.version o.limit o.workers is.workers, declarations_lead o.workers (empty_heading o.version o.limit o.workers) o.declarations is.workers (heads_opened o.version o.limit o.workers) is.declarations)
@@ -44,7 +44,7 @@ lead_declarations ws h (line ∷ lines) end are heads (next, taken, leads) =
     declared_along ws h next line lines end one
     (lead_declarations ws next lines end are (subst (Heads ws) (sym one.adds) (heads_more ws h one.declaration heads)) leads)
 
--- lines that lead on from a limit alone are those of an outline, and lead to what it declares
+-- lines that can follow the limit are those of a syntax tree, and lead to what it declares
 pub leads_outline : LinesHaveAnOutline
 leads_outline version limit line lines end low high (next, taken, leads) =
     let w : NamesWorkers version limit line next = workers_spelled version limit line next taken in
@@ -59,7 +59,7 @@ leads_outline version limit line lines end low high (next, taken, leads) =
       end_is = rest.end_is;
     }
 
--- THE HEADING AFTER A LINE
+-- THE HEADER AFTER A LINE
 
 -- one more line
 lead_on : (h : HeadingModel) (lines : List (List ℕ)) (t : HeadingModel) (line : List ℕ) (u : HeadingModel) → LinesLead h lines t → head_step t line ≡ Ok u → LinesLead h (lines ++ line ∷ []) u
@@ -71,11 +71,11 @@ outlined version limit line lines h low high leads =
     let o : Outlines version limit (line ∷ lines) h = leads_outline version limit line lines h low high leads in
     record { outline = o.outline; is = o.is; declares = sym o.end_is }
 
--- a heading after the first line behind a limit in range is what an outline declares
+-- a header after the first line that follows a limit in range is what a syntax tree declares
 pub named_outlined : (version : Version) (limit : ℕ) (line : List ℕ) (h : HeadingModel) → 1 ≤ limit → limit ≤ greatest_limit version → head_step (empty_heading version limit []) line ≡ Ok h → HasHeaderTree h
 named_outlined version limit line h low high is = outlined version limit line [] h low high (h, is, refl)
 
--- if a heading is what an outline declares, so it is after one more line
+-- if a header is what a syntax tree declares, so is the header after one more line
 pub declared_outlined : (h : HeadingModel) (line : List ℕ) (t : HeadingModel) → HasHeaderTree h → head_step h line ≡ Ok t → HasHeaderTree t
 declared_outlined h line t has is =
     let o : HeaderTree = has.outline in

@@ -1,4 +1,4 @@
--- The words of a spelled line are found again.
+-- The words of a line that joins them are found again.
 use Rattle.std.proofs.Common.{◌≡◌, ℕ, ◌+◌, ◌*◌, ◌≤◌, List, [], ◌∷◌, ◌++◌, length, false, true, eqb, ltb, refl, ap, ◌∙◌, arith, length-append, All, zero-le}
 use Rattle.std.specs.List.{list_any, AllByRecursion, join_with_byte}
 use Rattle.std.proofs.lemmas.Bool.{or_from, le-ltb, cond-false}
@@ -11,12 +11,12 @@ use Rattle.ec_heading.specs.Spelling.{list_words}
 use Rattle.ec_heading.proofs.shared.NameWords.{IsNamed, named, name_is_word, name_not_empty}
 use Rattle.ec_heading.proofs.shared.Listed.{AreBelow}
 
--- a word that may stand in a line
+-- a word that may be in a line
 pub record IsFit (w : List ℕ) : Type 0 where
   pub word : IsWord w
   pub some : eqb (length w) 0 ≡ false
 
--- each of the words may stand in a line
+-- each of the words may be in a line
 abbrev pub AreFit : List (List ℕ) → Type 0
 AreFit ws = AllByRecursion IsFit ws
 
@@ -46,7 +46,7 @@ join_length [] = zero-le
 join_length (w ∷ []) = omega arith
 join_length (w ∷ v ∷ ws) = omega (arith, length-append w (32 ∷ join_with_byte 32 (v ∷ ws)), join_length (v ∷ ws))
 
--- a line of fit words is read by its words
+-- the step of a line that joins fit words is the step of these words
 pub line_read : (h : HeadingModel) (w : List ℕ) (ws : List (List ℕ)) → AreFit (w ∷ ws) → letters (w ∷ ws) ≤ 8192 → head_step h (join_with_byte 32 (w ∷ ws)) ≡ words_step h (w ∷ ws)
 unfolding head_step
 line_read h w ws fit short =
@@ -63,7 +63,7 @@ line_read h w ws fit short =
 abbrev pub AreNamed : List (List ℕ) → Type 0
 AreNamed ws = AllByRecursion (λ w. is_name w ≡ true) ws
 
--- names may stand in a line
+-- names may be in a line
 pub names_fit : (ws : List (List ℕ)) → AreNamed ws → AreFit ws
 names_fit [] h = tt
 names_fit (w ∷ ws) h = (record { word = name_is_word w h.0; some = name_not_empty w h.0 }, names_fit ws h.1)

@@ -1,4 +1,4 @@
--- The workers of a heading, found by their names.
+-- The workers of a header, found by their names.
 use Rattle.std.proofs.Common.{◌≡◌, ◌≢◌, ℕ, zero, suc, ◌+◌, ◌<◌, List, [], ◌∷◌, ◌++◌, length, get_or, Bool, true, false, cond, Option, Some, None, is_none, refl, sym, ap, ◌∙◌, arith, bytes_eq, nat_le, leb, AllPairs, option_and_then, add-zero, zero-add, eqb, ne_eqb}
 use Rattle.std.specs.List.{list_any}
 use Rattle.std.specs.Option.{option_map_or}
@@ -45,7 +45,7 @@ next v ws n w i at = record {
   name = at.name;
 }
 
--- a word that is found as a worker is the name at the place of that worker
+-- a word that is found as a worker is the name at the index of that worker
 pub worker_found : (ws : List (List ℕ)) (n : ℕ) (es : Named) (w : List ℕ) (i : ℕ) → HasNoWorker es → worker_in (number_names n ws ++ es) w ≡ Some i → IsAt ws n w i
 worker_found [] n es w i h e = absurd (no_worker es w i h e)
 worker_found (v ∷ ws) n es w i h e =
@@ -66,7 +66,7 @@ tail_differs v ws h = λ i j d lt within. h (suc i) (suc j) d (omega arith) (ome
 pub head_differs : (v : List ℕ) (ws : List (List ℕ)) (k : ℕ) → Differ (v ∷ ws) → k < length ws → get_or ws k [] ≢ v
 head_differs v ws k h within = λ e. h 0 (suc k) [] (omega arith) (omega arith) (sym e)
 
--- if the names of workers differ, each is found as the worker at its place
+-- if the names of workers differ, each is found as the worker at its index
 pub finds_worker : (ws : List (List ℕ)) (n : ℕ) (es : Named) (k : ℕ) → Differ ws → k < length ws → worker_in (number_names n ws ++ es) (get_or ws k []) ≡ Some (n + k)
 finds_worker [] n es k h within = absurd (omega arith)
 finds_worker (v ∷ ws) n es zero h within =
@@ -95,11 +95,11 @@ pub known_below : (n : ℕ) (ids : List ℕ) → AreBelow n ids → list_any (λ
 known_below n [] h = refl
 known_below n (i ∷ ids) h = or_from _ _ (lt-leb n i h.0) (known_below n ids h.1)
 
--- the words of a heading: the names of its workers, and then the others
+-- the words of a header: the names of its workers, and then the others
 abbrev pub with_others : List (List ℕ) → Named → Named
 with_others ws es = number_names 0 ws ++ es
 
--- numbers of workers, spelled as names, are read again as these numbers
+-- numbers of workers, written as names, are read as these numbers
 pub ids_again : (ws : List (List ℕ)) (es : Named) (ids : List ℕ) → Differ ws → AreBelow (length ws) ids → ids_in (with_others ws es) (list_words ws ids) ≡ ids
 ids_again ws es [] h below = refl
 ids_again ws es (i ∷ ids) h below =
@@ -107,7 +107,7 @@ ids_again ws es (i ∷ ids) h below =
     ap (λ (o : Option ℕ). option_map_or (λ j. j ∷ ids_in (with_others ws es) (list_words ws ids)) o (ids_in (with_others ws es) (list_words ws ids))) found
     ∙ ap (λ (js : List ℕ). i ∷ js) (ids_again ws es ids h below.1)
 
--- numbers of workers, spelled as names, have no unknown word among them
+-- numbers of workers, written as names, have no unknown word among them
 pub ids_known : (ws : List (List ℕ)) (es : Named) (ids : List ℕ) → Differ ws → AreBelow (length ws) ids → has_unknown (with_others ws es) (list_words ws ids) ≡ false
 ids_known ws es [] h below = refl
 ids_known ws es (i ∷ ids) h below =
@@ -118,7 +118,7 @@ none_cases : {P : Type 0} (o : Option ℕ) → is_none o ≡ false → ((i : ℕ
 none_cases None e k = absurd (true≢false e)
 none_cases (Some i) e k = k i refl
 
--- words that are all known, read as numbers of workers, are spelled again as these words
+-- words that are all known, read as numbers of workers, are written as these words
 pub ids_spelled : (ws : List (List ℕ)) (es : Named) (vs : List (List ℕ)) → HasNoWorker es → has_unknown (with_others ws es) vs ≡ false → list_words ws (ids_in (with_others ws es) vs) ≡ vs
 ids_spelled ws es [] h known = refl
 ids_spelled ws es (v ∷ vs) h known =

@@ -27,7 +27,7 @@ either false x y r e = inr e
 
 -- THE TWO LISTS
 
--- the two lists, end to end, are the words that they were cut from
+-- the two lists, concatenated, are the words that they were cut from
 split_joins : (stop : List ℕ) (ws : List (List ℕ)) → (split_words stop ws).0 ++ second_part (Some stop) (split_words stop ws).1 ≡ ws
 unfolding split_words
 split_joins stop [] = refl
@@ -43,7 +43,7 @@ lists_join : (o : Option (List ℕ)) (ws : List (List ℕ)) → (both_lists o ws
 lists_join None ws = append-nil ws
 lists_join (Some stop) ws = split_joins stop ws
 
--- well lists have words
+-- well-formed lists have words
 well_first : (needs : Bool) (p : TwoLists) → is_well needs p ≡ true → HasWords p.0
 well_first needs ([], o) e = absurd (true≢false (sym e))
 well_first needs (w ∷ ws, o) e = (w, ws, refl)
@@ -58,7 +58,7 @@ well_second needs o ws q is e = fits o (both_lists o ws).0 q (λ (n : o ≡ None
     fits (Some stop) (v ∷ vs) (Some []) n e = absurd (true≢false (sym e))
     fits (Some stop) (v ∷ vs) (Some (u ∷ us)) n e = (u, us, refl)
 
--- the first list ends before the first word that ends it
+-- no word of the first list is the one that ends it
 words_stop : (stop : List ℕ) (ws : List (List ℕ)) → HasNoStop (Some stop) (split_words stop ws).0
 unfolding split_words
 words_stop stop [] = tt
@@ -72,7 +72,7 @@ lists_stop : (o : Option (List ℕ)) (ws : List (List ℕ)) → HasNoStop o (bot
 lists_stop None ws = tt
 lists_stop (Some stop) ws = words_stop stop ws
 
--- WHAT IS READ IS SPELLED
+-- WHAT IS READ IS AN ENCODING
 
 sort_is : (w : List ℕ) (s : DeclKind) → sort_of w ≡ Some s → w ≡ sort_word s
 sort_is w s e = elim (either (bytes_eq w (codes "eventcount")) sorts.EventCount s _ e) [
@@ -98,7 +98,7 @@ sort_is w s e = elim (either (bytes_eq w (codes "eventcount")) sorts.EventCount 
   ]
 ]
 
--- the words of a sort and a name, and then others
+-- the words of a kind and a name, and then others
 abbrev headed : DeclKind → List ℕ → List (List ℕ) → List (List ℕ)
 headed s name ws = sort_word s ∷ (name_words s name ++ ws)
 
@@ -169,13 +169,13 @@ sorted : (w : List ℕ) (o : Option DeclKind) (ws : List (List ℕ)) (p : Phrase
 sorted w None ws p is e = (cc)
 sorted w (Some s) ws p is e = subst (λ (v : List ℕ). IsSpelled (v ∷ ws) p) (sym (sort_is w s is)) (named s ws p e)
 
--- the words of a line that has parts are those parts, spelled
+-- the words of a line that has parts are the encoding of those parts
 pub parts_spelled : (ws : List (List ℕ)) (p : Phrase) → parts_in ws ≡ Some p → IsSpelled ws p
 unfolding parts_in
 parts_spelled [] p e = (cc)
 parts_spelled (w ∷ ws) p e = sorted w (sort_of w) ws p refl e
 
--- WHAT IS SPELLED IS READ
+-- ENCODINGS ARE READ
 
 split_again : (stop : List ℕ) (ws : List (List ℕ)) (o : Option (List (List ℕ))) → HasNoStop (Some stop) ws → split_words stop (ws ++ second_part (Some stop) o) ≡ (ws, o)
 unfolding split_words
@@ -232,7 +232,7 @@ named_again s name ws o fits is =
     ] in
     go refl
 
--- the words that spell a phrase are read as it
+-- the encoding of a phrase is read as that phrase
 pub spelled_parts : (ws : List (List ℕ)) (p : Phrase) → IsSpelled ws p → parts_in ws ≡ Some p
 unfolding parts_in
 spelled_parts ws p is =

@@ -1,4 +1,5 @@
--- What is true of the words and tables of every outline: each thing is spelled by one word, and each bound holds.
+-- What is true of the words and tables of every syntax tree: each object has one word, and each
+-- bound holds.
 use Rattle.std.proofs.Common.{◌≡◌, ◌≢◌, ℕ, ◌+◌, ◌<◌, ◌≤◌, ◌^◌, List, [], ◌∷◌, ◌++◌, length, cond, Bool, true, false, eqb, ◌||◌, zero, suc, Option, None, Some, is_some, refl, sym, ap, subst, ◌∙◌, arith, inl, inr, ◌⊎◌, get_or, append-nil, length-append, bytes_eq, ne_eqb, if◌then◌else◌}
 use Rattle.std.specs.List.{AllByRecursion, list_any, cons_option}
 use Rattle.std.proofs.lemmas.Bool.{true≢false, or_right, lt-ltb, eqb-false, false_from_ne_true}
@@ -145,9 +146,10 @@ workers_are_words ws h =
       stems = stems_found (number_names 0 ws) (number_names 0 ws) (each_named (λ w. is_name w ≡ true) 0 ws names) (itself_found (number_names 0 ws));
     }
 
--- ALL OF A HEADING
+-- ALL OF A HEADER
 
--- each thing that is declared has a word, words find what is declared, and tables and limit keep their bounds
+-- each declared object has a word, each word finds a declared object, and tables and limit are
+-- within their bounds
 pub record IsSound (h : HeadingModel) : Type 0 where
   pub names : AreNames h.names
   pub known : AllByRecursion (λ (e : List ℕ × Target). is_some (find_name e.0 h.words) ≡ true) h.names
@@ -194,7 +196,7 @@ names_more h d t is may = elim (has_name d.sort) as (λ b. has_name d.sort ≡ b
   | false ↦ λ q. subst AreNames (sym (append-nil h.names)) is.names
 ] refl
 
--- one of the objects of a declaration is spelled by its name alone
+-- the name of a declaration is the word for one of its objects
 itself_added : (h : HeadingModel) (d : Declaration) → IsDeclarable h d → is_some (find_name d.name (with_declaration h d).words) ≡ true
 itself_added h d may =
     let os : NameTable = objects_of d.sort (next_ids h) d.number in
@@ -267,16 +269,16 @@ sound_more h d is may =
       bounds = bounds_more d.sort h.setup d.number d.first d.second room is.bounds;
     }
 
--- declarations each of which may stand where it stands leave a sound heading so
+-- allowed declarations keep a header sound
 pub sound_all : (h : HeadingModel) (ds : List Declaration) → IsSound h → AreDeclarable h ds → IsSound (with_declarations h ds)
 sound_all h [] is may = is
 sound_all h (d ∷ ds) is may = sound_all (with_declaration h d) ds (sound_more h d is may.0) may.1
 
--- the heading that an outline declares is so
+-- the header that a syntax tree declares is sound
 pub sound : (o : HeaderTree) → IsHeaderTree o → IsSound (heading_of_tree o)
 sound o is = sound_all (empty_heading o.version o.limit o.workers) o.declarations (sound_opened o.version o.limit o.workers is.low (limit_low o.version o.limit is.high) is.workers) is.declarations
 
--- in a sound heading the tables keep the rules of declarations
+-- in a sound header the tables obey the rules of declarations
 pub is_declared : (h : HeadingModel) → IsSound h → IsDeclared h.setup
 is_declared h is = record {
   few = is.bounds.events;

@@ -1,4 +1,4 @@
--- Names of a heading: each thing has one, and it is found by it.
+-- Names of a header: each object has one, and is found by it.
 use Rattle.std.proofs.Common.{◌≡◌, ℕ, ◌+◌, ◌-◌, ◌<◌, ◌≤◌, List, [], ◌∷◌, ◌++◌, cond, Bool, true, false, eqb, ◌&&◌, ◌||◌, suc, Option, Some, unwrap_or, refl, sym, ap, subst, ◌∙◌, arith, nat_lt, nat_le, codes, decimal, slice_get}
 use Rattle.std.specs.Prelude.{bytes_eq}
 use Rattle.std.specs.List.{AllByRecursion, list_any}
@@ -12,7 +12,7 @@ use Rattle.ec_heading.specs.EntryWords.{NameTable}
 use Rattle.ec_heading.proofs.shared.SpelledWords.{is_plain, IsPlainWord, AreWords, entry_found, entry_word, given_word, named_found}
 use Rattle.ec_heading.proofs.shared.TreeNames.{same_itself as same_self}
 
--- EACH THING HAS ONE NAME
+-- EACH OBJECT HAS ONE NAME
 
 -- whether two targets are one, or share a cell
 abbrev pub is_shared : Target → Target → Bool
@@ -62,7 +62,7 @@ word_back names word t apart plain e = ap (λ (o : Option (List ℕ)). unwrap_or
 
 -- CELLS
 
--- a cell of a block, spelled: the block's word, and the cell's number in brackets
+-- the word for a cell of a block: the block's word, and the cell's number in brackets
 abbrev pub bracketed : List ℕ → ℕ → List ℕ
 bracketed block i = block ++ codes "[" ++ decimal i ++ codes "]"
 
@@ -81,7 +81,7 @@ cell_outside (Cells x m) first n i small off =
     true≢false (sym (and_from _ _ (lt-ltb x (first + n) (omega arith)) (lt-ltb first (x + m) (omega arith))) ∙ off))
 cell_outside _ first n i small off = refl
 
--- a cell of a block that is found is spelled by the block's word
+-- the word for a cell of a block that is found begins with the block's word
 pub cell_back : (names : NameTable) (block : List ℕ) (first n i : ℕ) → AreApart names → i < n → find_name block names ≡ Some (Cells first n) → cell_word names (first + i) ≡ bracketed block i
 unfolding cell_word
 cell_back [] block first n i apart small e = cc
@@ -104,7 +104,7 @@ pub record HasName (names : NameTable) (t : Target) : Type 0 where
   pub word : List ℕ
   pub is : name_of t names ≡ Some word
 
--- whether a cell lies in some block of the table
+-- whether a cell is in some block of the table
 abbrev pub is_celled : ℕ → NameTable → Bool
 is_celled x names = list_any (λ (e : List ℕ × Target). cell_in x e.1) names
 
@@ -147,7 +147,7 @@ block_later x e rest off b = record {
   word = rw off b.word;
 }
 
--- a cell that lies in a block of the table is spelled by one
+-- a cell that is in a block of the table has a word
 pub has_block : (names : NameTable) (x : ℕ) → is_celled x names ≡ true → HasBlock names x
 has_block [] x h = absurd (true≢false (sym h))
 has_block (e ∷ es) x h =
@@ -162,7 +162,7 @@ lacks : (c : ℕ) → is_plain c ≡ false → (bs : List ℕ) → AllByRecursio
 lacks c off [] h = tt
 lacks c off (b ∷ bs) h = (ne_eqb b c (λ same. true≢false (sym h.0 ∙ ap is_plain same ∙ off)), lacks c off bs h.1)
 
--- a byte that is no letter, digit, underscore or dot stands in no plain word
+-- a byte that is no letter, digit, underscore or dot is in no plain word
 pub word_lacks : (c : ℕ) (word : List ℕ) → is_plain c ≡ false → IsPlainWord word → AllByRecursion (λ b. eqb b c ≡ false) word
 word_lacks c word off h = lacks c off word h.plain
 

@@ -1,4 +1,5 @@
--- The words of a heading: each is plain and short, no two are the same, and what stands before a dot is a word too.
+-- The words of a header: each is plain and short, no two are the same, and what comes before a dot
+-- is a word too.
 use Rattle.std.proofs.Common.{◌≡◌, ◌≢◌, ℕ, ◌≤◌, List, [], ◌∷◌, ◌++◌, length, zero, suc, Bool, true, false, cond, ◌||◌, ◌&&◌, ◌==◌, eqb, nat_le, Some, None, is_some, refl, sym, ap, subst, ◌∙◌, arith, bytes_eq, if◌then◌else◌, slice_get, append_assoc, length-append, ne_eqb}
 use Rattle.std.specs.List.{AllByRecursion, list_all}
 use Rattle.std.proofs.lemmas.Bool.{true≢false, and_parts, or_left, leb-true, false_from_ne_true}
@@ -108,7 +109,7 @@ distinct-append (x ∷ xs) ys h k new = (
 
 -- STEMS
 
--- what stands before the first dot, or all
+-- what comes before the first dot; the whole word if it has none
 abbrev pub stem : List ℕ → List ℕ
 stem [] = []
 stem (b ∷ bs) = if b == 46 then [] else b ∷ stem bs
@@ -128,7 +129,7 @@ pub stem_spelling : (name w : List ℕ) → IsCalled name → stem (spelling nam
 stem_spelling name [] h = stem_itself name h.bytes
 stem_spelling name (b ∷ bs) h = ap stem (append_assoc name (46 ∷ []) (b ∷ bs)) ∙ stem_dotted name (b ∷ bs) h.bytes
 
--- WHAT IS TRUE OF A HEADING'S WORDS
+-- WHAT IS TRUE OF A HEADER'S WORDS
 
 abbrev pub is_plain : ℕ → Bool
 is_plain b = is_name_byte b || b == 46
@@ -138,13 +139,13 @@ pub record IsPlainWord (w : List ℕ) : Type 0 where
   pub plain : AllByRecursion (λ b. is_plain b ≡ true) w
   pub short : length w ≤ 24
 
--- each word is plain and short, no two are the same, and what stands before a dot is a word too
+-- each word is plain and short, no two are the same, and what comes before a dot is a word too
 pub record AreWords (words : NameTable) : Type 0 where
   pub each : AllByRecursion (λ (e : List ℕ × Target). IsPlainWord e.0) words
   pub distinct : AreDistinct words
   pub stems : AllByRecursion (λ (e : List ℕ × Target). is_some (find_name (stem e.0) words) ≡ true) words
 
--- nothing is spelled by a name that is no word yet
+-- if a name is no word yet, neither is that name with a suffix
 pub not_there : (words : NameTable) (name w : List ℕ) → AreWords words → IsCalled name → find_name name words ≡ None → find_name (spelling name w) words ≡ None
 not_there words name w are called none =
     none_left (find_name (spelling name w) words) (λ t found.
@@ -156,7 +157,7 @@ not_there words name w are called none =
 abbrev pub is_object_word : List ℕ → Bool
 is_object_word w = list_all is_letter w && nat_le (length w) 5
 
--- the objects of a declaration: what they are called behind the name differs, and one is spelled by the name alone
+-- the objects of a declaration: their suffixes differ, and one of them is empty
 pub record AreObjects (os : NameTable) : Type 0 where
   pub each : AllByRecursion (λ (o : List ℕ × Target). is_object_word o.0 ≡ true) os
   pub distinct : AreDistinct os

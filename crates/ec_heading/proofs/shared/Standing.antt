@@ -1,4 +1,4 @@
--- An outline stands behind a heading, after each line.
+-- After each line, a syntax tree declares the header.
 use Rattle.std.proofs.Common.{◌≡◌, ◌≢◌, ℕ, ◌+◌, ◌≤◌, List, [], ◌∷◌, ◌++◌, length, Some, None, refl, sym, ap, subst, ◌∙◌, arith, inl, inr, zero-add}
 use Rattle.std.specs.List.{All, AllByRecursion, cons_option}
 use Rattle.std.proofs.lemmas.List.Elements.{All-from_recursion}
@@ -35,7 +35,7 @@ use Rattle.ec_heading.proofs.shared.DeclKindFacts.{called}
 use Rattle.ec_heading.proofs.shared.SpelledWords.{AreWords, all_new}
 use Rattle.ec_heading.proofs.WorkersLine.{are_workers}
 
--- OF WORKERS ALONE
+-- ONLY WORKERS
 
 pub list_has_words : (list : List ℕ) → HasWords (words_of list)
 list_has_words list = let f = has_first list in (f.first, f.others, f.is)
@@ -79,7 +79,7 @@ outline_more h d has may =
 pub outline_heads : (h : HeadingModel) (has : HasHeaderTree h) → Heads has.outline.workers h
 outline_heads h has = subst (Heads has.outline.workers) has.declares (heads_all has.outline.workers (empty_heading has.outline.version has.outline.limit has.outline.workers) has.outline.declarations (heads_opened has.outline.version has.outline.limit has.outline.workers))
 
--- a heading that declares a worker is what an outline declares
+-- a header that declares a worker is what a syntax tree declares
 pub has_outline : (h : HeadingModel) → IsHeading h → h.setup.workers ≢ 0 → HasHeaderTree h
 has_outline h (inl (is, within)) some =
     absurd (some (ap (λ (g : HeadingModel). g.setup.workers) is))
@@ -92,7 +92,7 @@ pub line_declares : (h : HeadingModel) (line : List ℕ) (p : Phrase) → IsHead
 line_declares h line p is some parts none =
     may_declare (has_outline h is some).outline.workers h (words_of line) p (outline_heads h (has_outline h is some)) (parts_spelled (words_of line) p (sym parts)) none
 
--- the heading after a declaration, as its parts
+-- the header after a declaration, by its parts
 pub declares : (h : HeadingModel) (d : Declaration) (version : Version) (setup : Tables) (names words : List (List ℕ × Target)) (groups : List Group) (declarations : List Target) → IsHeading h → h.setup.workers ≢ 0 → IsDeclarable h d
     → version ≡ h.version
     → setup ≡ with_objects d.sort h.setup d.number d.first d.second
@@ -105,14 +105,14 @@ declares h d version setup names words groups declarations is some may version_i
     let e : with_declaration h d ≡ record { version = version; setup = setup; names = names; words = words; groups = groups; declarations = declarations } = cc in
     subst IsHeading e (inr (outline_more h d (has_outline h is some) may))
 
--- WHAT IS TRUE OF A HEADING
+-- WHAT IS TRUE OF A HEADER
 
--- the words of a heading, with those of its workers alone
+-- the words of a header are as `AreWords` says, also before its workers are declared
 pub heading_words : (h : HeadingModel) → IsHeading h → AreWords h.words
 heading_words h (inl (is, within)) = subst (λ (g : HeadingModel). AreWords g.words) (sym is) (record { each = tt; distinct = tt; stems = tt })
 heading_words h (inr has) = subst (λ (g : HeadingModel). AreWords g.words) has.declares (sound has.outline has.is).words
 
--- the words of a declaration that may stand are new
+-- the words of an allowed declaration are new
 pub words_new : (h : HeadingModel) (d : Declaration) → IsHeading h → IsDeclarable h d → AreNew d.name h.words (objects_of d.sort (next_ids h) d.number)
 words_new h d is may = all_new h.words d.name d.sort (next_ids h) d.number (heading_words h is) (called d.sort d.name may.word) may.new
 
@@ -145,7 +145,7 @@ groups_fit h (d ∷ ds) fit may =
     (new_fits d.sort h.setup d.number d.first d.second may.0.taken))
     may.1
 
--- the objects of each group of a heading are declared there, with the rights of the group
+-- the objects of each group of a header are declared there, with the rights of the group
 pub heading_fits : (h : HeadingModel) → IsHeading h → All (FitsGroup h.setup) h.groups
 heading_fits h (inl (is, within)) = subst (λ (g : HeadingModel). All (FitsGroup g.setup) g.groups) (sym is) (All-from_recursion (FitsGroup (empty_heading h.version h.setup.limit []).setup) [] tt)
 heading_fits h (inr has) =

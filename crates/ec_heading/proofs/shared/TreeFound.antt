@@ -1,4 +1,4 @@
--- The outline behind a heading is found again from what it declares.
+-- The syntax tree of a header can be computed from what the header declares.
 use Rattle.std.proofs.Common.{◌≡◌, ℕ, zero, suc, ◌<◌, ◌==◌, List, [], ◌∷◌, ◌++◌, length, true, false, Option, Some, refl, sym, ap, subst, ◌∙◌, append_assoc, append-nil, arith, slice_get, slice_index_or, replicate, option_map, eqb-true}
 use Rattle.std.specs.Option.{option_map_or}
 use Rattle.std.specs.List.{filter_map, cons_option, range_with_len}
@@ -50,14 +50,14 @@ same_parts : (s : DeclKind) (a b : List ℕ) (m n : ℕ) (ws ws' vs vs' : List �
     → ◌≡◌ {A = Declaration} (record { sort = s; name = a; number = m; first = ws; second = vs }) (record { sort = s; name = b; number = n; first = ws'; second = vs' })
 same_parts s a b m n ws ws' vs vs' p q r t = cc
 
--- a group is told of by its shape
+-- the declaration of a group is computed from its shape
 group_told : (h l : HeadingModel) (g : shape.Group) (d : Declaration) → Grows (h.groups ++ g ∷ []) l.groups → declared_group l.setup (target_name l.names (Group (length h.groups))) g ≡ d
     → declaration_of l (Group (length h.groups)) ≡ Some d
 group_told h l g d groups is =
     ap (option_map (declared_group l.setup (target_name l.names (Group (length h.groups))))) (grown_there (h.groups ++ g ∷ []) l.groups (length h.groups) g groups (found_at h.groups g []))
     ∙ ap Some is
 
--- what a declaration of this sort left in a later heading is told of again
+-- a declaration of this kind is computed from a later header
 returned : (s : DeclKind) (h l : HeadingModel) (name : List ℕ) (n : ℕ) (ws vs : List ℕ) → TablesGrow (with_objects s h.setup n ws vs) l.setup → Grows (h.groups ++ cons_option (group_of_declaration s h.setup n) []) l.groups
     → is_in_range s n ≡ true → fits_form (second_opener s) vs ≡ true → is_called s name ≡ true → (has_name s ≡ true → target_name l.names (target_of s (next_ids h) n) ≡ name)
     → declaration_of l (target_of s (next_ids h) n) ≡ Some (record { sort = s; name = name; number = n; first = ws; second = vs })
@@ -100,14 +100,14 @@ returned sorts.Both h l name n ws vs g groups range form called named =
     group_told h l (shapes.Both (next_semaphore h.setup 1)) _ groups
     (same_parts sorts.Both _ _ 0 n _ _ _ _ (sym (called_word sorts.Both name refl called)) (sym (number_none sorts.Both n refl range)) first (sym (none_from_length vs form)))
 
--- a declaration is told of, whatever was declared after it
+-- a declaration is computed, whatever was declared after it
 declaration_found : (h : HeadingModel) (d : Declaration) (l : HeadingModel) → AreOld (next_ids h) h.names → IsDeclarable h d → IsLater (with_declaration h d) l
     → declaration_of l (target_of d.sort (next_ids h) d.number) ≡ Some d
 declaration_found h d l old may later =
     returned d.sort h l d.name d.number d.first d.second later.tables later.groups may.range may.form may.word
     (λ has. name_found h d l.names later.names.0 has old later.names.1)
 
--- the declarations behind a heading, in order
+-- the declarations of a header, in order
 all_found : (h : HeadingModel) (ds : List Declaration) (l : HeadingModel) → AreOld (next_ids h) h.names → AreDeclarable h ds → l ≡ with_declarations h ds
     → filter_map (declaration_of l) (with_declarations h ds).declarations ≡ filter_map (declaration_of l) h.declarations ++ ds
 all_found h [] l old may e = sym (append-nil (filter_map (declaration_of l) h.declarations))
@@ -121,22 +121,22 @@ all_found h (d ∷ ds) l old may e =
     ∙ ap (λ (o : Option Declaration). (filter_map f h.declarations ++ cons_option o []) ++ ds) here
     ∙ append_assoc (filter_map f h.declarations) (d ∷ []) ds
 
--- the declarations of an outline are read off the heading that it declares
+-- the declarations of a syntax tree are computed from the header that it declares
 pub declarations_found : (o : HeaderTree) → IsHeaderTree o
     → declarations_of (heading_of_tree o) ≡ o.declarations
 declarations_found o is = all_found (empty_heading o.version o.limit o.workers) o.declarations (heading_of_tree o) (workers_old (next_ids (empty_heading o.version o.limit o.workers)) 0 o.workers) is.declarations refl
 
--- in what an outline declares each worker is named as the outline names the one at its place
+-- in the header that a syntax tree declares, each worker has the name that the tree gives its index
 pub name_of_worker : (o : HeaderTree) (i : ℕ) → target_name (heading_of_tree o).words (Worker i) ≡ slice_index_or o.workers i []
 name_of_worker o i =
     let later = all_later (empty_heading o.version o.limit o.workers) o.declarations in
     worker_found o.workers (heading_of_tree o).words later.words.0 i later.words.1 later.words.2
 
--- the version of what an outline declares is that of the outline
+-- the version of what a syntax tree declares is that of the tree
 pub version_found : (o : HeaderTree) → (heading_of_tree o).version ≡ o.version
 version_found o = (all_later (empty_heading o.version o.limit o.workers) o.declarations).version
 
--- the limit of what an outline declares is that of the outline
+-- the limit of what a syntax tree declares is that of the tree
 pub limit_found : (o : HeaderTree) → (heading_of_tree o).setup.limit ≡ o.limit
 limit_found o = (all_later (empty_heading o.version o.limit o.workers) o.declarations).tables.limit
 
@@ -144,7 +144,7 @@ pub workers_number : (o : HeaderTree) → (heading_of_tree o).setup.workers ≡ 
 workers_number o =
     (all_later (empty_heading o.version o.limit o.workers) o.declarations).tables.workers
 
--- the names of the workers are read off the heading that an outline declares
+-- the names of the workers are computed from the header that a syntax tree declares
 pub worker_names_found : (o : HeaderTree) → worker_names (heading_of_tree o) ≡ o.workers
 worker_names_found o =
     workers_found o.workers (heading_of_tree o).words (range_with_len 0 (heading_of_tree o).setup.workers) (name_of_worker o)
@@ -154,7 +154,7 @@ worker_names_found o =
 abbrev made : Version → ℕ → List (List ℕ) → List Declaration → HeaderTree
 made version limit workers declarations = record { version = version; limit = limit; workers = workers; declarations = declarations }
 
--- an outline is read off the heading that it declares
+-- a syntax tree is computed from the header that it declares
 pub outline_found : (o : HeaderTree) → IsHeaderTree o → outline_of (heading_of_tree o) ≡ o
 outline_found o is =
     let version = version_found o in

@@ -1,4 +1,4 @@
--- What declarations add: tables, names, words and groups grow at their ends.
+-- What declarations add: tables, names, words and groups grow only at their ends.
 use Rattle.std.proofs.Common.{◌≡◌, ℕ, ◌≤◌, List, [], ◌∷◌, ◌++◌, length, true, false, cond, Some, None, refl, sym, ap, ◌∙◌, arith, append_assoc, append-nil, replicate, length-append, slice_get}
 use Rattle.std.specs.List.{cons_option}
 use Rattle.ec_count.specs.Tables.{Tables, with_event, with_fixed_event, with_cells}
@@ -22,7 +22,7 @@ NamesNoWorker names = (k : ℕ) → name_of (Worker k) names ≡ None
 abbrev pub Grows : {A : Type 0} → List A → List A → Type 0
 Grows {A} xs ys = (more : List A) × (ys ≡ xs ++ more)
 
--- what stays and what grows
+-- what stays the same, and what grows
 pub record TablesGrow (t u : Tables) : Type 0 where
   pub limit : u.limit ≡ t.limit
   pub workers : u.workers ≡ t.workers
@@ -105,7 +105,7 @@ grow_cells t n ws vs = record {
   cells = omega (arith, length-append t.cells (replicate n (record { write = ws; read = vs })));
 }
 
--- SORT BY SORT
+-- KIND BY KIND
 
 grow_buffer : (t : Tables) (n : ℕ) (ws vs : List ℕ) → TablesGrow t (with_objects sorts.Buffer t n ws vs)
 grow_buffer t n ws vs =
@@ -132,7 +132,7 @@ grow_semaphore t ws =
     let one : Tables = with_fixed_event t ws ws in
     grow_then t one _ (grow_fixed_event t ws ws) (grow_sequencer one ws)
 
--- the objects of a declaration leave the tables what they have, and make none shorter
+-- the objects of a declaration change nothing that is in the tables, and make no table shorter
 pub objects_grow : (s : DeclKind) (t : Tables) (n : ℕ) (ws vs : List ℕ) → TablesGrow t (with_objects s t n ws vs)
 objects_grow sorts.EventCount t n ws vs = grow_event t ws vs
 objects_grow sorts.Sequencer t n ws vs = grow_sequencer t ws

@@ -1,4 +1,4 @@
--- The names and the words in a heading that an outline declares.
+-- The names and the words in a header that a syntax tree declares.
 use Rattle.std.proofs.Common.{◌≡◌, ℕ, zero, suc, ◌+◌, ◌<◌, ◌≤◌, ◌==◌, ◌&&◌, List, [], ◌∷◌, ◌++◌, length, map, Bool, true, false, cond, if◌then◌else◌, Option, Some, None, refl, sym, ap, ◌∙◌, append_assoc, arith, slice_index_or, length-append, zero-add, replicate}
 use Rattle.std.specs.Option.{unwrap_or}
 use Rattle.std.specs.List.{range_with_len}
@@ -25,7 +25,7 @@ use Rattle.ec_heading.specs.Spelling.{NameTable, target_name, list_words}
 use Rattle.ec_heading.specs.Recalled.{names_of}
 use Rattle.ec_heading.proofs.shared.TreeGrows.{NamesNoWorker, IsLater, grown_length, name_of-append_none, one_later}
 
--- what a name stands for comes before the numbers that come next
+-- what a name denotes has a lower number than those that come next
 abbrev pub IsOld : Next → Target → Type 0
 IsOld k (Event e) = e < k.event
 IsOld k (Sequencer q) = q < k.sequencer
@@ -125,7 +125,7 @@ old_differs k _ _ h c = refl
 not_same : (u : Target) (s : DeclKind) (k : Next) (n : ℕ) → IsOld k u → same_target u (target_of s k n) ≡ false
 not_same u s k n h = old_differs k u (target_of s k n) h (comes s k n)
 
--- no name stands yet for what comes next
+-- no name denotes yet what comes next
 no_name_yet : (s : DeclKind) (k : Next) (n : ℕ) (names : NameTable) → AreOld k names → name_of (target_of s k n) names ≡ None
 no_name_yet s k n [] h = refl
 no_name_yet s k n (e ∷ es) h = ap (λ (b : Bool). cond b (Some e.0) (name_of (target_of s k n) es)) (not_same e.1 s k n h.0) ∙ no_name_yet s k n es h.1
@@ -155,12 +155,12 @@ at_number n (suc i) k (w ∷ ws) more e h =
 pub worker_found : (ws : List (List ℕ)) (names more : NameTable) (i : ℕ) → names ≡ number_names 0 ws ++ more → NamesNoWorker more → target_name names (Worker i) ≡ slice_index_or ws i []
 worker_found ws names more i e h = ap (λ (r : NameTable). target_name r (Worker i)) e ∙ at_number 0 i i ws more (sym (zero-add i)) h
 
--- if each worker has the name at its place, a list of workers has the names at their places
+-- if each worker has the name at its index, a list of workers has the names at their indices
 pub workers_found : (ws : List (List ℕ)) (names : NameTable) (ids : List ℕ) → ((i : ℕ) → target_name names (Worker i) ≡ slice_index_or ws i []) → names_of names ids ≡ list_words ws ids
 workers_found ws names [] h = refl
 workers_found ws names (i ∷ ids) h = let rest = workers_found ws names ids h in let first = h i in (cc)
 
--- the names at all places of a list, in order, are the list
+-- the names at all indices of a list, in order, are the list
 pub all_workers : (ws : List (List ℕ)) → list_words ws (range_with_len 0 (length ws)) ≡ ws
 all_workers ws =
     let f : ℕ → List ℕ = λ i. slice_index_or ws i [] in

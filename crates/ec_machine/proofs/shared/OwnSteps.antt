@@ -18,7 +18,7 @@ own_append w [] ys = refl
 own_append w (x ∷ xs) ys =
     ap (λ rest. cond (x.worker == w) (x ∷ rest) rest) (own_append w xs ys) ∙ if_append (x.worker == w) x (own w xs) (own w ys)
 
--- a run's beginnings are runs
+-- the prefixes of a run are runs
 pub run_before : (list : List CompletedCall → Option Act) (later past : List Entry) → IsRun list (later ++ past) → IsRun list past
 unfolding IsRun
 run_before list [] past run = run
@@ -41,7 +41,7 @@ pub entry_next : (h done rest others : List Entry) (x : Entry) → done ++ rest 
 entry_next h done rest others x is first =
     subst (λ l. slice_get l (length done) ≡ Some x) (ap (λ r. done ++ r) (sym first) ∙ is) (slice_here done others x)
 
--- the entries that were done, with the next one, and those behind it are still the history
+-- the entries passed, with the next one, and those after it are still the history
 pub order_more : (h done rest others : List Entry) (x : Entry) → done ++ rest ≡ h → rest ≡ x ∷ others → (done ++ x ∷ []) ++ others ≡ h
 order_more h done rest others x is first = append_assoc done (x ∷ []) others ∙ ap (λ r. done ++ r) (sym first) ∙ is
 

@@ -1,4 +1,4 @@
--- The calls of a run are whole lists of its commands, and the beginning of one more.
+-- The calls of a run are whole lists of its commands, and a prefix of one more.
 use Rattle.std.proofs.Common.{◌≡◌, ℕ, suc, Bool, true, false, List, [], ◌∷◌, ◌++◌, take, slice_get, Option, Some, None, is_some, if◌then◌else◌, refl, sym, ◌∙◌, ap, subst, append_assoc, append-nil, inl, inr}
 use Rattle.std.specs.List.{flat_map}
 use Rattle.ec_core.specs.declared.act.Act.{Act}
@@ -25,7 +25,7 @@ written_if : (b : Bool) (list : List CompletedCall → Option Act) (done : List 
 written_if true list done c asked due = asked
 written_if false list done c asked due = written_more list done c asked due
 
--- the finished calls of a run are a beginning of its list
+-- the completed calls of a run are a prefix of its list
 pub finished_written : (list : List CompletedCall → Option Act) (past : List Entry) → IsRun list past → IsWritten list (finished past)
 unfolding IsRun finished
 finished_written list [] run = written_none list
@@ -33,7 +33,7 @@ finished_written list (x ∷ past) run =
     written_if (is_pending x.reply) list (finished past) (record { op = begun_by x.act (opening past); reply = x.reply })
     (finished_written list past run.1) (begun_is_due list past x.act run.1 run.0)
 
--- THE CALLS FROM A PLACE ON
+-- THE CALLS FROM A STATE ON
 
 pub last_append : (last : ℕ) (xs ys : List CompletedCall) → last_number last (xs ++ ys) ≡ last_number (last_number last xs) ys
 last_append last [] ys = refl
@@ -157,6 +157,7 @@ calls_of cs calls asked =
       ends = ap outcome_at s.place;
     }
 
--- a run's finished calls are whole lists and the beginning of one more, in which its call under way is next
+-- the completed calls of a run are whole lists and a prefix of one more, in which its pending call
+-- is next
 pub runs_of_lists : RunsAreOfWholeLists
 runs_of_lists cs past run = (calls_of cs (finished past) (finished_written (program_call cs) past run), opening_is_due (program_call cs) past run)

@@ -33,7 +33,7 @@ take_more [] k x at = cc
 take_more (y ∷ xs) zero x at = cc
 take_more (y ∷ xs) (suc k) x at = ap (λ l. y ∷ l) (take_more xs k x at)
 
--- what stands among the first n
+-- an element among the first n
 get_taken : {X : Type 0} (n : ℕ) (xs : List X) (i : ℕ) (x : X) → slice_get (take n xs) i ≡ Some x → (i < n) × (slice_get xs i ≡ Some x)
 get_taken zero xs i x at = cc
 get_taken (suc n) [] i x at = cc
@@ -68,7 +68,7 @@ told_before x turns w r at = (
   ap (λ l. slice_get l at.0) (timely_more mark_of x turns) ∙ get_early (timely mark_of turns) (mark_of x ∷ []) at.0 (slice_get_within (timely mark_of turns) at.0 (Some r) at.2) ∙ at.2,
 )
 
--- who was told a refusal has a place where it was
+-- a worker that was refused has a place where it was
 told_some : (turns : List Turn) (w : ℕ) (r : Refusal) → refusal_in_turns w turns ≡ Some r → WasTold turns w r
 told_some [] w r returned = cc
 told_some (x ∷ turns) w r returned =
@@ -104,7 +104,7 @@ module _ (t : Tables) (programs : List (List Command)) (schedule : List ℕ) (h 
     marked : timely mark_of turns ≡ take n is.marks
     entries : entries_of turns ≡ past_at (made_entries (take n is.marks)) h
 
-  -- who has the next place was refused at none before it
+  -- the worker of the next place was refused at none before it
   not_told : (n w : ℕ) (b : Built n) → slice_get schedule n ≡ Some w
       → refusal_in_turns w b.turns ≡ None
   not_told n w b at =
@@ -180,7 +180,7 @@ module _ (t : Tables) (programs : List (List Command)) (schedule : List ℕ) (h 
     after = λ w. ends_so b w (refusal_in_turns w b.turns) refl;
   }
 
--- THE LAWS
+-- THE THEOREMS
 
 pub of_turns : HistoriesAreOfTurns
 of_turns t programs schedule h outcome is = made_so t programs schedule h outcome is (built t programs schedule h outcome is (length schedule) (omega arith))

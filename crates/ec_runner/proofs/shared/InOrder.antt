@@ -190,7 +190,7 @@ none_if_ok (Err r) o never none = absurd (never r refl)
 told_running : (t : Tables) (programs : List (List Command)) (before : List Turn) (x : Turn) → IsTurn t programs before x → refusal_in_turns x.worker before ≡ None
 told_running t programs before x right = none_told (refusal_in_turns x.worker before) (outcome_of (program_at programs x.worker) (own x.worker (entries_of before))) right.running
 
--- the refusal at a place of w is the one that w was told
+-- the refusal at a place of w is the one of w in the turns
 pub told_is : (t : Tables) (programs : List (List Command)) (turns : List Turn) (i w : ℕ) (r : Refusal) → AreTurns t programs turns
     → slice_get (timely worker_of turns) i ≡ Some w → slice_get (timely mark_of turns) i ≡ Some (Some r) → refusal_in_turns w turns ≡ Some r
 told_is t programs [] i w r each at mark = cc
@@ -211,7 +211,7 @@ told_is t programs (x ∷ turns) i w r each at mark =
     ap (λ b. cond b (refusal_or x.answer (refusal_in_turns w turns)) (refusal_in_turns w turns)) (eq-eqb x.worker w last.1) ∙ told_last x.answer r (refusal_in_turns w turns) here)
     (get_push (timely worker_of turns) x.worker i w (subst (λ l. slice_get l i ≡ Some w) (timely_more worker_of x turns) at))
 
--- who has no such place was told none
+-- a worker without such a place was not refused
 pub told_none : (turns : List Turn) (w : ℕ) → ((r : Refusal) → IsRefusedWith (timely worker_of turns) (timely mark_of turns) w r → ⊥) → refusal_in_turns w turns ≡ None
 told_none [] w never = refl
 told_none (x ∷ turns) w never =
@@ -266,7 +266,7 @@ parts_are t programs (x ∷ turns) w each =
     (λ is. subst (λ v. next_act (program_at programs v) (own v (entries_of turns)) ≡ Some x.act) is each.0.due)
     (parts_are t programs turns w each.1)
 
--- THE LAWS
+-- THE THEOREMS
 
 pub outcome_told : (programs : List (List Command)) (turns : List Turn) (w : ℕ) (o : Option Refusal) → refusal_in_turns w turns ≡ o
     → outcome_after programs w turns ≡ ended_by o (outcome_of (program_at programs w) (own w (entries_of turns)))

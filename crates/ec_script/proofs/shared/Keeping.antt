@@ -1,4 +1,5 @@
--- The lines of a script keep its programs confined, and of commands that its version has, and so every plan is.
+-- Invariants of the parser: its programs are confined, and of commands that the version has. So
+-- every plan is.
 use Rattle.std.proofs.Common.{◌≡◌, ℕ, ◌<◌, List, [], ◌∷◌, ◌++◌, length, replicate, zero, suc, Bool, true, false, cond, not, ◌&&◌, eqb, Option, Some, None, Result, Ok, Err, refl, sym, ap, ◌∙◌, subst, arith, nat_lt, eqb-true, length-append, length-set, slice_set}
 use Rattle.std.specs.List.{AllByRecursion}
 use Rattle.std.specs.Option.{IfSome}
@@ -61,7 +62,7 @@ seconds : {X : Type 0} (P Q : X → Type 0) (xs : List X) → AllByRecursion (λ
 seconds P Q [] all = tt
 seconds P Q (x ∷ xs) all = (all.0.1, seconds P Q xs all.1)
 
--- orders that the programs of a script of this heading may have
+-- items that the programs of a script with this header may have
 abbrev AreProper : HeadingModel → List BlockItem → Type 0
 AreProper h os = AllByRecursion (IsProper h.groups h.version) os
 
@@ -77,13 +78,13 @@ all_had : (h : HeadingModel) (programs : List (List BlockItem)) → AllByRecursi
 all_had h [] all = tt
 all_had h (os ∷ programs) all = (seconds (IsConfined h.groups) (HasOrder h.version) os all.0, all_had h programs all.1)
 
--- WHAT A SCRIPT KEEPS
+-- THE INVARIANT
 
 abbrev BlockKeeps : HeadingModel → Option Block → Type 0
 BlockKeeps h None = Unit {0}
 BlockKeeps h (Some b) = AreProper h b.draft.orders
 
--- nothing is commanded yet
+-- no block is open and every program is empty
 abbrev IsBare : ScriptModel → Type 0
 IsBare s = (s.block ≡ None) × (s.programs ≡ replicate s.heading.setup.workers [])
 
@@ -295,13 +296,14 @@ plan_keeps : (t : Stage) (p : PlanModel) → StageKeeps t → plan_in t ≡ Some
 plan_keeps (Reading s) p keeps is = plan_of s s.block p keeps is
 plan_keeps _ p keeps is = cc
 
--- a plan that a text comes to has groups apart, confined programs, one for each worker and of its version, and a schedule of these
+-- the plan of a text has groups apart, confined programs, one for each worker and of its version,
+-- and a schedule of these
 pub plans_are_confined : (bytes : List ℕ) (p : PlanModel) → outcome bytes ≡ Ok p → IsPlan p
 plans_are_confined bytes p is =
     let r : IsScript bytes p = read_is_script bytes p is in
     plan_keeps r.stage p (leads_keeps Opening r.lines r.stage tt r.leads) r.plan
 
--- and so has a plan that is told of a text
+-- so has a plan that is returned for a text
 pub told_plan : (bytes : List ℕ) (result : Result Plan ScriptFault) → Returns (outcome bytes) result → IfOk result (λ plan. IsPlan (shown_plan plan))
 told_plan bytes (Ok plan) tells = plans_are_confined bytes (shown_plan plan) tells
 told_plan bytes (Err f) tells = tt

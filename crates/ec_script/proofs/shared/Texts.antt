@@ -1,4 +1,5 @@
--- A text and its lines: what is read is a script, a script is read, and a fault is that of the first faulty line.
+-- A text and its lines: what is parsed is a script, a script is parsed, and a fault is that of the
+-- first faulty line.
 use Rattle.std.proofs.Common.{◌≡◌, ◌⊎◌, inl, inr, ℕ, ◌+◌, ◌<◌, ◌≤◌, List, [], ◌∷◌, ◌++◌, length, Bool, true, false, cond, eqb, Option, Some, None, Result, Ok, Err, refl, sym, ap, ◌∙◌, subst, arith, append_assoc, append-nil, nat_lt, le-ltb, lt-ltb}
 use Rattle.std.specs.List.{AllByRecursion, join_with_byte, onto_first}
 use Rattle.std.proofs.lemmas.List.Splits.{join_with_byte-slice_split}
@@ -16,7 +17,7 @@ use Rattle.ec_script.specs.Grammar.{IsLine, Leads, IsScript, IsRefused, IsCutOff
 use Rattle.ec_heading.specs.Spelling.{lines_text}
 use Rattle.ec_script.proofs.Lines.{has_first, goes_line, goes_rest}
 
--- A SCRIPT IS READ
+-- A SCRIPT IS PARSED
 
 lines_go : (n : ℕ) (s t : Stage) (lines : List (List ℕ)) (p : PlanModel) → AllByRecursion IsLine lines → Leads s lines t → plan_in t ≡ Some p
     → goes n s (lines_of_text (lines_text lines)) ≡ Ok p
@@ -38,7 +39,7 @@ pub long_goes : (bytes : List ℕ) → SCRIPT_MAX < length bytes → outcome byt
 unfolding outcome
 long_goes bytes long = let e : nat_lt SCRIPT_MAX (length bytes) ≡ true = lt-ltb _ _ long in rw e refl
 
--- a script of a plan comes to that plan
+-- a script of a plan is parsed to that plan
 pub script_is_read : (bytes : List ℕ) (p : PlanModel) → IsScript bytes p → outcome bytes ≡ Ok p
 script_is_read bytes p is =
     within_goes bytes is.within ∙ ap (λ (bs : List ℕ). goes 1 Opening (lines_of_text bs)) is.text ∙ lines_go 1 Opening is.stage is.lines p is.each is.leads is.plan
@@ -65,7 +66,7 @@ pub line_at : (lines : List (List ℕ)) (line : List ℕ) (others : List (List �
 line_at [] line others all = all.0
 line_at (l ∷ lines) line others all = line_at lines line others all.1
 
--- what stands behind a part
+-- what follows a part
 abbrev pub behind_of : List (List ℕ) → List ℕ
 behind_of [] = []
 behind_of (p ∷ ps) = 10 ∷ join_with_byte 10 (p ∷ ps)
@@ -87,7 +88,7 @@ join_lines (l ∷ m ∷ ms) line after =
 pub whole : (bytes : List ℕ) (lines : List (List ℕ)) (line : List ℕ) (after : List (List ℕ)) → lines_of_text bytes ≡ lines ++ line ∷ after → bytes ≡ lines_text lines ++ (line ++ behind_of after)
 whole bytes lines line after is = sym (join_with_byte-slice_split 10 bytes) ∙ ap (join_with_byte 10) is ∙ join_lines lines line after
 
--- WHAT IS READ IS A SCRIPT
+-- WHAT IS PARSED IS A SCRIPT
 
 record Reads (s : Stage) (parts : List (List ℕ)) (p : PlanModel) : Type 0 where
   pub lines : List (List ℕ)
@@ -116,7 +117,7 @@ read_parts n s first (next ∷ others) p is =
       | Err k ↦ λ e h. cc
     ]) refl is
 
--- what is read is within the bound
+-- what is parsed is within the bound
 within_of : (bytes : List ℕ) (p : PlanModel) → outcome bytes ≡ Ok p → length bytes ≤ SCRIPT_MAX
 unfolding outcome
 within_of bytes p is =
@@ -125,7 +126,7 @@ within_of bytes p is =
       | false ↦ λ e h. ltb-false SCRIPT_MAX (length bytes) e
     ]) refl is
 
--- a text that comes to a plan is a script of it
+-- a text that is parsed to a plan is a script of it
 pub read_is_script : (bytes : List ℕ) (p : PlanModel) → outcome bytes ≡ Ok p → IsScript bytes p
 read_is_script bytes p is =
     let within = within_of bytes p is in

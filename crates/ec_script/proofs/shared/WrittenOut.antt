@@ -1,4 +1,5 @@
--- What lines come to when the repeats are written out: confined ones, and those of a version.
+-- What holds of lines holds of the commands with their repeats unrolled: being confined, and being
+-- of a version.
 use Rattle.std.proofs.Common.{◌≡◌, ℕ, zero, suc, true, List, [], ◌∷◌, ◌++◌, map, subst, sym, refl}
 use Rattle.std.specs.List.{AllByRecursion}
 use Rattle.std.specs.Global.{Vec}
@@ -45,12 +46,12 @@ Of P c = P (out-Command c)
 pub by_layer : (P : Command-F Command → Type 0) (d : Command-F Command) (c : Command) → roll-Command d ≡ c → P d → P (out-Command c)
 by_layer P d c is one = subst (Of P) is (subst P (sym (out-roll-Command d)) one)
 
--- what holds of a line holds of the command that it is
+-- what holds of the line of a command holds of the command
 record Passes (P : Command-F Command → Type 0) (Q : BlockItem → Type 0) : Type 0 where
   line : (c : Command) → Q (Do c) → P (out-Command c)
   write : (d : Database) (vs : Vec Value) → Q (Write d vs.items) → P (layer.WriteAll d vs)
 
--- if it holds of a command's lines, it holds of what it comes to
+-- if it holds of a command's lines, it holds of the unrolled commands
 abbrev Comes : (Command-F Command → Type 0) → (BlockItem → Type 0) → Command → Type 0
 Comes P Q c = AllByRecursion Q (flat_one c) → AllByRecursion (Of P) (unroll_command c)
 
@@ -114,10 +115,10 @@ programs_come : (P : Command-F Command → Type 0) (Q : BlockItem → Type 0) �
 programs_come P Q t [] all = tt
 programs_come P Q t (cs ∷ programs) all = (program_comes P Q t cs all.0, programs_come P Q t programs all.1)
 
--- programs whose lines are confined come to confined commands alone
+-- programs whose lines are confined have only confined commands
 pub confined_lines : (gs : List Group) (programs : List (List Command)) → AreConfined gs (map flat programs) → AreConfinedPrograms gs programs
 confined_lines gs programs all = programs_come (UsesGroups gs) (IsConfined gs) (record { line = λ c h. h; write = λ d vs h. h }) programs all
 
--- and those whose lines a version has, to commands that it has
+-- programs whose lines a version has have only commands that it has
 pub had_lines : (v : Version) (programs : List (List Command)) → HasOrders v (map flat programs) → HasPrograms v programs
 had_lines v programs all = programs_come (λ d. has_command v d ≡ true) (HasOrder v) (record { line = λ c h. h; write = λ d vs h. refl }) programs all

@@ -1,4 +1,4 @@
--- Who follows `both` follows its common semaphore as a semaphore.
+-- Workers that follow `both` follow its common semaphore as a semaphore.
 use Rattle.std.proofs.Common.{◌≡◌, ℕ, Bool, true, false, not, ◌&&◌, ◌||◌, List, [], ◌∷◌, refl, ap, sym, ◌∙◌, arith, subst, cond, ◌==◌, ◌⊎◌, inl, inr}
 use Rattle.std.proofs.lemmas.Bool.{eqb-true, eq-eqb, ne_eqb, and_parts, and_from, or_parts}
 use Rattle.ec_count.specs.Tables.{Tables, IsDeclared}
@@ -187,6 +187,7 @@ implied c lines t (x ∷ past) one apart dec acc f =
           ] refl;
     }
 
--- an accepted history that follows `both` follows its common semaphore, of initial value 1 and not among the lines
+-- an accepted history that follows `both` follows its common semaphore, of initial value 1 and not
+-- among the other sequencers
 pub both_implies_use : (c : Semaphore) (lines : ℕ → Bool) (t : Tables) (past : List Entry) → c.initial ≡ 1 → lines c.line ≡ false → IsDeclared t → IsAccepted t past → Follow (both_rules c lines) past → Follow (use_rules c) past
 both_implies_use c lines t past one apart dec acc f = (implied c lines t past one apart dec acc f).follow

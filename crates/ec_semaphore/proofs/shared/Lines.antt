@@ -1,4 +1,4 @@
--- The sequencers of the semaphores that are handed in, and a table of them.
+-- The sequencers of the semaphores of an audit, and a table of them.
 use Rattle.std.proofs.Common.{◌≡◌, ℕ, zero, suc, ◌<◌, ◌&&◌, ◌||◌, Bool, true, false, not, ◌==◌, List, [], ◌∷◌, ◌++◌, length, Some, slice_get, slice_set, get_or, take, ◌+◌, refl, ap, sym, ◌∙◌, arith, cond}
 use Rattle.std.specs.List.{list_any, list_all}
 use Rattle.std.proofs.lemmas.Bool.{eqb-true, eq-eqb, and_parts}
@@ -9,7 +9,7 @@ use Rattle.ec_semaphore.specs.Shapes.{Semaphore}
 use Rattle.ec_semaphore.specs.Both.{is_line}
 use Rattle.ec_core.proofs.shared.Reading.{always as and_true, never as and_false}
 
--- the sequencer of the common semaphore is not among the lines, whichever semaphores are handed in
+-- the sequencer of the common semaphore is never one of the two, whichever semaphores are given
 pub not_common : (c : Semaphore) (shapes : List Semaphore) → is_line c shapes c.line ≡ false
 not_common c shapes = ap (λ b. not b && list_any (λ (s : Semaphore). s.line == c.line) shapes) (eq-eqb c.line c.line refl)
 

@@ -30,7 +30,7 @@ pub guarded : {X : Type 0} (b : Bool) (x : Option X) (m : X) → cond b x None �
 guarded true x m e = (refl, e)
 guarded false x m e = cc
 
--- the test for digits alone, and the number that they spell, mean what they mean in std
+-- the test whether all bytes are digits, and the number that they spell, are those of std
 pub own : IsNumeralModel (λ ds. all_ascii_digits ds ≡ true) (value_from 0)
 own = numerals_by_fold _ (search rules) value_from (search rules)
 
@@ -38,7 +38,7 @@ value_from-ge : (n : ℕ) (w : List ℕ) → n ≤ value_from n w
 value_from-ge n [] = omega arith
 value_from-ge n (c ∷ w) = omega (arith, value_from-ge (10 * n + (c - 48)) w)
 
--- what is read is spelled so
+-- what is read is digits that spell it
 pub reads : (n m : ℕ) (w : List ℕ) → n < 1000000000000000000 → digits_from n w ≡ Some m → (all_ascii_digits w ≡ true) × (m ≡ value_from n w) × (m < 1000000000000000000)
 unfolding digits_from
 reads n m [] small e = let same : m ≡ n = cc in (refl, same, omega arith)
@@ -50,7 +50,7 @@ reads n m (c ∷ w) small e =
     let r = reads (10 * n + (c - 48)) m w (omega arith) g.1 in
     (and_from _ _ p.0 r.0, r.1, r.2)
 
--- what is spelled so is read
+-- digits that spell a number below 10 ^ 18 are read as it
 pub spelled : (n : ℕ) (w : List ℕ) → all_ascii_digits w ≡ true → value_from n w < 1000000000000000000 → digits_from n w ≡ Some (value_from n w)
 unfolding digits_from
 spelled n [] d small = refl
@@ -149,12 +149,12 @@ always_none : (b : Bool) → let none : Option ℕ = None in cond b none none �
 always_none true = refl
 always_none false = refl
 
--- no space stands in a number
+-- a number has no space
 pub number_word : (n : ℕ) → n < 1000000000000000000 → IsWord (decimal n)
 number_word n small =
     All-from_get_or (λ b. eqb b 32 ≡ false) (decimal n) 0 (λ i h. ne_eqb _ _ (not_in_digits own (decimal n) 32 (digits_decimal own n (omega arith)) (λ r. omega arith) i h))
 
--- a word that doesn't begin with a digit, as `codes "done"`, is no number's spelling
+-- a word that doesn't begin with a digit, as `codes "done"`, is not the digits of a number
 pub number_is_other : (n : ℕ) (w : List ℕ) → n < 1000000000000000000 → is_ascii_digit (get_or w 0 0) ≡ false → bytes_eq (decimal n) w ≡ false
 number_is_other n w small other = false_from_ne_true _ (λ e.
     let same : decimal n ≡ w = (bytes_eq-Decides (decimal n) w).0 e in
@@ -162,7 +162,7 @@ number_is_other n w small other = false_from_ne_true _ (λ e.
     let both : true ≡ false = sym digit ∙ ap (λ (x : List ℕ). is_ascii_digit (get_or x 0 0)) same ∙ other in
     cc)
 
--- a word that doesn't begin with a digit is read as none
+-- a word that doesn't begin with a digit is not read as a number
 pub no_number : (w : List ℕ) → is_ascii_digit (get_or w 0 0) ≡ false → number_in_word w ≡ None
 unfolding digits_from
 no_number [] other = refl

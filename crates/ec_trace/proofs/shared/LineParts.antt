@@ -1,4 +1,4 @@
--- The parts of the lines of a heading.
+-- The parts of the lines of a header.
 use Rattle.std.proofs.Common.{◌≡◌, ℕ, List, [], ◌∷◌, ◌++◌, ◌+◌, ◌<◌, length, take, get_or, slice_get, arith, ◌∙◌, ap, sym, append_assoc, append-nil, zero-add, map, codes, decimal, refl, Option, Some, None}
 use Rattle.std.specs.List.{cons_option, filter_map, range_with_len, join_with_byte}
 use Rattle.std.proofs.lemmas.List.{map-append, take_more}

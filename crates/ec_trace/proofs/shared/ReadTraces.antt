@@ -1,4 +1,4 @@
--- A trace is read as what it spells, and nothing else is read.
+-- A trace is read as what it encodes, and nothing else is read.
 use Rattle.std.proofs.Common.{◌≡◌, ℕ, ◌<◌, ◌≤◌, ◌^◌, List, [], ◌∷◌, ◌++◌, length, cond, true, false, eqb, Option, Some, None, Result, Ok, Err, map, refl, sym, ap, ap₂, subst, ◌∙◌, arith, codes, decimal, append_assoc, reverse, nat_lt, leb, ◌&&◌}
 use Rattle.std.specs.Prelude.{bytes_eq, not, IfSome, IfOk, IfErr}
 use Rattle.std.specs.Option.{option_and_then}
@@ -59,7 +59,7 @@ limit_leads : (v : Version) (n : ℕ) → 1 ≤ n → n ≤ greatest_limit v →
 unfolding step
 limit_leads v n low high = ap (after_limit v) (limit_again v n low high)
 
--- such words say a limit that the version may have
+-- such words give a limit that the version allows
 pub record IsLimit (v : Version) (words : List (List ℕ)) (n : ℕ) : Type 0 where
   pub are : words ≡ codes "limit" ∷ decimal n ∷ []
   pub low : 1 ≤ n
@@ -91,9 +91,9 @@ pub limited_back : (v : Version) (o : Option ℕ) (s : Stage) → after_limit v 
 limited_back v None s e = cc
 limited_back v (Some n) s e = (n, refl, cc)
 
--- THE LINES OF THE HEADING
+-- THE LINES OF THE HEADER
 
--- `run` is no line of a heading
+-- `run` is no line of a header
 not_heading : (h : HeadingModel) → head_step h (codes "run") ≡ Err head_faults.BadLine
 unfolding head_step parts_in
 not_heading h = elim (eqb h.setup.workers 0) as (λ b. cond b (opened_by h.version h.setup.limit None) (declared_or h None) ≡ Err head_faults.BadLine) [ true ↦ refl | false ↦ refl ]
@@ -118,7 +118,7 @@ pub run_leads : (h : HeadingModel) → 0 < h.setup.workers → step (Declaring h
 unfolding step
 run_leads h some = let l : nat_lt 0 h.setup.workers ≡ true = lt-ltb _ _ some in rw l refl
 
--- lines of a heading, `run`, and what follows
+-- the lines of a header, `run`, and what follows
 record IsHeaded (h : HeadingModel) (lines : List (List ℕ)) (t : TraceModel) : Type 0 where
   head : List (List ℕ)
   rest : List (List ℕ)
@@ -162,7 +162,7 @@ heading_back h (line ∷ lines) t (next, taken, leads) =
           headed_along h d.0 line lines t d.1 (heading_back d.0 lines t (subst (λ (s : Stage). Leads s lines (Ended t)) d.2 leads)))
     ] refl taken
 
--- WHAT IS SPELLED IS READ
+-- ENCODINGS ARE READ
 
 first_line_leads : (v : Version) → step Opening (trace_header v) ≡ Ok (Limiting v)
 unfolding step
@@ -177,11 +177,11 @@ has_workers o is =
 abbrev recount : HeaderTree → List Entry → TraceModel
 recount o es = record { heading = heading_of_tree o; entries = es }
 
--- the lines behind the first two
+-- the lines after the first two
 abbrev behind : HeaderTree → List Entry → List (List ℕ)
 behind o es = (outline_lines o ++ codes "run" ∷ map (entry_line (heading_of_tree o).words) es) ++ codes "end" ∷ []
 
--- what the version of an outline may have, that of its heading may have
+-- what the version of a syntax tree allows, the version of its header allows
 each_in_version : (o : HeaderTree) (es : List Entry) → CanSpellAll o.version es → EachInVersion (heading_of_tree o) es
 each_in_version o es can = subst (λ (v : Version). AllByRecursion (λ (e : Entry). can_spell v e.act ≡ true) es) (sym (version_found o)) (recursion_from_All (λ (e : Entry). can_spell o.version e.act ≡ true) es can)
 
@@ -236,7 +236,7 @@ trace_has_one_meaning bytes o p es fs h k =
     let heading : heading_of_tree o ≡ heading_of_tree p = ap (λ (t : TraceModel). t.heading) same in
     (sym (outline_found o h.heading) ∙ ap outline_of heading ∙ outline_found p k.heading, ap (λ (t : TraceModel). t.entries) same)
 
--- WHAT IS READ IS SPELLED
+-- WHAT IS READ IS AN ENCODING
 
 -- the lines that were read are those of a trace
 record AreOf (lines : List (List ℕ)) (t : TraceModel) : Type 0 where
@@ -247,7 +247,7 @@ record AreOf (lines : List (List ℕ)) (t : TraceModel) : Type 0 where
   can : CanSpellAll outline.version t.entries
   lines_are : lines ≡ trace_lines outline t.entries
 
--- the heading of such lines has an outline
+-- the header of such lines has a syntax tree
 head_outline : (v : Version) (n : ℕ) (head : List (List ℕ)) (end : HeadingModel) → 1 ≤ n → n ≤ greatest_limit v → 0 < end.setup.workers → LinesLead (empty_heading v n []) head end → Outlines v n head end
 head_outline v n [] end low high some leads = absurd (let e : (empty_heading v n []).setup.workers ≡ end.setup.workers = ap (λ (h : HeadingModel). h.setup.workers) leads in omega arith)
 head_outline v n (line ∷ lines) end low high some leads = leads_outline v n line lines end low high leads
@@ -273,7 +273,7 @@ put_together v n head rest end t o r =
           ∙ ap₂ (λ (m : ℕ) (ls : List (List ℕ)). trace_header o.outline.version ∷ limit_line m ∷ ls) (sym o.limit_is) body;
     }
 
--- behind the limit
+-- after the limit
 declaring_back : (v : Version) (n : ℕ) (lines : List (List ℕ)) (t : TraceModel) → 1 ≤ n → n ≤ greatest_limit v → Leads (Declaring (empty_heading v n [])) lines (Ended t) → AreOf (trace_header v ∷ limit_line n ∷ lines) t
 declaring_back v n lines t low high leads =
     let h = heading_back (empty_heading v n []) lines t leads in
@@ -282,7 +282,7 @@ declaring_back v n lines t low high leads =
     let r = run_back h.end [] h.rest t s tt h.runs in
     subst (λ (ls : List (List ℕ)). AreOf (trace_header v ∷ limit_line n ∷ ls) t) (sym h.lines_are) (put_together v n h.head h.rest h.end t o r)
 
--- behind the first line
+-- after the first line
 behind_first : (v : Version) (lines : List (List ℕ)) (t : TraceModel) → Leads (Limiting v) lines (Ended t) → AreOf (trace_header v ∷ lines) t
 unfolding step limit_of
 behind_first v [] t leads = cc
@@ -306,7 +306,7 @@ opening_back (line ∷ lines) t (next, taken, leads) =
     let f = first_back line next taken in
     subst (λ (x : List ℕ). AreOf (x ∷ lines) t) (sym f.1) (behind_first f.0 lines t (subst (λ (s : Stage). Leads s lines (Ended t)) f.2 leads))
 
--- bytes that are read as a heading and a history are the trace of these
+-- bytes that are read as a header and a history are the trace of these
 pub read_is_trace : ReadIsTrace
 unfolding trace_text
 read_is_trace bytes t e =
@@ -317,7 +317,7 @@ read_is_trace bytes t e =
       declares = a.declares;
     }
 
--- WHAT AN ANSWER SAYS OF THE BYTES
+-- WHAT A RESULT SAYS OF THE BYTES
 
 pub told_trace : (a left : Option (List ℕ)) (r : Result TraceModel TraceFault) → IfSome a (λ bytes. Returns TRACE_MAX bytes left r) → IfSome a (λ bytes. IfOk r (IsTraceOf bytes))
 told_trace None left r h = tt
@@ -337,7 +337,7 @@ told_fault None left r h = tt
 told_fault (Some bytes) left (Ok t) h = tt
 told_fault (Some bytes) left (Err f) h = fault_refuses bytes left f h
 
--- what is written is read again
+-- what is written is read as what was written
 pub written_is_read : (o : HeaderTree) (entries : List Entry) → IsHeaderTree o → IsAccepted (heading_of_tree o).setup (reverse entries) → CanSpellAll o.version entries → length (trace_text o entries) ≤ TRACE_MAX
     → outcome TRACE_MAX (trace_text o entries) ≡ Ok (record { heading = heading_of_tree o; entries = entries })
 written_is_read o entries outline accepted can within =

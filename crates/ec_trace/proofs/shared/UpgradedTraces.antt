@@ -1,4 +1,4 @@
--- A trace that is upgraded is as long as it was, and is read as the same history under version 2.
+-- An upgraded trace is as long as the trace, and is read as the same history under version 2.
 use Rattle.std.proofs.Common.{◌≡◌, ℕ, List, [], ◌∷◌, ◌++◌, length, length-append, Ok, map, refl, sym, ap, subst, ◌∙◌, arith, append_assoc, codes, reverse}
 use Rattle.ec_core.specs.Acceptance.{IsAccepted}
 use Rattle.ec_core.specs.declared.act.Entry.{Entry}
@@ -14,7 +14,7 @@ use Rattle.ec_trace.specs.Grammar.{IsTrace}
 use Rattle.ec_trace.specs.ReadingLaws.{TracesAreUpgraded}
 use Rattle.ec_trace.proofs.shared.ReadTraces.{trace_is_read}
 
--- the lines behind the first
+-- the lines after the first
 abbrev behind : HeaderTree → List Entry → List (List ℕ)
 behind o es = heading_lines o ++ codes "run" ∷ map (entry_line (heading_of_tree o).words) es ++ codes "end" ∷ []
 
@@ -35,7 +35,7 @@ as_long o es =
     ap (λ (ls : List (List ℕ)). length (lines_text ls)) (upgraded_lines o es)
     ∙ lines_long (trace_header Two) (trace_header o.version) (behind o es) (first_long Two ∙ sym (first_long o.version))
 
--- the bytes behind the first line, from its LF on
+-- the bytes after the first line, from its LF on
 abbrev bytes_behind : HeaderTree → List Entry → List ℕ
 bytes_behind o es = 10 ∷ lines_text (behind o es)
 
@@ -47,7 +47,7 @@ upgraded_then : (o : HeaderTree) (es : List Entry) → trace_text (upgraded_outl
 unfolding trace_text
 upgraded_then o es = ap lines_text (upgraded_lines o es) ∙ append_assoc (trace_header Two) (10 ∷ []) (lines_text (behind o es))
 
--- an outline of version 2 is as it was
+-- upgrading a syntax tree of version 2 changes nothing
 same_outline : (o : HeaderTree) → o.version ≡ Two → upgraded_outline o ≡ o
 same_outline o e =
     ap (λ (v : Version). (let p : HeaderTree = record o { version = v } in p)) (sym e)

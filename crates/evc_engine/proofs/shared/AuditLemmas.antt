@@ -39,7 +39,7 @@ module _ (h : HeadingModel) (entries : List Entry) where
           let one : g ≡ g' = cc in
           subst (λ x. IsAudited h entries x a') one (subst (λ x. IsAudited h entries g x) p.1 here)
 
-  -- the first group that is not followed
+  -- the first group whose rules are broken
   pub not_followed : (found : List AuditResult) (n : ℕ) (g : Group) (w k : ℕ) → n ≡ length found → slice_get h.groups n ≡ Some g → EachIsAudited found
       → BreaksAt (group_rules h.setup h.groups g) entries w k → IsNotFollowed h entries n w k
   not_followed found n g w k few is each breaks = record {
@@ -73,11 +73,11 @@ number_at a b c ns k n is before now =
     = ap spaced_numbers (take_next ns k n is) ∙ flat_map-append (λ m. word_after_space (decimal m)) (take k ns) (n ∷ []) ∙ ap (λ t. spaced_numbers (take k ns) ++ t) (append-nil (word_after_space (decimal n))) in
     subst (Puts a c) (sym text) (puts_then a b c _ _ before now))
 
--- behind the last there is none more
+-- after the last element a prefix gets no longer
 pub none_at : {A : Type 0} (xs : List A) (k : ℕ) → slice_get xs k ≡ None → take (k + 1) xs ≡ take k xs
 none_at xs k none = ap (λ n. take n xs) (add-one k) ∙ take_past xs k none
 
--- before a place of a list stand as many elements as its number says
+-- the prefix before index k of a list has k elements
 pub taken_length : {A : Type 0} (xs : List A) (k : ℕ) (x : A) → slice_get xs k ≡ Some x → length (take k xs) ≡ k
 taken_length [] k x is = cc
 taken_length (y ∷ xs) zero x is = refl

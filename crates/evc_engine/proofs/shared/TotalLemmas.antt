@@ -17,7 +17,7 @@ take_more [] k x h = cc
 take_more (y ∷ ys) zero x h = (let same : y ≡ x = cc in ap (λ z. z ∷ []) same)
 take_more (y ∷ ys) (suc k) x h = ap (λ t. y ∷ t) (take_more ys k x h)
 
--- one element more of a list's beginning is the element at the next place
+-- a prefix that is one longer has the element at the next index too
 pub take_next : {A : Type 0} (xs : List A) (k : ℕ) (x : A) → slice_get xs k ≡ Some x → take (k + 1) xs ≡ take k xs ++ x ∷ []
 take_next xs k x h = rw add-one (take_more xs k x h)
 
@@ -76,7 +76,7 @@ nothing_put now = λ first all h. rw append-nil h
 pub nothing_put_for : (now : OutputModel) (lines : List (List ℕ)) → lines ≡ [] → Puts now now (lines_text lines)
 nothing_put_for now lines none = subst (λ ls. Puts now now (lines_text ls)) (sym none) (nothing_put now)
 
--- behind the last element there is none more
+-- after the last element a prefix gets no longer
 pub take_past : {A : Type 0} (xs : List A) (k : ℕ) → slice_get xs k ≡ None → take (suc k) xs ≡ take k xs
 take_past [] zero h = refl
 take_past [] (suc k) h = refl
@@ -101,7 +101,7 @@ totals_put a b c past words k before now =
     = ap lines_text (one_more past words k) ∙ flat_map-append ended_line (totals_by past (take k words)) (totals_at past (slice_get words k)) in
     subst (Puts a c) (sym text) (puts_then a b c _ _ before now))
 
--- if each word has had its lines, all lines of totals are put
+-- if the lines of each word are put, all lines of totals are put
 pub totals_all : (a b : OutputModel) (past : List Entry) (words : NameTable) (k : ℕ) (heading : HeadingModel) → length words ≤ k → words ≡ heading.words
     → Puts a b (lines_text (totals_by past (take k words))) → Puts a b (lines_text (totals_lines heading past))
 totals_all a b past words k heading far all put =

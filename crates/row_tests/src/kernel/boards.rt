@@ -1,4 +1,4 @@
-//! What a board is asked.
+//! Answers lines about a board.
 use crate::fault::Fault;
 use crate::kernel::ask::{Ask, worker};
 use crate::kernel::writing::put_worker;
@@ -6,7 +6,7 @@ use crate::line::tell;
 use ec_count::WorkerId;
 use ec_runner::Board;
 
-/// Writes who waits.
+/// Writes which workers wait.
 fn tell_waiting(board: &Board, ask: &mut Ask<'_>) -> Result<(), Fault> {
     write!(ask.out, "waiting")?;
     for n in 0..16 {
@@ -38,7 +38,7 @@ pub fn answer_board(board: &mut Board, ask: &mut Ask<'_>) -> Result<(), Fault> {
     }
 }
 
-/// Writes all that a board is asked beside its run.
+/// Writes all that can be asked of a board, except its run.
 pub fn tell_board(board: &Board, ask: &mut Ask<'_>) -> Result<(), Fault> {
     for n in 0..16 {
         if let Some(worker) = WorkerId::new(n) {

@@ -1,4 +1,4 @@
-//! The completed calls of a run, their order by points, and verdicts on orders.
+//! Answers lines about the completed calls of a run, their order by points, and verdicts on orders.
 use crate::fault::Fault;
 use crate::kernel::ask::{Ask, act, reply, worker};
 use crate::kernel::writing::{pending, put_entry, tell_entry};
@@ -16,7 +16,7 @@ fn entry_of(call: &Call) -> Entry {
     }
 }
 
-/// Returns whether a timeline of the entries of a run gives these calls.
+/// Returns whether a `Linearizer` of the entries of a run gives these calls.
 fn is_timed(alloc: Global, run: &Run, placed: &[Placed]) -> Result<bool, Fault> {
     let mut timeline = Linearizer::open(alloc, run.setup())?;
     walk(run, &mut timeline);
@@ -45,19 +45,20 @@ fn has_middle(alloc: Global, run: &Run, placed: &[Placed]) -> Result<bool, Fault
     Ok(left.next().is_none())
 }
 
-/// Writes a call at its point.
+/// Writes a call with its linearization point.
 fn tell_placed(placed: &Placed, ask: &mut Ask<'_>) -> Result<(), Fault> {
     write!(ask.out, "{} ", placed.point)?;
     tell_entry(Some(entry_of(&placed.call)), ask)
 }
 
-/// Writes a call with the places of its first step, of its last round, and of its last step.
+/// Writes a call with the positions of its first step, of its last round, and of its last step.
 fn tell_call(call: &Call, ask: &mut Ask<'_>) -> Result<(), Fault> {
     put_entry(&entry_of(call), ask)?;
     writeln!(ask.out, " at {} {} {}", call.first, call.round, call.last)
 }
 
-/// Returns what is asked for of a list: one, or all. If its size is asked, writes that alone.
+/// Returns the part of a list that a word asks for: one or all. If it asks for the size, writes
+/// only that.
 fn part_of<'a, T>(list: &'a [T], ask: &mut Ask<'_>) -> Result<&'a [T], Fault> {
     match ask.word() {
         "" => Ok(list),
@@ -74,7 +75,7 @@ fn part_of<'a, T>(list: &'a [T], ask: &mut Ask<'_>) -> Result<&'a [T], Fault> {
     }
 }
 
-/// Writes the order of a run, which three calls give.
+/// Writes the order of a run, and compares what three ways to compute it give.
 fn answer_the_order(alloc: Global, run: &Run, ask: &mut Ask<'_>) -> Result<(), Fault> {
     let placed = order(alloc, run)?;
     let placed = placed.as_slice();
@@ -96,7 +97,7 @@ fn answer_calls(alloc: Global, run: &Run, ask: &mut Ask<'_>) -> Result<(), Fault
     Ok(())
 }
 
-/// Writes the call that the entry at a place is part of, up to that entry.
+/// Writes the call that the entry at a position belongs to, up to that entry.
 fn answer_so_far(run: &Run, ask: &mut Ask<'_>) -> Result<(), Fault> {
     let last = ask.size()?;
     let mut calls = PendingCalls::new();
@@ -112,7 +113,7 @@ fn answer_so_far(run: &Run, ask: &mut Ask<'_>) -> Result<(), Fault> {
     Err(Fault::Line)
 }
 
-/// Adds a call to those that `judge` judges: `POINT FIRST ROUND LAST W ACT = REPLY`.
+/// Adds a call to those that `judge` verifies: `POINT FIRST ROUND LAST W ACT = REPLY`.
 fn add(judged: &mut Vec<Placed>, ask: &mut Ask<'_>) -> Result<(), Fault> {
     let (point, first, round, last) = (ask.size()?, ask.size()?, ask.size()?, ask.size()?);
     let (worker, op) = (worker(ask)?, act(ask)?);
@@ -131,19 +132,19 @@ fn add(judged: &mut Vec<Placed>, ask: &mut Ask<'_>) -> Result<(), Fault> {
     Ok(())
 }
 
-/// Writes the verdict on calls.
+/// Writes the verdict on calls at their points.
 fn judge(alloc: Global, run: &Run, placed: &[Placed], ask: &mut Ask<'_>) -> Result<(), Fault> {
     let verdict = verify(alloc, run, placed)?;
     writeln!(ask.out, "{verdict:?}")
 }
 
-/// Writes the verdict on the order that a run gives.
+/// Writes the verdict on the order that `order` gives of a run.
 fn judge_own(alloc: Global, run: &Run, ask: &mut Ask<'_>) -> Result<(), Fault> {
     let placed = order(alloc, run)?;
     judge(alloc, run, placed.as_slice(), ask)
 }
 
-/// Answers what is asked of the calls of a run. After `judge` none are there to be judged.
+/// Answers a question about the calls of a run. `judge` removes the calls that were added.
 pub fn answer_order(
     alloc: Global,
     run: &Run,

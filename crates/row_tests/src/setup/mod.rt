@@ -1,5 +1,5 @@
-//! Declarations, names, words, lists of numbers and texts. Workers and objects are numbers here, so
-//! that a list of workers can name any.
+//! Answers lines about declarations, names, words, numbers and texts. Workers and objects are
+//! written as numbers here, so that a list can also name workers that are not declared.
 mod line;
 mod naming;
 mod numbers;
@@ -36,7 +36,7 @@ pub struct Table {
 }
 
 impl Table {
-    /// Begins with no declarations under a limit.
+    /// Begins with no declarations, under a limit.
     fn begin(&mut self, line: &mut Line<'_>) -> Result<(), Fault> {
         let Some(limit) = Limit::new(line.number()?) else {
             return tell("-", line.out);
@@ -45,7 +45,7 @@ impl Table {
         tell(self.setup.limit().get(), line.out)
     }
 
-    /// Answers a line with a text in brackets.
+    /// Answers a line with a text in angle brackets.
     fn answer_brackets(&mut self, text: &str, out: &mut TestOutput) -> Result<(), Fault> {
         let (verb, text, behind) = cut(text).ok_or(Fault::Line)?;
         let line = &mut Line {
@@ -60,7 +60,7 @@ impl Table {
         self.texts.take(text, line)
     }
 
-    /// Answers a line without one.
+    /// Answers a line without a text in angle brackets.
     fn answer_line(&mut self, line: &mut Line<'_>) -> Result<(), Fault> {
         let is_answered = declare(&mut self.setup, line)?
             || self.shapes.declare(&mut self.setup, line)?
@@ -105,7 +105,7 @@ impl Driver for Table {
 }
 
 impl Table {
-    /// Has nothing yet.
+    /// Makes an empty table.
     pub fn new(alloc: Global) -> Result<Self, Fault> {
         let (naming, limit) = (Naming::new(alloc)?, Limit::new(10).unwrap());
         Ok(Table {

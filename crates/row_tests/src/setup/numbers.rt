@@ -1,11 +1,11 @@
-//! A list of numbers.
+//! Answers lines about a list of numbers.
 use crate::fault::Fault;
 use crate::line::{tell, tell_if};
 use crate::output::TestOutput;
 use crate::setup::line::Line;
 use ec_numbers::NumberList;
 
-/// Puts a number in at a place.
+/// Inserts a number at an index.
 fn put_in(list: &mut NumberList, line: &mut Line<'_>) -> Result<(), Fault> {
     let (place, number) = (line.size()?, line.number()?);
     if place > list.len() {

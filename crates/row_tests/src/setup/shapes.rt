@@ -1,4 +1,4 @@
-//! The groups that were declared last, which may be asked of other declarations too.
+//! The groups that were declared last, which can be compared with other declarations too.
 use crate::fault::Fault;
 use crate::line::tell;
 use crate::output::TestOutput;
@@ -39,7 +39,7 @@ impl Shapes {
         Ok(())
     }
 
-    /// Declares a group, if the line says that.
+    /// Declares a group, if the line does that.
     pub fn declare(&mut self, setup: &mut Setup, line: &mut Line<'_>) -> Result<bool, Fault> {
         let number = match line.verb {
             "buffer" | "database" | "semaphore" => line.size()?,

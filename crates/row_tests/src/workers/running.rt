@@ -1,5 +1,5 @@
-//! `run N ..` runs the script by a gate, with N turns for each worker, and writes what the other
-//! words ask for, and last how each worker has ended.
+//! Answers a line `run N ..`: runs the script with a gate, and N turns for each worker, and writes
+//! what the other words ask for, and last how each worker has ended.
 use crate::fault::Fault;
 use crate::line::{Words, number, tell};
 use crate::output::TestOutput;
@@ -23,7 +23,7 @@ fn write_entries(heading: &Heading, run: &Run, out: &mut TestOutput) -> Result<(
     Ok(())
 }
 
-/// Writes the ticket that its worker drew last, for each advance of a run.
+/// Writes, for each advance of a run, the ticket that its worker drew last.
 fn write_turns(run: &Run, out: &mut TestOutput) -> Result<(), Fault> {
     let mut drawn = [0u64; 16];
     for entry in run.entries() {
@@ -67,7 +67,7 @@ fn write_outcomes(outcomes: &[Outcome], out: &mut TestOutput) -> Result<(), Faul
     Ok(())
 }
 
-/// Writes what is asked of a report.
+/// Writes what the words ask of a report.
 fn write_report(
     plan: &Plan,
     report: &Report,

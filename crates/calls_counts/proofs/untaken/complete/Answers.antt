@@ -1,4 +1,4 @@
--- Each pending call in turn.
+-- The loop over the pending calls.
 use Rattle.std.proofs.Common.{List, drop, ℕ, sym, ap, ◌∙◌, subst, Vec, Global}
 use Rattle.std.proofs.lemmas.List.{take_all, drop_all}
 use Rattle.calls_counts.specs.declared.state.Slot.{Slot}

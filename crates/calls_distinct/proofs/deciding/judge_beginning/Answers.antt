@@ -11,7 +11,7 @@ use Rattle.calls_distinct.specs.Verdicts.{IsVerdict, calls_of_history}
 use Rattle.calls_distinct.proofs.Earlier.{distinct_at, store_at, clock_at, clock_is}
 use Rattle.calls_distinct.proofs.deciding.judge_beginning.Goals as goal
 
--- what is past the end of a list
+-- the default beyond the end of a list
 abbrev none : Event
 none = record { at = 0; worker = 0; action = Invoke 0 Advance }
 

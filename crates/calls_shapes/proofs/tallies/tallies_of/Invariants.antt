@@ -3,7 +3,7 @@ use Rattle.calls_core.specs.Histories.{pending_calls, completed_calls}
 use Rattle.calls_shapes.specs.Tallies.{calls_counted, is_counted, tally_at}
 use Rattle.calls_shapes.proofs.tallies.tallies_of.Given as goal
 
--- the tallies so far are there, and the next one is known
+-- the tallies of the moments so far are in the list, and tally is the next one
 abbrev pub invariant-loop-event : goal.invariant-loop-event
 invariant-loop-event l = record {
   pending : l.pending.items ≡ pending_calls (reverse (take l.event-index l.events));

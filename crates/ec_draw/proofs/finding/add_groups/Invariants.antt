@@ -8,7 +8,7 @@ use Rattle.ec_draw.specs.Findings.{EachFindsFrom}
 use Rattle.ec_draw.specs.Shades.{group_shades, shade_model}
 use Rattle.ec_draw.proofs.finding.add_groups.Given as goal
 
--- what was found of the groups so far, and what is kept of the others
+-- what was found of the groups so far, and the states of the others
 abbrev pub invariant-loop-number : goal.invariant-loop-number
 invariant-loop-number l = record {
   curves : map curve_model l.found.curves.items ≡ map curve_model l.initial.found.curves.items

@@ -3,7 +3,7 @@ use Rattle.std.proofs.lemmas.List.{take_all, take_rest, take-take}
 use Rattle.ec_text.proofs.AppendLemmas.{front_kept}
 use Rattle.ec_text.proofs.buffer.write_ends.Goals as goal
 
--- the first and the last n of some bytes, laid over each other, are those bytes
+-- the first and the last n bytes of a list, which may overlap, are together the list
 ends : (n p : ℕ) (bytes old mid new : List ℕ) → n ≤ length bytes → length bytes ≤ n + n → p ≤ length old → take (p + n) mid ≡ take p old ++ take n bytes
     → take (p + (length bytes - n) + n) new ≡ take (p + (length bytes - n)) mid ++ take n (drop (length bytes - n) bytes) → take (p + length bytes) new ≡ take p old ++ bytes
 ends n p bytes old mid new most covers within first second =

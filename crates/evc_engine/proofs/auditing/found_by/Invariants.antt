@@ -7,7 +7,7 @@ use Rattle.evc_engine.specs.Walks.{EndsFor, EachEndsFor}
 use Rattle.evc_engine.proofs.shared.AuditLemmas.{EachIsAudited}
 use Rattle.evc_engine.proofs.auditing.found_by.Given as goal
 
--- the groups so far, and the audits of the others
+-- what was found of the groups so far, and the audits of the others
 abbrev pub invariant-loop-group : goal.invariant-loop-group
 invariant-loop-group l = record {
   few : l.group ≡ length l.found.items;

@@ -8,7 +8,8 @@ use Rattle.evc_engine.specs.Texts.{linearized_line, totals_lines}
 use Rattle.evc_engine.proofs.CheckLemmas.{text_parts}
 use Rattle.evc_engine.proofs.text.put_text.Goals as goal
 
--- Lines each behind LF, and LF behind them, are what stands before and these lines, each with LF at its end.
+-- A text, lines that each follow an LF, and an LF after them, are the text and these lines, each
+-- with an LF at its end.
 behind_lf : (line : LinearizedEntry → List ℕ) (a x : List ℕ) (ds : List LinearizedEntry)
     → (a ++ flat_map (λ (d : LinearizedEntry). 10 ∷ line d) ds) ++ 10 ∷ x ≡ (ended_line a ++ lines_text (map line ds)) ++ x
 behind_lf line a x [] = simp (append-nil, append_assoc)

@@ -3,7 +3,7 @@ use Rattle.ec_walk.proofs.shared.Each.{EachFirst}
 use Rattle.evc_engine.specs.Walks.{StandsFor}
 use Rattle.evc_engine.proofs.walked.open_audits.Given as goal
 
--- the groups so far
+-- the audits of the groups so far
 abbrev pub invariant-loop-number : goal.invariant-loop-number
 invariant-loop-number l = record {
   long : length l.audits.items ≡ l.number;

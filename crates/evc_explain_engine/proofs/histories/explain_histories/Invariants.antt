@@ -4,7 +4,7 @@ use Rattle.evc_explain_engine.specs.declared.explanation.Explanation.{Explanatio
 use Rattle.evc_explain_engine.specs.Histories.{ExplainsFrom}
 use Rattle.evc_explain_engine.proofs.histories.explain_histories.Given as goal
 
--- what is said of what follows is said of the whole text
+-- the explanation of what follows is that of the whole text
 abbrev pub invariant-loop-read : goal.invariant-loop-read
 invariant-loop-read l = record {
   few : l.number + length l.rest ≤ 1 + length l.text;

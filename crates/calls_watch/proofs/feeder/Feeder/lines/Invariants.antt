@@ -3,7 +3,7 @@ use Rattle.calls_text.specs.Outcomes.{lines_of_text}
 use Rattle.calls_watch.specs.kept.Watching.{IsFed, IsWatching}
 use Rattle.calls_watch.proofs.feeder.Feeder.lines.Given as goal
 
--- the lines so far were taken, and nothing was gathered
+-- the lines so far were passed to the watcher, and nothing was gathered
 abbrev pub invariant-lines : goal.invariant-lines
 invariant-lines l = record {
   none : l.self.part.items ≡ [];

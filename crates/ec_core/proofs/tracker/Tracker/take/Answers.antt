@@ -14,7 +14,7 @@ returns g c = λ past at op s.
     (c.list_progress-kept.ensures rules keeps past s) op c.after.ensures
     (c.find.ensures past at (c.list_progress-kept.ensures rules keeps past s) inside.finding))
 
--- its call goes on
+-- its call stays pending
 pub returns-then-is_pending : goal.returns-then-is_pending
 returns-then-is_pending g c = λ past at op s.
     (let rules = g.P.Protocol.rules c.args.protocol.now in

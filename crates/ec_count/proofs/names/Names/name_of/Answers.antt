@@ -4,7 +4,7 @@ use Rattle.ec_count.specs.declared.target.Target.{Target}
 use Rattle.ec_count.proofs.shared.Named.{name_at_place}
 use Rattle.ec_count.proofs.names.Names.name_of.Goals as goal
 
--- the name at a place, from a table
+-- the name at a position, from a table
 abbrev first_at : List (List ℕ × Target) → Option ℕ → Option (List ℕ)
 first_at names o = option_and_then (λ i. option_map (λ (e : List ℕ × Target). e.0) (slice_get names i)) o
 

@@ -1,12 +1,11 @@
-"""What the pictures of a trace have to show, whole or of some workers and objects."""
+"""What the pictures of a trace have to show, with all or with some workers and objects."""
 
-from trying.drawings.pictures import drawn, told
+from trying.drawings.pictures import drawn, read_text
 from trying.drawings.readings import entries_of, groups_of, is_asked
 
 
-class Wanted:
-    """What is wanted of the drawings of a trace, of which only some workers and objects are asked for, all where
-    none are."""
+class Expected:
+    """What is expected of the drawings of a trace with these workers and objects. An empty list stands for all."""
 
     def __init__(self, text, lines, workers, objects, findings):
         entries = entries_of(text)
@@ -32,55 +31,55 @@ class Wanted:
         self.options += [word for it in objects for word in ("--object", it)]
 
 
-def fault_of_picture(draw, text, wanted):
-    status, answer, notes = draw.says(*wanted.options, text=text)
+def fault_of_picture(draw, text, expected):
+    status, answer, notes = draw.says(*expected.options, text=text)
     if status != 0 or notes:
         return f"{status} {notes}"
     calls, totals, entries, begun, dots, rows, (arrows, shades, balances) = drawn(answer)
-    if dots != wanted.dots:
-        return f"components {dots} and not {wanted.dots}"
-    if calls != wanted.calls:
-        return f"calls {calls} and not {wanted.calls}"
-    if totals != wanted.totals:
-        return f"totals {totals} and not {wanted.totals}"
-    if rows != wanted.rows:
-        return f"rows {rows} and not {wanted.rows}"
-    if entries != len(wanted.owners) or begun != wanted.begun:
+    if dots != expected.dots:
+        return f"components {dots} and not {expected.dots}"
+    if calls != expected.calls:
+        return f"calls {calls} and not {expected.calls}"
+    if totals != expected.totals:
+        return f"totals {totals} and not {expected.totals}"
+    if rows != expected.rows:
+        return f"rows {rows} and not {expected.rows}"
+    if entries != len(expected.owners) or begun != expected.begun:
         return f"{entries} entries and {begun} calls under way"
-    if wanted.broken:
-        return fault_of_broken([it[0] for it in arrows + shades], balances, wanted.broken)
-    if arrows != [(it[0], 178 + 84 * it[3], 178 + 84 * it[4]) for it in wanted.arrows]:
-        return f"arrows {arrows} and not {wanted.arrows}"
-    if shades != [(it[0], 136 + 84 * it[3], 84 * (it[4] + 1 - it[3])) for it in wanted.shades]:
-        return f"shades {shades} and not {wanted.shades}"
-    if balances != wanted.balances:
-        return f"balances {balances} and not {wanted.balances}"
+    if expected.broken:
+        return fault_of_broken([it[0] for it in arrows + shades], balances, expected.broken)
+    if arrows != [(it[0], 178 + 84 * it[3], 178 + 84 * it[4]) for it in expected.arrows]:
+        return f"arrows {arrows} and not {expected.arrows}"
+    if shades != [(it[0], 136 + 84 * it[3], 84 * (it[4] + 1 - it[3])) for it in expected.shades]:
+        return f"shades {shades} and not {expected.shades}"
+    if balances != expected.balances:
+        return f"balances {balances} and not {expected.balances}"
     return None
 
 
 def fault_of_broken(found, balances, name):
-    """What is drawn of a group of which `audit` says that it is not followed."""
+    """Returns a fault if something is drawn of a group that `audit` says is not followed."""
     is_drawn = name in balances or any(it.split()[1] == name for it in found)
     return f"a finding of {name}: {found} {balances}" if is_drawn else None
 
 
-def fault_of_told(draw, text, wanted):
-    status, answer, notes = draw.says("--text", *wanted.options, text=text)
+def fault_of_text(draw, text, expected):
+    status, answer, notes = draw.says("--text", *expected.options, text=text)
     if status != 0 or notes:
         return f"--text: {status} {notes}"
-    calls, totals, marks, begun, (found, balances) = told(answer, wanted.groups)
-    if calls != wanted.calls:
-        return f"--text: calls {calls} and not {wanted.calls}"
-    if totals != wanted.totals:
-        return f"--text: totals {totals} and not {wanted.totals}"
-    if begun != wanted.begun:
+    calls, totals, marks, begun, (found, balances) = read_text(answer, expected.groups)
+    if calls != expected.calls:
+        return f"--text: calls {calls} and not {expected.calls}"
+    if totals != expected.totals:
+        return f"--text: totals {totals} and not {expected.totals}"
+    if begun != expected.begun:
         return f"--text: {begun} calls under way"
-    if marks != wanted.owners:
-        return f"--text: marks {marks} and not {wanted.owners}"
-    if wanted.broken:
-        return fault_of_broken(found, balances, wanted.broken)
-    if found != [it[0] for it in wanted.arrows + wanted.shades]:
-        return f"--text: {found} and not {wanted.arrows + wanted.shades}"
-    if balances != wanted.balances:
-        return f"--text: balances {balances} and not {wanted.balances}"
+    if marks != expected.owners:
+        return f"--text: marks {marks} and not {expected.owners}"
+    if expected.broken:
+        return fault_of_broken(found, balances, expected.broken)
+    if found != [it[0] for it in expected.arrows + expected.shades]:
+        return f"--text: {found} and not {expected.arrows + expected.shades}"
+    if balances != expected.balances:
+        return f"--text: balances {balances} and not {expected.balances}"
     return None

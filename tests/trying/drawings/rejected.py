@@ -1,30 +1,30 @@
-"""Pictures of traces that are refused: what came before, and what is said of the faulty line."""
+"""Pictures of traces that are rejected: what came before, and what is said of the faulty line."""
 
 import re
 import xml.etree.ElementTree as tree
 
-from trying.drawings.pictures import SPACE, drawn, told
+from trying.drawings.pictures import SPACE, drawn, read_text
 from trying.drawings.readings import entries_of
 
 
 def history_before(text, note):
-    """A trace of the history before the faulty line that a note of `check` tells, with that line where it tells its
-    right reply, and the words that a picture has of it. Nothing where no run had begun."""
-    told = re.fullmatch(r"line (\d+): (bad line|refused \d+ (\w+)|wrong reply, right is (\w+))\n", note)
+    """Returns a trace of the history before the faulty line that a note of `check` names, and the words that a picture
+    has of that line. If the note has the right reply, the line with it is included. None if no run had begun."""
+    noted = re.fullmatch(r"line (\d+): (bad line|refused \d+ (\w+)|wrong reply, right is (\w+))\n", note)
     lines = text.split(b"\n")
-    if not told or b"run" not in lines[: int(told[1]) - 1]:
+    if not noted or b"run" not in lines[: int(noted[1]) - 1]:
         return None, None
-    number, before = int(told[1]), lines[: int(told[1]) - 1]
+    number, before = int(noted[1]), lines[: int(noted[1]) - 1]
     if before[-1] == b"end":
         return None, None
     faulty = lines[number - 1]
     shown = "".join(chr(it) if 32 <= it < 127 and it not in b"<>&" else "?" for it in faulty[:100])
-    replied = f"the right reply is {told[4]}" if told[4] else "no line that can stand here"
-    right = f"refused: {told[3]}" if told[3] else replied
+    replied = f"the right reply is {noted[4]}" if noted[4] else "no line that can stand here"
+    right = f"refused: {noted[3]}" if noted[3] else replied
     words = [f"line {number}: {shown}", right]
-    if not told[4]:
+    if not noted[4]:
         return b"\n".join([*before, b"end", b""]), words
-    mended = b"\n".join([*before, faulty.split(b"=")[0] + b"= " + told[4].encode(), b"end", b""])
+    mended = b"\n".join([*before, faulty.split(b"=")[0] + b"= " + noted[4].encode(), b"end", b""])
     entries = entries_of(mended)
     worker, name, label, _ = entries[-1]
     if label and "=" in label:
@@ -39,7 +39,7 @@ def history_before(text, note):
     return mended, words
 
 
-def fault_of_refused(draw, check, text, asked):
+def fault_of_rejected(draw, check, text, asked):
     mended, words = history_before(text, asked[2])
     for form in ([], ["--text"]):
         status, answer, notes = draw.says(*form, text=text)
@@ -52,8 +52,8 @@ def fault_of_refused(draw, check, text, asked):
         lines = check.says("check", text=mended)[1].split("\n")
         calls = lines[1 : lines.index("totals")]
         if form:
-            front, _, said = answer.rpartition("\n\n")
-            said, found = said.split("\n")[:-1], told(front + "\n")[0]
+            top, _, said = answer.rpartition("\n\n")
+            said, found = said.split("\n")[:-1], read_text(top + "\n")[0]
         else:
             said = [it.text for it in tree.fromstring(answer).iter(SPACE + "text") if it.get("class") == "fault"]
             found = drawn(answer)[0]
@@ -63,10 +63,10 @@ def fault_of_refused(draw, check, text, asked):
 
 
 def wrong_replies(draw):
-    """Of traces with a wrong reply the name, and what is wrong with what stands beside the right one."""
-    front = b"evc-trace 1\nlimit 10\nworkers a c\neventcount E signal a observe c\nrun\na advance E = done\nc read E = "
+    """Yields the names of traces with a wrong reply, and what is wrong with what is next to the right one."""
+    start = b"evc-trace 1\nlimit 10\nworkers a c\neventcount E signal a observe c\nrun\na advance E = done\nc read E = "
     for reply, shown in (b"7", "7"), (b"pending", "pending"), (b"done", "done"):
-        top = tree.fromstring(draw.says(text=front + reply + b"\nend\n")[1])
+        top = tree.fromstring(draw.says(text=start + reply + b"\nend\n")[1])
         texts = [it for it in top.iter(SPACE + "text") if it.get("class").split(" ")[0] in ("reply", "struck")]
         texts = [(it.get("class"), it.text, it.get("y")) for it in texts]
         right = [("reply", "= 1", "182"), ("struck", f"= {shown}", "182")]
