@@ -25,7 +25,7 @@ use Rattle.calls_core.specs.Histories.{clock, pending_of, without, invoked_by, p
 use Rattle.calls_core.specs.Histories.{pending_calls, completion, ended_call, completed_calls}
 use Rattle.calls_core.specs.Histories.{IsNext}
 use Rattle.calls_core.specs.Histories.{IsHistory, IsNextOf, IsHistoryOf}
-use Rattle.calls_core.specs.Linearizations.{after, IsSequentialRun, initial, set_at, IsRun, start}
+use Rattle.calls_core.specs.Linearizations.{after, IsLegalHistory, initial, set_at, IsRun, start}
 use Rattle.calls_core.specs.Linearizations.{KeepsOrder, answered_one, answered_calls, IsLinearOrder}
 use Rattle.calls_core.specs.Linearizations.{IsAnsweredLinearization}
 use Rattle.calls_core.specs.Completions.{settle_call}
@@ -350,8 +350,8 @@ run_left s (c ∷ xs) ys h = (
       ys h.1,
 )
 
-pub one_run_left : (n : ℕ → ℕ) (xs ys : List Call) → IsSequentialRun n (xs ++ ys)
-    → IsSequentialRun n xs
+pub one_run_left : (n : ℕ → ℕ) (xs ys : List Call) → IsLegalHistory n (xs ++ ys)
+    → IsLegalHistory n xs
 one_run_left n [] ys h = tt
 one_run_left n (c ∷ xs) ys h = (h.0, one_run_left (after n c.op c.reply) xs ys h.1)
 
@@ -366,7 +366,7 @@ next_answers kind x (Respond r) (Some o) h = tt
 pub order_of_beginning : (kind : Kind) (x : Event) (past : List Event) → IsHistoryOf kind (x ∷ past)
     → HasOrderOf kind (x ∷ past) → HasOrderOf kind past
 order_of_beginning kind x past h l =
-    order_before (IsSequentialRun (initial (Some kind))) (λ m t cs.
+    order_before (IsLegalHistory (initial (Some kind))) (λ m t cs.
     settled_one_run m t (initial (Some kind)) cs) (λ xs ys.
     one_run_left (initial (Some kind)) xs ys) x x.action (clock past)
     (pending_of x.worker (pending_calls past)) (completed_calls past)

@@ -14,7 +14,7 @@ use Rattle.calls_core.specs.declared.history.Call.{Call}
 use Rattle.calls_core.specs.Lists.{Each, EachPair}
 use Rattle.calls_core.specs.Histories.{clock, pending_calls, completion, completed_calls, IsHistory}
 use Rattle.calls_core.specs.Histories.{IsHistoryOf}
-use Rattle.calls_core.specs.Linearizations.{after, IsSequentialRun, initial, set_at, IsRun, start}
+use Rattle.calls_core.specs.Linearizations.{after, IsLegalHistory, initial, set_at, IsRun, start}
 use Rattle.calls_core.specs.Linearizations.{KeepsOrder, answered_one, answered_calls, IsLinearOrder}
 use Rattle.calls_core.specs.Completions.{with_last, settled_last, settle_call}
 use Rattle.calls_core.specs.Calls.{Early, Earlier, IsCallOf, AreCallsOf, IsCompletedCall, AreCalls}
@@ -109,8 +109,8 @@ module _ (m t : ℕ) where
         cs h.1,
   )
 
-  pub settled_one_run : (n : ℕ → ℕ) (cs : List Call) → IsSequentialRun n cs
-      → IsSequentialRun n (map (settle_call m t) cs)
+  pub settled_one_run : (n : ℕ → ℕ) (cs : List Call) → IsLegalHistory n cs
+      → IsLegalHistory n (map (settle_call m t) cs)
   settled_one_run n [] h = tt
   settled_one_run n (c ∷ cs) h = (h.0, settled_one_run (after n c.op c.reply) cs h.1)
 
@@ -184,7 +184,7 @@ pub order_at : (kind : Kind) (past : List Event) (u t : ℕ) (cs : List Call) �
     → clock past ≤ u → clock past ≤ t → IsOrderOf kind past u cs
     → IsOrderOf kind past t (map (settle_call (clock past) t) cs)
 order_at kind past u t cs h le later l =
-    order_settled (IsSequentialRun (initial (Some kind))) (clock past) u t (completed_calls past)
+    order_settled (IsLegalHistory (initial (Some kind))) (clock past) u t (completed_calls past)
     (pending_calls past) cs le later (before_of kind (completed_calls past) (pending_calls past)
     (clock past) (are_calls_of kind past h))
     (settled_one_run (clock past) t (initial (Some kind)) cs) l

@@ -11,7 +11,7 @@ use Rattle.calls_core.specs.declared.history.Event.{Event}
 use Rattle.calls_core.specs.declared.history.Call.{Call}
 use Rattle.calls_core.specs.Lists.{Each}
 use Rattle.calls_core.specs.Histories.{IsHistory, completed_calls, part}
-use Rattle.calls_core.specs.Linearizations.{KeepsOrder, IsSequentialRun, IsRun, start}
+use Rattle.calls_core.specs.Linearizations.{KeepsOrder, IsLegalHistory, IsRun, start}
 
 -- the completed calls, each once and no others, in an order that keeps the real-time order and is a
 -- legal sequential history
@@ -40,7 +40,7 @@ IsLinearization kinds past cs = IsLinearizationIn (IsRun (start kinds)) kinds pa
 
 -- a linearization of the events of the calls of object k
 abbrev pub IsLinearizationOn : List Kind → ℕ → List Event → List Call → Type 0
-IsLinearizationOn kinds k past cs = IsLinearizationIn (IsSequentialRun (start kinds k)) kinds
+IsLinearizationOn kinds k past cs = IsLinearizationIn (IsLegalHistory (start kinds k)) kinds
     (part k past) cs
 
 -- whether a history has a linearization

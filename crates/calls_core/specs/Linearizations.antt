@@ -52,9 +52,9 @@ after m _ _ = m
 
 -- whether the calls of one object, one after another from the numbers m on, are a legal sequential
 -- history
-abbrev pub IsSequentialRun : (ℕ → ℕ) → List Call → Type 0
-IsSequentialRun m [] = Unit {0}
-IsSequentialRun m (c ∷ cs) = Gives m c.op c.reply × IsSequentialRun (after m c.op c.reply) cs
+abbrev pub IsLegalHistory : (ℕ → ℕ) → List Call → Type 0
+IsLegalHistory m [] = Unit {0}
+IsLegalHistory m (c ∷ cs) = Gives m c.op c.reply × IsLegalHistory (after m c.op c.reply) cs
 
 -- the numbers of an object at first
 abbrev pub initial : Option Kind → ℕ → ℕ
@@ -116,5 +116,5 @@ pending_on k os = filter (λ (o : PendingCall). o.object == k) os
 -- a linearization of the calls of object k, by answers
 abbrev pub IsAnsweredLinearizationOn : List Kind → ℕ → List Event → List Call → Type 0
 IsAnsweredLinearizationOn kinds k past cs =
-    IsLinearOrder (IsSequentialRun (start kinds k)) (calls_on k (completed_calls past))
+    IsLinearOrder (IsLegalHistory (start kinds k)) (calls_on k (completed_calls past))
     (pending_on k (pending_calls past)) (clock past) cs

@@ -4,14 +4,14 @@ use Rattle.calls_core.specs.declared.history.Kind.{Kind}
 use Rattle.calls_core.specs.declared.history.Event.{Event}
 use Rattle.calls_core.specs.declared.history.Call.{Call}
 use Rattle.calls_core.specs.Histories.{clock, pending_calls, completed_calls}
-use Rattle.calls_core.specs.Linearizations.{IsSequentialRun, initial, IsLinearOrder}
+use Rattle.calls_core.specs.Linearizations.{IsLegalHistory, initial, IsLinearOrder}
 use Rattle.calls_core.specs.Beginnings.{past_at}
 
 -- a linearization of the calls of one object of this kind, in which a pending call that took
 -- effect has its response at t
 abbrev pub IsOrderOf : Kind → List Event → ℕ → List Call → Type 0
 IsOrderOf kind past t cs =
-    IsLinearOrder (IsSequentialRun (initial (Some kind))) (completed_calls past)
+    IsLinearOrder (IsLegalHistory (initial (Some kind))) (completed_calls past)
     (pending_calls past) t cs
 
 abbrev pub HasOrderOf : Kind → List Event → Type 0

@@ -16,7 +16,7 @@ use Rattle.calls_core.specs.declared.history.PendingCall.{PendingCall}
 use Rattle.calls_core.specs.declared.history.Call.{Call}
 use Rattle.calls_core.specs.Lists.{Each, EachPair}
 use Rattle.calls_core.specs.Histories.{completion, Suits}
-use Rattle.calls_core.specs.Linearizations.{IsSequentialRun, KeepsOrder, answered_one}
+use Rattle.calls_core.specs.Linearizations.{IsLegalHistory, KeepsOrder, answered_one}
 use Rattle.calls_core.specs.Linearizations.{answered_calls, IsLinearOrder}
 use Rattle.calls_core.proofs.Lists.{all_from_each, each_pair_map, all_pairs_from_each}
 use Rattle.calls_core.proofs.Counting.{count_append}
@@ -341,7 +341,7 @@ module _ (done : List Call) (pending : List PendingCall) (t : ℕ)
 
   module _ (order : List Zone) (s : AreSorted (all_of done pending t) done order) where
     pub ordered : (m : ℕ → ℕ) → m 0 ≡ 0 → EachPair (λ (x z : Zone). KeepsOrder x.call z.call) order
-        → IsLinearOrder (IsSequentialRun m) done pending t (zone_calls order)
+        → IsLinearOrder (IsLegalHistory m) done pending t (zone_calls order)
     ordered m z kept = record {
       answer = store_answer done;
       each_once = s.moved;

@@ -18,7 +18,7 @@ use Rattle.calls_core.specs.declared.history.PendingCall.{PendingCall}
 use Rattle.calls_core.specs.declared.history.Call.{Call}
 use Rattle.calls_core.specs.Lists.{Each}
 use Rattle.calls_core.specs.Histories.{completion}
-use Rattle.calls_core.specs.Linearizations.{Gives, after, IsSequentialRun, Precedes, KeepsOrder}
+use Rattle.calls_core.specs.Linearizations.{Gives, after, IsLegalHistory, Precedes, KeepsOrder}
 use Rattle.calls_core.specs.Linearizations.{answered_one, answered_calls, IsLinearOrder}
 use Rattle.calls_core.proofs.Lists.{each_weaker, each_append, all_from_each}
 use Rattle.calls_core.proofs.Filters.{each_from_all}
@@ -56,7 +56,7 @@ one_step m (P i) r s g = absurd s
 one_step m (V i) r s g = absurd s
 one_step m (PBoth i j) r s g = absurd s
 
-run_stores : (m : ℕ → ℕ) (cs : List Call) → Each Access cs → IsSequentialRun m cs → Stores (m 0) cs
+run_stores : (m : ℕ → ℕ) (cs : List Call) → Each Access cs → IsLegalHistory m cs → Stores (m 0) cs
 run_stores m [] h run = tt
 run_stores m (c ∷ cs) h run =
     let s = one_step m c.op c.reply h.0 run.0 in
@@ -279,7 +279,7 @@ soon_pending v m o = put_pending v o && not (nat_le m o.first)
 
 module _ (done : List Call) (pending : List PendingCall) (t u : ℕ)
     (given : AreAccesses done pending u) (m : ℕ → ℕ) (zero_first : m 0 ≡ 0) (cs : List Call)
-    (l : IsLinearOrder (IsSequentialRun m) done pending t cs) where
+    (l : IsLinearOrder (IsLegalHistory m) done pending t cs) where
   here : (c : Call) → Contains done c → Contains cs c
   here c k = Contains-permutation (answered_calls t l.answer pending ++ done) cs c l.each_once
       (Contains-append_right (answered_calls t l.answer pending) done c k)
@@ -513,7 +513,7 @@ module _ (done : List Call) (pending : List PendingCall) (t u : ℕ)
 
 pub no_order : (done : List Call) (pending : List PendingCall) (t u : ℕ) (f : Fault) (m : ℕ
     → ℕ) (cs : List Call) → AreAccesses done pending u → m 0 ≡ 0 → ShowsOf done pending f
-    → IsLinearOrder (IsSequentialRun m) done pending t cs → ⊥
+    → IsLinearOrder (IsLegalHistory m) done pending t cs → ⊥
 no_order done pending t u (Nowhere g) m cs h z s l = nowhere done pending t u h m z cs l g s
 no_order done pending t u (Stale c g) m cs h z s l = stale done pending t u h m z cs l c g s
 no_order done pending t u (Alternate a b c d) m cs h z s l =

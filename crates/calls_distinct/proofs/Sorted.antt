@@ -16,7 +16,7 @@ use Rattle.calls_core.specs.declared.history.PendingCall.{PendingCall}
 use Rattle.calls_core.specs.declared.history.Call.{Call}
 use Rattle.calls_core.specs.Lists.{Each, EachPair}
 use Rattle.calls_core.specs.Histories.{Suits}
-use Rattle.calls_core.specs.Linearizations.{Gives, after, IsSequentialRun}
+use Rattle.calls_core.specs.Linearizations.{Gives, after, IsLegalHistory}
 use Rattle.calls_core.proofs.Lists.{each_weaker, each_pair_right, each_pair_left}
 use Rattle.calls_core.proofs.Lists.{each_pair_across, all_from_each}
 use Rattle.calls_core.proofs.Counting.{Split, in_either}
@@ -178,7 +178,7 @@ module _ (all done : List Call) (pending : List PendingCall) (t : ℕ)
       nothing (u ∷ us) q ws e = cc
 
   run_from : (xs ys : List Zone) (m : ℕ → ℕ) → order ≡ xs ++ ys → ((xs ≡ []) × (m 0 ≡ 0))
-      ⊎ IsLast xs (m 0) → IsSequentialRun m (zone_calls ys)
+      ⊎ IsLast xs (m 0) → IsLegalHistory m (zone_calls ys)
   run_from xs [] m is last = tt
   run_from xs (z ∷ ys) m is last =
       let hz = one_zone z (subst (λ zs. Contains zs z) (sym is) (middle xs z ys)) in
@@ -194,5 +194,5 @@ module _ (all done : List Call) (pending : List PendingCall) (t : ℕ)
             })),
       )
 
-  pub run_sorted : (m : ℕ → ℕ) → m 0 ≡ 0 → IsSequentialRun m (zone_calls order)
+  pub run_sorted : (m : ℕ → ℕ) → m 0 ≡ 0 → IsLegalHistory m (zone_calls order)
   run_sorted m e = run_from [] order m refl (inl (refl, e))

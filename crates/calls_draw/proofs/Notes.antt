@@ -10,9 +10,9 @@ use Rattle.ec_text.specs.declared.writing.WriteFault.{WriteFault}
 use Rattle.calls_report.specs.declared.status.Status.{Status}
 use Rattle.calls_report.specs.declared.status.Status.TheVariants.{Done, Refused, Usage, InputOutput}
 use Rattle.calls_report.specs.declared.status.Status.TheVariants.{Memory, NotDecided}
-use Rattle.calls_report.specs.Checks.{Outlets, ChecksText, ChecksWhole, Ends, IsJudged, JudgedHistory}
+use Rattle.calls_report.specs.Checks.{Outputs, ChecksText, ChecksWhole, Ends, IsJudged, JudgedHistory}
 use Rattle.calls_report.specs.Checks.{remarks_on, IsTooLarge}
-use Rattle.calls_report.specs.Notes.{refusal_note, scene_of, undecided_note}
+use Rattle.calls_report.specs.Notes.{refusal_note, site_of, undecided_note}
 use Rattle.calls_draw.specs.Draws.{Draws, IsNoteOn, SaysAsCheck}
 
 -- some bytes were put
@@ -40,9 +40,9 @@ ends_say : (status : Status) (m : ℕ) (qs : List (List ℕ)) (old new : OutputM
 ends_say Done m qs old new e = same old new e.2
 ends_say Refused m qs old new (inl e) = (e.0, e.3)
 ends_say Refused m qs old new (inr e) =
-    (refusal_note (scene_of e.0.number e.0.recorded e.1.object e.1.at) e.4.0, e.4.2)
+    (refusal_note (site_of e.0.number e.0.recorded e.1.object e.1.at) e.4.0, e.4.2)
 ends_say NotDecided m qs old new e =
-    (undecided_note (scene_of e.0.number e.0.recorded e.1.object 0) e.1.cause, e.4)
+    (undecided_note (site_of e.0.number e.0.recorded e.1.object 0) e.1.cause, e.4)
 ends_say Memory m qs old new e = (codes "no memory\n", e)
 ends_say Usage m qs old new e = absurd e
 ends_say InputOutput m qs old new e = absurd e
@@ -53,7 +53,7 @@ judged_say status text js old new j =
     both old j.remarked new (remarks_on js, j.remarks)
     (ends_say status j.number j.rest j.remarked new j.ends)
 
-text_says : (status : Status) (text : List ℕ) (old new : Outlets)
+text_says : (status : Status) (text : List ℕ) (old new : Outputs)
     → ChecksText status text old new → PutsSome old.notes new.notes
 text_says InputOutput text old new c =
     both old.notes c.2 new.notes (judged_say c.0 text c.1 old.notes c.2 c.3)
@@ -64,7 +64,7 @@ text_says Usage text old new c = judged_say Usage text c.0 old.notes new.notes c
 text_says Memory text old new c = judged_say Memory text c.0 old.notes new.notes c.1
 text_says NotDecided text old new c = judged_say NotDecided text c.0 old.notes new.notes c.1
 
-large_says : (status : Status) (text : List ℕ) (old new : Outlets)
+large_says : (status : Status) (text : List ℕ) (old new : Outputs)
     → IsTooLarge status text old new → PutsSome old.notes new.notes
 large_says Refused text old new c = (codes "too large\n", c.2)
 large_says Done text old new c = absurd c
@@ -73,7 +73,7 @@ large_says InputOutput text old new c = absurd c
 large_says Memory text old new c = absurd c
 large_says NotDecided text old new c = absurd c
 
-check_says : (text : List ℕ) (status : Status) (old new : Outlets) → ChecksWhole status text old new
+check_says : (text : List ℕ) (status : Status) (old new : Outputs) → ChecksWhole status text old new
     → PutsSome old.notes new.notes
 check_says text status old new (inl c) = text_says status text old new c.1
 check_says text status old new (inr c) = large_says status text old new c
@@ -158,7 +158,7 @@ finished text status before after w items note old mid new done u is empty check
 
 -- what was reported on a text that has no history to draw; such a text is not good
 pub nothing_drawn : {A : Type 0} (Chosen : Type 0) (text : List ℕ) (found status : Status)
-    (old new : Outlets) (last : Option A) → last ≡ None → (found ≡ Done → IsSome last)
+    (old new : Outputs) (last : Option A) → last ≡ None → (found ≡ Done → IsSome last)
     → status ≡ found → Keeps old.out new.out → SaysAsCheck text status old.notes new.notes
     → Draws Chosen text status old new
 nothing_drawn Chosen text found status old new None is kept as_found keeps says =

@@ -4,7 +4,7 @@ use Rattle.std.specs.Io.KnownBytes.{Appends, Keeps}
 use Rattle.ec_text.specs.Puts.{OutputModel, Puts, AppendsPrefix, at_first}
 use Rattle.calls_report.specs.declared.status.Status.{Status}
 use Rattle.calls_report.specs.declared.status.Status.TheVariants as statuses
-use Rattle.calls_report.specs.Checks.{Outlets, ChecksWhole}
+use Rattle.calls_report.specs.Checks.{Outputs, ChecksWhole}
 use Rattle.calls_draw.specs.declared.view.CallsView.{CallsView}
 
 -- something is chosen
@@ -28,7 +28,7 @@ SaysAsCheck text status old new =
 
 -- a picture was written, and what `check` says was reported; or a write failed, and only a proper
 -- prefix of the picture was written
-abbrev pub WritesOne : List ℕ → Status → Outlets → Outlets → Type 0
+abbrev pub WritesOne : List ℕ → Status → Outputs → Outputs → Type 0
 WritesOne text status old new =
     (picture : List ℕ)
     × ((Appends old.out new.out picture × SaysAsCheck text status old.notes new.notes)
@@ -37,7 +37,7 @@ WritesOne text status old new =
 
 -- nothing was written: the choice is empty or not declared, or memory ran out, or the text is not
 -- good, and what `check` says was reported
-abbrev pub WritesNone : Type 0 → List ℕ → Status → Outlets → Outlets → Type 0
+abbrev pub WritesNone : Type 0 → List ℕ → Status → Outputs → Outputs → Type 0
 WritesNone Chosen text status old new =
     Keeps old.out new.out
     × (((status ≡ statuses.Usage) × Chosen)
@@ -45,6 +45,6 @@ WritesNone Chosen text status old new =
     ⊎ ((status ≡ statuses.Done → ⊥) × SaysAsCheck text status old.notes new.notes)))
 
 -- how `draw_calls` ended; `Chosen` says that something is chosen
-abbrev pub Draws : Type 0 → List ℕ → Status → Outlets → Outlets → Type 0
+abbrev pub Draws : Type 0 → List ℕ → Status → Outputs → Outputs → Type 0
 Draws Chosen text status old new =
     WritesOne text status old new ⊎ WritesNone Chosen text status old new

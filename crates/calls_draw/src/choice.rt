@@ -10,7 +10,7 @@ use std::alloc::{AllocError, Global};
 
 /// What a name chooses.
 #[derive(Clone, Copy, Debug, PartialEq, Eq)]
-pub(crate) enum Chosen {
+pub(crate) enum SelectedItem {
     /// A worker.
     Worker(usize),
     /// Some objects: the index of the first, and how many they are.
@@ -21,49 +21,49 @@ pub(crate) enum Chosen {
 
 /// What is drawn.
 #[derive(Drop)]
-pub(crate) struct Choice {
-    workers: Vec<Chosen>,
-    objects: Vec<Chosen>,
+pub(crate) struct Selection {
+    workers: Vec<SelectedItem>,
+    objects: Vec<SelectedItem>,
 }
 
 /// Returns what the group at an index chooses, `None` if a history has no calls of it.
-fn group_chosen(heading: &Heading, place: usize) -> Option<Chosen> {
+fn group_chosen(heading: &Heading, place: usize) -> Option<SelectedItem> {
     match heading.groups().get(place) {
-        Some(Group::Semaphore(_)) => Some(Chosen::Semaphore(place)),
+        Some(Group::Semaphore(_)) => Some(SelectedItem::Semaphore(place)),
         Some(Group::Database(_)) => {
-            Some(Chosen::Objects(first_group(heading).saturating_add(place), 1))
+            Some(SelectedItem::Objects(first_group(heading).saturating_add(place), 1))
         }
         _ => None,
     }
 }
 
 /// Returns what a name of a worker chooses.
-fn worker_chosen(heading: &Heading, name: &[u8]) -> Option<Chosen> {
+fn worker_chosen(heading: &Heading, name: &[u8]) -> Option<SelectedItem> {
     match heading.worker(name) {
-        Some(worker) => Some(Chosen::Worker(worker.get())),
+        Some(worker) => Some(SelectedItem::Worker(worker.get())),
         None => None,
     }
 }
 
 /// Returns what the name of a target chooses, `None` if it is a worker.
-fn target_chosen(heading: &Heading, target: Target) -> Option<Chosen> {
+fn target_chosen(heading: &Heading, target: Target) -> Option<SelectedItem> {
     match target {
         Target::Worker(_) => None,
-        Target::Event(event) => Some(Chosen::Objects(event.get(), 1)),
+        Target::Event(event) => Some(SelectedItem::Objects(event.get(), 1)),
         Target::Sequencer(sequencer) => {
             let index = first_sequencer(heading).saturating_add(sequencer.get());
-            Some(Chosen::Objects(index, 1))
+            Some(SelectedItem::Objects(index, 1))
         }
         Target::Cells(first, count) => {
             let index = first_cell(heading).saturating_add(first.get());
-            Some(Chosen::Objects(index, count))
+            Some(SelectedItem::Objects(index, count))
         }
         Target::Group(place) => group_chosen(heading, place),
     }
 }
 
 /// Returns what a name of an object chooses.
-fn object_chosen(heading: &Heading, name: &[u8]) -> Option<Chosen> {
+fn object_chosen(heading: &Heading, name: &[u8]) -> Option<SelectedItem> {
     match heading.names().find_bytes(name) {
         Some(target) => target_chosen(heading, target),
         None => cell_chosen(heading, name),
@@ -71,11 +71,11 @@ fn object_chosen(heading: &Heading, name: &[u8]) -> Option<Chosen> {
 }
 
 /// Returns what the name of one cell of a block chooses.
-fn cell_chosen(heading: &Heading, name: &[u8]) -> Option<Chosen> {
+fn cell_chosen(heading: &Heading, name: &[u8]) -> Option<SelectedItem> {
     match heading.cell(name) {
         Some(cell) => {
             let index = first_cell(heading).saturating_add(cell.get());
-            Some(Chosen::Objects(index, 1))
+            Some(SelectedItem::Objects(index, 1))
         }
         None => None,
     }
@@ -86,7 +86,7 @@ fn workers_chosen(
     alloc: Global,
     heading: &Heading,
     names: &[&str],
-) -> Result<Vec<Chosen>, AllocError> {
+) -> Result<Vec<SelectedItem>, AllocError> {
     names
         .iter()
         .filter_map(|name| worker_chosen(heading, name.as_bytes()))
@@ -98,7 +98,7 @@ fn objects_chosen(
     alloc: Global,
     heading: &Heading,
     names: &[&str],
-) -> Result<Vec<Chosen>, AllocError> {
+) -> Result<Vec<SelectedItem>, AllocError> {
     names
         .iter()
         .filter_map(|name| object_chosen(heading, name.as_bytes()))
@@ -138,25 +138,25 @@ pub(crate) fn uses_semaphore(op: Op, place: usize) -> bool {
     }
 }
 
-impl Chosen {
+impl SelectedItem {
     /// Returns whether a call of this object with this operation is chosen.
     fn has(self, object: usize, op: Op) -> bool {
         match self {
-            Chosen::Worker(_) => false,
-            Chosen::Objects(first, count) => { first <= object && object - first < count }
-            Chosen::Semaphore(place) => uses_semaphore(op, place),
+            SelectedItem::Worker(_) => false,
+            SelectedItem::Objects(first, count) => { first <= object && object - first < count }
+            SelectedItem::Semaphore(place) => uses_semaphore(op, place),
         }
     }
 }
 
-impl Choice {
+impl Selection {
     /// Returns what a view chooses.
     pub(crate) fn of(
         alloc: Global,
         heading: &Heading,
         view: &CallsView<'_>,
-    ) -> Result<Choice, AllocError> {
-        Ok(Choice {
+    ) -> Result<Selection, AllocError> {
+        Ok(Selection {
             workers: workers_chosen(alloc, heading, view.workers)?,
             objects: objects_chosen(alloc, heading, view.objects)?,
         })
@@ -164,7 +164,11 @@ impl Choice {
 
     /// Returns whether a worker is drawn.
     pub(crate) fn has_worker(&self, worker: usize) -> bool {
-        self.workers.is_empty() || self.workers.iter().any(|it| *it == Chosen::Worker(worker))
+        self.workers.is_empty()
+            || self
+                .workers
+                .iter()
+                .any(|it| *it == SelectedItem::Worker(worker))
     }
 
     /// Returns whether calls of this object with this operation are drawn.

@@ -1,6 +1,6 @@
 //! The panels of numbers: bands, curves, and the thresholds of pending awaits.
 use crate::grid::LEFT;
-use crate::panels::{Bounds, Panel, Subject, said_by};
+use crate::panels::{Bounds, Panel, Subject, implied_number};
 use crate::picture::{Bar, Picture};
 use crate::scale::{Range, Scale};
 use crate::sink::{
@@ -160,7 +160,7 @@ pub(crate) fn put_levels(out: &mut Pen<'_>, picture: &Picture<'_>, scale: &Scale
     for bar in &picture.shown {
         if panel.subject.shows(bar.object, bar.op) {
             if let Some((last, reply)) = bar.end {
-                let said = said_by(bar.op, reply);
+                let said = implied_number(bar.op, reply);
                 put_level(out, picture, scale, b"level", (bar.first, last), said);
             }
         }

@@ -74,12 +74,12 @@ impl Subject {
 
     /// Returns whether a certificate on this object is about what it shows. One on semaphores is,
     /// if it has a stair of the units added to this one.
-    pub(crate) fn is_of(self, object: usize, courses: &[calls_shapes::Stair]) -> bool {
+    pub(crate) fn is_of(self, object: usize, spans: &[calls_shapes::Stair]) -> bool {
         match self {
             Subject::Units(_, place) => {
-                courses
+                spans
                     .iter()
-                    .any(|stair| stair.course.counted == CountFilter::Adding(place))
+                    .any(|stair| stair.span.counted == CountFilter::Adding(place))
             }
             _ => object == self.object(),
         }
@@ -268,7 +268,7 @@ pub(crate) fn panels_of(alloc: Global, picture: &Picture<'_>) -> Result<Vec<Pane
 
 /// Returns the number that a call says of its object. An await says its threshold if it is done,
 /// and one less if it gave up.
-pub(crate) fn said_by(op: Op, reply: Reply) -> Option<usize> {
+pub(crate) fn implied_number(op: Op, reply: Reply) -> Option<usize> {
     match (op, reply) {
         (_, Reply::Number(n)) => Some(n),
         (Op::Await(v), Reply::Done) => Some(v),

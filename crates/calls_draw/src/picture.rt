@@ -1,11 +1,11 @@
 //! What is drawn of a history.
-use crate::choice::Choice;
+use crate::choice::Selection;
 use crate::grid::{Grid, LEFT};
 use crate::history::FoundHistory;
 use crate::lines::EventLines;
 use crate::view::{CallsView, Window, window_of};
 use calls_core::{Action, Call, Event, Kind, Op, PendingCall, Placed, Reply};
-use calls_shapes::{Bars, Course, Stair, bars_of, courses_of, faulty_calls, stair_of};
+use calls_shapes::{Bars, Stair, StairSpan, bars_of, faulty_calls, spans_of, stair_of};
 use calls_text::Lists;
 use calls_verdict::{Fault, Refusal, Verdict};
 use ec_heading::Heading;
@@ -59,7 +59,7 @@ pub(crate) struct Picture<'a> {
     /// The x of the point of each call of `order`, in pixels.
     pub(crate) xs: Vec<u64>,
     pub(crate) evidence: Option<Evidence<'a>>,
-    pub(crate) choice: Choice,
+    pub(crate) choice: Selection,
     pub(crate) grid: Grid,
     /// The number of the line of the event at position 0.
     pub(crate) first_line: u64,
@@ -93,7 +93,7 @@ impl Bar {
     }
 
     /// Returns whether it is drawn.
-    fn is_shown(&self, choice: &Choice, window: Window) -> bool {
+    fn is_shown(&self, choice: &Selection, window: Window) -> bool {
         window.meets(self.first, self.last()) && choice.has(self.worker, self.object, self.op)
     }
 
@@ -110,11 +110,11 @@ impl Bar {
 fn stairs_of(
     alloc: Global,
     events: &[Event],
-    courses: &[Course],
+    spans: &[StairSpan],
 ) -> Result<Vec<Stair>, AllocError> {
     let mut stairs = Vec::new(alloc);
-    for course in courses {
-        stairs.push(stair_of(alloc, events, *course)?)?;
+    for span in spans {
+        stairs.push(stair_of(alloc, events, *span)?)?;
     }
     Ok(stairs)
 }
@@ -126,11 +126,11 @@ fn evidence_of<'a>(
     events: &[Event],
     refusal: &'a Refusal,
 ) -> Result<Evidence<'a>, AllocError> {
-    let courses = courses_of(alloc, kinds, refusal.object, &refusal.fault)?;
+    let spans = spans_of(alloc, kinds, refusal.object, &refusal.fault)?;
     Ok(Evidence {
         refusal,
         faulty: faulty_calls(alloc, &refusal.fault)?,
-        stairs: stairs_of(alloc, events, &courses)?,
+        stairs: stairs_of(alloc, events, &spans)?,
     })
 }
 
@@ -140,7 +140,7 @@ impl<'a> Evidence<'a> {
         if self.faulty.iter().any(|call| call.first == bar.first) {
             return Some(BarOutline::Hot);
         }
-        let is_counted = self.stairs.iter().any(|stair| counts(&stair.course, bar));
+        let is_counted = self.stairs.iter().any(|stair| counts(&stair.span, bar));
         if is_counted || self.may_have_drawn(bar) {
             return Some(BarOutline::Warm);
         }
@@ -181,9 +181,9 @@ impl<'a> Evidence<'a> {
 }
 
 /// Returns whether a course counts the call of a bar.
-fn counts(course: &Course, bar: &Bar) -> bool {
+fn counts(span: &StairSpan, bar: &Bar) -> bool {
     match bar.end {
-        Some((last, reply)) => course.has_completed(&Call {
+        Some((last, reply)) => span.has_completed(&Call {
             worker: bar.worker,
             object: bar.object,
             op: bar.op,
@@ -191,7 +191,7 @@ fn counts(course: &Course, bar: &Bar) -> bool {
             first: bar.first,
             last,
         }),
-        None => course.has_pending(&PendingCall {
+        None => span.has_pending(&PendingCall {
             worker: bar.worker,
             object: bar.object,
             op: bar.op,
@@ -240,7 +240,7 @@ fn point_at(order: &[Placed], i: usize) -> usize {
 }
 
 /// Returns the x of the point of each call of a linearization. Calls of one point are side by side.
-fn places_of(alloc: Global, grid: Grid, order: &[Placed]) -> Result<Vec<u64>, AllocError> {
+fn point_xs(alloc: Global, grid: Grid, order: &[Placed]) -> Result<Vec<u64>, AllocError> {
     let mut xs = Vec::new(alloc);
     let mut first = 0;
     let mut count = 0;
@@ -290,7 +290,7 @@ fn has_one_object(events: &[Event], kinds: &[Kind]) -> bool {
 fn shown_bars(
     alloc: Global,
     bars: &Bars,
-    choice: &Choice,
+    choice: &Selection,
     window: Window,
 ) -> Result<Vec<Bar>, AllocError> {
     let completed = bars.completed.iter().map(|call| Bar::of(call));
@@ -327,7 +327,7 @@ impl<'a> Picture<'a> {
         };
         let usual = usual_from(&evidence, events.len());
         let window = window_of(view, events.len(), usual);
-        let choice = Choice::of(alloc, heading, view)?;
+        let choice = Selection::of(alloc, heading, view)?;
         let bars = bars_of(alloc, events)?;
         let order = order_of(&found.judged.verdict);
         Ok(Picture {
@@ -340,7 +340,7 @@ impl<'a> Picture<'a> {
             bars,
             order,
             points: points_of(alloc, events, order)?,
-            xs: places_of(alloc, Grid::new(window), order)?,
+            xs: point_xs(alloc, Grid::new(window), order)?,
             evidence,
             choice,
             grid: Grid::new(window),

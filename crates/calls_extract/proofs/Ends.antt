@@ -10,7 +10,7 @@ use Rattle.ec_trace.specs.TraceModel.{TraceModel}
 use Rattle.evc_engine.specs.declared.status.Status.{Status}
 use Rattle.evc_engine.specs.declared.status.Status.TheVariants.{Done, Refused, Usage, InputOutput}
 use Rattle.evc_engine.specs.declared.status.Status.TheVariants.{Memory, Stopped}
-use Rattle.evc_engine.specs.Checks.{Outlets, Notes, ReadsAs}
+use Rattle.evc_engine.specs.Checks.{Outputs, Notes, ReadsAs}
 use Rattle.evc_engine.specs.Notes.{fault_note, fault_status}
 use Rattle.calls_extract.specs.Lines.{calls_text}
 use Rattle.calls_extract.specs.Extracts.{WritesCalls, HasCalls, IsExtracted, Extracts}
@@ -21,7 +21,7 @@ is_extracted bytes t reads all = record { from = reads; all = all; is = refl }
 
 -- a trace that was read, and whose calls were written or not
 pub extracted_so : (bytes : List ℕ) (left : Option (List ℕ)) (t : TraceModel) (status : Status)
-    (old new : Outlets) → ReadsAs bytes t → WritesCalls t status old new
+    (old new : Outputs) → ReadsAs bytes t → WritesCalls t status old new
     → Extracts bytes left status old new
 extracted_so bytes left t Done old new reads ends =
     let o = reads.trace.outline in (
@@ -47,7 +47,7 @@ extracted_so bytes left t Memory old new reads ends = absurd ends
 extracted_so bytes left t Stopped old new reads ends = absurd ends
 
 -- the trace was not read
-pub unread_so : (bytes : List ℕ) (left : Option (List ℕ)) (fault : TraceFault) (old new : Outlets)
+pub unread_so : (bytes : List ℕ) (left : Option (List ℕ)) (fault : TraceFault) (old new : Outputs)
     → outcomes.Returns TRACE_MAX bytes left (Err fault) → Keeps old.out new.out
     → Notes old new (fault_note fault) → Extracts bytes left (fault_status fault) old new
 unread_so bytes left (faults.BadLine n) old new returned out note = (

@@ -10,7 +10,7 @@ use Rattle.ec_trace.specs.declared.read.TheConstants.{TRACE_MAX}
 use Rattle.evc_engine.specs.declared.status.Status.{Status}
 use Rattle.evc_engine.specs.declared.status.Status.TheVariants.{Done, Refused, Usage, InputOutput}
 use Rattle.evc_engine.specs.declared.status.Status.TheVariants.{Memory, Stopped}
-use Rattle.evc_engine.specs.Checks.{Outlets, Notes, KeepsNotes, ReadsAs, RefusedFor}
+use Rattle.evc_engine.specs.Checks.{Outputs, Notes, KeepsNotes, ReadsAs, RefusedFor}
 use Rattle.evc_engine.specs.Notes.{fault_note}
 use Rattle.calls_kernel.specs.Outside.{HasOutsideHistory}
 use Rattle.calls_extract.specs.declared.cause.Cause.{Cause}
@@ -24,7 +24,7 @@ abbrev pub HasCalls : TraceModel → Type 0
 HasCalls t = HasNoneBefore t.heading.groups t.entries (length t.entries)
 
 -- the note names the first entry that keeps the trace from that
-pub record NamesFirstCause (t : TraceModel) (old new : Outlets) : Type 0 where
+pub record NamesFirstCause (t : TraceModel) (old new : Outputs) : Type 0 where
   pub at : ℕ
   pub why : Cause
   pub is : IsFirstCause t.heading.groups t.entries at why
@@ -32,7 +32,7 @@ pub record NamesFirstCause (t : TraceModel) (old new : Outlets) : Type 0 where
   pub note : Notes old new (cause_note (name_at t.heading.words t.entries at) at why)
 
 -- how the writing of the calls of a trace ended, for any syntax tree of its header
-abbrev pub WritesCalls : TraceModel → Status → Outlets → Outlets → Type 0
+abbrev pub WritesCalls : TraceModel → Status → Outputs → Outputs → Type 0
 WritesCalls t Done old new =
     HasCalls t × HasOutsideHistory t.heading.setup t.entries
     × ((o : HeaderTree) → IsHeaderTree o → heading_of_tree o ≡ t.heading
@@ -60,7 +60,7 @@ pub record IsExtracted (bytes text : List ℕ) (t : TraceModel) : Type 0 where
 -- calls, and only the note on the first such entry was written; or the bytes are no trace, and only
 -- the note on the first fault was written; or a failed read is reported, and the bytes read until
 -- then have no fault; or a failed write is reported, or a failed allocation
-abbrev pub Extracts : List ℕ → Option (List ℕ) → Status → Outlets → Outlets → Type 0
+abbrev pub Extracts : List ℕ → Option (List ℕ) → Status → Outputs → Outputs → Type 0
 Extracts bytes left Done old new =
     (t : TraceModel) × (text : List ℕ) × IsExtracted bytes text t
     × HasOutsideHistory t.heading.setup t.entries

@@ -14,11 +14,11 @@ use Rattle.ec_core.specs.Calls.{under_way}
 use Rattle.ec_core.specs.Acceptance.{IsAccepted}
 use Rattle.ec_order.specs.declared.call.Call.{Call as FinishedCall}
 use Rattle.ec_order.specs.Calls.{finished_calls}
-use Rattle.ec_order.specs.Orders.{FinishedBefore, calls_in}
+use Rattle.ec_order.specs.Orders.{Precedes, calls_in}
 use Rattle.ec_order.specs.Points.{ordered_by_points}
 use Rattle.ec_order.specs.Sequential.{zero_state}
 use Rattle.ec_order.specs.Laws.{OrderByPointsIsGood}
-use Rattle.ec_order.specs.Verdicts.{IsGood}
+use Rattle.ec_order.specs.Verdicts.{IsLinearizationWithPoints}
 use Rattle.calls_core.specs.declared.history.Kind.{Kind}
 use Rattle.calls_core.specs.declared.history.Event.{Event}
 use Rattle.calls_core.specs.declared.history.PendingCall.{PendingCall}
@@ -53,7 +53,7 @@ module _ (t : Tables) where
   }
 
   abbrev pub NotAfter : FinishedCall → FinishedCall → Type 0
-  NotAfter a b = FinishedBefore b a → ⊥
+  NotAfter a b = Precedes b a → ⊥
 
   kept_seen : (a b : FinishedCall) → NotAfter a b → KeepsOrder (outside_call t a) (outside_call t b)
   kept_seen a b h before =
@@ -83,7 +83,7 @@ module _ (t : Tables) where
   ordered past = calls_in (ordered_by_points t past)
 
   linearized : (past : List Entry) (es : List Event) → IsAccepted t past
-      → IsGood t past (ordered_by_points t past)
+      → IsLinearizationWithPoints t past (ordered_by_points t past)
       → IsPermutation (completed_calls es) (outside_calls t (ordered past))
       → IsAnsweredLinearization (kinds_of t) es (outside_calls t (ordered past))
   linearized past es acc good moves = record {
@@ -98,7 +98,8 @@ module _ (t : Tables) where
 
   -- the same for a list that equals these events
   seen_of : (h : List Entry) (es : List Event) → es ≡ events_past t (reverse h)
-      → IsAccepted t (reverse h) → IsGood t (reverse h) (ordered_by_points t (reverse h))
+      → IsAccepted t (reverse h)
+      → IsLinearizationWithPoints t (reverse h) (ordered_by_points t (reverse h))
       → IsHistory (kinds_of t) es × (completed_calls es
       ≡ reverse (outside_calls t (finished_calls t (reverse h)))) × ((w : ℕ)
       → pending_of w (pending_calls es)

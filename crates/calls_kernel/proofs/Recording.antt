@@ -19,7 +19,7 @@ use Rattle.ec_order.specs.Calls.{finished_calls}
 use Rattle.ec_order.specs.Orders.{calls_in}
 use Rattle.ec_order.specs.Points.{ordered_by_points}
 use Rattle.ec_order.specs.Sequential.{SequentialState, zero_state, sequential_reply}
-use Rattle.ec_order.specs.Sequential.{sequential_after, IsSequentialRun}
+use Rattle.ec_order.specs.Sequential.{sequential_after, IsLegalHistory}
 use Rattle.ec_order.specs.Laws.{OrderByPointsIsGood}
 use Rattle.calls_core.specs.declared.history.Op.{Op}
 use Rattle.calls_core.specs.declared.history.Op.TheVariants.{Advance, Read, Await, Ticket, P, V}
@@ -60,8 +60,8 @@ is_of d = is_call d.op
 
 kept_run : (s : SequentialState) (d : FinishedCall) (act : Act) (rest : List FinishedCall)
     → d.op ≡ act → sequential_reply s act ≡ Some d.reply
-    → IsSequentialRun (sequential_after s act) rest
-    → IsSequentialRun s (cond (is_call act) (d ∷ rest) rest)
+    → IsLegalHistory (sequential_after s act) rest
+    → IsLegalHistory s (cond (is_call act) (d ∷ rest) rest)
 kept_run s d (acts.Advance e) rest is h run = rw is (h, run)
 kept_run s d (acts.Read e) rest is h run = rw is (h, run)
 kept_run s d (acts.Await e v) rest is h run = rw is (h, run)
@@ -71,8 +71,8 @@ kept_run s d (acts.Get x) rest is h run = rw is (h, run)
 kept_run s d (acts.Hand e b) rest is h run = run
 kept_run s d acts.Go rest is h run = cc
 
-calls_run : (ds : List FinishedCall) (s : SequentialState) → IsSequentialRun s ds
-    → IsSequentialRun s (filter is_of ds)
+calls_run : (ds : List FinishedCall) (s : SequentialState) → IsLegalHistory s ds
+    → IsLegalHistory s (filter is_of ds)
 calls_run [] s run = tt
 calls_run (d ∷ ds) s run =
     kept_run s d d.op (filter is_of ds) refl run.0
@@ -196,7 +196,7 @@ module _ (t : Tables) where
     calls ps = map (λ (p : Pair). p.call) ps
 
     pairs_run : (ps : List Pair) (s : SequentialState) (n : ℕ → ℕ → ℕ) → Agrees t s n
-        → All IsSound ps → IsSequentialRun s (mades ps) → IsRun n (calls ps)
+        → All IsSound ps → IsLegalHistory s (mades ps) → IsRun n (calls ps)
     pairs_run [] s n same sound run = tt
     pairs_run (p ∷ ps) s n same sound run =
         let h : IsSound p = All-head IsSound p ps sound in
@@ -297,7 +297,7 @@ records_answered orders t past d h r =
             (subst (AllPairs (NotAfter t)) (sym f.is)
             (AllPairs-filter (NotAfter t) is_of ordered good.in_order));
         run = pairs_run t r.moment f.moved zero_state (start (kinds_of t)) (at_first t) sound
-            (subst (IsSequentialRun zero_state) (sym f.is)
+            (subst (IsLegalHistory zero_state) (sym f.is)
             (calls_run ordered zero_state good.run));
       },
     )

@@ -12,7 +12,7 @@ use Rattle.ec_core.specs.declared.act.Reply.TheVariants as replies
 use Rattle.ec_core.specs.Acceptance.{names_unknown_object}
 use Rattle.ec_order.specs.declared.call.Call.{Call as FinishedCall}
 use Rattle.ec_order.specs.Sequential.{SequentialState, update_at, sequential_reply}
-use Rattle.ec_order.specs.Sequential.{sequential_after, IsSequentialRun}
+use Rattle.ec_order.specs.Sequential.{sequential_after, IsLegalHistory}
 use Rattle.calls_core.specs.Linearizations.{set_at, IsRun}
 use Rattle.calls_kernel.specs.Outside.{outside_reply, outside_calls}
 use Rattle.calls_kernel.proofs.Steps.{set_same}
@@ -176,7 +176,7 @@ module _ (t : Tables) where
     call_runs acts.Go reply known h rest = cc
 
   pub seen_runs : (cs : List FinishedCall) (s : SequentialState) (n : ℕ → ℕ → ℕ) → Agrees s n
-      → All (IsKnown t) cs → IsSequentialRun s cs → IsRun n (outside_calls t cs)
+      → All (IsKnown t) cs → IsLegalHistory s cs → IsRun n (outside_calls t cs)
   seen_runs [] s n same known run = tt
   seen_runs (c ∷ cs) s n same known run =
       call_runs s n c.worker c.first c.round c.last cs same c.op c.reply

@@ -12,7 +12,7 @@ use Rattle.calls_core.specs.declared.history.Call.{Call}
 use Rattle.calls_core.specs.declared.history.Placed.{Placed}
 use Rattle.calls_core.specs.Lists.{Each, EachPair}
 use Rattle.calls_core.specs.Histories.{clock, pending_calls, completed_calls}
-use Rattle.calls_core.specs.Linearizations.{IsSequentialRun, set_at, start, KeepsOrder}
+use Rattle.calls_core.specs.Linearizations.{IsLegalHistory, set_at, start, KeepsOrder}
 use Rattle.calls_core.specs.Linearizations.{answered_one, answered_calls, IsLinearOrder, calls_on}
 use Rattle.calls_core.specs.Linearizations.{pending_on}
 use Rattle.calls_core.specs.Points.{with_points, placed_one, Within, NoLater, calls_of}
@@ -218,7 +218,7 @@ order_with_points Run done pending t cs h l =
     }
 
 pub order_has_points : OrderHasPoints
-order_has_points = λ kind m done pending t cs h l. order_with_points (IsSequentialRun m) done
+order_has_points = λ kind m done pending t cs h l. order_with_points (IsLegalHistory m) done
     pending t cs (timed_of kind done pending t h) l
 
 keeps_each : (p : Placed) (qs : List Placed) → Within p → Each Within qs → Each (NoLater p) qs
@@ -247,7 +247,7 @@ points_keep_the_order = λ ps within rises. all_pairs_from_each KeepsOrder (call
 
 pub order_on_has_points : OrderOnHasPoints
 order_on_has_points = λ kinds k done pending t cs h l.
-    order_with_points (IsSequentialRun (start kinds k)) (calls_on k done) (pending_on k pending) t
+    order_with_points (IsLegalHistory (start kinds k)) (calls_on k done) (pending_on k pending) t
     cs (timed_part k t done pending (timed kinds done pending t h)) l
 
 pub placed_parts_make_whole : PlacedPartsMakeWhole
@@ -282,9 +282,9 @@ parts_make_whole = λ kinds past cs h l.
     (let done = completed_calls past in
     let pending = pending_calls past in
     let ps = with_points (λ j. 0) cs in
-    let each : (k : ℕ) → IsPlacedOrder (IsSequentialRun (start kinds k)) (calls_on k done)
+    let each : (k : ℕ) → IsPlacedOrder (IsLegalHistory (start kinds k)) (calls_on k done)
     (pending_on k pending) (clock past) (placed_on k ps) =
-    λ k. subst (IsPlacedOrder (IsSequentialRun (start kinds k)) (calls_on k done)
+    λ k. subst (IsPlacedOrder (IsLegalHistory (start kinds k)) (calls_on k done)
     (pending_on k pending) (clock past)) (sym (placed_part k (λ j. 0) cs))
     (order_on_has_points kinds k done pending (clock past) (calls_on k cs)
     (histories_have_calls kinds past h) (l k)) in (

@@ -24,7 +24,7 @@ use Rattle.calls_core.specs.Lists.{Each, EachPair}
 use Rattle.calls_core.specs.Histories.{clock, pending_of, without, invoked_by, pending_after}
 use Rattle.calls_core.specs.Histories.{pending_calls, completion, ended_call, completed_calls}
 use Rattle.calls_core.specs.Histories.{Suits, IsNext, IsHistory}
-use Rattle.calls_core.specs.Linearizations.{Gives, IsSequentialRun, IsRun, set_at, after, start}
+use Rattle.calls_core.specs.Linearizations.{Gives, IsLegalHistory, IsRun, set_at, after, start}
 use Rattle.calls_core.specs.Linearizations.{KeepsOrder, answered_one, answered_calls, IsLinearOrder}
 use Rattle.calls_core.specs.Completions.{is_response, IsLinearizationIn, known_at}
 use Rattle.calls_local.specs.Laws.{AnswersBecomeResponses}
@@ -288,7 +288,7 @@ known_run_back t s (c ∷ cs) h = (
 )
 
 pub known_one_run_back : (t : ℕ) (n : ℕ → ℕ) (cs : List Call)
-    → IsSequentialRun n (map (known_at t) cs) → IsSequentialRun n cs
+    → IsLegalHistory n (map (known_at t) cs) → IsLegalHistory n cs
 known_one_run_back t n [] h = tt
 known_one_run_back t n (c ∷ cs) h = (h.0, known_one_run_back t (after n c.op c.reply) cs h.1)
 
@@ -353,7 +353,7 @@ responses_from_order Run kinds past t cs le h back suiting l =
       r.is,
     )
 
-pub one_run_suits : (n : ℕ → ℕ) (cs : List Call) → IsSequentialRun n cs
+pub one_run_suits : (n : ℕ → ℕ) (cs : List Call) → IsLegalHistory n cs
     → Each (λ (c : Call). Suits c.op c.reply) cs
 one_run_suits n [] h = tt
 one_run_suits n (c ∷ cs) h = (

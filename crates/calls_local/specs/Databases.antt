@@ -9,7 +9,7 @@ use Rattle.calls_core.specs.declared.history.Kind.TheVariants.{Database}
 use Rattle.calls_core.specs.declared.history.Op.TheVariants.{Put, Get}
 use Rattle.calls_core.specs.declared.history.Reply.TheVariants.{Done, Number}
 use Rattle.calls_core.specs.declared.history.Call.{Call}
-use Rattle.calls_core.specs.Linearizations.{IsSequentialRun, initial}
+use Rattle.calls_core.specs.Linearizations.{IsLegalHistory, initial}
 
 -- a call of a database as its user sees it: it wrote the numbers of all cells and returned nothing,
 -- or it returned the numbers of all cells
@@ -44,10 +44,10 @@ AreDistinctNumbers f = (us vs : List ℕ) → f us ≡ f vs → us ≡ vs
 abbrev pub ListsGoByNumbers : Type 0
 ListsGoByNumbers = (f : List ℕ → ℕ) → AreDistinctNumbers f → (m : ℕ → ℕ) (vs : List ℕ)
     → m 0 ≡ f vs → (ls : List ListCall) (cs : List Call) → AreNumbered f ls cs
-    → IsListRun vs ls ↔ IsSequentialRun m cs
+    → IsListRun vs ls ↔ IsLegalHistory m cs
 
 -- the same for a database with n cells, which are all 0 at first, if that list has the number 0
 abbrev pub DatabasesGoByNumbers : Type 0
 DatabasesGoByNumbers = (f : List ℕ → ℕ) → AreDistinctNumbers f → (n : ℕ) → f (replicate n 0) ≡ 0
     → (ls : List ListCall) (cs : List Call) → AreNumbered f ls cs
-    → IsListRun (replicate n 0) ls ↔ IsSequentialRun (initial (Some (Database n))) cs
+    → IsListRun (replicate n 0) ls ↔ IsLegalHistory (initial (Some (Database n))) cs

@@ -9,7 +9,7 @@ use Rattle.calls_core.specs.declared.history.Placed.{Placed}
 use Rattle.calls_core.specs.Lists.{Each, EachPair}
 use Rattle.calls_core.specs.Histories.{clock, IsHistory, IsHistoryOf, completed_calls}
 use Rattle.calls_core.specs.Histories.{pending_calls, part}
-use Rattle.calls_core.specs.Linearizations.{IsSequentialRun, IsRun, start, IsLinearOrder}
+use Rattle.calls_core.specs.Linearizations.{IsLegalHistory, IsRun, start, IsLinearOrder}
 use Rattle.calls_core.specs.Linearizations.{IsAnsweredLinearization, IsAnsweredLinearizationOn}
 use Rattle.calls_core.specs.Linearizations.{calls_on, pending_on, KeepsOrder}
 use Rattle.calls_core.specs.Completions.{IsLinearization, IsLinearizable, IsLinearizableOn}
@@ -77,8 +77,8 @@ OneObject = (kind : Kind) (past : List Event) → IsHistory (kind ∷ []) past
     → IsLinearizable (kind ∷ []) past ↔ HasOrderOf kind past
 
 -- a prefix of a linearizable history is linearizable
-abbrev pub ABeginningIsLinearizable : Type 0
-ABeginningIsLinearizable = (kinds : List Kind) (late past : List Event)
+abbrev pub APrefixIsLinearizable : Type 0
+APrefixIsLinearizable = (kinds : List Kind) (late past : List Event)
     → IsHistory kinds (late ++ past) → IsLinearizable kinds (late ++ past)
     → IsLinearizable kinds past
 
@@ -86,16 +86,16 @@ ABeginningIsLinearizable = (kinds : List Kind) (late past : List Event)
 -- response, and the points never fall
 abbrev pub OrderHasPoints : Type 0
 OrderHasPoints = (kind : Kind) (m : ℕ → ℕ) (done : List Call) (pending : List PendingCall) (t : ℕ)
-    (cs : List Call) → AreCallsOf kind done pending t → IsLinearOrder (IsSequentialRun m) done
+    (cs : List Call) → AreCallsOf kind done pending t → IsLinearOrder (IsLegalHistory m) done
     pending t cs
-    → IsPlacedOrder (IsSequentialRun m) done pending t (placed_one 0 cs)
+    → IsPlacedOrder (IsLegalHistory m) done pending t (placed_one 0 cs)
 
 -- the same for the calls of object k among those of many
 abbrev pub OrderOnHasPoints : Type 0
 OrderOnHasPoints = (kinds : List Kind) (k : ℕ) (done : List Call) (pending : List PendingCall)
     (t : ℕ) (cs : List Call) → AreCalls kinds done pending t
-    → IsLinearOrder (IsSequentialRun (start kinds k)) (calls_on k done) (pending_on k pending) t cs
-    → IsPlacedOrder (IsSequentialRun (start kinds k)) (calls_on k done) (pending_on k pending) t
+    → IsLinearOrder (IsLegalHistory (start kinds k)) (calls_on k done) (pending_on k pending) t cs
+    → IsPlacedOrder (IsLegalHistory (start kinds k)) (calls_on k done) (pending_on k pending) t
     (placed_one 0 cs)
 
 -- and the converse: if each call has a point between its invocation and its response, and the
@@ -108,6 +108,6 @@ PointsKeepTheOrder = (ps : List Placed) → Each Within ps → EachPair NoLater 
 abbrev pub PlacedPartsMakeWhole : Type 0
 PlacedPartsMakeWhole = (kinds : List Kind) (done : List Call) (pending : List PendingCall) (t : ℕ)
     (ps : List Placed)
-    → ((k : ℕ) → IsPlacedOrder (IsSequentialRun (start kinds k)) (calls_on k done)
+    → ((k : ℕ) → IsPlacedOrder (IsLegalHistory (start kinds k)) (calls_on k done)
     (pending_on k pending) t (placed_on k ps))
     → IsPlacedOrder (IsRun (start kinds)) done pending t (by_points ps)

@@ -3,7 +3,7 @@ ghost use Rattle.calls_local.specs.Laws.{HistoriesHaveCalls, APartIsAHistory};
 ghost use Rattle.calls_local.specs.Laws.{PartsAreLinearized, PartsMakeWhole};
 ghost use Rattle.calls_local.specs.Laws.{ResponsesBecomeAnswers, AnswersBecomeResponses};
 ghost use Rattle.calls_local.specs.Laws.{Locality, LinearizableByOrders, OneObject};
-ghost use Rattle.calls_local.specs.Laws.{ABeginningIsLinearizable};
+ghost use Rattle.calls_local.specs.Laws.{APrefixIsLinearizable};
 ghost use Rattle.calls_local.specs.Laws.{OrderHasPoints, OrderOnHasPoints, PlacedPartsMakeWhole};
 ghost use Rattle.calls_local.specs.Laws.{PointsKeepTheOrder};
 ghost use Rattle.calls_local.specs.Renamings.{NumbersAreNames};
@@ -61,8 +61,8 @@ pub fn one_object()
 {}
 
 /// States that each prefix of a linearizable history is linearizable.
-pub fn a_beginning_is_linearizable()
-    ensures { ABeginningIsLinearizable }
+pub fn a_prefix_is_linearizable()
+    ensures { APrefixIsLinearizable }
 {}
 
 /// States that the calls of an order of one object have linearization points, which never fall.

@@ -4,7 +4,7 @@ ghost use Rattle.std.specs.Prelude.{◌≡◌, ◌==◌, [], IfOk};
 ghost use Rattle.std.specs.List.{position};
 ghost use Rattle.calls_monitor.specs.declared.monitor.Pending.{Pending};
 ghost use Rattle.calls_monitor.specs.Monitors.{Judges};
-ghost use Rattle.calls_monitor.specs.kept.Watching.{Watches, IsHanded};
+ghost use Rattle.calls_monitor.specs.kept.Watching.{Watches, IsPassed};
 
 use crate::Refusal;
 use crate::object::Watch;
@@ -85,22 +85,22 @@ impl Monitor {
                     worker: event.worker,
                     object,
                 });
-                self.hand(object, event)
+                self.pass_to_object(object, event)
             }
             Action::Respond(_reply) => {
                 let Some(i) = find(self.pending.as_slice(), event.worker) else {
                     return Ok(());
                 };
                 let object = self.pending.remove(i).object;
-                self.hand(object, event)
+                self.pass_to_object(object, event)
             }
         }
     }
 
     /// Passes an event to the monitor of its object.
-    fn hand(&mut self, object: usize, event: Event) -> Result<(), Rejection>
+    fn pass_to_object(&mut self, object: usize, event: Event) -> Result<(), Rejection>
         ensures pending { self.new.pending ≡ self.old.pending }
-        ensures handed { IsHanded self.old.objects.items self.new.objects.items object event
+        ensures passed { IsPassed self.old.objects.items self.new.objects.items object event
             result }
     {
         if object >= self.objects.len() {

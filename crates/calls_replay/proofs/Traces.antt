@@ -18,7 +18,7 @@ use Rattle.ec_heading.specs.Versions.{CanSpellAll, can_spell}
 use Rattle.ec_heading.specs.declared.version.Version.{Version}
 use Rattle.ec_heading.specs.declared.version.Version.TheVariants.{Two}
 use Rattle.ec_heading.proofs.shared.TreeFound.{version_found}
-use Rattle.ec_trace.specs.Outcome.{outcome}
+use Rattle.ec_trace.specs.Outcome.{parse_result}
 use Rattle.ec_trace.specs.declared.read.TheConstants.{TRACE_MAX}
 use Rattle.ec_trace.proofs.shared.ReadTraces.{written_is_read}
 use Rattle.calls_core.specs.declared.history.Placed.{Placed}
@@ -26,7 +26,7 @@ use Rattle.calls_kernel.specs.Made.{AreInARow}
 use Rattle.calls_text.specs.Recordings.{RecordingModel}
 use Rattle.calls_text.specs.Rules.{KeepsRules}
 use Rattle.calls_report.specs.declared.status.Status.TheVariants.{Done, InputOutput}
-use Rattle.calls_report.specs.Checks.{Outlets}
+use Rattle.calls_report.specs.Checks.{Outputs}
 use Rattle.calls_replay.specs.Made.{made_of}
 use Rattle.calls_replay.specs.Replays.{IsTraceOfOrder, TracesOfOrdersAreRead, left_out, left_note}
 use Rattle.calls_replay.specs.kept.Going.{AreMadeIn}
@@ -67,7 +67,7 @@ module _ (r : RecordingModel) (order : List Placed) (run : runs.RunModel) (h : H
     (keeps : KeepsRules r) (same : run.setup ≡ h.setup)
     (accepted : IsAccepted run.setup (reverse run.entries))
     (made : AreMadeIn h.setup (made_of h.setup.limit order) (reverse run.entries))
-    (old new : Outlets) where
+    (old new : Outputs) where
   abbrev trace : List ℕ
   trace = trace_text keeps.heading.outline run.entries
 
@@ -112,6 +112,6 @@ traces_of_orders_are_read text read order trace x within =
     x.trace_is.made.accepted in
     let small : length (trace_text o steps) ≤ TRACE_MAX =
     subst (λ (l : List ℕ). length l ≤ TRACE_MAX) spells within in
-    ap (outcome TRACE_MAX) spells
+    ap (parse_result TRACE_MAX) spells
     ∙ written_is_read o steps x.trace_is.is accepted (can_spell_all o.version steps version) small
     ∙ ap (λ (k : HeadingModel). Ok (record { heading = k; entries = steps })) x.trace_is.declares

@@ -5,7 +5,7 @@ use Rattle.std.specs.Io.KnownBytes.{Appends, Keeps}
 use Rattle.ec_text.specs.Puts.{Puts, AppendsPrefix}
 use Rattle.ec_heading.specs.HeaderTree.{HeaderTree, IsHeaderTree, heading_of_tree}
 use Rattle.ec_heading.specs.Spelling.{trace_text}
-use Rattle.ec_trace.specs.Outcome.{outcome}
+use Rattle.ec_trace.specs.Outcome.{parse_result}
 use Rattle.ec_trace.specs.declared.read.TheConstants.{TRACE_MAX}
 use Rattle.calls_core.specs.declared.history.Action.{Action}
 use Rattle.calls_core.specs.declared.history.Action.TheVariants.{Invoke, Respond}
@@ -14,13 +14,13 @@ use Rattle.calls_core.specs.declared.history.Placed.{Placed}
 use Rattle.calls_kernel.specs.Made.{AreMade}
 use Rattle.calls_text.specs.Recordings.{RecordingModel}
 use Rattle.calls_text.specs.Reading.{Opening}
-use Rattle.calls_text.specs.Outcomes.{OneRead, goes, lines_of_text}
+use Rattle.calls_text.specs.Outcomes.{OneRead, parse_from, lines_of_text}
 use Rattle.calls_text.specs.Laws.{IsSpelled}
 use Rattle.calls_report.specs.declared.checking.TheConstants.{TEXT_MAX}
 use Rattle.calls_report.specs.declared.status.Status.{Status}
 use Rattle.calls_report.specs.declared.status.Status.TheVariants.{Done, Refused, Usage}
 use Rattle.calls_report.specs.declared.status.Status.TheVariants.{InputOutput, Memory, NotDecided}
-use Rattle.calls_report.specs.Checks.{Outlets, HasOrder, IsUnread, SaysRefused, SaysOpen}
+use Rattle.calls_report.specs.Checks.{Outputs, HasOrder, IsUnread, SaysRefused, SaysOpen}
 use Rattle.calls_report.specs.Checks.{IsTooLarge, IsNothingRead}
 use Rattle.calls_replay.specs.declared.obstacle.Obstacle.{Obstacle}
 use Rattle.calls_replay.specs.Made.{is_made, made_of}
@@ -63,7 +63,7 @@ pub record IsTraceOfOrder (r : RecordingModel) (order : List Placed) (text : Lis
 
 -- a text that begins with this history
 pub record Begins (text : List ℕ) (read : OneRead) : Type 0 where
-  pub reads : goes 1 Opening (lines_of_text text) ≡ Ok read
+  pub reads : parse_from 1 Opening (lines_of_text text) ≡ Ok read
   pub spelled : IsSpelled text 1 read
 
 -- the text is one history, and this is the trace of a linearization of it
@@ -82,7 +82,7 @@ pub record Hinders (text : List ℕ) (read : OneRead) (why : Obstacle) : Type 0 
 -- THE END OF THE COMMAND
 
 -- a call of a linearization, at this index, was not made as it was recorded
-abbrev pub SaysDiffers : List ℕ → Outlets → Outlets → Type 0
+abbrev pub SaysDiffers : List ℕ → Outputs → Outputs → Type 0
 SaysDiffers text old new =
     (read : OneRead) × (order : List Placed) × (index : ℕ) × Begins text read
     × HasOrder read.recorded order × Puts old.notes new.notes (differs_note index)
@@ -92,7 +92,7 @@ SaysDiffers text old new =
 -- after a prefix of the trace. Otherwise nothing was written, and a note says why: the text is not
 -- a history, its history is not linearizable or not decided, as `check` says it; the history has no
 -- trace; a call was not made as it was recorded; or memory ran out
-abbrev pub ReplaysText : Status → List ℕ → Outlets → Outlets → Type 0
+abbrev pub ReplaysText : Status → List ℕ → Outputs → Outputs → Type 0
 ReplaysText Done text old new =
     (read : OneRead) × (order : List Placed) × (trace : List ℕ)
     × IsReplayed text read order trace × Appends old.out new.out trace
@@ -114,7 +114,7 @@ ReplaysText Memory text old new =
     Keeps old.out new.out × Puts old.notes new.notes (codes "no memory\n")
 
 -- how the command ended, for an input that had these bytes and has those left
-abbrev pub Replays : List ℕ → Option (List ℕ) → Status → Outlets → Outlets → Type 0
+abbrev pub Replays : List ℕ → Option (List ℕ) → Status → Outputs → Outputs → Type 0
 Replays bytes left status old new =
     ((length bytes ≤ TEXT_MAX) × ReplaysText status bytes old new)
     ⊎ (IsTooLarge status bytes old new ⊎ IsNothingRead status bytes left old new)
@@ -126,5 +126,5 @@ Replays bytes left status old new =
 abbrev pub TracesOfOrdersAreRead : Type 0
 TracesOfOrdersAreRead = (text : List ℕ) (read : OneRead) (order : List Placed) (trace : List ℕ)
     → (x : IsReplayed text read order trace) → length trace ≤ TRACE_MAX
-    → outcome TRACE_MAX trace
+    → parse_result TRACE_MAX trace
     ≡ Ok (record { heading = read.recorded.heading; entries = x.trace_is.made.steps })

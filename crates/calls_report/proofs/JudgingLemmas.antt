@@ -9,13 +9,13 @@ use Rattle.ec_text.specs.Puts.{OutputModel, Puts}
 use Rattle.ec_text.proofs.shared.PutLemmas.{puts_then}
 use Rattle.ec_heading.specs.HeadingModel.{HeadingModel}
 use Rattle.calls_core.specs.declared.history.Placed.{Placed}
-use Rattle.calls_text.specs.declared.fault.Kind.{Kind}
+use Rattle.calls_text.specs.declared.fault.FaultKind.{FaultKind}
 use Rattle.calls_text.specs.declared.fault.TextFault.{TextFault}
 use Rattle.calls_text.specs.declared.fault.TextFault.TheVariants as faults
 use Rattle.calls_text.specs.Recordings.{RecordingModel}
 use Rattle.calls_text.specs.Reading.{Stage, Opening, Limiting, Declaring, Running, Ended, step}
 use Rattle.calls_text.specs.Reading.{is_ended}
-use Rattle.calls_text.specs.Outcomes.{OneRead, ParseResult, LineAt, lines_of_text, goes, after_line, parse_end}
+use Rattle.calls_text.specs.Outcomes.{OneRead, ParseResult, LineAt, lines_of_text, parse_from, after_line, parse_end}
 use Rattle.calls_text.specs.Outcomes.{ReturnsFault}
 use Rattle.calls_report.specs.declared.checking.Stop.{Stop}
 use Rattle.calls_report.specs.declared.checking.Stop.TheVariants as stops
@@ -39,8 +39,8 @@ same_lines a b h k ls ms n m order e f q put =
 
 -- NUMBERS OF LINES
 
-by_none : (n : ℕ) (s : Stage) → is_ended s ≡ false → goes n s [] ≡ parse_end n s []
-unfolding goes is_ended
+by_none : (n : ℕ) (s : Stage) → is_ended s ≡ false → parse_from n s [] ≡ parse_end n s []
+unfolding parse_from is_ended
 by_none n Opening going = refl
 by_none n Limiting going = refl
 by_none n (Declaring d) going = refl
@@ -54,8 +54,8 @@ no_read : {P : Type 0} (f : LineAt) (y : OneRead) → ◌≡◌ {A = ParseResult
 no_read f y same = absurd (let never : ⊥ = cc in never)
 
 at_end : (n : ℕ) (s : Stage) (ps : List (List ℕ)) (o : OneRead) → is_ended s ≡ true
-    → goes n s ps ≡ Ok o → n ≤ o.number
-unfolding goes is_ended
+    → parse_from n s ps ≡ Ok o → n ≤ o.number
+unfolding parse_from is_ended
 at_end n Opening ps o over is = cc
 at_end n Limiting ps o over is = cc
 at_end n (Declaring d) ps o over is = cc
@@ -65,7 +65,7 @@ at_end n (Ended r) ps o over is =
     (one_read (record { recorded = r; number = n; rest = ps }) o is) in
     omega arith
 
-takes_on : (n : ℕ) (line : List ℕ) (r : Result Stage Kind) (others : Stage
+takes_on : (n : ℕ) (line : List ℕ) (r : Result Stage FaultKind) (others : Stage
     → ParseResult) (o : OneRead)
     → ((t : Stage) → others t ≡ Ok o → n + 1 ≤ o.number) → after_line n line r others ≡ Ok o
     → n + 1 ≤ o.number
@@ -84,17 +84,17 @@ either_way false n m most = omega arith
 
 -- a history ends on a later line than it begins, unless it has ended there
 goes_on : (b : Bool) (ps : List (List ℕ)) (n : ℕ) (s : Stage) (o : OneRead) → is_ended s ≡ b
-    → goes n s ps ≡ Ok o → (if b then n else n + 1) ≤ o.number
+    → parse_from n s ps ≡ Ok o → (if b then n else n + 1) ≤ o.number
 goes_on true ps n s o over is = at_end n s ps o over is
 goes_on false [] n s o going is = ended_on n s [] o (sym (by_none n s going) ∙ is)
 goes_on false (rest ∷ []) n s o going is = ended_on n s rest o (sym (by_rest n s rest going) ∙ is)
 goes_on false (line ∷ next ∷ others) n s o going is =
-    takes_on n line (step s line) (λ t. goes (n + 1) t (next ∷ others)) o
+    takes_on n line (step s line) (λ t. parse_from (n + 1) t (next ∷ others)) o
     (λ t e. either_way (is_ended t) (n + 1) o.number
     (goes_on (is_ended t) (next ∷ others) (n + 1) t o refl e))
     (sym (by_line n s line next others going) ∙ is)
 
-pub goes_past : (n : ℕ) (ps : List (List ℕ)) (o : OneRead) → goes n Opening ps ≡ Ok o
+pub goes_past : (n : ℕ) (ps : List (List ℕ)) (o : OneRead) → parse_from n Opening ps ≡ Ok o
     → n + 1 ≤ o.number
 unfolding is_ended
 goes_past n ps o is = goes_on false ps n Opening o refl is
@@ -144,11 +144,15 @@ no_end n rest left = λ past none. by_bytes rest (left past) none
 -- ONE HISTORY MORE
 
 judged_more : (n : ℕ) (ps : List (List ℕ)) (js : List JudgedHistory) (m : ℕ) (qs : List (List ℕ))
-    (j : JudgedHistory) → AreJudged n ps js m qs → goes m Opening qs ≡ Ok j.read
+    (j : JudgedHistory) → AreJudged n ps js m qs → parse_from m Opening qs ≡ Ok j.read
     → HasOrder j.read.recorded j.order
     → AreJudged n ps (js ++ j ∷ []) j.read.number j.read.rest
-judged_more n ps [] m qs j are reads has =
-    (ap (λ k. goes k Opening ps) are.0 ∙ ap (goes m Opening) are.1 ∙ reads, has, (refl, refl))
+judged_more n ps [] m qs j are reads has = (
+  ap (λ k. parse_from k Opening ps) are.0 ∙ ap (parse_from m Opening) are.1
+      ∙ reads,
+  has,
+  (refl, refl),
+)
 judged_more n ps (k ∷ js) m qs j are reads has =
     (are.0, are.1, judged_more k.read.number k.read.rest js m qs j are.2 reads has)
 
@@ -166,7 +170,7 @@ remarks_more js j =
 
 pub so_far_more : (text : List ℕ) (n : ℕ) (rest : List ℕ) (old mid new before among after : OutputModel)
     (r : RecordingModel) (m : ℕ) (more : List ℕ) → IsJudgedSoFar text n rest old mid before among
-    → goes n Opening (lines_of_text rest)
+    → parse_from n Opening (lines_of_text rest)
     ≡ Ok (record { recorded = r; number = m; rest = lines_of_text more })
     → PutsOrder r mid new → Puts among after (remarks_text m r)
     → IsJudgedSoFar text m more old new before after
@@ -195,7 +199,8 @@ same_put a b c bs same put = subst (λ k. Puts a k bs) (sym same) put
 
 pub judges_unread : (text : List ℕ) (n : ℕ) (rest : List ℕ) (old new before among after : OutputModel)
     (fault : TextFault) → IsJudgedSoFar text n rest old new before among
-    → IsNoEnd n (lines_of_text rest) → ReturnsFault (goes n Opening (lines_of_text rest)) fault
+    → IsNoEnd n (lines_of_text rest)
+    → ReturnsFault (parse_from n Opening (lines_of_text rest)) fault
     → Puts among after (fault_note fault)
     → Judges (fault_status fault) text old new before after
 judges_unread text n rest old new before among after (faults.At m kind cause) so goes_on tells says = (
@@ -230,7 +235,8 @@ judges_unread text n rest old new before among after faults.Memory so goes_on te
 
 pub judges_stopped : (text : List ℕ) (n : ℕ) (rest : List ℕ)
     (old new before among mid after : OutputModel) (o : OneRead) (stop : Stop)
-    → IsJudgedSoFar text n rest old new before among → goes n Opening (lines_of_text rest) ≡ Ok o
+    → IsJudgedSoFar text n rest old new before among
+    → parse_from n Opening (lines_of_text rest) ≡ Ok o
     → StopsBy o.number o.recorded among mid stop → EndsBy stop mid after
     → Judges (status_by stop) text old new before after
 judges_stopped text n rest old new before among mid after o stops.Refused so reads stop same = (

@@ -23,7 +23,7 @@ use Rattle.calls_counts.specs.Faults.{is_advance, least}
 use Rattle.calls_counts.proofs.Events.{count_without}
 use Rattle.calls_report.specs.Counting.{invokes_advance_of, is_advance_of}
 use Rattle.calls_report.specs.Remarks.{returned_advances, returned_after, shown_count, greatest_shown}
-use Rattle.calls_report.specs.kept.Sure.{is_open, is_open_after, left_after, raised_by}
+use Rattle.calls_report.specs.kept.Sure.{is_pending_advance, is_open_after, left_after, raised_by}
 
 -- ADVANCES, BY A TEST OF THEIR INVOCATIONS' POSITIONS
 
@@ -34,7 +34,7 @@ abbrev done_at : (ℕ → Bool) → ℕ → Call → Bool
 done_at q k c = q c.first && ((c.object == k) && is_advance c.op)
 
 abbrev open_at : (ℕ → Bool) → ℕ → PendingCall → Bool
-open_at q k o = q o.first && is_open k o
+open_at q k o = q o.first && is_pending_advance k o
 
 none_taken : (w : ℕ) (os : List PendingCall) → pending_of w os ≡ None → without w os ≡ os
 none_taken w [] e = refl
@@ -187,7 +187,7 @@ returned_is kinds k events i d lt h =
 
 -- how many of all advances have returned
 pub all_returned : (k : ℕ) (events : List Event) → returned_advances k events
-    ≡ count_by (is_advance_of k) events - count_by (is_open k) (pending_calls (reverse events))
+    ≡ count_by (is_advance_of k) events - count_by (is_pending_advance k) (pending_calls (reverse events))
 all_returned k events =
     omega (arith, count_reversed (is_advance_of k) events, called_are (λ p. true) k (reverse events))
 

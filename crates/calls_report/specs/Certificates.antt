@@ -26,7 +26,7 @@ use Rattle.calls_text.specs.Recordings.{RecordingModel, start_count, initial_of}
 use Rattle.calls_report.specs.declared.counting.CountFilter.TheVariants.{Advances, Tickets, Taken}
 use Rattle.calls_report.specs.declared.certificate.Certificate.{Certificate}
 use Rattle.calls_report.specs.declared.certificate.Certificate.TheVariants as shows
-use Rattle.calls_report.specs.Counting.{is_counted, is_counted_pending, is_advance_of, is_up_of}
+use Rattle.calls_report.specs.Counting.{is_counted, is_counted_pending, is_advance_of, is_v_of}
 
 -- the events up to a position, of events whose positions are their indices
 abbrev pub events_upto : ℕ → List Event → List Event
@@ -80,7 +80,7 @@ unit_certificate h events f = shows.Units
     f.index
     (count_by (is_counted (Taken f.index)) (completed_calls (reverse events)))
     (units_of h f.index)
-    (count_by (is_up_of f.index) events)
+    (count_by (is_v_of f.index) events)
 
 -- the certificate of a fault of a cell or a database
 abbrev pub distinct_certificate : distincts.Fault → Certificate

@@ -13,19 +13,19 @@ use Rattle.calls_core.specs.Points.{IsPlacedOrder}
 use Rattle.calls_verdict.specs.declared.verdict.Refusal.{Refusal}
 use Rattle.calls_verdict.specs.declared.verdict.Undecided.{Undecided}
 use Rattle.calls_verdict.specs.Verdicts.{IsFirstRefusal, IsNotDecided}
-use Rattle.calls_text.specs.declared.fault.Kind as kinds
+use Rattle.calls_text.specs.declared.fault.FaultKind as kinds
 use Rattle.calls_text.specs.declared.fault.TextFault.TheVariants.{At}
 use Rattle.calls_text.specs.Causes.{cause_of}
 use Rattle.calls_text.specs.Recordings.{RecordingModel, IsRecording}
 use Rattle.calls_text.specs.Reading.{Opening}
-use Rattle.calls_text.specs.Outcomes.{OneRead, goes, fault_in, lines_of_text}
+use Rattle.calls_text.specs.Outcomes.{OneRead, parse_from, fault_in, lines_of_text}
 use Rattle.calls_report.specs.declared.checking.TheConstants.{TEXT_MAX}
 use Rattle.calls_report.specs.declared.status.Status.{Status}
 use Rattle.calls_report.specs.declared.status.Status.TheVariants.{Done, Refused, Usage}
 use Rattle.calls_report.specs.declared.status.Status.TheVariants.{InputOutput, Memory, NotDecided}
 use Rattle.calls_report.specs.Orders.{order_lines}
 use Rattle.calls_report.specs.Totals.{totals_text}
-use Rattle.calls_report.specs.Notes.{fault_note, scene_of, SaysRefusal, undecided_note}
+use Rattle.calls_report.specs.Notes.{fault_note, site_of, SaysRefusal, undecided_note}
 use Rattle.calls_report.specs.Remarks.{remarks_text}
 
 -- ONE HISTORY
@@ -51,8 +51,8 @@ IsRefused r x =
     (ks : List Kind) × IsRecording r ks × IsFirstRefusal ks (reverse r.events) x.at x.object x.fault
 
 -- the history is not decided
-abbrev pub IsOpen : RecordingModel → Undecided → Type 0
-IsOpen r u = (ks : List Kind) × IsRecording r ks × IsNotDecided ks (reverse r.events) u
+abbrev pub IsUndecided : RecordingModel → Undecided → Type 0
+IsUndecided r u = (ks : List Kind) × IsRecording r ks × IsNotDecided ks (reverse r.events) u
 
 -- HISTORIES, ONE AFTER ANOTHER
 
@@ -66,7 +66,7 @@ pub record JudgedHistory : Type 0 where
 abbrev pub AreJudged : ℕ → List (List ℕ) → List JudgedHistory → ℕ → List (List ℕ) → Type 0
 AreJudged n ps [] m qs = (n ≡ m) × (ps ≡ qs)
 AreJudged n ps (j ∷ js) m qs =
-    (goes n Opening ps ≡ Ok j.read) × HasOrder j.read.recorded j.order
+    (parse_from n Opening ps ≡ Ok j.read) × HasOrder j.read.recorded j.order
     × AreJudged j.read.number j.read.rest js m qs
 
 -- their texts
@@ -82,7 +82,8 @@ remarks_on js = flat_map (λ (j : JudgedHistory). remarks_text j.read.number j.r
 -- the lines from line m on are not a history, and this note says why
 abbrev pub IsUnread : ℕ → List (List ℕ) → List ℕ → Type 0
 IsUnread m qs note =
-    (n : ℕ) × (kind : kinds.Kind) × (line : List ℕ) × (goes m Opening qs ≡ fault_in n kind line)
+    (n : ℕ) × (kind : kinds.FaultKind) × (line : List ℕ)
+    × (parse_from m Opening qs ≡ fault_in n kind line)
     × (note ≡ fault_note (At n kind (cause_of kind line)))
 
 -- this is not the end of a text after a history
@@ -97,15 +98,15 @@ SaysUnread m qs old new =
 -- the history from line m on has no linearization, and a note says why
 abbrev pub SaysRefused : ℕ → List (List ℕ) → OutputModel → OutputModel → Type 0
 SaysRefused m qs old new =
-    (read : OneRead) × (refusal : Refusal) × (goes m Opening qs ≡ Ok read)
+    (read : OneRead) × (refusal : Refusal) × (parse_from m Opening qs ≡ Ok read)
     × IsRefused read.recorded refusal × SaysRefusal read.number read.recorded refusal old new
 
 -- it is not decided, and a note says why
 abbrev pub SaysOpen : ℕ → List (List ℕ) → OutputModel → OutputModel → Type 0
 SaysOpen m qs old new =
-    (read : OneRead) × (u : Undecided) × (goes m Opening qs ≡ Ok read)
-    × IsOpen read.recorded u
-    × Puts old new (undecided_note (scene_of read.number read.recorded u.object 0) u.cause)
+    (read : OneRead) × (u : Undecided) × (parse_from m Opening qs ≡ Ok read)
+    × IsUndecided read.recorded u
+    × Puts old new (undecided_note (site_of read.number read.recorded u.object 0) u.cause)
 
 -- the status after these histories, at the lines from line m on. Done: the text ends, after at
 -- least one history; Refused: it is not a text of histories, or a history has no linearization, and
@@ -133,13 +134,13 @@ pub record IsJudged (status : Status) (text : List ℕ) (judged : List JudgedHis
 -- ALL OF IT
 
 -- the bytes of the output, and the notes
-pub record Outlets : Type 0 where
+pub record Outputs : Type 0 where
   pub out : Option (List ℕ)
   pub notes : OutputModel
 
 -- a text within the bound: the linearizations of the histories that were judged were written, or a
 -- write failed after a prefix of them
-abbrev pub ChecksText : Status → List ℕ → Outlets → Outlets → Type 0
+abbrev pub ChecksText : Status → List ℕ → Outputs → Outputs → Type 0
 ChecksText InputOutput text old new =
     (status : Status) × (judged : List JudgedHistory) × (notes : OutputModel)
     × IsJudged status text judged old.notes notes
@@ -149,19 +150,19 @@ ChecksText status text old new =
     (judged : List JudgedHistory) × IsJudged status text judged old.notes new.notes
     × Appends old.out new.out (texts_of judged)
 
-abbrev pub IsTooLarge : Status → List ℕ → Outlets → Outlets → Type 0
+abbrev pub IsTooLarge : Status → List ℕ → Outputs → Outputs → Type 0
 IsTooLarge Refused text old new =
     (TEXT_MAX < length text) × Keeps old.out new.out × Puts old.notes new.notes
     (codes "too large\n")
 IsTooLarge _ text old new = ⊥
 
 -- how `check_whole` ended
-abbrev pub ChecksWhole : Status → List ℕ → Outlets → Outlets → Type 0
+abbrev pub ChecksWhole : Status → List ℕ → Outputs → Outputs → Type 0
 ChecksWhole status text old new =
     ((length text ≤ TEXT_MAX) × ChecksText status text old new) ⊎ IsTooLarge status text old new
 
 -- nothing was judged, since a read failed, or memory ran out
-abbrev pub IsNothingRead : Status → List ℕ → Option (List ℕ) → Outlets → Outlets → Type 0
+abbrev pub IsNothingRead : Status → List ℕ → Option (List ℕ) → Outputs → Outputs → Type 0
 IsNothingRead InputOutput bytes left old new =
     IsCutShort TEXT_MAX bytes left × Keeps old.out new.out
     × Puts old.notes new.notes (codes "read fault\n")
@@ -170,7 +171,7 @@ IsNothingRead Memory bytes left old new =
 IsNothingRead _ bytes left old new = ⊥
 
 -- how `check` ended, for an input that had these bytes and has those left
-abbrev pub Checks : List ℕ → Option (List ℕ) → Status → Outlets → Outlets → Type 0
+abbrev pub Checks : List ℕ → Option (List ℕ) → Status → Outputs → Outputs → Type 0
 Checks bytes left status old new =
     ((length bytes ≤ TEXT_MAX) × ChecksText status bytes old new)
     ⊎ (IsTooLarge status bytes old new ⊎ IsNothingRead status bytes left old new)

@@ -35,9 +35,9 @@ invokes_advance_of k (Respond r) = false
 abbrev pub is_advance_of : ℕ → Event → Bool
 is_advance_of k x = invokes_advance_of k x.action
 
-abbrev pub invokes_up_of : ℕ → Action → Bool
-invokes_up_of i (Invoke j op) = adds i op
-invokes_up_of i (Respond r) = false
+abbrev pub invokes_v_of : ℕ → Action → Bool
+invokes_v_of i (Invoke j op) = adds i op
+invokes_v_of i (Respond r) = false
 
-abbrev pub is_up_of : ℕ → Event → Bool
-is_up_of i x = invokes_up_of i x.action
+abbrev pub is_v_of : ℕ → Event → Bool
+is_v_of i x = invokes_v_of i x.action

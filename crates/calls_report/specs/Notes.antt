@@ -1,8 +1,8 @@
 -- The notes.
 use Rattle.std.specs.Prelude.{ℕ, ◌-◌, List, ◌++◌, length, codes, decimal, if◌then◌else◌}
 use Rattle.ec_text.specs.Puts.{OutputModel, Puts}
-use Rattle.calls_text.specs.declared.fault.Kind.{Kind}
-use Rattle.calls_text.specs.declared.fault.Kind.TheVariants as kinds
+use Rattle.calls_text.specs.declared.fault.FaultKind.{FaultKind}
+use Rattle.calls_text.specs.declared.fault.FaultKind.TheVariants as kinds
 use Rattle.calls_text.specs.declared.fault.Cause.{Cause}
 use Rattle.calls_text.specs.declared.fault.Cause.TheVariants as causes
 use Rattle.calls_text.specs.declared.fault.TextFault.{TextFault}
@@ -19,7 +19,7 @@ use Rattle.calls_report.specs.Refusals.{SiteModel, line_of, is_cell, certificate
 -- FAULTS OF TEXTS
 
 -- the text for a kind of fault
-abbrev pub kind_text : Kind → List ℕ
+abbrev pub kind_text : FaultKind → List ℕ
 kind_text kinds.BadHeader = codes "evc-calls 1 is expected"
 kind_text kinds.BadLine = codes "no line of this form may stand here"
 kind_text kinds.BadName = codes "a word is no name"
@@ -38,7 +38,7 @@ kind_text kinds.Unsuited = codes "the reply does not suit the call"
 kind_text kinds.AtLimit = codes "the limit is passed"
 
 -- the text that says what is wrong with a line
-abbrev pub cause_text : Kind → Cause → List ℕ
+abbrev pub cause_text : FaultKind → Cause → List ℕ
 cause_text kind causes.Long = codes "more than 8192 bytes"
 cause_text kind causes.Mark = codes "a byte order mark"
 cause_text kind causes.Return = codes "a carriage return at the end"
@@ -52,7 +52,7 @@ cause_text kind causes.Other = kind_text kind
 abbrev pub line_words : ℕ → List ℕ
 line_words n = codes "line " ++ decimal n ++ codes ": "
 
-abbrev pub kind_words : Kind → List ℕ
+abbrev pub kind_words : FaultKind → List ℕ
 kind_words kind = decimal (kind_number kind) ++ codes " " ++ kind_name kind
 
 -- the note on a fault of a text
@@ -67,8 +67,8 @@ fault_note faults.Memory = codes "no memory\n"
 abbrev pub first_line : ℕ → RecordingModel → ℕ
 first_line n r = n - 1 - length r.events
 
-abbrev pub scene_of : ℕ → RecordingModel → ℕ → ℕ → SiteModel
-scene_of n r object at = record {
+abbrev pub site_of : ℕ → RecordingModel → ℕ → ℕ → SiteModel
+site_of n r object at = record {
   heading = r.heading;
   lists = r.lists;
   object = object;
@@ -77,8 +77,8 @@ scene_of n r object at = record {
 }
 
 -- the same, if n is the number of the line of the event at position 0
-abbrev pub scene_at : RecordingModel → ℕ → ℕ → ℕ → SiteModel
-scene_at r object n at = record {
+abbrev pub site_at : RecordingModel → ℕ → ℕ → ℕ → SiteModel
+site_at r object n at = record {
   heading = r.heading;
   lists = r.lists;
   object = object;
@@ -95,7 +95,7 @@ refusal_note s shown =
 abbrev pub SaysRefusal : ℕ → RecordingModel → Refusal → OutputModel → OutputModel → Type 0
 SaysRefusal n r refusal old new =
     (shown : Certificate) × IsCertificate r refusal shown
-    × Puts old new (refusal_note (scene_of n r refusal.object refusal.at) shown)
+    × Puts old new (refusal_note (site_of n r refusal.object refusal.at) shown)
 
 -- HISTORIES THAT ARE NOT DECIDED
 

@@ -14,7 +14,7 @@ use Rattle.calls_text.specs.Spelling.{worker_word, event_word}
 use Rattle.calls_report.specs.declared.remarks.Remark.{Remark}
 use Rattle.calls_report.specs.Certificates.{start_at}
 use Rattle.calls_report.specs.Refusals.{SiteModel, line_of}
-use Rattle.calls_report.specs.Notes.{scene_of}
+use Rattle.calls_report.specs.Notes.{site_of}
 
 -- WHAT THE COUNT HAS SURELY REACHED
 
@@ -86,4 +86,4 @@ remark_lines s ms = flat_map (remark_text s) ms
 
 -- the remarks on a history as text, if n is the number of the line after its `end`
 abbrev pub remarks_text : ℕ → RecordingModel → List ℕ
-remarks_text n r = remark_lines (scene_of n r 0 0) (remarks_of r)
+remarks_text n r = remark_lines (site_of n r 0 0) (remarks_of r)

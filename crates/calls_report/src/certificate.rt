@@ -6,7 +6,7 @@ ghost use Rattle.calls_report.specs.Certificates.{ticket_certificate, units_of, 
 ghost use Rattle.calls_report.specs.Certificates.{IsValueCertificate, IsCertificate};
 
 use crate::counting::{
-    CountFilter, count_advances, count_completed, count_pending_tickets, count_ups,
+    CountFilter, count_advances, count_completed, count_pending_tickets, count_v_calls,
 };
 use calls_core::{Call, Event, Reply};
 use calls_text::Recording;
@@ -184,7 +184,7 @@ fn of_units<'a>(
         place,
         taken: count_completed(alloc, events, CountFilter::Taken(place))?,
         units: units_of(heading, place),
-        added: count_ups(events, place),
+        added: count_v_calls(events, place),
     })
 }
 

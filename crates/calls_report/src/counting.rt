@@ -4,7 +4,7 @@ ghost use Rattle.std.specs.List.{cons_option};
 ghost use Rattle.calls_core.specs.Histories.{ended_call, pending_of};
 ghost use Rattle.calls_core.specs.Histories.{completed_calls, pending_calls};
 ghost use Rattle.calls_report.specs.Counting.{is_counted, is_counted_pending, is_advance_of};
-ghost use Rattle.calls_report.specs.Counting.{is_up_of};
+ghost use Rattle.calls_report.specs.Counting.{is_v_of};
 
 use calls_core::{Action, Call, Event, Op, PendingCall, Reply};
 use calls_verdict::{find, follow};
@@ -159,8 +159,8 @@ pub(crate) fn count_advances(events: &[Event], object: usize) -> usize
 }
 
 /// Returns how many `v` of a semaphore were invoked. `place` is its index among the groups.
-pub(crate) fn count_ups(events: &[Event], place: usize) -> usize
-    ensures { result ≡ count_by (is_up_of place) events.now }
+pub(crate) fn count_v_calls(events: &[Event], place: usize) -> usize
+    ensures { result ≡ count_by (is_v_of place) events.now }
 {
     events
         .iter()

@@ -3,7 +3,7 @@ ghost use Rattle.std.specs.Prelude.{◌≡◌, ◌++◌, codes, OnOk, OnErr};
 ghost use Rattle.ec_text.specs.Puts.{Puts, IsWrittenOut};
 ghost use Rattle.calls_report.specs.Refusals.{line_of};
 ghost use Rattle.calls_report.specs.Notes.{cause_text, kind_text, line_words, kind_words};
-ghost use Rattle.calls_report.specs.Notes.{fault_note, first_line, scene_of, scene_at};
+ghost use Rattle.calls_report.specs.Notes.{fault_note, first_line, site_of, site_at};
 ghost use Rattle.calls_report.specs.Notes.{refusal_note};
 ghost use Rattle.calls_report.specs.Notes.{SaysRefusal, repeated_words, repeated_text};
 ghost use Rattle.calls_report.specs.Notes.{overlap_text, undecided_text, undecided_note};
@@ -11,38 +11,38 @@ ghost use Rattle.calls_report.specs.Notes.{overlap_text, undecided_text, undecid
 use crate::certificate::{Certificate, certify};
 use crate::refusal::Site;
 use crate::words::Speaker;
-use calls_text::{Cause, Kind, Read, Recording, TextFault};
+use calls_text::{Cause, FaultKind, Read, Recording, TextFault};
 use calls_verdict::{Refusal, Undecided};
 use ec_text::Output;
 use std::alloc::{AllocError, Global};
 use std::io::Write;
 
 /// Returns the text for a kind of fault.
-fn kind_text(kind: Kind) -> &'static [u8]
+fn kind_text(kind: FaultKind) -> &'static [u8]
     ensures { result.now ≡ kind_text kind }
 {
     match kind {
-        Kind::BadHeader => b"evc-calls 1 is expected",
-        Kind::BadLine => b"no line of this form may stand here",
-        Kind::BadName => b"a word is no name",
-        Kind::NameTaken => b"a name was used before",
-        Kind::UnknownName => b"a name is not declared",
-        Kind::BadNumber => b"a number is out of range",
-        Kind::TooMany => b"a table would pass its bound",
-        Kind::Hidden => b"the object belongs to a group",
-        Kind::TwoRoles => b"one stands in both roles",
-        Kind::NoRight => b"the worker lacks the right",
-        Kind::BadOrder => b"the from lines are not in the order of the declarations",
-        Kind::Unfinished => b"the text ends too early",
-        Kind::Busy => b"the call of the worker is pending",
-        Kind::Idle => b"the worker has no pending call",
-        Kind::Unsuited => b"the reply does not suit the call",
-        Kind::AtLimit => b"the limit is passed",
+        FaultKind::BadHeader => b"evc-calls 1 is expected",
+        FaultKind::BadLine => b"no line of this form may stand here",
+        FaultKind::BadName => b"a word is no name",
+        FaultKind::NameTaken => b"a name was used before",
+        FaultKind::UnknownName => b"a name is not declared",
+        FaultKind::BadNumber => b"a number is out of range",
+        FaultKind::TooMany => b"a table would pass its bound",
+        FaultKind::Hidden => b"the object belongs to a group",
+        FaultKind::TwoRoles => b"one stands in both roles",
+        FaultKind::NoRight => b"the worker lacks the right",
+        FaultKind::BadOrder => b"the from lines are not in the order of the declarations",
+        FaultKind::Unfinished => b"the text ends too early",
+        FaultKind::Busy => b"the call of the worker is pending",
+        FaultKind::Idle => b"the worker has no pending call",
+        FaultKind::Unsuited => b"the reply does not suit the call",
+        FaultKind::AtLimit => b"the limit is passed",
     }
 }
 
 /// Returns the text that says what is wrong with a line.
-fn cause_text(kind: Kind, cause: Cause) -> &'static [u8]
+fn cause_text(kind: FaultKind, cause: Cause) -> &'static [u8]
     ensures { result.now ≡ cause_text kind cause }
 {
     match cause {
@@ -68,7 +68,7 @@ fn put_line<W: Write>(out: &mut Output<'_, W>, line: u64)
 }
 
 /// Puts the number and the name of a kind.
-fn put_kind<W: Write>(out: &mut Output<'_, W>, kind: Kind)
+fn put_kind<W: Write>(out: &mut Output<'_, W>, kind: FaultKind)
     ensures { Puts out.old out.new (kind_words kind) }
 {
     out.put_number(kind.number());
@@ -77,7 +77,7 @@ fn put_kind<W: Write>(out: &mut Output<'_, W>, kind: Kind)
 }
 
 /// Puts what is wrong with a line.
-fn put_cause<W: Write>(out: &mut Output<'_, W>, kind: Kind, cause: Cause)
+fn put_cause<W: Write>(out: &mut Output<'_, W>, kind: FaultKind, cause: Cause)
     ensures { Puts out.old out.new (codes ": " ++ cause_text kind cause ++ codes "\n") }
 {
     out.put(b": ");
@@ -118,7 +118,7 @@ fn first_line(read: &Read<'_>) -> u64
 
 /// Returns the site of a certificate in a history that was read.
 pub(crate) fn site_of<'a>(read: &'a Read<'_>, object: usize, at: usize) -> Site<'a>
-    ensures { result ≡ scene_of read.now.number read.now.recording object at }
+    ensures { result ≡ site_of read.now.number read.now.recording object at }
 {
     Site {
         speaker: Speaker::new(read.recording.heading(), read.recording.lists()),
@@ -167,7 +167,7 @@ pub fn report_refusal<N: Write>(
 
 /// Returns the site of a certificate. `first` is the number of the line of the event at position 0.
 fn site_at(recording: &Recording, object: usize, first: u64, at: usize) -> Site<'_>
-    ensures { result ≡ scene_at recording.now object first at }
+    ensures { result ≡ site_at recording.now object first at }
 {
     Site {
         speaker: Speaker::new(recording.heading(), recording.lists()),
@@ -189,7 +189,7 @@ pub fn report_certificate<N: Write>(
     shown: Certificate<'_>,
 )
     ensures puts { Puts notes.old notes.new
-        (refusal_note (scene_at recording.now object first at) shown.entry) }
+        (refusal_note (site_at recording.now object first at) shown.entry) }
     ensures written { IsWrittenOut notes.new }
 {
     put_refusal(notes, &site_at(recording, object, first, at), shown);
@@ -236,7 +236,7 @@ fn put_overlap<W: Write>(out: &mut Output<'_, W>, site: &Site<'_>, cause: &calls
 
 /// Reports why a history is not decided.
 pub fn report_undecided<N: Write>(notes: &mut Output<'_, N>, read: &Read<'_>, undecided: &Undecided)
-    ensures puts { Puts notes.old notes.new (undecided_note (scene_of read.now.number
+    ensures puts { Puts notes.old notes.new (undecided_note (site_of read.now.number
         read.now.recording undecided.now.object 0) undecided.now.cause) }
     ensures written { IsWrittenOut notes.new }
 {

@@ -3,7 +3,7 @@ ghost use Rattle.std.specs.Prelude.{◌≡◌, [], reverse, IfOk};
 ghost use Rattle.std.specs.List.{cons_option};
 ghost use Rattle.ec_text.specs.Puts.{Puts, IsWrittenOut};
 ghost use Rattle.calls_core.specs.Histories.{pending_calls};
-ghost use Rattle.calls_report.specs.Notes.{scene_of};
+ghost use Rattle.calls_report.specs.Notes.{site_of};
 ghost use Rattle.calls_report.specs.Remarks.{remark_by, remark_on, remarks_of, remark_head};
 ghost use Rattle.calls_report.specs.Remarks.{awaits_text, sure_text, remark_text, remark_lines};
 
@@ -129,7 +129,7 @@ pub(crate) fn report_remarks<N: Write>(
     remarks: &[Remark],
 )
     ensures puts { Puts notes.old notes.new (remark_lines
-        (scene_of read.now.number read.now.recording 0 0) remarks.now) }
+        (site_of read.now.number read.now.recording 0 0) remarks.now) }
     ensures written { IsWrittenOut notes.old → IsWrittenOut notes.new }
 {
     if remarks.is_empty() {

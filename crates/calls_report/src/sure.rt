@@ -5,7 +5,8 @@ ghost use Rattle.calls_counts.specs.Faults.{least};
 ghost use Rattle.calls_report.specs.Certificates.{start_at};
 ghost use Rattle.calls_report.specs.Counting.{is_advance_of};
 ghost use Rattle.calls_report.specs.Remarks.{returned_advances, greatest_shown, sure_count};
-ghost use Rattle.calls_report.specs.kept.Sure.{is_open, is_open_after, left_after, raised_by};
+ghost use Rattle.calls_report.specs.kept.Sure.{is_pending_advance, is_open_after, left_after};
+ghost use Rattle.calls_report.specs.kept.Sure.{raised_by};
 
 use crate::certificate::start_at;
 use crate::counting::{completed_call, count_advances, is_advance_of};
@@ -28,7 +29,7 @@ fn least(op: Op, reply: Reply) -> usize
 
 /// Returns how many pending calls are advances of an object.
 fn count_open(pending: &[PendingCall], object: usize) -> usize
-    ensures { result ≡ count_by (is_open object) pending.now }
+    ensures { result ≡ count_by (is_pending_advance object) pending.now }
 {
     pending
         .iter()

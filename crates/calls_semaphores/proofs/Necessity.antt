@@ -20,7 +20,7 @@ use Rattle.calls_core.specs.Lists.{Each}
 use Rattle.calls_core.specs.Calls.{IsCallOf}
 use Rattle.calls_core.specs.Histories.{IsHistoryOf, clock, completion, completed_calls}
 use Rattle.calls_core.specs.Histories.{pending_calls}
-use Rattle.calls_core.specs.Linearizations.{IsSequentialRun, KeepsOrder, answered_one}
+use Rattle.calls_core.specs.Linearizations.{IsLegalHistory, KeepsOrder, answered_one}
 use Rattle.calls_core.specs.Linearizations.{answered_calls, initial}
 use Rattle.calls_core.specs.Outcomes.{IsOrderOf}
 use Rattle.calls_core.proofs.Positions.{are_calls_of}
@@ -183,9 +183,9 @@ module _ (units : Vec ℕ Global) where
       count_less took_up (took_of i) r.prefix (λ k x lt e. (and_parts _ _ e).0) in
       let again : cs ≡ (r.prefix ++ d ∷ []) ++ r.back = r.is ∙ sym
       (append_assoc r.prefix (d ∷ []) r.back) in
-      let run : IsSequentialRun (initial (Some kind)) (r.prefix ++ d ∷ []) =
+      let run : IsLegalHistory (initial (Some kind)) (r.prefix ++ d ∷ []) =
       run_left (initial (Some kind)) (r.prefix ++ d ∷ []) r.back
-      (subst (IsSequentialRun (initial (Some kind))) again l.run) in
+      (subst (IsLegalHistory (initial (Some kind))) again l.run) in
       let bank_front : Each OfBank (r.prefix ++ d ∷ []) =
       each_left OfBank (r.prefix ++ d ∷ []) r.back
       (subst (Each OfBank) again bank_cs) in

@@ -16,7 +16,7 @@ use Rattle.calls_core.specs.declared.history.Call.{Call}
 use Rattle.calls_core.specs.Lists.{Each, EachPair}
 use Rattle.calls_core.specs.Histories.{Takes, IsHistoryOf, clock, completion, completed_calls}
 use Rattle.calls_core.specs.Histories.{pending_calls}
-use Rattle.calls_core.specs.Linearizations.{IsSequentialRun, KeepsOrder, answered_calls, initial}
+use Rattle.calls_core.specs.Linearizations.{IsLegalHistory, KeepsOrder, answered_calls, initial}
 use Rattle.calls_semaphores.specs.declared.bank.Bank.{Bank}
 use Rattle.calls_semaphores.specs.declared.fault.Fault.{Fault}
 use Rattle.calls_semaphores.specs.declared.scan.PendingUnits.{PendingUnits}
@@ -97,7 +97,7 @@ pub record IsLinearizationSoFar (units : Vec ℕ Global) (past : List Event) (t 
   pub each_once :
       IsPermutation (answered_calls t answer (pending_calls past) ++ completed_calls past) cs
   pub in_order : EachPair KeepsOrder cs
-  pub run : IsSequentialRun (initial (Some (Semaphores units))) cs
+  pub run : IsLegalHistory (initial (Some (Semaphores units))) cs
   pub early : Each (λ (c : Call). c.first < clock past) cs
   pub fits : Each (λ (c : Call). Takes (Some (Semaphores units)) c.op) cs
 

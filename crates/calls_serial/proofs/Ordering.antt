@@ -15,7 +15,7 @@ use Rattle.calls_core.specs.declared.history.PendingCall.{PendingCall}
 use Rattle.calls_core.specs.declared.history.Call.{Call}
 use Rattle.calls_core.specs.Lists.{Each, EachPair}
 use Rattle.calls_core.specs.Histories.{completion}
-use Rattle.calls_core.specs.Linearizations.{Gives, after, IsSequentialRun, Precedes, KeepsOrder}
+use Rattle.calls_core.specs.Linearizations.{Gives, after, IsLegalHistory, Precedes, KeepsOrder}
 use Rattle.calls_core.specs.Linearizations.{answered_one, answered_calls, IsLinearOrder}
 use Rattle.calls_core.proofs.Lists.{each_weaker, each_append, each_both}
 use Rattle.calls_core.proofs.Lists.{each_pair_append, all_pairs_from_each}
@@ -132,12 +132,12 @@ get_runs m v op r e f z =
     (f ∙ ap Number (sym z), refl)
 
 gets_run : (m : ℕ → ℕ) (v n t : ℕ) (gs rest : List Call) → m 0 ≡ v → Each (IsGot v n t) gs
-    → IsSequentialRun m rest → IsSequentialRun m (gs ++ rest)
+    → IsLegalHistory m rest → IsLegalHistory m (gs ++ rest)
 gets_run m v n t [] rest z h run = run
 gets_run m v n t (g ∷ gs) rest z h run =
     let s = get_runs m v g.op g.reply h.0.op h.0.reply z in (
       s.0,
-      subst (λ f. IsSequentialRun f (gs ++ rest)) (sym s.1)
+      subst (λ f. IsLegalHistory f (gs ++ rest)) (sym s.1)
           (gets_run m v n t gs rest z h.1 run),
     )
 
@@ -147,7 +147,7 @@ put_runs m v op r e f = subst (λ o. Gives m o r × (after m o r 0 ≡ v)) (sym 
 
 held_runs : (m : ℕ → ℕ) (v n t : ℕ) (put : Option Call) (gs rest : List Call) → IsStored v n put
     → Each (IsGot v n t) gs → (put ≡ None → m 0 ≡ 0)
-    → ((f : ℕ → ℕ) → IsSequentialRun f rest) → IsSequentialRun m ((put_calls put ++ gs) ++ rest)
+    → ((f : ℕ → ℕ) → IsLegalHistory f rest) → IsLegalHistory m ((put_calls put ++ gs) ++ rest)
 held_runs m v n t None gs rest s h z run =
     gets_run m v n t gs rest (z refl ∙ sym s.0) h (run m)
 held_runs m v n t (Some p) gs rest s h z run =
@@ -156,7 +156,7 @@ held_runs m v n t (Some p) gs rest s h z run =
 
 -- the calls of stages that all have a put are legal from any state
 rest_runs : (t : ℕ) (m : ℕ → ℕ) (hs : List StageView) → Each (IsHeld t) hs
-    → Each (λ (h : StageView). (p : Call) × (h.put ≡ Some p)) hs → IsSequentialRun m (all_calls hs)
+    → Each (λ (h : StageView). (p : Call) × (h.put ≡ Some p)) hs → IsLegalHistory m (all_calls hs)
 rest_runs t m [] h p = tt
 rest_runs t m (a ∷ hs) h p =
     held_runs m a.value a.moment t a.put a.gets (all_calls hs) h.0.put h.0.gets
@@ -164,7 +164,7 @@ rest_runs t m (a ∷ hs) h p =
     (λ f. rest_runs t f hs h.1 p.1)
 
 pub runs : (t : ℕ) (m : ℕ → ℕ) (hs : List StageView) → Each (IsHeld t) hs → EachPair Follows hs
-    → m 0 ≡ 0 → IsSequentialRun m (all_calls hs)
+    → m 0 ≡ 0 → IsLegalHistory m (all_calls hs)
 runs t m [] h f z = tt
 runs t m (a ∷ hs) h f z =
     held_runs m a.value a.moment t a.put a.gets (all_calls hs) h.0.put h.0.gets (λ e. z)
@@ -210,7 +210,7 @@ pub ordered : (end t : ℕ) (done : List Call) (os : List PendingCall) (stages :
     → EachPair Follows (stages ++ current now) → IsCurrent end now
     → pending_puts os ≡ current_puts now
     → IsPermutation done (all_calls stages ++ current_gets now)
-    → IsLinearOrder (IsSequentialRun (λ i. 0)) done os end (all_calls (stages ++ current now))
+    → IsLinearOrder (IsLegalHistory (λ i. 0)) done os end (all_calls (stages ++ current now))
 ordered end t done os stages now each pairs put puts once = record {
   answer = put_answer;
   each_once = subst

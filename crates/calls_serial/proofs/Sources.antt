@@ -17,7 +17,7 @@ use Rattle.calls_core.specs.declared.history.PendingCall.{PendingCall}
 use Rattle.calls_core.specs.declared.history.Call.{Call}
 use Rattle.calls_core.specs.Lists.{Each}
 use Rattle.calls_core.specs.Histories.{Takes, completion}
-use Rattle.calls_core.specs.Linearizations.{Gives, after, IsSequentialRun}
+use Rattle.calls_core.specs.Linearizations.{Gives, after, IsLegalHistory}
 use Rattle.calls_core.specs.Linearizations.{answered_one, answered_calls, IsLinearOrder}
 use Rattle.calls_core.specs.Calls.{IsCallOf, Early, AreCallsOf}
 use Rattle.calls_core.proofs.Lists.{each_weaker, each_append, all_from_each}
@@ -60,7 +60,7 @@ after_is m (P i) r h = absurd h
 after_is m (V i) r h = absurd h
 after_is m (PBoth i j) r h = absurd h
 
-source : (m : ℕ → ℕ) (v k : ℕ) (cs : List Call) (d : Call) → Each Access cs → IsSequentialRun m cs
+source : (m : ℕ → ℕ) (v k : ℕ) (cs : List Call) (d : Call) → Each Access cs → IsLegalHistory m cs
     → k < length cs → (get_or cs k d).op ≡ Get → (get_or cs k d).reply ≡ Number v
     → FromFirst (m 0) v k cs d ⊎ FromPut v k cs d
 source m v k [] d h run lt op r = absurd (omega arith)
@@ -123,7 +123,7 @@ answered_each Q t answer (o ∷ os) h =
 
 module _ (done : List Call) (pending : List PendingCall) (u t : ℕ)
     (given : AreCallsOf Cell done pending u) (late : u ≤ t) (cs : List Call)
-    (m : ℕ → ℕ) (zero_first : m 0 ≡ 0) (l : IsLinearOrder (IsSequentialRun m) done pending t cs)
+    (m : ℕ → ℕ) (zero_first : m 0 ≡ 0) (l : IsLinearOrder (IsLegalHistory m) done pending t cs)
     (d : Call) where
   here : (c : Call) → Contains done c → Contains cs c
   here c k = Contains-permutation (answered_calls t l.answer pending ++ done) cs c l.each_once
@@ -314,7 +314,7 @@ no_call = record { worker = 0; object = 0; op = Get; reply = Done; first = 0; la
 
 pub no_order : (done : List Call) (pending : List PendingCall) (u t : ℕ)
     → AreCallsOf Cell done pending u → u ≤ t → (cs : List Call) (m : ℕ → ℕ) → m 0 ≡ 0
-    → IsLinearOrder (IsSequentialRun m) done pending t cs → (gets : List Call)
+    → IsLinearOrder (IsLegalHistory m) done pending t cs → (gets : List Call)
     → Leaves done pending gets None → ⊥
 no_order done pending u t given late cs m z l gets h =
     none_left done pending u t given late cs m z l no_call gets h

@@ -8,9 +8,9 @@ use Rattle.calls_core.specs.Histories.{completed_calls}
 use Rattle.calls_shapes.specs.declared.tallies.CountFilter.{CountFilter}
 use Rattle.calls_shapes.specs.declared.stairs.Portion.{Portion}
 use Rattle.calls_shapes.specs.declared.stairs.Portion.TheVariants.{Called, Returned, Between}
-use Rattle.calls_shapes.specs.declared.stairs.Course.{Course}
+use Rattle.calls_shapes.specs.declared.stairs.StairSpan.{StairSpan}
 use Rattle.calls_shapes.specs.declared.stairs.Stair.{Stair}
-use Rattle.calls_shapes.specs.Tallies.{counts, is_counted, calls_counted}
+use Rattle.calls_shapes.specs.Tallies.{counts, is_counted, invokes_counted_call}
 
 -- whether a completed call lies in the portion
 abbrev pub lies_in : Portion → Call → Bool
@@ -37,12 +37,12 @@ responses_in counted portion events =
 -- the positions at which a stair rises, in order
 abbrev pub rises_of : CountFilter → Portion → List Event → List ℕ
 rises_of counted Called events =
-    map (λ (x : Event). x.at) (filter (calls_counted counted) events)
+    map (λ (x : Event). x.at) (filter (invokes_counted_call counted) events)
 rises_of counted Returned events = responses_in counted Returned events
 rises_of counted (Between from before) events =
     responses_in counted (Between from before) events
 
 -- the stair of a course over these events
-pub record IsStair (events : List Event) (course : Course) (stair : Stair) : Type 0 where
-  pub course_is : stair.course ≡ course
-  pub rises : stair.rises.items ≡ rises_of course.counted course.portion events
+pub record IsStair (events : List Event) (span : StairSpan) (stair : Stair) : Type 0 where
+  pub span_is : stair.span ≡ span
+  pub rises : stair.rises.items ≡ rises_of span.counted span.portion events

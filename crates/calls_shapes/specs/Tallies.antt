@@ -40,12 +40,12 @@ invokes_counted c (Invoke k op) = counts c k op
 invokes_counted c (Respond r) = false
 
 -- whether an event is the invocation of a call that is counted
-abbrev pub calls_counted : CountFilter → Event → Bool
-calls_counted c x = invokes_counted c x.action
+abbrev pub invokes_counted_call : CountFilter → Event → Bool
+invokes_counted_call c x = invokes_counted c x.action
 
 -- how many counted calls had been invoked, and how many had returned, after the first p events
 abbrev pub tally_at : CountFilter → List Event → ℕ → Tally
 tally_at c events p = record {
-  called = count_by (calls_counted c) (take p events);
+  called = count_by (invokes_counted_call c) (take p events);
   returned = count_by (is_counted c) (completed_calls (reverse (take p events)));
 }

@@ -1,11 +1,11 @@
 //! The evidence of a fault: the calls that it names, and the courses of its stairs.
 ghost use Rattle.std.specs.Prelude.{◌≡◌, IfOk};
 ghost use Rattle.calls_counts.specs.Faults.{least};
-ghost use Rattle.calls_shapes.specs.Evidence.{faulty_calls, courses_of};
-ghost use Rattle.calls_shapes.specs.Evidence.{count_courses, unit_courses};
-ghost use Rattle.calls_shapes.specs.Evidence.{few_course, many_course, since_course};
+ghost use Rattle.calls_shapes.specs.Evidence.{faulty_calls, spans_of};
+ghost use Rattle.calls_shapes.specs.Evidence.{count_spans, unit_spans};
+ghost use Rattle.calls_shapes.specs.Evidence.{few_span, many_span, since_span};
 
-use crate::stairs::{Course, Portion};
+use crate::stairs::{Portion, StairSpan};
 use crate::steps::{Track, start_of};
 use crate::tallies::CountFilter;
 use calls_core::{Call, Kind, Op, Reply};
@@ -60,10 +60,10 @@ pub fn faulty_calls(alloc: Global, fault: &Fault) -> Result<Vec<Call>, AllocErro
 }
 
 /// Returns the course of the advances that had returned before the invocation of a call.
-fn of_many(start: usize, object: usize, call: &Call) -> Course
-    ensures { result ≡ many_course start object call.now }
+fn of_many(start: usize, object: usize, call: &Call) -> StairSpan
+    ensures { result ≡ many_span start object call.now }
 {
-    Course {
+    StairSpan {
         counted: CountFilter::Advances(object),
         portion: Portion::Between(0, call.first),
         from: 0,
@@ -73,10 +73,10 @@ fn of_many(start: usize, object: usize, call: &Call) -> Course
 }
 
 /// Returns the course of the advances that were invoked before the response of a call.
-fn of_few(start: usize, object: usize, call: &Call) -> Course
-    ensures { result ≡ few_course start object call.now }
+fn of_few(start: usize, object: usize, call: &Call) -> StairSpan
+    ensures { result ≡ few_span start object call.now }
 {
-    Course {
+    StairSpan {
         counted: CountFilter::Advances(object),
         portion: Portion::Called,
         from: 0,
@@ -87,13 +87,13 @@ fn of_few(start: usize, object: usize, call: &Call) -> Course
 
 /// Returns the course of the advances between two calls, from the count that the earlier one says.
 /// An await that gave up says no least count: then all advances before the later call are counted.
-fn of_since(start: usize, object: usize, call: &Call, earlier: &Call) -> Course
-    ensures { result ≡ since_course start object call.now earlier.now }
+fn of_since(start: usize, object: usize, call: &Call, earlier: &Call) -> StairSpan
+    ensures { result ≡ since_span start object call.now earlier.now }
 {
     if matches!(earlier.reply, Reply::Timeout) {
         return of_many(start, object, call);
     }
-    Course {
+    StairSpan {
         counted: CountFilter::Advances(object),
         portion: Portion::Between(earlier.last, call.first),
         from: earlier.last,
@@ -103,68 +103,68 @@ fn of_since(start: usize, object: usize, call: &Call, earlier: &Call) -> Course
 }
 
 /// Returns the courses of a fault of an eventcount that is `start` at first.
-fn count_courses(
+fn count_spans(
     alloc: Global,
     start: usize,
     object: usize,
     fault: &calls_counts::Fault,
-) -> Result<Vec<Course>, AllocError>
-    ensures { IfOk result (λ v. v.items ≡ count_courses start object fault.now) }
+) -> Result<Vec<StairSpan>, AllocError>
+    ensures { IfOk result (λ v. v.items ≡ count_spans start object fault.now) }
 {
-    let mut courses = Vec::new(alloc);
+    let mut spans = Vec::new(alloc);
     match fault {
         calls_counts::Fault::Below(_) => {}
-        calls_counts::Fault::Few(c) => courses.push(of_few(start, object, c))?,
-        calls_counts::Fault::Many(c) => courses.push(of_many(start, object, c))?,
-        calls_counts::Fault::Since(c, s) => courses.push(of_since(start, object, c, s))?,
+        calls_counts::Fault::Few(c) => spans.push(of_few(start, object, c))?,
+        calls_counts::Fault::Many(c) => spans.push(of_many(start, object, c))?,
+        calls_counts::Fault::Since(c, s) => spans.push(of_since(start, object, c, s))?,
     }
-    Ok(courses)
+    Ok(spans)
 }
 
 /// Returns the courses of a fault of a semaphore with `units` units at first: of those that were
 /// added, and of those that were taken.
-fn unit_courses(
+fn unit_spans(
     alloc: Global,
     units: usize,
     fault: &calls_semaphores::Fault,
-) -> Result<Vec<Course>, AllocError>
-    ensures { IfOk result (λ v. v.items ≡ unit_courses units fault.now) }
+) -> Result<Vec<StairSpan>, AllocError>
+    ensures { IfOk result (λ v. v.items ≡ unit_spans units fault.now) }
 {
-    let mut courses = Vec::new(alloc);
-    courses.push(Course {
+    let mut spans = Vec::new(alloc);
+    spans.push(StairSpan {
         counted: CountFilter::Adding(fault.index),
         portion: Portion::Called,
         from: 0,
         base: units,
         to: fault.call.last,
     })?;
-    courses.push(Course {
+    spans.push(StairSpan {
         counted: CountFilter::Taking(fault.index),
         portion: Portion::Returned,
         from: 0,
         base: 0,
         to: fault.call.last,
     })?;
-    Ok(courses)
+    Ok(spans)
 }
 
 /// Returns the courses of the stairs that show a fault of an object.
-pub fn courses_of(
+pub fn spans_of(
     alloc: Global,
     kinds: &[Kind],
     object: usize,
     fault: &Fault,
-) -> Result<Vec<Course>, AllocError>
-    ensures { IfOk result (λ v. v.items ≡ courses_of kinds.now object fault.now) }
+) -> Result<Vec<StairSpan>, AllocError>
+    ensures { IfOk result (λ v. v.items ≡ spans_of kinds.now object fault.now) }
 {
     match fault {
         Fault::Count(fault) => {
             let start = start_of(kinds, Track { object, index: 0 });
-            count_courses(alloc, start, object, fault)
+            count_spans(alloc, start, object, fault)
         }
         Fault::Units(fault) => {
             let index = fault.index;
-            unit_courses(alloc, start_of(kinds, Track { object, index }), fault)
+            unit_spans(alloc, start_of(kinds, Track { object, index }), fault)
         }
         Fault::Ticket(_) | Fault::Value(_) => Ok(Vec::new(alloc)),
     }

@@ -2,7 +2,7 @@
 ghost use Rattle.std.specs.Prelude.{◌≡◌, ℕ, ◌+◌, ◌≤◌, Some, IfOk, length, slice_get};
 ghost use Rattle.std.specs.List.{cons_option};
 ghost use Rattle.std.specs.Prelude.{[], ◌∷◌, count_by};
-ghost use Rattle.calls_shapes.specs.Tallies.{counts, calls_counted, is_counted, tally_at};
+ghost use Rattle.calls_shapes.specs.Tallies.{counts, invokes_counted_call, is_counted, tally_at};
 
 use calls_core::{Action, Call, Event, Op, Reply};
 use calls_report::completed_call;
@@ -58,8 +58,8 @@ pub fn is_counted(counted: CountFilter, call: &Call) -> bool
 }
 
 /// Returns whether an event is the invocation of a call that is counted.
-pub(crate) fn calls_counted(counted: CountFilter, event: &Event) -> bool
-    ensures { result ≡ calls_counted counted event.now }
+pub(crate) fn invokes_counted_call(counted: CountFilter, event: &Event) -> bool
+    ensures { result ≡ invokes_counted_call counted event.now }
 {
     match event.action {
         Action::Invoke(object, op) => counts(counted, object, op),
@@ -80,10 +80,14 @@ fn count_one(counted: CountFilter, call: Option<Call>) -> usize
 
 /// Returns 1 if an event is the invocation of a call that is counted, otherwise 0.
 fn count_call(counted: CountFilter, event: &Event) -> usize
-    ensures count { result ≡ count_by (calls_counted counted) (event.now ∷ []) }
+    ensures count { result ≡ count_by (invokes_counted_call counted) (event.now ∷ []) }
     ensures few { result ≤ 1 }
 {
-    if calls_counted(counted, event) { 1 } else { 0 }
+    if invokes_counted_call(counted, event) {
+        1
+    } else {
+        0
+    }
 }
 
 /// Returns the tallies at all moments: the one at index p is that of the first p events.

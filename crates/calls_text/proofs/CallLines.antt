@@ -14,8 +14,8 @@ use Rattle.ec_heading.specs.HeadingModel.{HeadingModel}
 use Rattle.ec_heading.specs.HeadingInvariant.{HasHeaderTree}
 use Rattle.ec_heading.specs.Recalled.{with_spaces as spaced_words}
 use Rattle.ec_heading.specs.EntryWords.{event_in, sequencer_in, cell_in_word}
-use Rattle.calls_text.specs.declared.verb.CallWord.{CallWord}
-use Rattle.calls_text.specs.declared.verb.CallWord.TheVariants as verbs
+use Rattle.calls_text.specs.declared.verb.OpWord.{OpWord}
+use Rattle.calls_text.specs.declared.verb.OpWord.TheVariants as verbs
 use Rattle.calls_text.specs.declared.verb.Tail.TheVariants as tails
 use Rattle.calls_text.specs.declared.object.Object.{Object}
 use Rattle.calls_text.specs.declared.object.Object.TheVariants as objects
@@ -103,7 +103,7 @@ database_at h i d there =
 -- THE OPERATIONS, ONE BY ONE
 
 -- the words of the call, joined, are its text
-abbrev pub IsCallText : HeadingModel → List (List ℕ) → CallWord → List ℕ → List (List ℕ) → Object
+abbrev pub IsCallText : HeadingModel → List (List ℕ) → OpWord → List ℕ → List (List ℕ) → Object
     → ℕ
     → Type 0
 IsCallText h lists v o ws obj n =
@@ -111,7 +111,7 @@ IsCallText h lists v o ws obj n =
     ≡ call_text h lists (index_of h obj) (op_of_word v obj n)
 
 -- the call names this object, and its tail has no fault
-record Names (h : HeadingModel) (v : CallWord) (o : List ℕ) (ws : List (List ℕ)) (obj : Object)
+record Names (h : HeadingModel) (v : OpWord) (o : List ℕ) (ws : List (List ℕ)) (obj : Object)
     : Type 0 where
   heading : HasHeaderTree h
   object : object_in h v o (other_word v ws) ≡ Some obj
@@ -289,7 +289,7 @@ write_is h lists more o ws obj c =
     ws x (list_number lists (numbers_in ws))) m.2
     (write_to h lists more o ws m.0.0 m.0.1 d good)
 
-named_is : (h : HeadingModel) (lists more : List (List ℕ)) (v : CallWord) (o : List ℕ)
+named_is : (h : HeadingModel) (lists more : List (List ℕ)) (v : OpWord) (o : List ℕ)
     (ws : List (List ℕ)) (obj : Object) → Names h v o ws obj
     → IsCallText h (lists_of lists v ws ++ more) v o ws obj (number_in lists v ws)
 named_is h lists more verbs.Advance o ws obj c =
@@ -311,7 +311,7 @@ named_is h lists more verbs.Snapshot o ws obj c =
     snapshot_is h (lists ++ more) o ws obj (only_number ws) c
 
 -- the words of a call are its text, whatever lists are added after it
-pub call_is : (h : HeadingModel) (lists more : List (List ℕ)) (v : CallWord) (o : List ℕ)
+pub call_is : (h : HeadingModel) (lists more : List (List ℕ)) (v : OpWord) (o : List ℕ)
     (ws : List (List ℕ)) (obj : Object) → HasHeaderTree h
     → object_in h v o (other_word v ws) ≡ Some obj → is_tail (tail_of v) ws ≡ true
     → is_bad_tail (tail_of v) ws obj ≡ false

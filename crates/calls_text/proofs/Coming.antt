@@ -24,14 +24,14 @@ use Rattle.calls_core.specs.declared.history.Action.TheVariants.{Invoke}
 use Rattle.calls_core.specs.declared.history.Event.{Event}
 use Rattle.calls_core.specs.Histories.{Takes, IsNext, pending_after}
 use Rattle.calls_counts.specs.Faults.{is_advance}
-use Rattle.calls_text.specs.declared.fault.Kind.{Kind}
-use Rattle.calls_text.specs.declared.fault.Kind.TheVariants as faults
-use Rattle.calls_text.specs.declared.verb.CallWord.{CallWord}
-use Rattle.calls_text.specs.declared.verb.CallWord.TheVariants as verbs
+use Rattle.calls_text.specs.declared.fault.FaultKind.{FaultKind}
+use Rattle.calls_text.specs.declared.fault.FaultKind.TheVariants as faults
+use Rattle.calls_text.specs.declared.verb.OpWord.{OpWord}
+use Rattle.calls_text.specs.declared.verb.OpWord.TheVariants as verbs
 use Rattle.calls_text.specs.declared.object.Object.{Object}
 use Rattle.calls_text.specs.declared.object.Object.TheVariants as objects
 use Rattle.calls_text.specs.Objects.{has_right, is_owned}
-use Rattle.calls_text.specs.Verbs.{is_giving, tail_of}
+use Rattle.calls_text.specs.Verbs.{is_update, tail_of}
 use Rattle.calls_text.specs.Recordings.{RecordingModel, AreKinds, start_count}
 use Rattle.calls_text.specs.Recordings.{first_sequencer, first_cell, semaphores, first_group}
 use Rattle.calls_text.specs.Reading.{is_bad_tail, call_fault_by, has_two_roles, index_of, op_of_word}
@@ -40,14 +40,14 @@ use Rattle.calls_text.specs.declared.running.Running.{Running}
 use Rattle.calls_text.specs.declared.tally.Tally.{Tally}
 use Rattle.calls_text.specs.Tallies.{tally_at, IsCountedFurther}
 use Rattle.calls_text.specs.kept.Judging.{pending_by, spent_at, spent_by, fault_by}
-use Rattle.calls_text.specs.kept.Judging.{invocation, Happening}
+use Rattle.calls_text.specs.kept.Judging.{invocation, NextEvent}
 use Rattle.calls_text.specs.kept.Judging.{TallyAfter, IsTallied, Answers}
 use Rattle.calls_text.specs.kept.Runs.{Fits}
 use Rattle.ec_heading.proofs.shared.Declarable.{is_none_from as none_of}
 
 -- FAULTS
 
-passes : (b : Bool) (k : Kind) (xs : List (Bool × Kind)) → first_that ((b, k) ∷ xs) ≡ None
+passes : (b : Bool) (k : FaultKind) (xs : List (Bool × FaultKind)) → first_that ((b, k) ∷ xs) ≡ None
     → (b ≡ false) × (first_that xs ≡ None)
 passes true k xs is = cc
 passes false k xs is = (refl, is)
@@ -56,20 +56,20 @@ held : (b : Bool) → not b ≡ false → b ≡ true
 held true is = refl
 held false is = cc
 
-record NoFault (h : HeadingModel) (w : ℕ) (v : CallWord) (o : Object) (busy spent : Bool) : Type 0 where
+record NoFault (h : HeadingModel) (w : ℕ) (v : OpWord) (o : Object) (busy spent : Bool) : Type 0 where
   roles : has_two_roles o ≡ false
-  right : has_right h.setup w (is_giving v) o ≡ true
+  right : has_right h.setup w (is_update v) o ≡ true
   idle : busy ≡ false
   more : spent ≡ false
 
-no_fault : (h : HeadingModel) (w : ℕ) (v : CallWord) (o : Object) (ws : List (List ℕ)) (busy spent : Bool)
+no_fault : (h : HeadingModel) (w : ℕ) (v : OpWord) (o : Object) (ws : List (List ℕ)) (busy spent : Bool)
     → call_fault_by h w v o ws busy spent ≡ None → NoFault h w v o busy spent
 no_fault h w v o ws busy spent is =
-    let t : List (Bool × Kind) = (spent, faults.AtLimit) ∷ [] in
-    let s : List (Bool × Kind) = (busy, faults.Busy) ∷ t in
-    let right : Bool = not (has_right h.setup w (is_giving v) o) in
-    let p : List (Bool × Kind) = (right, faults.NoRight) ∷ s in
-    let q : List (Bool × Kind) = (has_two_roles o, faults.TwoRoles) ∷ p in
+    let t : List (Bool × FaultKind) = (spent, faults.AtLimit) ∷ [] in
+    let s : List (Bool × FaultKind) = (busy, faults.Busy) ∷ t in
+    let right : Bool = not (has_right h.setup w (is_update v) o) in
+    let p : List (Bool × FaultKind) = (right, faults.NoRight) ∷ s in
+    let q : List (Bool × FaultKind) = (has_two_roles o, faults.TwoRoles) ∷ p in
     let owned : Bool = is_owned h.groups o in
     let a = passes (is_bad_tail (tail_of v) ws o) faults.BadNumber ((owned, faults.Hidden) ∷ q) is
     in
@@ -126,8 +126,8 @@ apart : (i j : ℕ) → (i == j) ≡ false → i ≡ j → ⊥
 apart i j is e = cc (eq-eqb i j e)
 
 takes : (h : HeadingModel) (from : List (ℕ
-    × ℕ)) (kinds : List sorts.Kind) (w : ℕ) (v : CallWord) (o : Object)
-    (n : ℕ) → AreKinds h from kinds → Fits h v o → has_right h.setup w (is_giving v) o ≡ true
+    × ℕ)) (kinds : List sorts.Kind) (w : ℕ) (v : OpWord) (o : Object)
+    (n : ℕ) → AreKinds h from kinds → Fits h v o → has_right h.setup w (is_update v) o ≡ true
     → has_two_roles o ≡ false → Takes (slice_get kinds (index_of h o)) (op_of_word v o n)
 takes h from kinds w verbs.Advance (objects.Event e) n are fits right roles =
     by_kind kinds e _ ops.Advance (event_at h from kinds e are (signs w h.setup.events e right)) tt
@@ -165,7 +165,7 @@ takes h from kinds w verbs.Snapshot (objects.Database i d) n are fits right role
     (are.databases i (groups.Database d) fits) tt
 takes h from kinds w v o n are fits right roles = absurd fits
 
-pub may_call : (run : Running) (w : ℕ) (v : CallWord) (o : Object) (ws : List (List ℕ))
+pub may_call : (run : Running) (w : ℕ) (v : OpWord) (o : Object) (ws : List (List ℕ))
     → Fits run.recording.heading v o → fault_by run w v o ws ≡ None
     → (ks : List sorts.Kind) → AreKinds run.recording.heading run.recording.from ks
     → IsNext ks (invocation run w v o ws).action (pending_by run w)
@@ -177,25 +177,25 @@ may_call run w v o ws fits none ks are =
     (takes h run.recording.from ks w v o n are fits f.right f.roles)
 
 -- one more advance fits
-pub may_add : (run : Running) (w e : ℕ) (v : CallWord) (o : Object) → v ≡ verbs.Advance
+pub may_add : (run : Running) (w e : ℕ) (v : OpWord) (o : Object) → v ≡ verbs.Advance
     → o ≡ objects.Event e → spent_by run w v o ≡ false → IsDeclared run.recording.heading.setup
     → tally_at run.tally w e + 1 < 2 ^ 64
 may_add run w e v o is of none declared =
     let more : spent_by run w verbs.Advance (objects.Event e) ≡ false =
-    sym (ap (λ (x : CallWord). spent_by run w x o) is ∙ ap (spent_by run w verbs.Advance) of)
+    sym (ap (λ (x : OpWord). spent_by run w x o) is ∙ ap (spent_by run w verbs.Advance) of)
     ∙ none in
     let below : tally_at run.tally w e < run.recording.heading.setup.limit = leb-false _ _ more in
     omega (arith, declared.limit.1)
 
 -- a call without a fault is below the limit
-not_spent : (run : Running) (w : ℕ) (v : CallWord) (o : Object) (ws : List (List ℕ))
+not_spent : (run : Running) (w : ℕ) (v : OpWord) (o : Object) (ws : List (List ℕ))
     → fault_by run w v o ws ≡ None → spent_by run w v o ≡ false
 not_spent run w v o ws none =
     (no_fault run.recording.heading w v o ws (is_some (pending_by run w)) (spent_by run w v o)
     none).more
 
 -- this does not depend on the lists
-pub still_not_spent : (old new : Running) (mid : RecordingModel) (w : ℕ) (v : CallWord) (o : Object)
+pub still_not_spent : (old new : Running) (mid : RecordingModel) (w : ℕ) (v : OpWord) (o : Object)
     (ws lists : List (List ℕ)) → mid ≡ record old.recording { lists = lists }
     → new.recording ≡ mid → new.tally ≡ old.tally → fault_by old w v o ws ≡ None
     → spent_by new w v o ≡ false
@@ -238,7 +238,7 @@ advanced old new w e after u f few some =
     ∙ ap (λ (b : Bool). cond ((w == u) && b) (tally_at old u f + 1) (tally_at old u f))
     (swapped f e)
 
-tallied : (h : HeadingModel) (old new : Tally) (w : ℕ) (v : CallWord) (o : Object) (n at : ℕ)
+tallied : (h : HeadingModel) (old new : Tally) (w : ℕ) (v : OpWord) (o : Object) (n at : ℕ)
     → Fits h v o
     → TallyAfter old new w v o → IsTallied old new (record {
       at = at;
@@ -271,11 +271,11 @@ tallied h old new w verbs.Snapshot o n at fits after =
 
 -- THE STATE AFTER A CALL
 
-abbrev pub happening : ℕ → Action → List (List ℕ) → Happening
+abbrev pub happening : ℕ → Action → List (List ℕ) → NextEvent
 happening w a lists = record { worker = w; action = a; lists = lists }
 
 -- what is known of a call that was made
-pub record IsMade (old : Running) (w : ℕ) (v : CallWord) (o : Object) (ws : List (List ℕ))
+pub record IsMade (old : Running) (w : ℕ) (v : OpWord) (o : Object) (ws : List (List ℕ))
     (mid : RecordingModel) (new : Running) (n k : ℕ) (op : Op) (x : Event) : Type 0 where
   pub mid_is : mid ≡ record old.recording { lists = lists_of old.recording.lists v ws }
   pub number : n ≡ number_in old.recording.lists v ws
@@ -287,7 +287,7 @@ pub record IsMade (old : Running) (w : ℕ) (v : CallWord) (o : Object) (ws : Li
   pub pending : new.pending.items ≡ pending_after x x.action old.pending.items
   pub tally : TallyAfter old.tally new.tally w v o
 
-pub call_made : (old : Running) (w : ℕ) (v : CallWord) (o : Object) (ws : List (List ℕ))
+pub call_made : (old : Running) (w : ℕ) (v : OpWord) (o : Object) (ws : List (List ℕ))
     (mid : RecordingModel) (new : Running) (n k : ℕ) (op : Op) (x : Event)
     → IsMade old w v o ws mid new n k op x → Fits old.recording.heading v o
     → fault_by old w v o ws ≡ None

@@ -11,8 +11,8 @@ use Rattle.ec_heading.specs.HeadingInvariant.{HasHeaderTree}
 use Rattle.calls_core.specs.declared.history.Action.TheVariants.{Invoke, Respond}
 use Rattle.calls_core.specs.declared.history.Event.{Event}
 use Rattle.calls_core.specs.declared.history.PendingCall.{PendingCall}
-use Rattle.calls_text.specs.declared.verb.CallWord.{CallWord}
-use Rattle.calls_text.specs.declared.verb.CallWord.TheVariants as verbs
+use Rattle.calls_text.specs.declared.verb.OpWord.{OpWord}
+use Rattle.calls_text.specs.declared.verb.OpWord.TheVariants as verbs
 use Rattle.calls_text.specs.declared.form.ReplyWord.{ReplyWord}
 use Rattle.calls_text.specs.declared.form.ReplyWord.TheVariants as answers
 use Rattle.calls_text.specs.declared.object.Object.{Object}
@@ -23,7 +23,7 @@ use Rattle.calls_text.specs.Lists.{is_zeros, lists_after}
 use Rattle.calls_text.specs.Recordings.{RecordingModel}
 use Rattle.calls_text.specs.Reading.{pending_in, is_bad_tail, index_of, op_of_word}
 use Rattle.calls_text.specs.Reading.{number_in, numbers_in, lists_of}
-use Rattle.calls_text.specs.Reading.{is_bad_answer, is_suited, gives_list}
+use Rattle.calls_text.specs.Reading.{is_bad_reply, is_suited, gives_list}
 use Rattle.calls_text.specs.Reading.{reply_of_word, lists_with}
 use Rattle.calls_text.specs.Reading.{other_word, event_step}
 use Rattle.calls_text.specs.Spelling.{worker_word, call_text}
@@ -60,7 +60,7 @@ listed lists l false = added lists l (list_any (bytes_eq l) lists)
 lists_extend : (lists : List (List ℕ)) (l : List ℕ) → Extends lists (lists_after lists l)
 lists_extend lists l = listed lists l (is_zeros l)
 
-call_extends : (lists : List (List ℕ)) (v : CallWord) (ws : List (List ℕ))
+call_extends : (lists : List (List ℕ)) (v : OpWord) (ws : List (List ℕ))
     → Extends lists (lists_of lists v ws)
 call_extends lists verbs.Write ws = lists_extend lists (numbers_in ws)
 call_extends lists _ ws = same_lists lists
@@ -92,7 +92,7 @@ pub record Adds (r : RecordingModel) (line : List ℕ) (s : RecordingModel) : Ty
 
 -- INVOCATIONS
 
-called_line : (r : RecordingModel) (line w o : List ℕ) (v : CallWord) (ws : List (List ℕ)) (i : ℕ)
+called_line : (r : RecordingModel) (line w o : List ℕ) (v : OpWord) (ws : List (List ℕ)) (i : ℕ)
     (obj : Object) → HasHeaderTree r.heading
     → words_of line ≡ w ∷ codes "calls" ∷ verb_word v ∷ o ∷ ws
     → is_tail (tail_of v) ws ≡ true → worker_in r.heading.words w ≡ Some i
@@ -142,7 +142,7 @@ call_adds r s line has c =
 returned_line : (r : RecordingModel) (line w : List ℕ) (a : ReplyWord) (ws : List (List ℕ)) (i : ℕ)
     (o : PendingCall) → HasHeaderTree r.heading → words_of line ≡ w ∷ codes "returns" ∷ ws
     → SaysAnswer a ws → worker_in r.heading.words w ≡ Some i → pending_in r.events i ≡ Some o
-    → is_bad_answer a ws ≡ false → is_suited r.heading o a ws ≡ true → (more : List (List ℕ))
+    → is_bad_reply a ws ≡ false → is_suited r.heading o a ws ≡ true → (more : List (List ℕ))
     → line ≡ worker_word r.heading i ++ action_text r.heading (lists_with r o a ws ++ more)
     (pending_in r.events i) (Respond (reply_of_word r o a ws))
 returned_line r line w a ws i o has words says who pending good suits more =

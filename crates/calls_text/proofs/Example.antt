@@ -17,8 +17,8 @@ use Rattle.calls_core.specs.declared.history.Event.{Event}
 use Rattle.calls_text.specs.Recordings.{RecordingModel}
 use Rattle.calls_text.specs.Reading.{Opening, step, limit_step, from_step, event_step}
 use Rattle.calls_text.specs.Forms.{phrase_in}
-use Rattle.calls_text.specs.declared.fault.Kind.TheVariants as kinds
-use Rattle.calls_text.specs.Outcomes.{lines_of_text, goes, fault_in}
+use Rattle.calls_text.specs.declared.fault.FaultKind.TheVariants as kinds
+use Rattle.calls_text.specs.Outcomes.{lines_of_text, parse_from, fault_in}
 use Rattle.calls_text.specs.Grammar.{history_text}
 
 event : ℕ → ℕ → Action → Event
@@ -92,13 +92,13 @@ unfolding presses presses_text event history_text
 presses_spelled = rw (hundred, seven, eight, nine) refl
 
 -- read before another history
-presses_read : goes 1 Opening (lines_of_text (presses_text ++ codes "evc-calls 1\n"))
+presses_read : parse_from 1 Opening (lines_of_text (presses_text ++ codes "evc-calls 1\n"))
     ≡ Ok (record {
       recorded = presses;
       number = 14;
       rest = codes "evc-calls 1" ∷ [] ∷ [];
     })
-unfolding presses presses_text event goes step limit_step from_step event_step head_step parts_in
+unfolding presses presses_text event parse_from step limit_step from_step event_step head_step parts_in
     split_words phrase_in digits_from is_name
 presses_read = refl
 
@@ -142,25 +142,25 @@ pairs_spelled : history_text pairs ≡ pairs_text
 unfolding pairs pairs_text declared event history_text
 pairs_spelled = rw (zero_is, one, two, four, five, nine) refl
 
-pairs_read : goes 14 Opening (lines_of_text pairs_text)
+pairs_read : parse_from 14 Opening (lines_of_text pairs_text)
     ≡ Ok (record { recorded = pairs; number = 32; rest = [] ∷ [] })
-unfolding pairs pairs_text declared event goes step limit_step from_step event_step head_step
+unfolding pairs pairs_text declared event parse_from step limit_step from_step event_step head_step
     parts_in split_words phrase_in digits_from is_name
 pairs_read = refl
 
 -- TEXTS THAT ARE CUT OFF
 
-cut_in_a_line : goes 1 Opening (lines_of_text (codes "evc-calls 1\nlimit 1\nwork"))
+cut_in_a_line : parse_from 1 Opening (lines_of_text (codes "evc-calls 1\nlimit 1\nwork"))
     ≡ fault_in 3 kinds.BadLine (codes "work")
-unfolding goes step limit_step head_step parts_in digits_from
+unfolding parse_from step limit_step head_step parts_in digits_from
 cut_in_a_line = refl
 
-cut_before_its_lf : goes 1 Opening (lines_of_text (codes "evc-calls 1\nlimit 1"))
+cut_before_its_lf : parse_from 1 Opening (lines_of_text (codes "evc-calls 1\nlimit 1"))
     ≡ fault_in 2 kinds.Unfinished (codes "limit 1")
-unfolding goes step limit_step digits_from
+unfolding parse_from step limit_step digits_from
 cut_before_its_lf = refl
 
-cut_after_an_lf : goes 1 Opening (lines_of_text (codes "evc-calls 1\nlimit 1\n"))
+cut_after_an_lf : parse_from 1 Opening (lines_of_text (codes "evc-calls 1\nlimit 1\n"))
     ≡ fault_in 3 kinds.Unfinished []
-unfolding goes step limit_step digits_from
+unfolding parse_from step limit_step digits_from
 cut_after_an_lf = refl

@@ -10,8 +10,8 @@ use Rattle.ec_heading.specs.declared.group.Group.{Group}
 use Rattle.ec_heading.specs.declared.group.Group.TheVariants as groups
 use Rattle.ec_heading.specs.HeadingModel.{HeadingModel}
 use Rattle.ec_heading.specs.EntryWords.{event_in, sequencer_in, cell_in_word}
-use Rattle.calls_text.specs.declared.verb.CallWord.{CallWord}
-use Rattle.calls_text.specs.declared.verb.CallWord.TheVariants as verbs
+use Rattle.calls_text.specs.declared.verb.OpWord.{OpWord}
+use Rattle.calls_text.specs.declared.verb.OpWord.TheVariants as verbs
 use Rattle.calls_text.specs.declared.object.Object.{Object}
 use Rattle.calls_text.specs.declared.object.Object.TheVariants as objects
 use Rattle.calls_text.specs.Objects.{group_place, group_at, group_in, placed_semaphore}
@@ -80,19 +80,19 @@ pair_fits h w other None b c o one two is = cc
 pair_fits h w other (Some s) None c o one two is = cc
 pair_fits h w other (Some s) (Some p) None o one two is = cc
 
-event_fits : (h : HeadingModel) (v : CallWord) (w : List ℕ) (o : Object)
+event_fits : (h : HeadingModel) (v : OpWord) (w : List ℕ) (o : Object)
     → ((e : ℕ) → Fits h v (objects.Event e))
     → option_map objects.Event (event_in h.words w) ≡ Some o → Fits h v o
 event_fits h v w o all is =
     let m = mapped objects.Event (event_in h.words w) o is in subst (Fits h v) m.2 (all m.0)
 
-cell_fits : (h : HeadingModel) (v : CallWord) (w : List ℕ) (o : Object)
+cell_fits : (h : HeadingModel) (v : OpWord) (w : List ℕ) (o : Object)
     → ((x : ℕ) → Fits h v (objects.Cell x))
     → option_map objects.Cell (cell_in_word h.words w) ≡ Some o → Fits h v o
 cell_fits h v w o all is =
     let m = mapped objects.Cell (cell_in_word h.words w) o is in subst (Fits h v) m.2 (all m.0)
 
-pub object_fits : (h : HeadingModel) (v : CallWord) (w : List ℕ) (other : Option (List ℕ)) (o : Object)
+pub object_fits : (h : HeadingModel) (v : OpWord) (w : List ℕ) (other : Option (List ℕ)) (o : Object)
     → object_in h v w other ≡ Some o → Fits h v o
 object_fits h verbs.Advance w other o is = event_fits h verbs.Advance w o (λ e. tt) is
 object_fits h verbs.Read w other o is = event_fits h verbs.Read w o (λ e. tt) is
@@ -119,7 +119,7 @@ object_fits h verbs.Snapshot w other o is =
     subst (Fits h verbs.Snapshot) m.2 (database_found h w m.0 m.1)
 
 -- a database is among the groups
-pub fits_placed : (h : HeadingModel) (v : CallWord) (o : Object) → Fits h v o → IsPlaced h o
+pub fits_placed : (h : HeadingModel) (v : OpWord) (o : Object) → Fits h v o → IsPlaced h o
 fits_placed h verbs.Write (objects.Database i d) fits =
     slice_get_within h.groups i (groups.Database d) fits
 fits_placed h verbs.Snapshot (objects.Database i d) fits =

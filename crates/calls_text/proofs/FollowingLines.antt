@@ -9,27 +9,27 @@ use Rattle.ec_heading.specs.Lists.{worker_in}
 use Rattle.calls_core.specs.declared.history.Event.{Event}
 use Rattle.calls_core.specs.declared.history.Action.{Action}
 use Rattle.calls_core.specs.declared.history.PendingCall.{PendingCall}
-use Rattle.calls_text.specs.declared.fault.Kind.{Kind}
-use Rattle.calls_text.specs.declared.fault.Kind.TheVariants as kinds
+use Rattle.calls_text.specs.declared.fault.FaultKind.{FaultKind}
+use Rattle.calls_text.specs.declared.fault.FaultKind.TheVariants as kinds
 use Rattle.calls_text.specs.declared.fault.LineFault.{LineFault}
 use Rattle.calls_text.specs.declared.fault.LineFault.TheVariants as line_faults
 use Rattle.calls_text.specs.declared.form.ReplyWord.{ReplyWord}
 use Rattle.calls_text.specs.declared.object.Object.{Object}
 use Rattle.calls_text.specs.declared.stage.Stage as held
 use Rattle.calls_text.specs.declared.stage.Stage.TheVariants as holds
-use Rattle.calls_text.specs.declared.verb.CallWord.{CallWord}
+use Rattle.calls_text.specs.declared.verb.OpWord.{OpWord}
 use Rattle.calls_text.specs.Forms.{Phrase, Calls, Returns, phrase_in}
 use Rattle.calls_text.specs.Objects.{object_in}
 use Rattle.calls_text.specs.Outcomes.{fault_at}
 use Rattle.calls_text.specs.Recordings.{RecordingModel, AreKinds}
 use Rattle.calls_text.specs.Reading.{Stage, Opening, Limiting, Declaring, Running, Ended, step, is_ended}
-use Rattle.calls_text.specs.Reading.{Draft, limit_step, draft_step, is_run, event_step, ran_on, drafted_on}
+use Rattle.calls_text.specs.Reading.{Draft, limit_step, draft_step, is_run, event_step, map_running, map_draft}
 use Rattle.calls_text.specs.Reading.{fault_or, call_fault, with_event, next_event, after_invocation, after_phrase}
-use Rattle.calls_text.specs.Reading.{suit_fault, after_reply, after_response, is_bad_answer, pending_in}
+use Rattle.calls_text.specs.Reading.{suit_fault, after_reply, after_response, is_bad_reply, pending_in}
 use Rattle.calls_text.specs.Reading.{other_word, with_events, StepFails, recorded_of}
 use Rattle.calls_text.specs.kept.Runs.{IsNextOf}
 use Rattle.calls_text.specs.kept.Stages.{seen_with, IsFollowing, Adds, Follows}
-use Rattle.calls_text.specs.Following.{IsEvent, IsRun, IsHeading, PassesIn, followed_in, IsFaulty}
+use Rattle.calls_text.specs.Following.{IsEvent, IsRunLine, IsHeading, PassesIn, followed_in, IsFaulty}
 
 -- AN EVENT IS ADDED
 
@@ -49,15 +49,15 @@ grown_event r w a ls q is = subst (IsGrown r) is (record {
   events = refl;
 })
 
-ok_same : (x y : RecordingModel) → ◌≡◌ {A = Result RecordingModel Kind} (Ok x) (Ok y) → x ≡ y
+ok_same : (x y : RecordingModel) → ◌≡◌ {A = Result RecordingModel FaultKind} (Ok x) (Ok y) → x ≡ y
 ok_same x y is = cc
 
-or_grown : (r : RecordingModel) (f : Option Kind) (w : ℕ) (a : Action) (ls : List (List ℕ)) (q : RecordingModel)
+or_grown : (r : RecordingModel) (f : Option FaultKind) (w : ℕ) (a : Action) (ls : List (List ℕ)) (q : RecordingModel)
     → fault_or f (with_event r w a ls) ≡ Ok q → IsGrown r q
 or_grown r None w a ls q is = grown_event r w a ls q (ok_same _ q is)
 or_grown r (Some kind) w a ls q is = cc
 
-called_grown : (r : RecordingModel) (w : Option ℕ) (v : CallWord) (o : Option Object) (ws : List (List ℕ))
+called_grown : (r : RecordingModel) (w : Option ℕ) (v : OpWord) (o : Option Object) (ws : List (List ℕ))
     (q : RecordingModel) → after_invocation r w v o ws ≡ Ok q → IsGrown r q
 called_grown r None v o ws q is = cc
 called_grown r (Some w) v None ws q is = cc
@@ -72,7 +72,7 @@ returned_grown : (r : RecordingModel) (w : Option ℕ) (a : ReplyWord) (ws : Lis
     → after_response r w a ws ≡ Ok q → IsGrown r q
 returned_grown r None a ws q is = cc
 returned_grown r (Some w) a ws q is =
-    elim (is_bad_answer a ws) as (λ b. cond b (Err kinds.BadNumber) (after_reply r w (pending_in r.events w) a ws)
+    elim (is_bad_reply a ws) as (λ b. cond b (Err kinds.BadNumber) (after_reply r w (pending_in r.events w) a ws)
     ≡ Ok q → IsGrown r q) [
       | true ↦ λ e. cc
       | false ↦ λ e. answered_grown r w (pending_in r.events w) a ws q e
@@ -97,13 +97,14 @@ event_grown r line q is =
 
 -- WHAT LED TO A STAGE
 
-ran_from : (r : RecordingModel) (x : Result RecordingModel Kind) (q : RecordingModel)
-    → ran_on x ≡ Ok (Running q)
+ran_from : (r : RecordingModel) (x : Result RecordingModel FaultKind) (q : RecordingModel)
+    → map_running x ≡ Ok (Running q)
     → x ≡ Ok q
 ran_from r (Ok t) q is = cc
 ran_from r (Err kind) q is = cc
 
-no_draft : {P : Type 0} (x : Result Draft Kind) (q : RecordingModel) → drafted_on x ≡ Ok (Running q)
+no_draft : {P : Type 0} (x : Result Draft FaultKind) (q : RecordingModel)
+    → map_draft x ≡ Ok (Running q)
     → P
 no_draft (Ok d) q is = absurd (let never : ⊥ = cc in never)
 no_draft (Err kind) q is = absurd (let never : ⊥ = cc in never)
@@ -120,7 +121,7 @@ step_from Opening line q is =
     ≡ Ok (Running q) → IsFrom Opening q) [ true ↦ λ e. cc | false ↦ λ e. cc ] is
 step_from Limiting line q is = no_draft (limit_step line) q is
 step_from (Declaring d) line q is =
-    elim (is_run d line) as (λ b. cond b (Ok (Running (recorded_of d))) (drafted_on (draft_step d line))
+    elim (is_run d line) as (λ b. cond b (Ok (Running (recorded_of d))) (map_draft (draft_step d line))
     ≡ Ok (Running q) → IsFrom (Declaring d) q) [
       | true ↦ λ e.
           inl (let same : recorded_of d ≡ q =
@@ -128,19 +129,20 @@ step_from (Declaring d) line q is =
       | false ↦ λ e. no_draft (draft_step d line) q e
     ] is
 step_from (Running r) line q is =
-    elim (bytes_eq line (codes "end")) as (λ b. cond b (Ok (Ended r)) (ran_on (event_step r line))
+    elim (bytes_eq line (codes "end")) as (λ b. cond b (Ok (Ended r)) (map_running (event_step r line))
     ≡ Ok (Running q) → IsFrom (Running r) q) [
       | true ↦ λ e. cc
       | false ↦ λ e. inr (r, refl, event_grown r line q (ran_from r (event_step r line) q e))
     ] is
 step_from (Ended r) line q is = cc
 
-no_end : {P : Type 0} (x : Result Draft Kind) (q : RecordingModel) → drafted_on x ≡ Ok (Ended q) → P
+no_end : {P : Type 0} (x : Result Draft FaultKind) (q : RecordingModel) → map_draft x ≡ Ok (Ended q)
+    → P
 no_end (Ok d) q is = absurd (let never : ⊥ = cc in never)
 no_end (Err kind) q is = absurd (let never : ⊥ = cc in never)
 
-ran_no_end : {P : Type 0} (x : Result RecordingModel Kind) (q : RecordingModel)
-    → ran_on x ≡ Ok (Ended q) → P
+ran_no_end : {P : Type 0} (x : Result RecordingModel FaultKind) (q : RecordingModel)
+    → map_running x ≡ Ok (Ended q) → P
 ran_no_end (Ok d) q is = absurd (let never : ⊥ = cc in never)
 ran_no_end (Err kind) q is = absurd (let never : ⊥ = cc in never)
 
@@ -152,13 +154,13 @@ step_ends Opening line q is =
     ≡ Ok (Ended q) → Opening ≡ Running q) [ true ↦ λ e. cc | false ↦ λ e. cc ] is
 step_ends Limiting line q is = no_end (limit_step line) q is
 step_ends (Declaring d) line q is =
-    elim (is_run d line) as (λ b. cond b (Ok (Running (recorded_of d))) (drafted_on (draft_step d line))
+    elim (is_run d line) as (λ b. cond b (Ok (Running (recorded_of d))) (map_draft (draft_step d line))
     ≡ Ok (Ended q) → Declaring d ≡ Running q) [
       | true ↦ λ e. cc
       | false ↦ λ e. no_end (draft_step d line) q e
     ] is
 step_ends (Running r) line q is =
-    elim (bytes_eq line (codes "end")) as (λ b. cond b (Ok (Ended r)) (ran_on (event_step r line))
+    elim (bytes_eq line (codes "end")) as (λ b. cond b (Ok (Ended r)) (map_running (event_step r line))
     ≡ Ok (Ended q) → Running r ≡ Running q) [
       | true ↦ λ e. (cc)
       | false ↦ λ e. ran_no_end (event_step r line) q e
@@ -247,7 +249,7 @@ heading_at line events old new is none no_run going = record {
 
 run_at : (line : List ℕ) (events : List Event) (old new : held.Stage) (rn : RecordingModel)
     → seen_with events new ≡ Running (with_events rn events) → NoEvent line events old new
-    → IsFrom (seen_with events old) (with_events rn events) → IsRun line events old new
+    → IsFrom (seen_with events old) (with_events rn events) → IsRunLine line events old new
 run_at line events old new rn shown is (inl none) = record {
   begun = with_events rn events;
   none = none;
@@ -286,7 +288,7 @@ passes_fault n line s line_faults.Memory fails = tt
 passes_fault n line s (line_faults.Of kind) fails = (refl, fails, refl)
 
 -- an accepted line
-pub took : (o : Option Event) (stepped : Result Stage Kind) (events : List Event) (new : held.Stage)
+pub took : (o : Option Event) (stepped : Result Stage FaultKind) (events : List Event) (new : held.Stage)
     → Follows (Ok o) stepped events new → (t : Stage) × (stepped ≡ Ok t)
 took None stepped events new is = (seen_with events new, is.0)
 took (Some x) stepped events holds.Opening is = absurd is

@@ -12,12 +12,12 @@ use Rattle.ec_heading.specs.HeadingInvariant.{HasHeaderTree}
 use Rattle.ec_heading.specs.Recalled.{outline_of}
 use Rattle.ec_heading.specs.Spelling.{heading_lines, limit_line}
 use Rattle.calls_core.specs.declared.history.Event.{Event}
-use Rattle.calls_text.specs.declared.fault.Kind.{Kind}
-use Rattle.calls_text.specs.declared.fault.Kind.TheVariants as kinds
+use Rattle.calls_text.specs.declared.fault.FaultKind.{FaultKind}
+use Rattle.calls_text.specs.declared.fault.FaultKind.TheVariants as kinds
 use Rattle.calls_text.specs.Recordings.{RecordingModel}
 use Rattle.calls_text.specs.Reading.{Draft, Stage, Opening, Limiting, Declaring, Running, Ended}
 use Rattle.calls_text.specs.Reading.{step}
-use Rattle.calls_text.specs.Reading.{draft_of, limit_step, ran_on, event_step, recorded_of}
+use Rattle.calls_text.specs.Reading.{draft_of, limit_step, map_running, event_step, recorded_of}
 use Rattle.calls_text.specs.Grammar.{from_lines, event_line, event_lines}
 use Rattle.calls_text.specs.Grammar.{history_lines}
 use Rattle.calls_text.specs.kept.Leading.{Leads}
@@ -66,7 +66,7 @@ event_run r s t line lines one rest =
           (rest.spelled ∙ ap (λ (xs : List (List ℕ)). xs ++ codes "end" ∷ []) after);
     }
 
-ran_back : (r : Result RecordingModel Kind) (s : Stage) → ran_on r ≡ Ok s
+ran_back : (r : Result RecordingModel FaultKind) (s : Stage) → map_running r ≡ Ok s
     → (t : RecordingModel) × (r ≡ Ok t) × (s ≡ Running t)
 ran_back (Ok t) s is = (t, refl, cc)
 ran_back (Err kind) s is = cc
@@ -92,7 +92,7 @@ end_run r t line lines is leads =
       spelled = ap₂ (λ (x : List ℕ) (xs : List (List ℕ)). x ∷ xs) is none.0;
     })
 
-ended_is : (r : RecordingModel) (s : Stage) → ◌≡◌ {A = Result Stage Kind} (Ok (Ended r)) (Ok s)
+ended_is : (r : RecordingModel) (s : Stage) → ◌≡◌ {A = Result Stage FaultKind} (Ok (Ended r)) (Ok s)
     → s ≡ Ended r
 ended_is r s is = cc
 
@@ -102,7 +102,7 @@ unfolding step
 events_run r t [] has leads = cc
 events_run r t (line ∷ lines) has (next, taken, leads) =
     elim (bytes_eq line (codes "end")) as (λ b. bytes_eq line (codes "end") ≡ b
-    → cond b (Ok (Ended r)) (ran_on (event_step r line)) ≡ Ok next
+    → cond b (Ok (Ended r)) (map_running (event_step r line)) ≡ Ok next
     → EventsRun r (line ∷ lines) t) [
       | true ↦ λ q ends.
           end_run r t line lines ((bytes_eq-Decides line (codes "end")).0 q)

@@ -19,15 +19,15 @@ use Rattle.calls_core.specs.declared.history.Op.TheVariants as ops
 use Rattle.calls_core.specs.declared.history.Reply.TheVariants as replies
 use Rattle.calls_core.specs.declared.history.Action.TheVariants.{Respond}
 use Rattle.calls_core.specs.declared.history.PendingCall.{PendingCall}
-use Rattle.calls_text.specs.declared.fault.Kind.{Kind}
-use Rattle.calls_text.specs.declared.fault.Kind.TheVariants as kinds
-use Rattle.calls_text.specs.declared.verb.CallWord.{CallWord}
-use Rattle.calls_text.specs.declared.verb.CallWord.TheVariants as verbs
+use Rattle.calls_text.specs.declared.fault.FaultKind.{FaultKind}
+use Rattle.calls_text.specs.declared.fault.FaultKind.TheVariants as kinds
+use Rattle.calls_text.specs.declared.verb.OpWord.{OpWord}
+use Rattle.calls_text.specs.declared.verb.OpWord.TheVariants as verbs
 use Rattle.calls_text.specs.declared.form.ReplyWord.{ReplyWord}
 use Rattle.calls_text.specs.declared.form.ReplyWord.TheVariants as answers
 use Rattle.calls_text.specs.declared.object.Object.{Object}
 use Rattle.calls_text.specs.declared.object.Object.TheVariants as objects
-use Rattle.calls_text.specs.Verbs.{tail_of, is_giving}
+use Rattle.calls_text.specs.Verbs.{tail_of, is_update}
 use Rattle.calls_text.specs.Forms.{only_in}
 use Rattle.calls_text.specs.Objects.{object_in, as_semaphore, as_database, semaphore_pair}
 use Rattle.ec_heading.specs.Groups.{both_of}
@@ -37,7 +37,7 @@ use Rattle.calls_text.specs.Recordings.{RecordingModel}
 use Rattle.calls_text.specs.Reading.{is_no_number, number_or_0, only_number, numbers_in}
 use Rattle.calls_text.specs.Reading.{is_bad_tail}
 use Rattle.calls_text.specs.Reading.{pending_in, has_two_roles, is_spent, with_call}
-use Rattle.calls_text.specs.Reading.{other_word, is_bad_answer, is_suited, is_over, takes_numbers}
+use Rattle.calls_text.specs.Reading.{other_word, is_bad_reply, is_suited, is_over, takes_numbers}
 use Rattle.calls_text.specs.Reading.{gives_list, with_event, with_reply}
 use Rattle.calls_text.specs.Rules.{AreSmall, only, IsDeclaredIn, TakesNumbers, MayCall, after_call}
 use Rattle.calls_text.specs.Rules.{SuitsCall, KeepsLimit, MayReturn, after_return}
@@ -76,13 +76,13 @@ only_small (w ∷ v ∷ ws) some = omega arith
 -- CALLS
 
 -- the numbers of a call
-abbrev pub called_numbers : CallWord → List (List ℕ) → List ℕ
+abbrev pub called_numbers : OpWord → List (List ℕ) → List ℕ
 called_numbers verbs.Await ws = only_number ws ∷ []
 called_numbers verbs.Put ws = only_number ws ∷ []
 called_numbers verbs.Write ws = numbers_in ws
 called_numbers v ws = []
 
-pub call_same : (r : RecordingModel) (w : ℕ) (v : CallWord) (o : Object) (ws : List (List ℕ))
+pub call_same : (r : RecordingModel) (w : ℕ) (v : OpWord) (o : Object) (ws : List (List ℕ))
     → with_call r w v o ws ≡ after_call r w v o (called_numbers v ws)
 call_same r w verbs.Advance o ws = refl
 call_same r w verbs.Read o ws = refl
@@ -96,7 +96,7 @@ call_same r w verbs.PBoth o ws = refl
 call_same r w verbs.Write o ws = refl
 call_same r w verbs.Snapshot o ws = refl
 
-call_small : (v : CallWord) (ws : List (List ℕ)) (o : Object) → is_bad_tail (tail_of v) ws o ≡ false
+call_small : (v : OpWord) (ws : List (List ℕ)) (o : Object) → is_bad_tail (tail_of v) ws o ≡ false
     → AreSmall (called_numbers v ws)
 call_small verbs.Await ws o good = (only_small ws good, tt)
 call_small verbs.Put ws o good = (only_small ws good, tt)
@@ -104,7 +104,7 @@ call_small verbs.Write ws o good = words_small ws (or_parts (list_any is_no_numb
 call_small _ ws o good = tt
 
 -- the object is declared, of the sort that the call needs, and takes these numbers
-abbrev IsKept : HeadingModel → CallWord → List (List ℕ) → Object → Type 0
+abbrev IsKept : HeadingModel → OpWord → List (List ℕ) → Object → Type 0
 IsKept h v ws o = IsDeclaredIn h o × TakesNumbers v o (called_numbers v ws)
 
 pair_kept : (h : HeadingModel) (o : List ℕ) (ws : List (List ℕ)) (obj : Object) (a : Option Semaphore)
@@ -129,7 +129,7 @@ many_kept ws o good =
     let p = or_parts (list_any is_no_number ws) (not (eqb (length ws) o.cells)) good in
     numbers_length ws ∙ eqb-true _ _ (not_back _ p.1)
 
-object_kept : (h : HeadingModel) (v : CallWord) (o : List ℕ) (ws : List (List ℕ)) (obj : Object)
+object_kept : (h : HeadingModel) (v : OpWord) (o : List ℕ) (ws : List (List ℕ)) (obj : Object)
     → HasHeaderTree h → object_in h v o (other_word v ws) ≡ Some obj
     → is_bad_tail (tail_of v) ws obj ≡ false → IsKept h v ws obj
 object_kept h verbs.Advance o ws obj has is good =
@@ -170,7 +170,7 @@ object_kept h verbs.Snapshot o ws obj has is good =
     subst (IsKept h verbs.Snapshot ws) m.2 ((database_named h o m.0 has m.1).there, refl)
 
 -- tests that all passed
-six_passed : (a b c d e f : Bool) (t u v w x y : Kind)
+six_passed : (a b c d e f : Bool) (t u v w x y : FaultKind)
     → first_that ((a, t) ∷ (b, u) ∷ (c, v) ∷ (d, w) ∷ (e, x) ∷ (f, y) ∷ []) ≡ None
     → (a ≡ false) × (b ≡ false) × (c ≡ false) × (d ≡ false) × (e ≡ false) × (f ≡ false)
 six_passed true b c d e f t u v w x y none = cc
@@ -187,7 +187,7 @@ pub may_call : (r s : RecordingModel) (line : List ℕ) → HasHeaderTree r.head
     → MayCall r c.worker c.verb c.of (called_numbers c.verb c.tail)
 may_call r s line has c =
     let p = six_passed (is_bad_tail (tail_of c.verb) c.tail c.of) (is_owned r.heading.groups c.of)
-    (has_two_roles c.of) (not (has_right r.heading.setup c.worker (is_giving c.verb) c.of))
+    (has_two_roles c.of) (not (has_right r.heading.setup c.worker (is_update c.verb) c.of))
     (is_some (pending_in r.events c.worker)) (is_spent r c.worker c.verb c.of)
     kinds.BadNumber kinds.Hidden kinds.TwoRoles kinds.NoRight kinds.Busy kinds.AtLimit
     c.allowed in
@@ -246,7 +246,7 @@ suits_kept h c answers.Numbers ws says suits = (
   omega (arith, says, numbers_length ws),
 )
 
-small_kept : (a : ReplyWord) (ws : List (List ℕ)) → is_bad_answer a ws ≡ false
+small_kept : (a : ReplyWord) (ws : List (List ℕ)) → is_bad_reply a ws ≡ false
     → AreSmall (returned_numbers a ws)
 small_kept answers.Numbers ws good = words_small ws good
 small_kept answers.Done ws good = tt

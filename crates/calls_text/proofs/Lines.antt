@@ -6,8 +6,8 @@ use Rattle.std.proofs.Common.{length-append}
 use Rattle.std.specs.List.{All}
 use Rattle.std.proofs.lemmas.List.Splits.{slice_split_at, slice_split_none}
 use Rattle.std.proofs.lemmas.List.Elements.{All-weaker}
-use Rattle.calls_text.specs.declared.fault.Kind.{Kind}
-use Rattle.calls_text.specs.declared.fault.Kind.TheVariants as kinds
+use Rattle.calls_text.specs.declared.fault.FaultKind.{FaultKind}
+use Rattle.calls_text.specs.declared.fault.FaultKind.TheVariants as kinds
 use Rattle.calls_text.specs.declared.reading.Read.{Read}
 use Rattle.calls_text.specs.declared.recording.Recording.{Recording}
 use Rattle.calls_text.specs.declared.stage.Stage as held
@@ -18,7 +18,7 @@ use Rattle.calls_text.specs.declared.fault.LineFault.{LineFault}
 use Rattle.calls_text.specs.declared.fault.LineFault.TheVariants as faults
 use Rattle.calls_text.specs.Reading.{Stage, step}
 use Rattle.calls_text.specs.Reading.{StepFails, is_ended}
-use Rattle.calls_text.specs.Outcomes.{ParseResult, lines_of_text, goes, after_line, parse_end, fault_in, ReturnsFault}
+use Rattle.calls_text.specs.Outcomes.{ParseResult, lines_of_text, parse_from, after_line, parse_end, fault_in, ReturnsFault}
 use Rattle.calls_text.specs.Outcomes.{fault_at}
 use Rattle.calls_text.proofs.TextParts.{HasFirst, has_first, by_line, by_rest}
 
@@ -37,29 +37,29 @@ parts_rest rest none = slice_split_none (λ b. eqb b 10) rest (no_lf rest none)
 
 goes_line : (n : ℕ) (s : Stage) (line more rest : List ℕ) → is_ended s ≡ false
     → All (λ b. b ≢ 10) line → rest ≡ line ++ 10 ∷ more
-    → goes n s (lines_of_text rest)
-    ≡ after_line n line (step s line) (λ t. goes (n + 1) t (lines_of_text more))
+    → parse_from n s (lines_of_text rest)
+    ≡ after_line n line (step s line) (λ t. parse_from (n + 1) t (lines_of_text more))
 goes_line n s line more rest going none whole =
     let f : HasFirst more = has_first more in
-    ap (λ (bs : List ℕ). goes n s (lines_of_text bs)) whole
-    ∙ ap (goes n s) (parts_line line more none ∙ ap (λ ps. line ∷ ps) f.is)
+    ap (λ (bs : List ℕ). parse_from n s (lines_of_text bs)) whole
+    ∙ ap (parse_from n s) (parts_line line more none ∙ ap (λ ps. line ∷ ps) f.is)
     ∙ by_line n s line f.first f.others going
-    ∙ sym (ap (λ (ps : List (List ℕ)). after_line n line (step s line) (λ t. goes (n + 1) t ps)) f.is)
+    ∙ sym (ap (λ (ps : List (List ℕ)). after_line n line (step s line) (λ t. parse_from (n + 1) t ps)) f.is)
 
 -- the end of the text
 pub goes_rest : (n : ℕ) (s : Stage) (rest : List ℕ) → is_ended s ≡ false → All (λ b. b ≢ 10) rest
-    → goes n s (lines_of_text rest) ≡ parse_end n s rest
-goes_rest n s rest going none = ap (goes n s) (parts_rest rest none) ∙ by_rest n s rest going
+    → parse_from n s (lines_of_text rest) ≡ parse_end n s rest
+goes_rest n s rest going none = ap (parse_from n s) (parts_rest rest none) ∙ by_rest n s rest going
 
 -- after an accepted line
 pub goes_on : (n : ℕ) (s t : Stage) (line more rest : List ℕ) (o : ParseResult) → is_ended s ≡ false
-    → All (λ b. b ≢ 10) line → rest ≡ line ++ 10 ∷ more → goes n s (lines_of_text rest) ≡ o
-    → step s line ≡ Ok t → goes (n + 1) t (lines_of_text more) ≡ o
+    → All (λ b. b ≢ 10) line → rest ≡ line ++ 10 ∷ more → parse_from n s (lines_of_text rest) ≡ o
+    → step s line ≡ Ok t → parse_from (n + 1) t (lines_of_text more) ≡ o
 goes_on n s t line more rest o going none whole is steps =
-    sym (ap (λ r. after_line n line r (λ u. goes (n + 1) u (lines_of_text more))) steps)
+    sym (ap (λ r. after_line n line r (λ u. parse_from (n + 1) u (lines_of_text more))) steps)
     ∙ sym (goes_line n s line more rest going none whole) ∙ is
 
-returned : (n : ℕ) (line : List ℕ) (r : Result Stage Kind) (others : Stage
+returned : (n : ℕ) (line : List ℕ) (r : Result Stage FaultKind) (others : Stage
     → ParseResult) (o : ParseResult)
     (fault : LineFault) → after_line n line r others ≡ o → StepFails fault r
     → ReturnsFault o (fault_at n line fault)
@@ -70,10 +70,10 @@ returned n line r others o (faults.Of kind) is fails =
 -- a faulty line
 pub fails_line : (n : ℕ) (s : Stage) (line more rest : List ℕ) (o : ParseResult) (fault : LineFault)
     → is_ended s ≡ false → All (λ b. b ≢ 10) line → rest ≡ line ++ 10 ∷ more
-    → goes n s (lines_of_text rest) ≡ o → StepFails fault (step s line)
+    → parse_from n s (lines_of_text rest) ≡ o → StepFails fault (step s line)
     → ReturnsFault o (fault_at n line fault)
 fails_line n s line more rest o fault going none whole is fails =
-    returned n line (step s line) (λ u. goes (n + 1) u (lines_of_text more)) o fault
+    returned n line (step s line) (λ u. parse_from (n + 1) u (lines_of_text more)) o fault
     (sym (goes_line n s line more rest going none whole) ∙ is) fails
 
 pub ends_rest : (n : ℕ) (s t : Stage) (line : List ℕ) → (line ≡ [] → ⊥) → step s line ≡ Ok t
@@ -86,9 +86,9 @@ ends_rest n s t (b ∷ bs) some steps =
 
 pub ended_goes : (n : ℕ) (s : held.Stage) (r : Recording) (parts : List (List ℕ))
     → s ≡ holds.Ended r
-    → goes n (stage_with_all s) parts ≡ Ok (record { recorded = r; number = n; rest = parts })
-unfolding goes
-ended_goes n s r parts is = ap (λ (x : held.Stage). goes n (stage_with_all x) parts) is
+    → parse_from n (stage_with_all s) parts ≡ Ok (record { recorded = r; number = n; rest = parts })
+unfolding parse_from
+ended_goes n s r parts is = ap (λ (x : held.Stage). parse_from n (stage_with_all x) parts) is
 
 pub is_open : (s : held.Stage) → ((r : Recording) → s ≡ holds.Ended r → ⊥)
     → is_ended (stage_with_all s) ≡ false

@@ -24,15 +24,15 @@ use Rattle.ec_heading.specs.Spelling.{limit_line, heading_lines}
 use Rattle.ec_heading.proofs.shared.LeadLines.{leads_outline}
 use Rattle.ec_heading.proofs.shared.TreeFound.{outline_found, version_found}
 use Rattle.ec_heading.proofs.shared.VersionFacts.{limit_parts}
-use Rattle.calls_text.specs.declared.fault.Kind.{Kind}
-use Rattle.calls_text.specs.declared.fault.Kind.TheVariants as kinds
+use Rattle.calls_text.specs.declared.fault.FaultKind.{FaultKind}
+use Rattle.calls_text.specs.declared.fault.FaultKind.TheVariants as kinds
 use Rattle.calls_text.specs.Recordings.{RecordingModel}
 use Rattle.calls_text.specs.Reading.{Draft, Stage, Declaring, Running, Ended, step, is_run}
 use Rattle.calls_text.specs.Reading.{draft_of, limit_digits, after_limit, limit_or, limit_step}
 use Rattle.calls_text.specs.Reading.{from_words}
-use Rattle.calls_text.specs.Reading.{start_in, from_fault, with_start, started_at, after_start, from_or}
-use Rattle.calls_text.specs.Reading.{from_step, opens_from, is_from, headed_on, draft_step}
-use Rattle.calls_text.specs.Reading.{recorded_of, drafted_on}
+use Rattle.calls_text.specs.Reading.{start_in, from_fault, with_start, with_start_or_fault, after_start, from_or}
+use Rattle.calls_text.specs.Reading.{from_step, opens_from, is_from, map_heading, draft_step}
+use Rattle.calls_text.specs.Reading.{recorded_of, map_draft}
 use Rattle.calls_text.specs.Grammar.{from_line, from_lines}
 use Rattle.calls_text.specs.kept.Leading.{Leads}
 use Rattle.calls_text.proofs.ObjectWords.{event_spelled, event_below}
@@ -153,7 +153,7 @@ start_back h (Some m) n is =
     subst (IsStartOf h (Some m)) same
     (record { is = refl; low = leb-true _ _ p.0; high = leb-true _ _ p.1 })
 
-count_back : (d e : Draft) (k : ℕ) (o : Option ℕ) → started_at d k o ≡ Ok e
+count_back : (d e : Draft) (k : ℕ) (o : Option ℕ) → with_start_or_fault d k o ≡ Ok e
     → (n : ℕ) × (o ≡ Some n) × (with_start d k n ≡ e) × (from_fault d k ≡ None)
 count_back d e k None is = cc
 count_back d e k (Some n) is =
@@ -242,17 +242,17 @@ pub record HeadsRun (h : HeadingModel) (lines : List (List ℕ)) (t : RecordingM
   pub runs : Leads (Running (recorded_of last)) rest (Ended t)
 
 -- a line that is not `run` leads to another draft
-pub drafted_back : (r : Result Draft Kind) (s : Stage) → drafted_on r ≡ Ok s
+pub drafted_back : (r : Result Draft FaultKind) (s : Stage) → map_draft r ≡ Ok s
     → (e : Draft) × (r ≡ Ok e) × (s ≡ Declaring e)
 drafted_back (Ok e) s is = (e, refl, cc)
 drafted_back (Err kind) s is = cc
 
-headed_back : (d e : Draft) (r : Result HeadingModel HeadFault) → headed_on d r ≡ Ok e
+headed_back : (d e : Draft) (r : Result HeadingModel HeadFault) → map_heading d r ≡ Ok e
     → (h : HeadingModel) × (r ≡ Ok h) × (e ≡ record d { heading = h })
 headed_back d e (Ok h) is = (h, refl, cc)
 headed_back d e (Err fault) is = cc
 
-ok_is : (x y : Stage) → ◌≡◌ {A = Result Stage Kind} (Ok x) (Ok y) → y ≡ x
+ok_is : (x y : Stage) → ◌≡◌ {A = Result Stage FaultKind} (Ok x) (Ok y) → y ≡ x
 ok_is x y e = cc
 
 run_is : (d : Draft) (line : List ℕ) → is_run d line ≡ true
@@ -268,7 +268,7 @@ step_cases : (d : Draft) (line : List ℕ) (s : Stage) → step (Declaring d) li
 unfolding step
 step_cases d line s is =
     elim (is_run d line) as (λ b. is_run d line ≡ b
-    → cond b (Ok (Running (recorded_of d))) (drafted_on (draft_step d line)) ≡ Ok s
+    → cond b (Ok (Running (recorded_of d))) (map_draft (draft_step d line)) ≡ Ok s
     → ((line ≡ codes "run") × (0 < d.heading.setup.workers) × (s ≡ Running (recorded_of d)))
     ⊎ ((e : Draft) × (draft_step d line ≡ Ok e) × (s ≡ Declaring e))) [
       | true ↦ λ q runs.
@@ -282,7 +282,7 @@ draft_cases : (d e : Draft) (line : List ℕ) → draft_step d line ≡ Ok e
     ⊎ ((h : HeadingModel) × (head_step d.heading line ≡ Ok h) × (e ≡ record d { heading = h }))
 draft_cases d e line is =
     elim (is_from d line) as (λ b.
-    cond b (from_step d line) (headed_on d (head_step d.heading line)) ≡ Ok e
+    cond b (from_step d line) (map_heading d (head_step d.heading line)) ≡ Ok e
     → (from_step d line ≡ Ok e)
     ⊎ ((h : HeadingModel) × (head_step d.heading line ≡ Ok h) × (e ≡ record d { heading = h }))) [
       | true ↦ λ from. inl from
@@ -296,7 +296,7 @@ draft_starts d e line some is =
     let first : is_from d line ≡ true =
     ap (λ (b : Bool). b || (opens_from (words_of line) && nat_lt 0 d.heading.setup.workers)) long in
     sym (ap (λ (b : Bool).
-    cond b (from_step d line) (headed_on d (head_step d.heading line))) first)
+    cond b (from_step d line) (map_heading d (head_step d.heading line))) first)
     ∙ is
 
 more_starts : (d e : Draft) (line : List ℕ) → from_step d line ≡ Ok e → 0 < length e.from

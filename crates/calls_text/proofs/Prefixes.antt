@@ -7,15 +7,15 @@ use Rattle.std.specs.List.{AllByRecursion, join_with_byte}
 use Rattle.std.proofs.lemmas.List.Splits.{length-slice_split}
 use Rattle.std.proofs.lemmas.List.Elements.{recursion_from_All, All-from_recursion}
 use Rattle.ec_heading.specs.Spelling.{lines_text, ended_line}
-use Rattle.calls_text.specs.declared.fault.Kind.{Kind}
-use Rattle.calls_text.specs.declared.fault.Kind.TheVariants as kinds
+use Rattle.calls_text.specs.declared.fault.FaultKind.{FaultKind}
+use Rattle.calls_text.specs.declared.fault.FaultKind.TheVariants as kinds
 use Rattle.calls_text.specs.Recordings.{RecordingModel}
 use Rattle.calls_text.specs.Reading.{Stage, Opening, Limiting, Declaring, Running, Ended, step}
 use Rattle.calls_text.specs.Reading.{is_ended}
-use Rattle.calls_text.specs.Outcomes.{OneRead, ParseResult, lines_of_text, goes, after_line, parse_end, fault_in}
+use Rattle.calls_text.specs.Outcomes.{OneRead, ParseResult, lines_of_text, parse_from, after_line, parse_end, fault_in}
 use Rattle.calls_text.specs.Grammar.{history_lines, history_text}
 use Rattle.calls_text.specs.kept.Leading.{Leads}
-use Rattle.calls_text.specs.Laws.{SpelledIsRead, NoTextBeginsAnother}
+use Rattle.calls_text.specs.Laws.{SpelledIsRead, TextsArePrefixFree}
 use Rattle.calls_text.specs.Laws.{PrefixIsRefused}
 use Rattle.calls_text.specs.Rules.{KeepsRules}
 use Rattle.calls_text.proofs.Rules.{Lead, all_taken}
@@ -36,36 +36,36 @@ is_open (Running r) t line is = refl
 is_open (Ended r) t line is = cc
 
 goes_line : (n : ℕ) (s t : Stage) (line more : List ℕ) → IsPart line → step s line ≡ Ok t
-    → goes n s (lines_of_text (line ++ 10 ∷ more)) ≡ goes (n + 1) t (lines_of_text more)
+    → parse_from n s (lines_of_text (line ++ 10 ∷ more)) ≡ parse_from (n + 1) t (lines_of_text more)
 goes_line n s t line more part is =
     let f : HasFirst more = has_first more in
-    ap (goes n s) (parts_line line more part ∙ ap (λ (ps : List (List ℕ)). line ∷ ps) f.is)
+    ap (parse_from n s) (parts_line line more part ∙ ap (λ (ps : List (List ℕ)). line ∷ ps) f.is)
     ∙ by_line n s line f.first f.others (is_open s t line is)
-    ∙ ap (λ r. after_line n line r (λ u. goes (n + 1) u (f.first ∷ f.others))) is
-    ∙ ap (goes (n + 1) t) (sym f.is)
+    ∙ ap (λ r. after_line n line r (λ u. parse_from (n + 1) u (f.first ∷ f.others))) is
+    ∙ ap (parse_from (n + 1) t) (sym f.is)
 
 -- lines that lead to a stage are read, whatever follows
 pub goes_lines : (n : ℕ) (s t : Stage) (lines : List (List ℕ)) (more : List ℕ)
     → AllByRecursion IsPart lines → Leads s lines t
-    → goes n s (lines_of_text (lines_text lines ++ more))
-    ≡ goes (n + length lines) t (lines_of_text more)
+    → parse_from n s (lines_of_text (lines_text lines ++ more))
+    ≡ parse_from (n + length lines) t (lines_of_text more)
 goes_lines n s t [] more each leads =
-    ap (λ (k : ℕ). goes k s (lines_of_text more)) (omega arith)
-    ∙ ap (λ (k : Stage). goes (n + 0) k (lines_of_text more)) leads
+    ap (λ (k : ℕ). parse_from k s (lines_of_text more)) (omega arith)
+    ∙ ap (λ (k : Stage). parse_from (n + 0) k (lines_of_text more)) leads
 goes_lines n s t (line ∷ lines) more each (next, is, leads) =
     let grouped : (ended_line line ++ lines_text lines) ++ more
     ≡ line ++ 10 ∷ (lines_text lines ++ more) =
     append_assoc (ended_line line) (lines_text lines) more
     ∙ append_assoc line (10 ∷ []) (lines_text lines ++ more) in
     let count : n + 1 + length lines ≡ n + length (line ∷ lines) = omega arith in
-    ap (λ (bytes : List ℕ). goes n s (lines_of_text bytes)) grouped
+    ap (λ (bytes : List ℕ). parse_from n s (lines_of_text bytes)) grouped
     ∙ goes_line n s next line (lines_text lines ++ more) each.0 is
     ∙ goes_lines (n + 1) next t lines more each.1 leads
-    ∙ ap (λ (k : ℕ). goes k t (lines_of_text more)) count
+    ∙ ap (λ (k : ℕ). parse_from k t (lines_of_text more)) count
 
 pub goes_ended : (n : ℕ) (r : RecordingModel) (parts : List (List ℕ))
-    → goes n (Ended r) parts ≡ Ok (record { recorded = r; number = n; rest = parts })
-unfolding goes
+    → parse_from n (Ended r) parts ≡ Ok (record { recorded = r; number = n; rest = parts })
+unfolding parse_from
 goes_ended n r parts = refl
 
 -- its lines lead to the history, and have no LF
@@ -88,7 +88,7 @@ is_led r keeps =
 -- THE TEXT OF A HISTORY IS READ
 
 pub led_is_read : (r : RecordingModel) (n : ℕ) (rest : List ℕ) → IsLed r
-    → goes n Opening (lines_of_text (history_text r ++ rest))
+    → parse_from n Opening (lines_of_text (history_text r ++ rest))
     ≡ Ok (record { recorded = r; number = n + length (history_lines r); rest = lines_of_text rest })
 unfolding history_text
 led_is_read r n rest led =
@@ -108,12 +108,12 @@ one_read r s m n x y is =
     ≡ record { recorded = s; number = n; rest = y } = cc in
     (ap (λ (o : OneRead). o.recorded) same, ap (λ (o : OneRead). o.rest) same)
 
-pub no_text_begins_another : NoTextBeginsAnother
-no_text_begins_another r s x y one other same =
+pub texts_are_prefix_free : TextsArePrefixFree
+texts_are_prefix_free r s x y one other same =
     let both = one_read r s (1 + length (history_lines r)) (1 + length (history_lines s))
     (lines_of_text x) (lines_of_text y)
     (sym (spelled_is_read r 1 x one)
-    ∙ ap (λ (bytes : List ℕ). goes 1 Opening (lines_of_text bytes)) same
+    ∙ ap (λ (bytes : List ℕ). parse_from 1 Opening (lines_of_text bytes)) same
     ∙ spelled_is_read s 1 y other) in
     (both.0, sym (parts_joined x) ∙ ap (join_with_byte 10) both.1 ∙ parts_joined y)
 
@@ -229,14 +229,14 @@ each_there [] y ys all = all.0
 each_there (x ∷ xs) y ys all = each_there xs y ys all.1
 
 -- the bytes after the last LF are at fault, as unfinished if there are none
-taken_refused : (n : ℕ) (line : List ℕ) (r : Result Stage Kind)
-    → (kind : Kind)
+taken_refused : (n : ℕ) (line : List ℕ) (r : Result Stage FaultKind)
+    → (kind : FaultKind)
     × (after_line n line r (λ t. fault_in n kinds.Unfinished line) ≡ fault_in n kind line)
 taken_refused n line (Ok t) = (kinds.Unfinished, refl)
 taken_refused n line (Err kind) = (kind, refl)
 
 end_refused : (n : ℕ) (s : Stage) (part : List ℕ)
-    → (kind : Kind) × (parse_end n s part ≡ fault_in n kind part)
+    → (kind : FaultKind) × (parse_end n s part ≡ fault_in n kind part)
     × (part ≡ [] → kind ≡ kinds.Unfinished)
 end_refused n s [] = (kinds.Unfinished, refl, λ none. refl)
 end_refused n s (b ∷ bs) =
@@ -269,8 +269,8 @@ lfs lines part each none =
 cut_refused : (n : ℕ) (s t : Stage) (prefix line : List ℕ) (whole others : List (List ℕ))
     (part tail : List ℕ) (u : Stage) → prefix ≡ lines_text whole ++ part → line ≡ part ++ tail
     → AllByRecursion IsPart (whole ++ line ∷ others) → Leads s whole t → step t line ≡ Ok u
-    → (kind : Kind)
-    × (goes n s (lines_of_text prefix)
+    → (kind : FaultKind)
+    × (parse_from n s (lines_of_text prefix)
     ≡ fault_in (n + count_by (λ b. eqb b 10) prefix) kind part)
     × (part ≡ [] → kind ≡ kinds.Unfinished)
 cut_refused n s t prefix line whole others part tail u text begins each leads is =
@@ -280,10 +280,10 @@ cut_refused n s t prefix line whole others part tail u text begins each leads is
     let e = end_refused (n + length whole) t part in
     let count : length whole ≡ count_by (λ b. eqb b 10) prefix =
     sym (lfs whole part before none) ∙ ap (count_by (λ b. eqb b 10)) (sym text) in
-    let reads : goes n s (lines_of_text prefix) ≡ fault_in (n + length whole) e.0 part =
-    ap (λ (bytes : List ℕ). goes n s (lines_of_text bytes)) text
+    let reads : parse_from n s (lines_of_text prefix) ≡ fault_in (n + length whole) e.0 part =
+    ap (λ (bytes : List ℕ). parse_from n s (lines_of_text bytes)) text
     ∙ goes_lines n s t whole part before leads
-    ∙ ap (goes (n + length whole) t) (parts_alone part none)
+    ∙ ap (parse_from (n + length whole) t) (parts_alone part none)
     ∙ by_rest (n + length whole) t part (is_open t u line is) ∙ e.1 in
     (e.0, reads ∙ ap (λ (k : ℕ). fault_in (n + k) e.0 part) count, e.2)
 

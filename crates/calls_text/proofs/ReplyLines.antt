@@ -14,7 +14,7 @@ use Rattle.calls_text.specs.declared.form.ReplyWord.TheVariants as answers
 use Rattle.calls_text.specs.Lists.{list_number, lists_after}
 use Rattle.calls_text.specs.Recordings.{RecordingModel, first_group, numbers_of, cells_of}
 use Rattle.calls_text.specs.Reading.{only_number, numbers_in, takes_numbers}
-use Rattle.calls_text.specs.Reading.{gives_list, is_suited, is_bad_answer, reply_of_word, lists_with}
+use Rattle.calls_text.specs.Reading.{gives_list, is_suited, is_bad_reply, reply_of_word, lists_with}
 use Rattle.calls_text.specs.Spelling.{numbers_of_list, numbers_of_value, numbers_after_spaces, returned_value, spaced_reply}
 use Rattle.calls_text.proofs.PhraseWords.{SaysAnswer}
 use Rattle.calls_text.proofs.Values.{words_spaced, list_found}
@@ -87,7 +87,7 @@ given h o (ops.Put v) lists more ws suits = cc
 
 -- the words of a reply, each after a space, are its text, whatever lists are added after it
 pub reply_is : (r : RecordingModel) (o : PendingCall) (a : ReplyWord) (more ws : List (List ℕ))
-    → SaysAnswer a ws → is_bad_answer a ws ≡ false → is_suited r.heading o a ws ≡ true
+    → SaysAnswer a ws → is_bad_reply a ws ≡ false → is_suited r.heading o a ws ≡ true
     → spaced_words ws
     ≡ spaced_reply r.heading (lists_with r o a ws ++ more) o.object o.op (reply_of_word r o a ws)
 reply_is r o answers.Done more ws says good suits = ap spaced_words says

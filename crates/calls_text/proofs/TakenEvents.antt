@@ -20,14 +20,14 @@ use Rattle.calls_core.specs.declared.history.Op.TheVariants as ops
 use Rattle.calls_core.specs.declared.history.Reply.TheVariants as replies
 use Rattle.calls_core.specs.declared.history.Action.TheVariants.{Invoke, Respond}
 use Rattle.calls_core.specs.declared.history.PendingCall.{PendingCall}
-use Rattle.calls_text.specs.declared.verb.CallWord.{CallWord}
-use Rattle.calls_text.specs.declared.verb.CallWord.TheVariants as verbs
+use Rattle.calls_text.specs.declared.verb.OpWord.{OpWord}
+use Rattle.calls_text.specs.declared.verb.OpWord.TheVariants as verbs
 use Rattle.calls_text.specs.declared.form.ReplyWord.{ReplyWord}
 use Rattle.calls_text.specs.declared.form.ReplyWord.TheVariants as answers
 use Rattle.calls_text.specs.declared.object.Object.{Object}
 use Rattle.calls_text.specs.declared.object.Object.TheVariants as objects
-use Rattle.calls_text.specs.Verbs.{verb_word, parse_verb, tail_of}
-use Rattle.calls_text.specs.Forms.{Phrase, Calls, Returns, phrase_in, is_tail, answer_of}
+use Rattle.calls_text.specs.Verbs.{verb_word, parse_op_word, tail_of}
+use Rattle.calls_text.specs.Forms.{Phrase, Calls, Returns, phrase_in, is_tail, parse_reply_word}
 use Rattle.calls_text.specs.Forms.{is_word}
 use Rattle.calls_text.specs.Objects.{object_in, as_semaphore}
 use Rattle.calls_text.specs.Objects.{as_database}
@@ -36,7 +36,7 @@ use Rattle.calls_text.specs.Recordings.{RecordingModel, numbers_of, first_group,
 use Rattle.calls_text.specs.Reading.{is_no_number, number_or_0, only_number, numbers_in}
 use Rattle.calls_text.specs.Reading.{is_bad_tail, call_fault}
 use Rattle.calls_text.specs.Reading.{index_of, with_event, with_call}
-use Rattle.calls_text.specs.Reading.{other_word, after_phrase, event_step, is_bad_answer}
+use Rattle.calls_text.specs.Reading.{other_word, after_phrase, event_step, is_bad_reply}
 use Rattle.calls_text.specs.Reading.{is_over, suit_fault, takes_numbers, gives_list}
 use Rattle.calls_text.specs.Reading.{with_reply}
 use Rattle.calls_text.specs.Spelling.{worker_word, event_word, sequencer_word, cell_name}
@@ -91,7 +91,7 @@ numbers_long (n ∷ ns) = omega (arith, numbers_long ns)
 -- CALLS
 
 -- words by which a call names its object and its numbers
-record Names (r : RecordingModel) (v : CallWord) (o : Object) (ns : List ℕ) : Type 0 where
+record Names (r : RecordingModel) (v : OpWord) (o : Object) (ns : List ℕ) : Type 0 where
   object : List ℕ
   tail : List (List ℕ)
   fine : IsFine object
@@ -102,7 +102,7 @@ record Names (r : RecordingModel) (v : CallWord) (o : Object) (ns : List ℕ) : 
   good : is_bad_tail (tail_of v) tail o ≡ false
   gives : (w : ℕ) → with_call r w v o tail ≡ after_call r w v o ns
 
-alone : (r : RecordingModel) (v : CallWord) (o : Object) (ns : List ℕ) (w : List ℕ) → IsFine w
+alone : (r : RecordingModel) (v : OpWord) (o : Object) (ns : List ℕ) (w : List ℕ) → IsFine w
     → object_in r.heading v w (other_word v []) ≡ Some o → is_tail (tail_of v) [] ≡ true
     → is_bad_tail (tail_of v) [] o ≡ false
     → ((i : ℕ) → with_call r i v o [] ≡ after_call r i v o ns) → Names r v o ns
@@ -118,7 +118,7 @@ alone r v o ns w fine named formed good gives = record {
   gives = gives;
 }
 
-one_number : (r : RecordingModel) (v : CallWord) (o : Object) (ns : List ℕ) (w : List ℕ) → IsFine w
+one_number : (r : RecordingModel) (v : OpWord) (o : Object) (ns : List ℕ) (w : List ℕ) → IsFine w
     → length ns ≡ 1 → AreSmall ns
     → object_in r.heading v w (other_word v (map decimal ns)) ≡ Some o
     → ((n : ℕ) → n < 1000000000000000000 → is_tail (tail_of v) (decimal n ∷ []) ≡ true)
@@ -141,7 +141,7 @@ one_number r v o (n ∷ []) w fine one small named formed good gives = record {
   gives = gives n small.0;
 }
 
-names : (r : RecordingModel) (v : CallWord) (o : Object) (ns : List ℕ) → HasHeaderTree r.heading
+names : (r : RecordingModel) (v : OpWord) (o : Object) (ns : List ℕ) → HasHeaderTree r.heading
     → IsDeclaredIn r.heading o → TakesNumbers v o ns → AreSmall ns → Names r v o ns
 names r verbs.Advance (objects.Event e) ns has there takes small =
     let f = event_found r.heading e has there in
@@ -225,7 +225,7 @@ pub record IsTaken (r s : RecordingModel) : Type 0 where
   pub going : bytes_eq line (codes "end") ≡ false
   pub steps : event_step r line ≡ Ok s
 
-verb_back : (v : CallWord) → parse_verb (verb_word v) ≡ Some v
+verb_back : (v : OpWord) → parse_op_word (verb_word v) ≡ Some v
 verb_back verbs.Advance = refl
 verb_back verbs.Read = refl
 verb_back verbs.Await = refl
@@ -238,7 +238,7 @@ verb_back verbs.PBoth = refl
 verb_back verbs.Write = refl
 verb_back verbs.Snapshot = refl
 
-verb_fine : (v : CallWord) → IsFine (verb_word v)
+verb_fine : (v : OpWord) → IsFine (verb_word v)
 verb_fine verbs.Advance = literal_fine (codes "advance") refl refl refl refl
 verb_fine verbs.Read = literal_fine (codes "read") refl refl refl refl
 verb_fine verbs.Await = literal_fine (codes "await") refl refl refl refl
@@ -251,12 +251,12 @@ verb_fine verbs.PBoth = literal_fine (codes "pboth") refl refl refl refl
 verb_fine verbs.Write = literal_fine (codes "write") refl refl refl refl
 verb_fine verbs.Snapshot = literal_fine (codes "snapshot") refl refl refl refl
 
-call_read : (w o : List ℕ) (v : CallWord) (ws : List (List ℕ)) → is_tail (tail_of v) ws ≡ true
+call_read : (w o : List ℕ) (v : OpWord) (ws : List (List ℕ)) → is_tail (tail_of v) ws ≡ true
     → phrase_in (w ∷ codes "calls" ∷ verb_word v ∷ o ∷ ws) ≡ Some (Calls w v o ws)
 unfolding phrase_in
 call_read w o v ws formed = rw (verb_back v) (rw formed refl)
 
-no_call_fault : (r : RecordingModel) (w : ℕ) (v : CallWord) (o : Object) (ns : List ℕ)
+no_call_fault : (r : RecordingModel) (w : ℕ) (v : OpWord) (o : Object) (ns : List ℕ)
     (ws : List (List ℕ)) → MayCall r w v o ns → is_bad_tail (tail_of v) ws o ≡ false
     → call_fault r w v o ws ≡ None
 no_call_fault r w v o ns ws may good =
@@ -283,7 +283,7 @@ line_taken r s line w v ws p is phrase takes = record {
   steps = rw (is.good, is.words, phrase) takes;
 }
 
-pub call_taken : (r : RecordingModel) (w : ℕ) (v : CallWord) (o : Object) (ns : List ℕ)
+pub call_taken : (r : RecordingModel) (w : ℕ) (v : OpWord) (o : Object) (ns : List ℕ)
     → HasHeaderTree r.heading → MayCall r w v o ns → IsTaken r (after_call r w v o ns)
 call_taken r w v o ns has may =
     let n : Names r v o ns = names r v o ns has may.declared may.takes may.small in
@@ -325,13 +325,13 @@ record Says (r : RecordingModel) (c : PendingCall) (a : ReplyWord) (ns : List �
   fine : IsFine first
   each : AllByRecursion IsFine others
   short : length (spaced_words (first ∷ others)) ≤ 4864
-  said : answer_of (first ∷ others) ≡ Some a
-  good : is_bad_answer a (first ∷ others) ≡ false
+  said : parse_reply_word (first ∷ others) ≡ Some a
+  good : is_bad_reply a (first ∷ others) ≡ false
   fault : suit_fault r.heading c a (first ∷ others) ≡ None
   gives : (w : ℕ) → with_reply r w c a (first ∷ others) ≡ after_return r w c a ns
 
 return_read : (w first : List ℕ) (others : List (List ℕ)) (a : ReplyWord)
-    → answer_of (first ∷ others) ≡ Some a
+    → parse_reply_word (first ∷ others) ≡ Some a
     → phrase_in (w ∷ codes "returns" ∷ first ∷ others) ≡ Some (Returns w a (first ∷ others))
 unfolding phrase_in
 return_read w first others a said = rw said refl
@@ -367,7 +367,7 @@ no_word n [] word small other = number_is_other n word small other
 no_word n (m ∷ ms) word small other = refl
 
 numbers_said : (n : ℕ) (ms : List ℕ) → AreSmall (n ∷ ms)
-    → answer_of (map decimal (n ∷ ms)) ≡ Some answers.Numbers
+    → parse_reply_word (map decimal (n ∷ ms)) ≡ Some answers.Numbers
 numbers_said n ms small =
     let some : nat_le 1 (length (map decimal (n ∷ ms))) ≡ true = le-leb _ _ (omega arith) in
     let all : (nat_le 1 (length (map decimal (n ∷ ms)))

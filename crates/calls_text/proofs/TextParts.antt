@@ -7,12 +7,12 @@ use Rattle.std.proofs.lemmas.List.Elements.{All-nil, All-cons}
 use Rattle.std.proofs.lemmas.List.Splits.{slice_split_at, slice_split_none}
 use Rattle.std.proofs.lemmas.List.Splits.{join_with_byte-slice_split}
 use Rattle.ec_heading.specs.Spelling.{lines_text, ended_line}
-use Rattle.calls_text.specs.declared.fault.Kind.{Kind}
-use Rattle.calls_text.specs.declared.fault.Kind.TheVariants as kinds
+use Rattle.calls_text.specs.declared.fault.FaultKind.{FaultKind}
+use Rattle.calls_text.specs.declared.fault.FaultKind.TheVariants as kinds
 use Rattle.calls_text.specs.Recordings.{RecordingModel}
 use Rattle.calls_text.specs.Reading.{Stage, Opening, Limiting, Declaring, Running, Ended, step}
 use Rattle.calls_text.specs.Reading.{is_ended}
-use Rattle.calls_text.specs.Outcomes.{OneRead, ParseResult, lines_of_text, goes, after_line, parse_end, fault_in}
+use Rattle.calls_text.specs.Outcomes.{OneRead, ParseResult, lines_of_text, parse_from, after_line, parse_end, fault_in}
 use Rattle.calls_text.specs.kept.Leading.{Leads}
 use Rattle.ec_text.proofs.shared.WordLemmas.{onto_has}
 
@@ -90,9 +90,9 @@ pub record Reads (n : ℕ) (s : Stage) (parts : List (List ℕ)) (read : OneRead
   pub leads : Leads s lines (Ended read.recorded)
 
 pub by_line : (n : ℕ) (s : Stage) (line next : List ℕ) (others : List (List ℕ)) → is_ended s ≡ false
-    → goes n s (line ∷ next ∷ others)
-    ≡ after_line n line (step s line) (λ t. goes (n + 1) t (next ∷ others))
-unfolding goes is_ended
+    → parse_from n s (line ∷ next ∷ others)
+    ≡ after_line n line (step s line) (λ t. parse_from (n + 1) t (next ∷ others))
+unfolding parse_from is_ended
 by_line n Opening line next others going = refl
 by_line n Limiting line next others going = refl
 by_line n (Declaring d) line next others going = refl
@@ -100,15 +100,15 @@ by_line n (Running r) line next others going = refl
 by_line n (Ended r) line next others going = cc
 
 pub by_rest : (n : ℕ) (s : Stage) (rest : List ℕ) → is_ended s ≡ false
-    → goes n s (rest ∷ []) ≡ parse_end n s rest
-unfolding goes is_ended
+    → parse_from n s (rest ∷ []) ≡ parse_end n s rest
+unfolding parse_from is_ended
 by_rest n Opening rest going = refl
 by_rest n Limiting rest going = refl
 by_rest n (Declaring d) rest going = refl
 by_rest n (Running r) rest going = refl
 by_rest n (Ended r) rest going = cc
 
-was_taken : (n : ℕ) (line : List ℕ) (r : Result Stage Kind) (others : Stage → ParseResult)
+was_taken : (n : ℕ) (line : List ℕ) (r : Result Stage FaultKind) (others : Stage → ParseResult)
     (read : OneRead) → after_line n line r others ≡ Ok read
     → (t : Stage) × (r ≡ Ok t) × (others t ≡ Ok read)
 was_taken n line (Ok t) others read is = (t, refl, is)
@@ -125,8 +125,8 @@ not_at_end n s (b ∷ bs) read is =
     cc
 
 over : (n : ℕ) (r : RecordingModel) (first : List ℕ) (others : List (List ℕ)) (read : OneRead)
-    → goes n (Ended r) (first ∷ others) ≡ Ok read → Reads n (Ended r) (first ∷ others) read
-unfolding goes
+    → parse_from n (Ended r) (first ∷ others) ≡ Ok read → Reads n (Ended r) (first ∷ others) read
+unfolding parse_from
 over n r first others read is =
     let same : record { recorded = r; number = n; rest = first ∷ others } ≡ read = cc in
     subst (Reads n (Ended r) (first ∷ others)) same (record {
@@ -162,17 +162,18 @@ ended_or_not P over_is open_is (Running r) = open_is (Running r) refl
 ended_or_not P over_is open_is (Ended r) = over_is r
 
 reads : (n : ℕ) (s : Stage) (first : List ℕ) (others : List (List ℕ)) (read : OneRead)
-    → goes n s (first ∷ others) ≡ Ok read → Reads n s (first ∷ others) read
+    → parse_from n s (first ∷ others) ≡ Ok read → Reads n s (first ∷ others) read
 reads n s first [] read is =
-    ended_or_not (λ t. goes n t (first ∷ []) ≡ Ok read → Reads n t (first ∷ []) read)
+    ended_or_not (λ t. parse_from n t (first ∷ []) ≡ Ok read → Reads n t (first ∷ []) read)
     (λ r e. over n r first [] read e)
     (λ t going e. absurd (not_at_end n t first read (sym (by_rest n t first going) ∙ e)))
     s is
 reads n s line (next ∷ others) read is =
-    ended_or_not (λ t. goes n t (line ∷ next ∷ others) ≡ Ok read
+    ended_or_not (λ t. parse_from n t (line ∷ next ∷ others) ≡ Ok read
     → Reads n t (line ∷ next ∷ others) read)
     (λ r e. over n r line (next ∷ others) read e)
-    (λ t going e. (let k = was_taken n line (step t line) (λ u. goes (n + 1) u (next ∷ others)) read
+    (λ t going e. (let k =
+    was_taken n line (step t line) (λ u. parse_from (n + 1) u (next ∷ others)) read
     (sym (by_line n t line next others going) ∙ e) in
     line_read n t k.0 line (next ∷ others) read k.1
     (reads (n + 1) k.0 next others read k.2)))
@@ -226,8 +227,8 @@ of_parts bytes n s read r =
     }
 
 pub is_read : (bytes : List ℕ) (n : ℕ) (s : Stage) (read : OneRead)
-    → goes n s (lines_of_text bytes) ≡ Ok read → IsRead bytes n s read
+    → parse_from n s (lines_of_text bytes) ≡ Ok read → IsRead bytes n s read
 is_read bytes n s read is =
     let f : HasFirst bytes = has_first bytes in
     of_parts bytes n s read (subst (λ (ps : List (List ℕ)). Reads n s ps read) (sym f.is)
-    (reads n s f.first f.others read (ap (goes n s) (sym f.is) ∙ is)))
+    (reads n s f.first f.others read (ap (parse_from n s) (sym f.is) ∙ is)))

@@ -4,8 +4,8 @@ use Rattle.std.specs.Prelude.{bytes_eq, codes, unwrap_or}
 use Rattle.std.specs.List.{list_any}
 use Rattle.ec_count.specs.Tables.{first_that}
 use Rattle.ec_text.specs.Words.{words_of}
-use Rattle.calls_text.specs.declared.fault.Kind.{Kind}
-use Rattle.calls_text.specs.declared.fault.Kind.TheVariants as kinds
+use Rattle.calls_text.specs.declared.fault.FaultKind.{FaultKind}
+use Rattle.calls_text.specs.declared.fault.FaultKind.TheVariants as kinds
 use Rattle.calls_text.specs.declared.fault.Cause.{Cause}
 use Rattle.calls_text.specs.declared.fault.Cause.TheVariants as causes
 
@@ -40,7 +40,7 @@ header_cause line = unwrap_or (first_that (
     ∷ [])) (line_cause line)
 
 -- what is wrong with the form of a line with a fault of this kind
-abbrev pub cause_of : Kind → List ℕ → Cause
+abbrev pub cause_of : FaultKind → List ℕ → Cause
 cause_of kinds.BadHeader line = header_cause line
 cause_of kinds.BadLine line = line_cause line
 cause_of _ line = causes.Other

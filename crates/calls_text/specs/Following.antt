@@ -4,8 +4,8 @@ use Rattle.std.specs.Borrow.{Bor}
 use Rattle.calls_core.specs.declared.history.Kind as sorts
 use Rattle.calls_core.specs.declared.history.Event.{Event}
 use Rattle.calls_core.specs.Histories.{IsNext}
-use Rattle.calls_text.specs.declared.fault.Kind.{Kind}
-use Rattle.calls_text.specs.declared.fault.Kind.TheVariants as kinds
+use Rattle.calls_text.specs.declared.fault.FaultKind.{FaultKind}
+use Rattle.calls_text.specs.declared.fault.FaultKind.TheVariants as kinds
 use Rattle.calls_text.specs.declared.fault.TextFault.{TextFault}
 use Rattle.calls_text.specs.declared.fault.TextFault.TheVariants as faults
 use Rattle.calls_text.specs.declared.following.HistoryLine.{HistoryLine}
@@ -59,7 +59,7 @@ pub record IsEvent (line : List ℕ) (events : List Event) (x : Event) (old new 
   pub seen : IsFollowing (events ++ x ∷ []) new
 
 -- the line `run`
-pub record IsRun (line : List ℕ) (events : List Event) (old new : held.Stage) : Type 0 where
+pub record IsRunLine (line : List ℕ) (events : List Event) (old new : held.Stage) : Type 0 where
   pub begun : RecordingModel
   pub none : events ≡ []
   pub steps : step (seen_with events old) line ≡ Ok (Running begun)
@@ -89,7 +89,7 @@ followed_in _ = lines.Heading
 
 abbrev pub PassesIn : HistoryLine → List ℕ → List Event → held.Stage → held.Stage → Type 0
 PassesIn lines.Heading line events old new = IsHeading line events old new
-PassesIn lines.Run line events old new = IsRun line events old new
+PassesIn lines.Run line events old new = IsRunLine line events old new
 PassesIn (lines.Event x) line events old new = IsEvent line events x old new
 PassesIn lines.End line events old new = IsEnd line events old
 
@@ -105,7 +105,7 @@ abbrev pub Passes : Result HistoryLine TextFault → ℕ → List ℕ → List E
 Passes (Ok followed) n line events old new = PassesIn followed line events old.stage new.stage
 Passes (Err fault) n line events old new = IsFaulty fault n line (stage_with_events events old)
 
-abbrev pub long_kind : held.Stage → Kind
+abbrev pub long_kind : held.Stage → FaultKind
 long_kind holds.Opening = kinds.BadHeader
 long_kind _ = kinds.BadLine
 

@@ -5,8 +5,8 @@ use Rattle.std.specs.Option.{option_map_or}
 use Rattle.std.specs.List.{list_all}
 use Rattle.std.specs.Borrow.{Bor}
 use Rattle.ec_text.specs.Words.{words_of, is_number_form}
-use Rattle.calls_text.specs.Verbs.{parse_verb, tail_of}
-use Rattle.calls_text.specs.declared.verb.CallWord.{CallWord}
+use Rattle.calls_text.specs.Verbs.{parse_op_word, tail_of}
+use Rattle.calls_text.specs.declared.verb.OpWord.{OpWord}
 use Rattle.calls_text.specs.declared.verb.Tail.{Tail}
 use Rattle.calls_text.specs.declared.verb.Tail.TheVariants as tails
 use Rattle.calls_text.specs.declared.form.ReplyWord.{ReplyWord}
@@ -17,7 +17,7 @@ use Rattle.calls_text.specs.declared.form.Parts.TheVariants as parts
 -- the words of the line of an event. An invocation has its worker, its operation, its object and
 -- the words after that; a response has its worker, the form of its reply, and the words of that
 pub data Phrase : Type 0 where
-  Calls : List ℕ → CallWord → List ℕ → List (List ℕ) → Phrase
+  Calls : List ℕ → OpWord → List ℕ → List (List ℕ) → Phrase
   Returns : List ℕ → ReplyWord → List (List ℕ) → Phrase
 
 -- the only word, if there is exactly one
@@ -34,22 +34,22 @@ is_tail tails.ManyDigits ws = nat_le 1 (length ws) && list_all is_number_form ws
 is_tail tails.Word ws = length ws == 1
 
 -- the invocation of worker w, given its operation and the words after that
-abbrev pub called_in : List ℕ → Option CallWord → List (List ℕ) → Option Phrase
+abbrev pub called_in : List ℕ → Option OpWord → List (List ℕ) → Option Phrase
 called_in w None ws = None
 called_in w (Some v) [] = None
 called_in w (Some v) (o ∷ ws) = if is_tail (tail_of v) ws then Some (Calls w v o ws) else None
 
 abbrev pub call_in : List ℕ → List (List ℕ) → Option Phrase
 call_in w [] = None
-call_in w (v ∷ ws) = called_in w (parse_verb v) ws
+call_in w (v ∷ ws) = called_in w (parse_op_word v) ws
 
 -- whether the one word of a response is this one
 abbrev pub is_word : List ℕ → List (List ℕ) → Bool
 is_word word ws = option_map_or (λ w. bytes_eq w word) (only_in ws) false
 
 -- the form of a reply, given the words after `returns`
-abbrev pub answer_of : List (List ℕ) → Option ReplyWord
-answer_of ws =
+abbrev pub parse_reply_word : List (List ℕ) → Option ReplyWord
+parse_reply_word ws =
     if is_word (codes "done") ws then Some answers.Done
     else (if is_word (codes "timeout") ws then Some answers.Timeout
     else (if nat_le 1 (length ws) && list_all is_number_form ws then Some answers.Numbers
@@ -57,7 +57,7 @@ answer_of ws =
 
 -- the response of worker w, given the words after `returns`
 abbrev pub return_in : List ℕ → List (List ℕ) → Option Phrase
-return_in w ws = option_map (λ a. Returns w a ws) (answer_of ws)
+return_in w ws = option_map (λ a. Returns w a ws) (parse_reply_word ws)
 
 -- the phrase of a line, if it has one of the forms: a worker, `calls` and a call, or a worker,
 -- `returns` and a reply

@@ -2,11 +2,11 @@
 -- text, and no text is a proper prefix of another.
 use Rattle.std.specs.Prelude.{◌≡◌, ◌≢◌, ℕ, ◌+◌, ◌==◌, List, [], ◌++◌, length, count_by}
 use Rattle.std.specs.Prelude.{Ok}
-use Rattle.calls_text.specs.declared.fault.Kind.{Kind}
-use Rattle.calls_text.specs.declared.fault.Kind.TheVariants as kinds
+use Rattle.calls_text.specs.declared.fault.FaultKind.{FaultKind}
+use Rattle.calls_text.specs.declared.fault.FaultKind.TheVariants as kinds
 use Rattle.calls_text.specs.Recordings.{RecordingModel}
 use Rattle.calls_text.specs.Reading.{Opening}
-use Rattle.calls_text.specs.Outcomes.{OneRead, lines_of_text, goes, fault_in}
+use Rattle.calls_text.specs.Outcomes.{OneRead, lines_of_text, parse_from, fault_in}
 use Rattle.calls_text.specs.Rules.{KeepsRules}
 use Rattle.calls_text.specs.Grammar.{history_lines, history_text}
 
@@ -24,14 +24,14 @@ pub record IsSpelled (bytes : List ℕ) (n : ℕ) (read : OneRead) : Type 0 wher
 
 abbrev pub ReadIsSpelled : Type 0
 ReadIsSpelled = (bytes : List ℕ) (n : ℕ) (read : OneRead)
-    → goes n Opening (lines_of_text bytes) ≡ Ok read → IsSpelled bytes n read
+    → parse_from n Opening (lines_of_text bytes) ≡ Ok read → IsSpelled bytes n read
 
 -- THE TEXT OF A HISTORY IS READ
 
 -- a history that keeps the rules is read from its text, whatever follows
 abbrev pub SpelledIsRead : Type 0
 SpelledIsRead = (r : RecordingModel) (n : ℕ) (rest : List ℕ) → KeepsRules r
-    → goes n Opening (lines_of_text (history_text r ++ rest))
+    → parse_from n Opening (lines_of_text (history_text r ++ rest))
     ≡ Ok (record {
       recorded = r;
       number = n + length (history_lines r);
@@ -41,15 +41,15 @@ SpelledIsRead = (r : RecordingModel) (n : ℕ) (rest : List ℕ) → KeepsRules 
 -- NO TEXT IS A PROPER PREFIX OF ANOTHER
 
 -- no text of a history is a proper prefix of another, and different histories have different texts
-abbrev pub NoTextBeginsAnother : Type 0
-NoTextBeginsAnother = (r s : RecordingModel) (x y : List ℕ) → KeepsRules r → KeepsRules s
+abbrev pub TextsArePrefixFree : Type 0
+TextsArePrefixFree = (r s : RecordingModel) (x y : List ℕ) → KeepsRules r → KeepsRules s
     → history_text r ++ x ≡ history_text s ++ y → (r ≡ s) × (x ≡ y)
 
 -- a text is rejected at the bytes after its last LF: as unfinished if there are none
 pub record IsRefusedAtItsEnd (n : ℕ) (bytes : List ℕ) : Type 0 where
   pub line : List ℕ
-  pub kind : Kind
-  pub refused : goes n Opening (lines_of_text bytes)
+  pub kind : FaultKind
+  pub refused : parse_from n Opening (lines_of_text bytes)
       ≡ fault_in (n + count_by (λ b. b == 10) bytes) kind line
   pub ends : (before : List ℕ) × (bytes ≡ before ++ line)
   pub whole : line ≡ [] → kind ≡ kinds.Unfinished

@@ -14,8 +14,8 @@ use Rattle.ec_heading.specs.declared.group.Group.TheVariants as groups
 use Rattle.ec_heading.specs.Groups.{database_of, semaphore_of, both_of, has_event, has_sequencer, has_cell}
 use Rattle.ec_heading.specs.HeadingModel.{HeadingModel}
 use Rattle.ec_heading.specs.EntryWords.{event_in, sequencer_in, cell_in_word}
-use Rattle.calls_text.specs.declared.verb.CallWord.{CallWord}
-use Rattle.calls_text.specs.declared.verb.CallWord.TheVariants as verbs
+use Rattle.calls_text.specs.declared.verb.OpWord.{OpWord}
+use Rattle.calls_text.specs.declared.verb.OpWord.TheVariants as verbs
 use Rattle.calls_text.specs.declared.object.Object.{Object}
 use Rattle.calls_text.specs.declared.object.Object.TheVariants as objects
 
@@ -63,7 +63,7 @@ as_database d = objects.Database d.0 d.1
 
 -- the declared object that the word of a call names, if it is of the sort that the call needs; the
 -- other word is that of the second semaphore of a pair
-abbrev pub object_in : HeadingModel → CallWord → List ℕ → Option (List ℕ) → Option Object
+abbrev pub object_in : HeadingModel → OpWord → List ℕ → Option (List ℕ) → Option Object
 object_in h verbs.Advance w other = option_map objects.Event (event_in h.words w)
 object_in h verbs.Read w other = option_map objects.Event (event_in h.words w)
 object_in h verbs.Await w other = option_map objects.Event (event_in h.words w)
@@ -94,12 +94,12 @@ is_owned gs o = list_any (owns o) gs
 -- whether the declarations allow a worker a call of the object; giving: whether it is an advance, a
 -- put or a write. A worker that uses a semaphore may draw from its sequencer
 abbrev pub has_right : Tables → ℕ → Bool → Object → Bool
-has_right t w giving (objects.Event e) =
-    if giving then is_some (component_of t e w) else may_observe t e w
-has_right t w giving (objects.Sequencer q) = may_take t q w
-has_right t w giving (objects.Cell x) = if giving then may_write t x w else may_read t x w
-has_right t w giving (objects.Semaphore i s) = may_take t s.line w
-has_right t w giving (objects.Pair i one j other common) =
+has_right t w update (objects.Event e) =
+    if update then is_some (component_of t e w) else may_observe t e w
+has_right t w update (objects.Sequencer q) = may_take t q w
+has_right t w update (objects.Cell x) = if update then may_write t x w else may_read t x w
+has_right t w update (objects.Semaphore i s) = may_take t s.line w
+has_right t w update (objects.Pair i one j other common) =
     may_take t common.line w && may_take t one.line w && may_take t other.line w
-has_right t w giving (objects.Database i d) =
-    if giving then may_take t d.turn w else may_observe t d.start w
+has_right t w update (objects.Database i d) =
+    if update then may_take t d.turn w else may_observe t d.start w

@@ -1,8 +1,8 @@
 -- The outcome of reading a text: a function of its lines.
 use Rattle.std.specs.Prelude.{◌≡◌, ℕ, ◌+◌, ◌==◌, List, [], ◌∷◌, Result, Ok, Err}
 use Rattle.std.specs.List.{slice_split}
-use Rattle.calls_text.specs.declared.fault.Kind.{Kind}
-use Rattle.calls_text.specs.declared.fault.Kind.TheVariants as kinds
+use Rattle.calls_text.specs.declared.fault.FaultKind.{FaultKind}
+use Rattle.calls_text.specs.declared.fault.FaultKind.TheVariants as kinds
 use Rattle.calls_text.specs.declared.fault.TextFault.{TextFault}
 use Rattle.calls_text.specs.declared.fault.TextFault.TheVariants as faults
 use Rattle.calls_text.specs.declared.fault.LineFault.{LineFault}
@@ -25,17 +25,17 @@ pub record OneRead : Type 0 where
 -- a history, or the number of the faulty line, its kind, and the line
 pub record LineAt : Type 0 where
   pub number : ℕ
-  pub kind : Kind
+  pub kind : FaultKind
   pub line : List ℕ
 
 abbrev pub ParseResult : Type 0
 ParseResult = Result OneRead LineAt
 
-abbrev pub fault_in : ℕ → Kind → List ℕ → ParseResult
+abbrev pub fault_in : ℕ → FaultKind → List ℕ → ParseResult
 fault_in n kind line = Err (record { number = n; kind = kind; line = line })
 
 -- goes on if the line was accepted
-abbrev pub after_line : ℕ → List ℕ → Result Stage Kind → (Stage → ParseResult) → ParseResult
+abbrev pub after_line : ℕ → List ℕ → Result Stage FaultKind → (Stage → ParseResult) → ParseResult
 after_line n line (Ok s) others = others s
 after_line n line (Err kind) others = fault_in n kind line
 
@@ -47,12 +47,12 @@ parse_end n s (b ∷ bs) =
 
 -- the first history of a text from line n on, in this stage: one line after another, up to `end` or
 -- to the first fault
-unfoldable pub goes : ℕ → Stage → List (List ℕ) → ParseResult
-goes n (Ended r) parts = Ok (record { recorded = r; number = n; rest = parts })
-goes n s [] = parse_end n s []
-goes n s (rest ∷ []) = parse_end n s rest
-goes n s (line ∷ next ∷ others) =
-    after_line n line (step s line) (λ t. goes (n + 1) t (next ∷ others))
+unfoldable pub parse_from : ℕ → Stage → List (List ℕ) → ParseResult
+parse_from n (Ended r) parts = Ok (record { recorded = r; number = n; rest = parts })
+parse_from n s [] = parse_end n s []
+parse_from n s (rest ∷ []) = parse_end n s rest
+parse_from n s (line ∷ next ∷ others) =
+    after_line n line (step s line) (λ t. parse_from (n + 1) t (next ∷ others))
 
 -- the error that was returned is that of the text; if memory ran out, nothing is said of the text
 abbrev pub ReturnsFault : ParseResult → TextFault → Type 0

@@ -24,12 +24,12 @@ use Rattle.calls_core.specs.declared.history.Action.TheVariants.{Invoke, Respond
 use Rattle.calls_core.specs.declared.history.Event.{Event}
 use Rattle.calls_core.specs.declared.history.PendingCall.{PendingCall}
 use Rattle.calls_core.specs.Histories.{pending_of, pending_calls}
-use Rattle.calls_text.specs.declared.fault.Kind.{Kind}
-use Rattle.calls_text.specs.declared.fault.Kind.TheVariants as kinds
+use Rattle.calls_text.specs.declared.fault.FaultKind.{FaultKind}
+use Rattle.calls_text.specs.declared.fault.FaultKind.TheVariants as kinds
 use Rattle.calls_text.specs.declared.fault.LineFault.{LineFault}
 use Rattle.calls_text.specs.declared.fault.LineFault.TheVariants as faults
-use Rattle.calls_text.specs.declared.verb.CallWord.{CallWord}
-use Rattle.calls_text.specs.declared.verb.CallWord.TheVariants as verbs
+use Rattle.calls_text.specs.declared.verb.OpWord.{OpWord}
+use Rattle.calls_text.specs.declared.verb.OpWord.TheVariants as verbs
 use Rattle.calls_text.specs.declared.verb.Tail.{Tail}
 use Rattle.calls_text.specs.declared.verb.Tail.TheVariants as tails
 use Rattle.calls_text.specs.declared.form.ReplyWord.{ReplyWord}
@@ -37,7 +37,7 @@ use Rattle.calls_text.specs.declared.form.ReplyWord.TheVariants as answers
 use Rattle.calls_text.specs.declared.object.Object.{Object}
 use Rattle.calls_text.specs.declared.object.Object.TheVariants as objects
 use Rattle.calls_text.specs.Faults.{kind_of_head}
-use Rattle.calls_text.specs.Verbs.{tail_of, is_giving}
+use Rattle.calls_text.specs.Verbs.{tail_of, is_update}
 use Rattle.calls_text.specs.Forms.{Phrase, Calls, Returns, phrase_in, only_in}
 use Rattle.calls_text.specs.Objects.{object_in, is_owned, has_right}
 use Rattle.calls_text.specs.Lists.{list_number, lists_after}
@@ -85,25 +85,25 @@ has_two_roles (objects.Pair i one j other common) = i == j
 has_two_roles _ = false
 
 -- whether the worker has called as many advances of the eventcount as the limit allows
-abbrev pub is_spent : RecordingModel → ℕ → CallWord → Object → Bool
+abbrev pub is_spent : RecordingModel → ℕ → OpWord → Object → Bool
 is_spent r w verbs.Advance (objects.Event e) = nat_le r.heading.setup.limit
     (advances_by w e r.events)
 is_spent r w _ _ = false
 
 -- the lowest kind of fault of an invocation of worker w, of an object. busy: whether the worker has
 -- a pending call; spent: whether it may call no more advances of the object
-abbrev pub call_fault_by : HeadingModel → ℕ → CallWord → Object → List (List ℕ) → Bool → Bool
-    → Option Kind
+abbrev pub call_fault_by : HeadingModel → ℕ → OpWord → Object → List (List ℕ) → Bool → Bool
+    → Option FaultKind
 call_fault_by h w v o ws busy spent = first_that (
     (is_bad_tail (tail_of v) ws o, kinds.BadNumber)
     ∷ (is_owned h.groups o, kinds.Hidden)
     ∷ (has_two_roles o, kinds.TwoRoles)
-    ∷ (not (has_right h.setup w (is_giving v) o), kinds.NoRight)
+    ∷ (not (has_right h.setup w (is_update v) o), kinds.NoRight)
     ∷ (busy, kinds.Busy)
     ∷ (spent, kinds.AtLimit)
     ∷ [])
 
-abbrev pub call_fault : RecordingModel → ℕ → CallWord → Object → List (List ℕ) → Option Kind
+abbrev pub call_fault : RecordingModel → ℕ → OpWord → Object → List (List ℕ) → Option FaultKind
 call_fault r w v o ws =
     call_fault_by r.heading w v o ws (is_some (pending_in r.events w)) (is_spent r w v o)
 
@@ -127,7 +127,7 @@ second_place_in (objects.Pair i one j other common) = j
 second_place_in _ = 0
 
 -- the operation of a call; n is its number, or that of its list
-abbrev pub op_of_word : CallWord → Object → ℕ → Op
+abbrev pub op_of_word : OpWord → Object → ℕ → Op
 op_of_word verbs.Advance o n = ops.Advance
 op_of_word verbs.Read o n = ops.Read
 op_of_word verbs.Await o n = ops.Await n
@@ -141,11 +141,11 @@ op_of_word verbs.Write o n = ops.Put n
 op_of_word verbs.Snapshot o n = ops.Get
 
 -- the number in a call, or that of its list; and the lists after it
-abbrev pub number_in : List (List ℕ) → CallWord → List (List ℕ) → ℕ
+abbrev pub number_in : List (List ℕ) → OpWord → List (List ℕ) → ℕ
 number_in lists verbs.Write ws = list_number lists (numbers_in ws)
 number_in lists _ ws = only_number ws
 
-abbrev pub lists_of : List (List ℕ) → CallWord → List (List ℕ) → List (List ℕ)
+abbrev pub lists_of : List (List ℕ) → OpWord → List (List ℕ) → List (List ℕ)
 lists_of lists verbs.Write ws = lists_after lists (numbers_in ws)
 lists_of lists _ ws = lists
 
@@ -167,26 +167,26 @@ with_event r w a lists = record {
 }
 
 -- the history with one more invocation
-abbrev pub with_call : RecordingModel → ℕ → CallWord → Object → List (List ℕ) → RecordingModel
+abbrev pub with_call : RecordingModel → ℕ → OpWord → Object → List (List ℕ) → RecordingModel
 with_call r w v o ws =
     with_event r w (Invoke (index_of r.heading o) (op_of_word v o (number_in r.lists v ws)))
     (lists_of r.lists v ws)
 
-abbrev pub fault_or : {A : Type 0} → Option Kind → A → Result A Kind
+abbrev pub fault_or : {A : Type 0} → Option FaultKind → A → Result A FaultKind
 fault_or None x = Ok x
 fault_or (Some kind) x = Err kind
 
-abbrev pub after_invocation : RecordingModel → Option ℕ → CallWord → Option Object → List (List ℕ)
-    → Result RecordingModel Kind
+abbrev pub after_invocation : RecordingModel → Option ℕ → OpWord → Option Object → List (List ℕ)
+    → Result RecordingModel FaultKind
 after_invocation r (Some w) v (Some o) ws = fault_or (call_fault r w v o ws) (with_call r w v o ws)
 after_invocation r _ v _ ws = Err kinds.UnknownName
 
 -- RESPONSES
 
 -- whether a number is out of range
-abbrev pub is_bad_answer : ReplyWord → List (List ℕ) → Bool
-is_bad_answer answers.Numbers ws = list_any is_no_number ws
-is_bad_answer _ ws = false
+abbrev pub is_bad_reply : ReplyWord → List (List ℕ) → Bool
+is_bad_reply answers.Numbers ws = list_any is_no_number ws
+is_bad_reply _ ws = false
 
 -- whether this is a reply to the operation: `done`, `timeout`, or n numbers
 abbrev pub takes_done : Op → Bool
@@ -218,7 +218,7 @@ abbrev pub is_over : ℕ → Op → ReplyWord → List (List ℕ) → Bool
 is_over limit ops.Ticket answers.Numbers ws = nat_le limit (only_number ws)
 is_over limit _ _ ws = false
 
-abbrev pub suit_fault : HeadingModel → PendingCall → ReplyWord → List (List ℕ) → Option Kind
+abbrev pub suit_fault : HeadingModel → PendingCall → ReplyWord → List (List ℕ) → Option FaultKind
 suit_fault h o a ws = first_that (
     (not (is_suited h o a ws), kinds.Unsuited)
     ∷ (is_over h.setup.limit o.op a ws, kinds.AtLimit)
@@ -247,31 +247,31 @@ abbrev pub with_reply : RecordingModel → ℕ → PendingCall → ReplyWord →
 with_reply r w o a ws = with_event r w (Respond (reply_of_word r o a ws)) (lists_with r o a ws)
 
 abbrev pub after_reply : RecordingModel → ℕ → Option PendingCall → ReplyWord → List (List ℕ)
-    → Result RecordingModel Kind
+    → Result RecordingModel FaultKind
 after_reply r w None a ws = Err kinds.Idle
 after_reply r w (Some o) a ws = fault_or (suit_fault r.heading o a ws) (with_reply r w o a ws)
 
 abbrev pub after_response : RecordingModel → Option ℕ → ReplyWord → List (List ℕ)
-    → Result RecordingModel Kind
+    → Result RecordingModel FaultKind
 after_response r None a ws = Err kinds.UnknownName
 after_response r (Some w) a ws =
-    if is_bad_answer a ws then Err kinds.BadNumber else after_reply r w (pending_in r.events w) a ws
+    if is_bad_reply a ws then Err kinds.BadNumber else after_reply r w (pending_in r.events w) a ws
 
 -- ANY EVENT
 
 -- the other word for an object, that of the second semaphore of a pair
-abbrev pub other_word : CallWord → List (List ℕ) → Option (List ℕ)
+abbrev pub other_word : OpWord → List (List ℕ) → Option (List ℕ)
 other_word verbs.PBoth ws = only_in ws
 other_word _ ws = None
 
-abbrev pub after_phrase : RecordingModel → Option Phrase → Result RecordingModel Kind
+abbrev pub after_phrase : RecordingModel → Option Phrase → Result RecordingModel FaultKind
 after_phrase r None = Err kinds.BadLine
 after_phrase r (Some (Calls w v o ws)) =
     after_invocation r (worker_in r.heading.words w) v (object_in r.heading v o (other_word v ws)) ws
 after_phrase r (Some (Returns w a ws)) = after_response r (worker_in r.heading.words w) a ws
 
 -- the history after a line of an event, or the lowest kind of fault of the line
-unfoldable pub event_step : RecordingModel → List ℕ → Result RecordingModel Kind
+unfoldable pub event_step : RecordingModel → List ℕ → Result RecordingModel FaultKind
 event_step r line = if is_no_line line then Err kinds.BadLine
     else after_phrase r (phrase_in (words_of line))
 
@@ -298,16 +298,16 @@ abbrev pub limit_digits : List (List ℕ) → Option (List ℕ)
 limit_digits (w ∷ n ∷ []) = if bytes_eq w (codes "limit") && is_number_form n then Some n else None
 limit_digits _ = None
 
-abbrev pub after_limit : Option ℕ → Result Draft Kind
+abbrev pub after_limit : Option ℕ → Result Draft FaultKind
 after_limit None = Err kinds.BadNumber
 after_limit (Some n) =
     if is_limit Two n then Ok (draft_of (empty_heading Two n [])) else Err kinds.BadNumber
 
-abbrev pub limit_or : Option (List ℕ) → Result Draft Kind
+abbrev pub limit_or : Option (List ℕ) → Result Draft FaultKind
 limit_or None = Err kinds.BadLine
 limit_or (Some digits) = after_limit (number_in_word digits)
 
-unfoldable pub limit_step : List ℕ → Result Draft Kind
+unfoldable pub limit_step : List ℕ → Result Draft FaultKind
 limit_step line = if nat_lt 8192 (length line) then Err kinds.BadLine
     else limit_or (limit_digits (words_of line))
 
@@ -330,7 +330,7 @@ is_later [] e = true
 is_later (p ∷ []) e = nat_lt p.0 e
 is_later (p ∷ q ∷ ps) e = is_later (q ∷ ps) e
 
-abbrev pub from_fault : Draft → ℕ → Option Kind
+abbrev pub from_fault : Draft → ℕ → Option FaultKind
 from_fault d e = first_that (
     (is_owned d.heading.groups (objects.Event e), kinds.Hidden)
     ∷ (not (is_later d.from e), kinds.BadOrder)
@@ -339,19 +339,19 @@ from_fault d e = first_that (
 abbrev pub with_start : Draft → ℕ → ℕ → Draft
 with_start d e n = record d { from = d.from ++ (e, n) ∷ [] }
 
-abbrev pub started_at : Draft → ℕ → Option ℕ → Result Draft Kind
-started_at d e None = Err kinds.BadNumber
-started_at d e (Some n) = fault_or (from_fault d e) (with_start d e n)
+abbrev pub with_start_or_fault : Draft → ℕ → Option ℕ → Result Draft FaultKind
+with_start_or_fault d e None = Err kinds.BadNumber
+with_start_or_fault d e (Some n) = fault_or (from_fault d e) (with_start d e n)
 
-abbrev pub after_start : Draft → Option ℕ → List ℕ → Result Draft Kind
+abbrev pub after_start : Draft → Option ℕ → List ℕ → Result Draft FaultKind
 after_start d None digits = Err kinds.UnknownName
-after_start d (Some e) digits = started_at d e (start_in d.heading (number_in_word digits))
+after_start d (Some e) digits = with_start_or_fault d e (start_in d.heading (number_in_word digits))
 
-abbrev pub from_or : Draft → Option (List ℕ × List ℕ) → Result Draft Kind
+abbrev pub from_or : Draft → Option (List ℕ × List ℕ) → Result Draft FaultKind
 from_or d None = Err kinds.BadLine
 from_or d (Some (e, n)) = after_start d (event_in d.heading.words e) n
 
-unfoldable pub from_step : Draft → List ℕ → Result Draft Kind
+unfoldable pub from_step : Draft → List ℕ → Result Draft FaultKind
 from_step d line = if is_no_line line then Err kinds.BadLine
     else from_or d (from_words (words_of line))
 
@@ -366,14 +366,14 @@ abbrev pub is_from : Draft → List ℕ → Bool
 is_from d line =
     nat_lt 0 (length d.from) || (opens_from (words_of line) && nat_lt 0 d.heading.setup.workers)
 
-abbrev pub headed_on : Draft → Result HeadingModel HeadFault → Result Draft Kind
-headed_on d (Ok h) = Ok (record d { heading = h })
-headed_on d (Err fault) = Err (kind_of_head fault)
+abbrev pub map_heading : Draft → Result HeadingModel HeadFault → Result Draft FaultKind
+map_heading d (Ok h) = Ok (record d { heading = h })
+map_heading d (Err fault) = Err (kind_of_head fault)
 
 -- the draft after a line, or the lowest kind of fault of the line
-abbrev pub draft_step : Draft → List ℕ → Result Draft Kind
+abbrev pub draft_step : Draft → List ℕ → Result Draft FaultKind
 draft_step d line = if is_from d line then from_step d line
-    else headed_on d (head_step d.heading line)
+    else map_heading d (head_step d.heading line)
 
 -- ANY LINE
 
@@ -385,31 +385,31 @@ recorded_of d = record { heading = d.heading; from = d.from; events = []; lists 
 abbrev pub is_run : Draft → List ℕ → Bool
 is_run d line = bytes_eq line (codes "run") && nat_lt 0 d.heading.setup.workers
 
-abbrev pub drafted_on : Result Draft Kind → Result Stage Kind
-drafted_on (Ok d) = Ok (Declaring d)
-drafted_on (Err kind) = Err kind
+abbrev pub map_draft : Result Draft FaultKind → Result Stage FaultKind
+map_draft (Ok d) = Ok (Declaring d)
+map_draft (Err kind) = Err kind
 
-abbrev pub ran_on : Result RecordingModel Kind → Result Stage Kind
-ran_on (Ok r) = Ok (Running r)
-ran_on (Err kind) = Err kind
+abbrev pub map_running : Result RecordingModel FaultKind → Result Stage FaultKind
+map_running (Ok r) = Ok (Running r)
+map_running (Err kind) = Err kind
 
 -- the stage after a line, or the lowest kind of fault of the line
-unfoldable pub step : Stage → List ℕ → Result Stage Kind
+unfoldable pub step : Stage → List ℕ → Result Stage FaultKind
 step Opening line = if bytes_eq line (codes "evc-calls 1") then Ok Limiting else Err kinds.BadHeader
-step Limiting line = drafted_on (limit_step line)
+step Limiting line = map_draft (limit_step line)
 step (Declaring d) line = if is_run d line then Ok (Running (recorded_of d))
-    else drafted_on (draft_step d line)
+    else map_draft (draft_step d line)
 step (Running r) line = if bytes_eq line (codes "end") then Ok (Ended r)
-    else ran_on (event_step r line)
+    else map_running (event_step r line)
 step (Ended r) line = Err kinds.BadLine
 
 -- a function returned, and left, what the step gives; if memory ran out, nothing is said of the
 -- step
-abbrev pub StepFails : {S : Type 0} → LineFault → Result S Kind → Type 0
+abbrev pub StepFails : {S : Type 0} → LineFault → Result S FaultKind → Type 0
 StepFails faults.Memory stepped = Unit {0}
 StepFails (faults.Of kind) stepped = stepped ≡ Err kind
 
-abbrev pub Steps : {S : Type 0} → Result (Unit {0}) LineFault → Result S Kind → S → Type 0
+abbrev pub Steps : {S : Type 0} → Result (Unit {0}) LineFault → Result S FaultKind → S → Type 0
 Steps (Ok x) stepped new = stepped ≡ Ok new
 Steps (Err e) stepped new = StepFails e stepped
 

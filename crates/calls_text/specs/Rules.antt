@@ -13,13 +13,13 @@ use Rattle.calls_core.specs.declared.history.Reply.{Reply}
 use Rattle.calls_core.specs.declared.history.Reply.TheVariants as replies
 use Rattle.calls_core.specs.declared.history.Action.TheVariants.{Invoke, Respond}
 use Rattle.calls_core.specs.declared.history.PendingCall.{PendingCall}
-use Rattle.calls_text.specs.declared.verb.CallWord.{CallWord}
-use Rattle.calls_text.specs.declared.verb.CallWord.TheVariants as verbs
+use Rattle.calls_text.specs.declared.verb.OpWord.{OpWord}
+use Rattle.calls_text.specs.declared.verb.OpWord.TheVariants as verbs
 use Rattle.calls_text.specs.declared.form.ReplyWord.{ReplyWord}
 use Rattle.calls_text.specs.declared.form.ReplyWord.TheVariants as answers
 use Rattle.calls_text.specs.declared.object.Object.{Object}
 use Rattle.calls_text.specs.declared.object.Object.TheVariants as objects
-use Rattle.calls_text.specs.Verbs.{is_giving}
+use Rattle.calls_text.specs.Verbs.{is_update}
 use Rattle.calls_text.specs.Objects.{is_owned, has_right}
 use Rattle.ec_heading.specs.Groups.{both_of}
 use Rattle.calls_text.specs.Lists.{list_number, lists_after}
@@ -69,7 +69,7 @@ IsDeclaredIn h (objects.Pair i one j other common) =
 IsDeclaredIn h (objects.Database i d) = slice_get h.groups i ≡ Some (groups.Database d)
 
 -- the object is of the sort that the call needs, and the numbers are as many as the call takes
-abbrev pub TakesNumbers : CallWord → Object → List ℕ → Type 0
+abbrev pub TakesNumbers : OpWord → Object → List ℕ → Type 0
 TakesNumbers verbs.Advance (objects.Event e) ns = ns ≡ []
 TakesNumbers verbs.Read (objects.Event e) ns = ns ≡ []
 TakesNumbers verbs.Await (objects.Event e) ns = length ns ≡ 1
@@ -84,28 +84,28 @@ TakesNumbers verbs.Snapshot (objects.Database i d) ns = ns ≡ []
 TakesNumbers v o ns = ⊥
 
 -- the worker may make this call: it has the right and no pending call, and is below the limit
-pub record MayCall (r : RecordingModel) (w : ℕ) (v : CallWord) (o : Object) (ns : List ℕ) : Type 0 where
+pub record MayCall (r : RecordingModel) (w : ℕ) (v : OpWord) (o : Object) (ns : List ℕ) : Type 0 where
   pub worker : w < r.heading.setup.workers
   pub declared : IsDeclaredIn r.heading o
   pub takes : TakesNumbers v o ns
   pub small : AreSmall ns
   pub free : is_owned r.heading.groups o ≡ false
   pub roles : has_two_roles o ≡ false
-  pub right : has_right r.heading.setup w (is_giving v) o ≡ true
+  pub right : has_right r.heading.setup w (is_update v) o ≡ true
   pub idle : pending_in r.events w ≡ None
   pub within : is_spent r w v o ≡ false
 
 -- the number in a call, or that of its list; and the lists after it
-abbrev pub given_number : List (List ℕ) → CallWord → List ℕ → ℕ
+abbrev pub given_number : List (List ℕ) → OpWord → List ℕ → ℕ
 given_number lists verbs.Write ns = list_number lists ns
 given_number lists v ns = only ns
 
-abbrev pub given_lists : List (List ℕ) → CallWord → List ℕ → List (List ℕ)
+abbrev pub given_lists : List (List ℕ) → OpWord → List ℕ → List (List ℕ)
 given_lists lists verbs.Write ns = lists_after lists ns
 given_lists lists v ns = lists
 
 -- the history with the call
-abbrev pub after_call : RecordingModel → ℕ → CallWord → Object → List ℕ → RecordingModel
+abbrev pub after_call : RecordingModel → ℕ → OpWord → Object → List ℕ → RecordingModel
 after_call r w v o ns =
     with_event r w (Invoke (index_of r.heading o) (op_of_word v o (given_number r.lists v ns)))
     (given_lists r.lists v ns)
@@ -152,7 +152,7 @@ after_return r w c a ns =
 -- one event more: a call, or the return of one
 abbrev pub GrowsByOne : RecordingModel → RecordingModel → Type 0
 GrowsByOne r s =
-    ((w : ℕ) × (v : CallWord) × (o : Object) × (ns : List ℕ) × MayCall r w v o ns
+    ((w : ℕ) × (v : OpWord) × (o : Object) × (ns : List ℕ) × MayCall r w v o ns
     × (s ≡ after_call r w v o ns))
     ⊎ ((w : ℕ) × (c : PendingCall) × (a : ReplyWord) × (ns : List ℕ) × MayReturn r w c a ns
     × (s ≡ after_return r w c a ns))

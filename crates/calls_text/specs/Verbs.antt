@@ -1,13 +1,13 @@
 -- The words for operations, as a table.
 use Rattle.std.specs.Prelude.{ℕ, Bool, true, false, List, Option, Some, None, if◌then◌else◌}
 use Rattle.std.specs.Prelude.{bytes_eq, codes}
-use Rattle.calls_text.specs.declared.verb.CallWord.{CallWord}
-use Rattle.calls_text.specs.declared.verb.CallWord.TheVariants as verbs
+use Rattle.calls_text.specs.declared.verb.OpWord.{OpWord}
+use Rattle.calls_text.specs.declared.verb.OpWord.TheVariants as verbs
 use Rattle.calls_text.specs.declared.verb.Tail.{Tail}
 use Rattle.calls_text.specs.declared.verb.Tail.TheVariants as tails
 
 -- the word for an operation
-abbrev pub verb_word : CallWord → List ℕ
+abbrev pub verb_word : OpWord → List ℕ
 verb_word verbs.Advance = codes "advance"
 verb_word verbs.Read = codes "read"
 verb_word verbs.Await = codes "await"
@@ -21,7 +21,7 @@ verb_word verbs.Write = codes "write"
 verb_word verbs.Snapshot = codes "snapshot"
 
 -- the operation on an object of no group that a word names
-abbrev pub object_verb_of : List ℕ → Option CallWord
+abbrev pub object_verb_of : List ℕ → Option OpWord
 object_verb_of w =
     if bytes_eq w (codes "advance") then Some verbs.Advance
     else (if bytes_eq w (codes "read") then Some verbs.Read
@@ -31,7 +31,7 @@ object_verb_of w =
     else (if bytes_eq w (codes "get") then Some verbs.Get else None)))))
 
 -- the operation on a group that a word names
-abbrev pub group_verb_of : List ℕ → Option CallWord
+abbrev pub group_verb_of : List ℕ → Option OpWord
 group_verb_of w =
     if bytes_eq w (codes "p") then Some verbs.P
     else (if bytes_eq w (codes "v") then Some verbs.V
@@ -39,16 +39,16 @@ group_verb_of w =
     else (if bytes_eq w (codes "write") then Some verbs.Write
     else (if bytes_eq w (codes "snapshot") then Some verbs.Snapshot else None))))
 
-abbrev pub or_else : Option CallWord → Option CallWord → Option CallWord
+abbrev pub or_else : Option OpWord → Option OpWord → Option OpWord
 or_else None other = other
 or_else (Some v) other = Some v
 
 -- the operation that a word names
-abbrev pub parse_verb : List ℕ → Option CallWord
-parse_verb w = or_else (object_verb_of w) (group_verb_of w)
+abbrev pub parse_op_word : List ℕ → Option OpWord
+parse_op_word w = or_else (object_verb_of w) (group_verb_of w)
 
 -- the form of what follows the object
-abbrev pub tail_of : CallWord → Tail
+abbrev pub tail_of : OpWord → Tail
 tail_of verbs.Await = tails.Digits
 tail_of verbs.Put = tails.Digits
 tail_of verbs.Write = tails.ManyDigits
@@ -57,8 +57,8 @@ tail_of _ = tails.Nothing
 
 -- whether it is an advance, a put or a write, which need another right than the other calls of
 -- their object
-abbrev pub is_giving : CallWord → Bool
-is_giving verbs.Advance = true
-is_giving verbs.Put = true
-is_giving verbs.Write = true
-is_giving _ = false
+abbrev pub is_update : OpWord → Bool
+is_update verbs.Advance = true
+is_update verbs.Put = true
+is_update verbs.Write = true
+is_update _ = false

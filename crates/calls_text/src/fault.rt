@@ -10,7 +10,7 @@ use thiserror::Error;
 ///
 /// A kind that scripts also have has the same number there.
 #[derive(Clone, Copy, Debug, PartialEq, Eq, Error)]
-pub enum Kind {
+pub enum FaultKind {
     /// The first line of the history is not `evc-calls 1`.
     #[error("evc-calls 1 is expected")]
     BadHeader,
@@ -62,28 +62,28 @@ pub enum Kind {
     AtLimit,
 }
 
-impl Kind {
+impl FaultKind {
     /// Returns the number of the kind, from 1 to 16.
     pub fn number(self) -> u64
         ensures { result ≡ kind_number self }
     {
         match self {
-            Kind::BadHeader => 1,
-            Kind::BadLine => 2,
-            Kind::BadName => 3,
-            Kind::NameTaken => 4,
-            Kind::UnknownName => 5,
-            Kind::BadNumber => 6,
-            Kind::TooMany => 7,
-            Kind::Hidden => 8,
-            Kind::TwoRoles => 9,
-            Kind::NoRight => 10,
-            Kind::BadOrder => 11,
-            Kind::Unfinished => 12,
-            Kind::Busy => 13,
-            Kind::Idle => 14,
-            Kind::Unsuited => 15,
-            Kind::AtLimit => 16,
+            FaultKind::BadHeader => 1,
+            FaultKind::BadLine => 2,
+            FaultKind::BadName => 3,
+            FaultKind::NameTaken => 4,
+            FaultKind::UnknownName => 5,
+            FaultKind::BadNumber => 6,
+            FaultKind::TooMany => 7,
+            FaultKind::Hidden => 8,
+            FaultKind::TwoRoles => 9,
+            FaultKind::NoRight => 10,
+            FaultKind::BadOrder => 11,
+            FaultKind::Unfinished => 12,
+            FaultKind::Busy => 13,
+            FaultKind::Idle => 14,
+            FaultKind::Unsuited => 15,
+            FaultKind::AtLimit => 16,
         }
     }
 
@@ -92,22 +92,22 @@ impl Kind {
         ensures { result.now ≡ kind_name self }
     {
         match self {
-            Kind::BadHeader => "BadHeader",
-            Kind::BadLine => "BadLine",
-            Kind::BadName => "BadName",
-            Kind::NameTaken => "NameTaken",
-            Kind::UnknownName => "UnknownName",
-            Kind::BadNumber => "BadNumber",
-            Kind::TooMany => "TooMany",
-            Kind::Hidden => "Hidden",
-            Kind::TwoRoles => "TwoRoles",
-            Kind::NoRight => "NoRight",
-            Kind::BadOrder => "BadOrder",
-            Kind::Unfinished => "Unfinished",
-            Kind::Busy => "Busy",
-            Kind::Idle => "Idle",
-            Kind::Unsuited => "Unsuited",
-            Kind::AtLimit => "AtLimit",
+            FaultKind::BadHeader => "BadHeader",
+            FaultKind::BadLine => "BadLine",
+            FaultKind::BadName => "BadName",
+            FaultKind::NameTaken => "NameTaken",
+            FaultKind::UnknownName => "UnknownName",
+            FaultKind::BadNumber => "BadNumber",
+            FaultKind::TooMany => "TooMany",
+            FaultKind::Hidden => "Hidden",
+            FaultKind::TwoRoles => "TwoRoles",
+            FaultKind::NoRight => "NoRight",
+            FaultKind::BadOrder => "BadOrder",
+            FaultKind::Unfinished => "Unfinished",
+            FaultKind::Busy => "Busy",
+            FaultKind::Idle => "Idle",
+            FaultKind::Unsuited => "Unsuited",
+            FaultKind::AtLimit => "AtLimit",
         }
     }
 }
@@ -140,7 +140,11 @@ pub enum Cause {
 pub enum TextFault {
     /// The first faulty line, counted from 1, its lowest kind, and what is wrong with its form.
     #[error("line {line}: {kind}")]
-    At { line: u64, kind: Kind, cause: Cause },
+    At {
+        line: u64,
+        kind: FaultKind,
+        cause: Cause,
+    },
     /// An allocation failed.
     #[error("out of memory")]
     Memory,
@@ -149,22 +153,22 @@ pub enum TextFault {
 /// The error of a line: the kind of its fault, or that an allocation failed.
 #[derive(Clone, Copy, Debug, PartialEq, Eq)]
 pub(crate) enum LineFault {
-    Of(Kind),
+    Of(FaultKind),
     Memory,
 }
 
 /// Returns the kind of a fault of a header line. (`line_fault` passes no `Memory`.)
-fn kind_of_head(fault: HeadFault) -> Kind
+fn kind_of_head(fault: HeadFault) -> FaultKind
     ensures { result ≡ kind_of_head fault }
 {
     match fault {
-        HeadFault::BadLine | HeadFault::Memory => Kind::BadLine,
-        HeadFault::BadName => Kind::BadName,
-        HeadFault::NameTaken => Kind::NameTaken,
-        HeadFault::UnknownName => Kind::UnknownName,
-        HeadFault::BadNumber => Kind::BadNumber,
-        HeadFault::TooMany => Kind::TooMany,
-        HeadFault::TwoRoles => Kind::TwoRoles,
+        HeadFault::BadLine | HeadFault::Memory => FaultKind::BadLine,
+        HeadFault::BadName => FaultKind::BadName,
+        HeadFault::NameTaken => FaultKind::NameTaken,
+        HeadFault::UnknownName => FaultKind::UnknownName,
+        HeadFault::BadNumber => FaultKind::BadNumber,
+        HeadFault::TooMany => FaultKind::TooMany,
+        HeadFault::TwoRoles => FaultKind::TwoRoles,
     }
 }
 
@@ -231,12 +235,12 @@ fn header_cause(line: &[u8]) -> Cause
 }
 
 /// Returns what is wrong with the form of a line with a fault of this kind.
-pub(crate) fn cause_of(kind: Kind, line: &[u8]) -> Cause
+pub(crate) fn cause_of(kind: FaultKind, line: &[u8]) -> Cause
     ensures { result ≡ cause_of kind line.now }
 {
     match kind {
-        Kind::BadHeader => header_cause(line),
-        Kind::BadLine => line_cause(line),
+        FaultKind::BadHeader => header_cause(line),
+        FaultKind::BadLine => line_cause(line),
         _ => Cause::Other,
     }
 }

@@ -8,7 +8,7 @@ ghost use Rattle.calls_text.specs.Reading.{is_ended};
 ghost use Rattle.calls_text.specs.Reading as reading;
 ghost use Rattle.calls_text.specs.Following.{stage_with_events, HasEvents, Passes, followed_in, Records, IsLong, long_kind};
 
-use crate::fault::{Cause, Kind, LineFault, TextFault};
+use crate::fault::{Cause, FaultKind, LineFault, TextFault};
 use crate::reading::fault_at;
 use crate::recording::Recording;
 use crate::stage::Stage;
@@ -46,12 +46,12 @@ fn what_led_to(stage: &Stage) -> HistoryLine
 }
 
 /// Returns the lowest kind of fault of a line of more than 8192 bytes.
-fn long_kind(stage: &Stage) -> Kind
+fn long_kind(stage: &Stage) -> FaultKind
     ensures { result ≡ long_kind stage.now }
 {
     match stage {
-        Stage::Opening => Kind::BadHeader,
-        _ => Kind::BadLine,
+        Stage::Opening => FaultKind::BadHeader,
+        _ => FaultKind::BadLine,
     }
 }
 
@@ -103,11 +103,11 @@ impl Follower {
             → ReturnsFault (parse_end number (stage_with_events events self.old) rest.now) result }
     {
         if rest.is_empty() {
-            return fault_at(number, rest, LineFault::Of(Kind::Unfinished));
+            return fault_at(number, rest, LineFault::Of(FaultKind::Unfinished));
         }
         match self.stage.follow(alloc, rest) {
             Err(fault) => fault_at(number, rest, fault),
-            Ok(_) => fault_at(number, rest, LineFault::Of(Kind::Unfinished)),
+            Ok(_) => fault_at(number, rest, LineFault::Of(FaultKind::Unfinished)),
         }
     }
 

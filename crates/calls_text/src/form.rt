@@ -3,9 +3,9 @@ ghost use Rattle.std.specs.Prelude.{◌≡◌, option_map};
 ghost use Rattle.std.specs.List.{list_all};
 ghost use Rattle.ec_text.specs.Words.{words_of, is_number_form};
 ghost use Rattle.calls_text.specs.Forms.{is_tail, is_word, rest_words, call_in, return_in};
-ghost use Rattle.calls_text.specs.Forms.{answer_of, phrase_in, phrase_of_parts};
+ghost use Rattle.calls_text.specs.Forms.{parse_reply_word, phrase_in, phrase_of_parts};
 
-use crate::verb::{CallWord, Tail, parse_verb};
+use crate::verb::{OpWord, Tail, parse_op_word};
 use ec_text::{cut_word, is_number_form};
 
 /// The form of the reply in a response.
@@ -22,7 +22,7 @@ pub(crate) enum ReplyWord {
 pub(crate) enum Parts<'a> {
     Calls {
         worker: &'a [u8],
-        verb: CallWord,
+        verb: OpWord,
         object: &'a [u8],
         rest: Option<&'a [u8]>,
     },
@@ -86,7 +86,7 @@ fn call_of<'a>(worker: &'a [u8], line: &'a [u8]) -> Option<Parts<'a>>
     let (word, Some(line)) = cut_word(line) else {
         return None;
     };
-    let verb = parse_verb(word)?;
+    let verb = parse_op_word(word)?;
     let (object, rest) = cut_word(line);
     if !is_tail(verb.tail(), rest) {
         return None;
@@ -110,8 +110,8 @@ fn is_word(word: &[u8], list: &[u8]) -> bool
 
 /// Returns the form of a reply, given the line after `returns`.
 #[tactic(auto, using(crate::proofs::Words::some_words))]
-fn answer_of(list: &[u8]) -> Option<ReplyWord>
-    ensures { result ≡ answer_of (words_of list.now) }
+fn parse_reply_word(list: &[u8]) -> Option<ReplyWord>
+    ensures { result ≡ parse_reply_word (words_of list.now) }
 {
     if is_word(b"done".as_slice(), list) {
         return Some(ReplyWord::Done);
@@ -129,7 +129,7 @@ fn answer_of(list: &[u8]) -> Option<ReplyWord>
 fn return_of<'a>(worker: &'a [u8], list: &'a [u8]) -> Option<Parts<'a>>
     ensures { option_map phrase_of_parts result ≡ return_in worker.now (words_of list.now) }
 {
-    let answer = answer_of(list)?;
+    let answer = parse_reply_word(list)?;
     Some(Parts::Returns {
         worker,
         answer,

@@ -1,5 +1,5 @@
 //! Theorems on the format. Each is the contract of an empty function.
-ghost use Rattle.calls_text.specs.Laws.{ReadIsSpelled, SpelledIsRead, NoTextBeginsAnother};
+ghost use Rattle.calls_text.specs.Laws.{ReadIsSpelled, SpelledIsRead, TextsArePrefixFree};
 ghost use Rattle.calls_text.specs.Laws.{PrefixIsRefused};
 
 /// States that a history that is read keeps the rules, and that its text was read.
@@ -17,8 +17,8 @@ pub fn spelled_is_read()
 /// States that no text of a history is a proper prefix of another.
 ///
 /// And different histories have different texts.
-pub fn no_text_begins_another()
-    ensures { NoTextBeginsAnother }
+pub fn texts_are_prefix_free()
+    ensures { TextsArePrefixFree }
 {}
 
 /// States that a proper prefix of the text of a history is rejected at its end.

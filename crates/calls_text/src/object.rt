@@ -6,7 +6,7 @@ ghost use Rattle.calls_text.specs.Objects.{group_in, semaphore_in, database_in, 
 ghost use Rattle.calls_text.specs.Objects.{object_in};
 ghost use Rattle.calls_text.specs.Objects.{owns, is_owned, has_right};
 
-use crate::verb::CallWord;
+use crate::verb::OpWord;
 use ec_count::{CellId, EventId, SeqId, Setup, Target, WorkerId};
 use ec_database::DatabaseShape;
 use ec_heading::{Group, Heading, both_of};
@@ -70,24 +70,22 @@ fn pair_in(heading: &Heading, word: &[u8], other: Option<&[u8]>) -> Option<Objec
 /// `other` is the name of the second semaphore of a `pboth`.
 pub(crate) fn object_in(
     heading: &Heading,
-    verb: CallWord,
+    verb: OpWord,
     word: &[u8],
     other: Option<&[u8]>,
 ) -> Option<Object>
     ensures { result ≡ object_in heading.now verb word.now (option_map (λ w. w.now) other.entry) }
 {
     match verb {
-        CallWord::Advance | CallWord::Read | CallWord::Await => Some(Object::Event(heading.event(
-            word,
-        )?)),
-        CallWord::Ticket => Some(Object::Sequencer(heading.sequencer(word)?)),
-        CallWord::Put | CallWord::Get => Some(Object::Cell(heading.cell(word)?)),
-        CallWord::P | CallWord::V => {
+        OpWord::Advance | OpWord::Read | OpWord::Await => Some(Object::Event(heading.event(word)?)),
+        OpWord::Ticket => Some(Object::Sequencer(heading.sequencer(word)?)),
+        OpWord::Put | OpWord::Get => Some(Object::Cell(heading.cell(word)?)),
+        OpWord::P | OpWord::V => {
             let (place, shape) = semaphore_in(heading, word)?;
             Some(Object::Semaphore(place, shape))
         }
-        CallWord::PBoth => pair_in(heading, word, other),
-        CallWord::Write | CallWord::Snapshot => {
+        OpWord::PBoth => pair_in(heading, word, other),
+        OpWord::Write | OpWord::Snapshot => {
             let (place, shape) = database_in(heading, word)?;
             Some(Object::Database(place, shape))
         }
@@ -116,12 +114,12 @@ pub(crate) fn is_owned(groups: &[Group], object: &Object) -> bool
 /// Returns whether the declarations allow a worker such a call of the object.
 ///
 /// `giving` says whether the call is an advance, a put or a write.
-pub(crate) fn has_right(setup: &Setup, worker: WorkerId, giving: bool, object: &Object) -> bool
-    ensures { result ≡ has_right setup.now worker giving object.now }
+pub(crate) fn has_right(setup: &Setup, worker: WorkerId, update: bool, object: &Object) -> bool
+    ensures { result ≡ has_right setup.now worker update object.now }
 {
     match *object {
         Object::Event(event) => {
-            if giving {
+            if update {
                 setup.component_of(event, worker).is_some()
             } else {
                 setup.may_observe(event, worker)
@@ -129,7 +127,7 @@ pub(crate) fn has_right(setup: &Setup, worker: WorkerId, giving: bool, object: &
         }
         Object::Sequencer(sequencer) => setup.may_take(sequencer, worker),
         Object::Cell(cell) => {
-            if giving {
+            if update {
                 setup.may_write(cell, worker)
             } else {
                 setup.may_read(cell, worker)
@@ -142,7 +140,7 @@ pub(crate) fn has_right(setup: &Setup, worker: WorkerId, giving: bool, object: &
                 && setup.may_take(other.line(), worker)
         }
         Object::Database(_, shape) => {
-            if giving {
+            if update {
                 setup.may_take(shape.turn(), worker)
             } else {
                 setup.may_observe(shape.start(), worker)

@@ -6,10 +6,10 @@ ghost use Rattle.ec_heading.specs.Versions.{greatest_limit};
 ghost use Rattle.ec_text.specs.Words.{words_of, number_in_word};
 ghost use Rattle.calls_text.specs.Reading.{Steps, limit_digits, limit_step, from_words, is_later};
 ghost use Rattle.calls_text.specs.Reading.{from_step, after_start, start_in, opens_from, is_from};
-ghost use Rattle.calls_text.specs.Reading.{headed_on, draft_step, is_run};
+ghost use Rattle.calls_text.specs.Reading.{map_heading, draft_step, is_run};
 ghost use Rattle.calls_text.specs.kept.Results.{IsLimit, Opens};
 
-use crate::fault::{Kind, LineFault, line_fault};
+use crate::fault::{FaultKind, LineFault, line_fault};
 use crate::object::{Object, is_owned};
 use ec_count::{EventId, Limit};
 use ec_heading::{Heading, LINE_MAX, Version};
@@ -53,21 +53,21 @@ fn limit_digits(line: &[u8]) -> Option<&[u8]>
 
 /// Returns the limit of a line `limit n`.
 #[tactic(auto, unfolding(crate::specs::Reading::limit_step))]
-fn parse_limit(line: &[u8]) -> Result<Limit, Kind>
+fn parse_limit(line: &[u8]) -> Result<Limit, FaultKind>
     ensures { IsLimit result (limit_step line.now) }
 {
     if line.len() > LINE_MAX {
-        return Err(Kind::BadLine);
+        return Err(FaultKind::BadLine);
     }
     let Some(digits) = limit_digits(line) else {
-        return Err(Kind::BadLine);
+        return Err(FaultKind::BadLine);
     };
     let Some(n) = number(digits) else {
-        return Err(Kind::BadNumber);
+        return Err(FaultKind::BadNumber);
     };
     match Version::Two.limit(n) {
         Some(limit) => Ok(limit),
-        None => Err(Kind::BadNumber),
+        None => Err(FaultKind::BadNumber),
     }
 }
 
@@ -156,13 +156,13 @@ impl Draft {
         ensures { Steps result (after_start self.old (Some event) digits.now) self.new }
     {
         let Some(n) = self.start(digits) else {
-            return Err(LineFault::Of(Kind::BadNumber));
+            return Err(LineFault::Of(FaultKind::BadNumber));
         };
         if is_owned(self.heading.groups(), &Object::Event(event)) {
-            return Err(LineFault::Of(Kind::Hidden));
+            return Err(LineFault::Of(FaultKind::Hidden));
         }
         if !is_later(&self.from, event) {
-            return Err(LineFault::Of(Kind::BadOrder));
+            return Err(LineFault::Of(FaultKind::BadOrder));
         }
         match self.from.push((event, n)) {
             Ok(()) => Ok(()),
@@ -176,13 +176,13 @@ impl Draft {
         ensures { Steps result (from_step self.old line.now) self.new }
     {
         if line.len() > LINE_MAX || has_blank(line) {
-            return Err(LineFault::Of(Kind::BadLine));
+            return Err(LineFault::Of(FaultKind::BadLine));
         }
         let Some((word, digits)) = from_words(line) else {
-            return Err(LineFault::Of(Kind::BadLine));
+            return Err(LineFault::Of(FaultKind::BadLine));
         };
         let Some(event) = self.heading.event(word) else {
-            return Err(LineFault::Of(Kind::UnknownName));
+            return Err(LineFault::Of(FaultKind::UnknownName));
         };
         self.take_start(event, digits)
     }
@@ -199,7 +199,7 @@ impl Draft {
 
     /// Reads a line of the header.
     fn take_heading(&mut self, line: &[u8]) -> Result<(), LineFault>
-        ensures { Steps result (headed_on self.old (head_step self.old.heading line.now)) self.new }
+        ensures { Steps result (map_heading self.old (head_step self.old.heading line.now)) self.new }
     {
         match self.heading.line(line) {
             Ok(()) => Ok(()),

@@ -1,12 +1,13 @@
 //! Reads the first history of a text.
 ghost use Rattle.std.specs.Prelude.{◌≡◌, ◌≢◌, ◌<◌, ◌≤◌, ◌+◌, ◌^◌, All, IfOk, true, false, length};
-ghost use Rattle.calls_text.specs.Outcomes.{Returns, ReturnsFault, goes, parse_end, lines_of_text};
+ghost use Rattle.calls_text.specs.Outcomes.{Returns, ReturnsFault, parse_from, parse_end};
+ghost use Rattle.calls_text.specs.Outcomes.{lines_of_text};
 ghost use Rattle.calls_text.specs.Outcomes.{fault_at};
 ghost use Rattle.calls_text.specs.Reading.{is_ended};
 ghost use Rattle.calls_text.specs.Reading as reading;
 ghost use Rattle.calls_text.specs.kept.Stages.{stage_with_all, IsSound};
 
-use crate::fault::{Kind, LineFault, TextFault, cause_of};
+use crate::fault::{FaultKind, LineFault, TextFault, cause_of};
 use crate::recording::Recording;
 use crate::stage::Stage;
 use ec_text::cut_line;
@@ -43,11 +44,11 @@ fn cut_off(alloc: Global, stage: &mut Stage, line: u64, rest: &[u8]) -> TextFaul
     ensures { ReturnsFault (parse_end line (stage_with_all stage.old) rest.now) result }
 {
     if rest.is_empty() {
-        return fault_at(line, rest, LineFault::Of(Kind::Unfinished));
+        return fault_at(line, rest, LineFault::Of(FaultKind::Unfinished));
     }
     match stage.take(alloc, rest) {
         Err(fault) => fault_at(line, rest, fault),
-        Ok(()) => fault_at(line, rest, LineFault::Of(Kind::Unfinished)),
+        Ok(()) => fault_at(line, rest, LineFault::Of(FaultKind::Unfinished)),
     }
 }
 
@@ -60,7 +61,8 @@ fn finish<'a>(
 ) -> Result<Read<'a>, TextFault>
     requires sound { IsSound stage }
     requires last { is_ended (stage_with_all stage) ≡ false → All (λ b. b ≢ 10) rest.now }
-    ensures tells { Returns (goes number (stage_with_all stage) (lines_of_text rest.now)) result }
+    ensures tells { Returns (parse_from number (stage_with_all stage) (lines_of_text rest.now))
+        result }
     ensures over { IfOk result (λ read. is_ended (stage_with_all stage) ≡ true) }
     ensures number { IfOk result (λ read. read.number ≡ number) }
     ensures rest { IfOk result (λ read. read.rest.now ≡ rest.now) }
@@ -81,7 +83,7 @@ fn finish<'a>(
 /// that has no fault, the text is `Unfinished`.
 pub fn read_history(alloc: Global, text: &[u8], number: u64) -> Result<Read<'_>, TextFault>
     requires { number + length text.now < 2 ^ 64 }
-    ensures tells { Returns (goes number reading.Opening (lines_of_text text.now)) result }
+    ensures tells { Returns (parse_from number reading.Opening (lines_of_text text.now)) result }
     ensures shorter { IfOk result (λ read. length read.rest.now < length text.now) }
     ensures numbers { IfOk result
         (λ read. read.number + length read.rest.now ≤ number + length text.now) }

@@ -17,19 +17,19 @@ ghost use Rattle.calls_text.specs.Reading.{is_suited, is_over, suit_fault, gives
 ghost use Rattle.calls_text.specs.Reading.{reply_of_word};
 ghost use Rattle.calls_text.specs.Reading.{lists_with, other_word};
 ghost use Rattle.calls_text.specs.kept.Judging.{pending_by, spent_by, fault_by, invocation};
-ghost use Rattle.calls_text.specs.kept.Judging.{called_by, response, returned_by, event_by, Answers};
+ghost use Rattle.calls_text.specs.kept.Judging.{invocation_result, response, response_result, event_by, Answers};
 ghost use Rattle.calls_text.specs.kept.Judging.{TallyAfter};
 ghost use Rattle.calls_text.specs.kept.Runs.{IsRunning, IsPlaced, Fits};
 ghost use Rattle.calls_text.specs.Verbs.{tail_of};
 
-use crate::fault::{Kind, LineFault};
+use crate::fault::{FaultKind, LineFault};
 use crate::form::{Parts, ReplyWord, split_event};
 use crate::index::{first_group, numbers_of};
 use crate::lists::Lists;
 use crate::object::{Object, has_right, is_owned, object_in};
 use crate::recording::Recording;
 use crate::tally::Tally;
-use crate::verb::{CallWord, Tail};
+use crate::verb::{OpWord, Tail};
 use calls_core::{Action, Event, Op, PendingCall, Reply};
 use calls_verdict::{find, follow};
 use ec_count::WorkerId;
@@ -191,20 +191,20 @@ fn places_in(object: &Object) -> (usize, usize)
 }
 
 /// Returns the operation of a call. `n` is its number, or that of its list.
-fn op_of_word(verb: CallWord, object: &Object, n: usize) -> Op
+fn op_of_word(verb: OpWord, object: &Object, n: usize) -> Op
     ensures { result ≡ op_of_word verb object.now n }
 {
     let (i, j) = places_in(object);
     match verb {
-        CallWord::Advance => Op::Advance,
-        CallWord::Read => Op::Read,
-        CallWord::Await => Op::Await(n),
-        CallWord::Ticket => Op::Ticket,
-        CallWord::Put | CallWord::Write => Op::Put(n),
-        CallWord::Get | CallWord::Snapshot => Op::Get,
-        CallWord::P => Op::P(i),
-        CallWord::V => Op::V(i),
-        CallWord::PBoth => Op::PBoth(i, j),
+        OpWord::Advance => Op::Advance,
+        OpWord::Read => Op::Read,
+        OpWord::Await => Op::Await(n),
+        OpWord::Ticket => Op::Ticket,
+        OpWord::Put | OpWord::Write => Op::Put(n),
+        OpWord::Get | OpWord::Snapshot => Op::Get,
+        OpWord::P => Op::P(i),
+        OpWord::V => Op::V(i),
+        OpWord::PBoth => Op::PBoth(i, j),
     }
 }
 
@@ -212,7 +212,7 @@ fn op_of_word(verb: CallWord, object: &Object, n: usize) -> Op
 fn number_in(
     alloc: Global,
     recording: &mut Recording,
-    verb: CallWord,
+    verb: OpWord,
     rest: Option<&[u8]>,
 ) -> Result<usize, AllocError>
     ensures number { IfOk result
@@ -221,8 +221,8 @@ fn number_in(
         { lists = lists_of recording.old.lists verb (rest_words rest.entry) }) }
 {
     match (verb, rest) {
-        (CallWord::Write, Some(list)) => list_number(alloc, &mut recording.lists, list),
-        (CallWord::Write, None) => recording.lists.number(Vec::new(alloc)),
+        (OpWord::Write, Some(list)) => list_number(alloc, &mut recording.lists, list),
+        (OpWord::Write, None) => recording.lists.number(Vec::new(alloc)),
         _ => Ok(only_number(rest) as usize),
     }
 }
@@ -274,14 +274,19 @@ fn is_over(limit: u64, op: Op, answer: ReplyWord, list: &[u8]) -> bool
 }
 
 /// Returns the lowest kind of fault of a reply to a call.
-fn suit_fault(heading: &Heading, call: &PendingCall, answer: ReplyWord, list: &[u8]) -> Option<Kind>
+fn suit_fault(
+    heading: &Heading,
+    call: &PendingCall,
+    answer: ReplyWord,
+    list: &[u8],
+) -> Option<FaultKind>
     ensures { result ≡ suit_fault heading.now call.now answer (words_of list.now) }
 {
     if !is_suited(heading, call, answer, list) {
-        return Some(Kind::Unsuited);
+        return Some(FaultKind::Unsuited);
     }
     if is_over(heading.setup().limit().get(), call.op, answer, list) {
-        return Some(Kind::AtLimit);
+        return Some(FaultKind::AtLimit);
     }
     None
 }
@@ -329,32 +334,32 @@ fn reply_of_word(
 fn call_fault(
     heading: &Heading,
     worker: WorkerId,
-    verb: CallWord,
+    verb: OpWord,
     object: &Object,
     rest: Option<&[u8]>,
     is_busy: bool,
     is_spent: bool,
-) -> Option<Kind>
+) -> Option<FaultKind>
     ensures { result ≡ call_fault_by heading.now worker verb object.now (rest_words rest.entry)
         is_busy is_spent }
 {
     if is_bad_tail(verb.tail(), rest, object) {
-        return Some(Kind::BadNumber);
+        return Some(FaultKind::BadNumber);
     }
     if is_owned(heading.groups(), object) {
-        return Some(Kind::Hidden);
+        return Some(FaultKind::Hidden);
     }
     if has_two_roles(object) {
-        return Some(Kind::TwoRoles);
+        return Some(FaultKind::TwoRoles);
     }
-    if !has_right(heading.setup(), worker, verb.is_giving(), object) {
-        return Some(Kind::NoRight);
+    if !has_right(heading.setup(), worker, verb.is_update(), object) {
+        return Some(FaultKind::NoRight);
     }
     if is_busy {
-        return Some(Kind::Busy);
+        return Some(FaultKind::Busy);
     }
     if is_spent {
-        return Some(Kind::AtLimit);
+        return Some(FaultKind::AtLimit);
     }
     None
 }
@@ -394,11 +399,11 @@ impl Running {
 
     /// Returns whether the call is an advance, and the worker has called as many as the limit
     /// allows.
-    fn is_spent(&self, worker: WorkerId, verb: CallWord, object: &Object) -> bool
+    fn is_spent(&self, worker: WorkerId, verb: OpWord, object: &Object) -> bool
         ensures { result ≡ spent_by self.now worker verb object.now }
     {
         match (verb, *object) {
-            (CallWord::Advance, Object::Event(event)) => {
+            (OpWord::Advance, Object::Event(event)) => {
                 self.recording.heading.setup().limit().get() <= self.tally.at(worker, event)
             }
             _ => false,
@@ -430,7 +435,7 @@ impl Running {
     }
 
     /// Counts the call, if it is an advance.
-    fn count(&mut self, worker: WorkerId, verb: CallWord, object: &Object)
+    fn count(&mut self, worker: WorkerId, verb: OpWord, object: &Object)
         requires { spent_by self.old worker verb object.now ≡ false }
         ensures tally { TallyAfter self.old.tally self.new.tally worker verb object.now }
         ensures pending { self.new.pending ≡ self.old.pending }
@@ -438,7 +443,7 @@ impl Running {
         ensures recording { self.new.recording ≡ self.old.recording }
     {
         self.recording.heading().setup().invariant();
-        if let (CallWord::Advance, Object::Event(event)) = (verb, *object) {
+        if let (OpWord::Advance, Object::Event(event)) = (verb, *object) {
             self.tally.add(worker, event);
         }
     }
@@ -448,7 +453,7 @@ impl Running {
         &mut self,
         alloc: Global,
         worker: WorkerId,
-        verb: CallWord,
+        verb: OpWord,
         object: &Object,
         rest: Option<&[u8]>,
     ) -> Result<Event, AllocError>
@@ -470,22 +475,22 @@ impl Running {
         &mut self,
         alloc: Global,
         worker: Option<WorkerId>,
-        verb: CallWord,
+        verb: OpWord,
         word: &[u8],
         rest: Option<&[u8]>,
     ) -> Result<Event, LineFault>
-        ensures { Answers self.old self.new result (called_by self.old worker verb
+        ensures { Answers self.old self.new result (invocation_result self.old worker verb
             (object_in self.old.recording.heading verb word.now
             (other_word verb (rest_words rest.entry))) (rest_words rest.entry)) }
     {
         let other = match verb {
-            CallWord::PBoth => only_word(rest),
+            OpWord::PBoth => only_word(rest),
             _ => None,
         };
         let heading = self.recording.heading();
         let object = object_in(heading, verb, word, other);
         let (Some(worker), Some(object)) = (worker, object) else {
-            return Err(LineFault::Of(Kind::UnknownName));
+            return Err(LineFault::Of(FaultKind::UnknownName));
         };
         let is_busy = self.pending_call(worker).is_some();
         let is_spent = self.is_spent(worker, verb, &object);
@@ -526,16 +531,16 @@ impl Running {
         list: &[u8],
     ) -> Result<Event, LineFault>
         ensures { Answers self.old self.new result
-            (returned_by self.old worker answer (words_of list.now)) }
+            (response_result self.old worker answer (words_of list.now)) }
     {
         let Some(worker) = worker else {
-            return Err(LineFault::Of(Kind::UnknownName));
+            return Err(LineFault::Of(FaultKind::UnknownName));
         };
         if matches!(answer, ReplyWord::Numbers) && has_no_number(list) {
-            return Err(LineFault::Of(Kind::BadNumber));
+            return Err(LineFault::Of(FaultKind::BadNumber));
         }
         let Some(call) = self.pending_call(worker) else {
-            return Err(LineFault::Of(Kind::Idle));
+            return Err(LineFault::Of(FaultKind::Idle));
         };
         if let Some(kind) = suit_fault(self.recording.heading(), &call, answer, list) {
             return Err(LineFault::Of(kind));
@@ -552,10 +557,10 @@ impl Running {
         ensures { Answers self.old self.new result (event_by self.old line.now) }
     {
         if line.len() > LINE_MAX || has_blank(line) {
-            return Err(LineFault::Of(Kind::BadLine));
+            return Err(LineFault::Of(FaultKind::BadLine));
         }
         let Some(parts) = split_event(line) else {
-            return Err(LineFault::Of(Kind::BadLine));
+            return Err(LineFault::Of(FaultKind::BadLine));
         };
         match parts {
             Parts::Calls {

@@ -8,7 +8,7 @@ ghost use Rattle.calls_text.specs.kept.Stages.{IsNextIn, Keeps};
 ghost use Rattle.calls_text.specs.kept.Stages.{seen_with, IsFollowing, Follows, turns, GoesTo};
 ghost use Rattle.calls_text.specs.kept.Stages.{TurnsTo};
 
-use crate::fault::{Kind, LineFault};
+use crate::fault::{FaultKind, LineFault};
 use crate::opening::Draft;
 use crate::recording::Recording;
 use crate::running::Running;
@@ -40,7 +40,7 @@ fn after_first(line: &[u8]) -> Result<Stage, LineFault>
     if line == b"evc-calls 1".as_slice() {
         Ok(Stage::Limiting)
     } else {
-        Err(LineFault::Of(Kind::BadHeader))
+        Err(LineFault::Of(FaultKind::BadHeader))
     }
 }
 
@@ -167,7 +167,7 @@ impl Stage {
             Stage::Limiting => after_limit(alloc, line),
             Stage::Declaring(draft) => running(alloc, draft),
             Stage::Running(running) => Ok(Stage::Ended(running.recording)),
-            Stage::Ended(_) => Err(LineFault::Of(Kind::BadLine)),
+            Stage::Ended(_) => Err(LineFault::Of(FaultKind::BadLine)),
         }
     }
 

@@ -1,6 +1,6 @@
 //! How many advances each worker has called of each eventcount.
 ghost use Rattle.std.specs.Prelude.{◌≡◌, ◌+◌, ◌<◌, ◌^◌, []};
-ghost use Rattle.calls_text.specs.Tallies.{tally_at, IsCounted, IsCountedFurther};
+ghost use Rattle.calls_text.specs.Tallies.{tally_at, IsTallyOf, IsCountedFurther};
 
 use ec_count::{EventId, WorkerId};
 
@@ -13,7 +13,7 @@ pub(crate) struct Tally {
 impl Tally {
     /// Returns a tally of zeros.
     pub(crate) fn zeros() -> Tally
-        ensures { IsCounted result [] }
+        ensures { IsTallyOf result [] }
     {
         Tally {
             counts: [[0; 32]; 16],

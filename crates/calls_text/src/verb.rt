@@ -1,11 +1,11 @@
 //! The words for operations, such as `advance`.
 ghost use Rattle.std.specs.Prelude.{◌≡◌};
-ghost use Rattle.calls_text.specs.Verbs.{object_verb_of, group_verb_of, parse_verb, tail_of};
-ghost use Rattle.calls_text.specs.Verbs.{is_giving};
+ghost use Rattle.calls_text.specs.Verbs.{object_verb_of, group_verb_of, parse_op_word, tail_of};
+ghost use Rattle.calls_text.specs.Verbs.{is_update};
 
 /// The operation of a call.
 #[derive(Clone, Copy, Debug, PartialEq, Eq)]
-pub(crate) enum CallWord {
+pub(crate) enum OpWord {
     Advance,
     Read,
     Await,
@@ -32,55 +32,55 @@ pub(crate) enum Tail {
 }
 
 /// Returns the operation on an object of no group that a word names.
-fn object_verb_of(word: &[u8]) -> Option<CallWord>
+fn object_verb_of(word: &[u8]) -> Option<OpWord>
     ensures { result ≡ object_verb_of word.now }
 {
     if word == b"advance".as_slice() {
-        return Some(CallWord::Advance);
+        return Some(OpWord::Advance);
     }
     if word == b"read".as_slice() {
-        return Some(CallWord::Read);
+        return Some(OpWord::Read);
     }
     if word == b"await".as_slice() {
-        return Some(CallWord::Await);
+        return Some(OpWord::Await);
     }
     if word == b"ticket".as_slice() {
-        return Some(CallWord::Ticket);
+        return Some(OpWord::Ticket);
     }
     if word == b"put".as_slice() {
-        return Some(CallWord::Put);
+        return Some(OpWord::Put);
     }
     if word == b"get".as_slice() {
-        return Some(CallWord::Get);
+        return Some(OpWord::Get);
     }
     None
 }
 
 /// Returns the operation on a group that a word names.
-fn group_verb_of(word: &[u8]) -> Option<CallWord>
+fn group_verb_of(word: &[u8]) -> Option<OpWord>
     ensures { result ≡ group_verb_of word.now }
 {
     if word == b"p".as_slice() {
-        return Some(CallWord::P);
+        return Some(OpWord::P);
     }
     if word == b"v".as_slice() {
-        return Some(CallWord::V);
+        return Some(OpWord::V);
     }
     if word == b"pboth".as_slice() {
-        return Some(CallWord::PBoth);
+        return Some(OpWord::PBoth);
     }
     if word == b"write".as_slice() {
-        return Some(CallWord::Write);
+        return Some(OpWord::Write);
     }
     if word == b"snapshot".as_slice() {
-        return Some(CallWord::Snapshot);
+        return Some(OpWord::Snapshot);
     }
     None
 }
 
 /// Returns the operation that a word names.
-pub(crate) fn parse_verb(word: &[u8]) -> Option<CallWord>
-    ensures { result ≡ parse_verb word.now }
+pub(crate) fn parse_op_word(word: &[u8]) -> Option<OpWord>
+    ensures { result ≡ parse_op_word word.now }
 {
     match object_verb_of(word) {
         Some(verb) => Some(verb),
@@ -88,24 +88,24 @@ pub(crate) fn parse_verb(word: &[u8]) -> Option<CallWord>
     }
 }
 
-impl CallWord {
+impl OpWord {
     /// Returns the form of what follows the object.
     pub(crate) fn tail(self) -> Tail
         ensures { result ≡ tail_of self }
     {
         match self {
-            CallWord::Await | CallWord::Put => Tail::Digits,
-            CallWord::Write => Tail::ManyDigits,
-            CallWord::PBoth => Tail::Word,
+            OpWord::Await | OpWord::Put => Tail::Digits,
+            OpWord::Write => Tail::ManyDigits,
+            OpWord::PBoth => Tail::Word,
             _ => Tail::Nothing,
         }
     }
 
     /// Returns whether it is an advance, a put or a write, which need another right than the other
     /// calls of their object.
-    pub(crate) fn is_giving(self) -> bool
-        ensures { result ≡ is_giving self }
+    pub(crate) fn is_update(self) -> bool
+        ensures { result ≡ is_update self }
     {
-        matches!(self, CallWord::Advance | CallWord::Put | CallWord::Write)
+        matches!(self, OpWord::Advance | OpWord::Put | OpWord::Write)
     }
 }

@@ -15,7 +15,7 @@ use Rattle.calls_tickets.specs.declared.fault.Fault.{Fault}
 use Rattle.calls_tickets.specs.declared.fault.Fault.TheVariants.{Twice, Turned, Drawn}
 use Rattle.calls_core.specs.Lists.{Each}
 use Rattle.calls_core.specs.Histories.{completion}
-use Rattle.calls_core.specs.Linearizations.{Gives, after, IsSequentialRun, KeepsOrder, answered_one}
+use Rattle.calls_core.specs.Linearizations.{Gives, after, IsLegalHistory, KeepsOrder, answered_one}
 use Rattle.calls_core.specs.Linearizations.{answered_calls, initial}
 use Rattle.calls_core.specs.declared.history.Kind.TheVariants.{Sequencer}
 use Rattle.calls_tickets.specs.Faults.{ticket_number, number, FromTwice, FromTurned, FromDrawn, ShowsIn}
@@ -43,7 +43,7 @@ after_ticket : (m : ℕ → ℕ) (op : Op) (r : Reply) → op ≡ Ticket → aft
 after_ticket m op r e = ap (λ k. after m k r 0) e
 
 pub run_number : (m : ℕ → ℕ) (xs : List Call) (c : Call) (ys : List Call)
-    → Each IsTicket (xs ++ c ∷ ys) → IsSequentialRun m (xs ++ c ∷ ys) → number c ≡ m 0 + length xs
+    → Each IsTicket (xs ++ c ∷ ys) → IsLegalHistory m (xs ++ c ∷ ys) → number c ≡ m 0 + length xs
 run_number m [] c ys t run = number_given m c.op c.reply t.0 run.0 ∙ omega arith
 run_number m (x ∷ xs) c ys t run = omega (
   arith,
@@ -53,7 +53,7 @@ run_number m (x ∷ xs) c ys t run = omega (
 )
 
 run_below : (m : ℕ → ℕ) (xs ys : List Call) → Each IsTicket (xs ++ ys)
-    → IsSequentialRun m (xs ++ ys) → Each (λ x. number x < m 0 + length xs) xs
+    → IsLegalHistory m (xs ++ ys) → Each (λ x. number x < m 0 + length xs) xs
 run_below m [] ys t run = tt
 run_below m (x ∷ xs) ys t run =
     let e = after_ticket m x.op x.reply t.0 in
@@ -135,7 +135,7 @@ module _ (done : List Call) (pending : List PendingCall) (t : ℕ) (given : AreT
       → number c ≡ length xs
   number_at xs c ys is =
       run_number empty xs c ys (subst (Each IsTicket) is tickets)
-      (subst (IsSequentialRun empty) is l.run) ∙ omega arith
+      (subst (IsLegalHistory empty) is l.run) ∙ omega arith
 
   -- in the order b is before a, or they are the same, or b is after a
   standing : (a b : Call) → Contains done a → Contains done b
@@ -202,7 +202,7 @@ module _ (done : List Call) (pending : List PendingCall) (t : ℕ) (given : AreT
       (all_from_each (ReturnedTicket t) done given.returned) f.known in
       let below : Each (λ x. number x < 0 + length s.prefix) s.prefix =
       run_below empty s.prefix (c ∷ s.back) (subst (Each IsTicket) s.is tickets)
-      (subst (IsSequentialRun empty) s.is l.run) in
+      (subst (IsLegalHistory empty) s.is l.run) in
       let before : All (λ x. KeepsOrder x c) s.prefix = pairs_left KeepsOrder s.prefix c s.back
       (subst (AllPairs KeepsOrder) s.is l.in_order) in
       let prefix : count_by (early_number k c.last) s.prefix ≡ length s.prefix =

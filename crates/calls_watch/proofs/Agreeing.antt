@@ -17,7 +17,7 @@ use Rattle.calls_core.specs.Beginnings.{until}
 use Rattle.calls_core.specs.Completions.{IsLinearizable}
 use Rattle.calls_core.proofs.Beginnings.{history_earlier}
 use Rattle.calls_local.proofs.Parts.{a_part_is_a_history}
-use Rattle.calls_local.proofs.Wholes.{a_beginning_is_linearizable}
+use Rattle.calls_local.proofs.Wholes.{a_prefix_is_linearizable}
 use Rattle.calls_local.proofs.Responding.{answers_become_responses}
 use Rattle.calls_cells.specs.declared.outcome.Undecided as cells
 use Rattle.calls_verdict.specs.declared.verdict.Refusal.{Refusal}
@@ -31,14 +31,14 @@ use Rattle.calls_verdict.proofs.Untils.{until_all, until_out}
 use Rattle.calls_monitor.specs.declared.monitor.Refused.{Refused as Report}
 use Rattle.calls_text.specs.Recordings.{RecordingModel, AreKinds, IsRecording}
 use Rattle.calls_text.specs.Reading.{Opening, Running}
-use Rattle.calls_text.specs.Outcomes.{OneRead, ParseResult, goes, fault_in, lines_of_text}
+use Rattle.calls_text.specs.Outcomes.{OneRead, ParseResult, parse_from, fault_in, lines_of_text}
 use Rattle.calls_text.proofs.ReachedLines.{reached_goes}
 use Rattle.calls_text.proofs.FurtherLines.{GoesFurther, goes_further}
 use Rattle.calls_report.specs.declared.status.Status.{Status}
 use Rattle.calls_report.specs.declared.status.Status.TheVariants.{Done, Refused, Usage}
 use Rattle.calls_report.specs.declared.status.Status.TheVariants.{InputOutput, Memory, NotDecided}
-use Rattle.calls_report.specs.Checks.{Outlets, JudgedHistory, AreJudged, IsJudged, HasOrder}
-use Rattle.calls_report.specs.Checks.{IsOpen, IsUnread, IsNoEnd, SaysUnread, SaysRefused, SaysOpen}
+use Rattle.calls_report.specs.Checks.{Outputs, JudgedHistory, AreJudged, IsJudged, HasOrder}
+use Rattle.calls_report.specs.Checks.{IsUndecided, IsUnread, IsNoEnd, SaysUnread, SaysRefused, SaysOpen}
 use Rattle.calls_report.specs.Checks as checks
 use Rattle.calls_watch.specs.Watches.{AreWatched, IsGood, AreGood, IsUpTo, IsStopped, IsWatchedTo}
 use Rattle.calls_watch.specs.Watches.{SaysStopped}
@@ -56,8 +56,9 @@ use Rattle.calls_watch.proofs.Uncalled.{database_begins}
 abbrev Meets : ℕ → List (List ℕ) → ℕ → List (List ℕ) → Type 0
 Meets m qs k rs =
     ((m ≡ k) × (qs ≡ rs))
-    ⊎ (((j : JudgedHistory) × (goes m Opening qs ≡ Ok j.read) × HasOrder j.read.recorded j.order)
-    ⊎ ((r : OneRead) × (goes k Opening rs ≡ Ok r) × IsGood r.recorded))
+    ⊎ (((j : JudgedHistory) × (parse_from m Opening qs ≡ Ok j.read)
+    × HasOrder j.read.recorded j.order)
+    ⊎ ((r : OneRead) × (parse_from k Opening rs ≡ Ok r) × IsGood r.recorded))
 
 one_read : (x y : OneRead) → ◌≡◌ {A = ParseResult} (Ok x) (Ok y) → x ≡ y
 one_read x y same = cc
@@ -68,12 +69,14 @@ meets : (n : ℕ) (ps : List (List ℕ)) (reads : List OneRead) (m : ℕ) (qs : 
 meets n ps [] m qs [] k rs good judged = inl (sym good.0 ∙ judged.0, sym good.1 ∙ judged.1)
 meets n ps [] m qs (j ∷ js) k rs good judged = inr (inl (
   j,
-  sym (ap (λ (i : ℕ). goes i Opening ps) good.0 ∙ ap (goes m Opening) good.1) ∙ judged.0,
+  sym (ap (λ (i : ℕ). parse_from i Opening ps) good.0 ∙ ap (parse_from m Opening) good.1)
+      ∙ judged.0,
   judged.1,
 ))
 meets n ps (r ∷ reads) m qs [] k rs good judged = inr (inr (
   r,
-  sym (ap (λ (i : ℕ). goes i Opening ps) judged.0 ∙ ap (goes k Opening) judged.1) ∙ good.0,
+  sym (ap (λ (i : ℕ). parse_from i Opening ps) judged.0 ∙ ap (parse_from k Opening) judged.1)
+      ∙ good.0,
   good.1,
 ))
 meets n ps (r ∷ reads) m qs (j ∷ js) k rs good judged =
@@ -82,16 +85,17 @@ meets n ps (r ∷ reads) m qs (j ∷ js) k rs good judged =
     (subst (λ (x : OneRead). AreJudged x.number x.rest js k rs) (sym same) judged.2)
 
 -- there is no history after the last LF
-end_none : (m : ℕ) (o : OneRead) → goes m Opening ([] ∷ []) ≡ Ok o → ⊥
-unfolding goes
+end_none : (m : ℕ) (o : OneRead) → parse_from m Opening ([] ∷ []) ≡ Ok o → ⊥
+unfolding parse_from
 end_none m o is = cc
 
-over_none : (m : ℕ) (qs : List (List ℕ)) (o : OneRead) → qs ≡ [] ∷ [] → goes m Opening qs ≡ Ok o → ⊥
-over_none m qs o none is = end_none m o (ap (goes m Opening) (sym none) ∙ is)
+over_none : (m : ℕ) (qs : List (List ℕ)) (o : OneRead) → qs ≡ [] ∷ []
+    → parse_from m Opening qs ≡ Ok o → ⊥
+over_none m qs o none is = end_none m o (ap (parse_from m Opening) (sym none) ∙ is)
 
 -- a text at fault is no history
 fault_none : (m : ℕ) (qs : List (List ℕ)) (note : List ℕ) (o : OneRead) → IsUnread m qs note
-    → goes m Opening qs ≡ Ok o → ⊥
+    → parse_from m Opening qs ≡ Ok o → ⊥
 fault_none m qs note o unread is =
     let fault : fault_in unread.0 unread.1 unread.2 ≡ Ok o = sym unread.3 ∙ is in
     cc
@@ -134,7 +138,7 @@ are_decided ks past h w = λ k kind is u shows.
     kind_decided kind (part k past) u ((a_part_is_a_history ks k past h).4 kind is)
     (part_watched k past w) shows
 
-good_not_open : (r : RecordingModel) → IsGood r → (u : Undecided) → IsOpen r u → ⊥
+good_not_open : (r : RecordingModel) → IsGood r → (u : Undecided) → IsUndecided r u → ⊥
 good_not_open r g u open_one =
     let shown = open_one.2.shows in
     are_decided open_one.0 (reverse r.events) open_one.1.history g.watched u.object shown.kind
@@ -151,7 +155,7 @@ record IsLonger (past : List Event) (x : Event) (r t : RecordingModel) : Type 0 
 
 longer : (n : ℕ) (ps : List (List ℕ)) (m : ℕ) (r : RecordingModel) (kinds : List Kind)
     (past : List Event) (x : Event) → IsUpTo n ps m r kinds past x → (o : OneRead)
-    → goes n Opening ps ≡ Ok o → IsLonger past x r o.recorded
+    → parse_from n Opening ps ≡ Ok o → IsLonger past x r o.recorded
 longer n ps m r kinds past x u o is =
     let f : GoesFurther r o.recorded = goes_further (u.next ∷ u.left) m r o
     (sym (reached_goes n ps (Running r) m u.next u.left u.reached) ∙ is) in
@@ -164,7 +168,7 @@ longer n ps m r kinds past x u o is =
     }
 
 module _ (n : ℕ) (ps : List (List ℕ)) (m : ℕ) (r : RecordingModel) (x : Event) (report : Report)
-    (stop : IsStopped n ps m r x report) (o : OneRead) (is : goes n Opening ps ≡ Ok o)
+    (stop : IsStopped n ps m r x report) (o : OneRead) (is : parse_from n Opening ps ≡ Ok o)
     (ks : List Kind) (recording : IsRecording o.recorded ks) where
   more : IsLonger stop.past x r o.recorded
   more = longer n ps m r stop.kinds stop.past x stop.up_to o is
@@ -197,7 +201,7 @@ module _ (n : ℕ) (ps : List (List ℕ)) (m : ℕ) (r : RecordingModel) (x : Ev
 
   not_whole : IsLinearizable ks (reverse o.recorded.events) → ⊥
   not_whole l =
-      none_with_x (a_beginning_is_linearizable ks more.late (x ∷ stop.past) history
+      none_with_x (a_prefix_is_linearizable ks more.late (x ∷ stop.past) history
       (subst (IsLinearizable ks) more.are l))
 
   same_event : (f : Refusal)
@@ -233,7 +237,7 @@ ordered ks r order recording placed =
 
 stopped_no_order : (n : ℕ) (ps : List (List ℕ)) (m : ℕ) (r : RecordingModel) (x : Event)
     (report : Report) → IsStopped n ps m r x report → (j : JudgedHistory)
-    → goes n Opening ps ≡ Ok j.read → HasOrder j.read.recorded j.order → ⊥
+    → parse_from n Opening ps ≡ Ok j.read → HasOrder j.read.recorded j.order → ⊥
 stopped_no_order n ps m r x report stop j is has =
     not_whole n ps m r x report stop j.read is has.0 has.1
     (ordered has.0 j.read.recorded j.order has.1 has.2)
@@ -266,11 +270,12 @@ some_read ps (r ∷ reads) m qs good some =
     omega arith
 
 moved : (m k : ℕ) (qs rs : List (List ℕ)) (o : OneRead) → m ≡ k → qs ≡ rs
-    → goes k Opening rs ≡ Ok o → goes m Opening qs ≡ Ok o
-moved m k qs rs o e f is = ap (λ (i : ℕ). goes i Opening qs) e ∙ ap (goes k Opening) f ∙ is
+    → parse_from k Opening rs ≡ Ok o → parse_from m Opening qs ≡ Ok o
+moved m k qs rs o e f is = ap (λ (i : ℕ). parse_from i Opening qs) e ∙ ap (parse_from k Opening) f
+    ∙ is
 
-good_read : (k : ℕ) (rs : List (List ℕ)) (r o : OneRead) → goes k Opening rs ≡ Ok r
-    → goes k Opening rs ≡ Ok o → IsGood r.recorded → IsGood o.recorded
+good_read : (k : ℕ) (rs : List (List ℕ)) (r o : OneRead) → parse_from k Opening rs ≡ Ok r
+    → parse_from k Opening rs ≡ Ok o → IsGood r.recorded → IsGood o.recorded
 good_read k rs r o one other good =
     subst (λ (x : OneRead). IsGood x.recorded) (one_read r o (sym one ∙ other)) good
 
@@ -316,7 +321,7 @@ refused_open m qs k rs old new b a (inr (inr g)) found s =
     good_not_open s.0.recorded (good_read k rs g.0 s.0 g.1 s.2 g.2) s.1 s.3
 
 agree : (ps : List (List ℕ)) (watched checked : Status) (reads : List OneRead) (m : ℕ)
-    (qs : List (List ℕ)) (k : ℕ) (rs : List (List ℕ)) (old new : Outlets) (b a : OutputModel)
+    (qs : List (List ℕ)) (k : ℕ) (rs : List (List ℕ)) (old new : Outputs) (b a : OutputModel)
     → AreGood 1 ps reads m qs → Meets m qs k rs → watches.Ends watched reads m qs old new
     → checks.Ends checked k rs b a → Agree watched checked
 agree ps Done Done reads m qs k rs old new b a good at w c = tt
@@ -356,7 +361,7 @@ watch_agrees_with_check = λ text watched checked old new judged before after w 
 
 one_event : (n : ℕ) (ps : List (List ℕ)) (m : ℕ) (r : RecordingModel) (x : Event) (report : Report)
     (k : ℕ) (qs : List (List ℕ)) (read : OneRead) (refusal : Refusal) → Meets n ps k qs
-    → IsStopped n ps m r x report → goes k Opening qs ≡ Ok read
+    → IsStopped n ps m r x report → parse_from k Opening qs ≡ Ok read
     → checks.IsRefused read.recorded refusal → (n ≡ k) × (x.at ≡ refusal.at)
 one_event n ps m r x report k qs read refusal (inl (e, f)) stop is refused = (
   e,

@@ -15,7 +15,7 @@ use Rattle.calls_report.specs.declared.status.Status.{Status}
 use Rattle.calls_report.specs.declared.status.Status.TheVariants.{Done, Refused, Usage}
 use Rattle.calls_report.specs.declared.status.Status.TheVariants.{InputOutput, Memory, NotDecided}
 use Rattle.calls_report.specs.Notes.{fault_note}
-use Rattle.calls_report.specs.Checks.{Outlets}
+use Rattle.calls_report.specs.Checks.{Outputs}
 use Rattle.calls_watch.specs.declared.feeder.Feeder.{Feeder}
 use Rattle.calls_watch.specs.declared.load.Load.{Load}
 use Rattle.calls_watch.specs.declared.stop.Stop.{Stop}
@@ -90,7 +90,7 @@ summary reads l load =
     ∙ ap (λ (n : ℕ). load_text (length reads) n l.others) c
     ∙ ap (λ (n : ℕ). load_text (length reads) (calls_in reads) n) o
 
-over : (bytes : List ℕ) (w : Watcher) (status : Status) (old new : Outlets)
+over : (bytes : List ℕ) (w : Watcher) (status : Status) (old new : Outputs)
     → IsOver (lines_of_text bytes) w
     → WritesLoad status (load_text w.load.histories w.load.calls w.load.others) old new
     → Watches bytes status old new
@@ -124,7 +124,7 @@ over bytes w Memory old new o writes = absurd writes
 over bytes w NotDecided old new o writes = absurd writes
 
 pub over_known : (o : Option (List ℕ)) (u : Unit {0}) (f : Feeder) (status : Status)
-    (old new : Outlets) → ReadsAll o (Ok u) f
+    (old new : Outputs) → ReadsAll o (Ok u) f
     → WritesLoad status (load_text f.watcher.load.histories f.watcher.load.calls
     f.watcher.load.others) old new
     → IfSome o (λ bytes. Watches bytes status old new)
@@ -132,7 +132,7 @@ over_known None u f status old new reads writes = tt
 over_known (Some bytes) u f status old new reads writes =
     over bytes f.watcher status old new reads writes
 
-stopped : (bytes : List ℕ) (status : Status) (old new : Outlets) → new.out ≡ old.out
+stopped : (bytes : List ℕ) (status : Status) (old new : Outputs) → new.out ≡ old.out
     → SaysStop (lines_of_text bytes) status old.notes new.notes → Watches bytes status old new
 stopped bytes Refused old new same s = inl (record {
   reads = s.reads;
@@ -160,7 +160,7 @@ stopped bytes Usage old new same s = absurd s.says
 stopped bytes InputOutput old new same s = absurd s.says
 
 pub stop_known : (o : Option (List ℕ)) (f : Feeder) (stop : Stop) (status : Status)
-    (old new : Outlets) → new.out ≡ old.out → ReadsAll o (Err (cuts.Stop stop)) f
+    (old new : Outputs) → new.out ≡ old.out → ReadsAll o (Err (cuts.Stop stop)) f
     → ((ps : List (List ℕ)) → Stops stop ps f.watcher → SaysStop ps status old.notes new.notes)
     → IfSome o (λ bytes. Watches bytes status old new)
 stop_known None f stop status old new same reads says = tt

@@ -21,8 +21,8 @@ use Rattle.calls_text.specs.Recordings.{RecordingModel, AreKinds}
 use Rattle.calls_text.specs.Reading.{Stage, Opening, Limiting, Declaring, Running, Ended, step, is_ended}
 use Rattle.calls_text.specs.Reading.{with_events}
 use Rattle.std.specs.Prelude.{OnOk, IfErr}
-use Rattle.calls_text.specs.Outcomes.{OneRead, goes, parse_end, fault_in, ReturnsFault}
-use Rattle.calls_text.specs.Following.{stage_with_events, HasEvents, IsReached, IsHeading, IsRun, IsEvent, IsEnd}
+use Rattle.calls_text.specs.Outcomes.{OneRead, parse_from, parse_end, fault_in, ReturnsFault}
+use Rattle.calls_text.specs.Following.{stage_with_events, HasEvents, IsReached, IsHeading, IsRunLine, IsEvent, IsEnd}
 use Rattle.calls_text.specs.Following.{PassesIn, IsFaulty}
 use Rattle.calls_text.proofs.ReachedLines.{reached_none, reached_more, reached_end, reached_cut}
 use Rattle.calls_text.proofs.ReachedLines.{reached_fault, reached_opening, opening_none}
@@ -36,7 +36,7 @@ use Rattle.calls_watch.specs.Loads.{IsLoad, calls_of, others_of, others_at}
 use Rattle.calls_watch.specs.Loads.{invocation_count}
 use Rattle.calls_watch.specs.Watches.{IsGood, AreGood, IsUpTo}
 use Rattle.calls_watch.specs.Watches.{invokes_cells, AreWatched}
-use Rattle.calls_watch.specs.kept.Watching.{IsMonitoring, IsMonitored, IsWatching, StopsAt, Stops, GoesOn}
+use Rattle.calls_watch.specs.kept.Watching.{IsMonitoring, IsMonitored, IsWatching, StopsAt, Stops, StateAfterLine}
 use Rattle.calls_watch.specs.kept.Watching.{IsOver, IsOpened, IsLoadAfter, Begins, LoadGrows}
 use Rattle.calls_watch.specs.kept.Watching.{IsJudged, IsEventJudged, IsBegunAgain, GoesOnBy, MayEnd, GoesOnAt}
 use Rattle.calls_watch.proofs.Histories.{good_more, calls_more, others_more}
@@ -137,9 +137,9 @@ module _ (ps qs : List (List ℕ)) (q line : List ℕ) (old mid new : Watcher)
 
   -- THE LINE RUN
 
-  run_goes : (h : IsRun line w.events old.follower.stage mid.follower.stage)
+  run_goes : (h : IsRunLine line w.events old.follower.stage mid.follower.stage)
       (result : Result (Unit {0}) Stop) → Begins h.begun mid new result
-      → GoesOn result ps (q ∷ qs) new
+      → StateAfterLine result ps (q ∷ qs) new
   run_goes h (Ok u) b =
       let o : IsOpened h.begun b.0 = b.2 in
       built_state ps (q ∷ qs) new w.reads w.start w.begun [] (Running h.begun) (old.number + 1) w.good
@@ -288,7 +288,7 @@ module _ (ps qs : List (List ℕ)) (q line : List ℕ) (old mid new : Watcher)
         (loaded same grows)
 
     event_goes : (result : Result (Unit {0}) Stop) → IsEventJudged has.monitor x mid new result
-        → GoesOn result ps (q ∷ qs) new
+        → StateAfterLine result ps (q ∷ qs) new
     event_goes (Ok u) j = event_taken j.0 j.1 j.2 j.3 j.4 j.5 j.6
     event_goes (Err (stops.Refused y report)) j =
         subst (λ (z : Event). Stops (stops.Refused z report) ps new) (sym j.0)
@@ -346,7 +346,7 @@ module _ (ps qs : List (List ℕ)) (q line : List ℕ) (old mid new : Watcher)
         }
 
     end_goes : (result : Result (Unit {0}) Stop) → IsBegunAgain mid new result
-        → GoesOn result ps (q ∷ qs) new
+        → StateAfterLine result ps (q ∷ qs) new
     end_goes (Ok u) b =
         built_state ps (q ∷ qs) new (w.reads ++ read ∷ []) (old.number + 1) (q ∷ qs) [] Opening
         (old.number + 1) good_now b.0 (b.2 ∙ number) (reached_none (old.number + 1) (q ∷ qs))
@@ -360,13 +360,13 @@ module _ (ps qs : List (List ℕ)) (q line : List ℕ) (old mid new : Watcher)
 
   nothing_goes : (h : IsHeading line w.events old.follower.stage mid.follower.stage)
       (result : Result (Unit {0}) Stop) → GoesOnBy lines.Heading mid new result
-      → GoesOn result ps (q ∷ qs) new
+      → StateAfterLine result ps (q ∷ qs) new
   nothing_goes h (Ok u) same = heading_goes h same
   nothing_goes h (Err stop) same = absurd same
 
   pub line_goes : (followed : HistoryLine) (result : Result (Unit {0}) Stop)
       → PassesIn followed line w.events old.follower.stage mid.follower.stage
-      → GoesOnBy followed mid new result → GoesOn result ps (q ∷ qs) new
+      → GoesOnBy followed mid new result → StateAfterLine result ps (q ∷ qs) new
   line_goes lines.Heading result h by = nothing_goes h result by
   line_goes lines.Run result h by = run_goes h result (by h.begun h.is)
   line_goes (lines.Event x) result e by =
@@ -405,7 +405,7 @@ fault_stops ps qs line old new w (faults.At m kind cause) some faulty = record {
   stops = (
     (
       line,
-      subst (λ (k : ℕ). goes w.start Opening w.begun ≡ fault_in k kind line) (sym faulty.0)
+      subst (λ (k : ℕ). parse_from w.start Opening w.begun ≡ fault_in k kind line) (sym faulty.0)
           (reached_fault w.start w.begun (stage_with_events w.events old.follower) old.number line qs kind
           w.reached some w.going faulty.1),
       faulty.2,

@@ -10,7 +10,7 @@ use Rattle.calls_text.specs.Outcomes.{lines_of_text}
 use Rattle.calls_watch.specs.declared.feeder.Feeder.{Feeder}
 use Rattle.calls_watch.specs.declared.stop.Stop.{Stop}
 use Rattle.calls_watch.specs.declared.watcher.Watcher.{Watcher}
-use Rattle.calls_watch.specs.kept.Watching.{IsWatching, Stops, GoesOn, IsFed, Feeds}
+use Rattle.calls_watch.specs.kept.Watching.{IsWatching, Stops, StateAfterLine, IsFed, Feeds}
 use Rattle.calls_watch.specs.kept.Watching.{GathersTo, FedFrom}
 use Rattle.ec_text.proofs.shared.WordLemmas.{onto_has}
 
@@ -60,10 +60,10 @@ pub line_fed : (ps : List (List ℕ)) (line more : List ℕ) (old new : Watcher)
     (result : Result (Unit {0}) Stop) → All (λ b. b ≢ 10) line
     → IsWatching ps (lines_of_text (line ++ 10 ∷ more)) old
     → ((qs : List (List ℕ)) (q : List ℕ) → IsWatching ps (line ∷ q ∷ qs) old
-    → GoesOn result ps (q ∷ qs) new) → GoesOn result ps (lines_of_text more) new
+    → StateAfterLine result ps (q ∷ qs) new) → StateAfterLine result ps (lines_of_text more) new
 line_fed ps line more old new result none w goes =
     let f : HasFirst more = has_first more in
-    subst (λ (qs : List (List ℕ)). GoesOn result ps qs new) (sym f.is)
+    subst (λ (qs : List (List ℕ)). StateAfterLine result ps qs new) (sym f.is)
     (goes f.others f.first (subst (λ (qs : List (List ℕ)). IsWatching ps qs old)
     (parts_line line more none ∙ ap (λ (qs : List (List ℕ)). line ∷ qs) f.is) w))
 
@@ -104,7 +104,8 @@ pub line_in : (ps : List (List ℕ)) (line behind left rest : List ℕ) (old new
     (result : Result (Unit {0}) Stop) → left ≡ line ++ 10 ∷ behind → All (λ b. b ≢ 10) line
     → IsWatching ps (lines_of_text (left ++ rest)) old
     → ((qs : List (List ℕ)) (q : List ℕ) → IsWatching ps (line ∷ q ∷ qs) old
-    → GoesOn result ps (q ∷ qs) new) → GoesOn result ps (lines_of_text (behind ++ rest)) new
+    → StateAfterLine result ps (q ∷ qs) new)
+    → StateAfterLine result ps (lines_of_text (behind ++ rest)) new
 line_in ps line behind left rest old new result is none w goes =
     line_fed ps line (behind ++ rest) old new result none
     (subst (λ (xs : List ℕ). IsWatching ps (lines_of_text xs) old) (joined line behind left rest is) w)
@@ -112,7 +113,7 @@ line_in ps line behind left rest old new result is none w goes =
 
 -- a line whose prefix was gathered
 pub line_done : (ps : List (List ℕ)) (rest : List ℕ) (mid new : Feeder)
-    (result : Result (Unit {0}) Stop) → GoesOn result ps (lines_of_text rest) mid.watcher
+    (result : Result (Unit {0}) Stop) → StateAfterLine result ps (lines_of_text rest) mid.watcher
     → new.watcher ≡ mid.watcher → new.part.items ≡ [] → Feeds result ps rest new
 line_done ps rest mid new (Ok u) goes same none = record {
   watching = subst (λ (v : Watcher). IsWatching ps (lines_of_text (new.part.items

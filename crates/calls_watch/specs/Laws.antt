@@ -6,11 +6,11 @@ use Rattle.calls_verdict.specs.declared.verdict.Refusal.{Refusal}
 use Rattle.calls_monitor.specs.declared.monitor.Refused.{Refused as Report}
 use Rattle.calls_text.specs.Recordings.{RecordingModel}
 use Rattle.calls_text.specs.Reading.{Opening}
-use Rattle.calls_text.specs.Outcomes.{OneRead, goes, lines_of_text}
+use Rattle.calls_text.specs.Outcomes.{OneRead, parse_from, lines_of_text}
 use Rattle.calls_report.specs.declared.status.Status.{Status}
 use Rattle.calls_report.specs.declared.status.Status.TheVariants.{Done, Refused}
 use Rattle.calls_report.specs.declared.status.Status.TheVariants.{InputOutput, Memory, NotDecided}
-use Rattle.calls_report.specs.Checks.{Outlets, JudgedHistory, AreJudged, IsJudged, IsRefused}
+use Rattle.calls_report.specs.Checks.{Outputs, JudgedHistory, AreJudged, IsJudged, IsRefused}
 use Rattle.calls_watch.specs.Watches.{AreGood, IsStopped, IsWatchedTo}
 
 -- which statuses the two may have for one text, that of `watch` first. If `watch` read the text to
@@ -29,7 +29,7 @@ Agree _ _ = ⊥
 
 abbrev pub WatchAgreesWithCheck : Type 0
 WatchAgreesWithCheck =
-    (text : List ℕ) (watched checked : Status) (old new : Outlets) (judged : List JudgedHistory)
+    (text : List ℕ) (watched checked : Status) (old new : Outputs) (judged : List JudgedHistory)
     (before after : OutputModel) → IsWatchedTo watched text old new
     → IsJudged checked text judged before after → Agree watched checked
 
@@ -40,5 +40,5 @@ BothRefuseOneEvent =
     (x : Event) (report : Report) (judged : List JudgedHistory) (k : ℕ) (qs : List (List ℕ))
     (read : OneRead) (refusal : Refusal) → AreGood 1 (lines_of_text text) reads n ps
     → IsStopped n ps m r x report → AreJudged 1 (lines_of_text text) judged k qs
-    → goes k Opening qs ≡ Ok read → IsRefused read.recorded refusal
+    → parse_from k Opening qs ≡ Ok read → IsRefused read.recorded refusal
     → (n ≡ k) × (x.at ≡ refusal.at)

@@ -17,7 +17,7 @@ use Rattle.calls_monitor.specs.declared.object.Refusal.TheVariants as refusals
 use Rattle.calls_monitor.specs.Monitors.{IsRefused}
 use Rattle.calls_text.specs.Recordings.{RecordingModel, IsRecording}
 use Rattle.calls_text.specs.Reading.{Opening, Running}
-use Rattle.calls_text.specs.Outcomes.{OneRead, goes, lines_of_text}
+use Rattle.calls_text.specs.Outcomes.{OneRead, parse_from, lines_of_text}
 use Rattle.calls_text.specs.Following.{IsReached}
 use Rattle.calls_report.specs.declared.certificate.Certificate.{Certificate}
 use Rattle.calls_report.specs.declared.certificate.Certificate.TheVariants as shows
@@ -25,8 +25,8 @@ use Rattle.calls_report.specs.declared.status.Status.{Status}
 use Rattle.calls_report.specs.declared.status.Status.TheVariants.{Done, Refused, Usage}
 use Rattle.calls_report.specs.declared.status.Status.TheVariants.{InputOutput, Memory, NotDecided}
 use Rattle.calls_report.specs.Certificates.{start_at}
-use Rattle.calls_report.specs.Notes.{line_words, scene_at, refusal_note}
-use Rattle.calls_report.specs.Checks.{Outlets, SaysUnread}
+use Rattle.calls_report.specs.Notes.{line_words, site_at, refusal_note}
+use Rattle.calls_report.specs.Checks.{Outputs, SaysUnread}
 use Rattle.calls_watch.specs.Loads.{summary_of}
 
 -- CALLS OF CELLS
@@ -62,7 +62,7 @@ pub record IsGood (r : RecordingModel) : Type 0 where
 abbrev pub AreGood : ℕ → List (List ℕ) → List OneRead → ℕ → List (List ℕ) → Type 0
 AreGood n ps [] m qs = (n ≡ m) × (ps ≡ qs)
 AreGood n ps (r ∷ rs) m qs =
-    (goes n Opening ps ≡ Ok r) × IsGood r.recorded × AreGood r.number r.rest rs m qs
+    (parse_from n Opening ps ≡ Ok r) × IsGood r.recorded × AreGood r.number r.rest rs m qs
 
 -- WHAT STOPS IT
 
@@ -81,7 +81,7 @@ line_of_first m at = m - 1 - at
 
 abbrev pub refused_note : ℕ → RecordingModel → Event → Report → List ℕ
 refused_note m r x report =
-    refusal_note (scene_at r report.object (line_of_first m x.at) x.at)
+    refusal_note (site_at r report.object (line_of_first m x.at) x.at)
     (shown_by r report.object report.refusal)
 
 -- from line n on the lines lead to a history whose last event is x, and whose events before it have
@@ -132,7 +132,7 @@ SaysUnwatched n ps old new =
 -- ALL OF IT
 
 -- how `watch` ended after these histories, at the parts from line m on
-abbrev pub Ends : Status → List OneRead → ℕ → List (List ℕ) → Outlets → Outlets → Type 0
+abbrev pub Ends : Status → List OneRead → ℕ → List (List ℕ) → Outputs → Outputs → Type 0
 Ends Done reads m qs old new =
     (0 < length reads) × (qs ≡ [] ∷ []) × Appends old.out new.out (summary_of reads)
     × (new.notes ≡ old.notes)
@@ -149,7 +149,7 @@ Ends InputOutput reads m qs old new =
 Ends Usage reads m qs old new = ⊥
 
 -- the text was watched so: its first histories are linearizable, and then it ended with this status
-pub record IsWatchedTo (status : Status) (text : List ℕ) (old new : Outlets) : Type 0 where
+pub record IsWatchedTo (status : Status) (text : List ℕ) (old new : Outputs) : Type 0 where
   pub reads : List OneRead
   pub number : ℕ
   pub rest : List (List ℕ)
@@ -157,10 +157,10 @@ pub record IsWatchedTo (status : Status) (text : List ℕ) (old new : Outlets) :
   pub ends : Ends status reads number rest old new
 
 -- a read failed
-abbrev pub IsCutShort : Status → Outlets → Outlets → Type 0
-IsCutShort InputOutput old new =
+abbrev pub IsReadFault : Status → Outputs → Outputs → Type 0
+IsReadFault InputOutput old new =
     (new.out ≡ old.out) × Puts old.notes new.notes (codes "read fault\n")
-IsCutShort _ old new = ⊥
+IsReadFault _ old new = ⊥
 
-abbrev pub Watches : List ℕ → Status → Outlets → Outlets → Type 0
-Watches bytes status old new = IsWatchedTo status bytes old new ⊎ IsCutShort status old new
+abbrev pub Watches : List ℕ → Status → Outputs → Outputs → Type 0
+Watches bytes status old new = IsWatchedTo status bytes old new ⊎ IsReadFault status old new

@@ -8,7 +8,7 @@ ghost use Rattle.calls_text.specs.Reading.{Running};
 ghost use Rattle.calls_text.specs.Recordings.{RecordingModel};
 ghost use Rattle.calls_text.specs.Following.{stage_with_events, HasEvents};
 ghost use Rattle.calls_watch.specs.Watches.{invokes_cells};
-ghost use Rattle.calls_watch.specs.kept.Watching.{IsWatching, GoesOn, EndsAs, Stops, Opens, IsJudged};
+ghost use Rattle.calls_watch.specs.kept.Watching.{IsWatching, StateAfterLine, EndsAs, Stops, Opens, IsJudged};
 ghost use Rattle.calls_watch.specs.kept.Watching.{Begins, IsEventJudged, IsBegunAgain, GoesOnBy};
 ghost use Rattle.calls_watch.specs.kept.Watching.{MayEnd, GoesOnAt};
 
@@ -132,7 +132,8 @@ impl Watcher {
     /// Judges the next line, given without its LF. After an error no further line may be judged.
     pub fn line(&mut self, alloc: Global, line: &[u8]) -> Result<(), Stop>
         ensures { (ps qs : List (List ℕ)) (q : List ℕ)
-            → IsWatching ps (line.now ∷ q ∷ qs) self.old → GoesOn result ps (q ∷ qs) self.new }
+            → IsWatching ps (line.now ∷ q ∷ qs) self.old
+            → StateAfterLine result ps (q ∷ qs) self.new }
     {
         let followed = match self.follower.line(alloc, self.number, line) {
             Ok(followed) => followed,

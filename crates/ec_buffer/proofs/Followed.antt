@@ -7,15 +7,15 @@ use Rattle.ec_core.specs.Counts.{total, issued}
 use Rattle.ec_core.specs.Acceptance.{IsAccepted}
 use Rattle.ec_core.specs.Following.{CompletedCall, block, Follow}
 use Rattle.ec_core.proofs.shared.Following.{op_at, step_told, step_due, off_block}
-use Rattle.ec_core.proofs.shared.Queue.{Seat, IsQueue}
+use Rattle.ec_core.proofs.shared.Queue.{QueuePosition, IsQueue}
 use Rattle.ec_buffer.specs.Shapes.{Buffer}
 use Rattle.ec_buffer.specs.Follows.{is_on, produce_rule, consume_rule, role_rules}
 use Rattle.ec_buffer.proofs.Moves.{puts, gets}
 use Rattle.ec_buffer.specs.Shapes.{IsShape}
 use Rattle.ec_buffer.proofs.Handing.{seat_of, nobody, put_seat, get_seat, IsHanding, IsStep, quiet_off, quiet_same}
-use Rattle.ec_buffer.proofs.Moving.{produce_step, consume_step, seat_kept, get_seat_kept}
+use Rattle.ec_buffer.proofs.Moving.{produce_step, consume_step, position_kept, get_seat_kept}
 
-empty_queue : (seat : ℕ → Seat) → ((w : ℕ) → (seat w).stage ≡ 0) → IsQueue seat 0 0 0
+empty_queue : (seat : ℕ → QueuePosition) → ((w : ℕ) → (seat w).stage ≡ 0) → IsQueue seat 0 0 0
 empty_queue seat h = record {
   some = omega arith;
   few = omega arith;
@@ -33,11 +33,11 @@ if_nobody false = (refl, refl)
 
 no_put : (b : Buffer) (produces : ℕ → Bool) (w : ℕ) → (put_seat b produces [] w).stage ≡ 0
 unfolding block
-no_put b produces w = ap (λ (z : Seat). z.stage) (if_nobody (produces w)).0
+no_put b produces w = ap (λ (z : QueuePosition). z.stage) (if_nobody (produces w)).0
 
 no_get : (b : Buffer) (produces : ℕ → Bool) (w : ℕ) → (get_seat b produces [] w).stage ≡ 0
 unfolding block
-no_get b produces w = ap (λ (z : Seat). z.stage) (if_nobody (produces w)).1
+no_get b produces w = ap (λ (z : QueuePosition). z.stage) (if_nobody (produces w)).1
 
 at_first : (b : Buffer) (produces : ℕ → Bool) → IsHanding b produces []
 unfolding total issued puts gets
@@ -63,7 +63,7 @@ step b produces t x past shape d acc f before =
     elim (step_due t (role_rules b produces) x past d acc f) [
       | inl off ↦
           (let no : is_on b op ≡ false = on_of b (produces w) (block (role_rules b produces w) w past) op false off in
-          quiet_same b produces t x past op s refl (quiet_off b op no) (seat_kept b produces x past (off_block (produce_rule b) x past no)) (get_seat_kept b produces x past (off_block (consume_rule b) x past no)))
+          quiet_same b produces t x past op s refl (quiet_off b op no) (position_kept b produces x past (off_block (produce_rule b) x past no)) (get_seat_kept b produces x past (off_block (consume_rule b) x past no)))
       | inr k ↦
           (let on : is_on b op ≡ true = on_of b (produces w) (block (role_rules b produces w) w past) op true k.0 in
           elim (produces w) as (λ p. produces w ≡ p → (cond p (produce_rule b) (consume_rule b)).fits (block (cond p (produce_rule b) (consume_rule b)) w past) op ≡ true → IsHanding b produces (x ∷ past)) [

@@ -12,7 +12,7 @@ use Rattle.ec_core.specs.Acceptance.{IsAccepted}
 use Rattle.ec_core.specs.Following.{CompletedCall, block}
 use Rattle.ec_core.specs.CallLists.{reply_number}
 use Rattle.ec_core.proofs.shared.Following.{other_block, same_test, op_at, step_opened, total_step, issued_step}
-use Rattle.ec_core.proofs.shared.Queue.{Seat, IsQueue, IsElsewhereSame, each, still}
+use Rattle.ec_core.proofs.shared.Queue.{QueuePosition, IsQueue, IsElsewhereSame, each, still}
 use Rattle.ec_buffer.specs.Shapes.{Buffer}
 use Rattle.ec_buffer.specs.CallLists.{drawn_ticket}
 use Rattle.ec_buffer.specs.Follows.{is_cell, is_on, produce_rule, consume_rule, role_rules}
@@ -23,16 +23,16 @@ use Rattle.ec_buffer.proofs.Stock.{IsStocked, stock_same}
 
 -- POSITIONS IN THE QUEUES
 
-abbrev pub seat_of : List CompletedCall → Seat
+abbrev pub seat_of : List CompletedCall → QueuePosition
 seat_of calls = record { stage = length calls; turn = drawn_ticket calls }
 
-abbrev pub nobody : Seat
+abbrev pub nobody : QueuePosition
 nobody = record { stage = 0; turn = 0 }
 
-abbrev pub put_seat : Buffer → (ℕ → Bool) → List Entry → ℕ → Seat
+abbrev pub put_seat : Buffer → (ℕ → Bool) → List Entry → ℕ → QueuePosition
 put_seat b produces past w = cond (produces w) (seat_of (block (produce_rule b) w past)) nobody
 
-abbrev pub get_seat : Buffer → (ℕ → Bool) → List Entry → ℕ → Seat
+abbrev pub get_seat : Buffer → (ℕ → Bool) → List Entry → ℕ → QueuePosition
 get_seat b produces past w = cond (produces w) nobody (seat_of (block (consume_rule b) w past))
 
 pub put_elsewhere : (b : Buffer) (produces : ℕ → Bool) (x : Entry) (past : List Entry) → IsElsewhereSame x.worker (put_seat b produces past) (put_seat b produces (x ∷ past))
@@ -42,18 +42,18 @@ pub get_elsewhere : (b : Buffer) (produces : ℕ → Bool) (x : Entry) (past : L
 get_elsewhere b produces x past v h = ap (λ calls. cond (produces v) nobody (seat_of calls)) (other_block (consume_rule b) v x past h)
 
 -- a worker that has waited for the other count: its turn and one more is at most a limit
-abbrev pub IsReady : (ℕ → Seat) → ℕ → Type 0
+abbrev pub IsReady : (ℕ → QueuePosition) → ℕ → Type 0
 IsReady seat limit = (w : ℕ) → (seat w).stage ≡ 3 → (seat w).turn + 1 ≤ limit
 
-pub ready_next : (seat next : ℕ → Seat) (limit more w : ℕ) → IsElsewhereSame w seat next → IsReady seat limit → limit ≤ more
+pub ready_next : (seat next : ℕ → QueuePosition) (limit more w : ℕ) → IsElsewhereSame w seat next → IsReady seat limit → limit ≤ more
     → ((next w).stage ≡ 3 → (next w).turn + 1 ≤ more) → IsReady next more
 ready_next seat next limit more w other h le own =
     each (λ v s. s.stage ≡ 3 → s.turn + 1 ≤ more) seat next w other own (λ v k a. (let below : (seat v).turn + 1 ≤ limit = h v a in omega arith))
 
-ready_still : (seat next : ℕ → Seat) (limit more w : ℕ) → IsElsewhereSame w seat next → next w ≡ seat w → IsReady seat limit → limit ≤ more → IsReady next more
+ready_still : (seat next : ℕ → QueuePosition) (limit more w : ℕ) → IsElsewhereSame w seat next → next w ≡ seat w → IsReady seat limit → limit ≤ more → IsReady next more
 ready_still seat next limit more w other own h le =
     ready_next seat next limit more w other h le
-    (let P : Seat → Type 0 = λ s. s.stage ≡ 3 → s.turn + 1 ≤ more in subst P (sym own) (λ a. (let below : (seat w).turn + 1 ≤ limit = h w a in omega arith)))
+    (let P : QueuePosition → Type 0 = λ s. s.stage ≡ 3 → s.turn + 1 ≤ more in subst P (sym own) (λ a. (let below : (seat w).turn + 1 ≤ limit = h w a in omega arith)))
 
 -- WHAT IS TRUE OF A BUFFER
 
@@ -101,7 +101,7 @@ counted b t x past op a c d e f g acc is ea ec ed ee ef eg = record {
   gets_one = ap (λ v. cond v 1 0 + gets b past) (get_on_op b t x past acc ∙ ap (is_get_on b) is ∙ eg) ∙ plus_is g (gets b past);
 }
 
-moved_queue : (seat : ℕ → Seat) (drawn gone made drawn' gone' made' : ℕ) → drawn' ≡ drawn → gone' ≡ gone → made' ≡ made → IsQueue seat drawn gone made → IsQueue seat drawn' gone' made'
+moved_queue : (seat : ℕ → QueuePosition) (drawn gone made drawn' gone' made' : ℕ) → drawn' ≡ drawn → gone' ≡ gone → made' ≡ made → IsQueue seat drawn gone made → IsQueue seat drawn' gone' made'
 moved_queue seat drawn gone made drawn' gone' made' ed eg em q =
     let P : ℕ → Type 0 = λ n. IsQueue seat n gone' made' in
     let Q : ℕ → Type 0 = λ n. IsQueue seat drawn n made' in

@@ -14,7 +14,7 @@ use Rattle.ec_core.specs.Calls.{CallSoFar, under_way}
 use Rattle.ec_core.specs.CallLists.{reply_number}
 use Rattle.ec_core.specs.Counts.{past_at, cell_value}
 use Rattle.ec_core.specs.Following.{block, opening_act}
-use Rattle.ec_core.proofs.shared.Following.{IsTold, step_told}
+use Rattle.ec_core.proofs.shared.Following.{IsReplyTo, step_told}
 use Rattle.ec_core.proofs.shared.Moments.{past_next, past_end, moment_before, accepted_of}
 use Rattle.ec_core.proofs.shared.Breaks.{follow_of}
 use Rattle.ec_buffer.specs.Shapes.{Buffer}
@@ -86,7 +86,7 @@ entry_at t b h k x f at = record {
   followed = subst (FollowsBuffer t b) (past_next h k x at) (follow_of (buffer_rules t b) h (past_at (suc k) h) f.followed (moment_before h (suc k)));
 }
 
-told_get : (b : Buffer) (t : Tables) (past : List Entry) (act : Act) (o : Option CallSoFar) (reply : Reply) → IsTold t past (opening_act act o) reply → is_get_on b act ≡ true → reply ≡ Number (reply_number reply)
+told_get : (b : Buffer) (t : Tables) (past : List Entry) (act : Act) (o : Option CallSoFar) (reply : Reply) → IsReplyTo t past (opening_act act o) reply → is_get_on b act ≡ true → reply ≡ Number (reply_number reply)
 told_get b t past (Get y) o reply h on = h ∙ ap Number (sym (ap reply_number h))
 told_get b t past (Put y v) o reply h on = cc
 told_get b t past (Advance e) o reply h on = cc
@@ -215,7 +215,7 @@ finds t b h k n x f at get turn =
     let e = entry_at t b h k x f at in
     let next = get_next t b h k x f at get in
     let held = (handing b (may_take t b.put_seq) t past f.shape f.declared e.accepted.1 e.followed.1).stock.held (gets b past) next.put in
-    let P : Act → Type 0 = λ a. IsTold t past a x.reply in
+    let P : Act → Type 0 = λ a. IsReplyTo t past a x.reply in
     let returned : x.reply ≡ Number (cell_value (b.first_cell + gets b past % b.cells) past) = subst P next.op (step_told t x past f.declared e.accepted) in
     let represents : standing (b.first_cell + gets b past % b.cells) past ≡ held.0 = held.2 (omega arith) in
     let item : held.0.item ≡ reply_number x.reply = ap (λ (m : Moved). m.item) (sym represents) ∙ standing_item (b.first_cell + gets b past % b.cells) past ∙ sym (ap reply_number returned) in

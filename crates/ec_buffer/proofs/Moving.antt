@@ -12,8 +12,8 @@ use Rattle.ec_core.specs.Counts.{total, issued, cell_value, put_in}
 use Rattle.ec_core.specs.Calls.{is_pending}
 use Rattle.ec_core.specs.Following.{CompletedCall, block}
 use Rattle.ec_core.specs.CallLists.{is_due, without_value, reply_number}
-use Rattle.ec_core.proofs.shared.Following.{IsTold, op_at, due_is, after_told, after_pending}
-use Rattle.ec_core.proofs.shared.Queue.{Seat, draw, enter, make, leave, turn_is}
+use Rattle.ec_core.proofs.shared.Following.{IsReplyTo, op_at, due_is, after_told, after_pending}
+use Rattle.ec_core.proofs.shared.Queue.{QueuePosition, draw, enter, make, leave, turn_is}
 use Rattle.ec_buffer.specs.Shapes.{Buffer}
 use Rattle.ec_buffer.specs.CallLists.{produce_call, consume_call, drawn_ticket}
 use Rattle.ec_buffer.specs.Follows.{is_on, produce_rule, consume_rule, role_rules}
@@ -27,8 +27,8 @@ use Rattle.ec_buffer.proofs.Stock.{stock_put, stock_get}
 turned : (a b : ℕ) → (a == b) ≡ false → (b == a) ≡ false
 turned a b h = (let other : a ≢ b = eqb-false a b h in ne_eqb b a (λ e. other (sym e)))
 
-pub seat_kept : (b : Buffer) (produces : ℕ → Bool) (x : Entry) (past : List Entry) → block (produce_rule b) x.worker (x ∷ past) ≡ block (produce_rule b) x.worker past → put_seat b produces (x ∷ past) x.worker ≡ put_seat b produces past x.worker
-seat_kept b produces x past e = ap (λ calls. cond (produces x.worker) (seat_of calls) nobody) e
+pub position_kept : (b : Buffer) (produces : ℕ → Bool) (x : Entry) (past : List Entry) → block (produce_rule b) x.worker (x ∷ past) ≡ block (produce_rule b) x.worker past → put_seat b produces (x ∷ past) x.worker ≡ put_seat b produces past x.worker
+position_kept b produces x past e = ap (λ calls. cond (produces x.worker) (seat_of calls) nobody) e
 
 pub get_seat_kept : (b : Buffer) (produces : ℕ → Bool) (x : Entry) (past : List Entry) → block (consume_rule b) x.worker (x ∷ past) ≡ block (consume_rule b) x.worker past → get_seat b produces (x ∷ past) x.worker ≡ get_seat b produces past x.worker
 get_seat_kept b produces x past e = ap (λ calls. cond (produces x.worker) nobody (seat_of calls)) e
@@ -39,15 +39,15 @@ await_cases : (b : Buffer) (produces : ℕ → Bool) (t : Tables) (x : Entry) (p
     → ((is_pending x.reply ≡ false) × (v ≤ total e past) → IsHanding b produces (x ∷ past)) → IsHanding b produces (x ∷ past)
 await_cases b produces t x past e v s is (inl pending) go =
     quiet_same b produces t x past (Await e v) s is (quiet_await b e v)
-    (seat_kept b produces x past (after_pending (produce_rule b) x past pending)) (get_seat_kept b produces x past (after_pending (consume_rule b) x past pending))
+    (position_kept b produces x past (after_pending (produce_rule b) x past pending)) (get_seat_kept b produces x past (after_pending (consume_rule b) x past pending))
 await_cases b produces t x past e v s is (inr k) go = (let low : v ≤ k.0 = k.1 in let high : k.0 ≤ total e past = k.2 in go (ap is_pending k.3, omega arith))
 
 put_draw : (b : Buffer) (produces : ℕ → Bool) (t : Tables) (x : Entry) (past : List Entry) (c : CompletedCall) → IsStep b produces t x past → produces x.worker ≡ true
     → op_at x past ≡ Ticket b.put_seq → block (produce_rule b) x.worker (x ∷ past) ≡ c ∷ [] → reply_number c.reply ≡ issued b.put_seq past → IsHanding b produces (x ∷ past)
 put_draw b produces t x past c s role is after turn =
     let seat : put_seat b produces (x ∷ past) x.worker ≡ seat_of (c ∷ []) = put_seat_is b produces (x ∷ past) x.worker (c ∷ []) role after in
-    let stage : (put_seat b produces (x ∷ past) x.worker).stage ≡ 1 = ap (λ (z : Seat). z.stage) seat in
-    let at : (put_seat b produces (x ∷ past) x.worker).turn ≡ issued b.put_seq past = ap (λ (z : Seat). z.turn) seat ∙ turn in
+    let stage : (put_seat b produces (x ∷ past) x.worker).stage ≡ 1 = ap (λ (z : QueuePosition). z.stage) seat in
+    let at : (put_seat b produces (x ∷ past) x.worker).turn ≡ issued b.put_seq past = ap (λ (z : QueuePosition). z.turn) seat ∙ turn in
     let idle : get_seat b produces (x ∷ past) x.worker ≡ get_seat b produces past x.worker = no_get_seat b produces (x ∷ past) x.worker role ∙ sym (no_get_seat b produces past x.worker role) in
     let n : IsCounted b x past true false false false false false = counted b t x past (Ticket b.put_seq) true false false false false false s.accepted is (eq-eqb b.put_seq b.put_seq refl) refl refl s.shape.sequencers refl refl in
     built b produces x past true false false false false false n
@@ -62,10 +62,11 @@ put_enter : (b : Buffer) (produces : ℕ → Bool) (t : Tables) (x : Entry) (pas
 put_enter b produces t x past c d v s role is at after reached =
     let seat : put_seat b produces past x.worker ≡ seat_of (c ∷ []) = put_seat_is b produces past x.worker (c ∷ []) role at in
     let next : put_seat b produces (x ∷ past) x.worker ≡ seat_of (c ∷ d ∷ []) = put_seat_is b produces (x ∷ past) x.worker (c ∷ d ∷ []) role after in
-    let stage : (put_seat b produces past x.worker).stage ≡ 1 = ap (λ (z : Seat). z.stage) seat in
-    let turn : (put_seat b produces past x.worker).turn ≡ reply_number c.reply = ap (λ (z : Seat). z.turn) seat in
-    let stage' : (put_seat b produces (x ∷ past) x.worker).stage ≡ 2 = ap (λ (z : Seat). z.stage) next in
-    let turn' : (put_seat b produces (x ∷ past) x.worker).turn ≡ reply_number c.reply = ap (λ (z : Seat). z.turn) next in
+    let stage : (put_seat b produces past x.worker).stage ≡ 1 =
+    ap (λ (z : QueuePosition). z.stage) seat in
+    let turn : (put_seat b produces past x.worker).turn ≡ reply_number c.reply = ap (λ (z : QueuePosition). z.turn) seat in
+    let stage' : (put_seat b produces (x ∷ past) x.worker).stage ≡ 2 = ap (λ (z : QueuePosition). z.stage) next in
+    let turn' : (put_seat b produces (x ∷ past) x.worker).turn ≡ reply_number c.reply = ap (λ (z : QueuePosition). z.turn) next in
     let idle : get_seat b produces (x ∷ past) x.worker ≡ get_seat b produces past x.worker = no_get_seat b produces (x ∷ past) x.worker role ∙ sym (no_get_seat b produces past x.worker role) in
     quiet_next b produces t x past (Await b.in_count v) s is (quiet_await b b.in_count v)
     (enter _ _ _ _ _ x.worker s.before.putting (put_elsewhere b produces x past) (omega arith) (omega arith) (omega arith) (omega arith) (turn' ∙ sym turn) (omega arith))
@@ -79,10 +80,11 @@ put_wait : (b : Buffer) (produces : ℕ → Bool) (t : Tables) (x : Entry) (past
 put_wait b produces t x past c d e v s role is at after reached =
     let seat : put_seat b produces past x.worker ≡ seat_of (c ∷ d ∷ []) = put_seat_is b produces past x.worker (c ∷ d ∷ []) role at in
     let next : put_seat b produces (x ∷ past) x.worker ≡ seat_of (c ∷ d ∷ e ∷ []) = put_seat_is b produces (x ∷ past) x.worker (c ∷ d ∷ e ∷ []) role after in
-    let stage : (put_seat b produces past x.worker).stage ≡ 2 = ap (λ (z : Seat). z.stage) seat in
-    let turn : (put_seat b produces past x.worker).turn ≡ reply_number c.reply = ap (λ (z : Seat). z.turn) seat in
-    let stage' : (put_seat b produces (x ∷ past) x.worker).stage ≡ 3 = ap (λ (z : Seat). z.stage) next in
-    let turn' : (put_seat b produces (x ∷ past) x.worker).turn ≡ reply_number c.reply = ap (λ (z : Seat). z.turn) next in
+    let stage : (put_seat b produces past x.worker).stage ≡ 2 =
+    ap (λ (z : QueuePosition). z.stage) seat in
+    let turn : (put_seat b produces past x.worker).turn ≡ reply_number c.reply = ap (λ (z : QueuePosition). z.turn) seat in
+    let stage' : (put_seat b produces (x ∷ past) x.worker).stage ≡ 3 = ap (λ (z : QueuePosition). z.stage) next in
+    let turn' : (put_seat b produces (x ∷ past) x.worker).turn ≡ reply_number c.reply = ap (λ (z : QueuePosition). z.turn) next in
     let inside : (put_seat b produces past x.worker).turn ≤ total b.in_count past = s.before.putting.inside x.worker (omega arith) in
     let idle : get_seat b produces (x ∷ past) x.worker ≡ get_seat b produces past x.worker = no_get_seat b produces (x ∷ past) x.worker role ∙ sym (no_get_seat b produces past x.worker role) in
     quiet_next b produces t x past (Await b.out_count v) s is (quiet_await b b.out_count v)
@@ -124,10 +126,11 @@ put_put : (b : Buffer) (produces : ℕ → Bool) (t : Tables) (x : Entry) (past 
 put_put b produces t x past c d e f v s role is at after =
     let seat : put_seat b produces past x.worker ≡ seat_of (c ∷ d ∷ e ∷ []) = put_seat_is b produces past x.worker (c ∷ d ∷ e ∷ []) role at in
     let next : put_seat b produces (x ∷ past) x.worker ≡ seat_of (c ∷ d ∷ e ∷ f ∷ []) = put_seat_is b produces (x ∷ past) x.worker (c ∷ d ∷ e ∷ f ∷ []) role after in
-    let stage : (put_seat b produces past x.worker).stage ≡ 3 = ap (λ (z : Seat). z.stage) seat in
-    let turn : (put_seat b produces past x.worker).turn ≡ reply_number c.reply = ap (λ (z : Seat). z.turn) seat in
-    let stage' : (put_seat b produces (x ∷ past) x.worker).stage ≡ 4 = ap (λ (z : Seat). z.stage) next in
-    let turn' : (put_seat b produces (x ∷ past) x.worker).turn ≡ reply_number c.reply = ap (λ (z : Seat). z.turn) next in
+    let stage : (put_seat b produces past x.worker).stage ≡ 3 =
+    ap (λ (z : QueuePosition). z.stage) seat in
+    let turn : (put_seat b produces past x.worker).turn ≡ reply_number c.reply = ap (λ (z : QueuePosition). z.turn) seat in
+    let stage' : (put_seat b produces (x ∷ past) x.worker).stage ≡ 4 = ap (λ (z : QueuePosition). z.stage) next in
+    let turn' : (put_seat b produces (x ∷ past) x.worker).turn ≡ reply_number c.reply = ap (λ (z : QueuePosition). z.turn) next in
     let mine = turn_is _ _ _ _ x.worker s.before.putting (omega arith) (omega arith) in
     let made : reply_number c.reply ≡ puts b past = sym turn ∙ mine.0 in
     let ready : (put_seat b produces past x.worker).turn + 1 ≤ total b.out_count past + b.cells = s.before.put_ready x.worker stage in
@@ -165,8 +168,9 @@ put_leave : (b : Buffer) (produces : ℕ → Bool) (t : Tables) (x : Entry) (pas
 put_leave b produces t x past c d e f s role is at after =
     let seat : put_seat b produces past x.worker ≡ seat_of (c ∷ d ∷ e ∷ f ∷ []) = put_seat_is b produces past x.worker (c ∷ d ∷ e ∷ f ∷ []) role at in
     let next : put_seat b produces (x ∷ past) x.worker ≡ seat_of [] = put_seat_is b produces (x ∷ past) x.worker [] role after in
-    let stage : (put_seat b produces past x.worker).stage ≡ 4 = ap (λ (z : Seat). z.stage) seat in
-    let stage' : (put_seat b produces (x ∷ past) x.worker).stage ≡ 0 = ap (λ (z : Seat). z.stage) next in
+    let stage : (put_seat b produces past x.worker).stage ≡ 4 =
+    ap (λ (z : QueuePosition). z.stage) seat in
+    let stage' : (put_seat b produces (x ∷ past) x.worker).stage ≡ 0 = ap (λ (z : QueuePosition). z.stage) next in
     let idle : get_seat b produces (x ∷ past) x.worker ≡ get_seat b produces past x.worker = no_get_seat b produces (x ∷ past) x.worker role ∙ sym (no_get_seat b produces past x.worker role) in
     let n : IsCounted b x past false true false false false false = counted b t x past (Advance b.in_count) false true false false false false s.accepted is refl (eq-eqb b.in_count b.in_count refl) refl refl s.shape.counts refl in
     built b produces x past false true false false false false n
@@ -182,8 +186,8 @@ get_draw : (b : Buffer) (produces : ℕ → Bool) (t : Tables) (x : Entry) (past
     → op_at x past ≡ Ticket b.take_seq → block (consume_rule b) x.worker (x ∷ past) ≡ c ∷ [] → reply_number c.reply ≡ issued b.take_seq past → IsHanding b produces (x ∷ past)
 get_draw b produces t x past c s role is after turn =
     let seat : get_seat b produces (x ∷ past) x.worker ≡ seat_of (c ∷ []) = get_seat_is b produces (x ∷ past) x.worker (c ∷ []) role after in
-    let stage : (get_seat b produces (x ∷ past) x.worker).stage ≡ 1 = ap (λ (z : Seat). z.stage) seat in
-    let at : (get_seat b produces (x ∷ past) x.worker).turn ≡ issued b.take_seq past = ap (λ (z : Seat). z.turn) seat ∙ turn in
+    let stage : (get_seat b produces (x ∷ past) x.worker).stage ≡ 1 = ap (λ (z : QueuePosition). z.stage) seat in
+    let at : (get_seat b produces (x ∷ past) x.worker).turn ≡ issued b.take_seq past = ap (λ (z : QueuePosition). z.turn) seat ∙ turn in
     let idle : put_seat b produces (x ∷ past) x.worker ≡ put_seat b produces past x.worker = no_put_seat b produces (x ∷ past) x.worker role ∙ sym (no_put_seat b produces past x.worker role) in
     let n : IsCounted b x past false false false true false false = counted b t x past (Ticket b.take_seq) false false false true false false s.accepted is (turned b.put_seq b.take_seq s.shape.sequencers) refl refl (eq-eqb b.take_seq b.take_seq refl) refl refl in
     built b produces x past false false false true false false n
@@ -198,10 +202,11 @@ get_enter : (b : Buffer) (produces : ℕ → Bool) (t : Tables) (x : Entry) (pas
 get_enter b produces t x past c d v s role is at after reached =
     let seat : get_seat b produces past x.worker ≡ seat_of (c ∷ []) = get_seat_is b produces past x.worker (c ∷ []) role at in
     let next : get_seat b produces (x ∷ past) x.worker ≡ seat_of (c ∷ d ∷ []) = get_seat_is b produces (x ∷ past) x.worker (c ∷ d ∷ []) role after in
-    let stage : (get_seat b produces past x.worker).stage ≡ 1 = ap (λ (z : Seat). z.stage) seat in
-    let turn : (get_seat b produces past x.worker).turn ≡ reply_number c.reply = ap (λ (z : Seat). z.turn) seat in
-    let stage' : (get_seat b produces (x ∷ past) x.worker).stage ≡ 2 = ap (λ (z : Seat). z.stage) next in
-    let turn' : (get_seat b produces (x ∷ past) x.worker).turn ≡ reply_number c.reply = ap (λ (z : Seat). z.turn) next in
+    let stage : (get_seat b produces past x.worker).stage ≡ 1 =
+    ap (λ (z : QueuePosition). z.stage) seat in
+    let turn : (get_seat b produces past x.worker).turn ≡ reply_number c.reply = ap (λ (z : QueuePosition). z.turn) seat in
+    let stage' : (get_seat b produces (x ∷ past) x.worker).stage ≡ 2 = ap (λ (z : QueuePosition). z.stage) next in
+    let turn' : (get_seat b produces (x ∷ past) x.worker).turn ≡ reply_number c.reply = ap (λ (z : QueuePosition). z.turn) next in
     let idle : put_seat b produces (x ∷ past) x.worker ≡ put_seat b produces past x.worker = no_put_seat b produces (x ∷ past) x.worker role ∙ sym (no_put_seat b produces past x.worker role) in
     quiet_next b produces t x past (Await b.out_count v) s is (quiet_await b b.out_count v)
     (put_still b produces t x past s idle)
@@ -215,10 +220,11 @@ get_wait : (b : Buffer) (produces : ℕ → Bool) (t : Tables) (x : Entry) (past
 get_wait b produces t x past c d e v s role is at after reached =
     let seat : get_seat b produces past x.worker ≡ seat_of (c ∷ d ∷ []) = get_seat_is b produces past x.worker (c ∷ d ∷ []) role at in
     let next : get_seat b produces (x ∷ past) x.worker ≡ seat_of (c ∷ d ∷ e ∷ []) = get_seat_is b produces (x ∷ past) x.worker (c ∷ d ∷ e ∷ []) role after in
-    let stage : (get_seat b produces past x.worker).stage ≡ 2 = ap (λ (z : Seat). z.stage) seat in
-    let turn : (get_seat b produces past x.worker).turn ≡ reply_number c.reply = ap (λ (z : Seat). z.turn) seat in
-    let stage' : (get_seat b produces (x ∷ past) x.worker).stage ≡ 3 = ap (λ (z : Seat). z.stage) next in
-    let turn' : (get_seat b produces (x ∷ past) x.worker).turn ≡ reply_number c.reply = ap (λ (z : Seat). z.turn) next in
+    let stage : (get_seat b produces past x.worker).stage ≡ 2 =
+    ap (λ (z : QueuePosition). z.stage) seat in
+    let turn : (get_seat b produces past x.worker).turn ≡ reply_number c.reply = ap (λ (z : QueuePosition). z.turn) seat in
+    let stage' : (get_seat b produces (x ∷ past) x.worker).stage ≡ 3 = ap (λ (z : QueuePosition). z.stage) next in
+    let turn' : (get_seat b produces (x ∷ past) x.worker).turn ≡ reply_number c.reply = ap (λ (z : QueuePosition). z.turn) next in
     let inside : (get_seat b produces past x.worker).turn ≤ total b.out_count past = s.before.getting.inside x.worker (omega arith) in
     let idle : put_seat b produces (x ∷ past) x.worker ≡ put_seat b produces past x.worker = no_put_seat b produces (x ∷ past) x.worker role ∙ sym (no_put_seat b produces past x.worker role) in
     quiet_next b produces t x past (Await b.in_count v) s is (quiet_await b b.in_count v)
@@ -234,10 +240,11 @@ get_get : (b : Buffer) (produces : ℕ → Bool) (t : Tables) (x : Entry) (past 
 get_get b produces t x past c d e f s role is returned at after =
     let seat : get_seat b produces past x.worker ≡ seat_of (c ∷ d ∷ e ∷ []) = get_seat_is b produces past x.worker (c ∷ d ∷ e ∷ []) role at in
     let next : get_seat b produces (x ∷ past) x.worker ≡ seat_of (c ∷ d ∷ e ∷ f ∷ []) = get_seat_is b produces (x ∷ past) x.worker (c ∷ d ∷ e ∷ f ∷ []) role after in
-    let stage : (get_seat b produces past x.worker).stage ≡ 3 = ap (λ (z : Seat). z.stage) seat in
-    let turn : (get_seat b produces past x.worker).turn ≡ reply_number c.reply = ap (λ (z : Seat). z.turn) seat in
-    let stage' : (get_seat b produces (x ∷ past) x.worker).stage ≡ 4 = ap (λ (z : Seat). z.stage) next in
-    let turn' : (get_seat b produces (x ∷ past) x.worker).turn ≡ reply_number c.reply = ap (λ (z : Seat). z.turn) next in
+    let stage : (get_seat b produces past x.worker).stage ≡ 3 =
+    ap (λ (z : QueuePosition). z.stage) seat in
+    let turn : (get_seat b produces past x.worker).turn ≡ reply_number c.reply = ap (λ (z : QueuePosition). z.turn) seat in
+    let stage' : (get_seat b produces (x ∷ past) x.worker).stage ≡ 4 = ap (λ (z : QueuePosition). z.stage) next in
+    let turn' : (get_seat b produces (x ∷ past) x.worker).turn ≡ reply_number c.reply = ap (λ (z : QueuePosition). z.turn) next in
     let mine = turn_is _ _ _ _ x.worker s.before.getting (omega arith) (omega arith) in
     let given : reply_number c.reply ≡ gets b past = sym turn ∙ mine.0 in
     let ready : (get_seat b produces past x.worker).turn + 1 ≤ total b.in_count past = s.before.get_ready x.worker stage in
@@ -271,8 +278,9 @@ get_leave : (b : Buffer) (produces : ℕ → Bool) (t : Tables) (x : Entry) (pas
 get_leave b produces t x past c d e f s role is at after =
     let seat : get_seat b produces past x.worker ≡ seat_of (c ∷ d ∷ e ∷ f ∷ []) = get_seat_is b produces past x.worker (c ∷ d ∷ e ∷ f ∷ []) role at in
     let next : get_seat b produces (x ∷ past) x.worker ≡ seat_of [] = get_seat_is b produces (x ∷ past) x.worker [] role after in
-    let stage : (get_seat b produces past x.worker).stage ≡ 4 = ap (λ (z : Seat). z.stage) seat in
-    let stage' : (get_seat b produces (x ∷ past) x.worker).stage ≡ 0 = ap (λ (z : Seat). z.stage) next in
+    let stage : (get_seat b produces past x.worker).stage ≡ 4 =
+    ap (λ (z : QueuePosition). z.stage) seat in
+    let stage' : (get_seat b produces (x ∷ past) x.worker).stage ≡ 0 = ap (λ (z : QueuePosition). z.stage) next in
     let idle : put_seat b produces (x ∷ past) x.worker ≡ put_seat b produces past x.worker = no_put_seat b produces (x ∷ past) x.worker role ∙ sym (no_put_seat b produces past x.worker role) in
     let n : IsCounted b x past false false false false true false = counted b t x past (Advance b.out_count) false false false false true false s.accepted is refl (turned b.in_count b.out_count s.shape.counts) refl refl (eq-eqb b.out_count b.out_count refl) refl in
     built b produces x past false false false false true false n
@@ -285,71 +293,71 @@ get_leave b produces t x past c d e f s role is at after =
 -- EACH CALL
 
 pub produce_step : (b : Buffer) (produces : ℕ → Bool) (t : Tables) (x : Entry) (past : List Entry) (calls : List CompletedCall) → IsStep b produces t x past → IsDeclared t → produces x.worker ≡ true
-    → block (produce_rule b) x.worker past ≡ calls → is_on b (op_at x past) ≡ true → is_due (produce_call b 0 calls) (without_value (op_at x past)) ≡ true → IsTold t past (op_at x past) x.reply
+    → block (produce_rule b) x.worker past ≡ calls → is_on b (op_at x past) ≡ true → is_due (produce_call b 0 calls) (without_value (op_at x past)) ≡ true → IsReplyTo t past (op_at x past) x.reply
     → IsHanding b produces (x ∷ past)
 produce_step b produces t x past [] s d role at on due returned =
     let op : op_at x past ≡ Ticket b.put_seq = (due_is (Ticket b.put_seq) (op_at x past) due).1 in
-    let P : Act → Type 0 = λ a. IsTold t past a x.reply in
+    let P : Act → Type 0 = λ a. IsReplyTo t past a x.reply in
     let reply : x.reply ≡ Number (issued b.put_seq past) = subst P op returned in
     put_draw b produces t x past (record { op = Ticket b.put_seq; reply = x.reply }) s role op
     (after_told (produce_rule b) x past [] (Ticket b.put_seq) at op (ap (is_on b) (sym op) ∙ on) (ap is_pending reply)) (ap reply_number reply)
 produce_step b produces t x past (c ∷ []) s d role at on due returned =
     let op : op_at x past ≡ Await b.in_count (reply_number c.reply) = (due_is (Await b.in_count (reply_number c.reply)) (op_at x past) due).1 in
-    let P : Act → Type 0 = λ a. IsTold t past a x.reply in
+    let P : Act → Type 0 = λ a. IsReplyTo t past a x.reply in
     await_cases b produces t x past b.in_count (reply_number c.reply) s op (subst P op returned)
     (λ k. put_enter b produces t x past c (record { op = Await b.in_count (reply_number c.reply); reply = x.reply }) (reply_number c.reply) s role op at
     (after_told (produce_rule b) x past (c ∷ []) (Await b.in_count (reply_number c.reply)) at op (ap (is_on b) (sym op) ∙ on) k.0) k.1)
 produce_step b produces t x past (c ∷ e ∷ []) s d role at on due returned =
     let op : op_at x past ≡ Await b.out_count (reply_number c.reply + 1 - b.cells) = (due_is (Await b.out_count (reply_number c.reply + 1 - b.cells)) (op_at x past) due).1 in
-    let P : Act → Type 0 = λ a. IsTold t past a x.reply in
+    let P : Act → Type 0 = λ a. IsReplyTo t past a x.reply in
     await_cases b produces t x past b.out_count (reply_number c.reply + 1 - b.cells) s op (subst P op returned)
     (λ k. put_wait b produces t x past c e (record { op = Await b.out_count (reply_number c.reply + 1 - b.cells); reply = x.reply }) (reply_number c.reply + 1 - b.cells) s role op at
     (after_told (produce_rule b) x past (c ∷ e ∷ []) (Await b.out_count (reply_number c.reply + 1 - b.cells)) at op (ap (is_on b) (sym op) ∙ on) k.0) k.1)
 produce_step b produces t x past (c ∷ e ∷ f ∷ []) s d role at on due returned =
     let due' = due_is (Put (b.first_cell + reply_number c.reply % b.cells) 0) (op_at x past) due in
     let op : op_at x past ≡ Put (b.first_cell + reply_number c.reply % b.cells) due'.0 = due'.1 in
-    let P : Act → Type 0 = λ a. IsTold t past a x.reply in
+    let P : Act → Type 0 = λ a. IsReplyTo t past a x.reply in
     let reply : x.reply ≡ Done = subst P op returned in
     put_put b produces t x past c e f (record { op = Put (b.first_cell + reply_number c.reply % b.cells) due'.0; reply = x.reply }) due'.0 s role op at
     (after_told (produce_rule b) x past (c ∷ e ∷ f ∷ []) (Put (b.first_cell + reply_number c.reply % b.cells) due'.0) at op (ap (is_on b) (sym op) ∙ on) (ap is_pending reply))
 produce_step b produces t x past (c ∷ e ∷ f ∷ g ∷ []) s d role at on due returned =
     let op : op_at x past ≡ Advance b.in_count = (due_is (Advance b.in_count) (op_at x past) due).1 in
-    let P : Act → Type 0 = λ a. IsTold t past a x.reply in
+    let P : Act → Type 0 = λ a. IsReplyTo t past a x.reply in
     let reply : x.reply ≡ Done = subst P op returned in
     put_leave b produces t x past c e f g s role op at
     (after_told (produce_rule b) x past (c ∷ e ∷ f ∷ g ∷ []) (Advance b.in_count) at op (ap (is_on b) (sym op) ∙ on) (ap is_pending reply))
 produce_step b produces t x past (c ∷ e ∷ f ∷ g ∷ h ∷ rest) s d role at on due returned = cc
 
 pub consume_step : (b : Buffer) (produces : ℕ → Bool) (t : Tables) (x : Entry) (past : List Entry) (calls : List CompletedCall) → IsStep b produces t x past → IsDeclared t → produces x.worker ≡ false
-    → block (consume_rule b) x.worker past ≡ calls → is_on b (op_at x past) ≡ true → is_due (consume_call b calls) (without_value (op_at x past)) ≡ true → IsTold t past (op_at x past) x.reply
+    → block (consume_rule b) x.worker past ≡ calls → is_on b (op_at x past) ≡ true → is_due (consume_call b calls) (without_value (op_at x past)) ≡ true → IsReplyTo t past (op_at x past) x.reply
     → IsHanding b produces (x ∷ past)
 consume_step b produces t x past [] s d role at on due returned =
     let op : op_at x past ≡ Ticket b.take_seq = (due_is (Ticket b.take_seq) (op_at x past) due).1 in
-    let P : Act → Type 0 = λ a. IsTold t past a x.reply in
+    let P : Act → Type 0 = λ a. IsReplyTo t past a x.reply in
     let reply : x.reply ≡ Number (issued b.take_seq past) = subst P op returned in
     get_draw b produces t x past (record { op = Ticket b.take_seq; reply = x.reply }) s role op
     (after_told (consume_rule b) x past [] (Ticket b.take_seq) at op (ap (is_on b) (sym op) ∙ on) (ap is_pending reply)) (ap reply_number reply)
 consume_step b produces t x past (c ∷ []) s d role at on due returned =
     let op : op_at x past ≡ Await b.out_count (reply_number c.reply) = (due_is (Await b.out_count (reply_number c.reply)) (op_at x past) due).1 in
-    let P : Act → Type 0 = λ a. IsTold t past a x.reply in
+    let P : Act → Type 0 = λ a. IsReplyTo t past a x.reply in
     await_cases b produces t x past b.out_count (reply_number c.reply) s op (subst P op returned)
     (λ k. get_enter b produces t x past c (record { op = Await b.out_count (reply_number c.reply); reply = x.reply }) (reply_number c.reply) s role op at
     (after_told (consume_rule b) x past (c ∷ []) (Await b.out_count (reply_number c.reply)) at op (ap (is_on b) (sym op) ∙ on) k.0) k.1)
 consume_step b produces t x past (c ∷ e ∷ []) s d role at on due returned =
     let op : op_at x past ≡ Await b.in_count (reply_number c.reply + 1) = (due_is (Await b.in_count (reply_number c.reply + 1)) (op_at x past) due).1 in
-    let P : Act → Type 0 = λ a. IsTold t past a x.reply in
+    let P : Act → Type 0 = λ a. IsReplyTo t past a x.reply in
     await_cases b produces t x past b.in_count (reply_number c.reply + 1) s op (subst P op returned)
     (λ k. get_wait b produces t x past c e (record { op = Await b.in_count (reply_number c.reply + 1); reply = x.reply }) (reply_number c.reply + 1) s role op at
     (after_told (consume_rule b) x past (c ∷ e ∷ []) (Await b.in_count (reply_number c.reply + 1)) at op (ap (is_on b) (sym op) ∙ on) k.0) k.1)
 consume_step b produces t x past (c ∷ e ∷ f ∷ []) s d role at on due returned =
     let op : op_at x past ≡ Get (b.first_cell + reply_number c.reply % b.cells) = (due_is (Get (b.first_cell + reply_number c.reply % b.cells)) (op_at x past) due).1 in
-    let P : Act → Type 0 = λ a. IsTold t past a x.reply in
+    let P : Act → Type 0 = λ a. IsReplyTo t past a x.reply in
     let reply : x.reply ≡ Number (cell_value (b.first_cell + reply_number c.reply % b.cells) past) = subst P op returned in
     get_get b produces t x past c e f (record { op = Get (b.first_cell + reply_number c.reply % b.cells); reply = x.reply }) s role op reply at
     (after_told (consume_rule b) x past (c ∷ e ∷ f ∷ []) (Get (b.first_cell + reply_number c.reply % b.cells)) at op (ap (is_on b) (sym op) ∙ on) (ap is_pending reply))
 consume_step b produces t x past (c ∷ e ∷ f ∷ g ∷ []) s d role at on due returned =
     let op : op_at x past ≡ Advance b.out_count = (due_is (Advance b.out_count) (op_at x past) due).1 in
-    let P : Act → Type 0 = λ a. IsTold t past a x.reply in
+    let P : Act → Type 0 = λ a. IsReplyTo t past a x.reply in
     let reply : x.reply ≡ Done = subst P op returned in
     get_leave b produces t x past c e f g s role op at
     (after_told (consume_rule b) x past (c ∷ e ∷ f ∷ g ∷ []) (Advance b.out_count) at op (ap (is_on b) (sym op) ∙ on) (ap is_pending reply))

@@ -10,7 +10,7 @@ use Rattle.ec_core.specs.Acceptance.{IsAccepted}
 use Rattle.ec_core.specs.Following.{CompletedCall, block, Follow}
 use Rattle.ec_core.specs.CallLists.{is_due, without_value, reply_number}
 use Rattle.ec_core.proofs.shared.Following.{op_at, step_due, due_is}
-use Rattle.ec_core.proofs.shared.Queue.{Seat, turn_is}
+use Rattle.ec_core.proofs.shared.Queue.{QueuePosition, turn_is}
 use Rattle.ec_buffer.specs.Shapes.{Buffer}
 use Rattle.ec_buffer.specs.CallLists.{produce_call, consume_call, drawn_ticket}
 use Rattle.ec_buffer.specs.Follows.{produce_rule, consume_rule, role_rules}
@@ -78,11 +78,11 @@ next_get b produces t x past shape d acc f get =
             | false ↦ λ role due.
                 (let place = get_place b (block (consume_rule b) w past) op due on_op in
                 let seat : get_seat b produces past w ≡ seat_of (block (consume_rule b) w past) = get_seat_is b produces past w (block (consume_rule b) w past) role refl in
-                let stage : (get_seat b produces past w).stage ≡ 3 = ap (λ (z : Seat). z.stage) seat ∙ place.0 in
+                let stage : (get_seat b produces past w).stage ≡ 3 = ap (λ (z : QueuePosition). z.stage) seat ∙ place.0 in
                 let mine = turn_is _ _ _ _ w now.getting (omega arith) (omega arith) in
                 let ready : (get_seat b produces past w).turn + 1 ≤ total b.in_count past = now.get_ready w stage in
                 let in_some : total b.in_count past ≤ puts b past = now.putting.some in
-                let seated : drawn_ticket (block (consume_rule b) w past) ≡ gets b past = sym (ap (λ (z : Seat). z.turn) seat) ∙ mine.0 in
+                let seated : drawn_ticket (block (consume_rule b) w past) ≡ gets b past = sym (ap (λ (z : QueuePosition). z.turn) seat) ∙ mine.0 in
                 record {
                   turn = ap drawn_ticket (rules_get b produces past w (block (consume_rule b) w past) role refl) ∙ seated;
                   put = omega arith;
@@ -106,9 +106,9 @@ put_turn b produces t x past shape d acc f put =
             | true ↦ λ role due.
                 (let place : length (block (produce_rule b) w past) ≡ 3 = put_place b (block (produce_rule b) w past) op due on_op in
                 let seat : put_seat b produces past w ≡ seat_of (block (produce_rule b) w past) = put_seat_is b produces past w (block (produce_rule b) w past) role refl in
-                let stage : (put_seat b produces past w).stage ≡ 3 = ap (λ (z : Seat). z.stage) seat ∙ place in
+                let stage : (put_seat b produces past w).stage ≡ 3 = ap (λ (z : QueuePosition). z.stage) seat ∙ place in
                 let mine = turn_is _ _ _ _ w (handing b produces t past shape d acc.1 f.1).putting (omega arith) (omega arith) in
-                ap drawn_ticket (rules_put b produces past w (block (produce_rule b) w past) role refl) ∙ sym (ap (λ (z : Seat). z.turn) seat) ∙ mine.0)
+                ap drawn_ticket (rules_put b produces past w (block (produce_rule b) w past) role refl) ∙ sym (ap (λ (z : QueuePosition). z.turn) seat) ∙ mine.0)
             | false ↦ λ role due. absurd (no_put_there b (block (consume_rule b) w past) op due on_op)
           ] refl k.1)
     ]

@@ -8,7 +8,7 @@ use Rattle.ec_core.specs.Calls.{is_pending}
 use Rattle.ec_core.specs.CallLists.{reply_number}
 use Rattle.ec_core.specs.Following.{CompletedCall}
 use Rattle.ec_buffer.specs.CallLists.{drawn_ticket}
-use Rattle.ec_buffer.specs.Keeping.{place_after, turn_after, rest_of}
+use Rattle.ec_buffer.specs.Keeping.{call_count_after, turn_after, rest_of}
 
 -- at first the whole list is left
 pub rest_at_start : (list : ℕ → List Act) (at turn : ℕ) (calls : List CompletedCall) → at ≡ 0 → rest_of list at turn calls ≡ slice_get (list (drawn_ticket calls)) (length calls)
@@ -17,7 +17,7 @@ rest_at_start list at turn calls e =
 
 -- a reply that ends no call leaves what was left
 pub rest_pending : (list : ℕ → List Act) (at turn at' turn' : ℕ) (reply : Reply) (calls : List CompletedCall) → is_pending reply ≡ true
-    → at' ≡ place_after at reply → turn' ≡ turn_after at turn reply → rest_of list at' turn' calls ≡ rest_of list at turn calls
+    → at' ≡ call_count_after at reply → turn' ≡ turn_after at turn reply → rest_of list at' turn' calls ≡ rest_of list at turn calls
 rest_pending list at turn at' turn' reply calls h ea et =
     let a : at' ≡ at = ea ∙ ap (λ (b : Bool). cond b at (at + 1)) h in
     let u : turn' ≡ turn = et ∙ ap (λ (b : Bool). cond b turn (cond (at == 0) (reply_number reply) turn)) h in
@@ -25,7 +25,7 @@ rest_pending list at turn at' turn' reply calls h ea et =
 
 -- a final reply leaves what comes after its call
 pub rest_told : (list : ℕ → List Act) (at turn at' turn' : ℕ) (reply : Reply) (op : Act) (calls : List CompletedCall) → is_pending reply ≡ false
-    → at' ≡ place_after at reply → turn' ≡ turn_after at turn reply → rest_of list at' turn' calls ≡ rest_of list at turn (record { op = op; reply = reply } ∷ calls)
+    → at' ≡ call_count_after at reply → turn' ≡ turn_after at turn reply → rest_of list at' turn' calls ≡ rest_of list at turn (record { op = op; reply = reply } ∷ calls)
 rest_told list at turn at' turn' reply op calls h ea et =
     let a : at' ≡ at + 1 = ea ∙ ap (λ (b : Bool). cond b at (at + 1)) h in
     let u : turn' ≡ cond (at == 0) (reply_number reply) turn = et ∙ ap (λ (b : Bool). cond b turn (cond (at == 0) (reply_number reply) turn)) h in

@@ -7,13 +7,13 @@ use Rattle.ec_count.specs.Tables.{may_take}
 use Rattle.ec_core.specs.declared.act.Act.{Act}
 use Rattle.ec_core.specs.CallLists.{is_due, without_value, rule_of}
 use Rattle.ec_core.specs.Following.{CompletedCall, Rule}
-use Rattle.ec_core.specs.JoinedLists.{ComesNext, IsBeginning, IsWholeList, IsJoined, SpeaksOf, is_whole}
+use Rattle.ec_core.specs.JoinedLists.{ComesNext, IsListPrefix, IsWholeList, IsJoined, SpeaksOf, is_whole}
 use Rattle.ec_core.proofs.shared.Following.{is_act-true, is_act-same}
 use Rattle.ec_core.proofs.shared.JoinedLists.{following_joins}
 use Rattle.ec_buffer.specs.Shapes.{Buffer}
 use Rattle.ec_buffer.specs.CallLists.{produce_list, consume_list, drawn_ticket}
 use Rattle.ec_buffer.specs.Follows.{is_on, produce_rule, consume_rule, buffer_rules}
-use Rattle.ec_buffer.specs.Joined.{IsBegun, IsWhole, IsNext, AreLists, FollowingMeansLists}
+use Rattle.ec_buffer.specs.Joined.{IsActListPrefix, IsWhole, IsNext, AreLists, FollowingMeansLists}
 use Rattle.ec_buffer.proofs.shared.LeftOut.{speaks}
 
 abbrev rule : (Act → Bool) → (ℕ → List Act) → Rule
@@ -49,10 +49,10 @@ turn_kept list (d ∷ calls) zero c l at = sym (l.first (drawn_ticket (d ∷ cal
 turn_kept list (d ∷ calls) (suc k) c l at =
     ap (slice_get (list (drawn_ticket (d ∷ calls)))) (length-take-le (suc k) (d ∷ calls) (let lt = slice_get_within (d ∷ calls) (suc k) c at in omega arith))
 
-begun_of : (on : Act → Bool) (list : ℕ → List Act) (calls : List CompletedCall) → IsList list → IsBeginning (rule on list) calls → IsBegun list calls
+begun_of : (on : Act → Bool) (list : ℕ → List Act) (calls : List CompletedCall) → IsList list → IsListPrefix (rule on list) calls → IsActListPrefix list calls
 begun_of on list calls l h k c at = sym (turn_kept list calls k c l at) ∙ next_of on list (take k calls) c.op (h k c at)
 
-beginning_of : (on : Act → Bool) (list : ℕ → List Act) (calls : List CompletedCall) → IsList list → IsBegun list calls → IsBeginning (rule on list) calls
+beginning_of : (on : Act → Bool) (list : ℕ → List Act) (calls : List CompletedCall) → IsList list → IsActListPrefix list calls → IsListPrefix (rule on list) calls
 beginning_of on list calls l h k c at = comes_of on list (take k calls) c.op (turn_kept list calls k c l at ∙ h k c at)
 
 -- a list that has nothing at an index ends before it

@@ -19,24 +19,24 @@ pub record DeliveryAuditModel : Type 0 where
   pub tracked : TrackerModel
   pub writers : List ℕ
   pub list : List Delivery
-  pub lacks : Bool
+  pub out_of_memory : Bool
 
 -- it is the state after this history so far
-pub record IsDelivering (a : DeliveryAuditModel) (past : List Entry) : Type 0 where
+pub record RepresentsDeliveries (a : DeliveryAuditModel) (past : List Entry) : Type 0 where
   pub tracked : IsTrackerModel (buffer_rules a.setup a.shape) list_progress a.tracked past
   pub writers : a.writers ≡ writers_of a.shape past
-  pub list : a.lacks ≡ false → a.list ≡ collected a.shape past
+  pub list : a.out_of_memory ≡ false → a.list ≡ collected a.shape past
 
 -- of the same buffer, after this history so far
 abbrev pub DeliversOn : DeliveryAuditModel → DeliveryAuditModel → List Entry → Type 0
-DeliversOn start now past = (now.shape ≡ start.shape) × (now.setup ≡ start.setup) × IsDelivering now past
+DeliversOn start now past = (now.shape ≡ start.shape) × (now.setup ≡ start.setup) × RepresentsDeliveries now past
 
 -- the state of the audit after a history so far is also that after one more entry whose call is not
 -- on the buffer
 abbrev pub OthersMayBeLeftOut : Type 0
 OthersMayBeLeftOut = (a : DeliveryAuditModel) (x : Entry) (past : List Entry) → is_on a.shape (opening_act x.act (under_way x.worker past)) ≡ false
-    → IsDelivering a past → IsDelivering a (x ∷ past)
+    → RepresentsDeliveries a past → RepresentsDeliveries a (x ∷ past)
 
 -- and that after a go that ends no call
 abbrev pub GoesMayBeLeftOut : Type 0
-GoesMayBeLeftOut = (a : DeliveryAuditModel) (x : Entry) (past : List Entry) → is_intermediate x ≡ true → IsDelivering a past → IsDelivering a (x ∷ past)
+GoesMayBeLeftOut = (a : DeliveryAuditModel) (x : Entry) (past : List Entry) → is_intermediate x ≡ true → RepresentsDeliveries a past → RepresentsDeliveries a (x ∷ past)

@@ -9,7 +9,7 @@ use Rattle.ec_core.specs.Acceptance.{IsAccepted}
 use Rattle.ec_core.specs.Calls.{under_way}
 use Rattle.ec_core.specs.CallLists.{without_value}
 use Rattle.ec_core.specs.Following.{CompletedCall}
-use Rattle.ec_core.specs.JoinedLists.{finished_by, calls_on, going_on}
+use Rattle.ec_core.specs.JoinedLists.{completed_calls_of, calls_on, going_on}
 use Rattle.ec_buffer.specs.Shapes.{Buffer}
 use Rattle.ec_buffer.specs.CallLists.{produce_list, consume_list, drawn_ticket}
 use Rattle.ec_buffer.specs.Follows.{is_on, FollowsBuffer}
@@ -19,12 +19,12 @@ abbrev pub acts_by_ticket : Tables → Buffer → ℕ → ℕ → List Act
 acts_by_ticket t b w = if may_take t b.put_seq w then produce_list b 0 else consume_list b
 
 -- each call is the one at its index in the list, for the ticket that the first one drew
-abbrev pub IsBegun : (ℕ → List Act) → List CompletedCall → Type 0
-IsBegun list calls = (k : ℕ) (c : CompletedCall) → slice_get calls k ≡ Some c → slice_get (list (drawn_ticket calls)) k ≡ Some (without_value c.op)
+abbrev pub IsActListPrefix : (ℕ → List Act) → List CompletedCall → Type 0
+IsActListPrefix list calls = (k : ℕ) (c : CompletedCall) → slice_get calls k ≡ Some c → slice_get (list (drawn_ticket calls)) k ≡ Some (without_value c.op)
 
 -- the calls are the whole list
 pub record IsWhole (list : ℕ → List Act) (calls : List CompletedCall) : Type 0 where
-  pub each : IsBegun list calls
+  pub each : IsActListPrefix list calls
   pub all : length calls ≡ length (list (drawn_ticket calls))
 
 -- the act begins the call that the list has next
@@ -40,7 +40,7 @@ pub record AreLists (list : ℕ
   pub last : List CompletedCall
   pub order : calls ≡ flat_map (λ l. l) lists ++ last
   pub whole : All (IsWhole list) lists
-  pub begun : IsBegun list last
+  pub begun : IsActListPrefix list last
   pub next : IfSome going (IsNext list last)
 
 -- an accepted history follows a buffer exactly if each worker's calls on it are its lists joined
@@ -48,4 +48,4 @@ pub record AreLists (list : ℕ
 abbrev pub FollowingMeansLists : Type 0
 FollowingMeansLists = (t : Tables) (b : Buffer) (h : List Entry) → IsDeclared t → IsAccepted t (reverse h)
     → FollowsBuffer t b (reverse h)
-    ↔ ((w : ℕ) → AreLists (acts_by_ticket t b w) (calls_on (is_on b) (finished_by w (reverse h))) (going_on (is_on b) (under_way w (reverse h))))
+    ↔ ((w : ℕ) → AreLists (acts_by_ticket t b w) (calls_on (is_on b) (completed_calls_of w (reverse h))) (going_on (is_on b) (under_way w (reverse h))))

@@ -15,8 +15,8 @@ abbrev pub list_progress : List CompletedCall → ListProgress
 list_progress calls = record { at = length calls; first = drawn_ticket calls; second = 0 }
 
 -- how many calls are completed after a reply
-abbrev pub place_after : ℕ → Reply → ℕ
-place_after at reply = if is_pending reply then at else at + 1
+abbrev pub call_count_after : ℕ → Reply → ℕ
+call_count_after at reply = if is_pending reply then at else at + 1
 
 -- the ticket after a reply: the first completed call draws it
 abbrev pub turn_after : ℕ → ℕ → Reply → ℕ

@@ -3,7 +3,7 @@ ghost use Rattle.std.specs.Prelude.{◌≡◌, ◌<◌, false, List, [], length,
 ghost use Rattle.ec_core.specs.Audits.{IsAuditFault};
 ghost use Rattle.ec_core.specs.Ending.{EndsAt};
 ghost use Rattle.ec_core.specs.declared.act.Entry.{Entry};
-ghost use Rattle.ec_buffer.specs.Auditing.{IsDelivering};
+ghost use Rattle.ec_buffer.specs.Auditing.{RepresentsDeliveries};
 ghost use Rattle.ec_buffer.specs.Collecting.{cell_index, put_place, get_place, writers_after, list_after};
 ghost use Rattle.ec_buffer.specs.Follows.{FollowsBuffer, buffer_rules};
 ghost use Rattle.ec_buffer.specs.Items.{AreDeliveries};
@@ -86,17 +86,17 @@ fn add_get(
 
 /// Adds the delivery of a get, unless an allocation has failed before. Returns whether one has
 /// failed.
-fn lacks_after(
-    lacks: bool,
+fn add_fails(
+    out_of_memory: bool,
     shape: &BufferShape,
     entry: &Entry,
     writers: &[WorkerId; 256],
     list: &mut Vec<Delivery>,
 ) -> bool
-    ensures before { result ≡ false → lacks ≡ false }
+    ensures before { result ≡ false → out_of_memory ≡ false }
     ensures added { result ≡ false → list.new.items ≡ list_after (get_place shape.now entry.now.act) entry.now writers.now list.old.items }
 {
-    lacks || add_get(shape, entry, writers, list).is_err()
+    out_of_memory || add_get(shape, entry, writers, list).is_err()
 }
 
 /// The audit of a buffer in a pass over a run. An entry whose call is not on the buffer may be left
@@ -107,7 +107,7 @@ pub struct DeliveryAudit<'a> {
     tracker: Tracker,
     writers: [WorkerId; 256],
     list: Vec<Delivery>,
-    lacks: bool,
+    out_of_memory: bool,
 }
 
 impl<'a> Model for DeliveryAudit<'a> {
@@ -115,7 +115,7 @@ impl<'a> Model for DeliveryAudit<'a> {
 
     ghost Value = { DeliveryAuditModel };
 
-    ghost view = { λ s. record { shape = s.lists.shape.now; setup = s.lists.setup.now; tracked = s.tracker; writers = s.writers; list = s.list.items; lacks = s.lacks } };
+    ghost view = { λ s. record { shape = s.lists.shape.now; setup = s.lists.setup.now; tracked = s.tracker; writers = s.writers; list = s.list.items; out_of_memory = s.out_of_memory } };
 }
 
 impl<'a> Audit for DeliveryAudit<'a> {
@@ -126,7 +126,13 @@ impl<'a> Audit for DeliveryAudit<'a> {
     #[inline(never)]
     fn take(&mut self, place: usize, op: &Act, entry: &Entry) {
         let shape = self.lists.shape;
-        self.lacks = lacks_after(self.lacks, shape, entry, &self.writers, &mut self.list);
+        self.out_of_memory = add_fails(
+            self.out_of_memory,
+            shape,
+            entry,
+            &self.writers,
+            &mut self.list,
+        );
         note_put(shape, entry, &mut self.writers);
         self.tracker.take(&self.lists, place, op, entry);
     }
@@ -137,7 +143,7 @@ impl<'a> DeliveryAudit<'a> {
     pub fn new(alloc: Global, shape: &'a BufferShape, setup: &'a Setup) -> Self
         ensures shape { result.shape ≡ shape.now }
         ensures setup { result.setup ≡ setup.now }
-        ensures first { IsDelivering result [] }
+        ensures first { RepresentsDeliveries result [] }
     {
         let lists = Lists::new(shape, setup);
         let tracker = Tracker::new(&lists);
@@ -146,28 +152,28 @@ impl<'a> DeliveryAudit<'a> {
             tracker,
             writers: no_writers(),
             list: Vec::new(alloc),
-            lacks: false,
+            out_of_memory: false,
         }
     }
 
     /// Returns the deliveries after the entries so far, as `deliveries` lists them.
     pub fn finish(self) -> Result<Vec<Delivery>, AuditFault>
-        ensures followed { (h : List Entry) → EndsAt self.entry.setup (IsDelivering self.entry) h → OnOk result (FollowsBuffer self.entry.setup self.entry.shape (reverse h)) }
-        ensures list { (h : List Entry) → EndsAt self.entry.setup (IsDelivering self.entry) h → IfOk result (λ list. AreDeliveries self.entry.setup self.entry.shape h list.items) }
-        ensures err { (h : List Entry) → EndsAt self.entry.setup (IsDelivering self.entry) h → IfErr result (IsAuditFault (buffer_rules self.entry.setup self.entry.shape) h) }
+        ensures followed { (h : List Entry) → EndsAt self.entry.setup (RepresentsDeliveries self.entry) h → OnOk result (FollowsBuffer self.entry.setup self.entry.shape (reverse h)) }
+        ensures list { (h : List Entry) → EndsAt self.entry.setup (RepresentsDeliveries self.entry) h → IfOk result (λ list. AreDeliveries self.entry.setup self.entry.shape h list.items) }
+        ensures err { (h : List Entry) → EndsAt self.entry.setup (RepresentsDeliveries self.entry) h → IfErr result (IsAuditFault (buffer_rules self.entry.setup self.entry.shape) h) }
     {
         let DeliveryAudit {
             lists,
             tracker,
             list,
-            lacks,
+            out_of_memory,
             ..
         } = self;
         lists.shape.invariant();
         if let Err(fault) = tracker.finding() {
             return Err(fault);
         }
-        if lacks {
+        if out_of_memory {
             return Err(AuditFault::Memory);
         }
         Ok(list)
@@ -176,7 +182,7 @@ impl<'a> DeliveryAudit<'a> {
     /// Returns the deliveries after all entries of a run, as `deliveries` lists them.
     pub fn deliveries(self, run: &Run) -> Result<Vec<Delivery>, AuditFault>
         requires setup { self.setup ≡ run.now.setup }
-        requires represents { IsDelivering self (reverse run.now.entries) }
+        requires represents { RepresentsDeliveries self (reverse run.now.entries) }
         ensures followed { OnOk result (FollowsBuffer run.now.setup self.entry.shape (reverse run.now.entries)) }
         ensures list { IfOk result (λ list. AreDeliveries run.now.setup self.entry.shape run.now.entries list.items) }
         ensures err { IfErr result (IsAuditFault (buffer_rules run.now.setup self.entry.shape) run.now.entries) }

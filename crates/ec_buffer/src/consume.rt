@@ -6,7 +6,7 @@ ghost use Rattle.ec_buffer.specs.CallLists.{consume_call, consume_list};
 ghost use Rattle.ec_buffer.specs.Keeping.{rest_of};
 
 use crate::BufferShape;
-use crate::place::ListPhase;
+use crate::list_phase::ListPhase;
 use ec_core::{Act, Procedure, Reply, VALUE_MAX};
 
 /// The procedure that gets one item from a buffer. It draws a ticket, waits for its turn and for
@@ -14,7 +14,7 @@ use ec_core::{Act, Procedure, Reply, VALUE_MAX};
 #[derive(Clone, Copy, Debug, PartialEq, Eq)]
 pub struct Consume {
     shape: BufferShape,
-    place: ListPhase,
+    phase: ListPhase,
 }
 
 impl Consume {
@@ -25,7 +25,7 @@ impl Consume {
     {
         Consume {
             shape,
-            place: ListPhase::start(),
+            phase: ListPhase::start(),
         }
     }
 }
@@ -46,19 +46,19 @@ pub(crate) fn consume_at(shape: &BufferShape, at: usize, turn: u64) -> Option<Ac
 }
 
 impl Procedure for Consume {
-    ghost rest = { λ s. rest_of (consume_list s.shape) s.place.at s.place.turn };
+    ghost rest = { λ s. rest_of (consume_list s.shape) s.phase.at s.phase.turn };
 
-    ghost is_going = { λ s. s.place.going };
+    ghost is_going = { λ s. s.phase.going };
 
     fn next(&self) -> Option<Act> {
-        if self.place.going {
+        if self.phase.going {
             Some(Act::Go)
         } else {
-            consume_at(&self.shape, self.place.at, self.place.turn)
+            consume_at(&self.shape, self.phase.at, self.phase.turn)
         }
     }
 
     fn take(&mut self, reply: Reply) {
-        self.place.take(reply);
+        self.phase.take(reply);
     }
 }

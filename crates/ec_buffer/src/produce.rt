@@ -6,7 +6,7 @@ ghost use Rattle.ec_buffer.specs.CallLists.{produce_call, produce_list};
 ghost use Rattle.ec_buffer.specs.Keeping.{rest_of};
 
 use crate::BufferShape;
-use crate::place::ListPhase;
+use crate::list_phase::ListPhase;
 use ec_core::{Act, Procedure, Reply, VALUE_MAX};
 
 /// The procedure that puts one item into a buffer. It draws a ticket, waits for its turn and for a
@@ -15,7 +15,7 @@ use ec_core::{Act, Procedure, Reply, VALUE_MAX};
 pub struct Produce {
     shape: BufferShape,
     item: u64,
-    place: ListPhase,
+    phase: ListPhase,
 }
 
 impl Produce {
@@ -28,7 +28,7 @@ impl Produce {
         Produce {
             shape,
             item,
-            place: ListPhase::start(),
+            phase: ListPhase::start(),
         }
     }
 }
@@ -51,19 +51,19 @@ pub(crate) fn produce_at(shape: &BufferShape, item: u64, at: usize, turn: u64) -
 }
 
 impl Procedure for Produce {
-    ghost rest = { λ s. rest_of (produce_list s.shape s.item) s.place.at s.place.turn };
+    ghost rest = { λ s. rest_of (produce_list s.shape s.item) s.phase.at s.phase.turn };
 
-    ghost is_going = { λ s. s.place.going };
+    ghost is_going = { λ s. s.phase.going };
 
     fn next(&self) -> Option<Act> {
-        if self.place.going {
+        if self.phase.going {
             Some(Act::Go)
         } else {
-            produce_at(&self.shape, self.item, self.place.at, self.place.turn)
+            produce_at(&self.shape, self.item, self.phase.at, self.phase.turn)
         }
     }
 
     fn take(&mut self, reply: Reply) {
-        self.place.take(reply);
+        self.phase.take(reply);
     }
 }

@@ -10,7 +10,7 @@ use Rattle.ec_core.specs.declared.act.Entry.{Entry}
 use Rattle.ec_core.specs.Counts.{past_at, component_total, sum_to}
 use Rattle.ec_core.specs.Calls.{CallSoFar, under_way, call_with_act, is_go, is_pending}
 use Rattle.ec_core.specs.CallsInOrder.{IsUnderWay, is_own_at, own_moments}
-use Rattle.ec_core.specs.Rounds.{sum_read, read_of}
+use Rattle.ec_core.specs.Rounds.{sum_read, read_event}
 use Rattle.ec_core.specs.Laws.{CallsUnderWayAreCutInOrder, CallsUnderWayRead, RoundsAddTheirComponents}
 use Rattle.ec_core.proofs.shared.Answering.{IsReading, IsReadingCall, call_reads}
 use Rattle.ec_core.proofs.shared.Moments.{past_next, past_end, beginnings}
@@ -262,7 +262,7 @@ rounds_add t e (suc n) (p ∷ moments) le =
 
 -- WHAT IS PENDING
 
-reads : (t : Tables) (op : Act) → IsReading t op → (e : ℕ) × (read_of op ≡ Some e) × (e < length t.events)
+reads : (t : Tables) (op : Act) → IsReading t op → (e : ℕ) × (read_event op ≡ Some e) × (e < length t.events)
 reads t (Read e) h = (e, refl, h)
 reads t (Await e v) h = (e, refl, h)
 reads t (Advance e) h = absurd h

@@ -9,12 +9,12 @@ use Rattle.ec_core.specs.Counts.{past_at}
 use Rattle.ec_core.specs.Calls.{under_way}
 use Rattle.ec_core.specs.Acceptance.{IsAccepted}
 use Rattle.ec_core.specs.Following.{CompletedCall, Rule, Follow, BreaksAt}
-use Rattle.ec_core.specs.JoinedLists.{finished_by, calls_on, going_on, op_of, SpeaksOf, IsUnbroken, IsJoined, IsSideBySide}
+use Rattle.ec_core.specs.JoinedLists.{completed_calls_of, calls_on, going_on, op_of, SpeaksOf, IsUnbroken, IsJoined, IsSideBySide}
 use Rattle.ec_core.specs.Procedures.{IsWritten, IsRestAfter}
 
 -- each prefix of a history that conforms does so
-abbrev pub FollowingHoldsOfBeginnings : Type 0
-FollowingHoldsOfBeginnings = (rules : ℕ → Rule) (k : ℕ) (h : List Entry) → Follow rules (reverse h) → Follow rules (past_at k h)
+abbrev pub FollowingHoldsOfPrefixes : Type 0
+FollowingHoldsOfPrefixes = (rules : ℕ → Rule) (k : ℕ) (h : List Entry) → Follow rules (reverse h) → Follow rules (past_at k h)
 
 -- a history conforms, or an entry of it is the first violation
 abbrev pub FollowsOrBreaks : Type 0
@@ -32,7 +32,7 @@ abbrev pub FollowingMeansJoinedLists : Type 0
 FollowingMeansJoinedLists = (t : Tables) (rules : ℕ → Rule) (is_on : ℕ → Act → Bool) (h : List Entry) → IsDeclared t → IsAccepted t (reverse h)
     → ((w : ℕ) → SpeaksOf (rules w) (is_on w))
     → Follow rules (reverse h)
-    ↔ ((w : ℕ) → IsJoined (rules w) (calls_on (is_on w) (finished_by w (reverse h))) (going_on (is_on w) (under_way w (reverse h))))
+    ↔ ((w : ℕ) → IsJoined (rules w) (calls_on (is_on w) (completed_calls_of w (reverse h))) (going_on (is_on w) (under_way w (reverse h))))
 
 -- if within a list each call of the worker has to be the list's: a history conforms exactly if all
 -- completed calls of each worker are whole lists with calls on other objects between them, then a
@@ -41,7 +41,7 @@ abbrev pub FollowingMeansUnbrokenLists : Type 0
 FollowingMeansUnbrokenLists = (t : Tables) (rules : ℕ → Rule) (is_on : ℕ → Act → Bool) (h : List Entry) → IsDeclared t → IsAccepted t (reverse h)
     → ((w : ℕ) → IsUnbroken (rules w) (is_on w))
     → Follow rules (reverse h)
-    ↔ ((w : ℕ) → IsSideBySide (rules w) (is_on w) (finished_by w (reverse h)) (op_of (under_way w (reverse h))))
+    ↔ ((w : ℕ) → IsSideBySide (rules w) (is_on w) (completed_calls_of w (reverse h)) (op_of (under_way w (reverse h))))
 
 -- if the calls that were asked for and answered so far are a prefix of the written list, and what
 -- is still asked for is the rest, then this is so after one more call and its reply

@@ -9,13 +9,13 @@ use Rattle.ec_core.specs.Calls.{CallSoFar, under_way, is_pending}
 use Rattle.ec_core.specs.Following.{CompletedCall, Rule, opening_act}
 
 -- the completed calls of w after past, in order: an entry whose reply is not Pending ends one
-unfoldable pub finished_by : ℕ → List Entry → List CompletedCall
-finished_by w [] = []
-finished_by w (x ∷ past) =
+unfoldable pub completed_calls_of : ℕ → List Entry → List CompletedCall
+completed_calls_of w [] = []
+completed_calls_of w (x ∷ past) =
     if x.worker == w && not (is_pending x.reply)
-    then finished_by w past
+    then completed_calls_of w past
     ++ record { op = opening_act x.act (under_way w past); reply = x.reply } ∷ []
-    else finished_by w past
+    else completed_calls_of w past
 
 -- the calls are a whole list
 abbrev pub is_whole : Rule → List CompletedCall → Bool
@@ -28,11 +28,11 @@ pub record ComesNext (r : Rule) (calls : List CompletedCall) (op : Act) : Type 0
   pub goes_on : is_whole r calls ≡ false
 
 -- each call is next after those before it: the calls are a list, or a prefix of one
-abbrev pub IsBeginning : Rule → List CompletedCall → Type 0
-IsBeginning r calls = (k : ℕ) (c : CompletedCall) → slice_get calls k ≡ Some c → ComesNext r (take k calls) c.op
+abbrev pub IsListPrefix : Rule → List CompletedCall → Type 0
+IsListPrefix r calls = (k : ℕ) (c : CompletedCall) → slice_get calls k ≡ Some c → ComesNext r (take k calls) c.op
 
 pub record IsWholeList (r : Rule) (calls : List CompletedCall) : Type 0 where
-  pub each : IsBeginning r calls
+  pub each : IsListPrefix r calls
   pub whole : is_whole r calls ≡ true
 
 -- the calls are whole lists joined end to end, then a prefix of one more, in which a call that is
@@ -42,7 +42,7 @@ pub record IsJoined (r : Rule) (calls : List CompletedCall) (going : Option Act)
   pub last : List CompletedCall
   pub order : calls ≡ flat_map (λ b. b) lists ++ last
   pub whole : All (IsWholeList r) lists
-  pub begun : IsBeginning r last
+  pub begun : IsListPrefix r last
   pub next : IfSome going (ComesNext r last)
 
 -- the rule concerns exactly the calls on a group, at any position in a list
@@ -82,7 +82,7 @@ pub record IsSideBySide (r : Rule) (is_on : Act → Bool) (calls : List Complete
   pub last : List CompletedCall
   pub order : calls ≡ flat_map (λ b. b) pieces ++ last
   pub each : All (λ b. IsOther is_on b ⊎ IsWholeList r b) pieces
-  pub begun : IsBeginning r last
+  pub begun : IsListPrefix r last
   pub next : IfSome going (MayComeNext r is_on last)
 
 -- within a list each call of the worker has to be the list's, and between lists those on the group

@@ -8,7 +8,7 @@ use Rattle.ec_core.specs.Counts.{past_at, hand_of, signallers_at, signaller_at, 
 use Rattle.ec_core.specs.InOrder.{advances_at, IsLastPut, IsUntouched, IsLastHand, IsUnhanded}
 use Rattle.ec_core.specs.Calls.{CallSoFar, call_with, under_way}
 use Rattle.ec_core.specs.CallsInOrder.{IsUnderWay}
-use Rattle.ec_core.specs.Rounds.{component_count, sum_read, round_sum, round_start, read_of, IsPastOfEach, EachIsPastOf}
+use Rattle.ec_core.specs.Rounds.{component_count, sum_read, round_sum, round_start, read_event, IsPastOfEach, EachIsPastOf}
 use Rattle.ec_core.specs.Acceptance.{answer_of, IsAccepted}
 use Rattle.ec_core.specs.Silence.{IsSilent, without}
 use Rattle.ec_core.specs.Values.{TellsAtMost}
@@ -37,7 +37,7 @@ CallsUnderWayAreCutInOrder = (w k : ℕ) (h : List Entry) (call : CallSoFar) →
 -- in an accepted history it is a read or an await of a declared eventcount
 abbrev pub CallsUnderWayRead : Type 0
 CallsUnderWayRead = (t : Tables) (w k : ℕ) (h : List Entry) (call : CallSoFar) → IsAccepted t (reverse h) → under_way w (past_at k h) ≡ Some call
-    → (e : ℕ) × (read_of call.op ≡ Some e) × (e < length t.events)
+    → (e : ℕ) × (read_event call.op ≡ Some e) × (e < length t.events)
 
 -- the sum of components 0 to n - 1, read at the newest n of a call's moments: component c as it was at its own moment,
 -- n - 1 - c before the newest
@@ -70,12 +70,12 @@ RoundsLieBetween = (t : Tables) (e : ℕ) (early late : List Entry) (moments : L
 -- first entry and at most the total at moment k
 abbrev pub RoundsOfCallsLieBetween : Type 0
 RoundsOfCallsLieBetween = (t : Tables) (h : List Entry) (k e : ℕ) (x : Entry) (call : CallSoFar) → IsDeclared t → IsAccepted t (reverse h)
-    → slice_get h k ≡ Some x → call_with x (past_at k h) ≡ Some call → read_of call.op ≡ Some e → length call.moments % component_count t e ≡ 0
+    → slice_get h k ≡ Some x → call_with x (past_at k h) ≡ Some call → read_event call.op ≡ Some e → length call.moments % component_count t e ≡ 0
     → (total e (past_at (round_start t e call.moments) h) ≤ round_sum t e call.moments) × (round_sum t e call.moments ≤ total e (past_at k h))
 
 -- every prefix of an accepted history is accepted
-abbrev pub BeginningsAreAccepted : Type 0
-BeginningsAreAccepted = (t : Tables) (k : ℕ) (h : List Entry) → IsAccepted t (reverse h) → IsAccepted t (past_at k h)
+abbrev pub PrefixesAreAccepted : Type 0
+PrefixesAreAccepted = (t : Tables) (k : ℕ) (h : List Entry) → IsAccepted t (reverse h) → IsAccepted t (past_at k h)
 
 -- a history is accepted exactly if each entry has the answer to its act at its own moment
 abbrev pub AcceptedMeansAnswered : Type 0

@@ -21,10 +21,10 @@ abbrev pub event_or : Act → ℕ
 event_or act = unwrap_or (event_of act) 0
 
 -- the eventcount that a read or an await reads
-abbrev pub read_of : Act → Option ℕ
-read_of (Read e) = Some e
-read_of (Await e v) = Some e
-read_of _ = None
+abbrev pub read_event : Act → Option ℕ
+read_event (Read e) = Some e
+read_event (Await e v) = Some e
+read_event _ = None
 
 -- how many components e has: one for each declared signaller
 abbrev pub component_count : Tables → ℕ → ℕ

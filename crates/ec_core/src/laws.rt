@@ -2,7 +2,7 @@
 ghost use Rattle.std.specs.Prelude.{◌≡◌};
 ghost use Rattle.ec_core.specs.declared.act.TheConstants.{VALUE_MAX};
 ghost use Rattle.ec_core.specs.FallenShort.{IndexZeroIsAnAwait, IndexZeroMeansFallenShort};
-ghost use Rattle.ec_core.specs.Laws.{TotalsCountAdvances, ComponentsCountAdvances, IssuedCountsTickets, CellsHoldTheLastPut, CallsUnderWayAreCutInOrder, CallsUnderWayRead, RoundsAddTheirComponents, ComponentsAddUp, TotalsRiseByOne, CountsKeepTheLimit, RoundsLieBetween, RoundsOfCallsLieBetween, BeginningsAreAccepted, AcceptedMeansAnswered, NumbersAreSmall, RepliesFitTheirActs, SignallersAreDifferent, FixedEventsKeepTheirSignallers, SignallersAreTheLastReceivers, HandsChangeNoNumber, OthersStand};
+ghost use Rattle.ec_core.specs.Laws.{TotalsCountAdvances, ComponentsCountAdvances, IssuedCountsTickets, CellsHoldTheLastPut, CallsUnderWayAreCutInOrder, CallsUnderWayRead, RoundsAddTheirComponents, ComponentsAddUp, TotalsRiseByOne, CountsKeepTheLimit, RoundsLieBetween, RoundsOfCallsLieBetween, PrefixesAreAccepted, AcceptedMeansAnswered, NumbersAreSmall, RepliesFitTheirActs, SignallersAreDifferent, FixedEventsKeepTheirSignallers, SignallersAreTheLastReceivers, HandsChangeNoNumber, OthersStand};
 
 /// States that the total of an eventcount at a moment is the number of its advances before it.
 ///
@@ -87,8 +87,8 @@ pub fn rounds_of_calls_lie_between()
 {}
 
 /// States that every prefix of an accepted history is accepted.
-pub fn beginnings_are_accepted()
-    ensures { BeginningsAreAccepted }
+pub fn prefixes_are_accepted()
+    ensures { PrefixesAreAccepted }
 {}
 
 /// States that a history is accepted exactly if each entry has the answer to its act at its moment.

@@ -1,6 +1,6 @@
 //! Pending calls, as a world stores them.
 ghost use Rattle.std.specs.Prelude.{◌≡◌, ◌+◌, ◌*◌, ◌^◌, ◌<◌, ◌≤◌, IsSome, slice_get};
-ghost use Rattle.ec_core.specs.Rounds.{event_or, read_of};
+ghost use Rattle.ec_core.specs.Rounds.{event_or, read_event};
 ghost use Rattle.ec_core.specs.Fields.{new_progress, with_round, read_component, count_value};
 
 use crate::Act;
@@ -43,13 +43,13 @@ pub struct UnderWay {
 impl Model for UnderWay {
     ghost use Rattle.std.specs.Prelude.{◌*◌, ◌^◌, ◌<◌, ◌≤◌, IsSome};
     ghost use Rattle.ec_core.specs.Progress.{Progress};
-    ghost use Rattle.ec_core.specs.Rounds.{read_of};
+    ghost use Rattle.ec_core.specs.Rounds.{read_event};
 
     ghost Value = { Progress };
 
     ghost view = { λ u. record { op = u.op; index = u.index; sum = u.sum } };
 
-    ghost invariant = { λ u. (u.index < 16) × (u.sum ≤ u.index * 2 ^ 48) × IsSome (read_of u.op) };
+    ghost invariant = { λ u. (u.index < 16) × (u.sum ≤ u.index * 2 ^ 48) × IsSome (read_event u.op) };
 
     ghost inverse = { λ u. record { op = u.op; index = u.index; sum = u.sum } };
 }
@@ -57,7 +57,7 @@ impl Model for UnderWay {
 impl UnderWay {
     /// Makes a call whose first component is yet to be read.
     pub(crate) fn new(op: Act) -> Self
-        requires { IsSome (read_of op) }
+        requires { IsSome (read_event op) }
         ensures { result ≡ new_progress op }
     {
         UnderWay {

@@ -23,8 +23,8 @@ use Rattle.ec_database.specs.Calls.{first_number}
 use Rattle.ec_database.specs.Following.{is_on, write_rule, try_rule, rules}
 use Rattle.ec_database.specs.Snapshots.{is_whole, agrees, version_read, values_got}
 use Rattle.ec_database.specs.Tries.{AcceptedTry, accepted_of, ended_by, ended_at}
-use Rattle.ec_database.specs.Places.{list_progress}
-use Rattle.ec_database.specs.Auditing.{finished_call, got_so_far, rows_after, try_ended, HasRow, HoldsGot}
+use Rattle.ec_database.specs.SnapshotPhases.{list_progress}
+use Rattle.ec_database.specs.Auditing.{completed_call, got_so_far, rows_after, try_ended, HasRow, HoldsGot}
 use Rattle.ec_database.proofs.Trying.{whole_is}
 use Rattle.ec_core.proofs.shared.Reading.{never}
 use Rattle.ec_core.proofs.shared.Pasts.{pending_is}
@@ -76,7 +76,7 @@ none_finished d false false true call h e = cc
 none_finished d false false false call h e = refl
 
 pub held_none : (d : Database) (writers : ℕ → Bool) (rows : List (List ℕ)) (x : Entry) (past : List Entry) (kept : ListProgress) (op : Act)
-    → op ≡ op_at x past → finished_call d (writers x.worker) kept op x ≡ None → HoldsGot d writers rows past → HoldsGot d writers rows (x ∷ past)
+    → op ≡ op_at x past → completed_call d (writers x.worker) kept op x ≡ None → HoldsGot d writers rows past → HoldsGot d writers rows (x ∷ past)
 held_none d writers rows x past kept op at none h w lt role =
     let P : List CompletedCall → Type 0 = λ calls. HasRow rows w (got_so_far calls) in
     elim (x.worker == w) as (λ b. (x.worker == w) ≡ b → HasRow rows w (got_so_far (block (try_rule d) w (x ∷ past)))) [
@@ -212,7 +212,7 @@ try_is d w row calls c call worker at version number prefix short =
 -- ENTRIES
 
 -- a completed call is on the database, and a reader's
-pub record IsFinished (d : Database) (writer : Bool) (kept : ListProgress) (op : Act) (x : Entry) (call : ReaderCall) : Type 0 where
+pub record IsCompleted (d : Database) (writer : Bool) (kept : ListProgress) (op : Act) (x : Entry) (call : ReaderCall) : Type 0 where
   pub reader : writer ≡ false
   pub done : is_pending x.reply ≡ false
   pub on : is_on d op ≡ true
@@ -227,8 +227,8 @@ tests_of false true o a call h = cc
 tests_of false false false a call h = cc
 tests_of false false true a call h = (refl, refl, refl, (let q : a ≡ call = cc in q))
 
-pub finished : (d : Database) (writer : Bool) (kept : ListProgress) (op : Act) (x : Entry) (call : ReaderCall) → finished_call d writer kept op x ≡ Some call → IsFinished d writer kept op x call
-finished d writer kept op x call h =
+pub completed_of_entry : (d : Database) (writer : Bool) (kept : ListProgress) (op : Act) (x : Entry) (call : ReaderCall) → completed_call d writer kept op x ≡ Some call → IsCompleted d writer kept op x call
+completed_of_entry d writer kept op x call h =
     (let k = tests_of writer (is_pending x.reply) (is_on d op) (call_of kept x) call h in record { reader = k.0; done = k.1; on = k.2; is = k.3 })
 
 -- the reader's calls after it
@@ -240,11 +240,11 @@ reader_block : (d : Database) (writers : ℕ → Bool) (w : ℕ) (past : List En
 reader_block d writers w past role = ap (λ b. block (cond b (write_rule d) (try_rule d)) w past) role
 
 pub held_some : (d : Database) (writers : ℕ → Bool) (rows rows' : List (List ℕ)) (x : Entry) (past : List Entry) (kept : ListProgress) (op : Act) (call : ReaderCall)
-    → d.cells ≤ 256 → x.worker < 16 → kept ≡ list_progress (block (rules d writers x.worker) x.worker past) → op ≡ op_at x past → finished_call d (writers x.worker) kept op x ≡ Some call
+    → d.cells ≤ 256 → x.worker < 16 → kept ≡ list_progress (block (rules d writers x.worker) x.worker past) → op ≡ op_at x past → completed_call d (writers x.worker) kept op x ≡ Some call
     → ((row : List ℕ) → slice_get rows call.worker ≡ Some row → rows' ≡ rows_after d.cells rows row call)
     → HoldsGot d writers rows past → HoldsGot d writers rows' (x ∷ past)
 held_some d writers rows rows' x past kept op call few small keeps at some after h w lt role =
-    let k = finished d (writers x.worker) kept op x call some in
+    let k = completed_of_entry d (writers x.worker) kept op x call some in
     let worker : call.worker ≡ x.worker = ap (λ (c : ReaderCall). c.worker) (sym k.is) in
     let calls = block (try_rule d) x.worker past in
     let mine = h x.worker small k.reader in
@@ -283,12 +283,12 @@ held_some d writers rows rows' x past kept op call few small keeps at some after
 
 -- what holds of the try that the reader's row gives holds of the one that the entry ends
 pub ended_is : (d : Database) (writers : ℕ → Bool) (rows rows' : List (List ℕ)) (x : Entry) (past : List Entry) (kept : ListProgress) (op : Act) (call : ReaderCall) (P : Option AcceptedTry → Type 0)
-    → x.worker < 16 → kept ≡ list_progress (block (rules d writers x.worker) x.worker past) → op ≡ op_at x past → finished_call d (writers x.worker) kept op x ≡ Some call
+    → x.worker < 16 → kept ≡ list_progress (block (rules d writers x.worker) x.worker past) → op ≡ op_at x past → completed_call d (writers x.worker) kept op x ≡ Some call
     → ((row : List ℕ) → slice_get rows call.worker ≡ Some row → rows' ≡ rows_after d.cells rows row call)
     → ((row : List ℕ) → slice_get rows' call.worker ≡ Some row → P (try_ended d.cells row call))
     → HoldsGot d writers rows past → P (ended_at d writers x past)
 ended_is d writers rows rows' x past kept op call P small keeps at some after returned h =
-    let k = finished d (writers x.worker) kept op x call some in
+    let k = completed_of_entry d (writers x.worker) kept op x call some in
     let worker : call.worker ≡ x.worker = ap (λ (c : ReaderCall). c.worker) (sym k.is) in
     let calls = block (try_rule d) x.worker past in
     let mine = h x.worker small k.reader in

@@ -7,13 +7,13 @@ use Rattle.ec_core.specs.declared.act.Act.{Act}
 use Rattle.ec_core.specs.declared.act.Act.TheVariants.{Advance, Put}
 use Rattle.ec_core.specs.CallLists.{is_due, without_value, rule_of}
 use Rattle.ec_core.specs.Following.{CompletedCall}
-use Rattle.ec_core.specs.JoinedLists.{ComesNext, IsBeginning, IsWholeList, IsJoined, SpeaksOf, is_whole}
+use Rattle.ec_core.specs.JoinedLists.{ComesNext, IsListPrefix, IsWholeList, IsJoined, SpeaksOf, is_whole}
 use Rattle.ec_core.proofs.shared.Following.{is_act-true, is_act-same}
 use Rattle.ec_core.proofs.shared.JoinedLists.{following_joins}
 use Rattle.ec_database.specs.Shapes.{Database}
 use Rattle.ec_database.specs.Calls.{first_number, drawn_turn, write_call, try_call, write_list, try_list}
 use Rattle.ec_database.specs.Following.{is_on, writes, write_rule, try_rule, database_rules}
-use Rattle.ec_database.specs.Joined.{acts_by_replies, IsBegun, IsWhole, IsNext, AreLists, FollowingMeansLists}
+use Rattle.ec_database.specs.Joined.{acts_by_replies, IsActListPrefix, IsWhole, IsNext, AreLists, FollowingMeansLists}
 use Rattle.ec_database.proofs.Spelled.{writing, a_try}
 use Rattle.ec_database.proofs.shared.LeftOut.{speaks}
 
@@ -50,10 +50,10 @@ place_kept call list calls k c l at =
     let lt : k < length calls = slice_get_within calls k c at in
     ap (slice_get (list (take k calls))) (length-take-le k calls (omega arith)) ∙ l.kept calls k lt
 
-begun_of : (on : Act → Bool) (call : List CompletedCall → Option Act) (list : List CompletedCall → List Act) (calls : List CompletedCall) → IsList call list → IsBeginning (rule_of on call) calls → IsBegun list calls
+begun_of : (on : Act → Bool) (call : List CompletedCall → Option Act) (list : List CompletedCall → List Act) (calls : List CompletedCall) → IsList call list → IsListPrefix (rule_of on call) calls → IsActListPrefix list calls
 begun_of on call list calls l h k c at = sym (place_kept call list calls k c l at) ∙ next_of on call list (take k calls) c.op l (h k c at)
 
-beginning_of : (on : Act → Bool) (call : List CompletedCall → Option Act) (list : List CompletedCall → List Act) (calls : List CompletedCall) → IsList call list → IsBegun list calls → IsBeginning (rule_of on call) calls
+beginning_of : (on : Act → Bool) (call : List CompletedCall → Option Act) (list : List CompletedCall → List Act) (calls : List CompletedCall) → IsList call list → IsActListPrefix list calls → IsListPrefix (rule_of on call) calls
 beginning_of on call list calls l h k c at = comes_of on call list (take k calls) c.op l (place_kept call list calls k c l at ∙ h k c at)
 
 -- a list that has nothing at an index ends before it

@@ -13,7 +13,7 @@ use Rattle.ec_core.proofs.shared.Joining.{get_back, last_get}
 use Rattle.ec_database.specs.Shapes.{Database}
 use Rattle.ec_database.specs.Following.{is_on, try_rule, writes}
 use Rattle.ec_database.specs.Tries.{AcceptedTry, accepted_of, ended_by, ended_at, accepted_tries, ListsTries, AreUndisturbed}
-use Rattle.ec_database.specs.Auditing.{finished_call}
+use Rattle.ec_database.specs.Auditing.{completed_call}
 use Rattle.ec_database.specs.Laws.{IsFollowed, TriesAreListed}
 use Rattle.ec_database.proofs.CallsStand.{entry_at}
 use Rattle.ec_database.proofs.Undisturbed.{here, undisturbed}
@@ -104,7 +104,7 @@ next_tries d writers x past list list' o h added returned =
 
 -- one more entry that completes no call of a reader on the database
 pub same_tries : (d : Database) (writers : ℕ → Bool) (x : Entry) (past : List Entry) (list : List AcceptedTry) (kept : ListProgress)
-    → finished_call d (writers x.worker) kept (op_at x past) x ≡ None → list ≡ accepted_tries d writers past → list ≡ accepted_tries d writers (x ∷ past)
+    → completed_call d (writers x.worker) kept (op_at x past) x ≡ None → list ≡ accepted_tries d writers past → list ≡ accepted_tries d writers (x ∷ past)
 same_tries d writers x past list kept none h =
     next_tries d writers x past list list None h (sym (append-nil list)) (ends_none (writers x.worker) (is_pending x.reply) (is_on d (op_at x past)) _ _ none)
 

@@ -6,7 +6,7 @@ use Rattle.ec_core.specs.Following.{CompletedCall}
 use Rattle.ec_core.specs.CallLists.{reply_number}
 use Rattle.ec_database.specs.Shapes.{Database}
 use Rattle.ec_database.specs.Calls.{drawn_turn, write_call}
-use Rattle.ec_database.specs.Places.{write_at, turn_after, write_rest}
+use Rattle.ec_database.specs.SnapshotPhases.{write_at, turn_after, write_rest}
 
 -- WRITES
 

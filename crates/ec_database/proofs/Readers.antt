@@ -13,7 +13,7 @@ use Rattle.ec_core.specs.Calls.{is_pending}
 use Rattle.ec_core.specs.Acceptance.{IsAccepted}
 use Rattle.ec_core.specs.Following.{CompletedCall, block, Follow}
 use Rattle.ec_core.specs.CallLists.{is_due, without_value, reply_number}
-use Rattle.ec_core.proofs.shared.Following.{other_block, IsTold, op_at, step_told, total_step, cell_step, step_due, due_is, after_told, after_pending, off_block}
+use Rattle.ec_core.proofs.shared.Following.{other_block, IsReplyTo, op_at, step_told, total_step, cell_step, step_due, due_is, after_told, after_pending, off_block}
 use Rattle.ec_database.specs.Shapes.{Database, IsShape}
 use Rattle.ec_database.specs.Calls.{try_call}
 use Rattle.ec_database.specs.Following.{is_on, write_rule, try_rule, rules}
@@ -96,11 +96,11 @@ read_get d writers t x past r a c gets shape dec acc f op returned h =
     })
 
 reader_step : (d : Database) (writers : ℕ → Bool) (t : Tables) (x : Entry) (past : List Entry) (calls : List CompletedCall) → IsShape d → IsDeclared t → IsAccepted t (x ∷ past) → Follow (rules d writers) (x ∷ past)
-    → block (try_rule d) x.worker past ≡ calls → is_on d (op_at x past) ≡ true → is_due (try_call d calls) (without_value (op_at x past)) ≡ true → IsTold t past (op_at x past) x.reply
+    → block (try_rule d) x.worker past ≡ calls → is_on d (op_at x past) ≡ true → is_due (try_call d calls) (without_value (op_at x past)) ≡ true → IsReplyTo t past (op_at x past) x.reply
     → IsReader d past calls → IsReader d (x ∷ past) (block (try_rule d) x.worker (x ∷ past))
 reader_step d writers t x past [] shape dec acc f at on due returned h =
     let op : op_at x past ≡ Read d.start = (due_is (Read d.start) (op_at x past) due).1 in
-    let P : Act → Type 0 = λ a. IsTold t past a x.reply in
+    let P : Act → Type 0 = λ a. IsReplyTo t past a x.reply in
     elim (subst P op returned) [
       | inl pending ↦ reader_at d x past [] (after_pending (try_rule d) x past pending ∙ at) tt
       | inr k ↦
@@ -111,7 +111,7 @@ reader_step d writers t x past [] shape dec acc f at on due returned h =
     ]
 reader_step d writers t x past (r ∷ []) shape dec acc f at on due returned h =
     let op : op_at x past ≡ Await d.done (reply_number r.reply) = (due_is (Await d.done (reply_number r.reply)) (op_at x past) due).1 in
-    let P : Act → Type 0 = λ a. IsTold t past a x.reply in
+    let P : Act → Type 0 = λ a. IsReplyTo t past a x.reply in
     let c : CompletedCall = record { op = Await d.done (reply_number r.reply); reply = x.reply } in
     elim (subst P op returned) [
       | inl pending ↦ reader_at d x past (r ∷ []) (after_pending (try_rule d) x past pending ∙ at) (let up = total_grows t d.start x past acc in omega arith)
@@ -124,7 +124,7 @@ reader_step d writers t x past (r ∷ []) shape dec acc f at on due returned h =
           (record { done = omega arith; same = λ e i z there lt. cc }))
     ]
 reader_step d writers t x past (r ∷ a ∷ gets) shape dec acc f at on due returned h =
-    let P : Act → Type 0 = λ a. IsTold t past a x.reply in
+    let P : Act → Type 0 = λ a. IsReplyTo t past a x.reply in
     elim (nat_lt (length gets) d.cells) as (λ b. nat_lt (length gets) d.cells ≡ b
     → is_due (cond b (Some (Get (d.first_cell + length gets))) (cond (length gets == d.cells) (Some (Read d.start)) None)) (without_value (op_at x past)) ≡ true
     → IsReader d (x ∷ past) (block (try_rule d) x.worker (x ∷ past))) [

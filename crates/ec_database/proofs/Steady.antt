@@ -12,7 +12,7 @@ use Rattle.ec_core.specs.Following.{CompletedCall, block, Follow}
 use Rattle.ec_core.specs.CallLists.{is_due, without_value, reply_number}
 use Rattle.ec_core.proofs.shared.Answering.{allowed}
 use Rattle.ec_core.proofs.shared.Following.{same_test, op_at, step_told, step_opened, step_due, due_is, off_block}
-use Rattle.ec_core.proofs.shared.Queue.{Seat, IsQueue}
+use Rattle.ec_core.proofs.shared.Queue.{QueuePosition, IsQueue}
 use Rattle.ec_core.proofs.shared.Reading.{made_by, total_by, issued_by, sum_least, sum_less}
 use Rattle.ec_database.specs.Shapes.{Database, IsShape}
 use Rattle.ec_database.specs.Calls.{write_call, try_call}
@@ -101,9 +101,9 @@ no_wait d writers w = both_same (writers w) 0
 
 no_seat : (d : Database) (writers : ℕ → Bool) (j w : ℕ) → (seat d writers j [] w).stage ≡ 0
 unfolding block
-no_seat d writers j w = ap (λ (z : Seat). z.stage) (both_same (writers w) nobody)
+no_seat d writers j w = ap (λ (z : QueuePosition). z.stage) (both_same (writers w) nobody)
 
-empty_queue : (s : ℕ → Seat) → ((w : ℕ) → (s w).stage ≡ 0) → IsQueue s 0 0 0
+empty_queue : (s : ℕ → QueuePosition) → ((w : ℕ) → (s w).stage ≡ 0) → IsQueue s 0 0 0
 empty_queue s h = record {
   some = omega arith;
   few = omega arith;

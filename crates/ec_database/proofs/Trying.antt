@@ -10,7 +10,7 @@ use Rattle.ec_database.specs.declared.ending.SnapshotEnd.TheVariants.{Accepted, 
 use Rattle.ec_database.specs.Shapes.{Database}
 use Rattle.ec_database.specs.Calls.{first_number, try_call}
 use Rattle.ec_database.specs.Snapshots.{is_whole, version_read, values_got, agrees, TryState, try_again, after_call, trying_after, trying, snapshot_call, end_of_calls, snapshot_end}
-use Rattle.ec_database.specs.Places.{SnapshotPhase, try_at, place_at_end, next_place, place_after, snapshot_rest, end_at}
+use Rattle.ec_database.specs.SnapshotPhases.{SnapshotPhase, try_at, phase_at_end, next_phase, phase_after, snapshot_rest, end_at}
 
 -- a try is whole after its second read
 pub whole_is : (d : Database) (calls : List CompletedCall) → is_whole d calls ≡ nat_lt (d.cells + 2) (length calls)
@@ -87,21 +87,21 @@ same_end d p s h =
 
 -- ONE MORE CALL
 
-next_first : (d : Database) (p : SnapshotPhase) (n : ℕ) → p.at ≡ 0 → next_place d p n ≡ record p { at = 1; version = n }
+next_first : (d : Database) (p : SnapshotPhase) (n : ℕ) → p.at ≡ 0 → next_phase d p n ≡ record p { at = 1; version = n }
 next_first d p n e = rw (eq-eqb p.at 0 e) refl
 
 next_second : (d : Database) (p : SnapshotPhase) (n : ℕ) → p.at ≡ 1
-    → next_place d p n ≡ record p { at = 2 }
+    → next_phase d p n ≡ record p { at = 2 }
 next_second d p n e = rw (ne_eqb p.at 0 (λ z. omega arith), eq-eqb p.at 1 e) refl
 
-next_get : (d : Database) (p : SnapshotPhase) (n : ℕ) → 2 ≤ p.at → p.at < d.cells + 2 → next_place d p n ≡ record p { at = p.at + 1; values = p.values ++ n ∷ [] }
+next_get : (d : Database) (p : SnapshotPhase) (n : ℕ) → 2 ≤ p.at → p.at < d.cells + 2 → next_phase d p n ≡ record p { at = p.at + 1; values = p.values ++ n ∷ [] }
 next_get d p n ge lt = rw (ne_eqb p.at 0 (λ z. omega arith), ne_eqb p.at 1 (λ z. omega arith), lt-ltb p.at (d.cells + 2) lt) refl
 
-next_end : (d : Database) (p : SnapshotPhase) (n : ℕ) → p.at ≡ d.cells + 2 → next_place d p n ≡ place_at_end p (n == p.version)
+next_end : (d : Database) (p : SnapshotPhase) (n : ℕ) → p.at ≡ d.cells + 2 → next_phase d p n ≡ phase_at_end p (n == p.version)
 next_end d p n e =
     rw (ne_eqb p.at 0 (λ z. omega arith), ne_eqb p.at 1 (λ z. omega arith), le-ltb p.at (d.cells + 2) (omega arith), eq-eqb p.at (d.cells + 2) e) refl
 
-next_over : (d : Database) (p : SnapshotPhase) (n : ℕ) → d.cells + 2 < p.at → next_place d p n ≡ p
+next_over : (d : Database) (p : SnapshotPhase) (n : ℕ) → d.cells + 2 < p.at → next_phase d p n ≡ p
 next_over d p n gt =
     rw (ne_eqb p.at 0 (λ z. omega arith), ne_eqb p.at 1 (λ z. omega arith), le-ltb p.at (d.cells + 2) (omega arith), ne_eqb p.at (d.cells + 2) (λ z. omega arith)) refl
 
@@ -110,7 +110,7 @@ goes_on : (d : Database) (left : ℕ) (calls : List CompletedCall) → length ca
 goes_on d left calls le = (let no : is_whole d calls ≡ false = whole_is d calls ∙ le-ltb (d.cells + 2) (length calls) le in rw no refl)
 
 placed_more : (d : Database) (p : SnapshotPhase) (left : ℕ) (calls : List CompletedCall) (c : CompletedCall) → IsPlaced d p (record { left = left; calls = calls }) → length calls < d.cells + 2
-    → IsPlaced d (next_place d p (reply_number c.reply)) (record { left = left; calls = calls ++ c ∷ [] })
+    → IsPlaced d (next_phase d p (reply_number c.reply)) (record { left = left; calls = calls ++ c ∷ [] })
 placed_more d p left [] c h lt =
     let P : SnapshotPhase → Type 0 = λ q. IsPlaced d q (record { left = left; calls = c ∷ [] }) in
     subst P (sym (next_first d p (reply_number c.reply) h.at))
@@ -139,7 +139,7 @@ placed_more d p left (w ∷ a ∷ gets) c h lt =
 
 -- the last call of a try
 placed_last : (d : Database) (p : SnapshotPhase) (left : ℕ) (w a : CompletedCall) (gets : List CompletedCall) (c : CompletedCall) → IsPlaced d p (record { left = left; calls = w ∷ a ∷ gets }) → length gets ≡ d.cells
-    → IsPlaced d (next_place d p (reply_number c.reply)) (try_again d (record { left = left; calls = w ∷ a ∷ (gets ++ c ∷ []) }))
+    → IsPlaced d (next_phase d p (reply_number c.reply)) (try_again d (record { left = left; calls = w ∷ a ∷ (gets ++ c ∷ []) }))
 placed_last d p left w a gets c h len =
     let at : p.at ≡ suc (suc (length gets)) = h.at in
     let longer : length (gets ++ c ∷ []) ≡ length gets + 1 = length-append gets (c ∷ []) in
@@ -157,7 +157,7 @@ placed_last d p left w a gets c h len =
     let begun : SnapshotPhase = record p { left = p.left - 1; at = 0; values = [] } in
     let ended : SnapshotPhase =
     record p { at = p.at + 1; agreed = reply_number c.reply == p.version } in
-    let place_is : next_place d p (reply_number c.reply) ≡ cond test begun ended =
+    let place_is : next_phase d p (reply_number c.reply) ≡ cond test begun ended =
     next_end d p (reply_number c.reply) (omega arith) ∙ ap (λ n. cond (not (reply_number c.reply == p.version) && nat_lt 1 n) begun ended) h.left in
     let P : SnapshotPhase → Type 0 = λ q. IsPlaced d q (try_again d stay) in
     let Q : TryState → Type 0 = λ z. IsPlaced d (cond test begun ended) z in
@@ -175,18 +175,18 @@ placed_last d p left w a gets c h len =
     ]))
 
 no_last : (d : Database) (p : SnapshotPhase) (left : ℕ) (calls : List CompletedCall) (c : CompletedCall) → IsPlaced d p (record { left = left; calls = calls }) → length calls ≡ d.cells + 2
-    → IsPlaced d (next_place d p (reply_number c.reply)) (try_again d (record { left = left; calls = calls ++ c ∷ [] }))
+    → IsPlaced d (next_phase d p (reply_number c.reply)) (try_again d (record { left = left; calls = calls ++ c ∷ [] }))
 no_last d p left [] c h len = absurd (omega arith)
 no_last d p left (w ∷ []) c h len = absurd (omega arith)
 no_last d p left (w ∷ a ∷ gets) c h len = placed_last d p left w a gets c h (omega arith)
 
 placed_next : (d : Database) (p : SnapshotPhase) (left : ℕ) (calls : List CompletedCall) (c : CompletedCall) → IsPlaced d p (record { left = left; calls = calls })
-    → IsPlaced d (next_place d p (reply_number c.reply)) (after_call d (record { left = left; calls = calls }) c)
+    → IsPlaced d (next_phase d p (reply_number c.reply)) (after_call d (record { left = left; calls = calls }) c)
 placed_next d p left calls c h =
     let few : length calls ≤ d.cells + 3 = h.few in
     let place : p.at ≡ length calls = h.at in
     let longer : length (calls ++ c ∷ []) ≡ length calls + 1 = length-append calls (c ∷ []) in
-    let next : SnapshotPhase = next_place d p (reply_number c.reply) in
+    let next : SnapshotPhase = next_phase d p (reply_number c.reply) in
     let stay : TryState = record { left = left; calls = calls } in
     elim (is_whole d calls) as (λ b. is_whole d calls ≡ b → IsPlaced d next (cond b stay (try_again d (record { left = left; calls = calls ++ c ∷ [] })))) [
       | true ↦ λ e.
@@ -204,9 +204,9 @@ placed_next d p left calls c h =
           ] refl)
     ] refl
 
-pub placed_after : (d : Database) (p : SnapshotPhase) (s : TryState) (calls : List CompletedCall) → IsPlaced d p s → IsPlaced d (place_after d p calls) (trying_after d s calls)
+pub placed_after : (d : Database) (p : SnapshotPhase) (s : TryState) (calls : List CompletedCall) → IsPlaced d p s → IsPlaced d (phase_after d p calls) (trying_after d s calls)
 placed_after d p s [] h = h
-placed_after d p s (c ∷ calls) h = placed_after d (next_place d p (reply_number c.reply)) (after_call d s c) calls (placed_next d p s.left s.calls c h)
+placed_after d p s (c ∷ calls) h = placed_after d (next_phase d p (reply_number c.reply)) (after_call d s c) calls (placed_next d p s.left s.calls c h)
 
 -- FROM THE START
 
@@ -221,12 +221,12 @@ pub snapshot_is : (d : Database) (tries : ℕ) (values : List ℕ) (calls : List
     → values ≡ []
     → snapshot_rest d (record { left = tries; at = 0; version = 0; values = values; agreed = false }) calls ≡ snapshot_call d tries calls
 snapshot_is d tries values calls none =
-    same_call d (place_after d (start_place tries values) calls) (trying d tries calls).left (trying d tries calls).calls
+    same_call d (phase_after d (start_place tries values) calls) (trying d tries calls).left (trying d tries calls).calls
     (placed_after d (start_place tries values) (record { left = tries; calls = [] }) calls (placed_first d tries values none))
 
 pub snapshot_ends : (d : Database) (tries : ℕ) (values : List ℕ) (calls : List CompletedCall)
     → values ≡ []
-    → end_at d (place_after d (record { left = tries; at = 0; version = 0; values = values; agreed = false }) calls) ≡ snapshot_end d tries calls
+    → end_at d (phase_after d (record { left = tries; at = 0; version = 0; values = values; agreed = false }) calls) ≡ snapshot_end d tries calls
 snapshot_ends d tries values calls none =
-    same_end d (place_after d (start_place tries values) calls) (trying d tries calls)
+    same_end d (phase_after d (start_place tries values) calls) (trying d tries calls)
     (placed_after d (start_place tries values) (record { left = tries; calls = [] }) calls (placed_first d tries values none))

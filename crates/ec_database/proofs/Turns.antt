@@ -9,7 +9,7 @@ use Rattle.ec_core.specs.Counts.{put_in}
 use Rattle.ec_core.specs.Acceptance.{IsAccepted}
 use Rattle.ec_core.specs.Following.{Rule, block, Follow}
 use Rattle.ec_core.proofs.shared.Following.{op_at}
-use Rattle.ec_core.proofs.shared.Queue.{Seat, turn_is}
+use Rattle.ec_core.proofs.shared.Queue.{QueuePosition, turn_is}
 use Rattle.ec_database.specs.Shapes.{Database, IsShape}
 use Rattle.ec_database.specs.Following.{is_on, rules}
 use Rattle.ec_database.specs.Calls.{drawn_turn}
@@ -45,9 +45,9 @@ put_turn d writers t x past j v shape dec acc f lt put =
     let a = k.1.0 in let c = k.1.1 in let i = k.1.2 in let rest = k.1.3 in
     let same : d.first_cell + length rest ≡ d.first_cell + j = ap place_in (sym k.1.6 ∙ op) in
     let was : seat d writers j past x.worker ≡ seat_at j (a ∷ c ∷ i ∷ rest) = seat_is d writers j past x.worker (a ∷ c ∷ i ∷ rest) k.0 k.1.5 in
-    let stage : (seat d writers j past x.worker).stage ≡ 2 = ap (λ (z : Seat). z.stage) was ∙ ap (λ b. cond b 2 4) (le-leb (length rest) j (omega arith)) in
+    let stage : (seat d writers j past x.worker).stage ≡ 2 = ap (λ (z : QueuePosition). z.stage) was ∙ ap (λ b. cond b 2 4) (le-leb (length rest) j (omega arith)) in
     let mine = turn_is _ _ _ _ x.worker ((writing d writers t past shape dec acc.1 f.1).queue j lt) (omega arith) (omega arith) in
-    ap drawn_turn (rules_write d writers past x.worker (a ∷ c ∷ i ∷ rest) k.0 k.1.5) ∙ sym (ap (λ (z : Seat). z.turn) was) ∙ mine.0
+    ap drawn_turn (rules_write d writers past x.worker (a ∷ c ∷ i ∷ rest) k.0 k.1.5) ∙ sym (ap (λ (z : QueuePosition). z.turn) was) ∙ mine.0
 
 puts_grow : (d : Database) (j : ℕ) (x : Entry) (past : List Entry) → puts_at d j past ≤ puts_at d j (x ∷ past)
 unfolding puts_at

@@ -23,7 +23,7 @@ use Rattle.ec_core.proofs.shared.Answering.{IsReading}
 use Rattle.ec_core.proofs.shared.CallRounds.{past_by_length}
 use Rattle.ec_core.proofs.shared.Counting.{totals_rise}
 use Rattle.ec_core.proofs.shared.Moments.{past_next, moment_before, accepted_of as accepted_past}
-use Rattle.ec_core.proofs.shared.Following.{op_at, IsTold, step_told, step_opened, step_due, due_is}
+use Rattle.ec_core.proofs.shared.Following.{op_at, IsReplyTo, step_told, step_opened, step_due, due_is}
 use Rattle.ec_core.proofs.shared.Reading.{began, began_past, began_block, read_low}
 use Rattle.ec_database.specs.Shapes.{Database}
 use Rattle.ec_database.specs.Calls.{first_number, drawn_turn, try_call}
@@ -83,7 +83,7 @@ record StandsAt (t : Tables) (d : Database) (h : List Entry) (w : ℕ) (before :
   reply : entry.reply ≡ c.reply
   done : is_pending entry.reply ≡ false
   due : is_due (try_call d before) (without_value c.op) ≡ true
-  returned : IsTold t early c.op c.reply
+  returned : IsReplyTo t early c.op c.reply
   accepted : IsAccepted t (entry ∷ early)
   followed : FollowsDatabase t d (entry ∷ early)
 
@@ -96,8 +96,8 @@ stands_at t d h w past before c early f is role e =
     let acc : IsAccepted t (x ∷ early) = accepted_past t h (x ∷ early) f.accepted with_past in
     let fol : FollowsDatabase t d (x ∷ early) = follow_of t d h (x ∷ early) f.followed with_past in
     let role' : writes t d x.worker ≡ false = ap (writes t d) e.by ∙ role in
-    let P : Act → Type 0 = λ a. IsTold t early a x.reply in
-    let Q : Reply → Type 0 = λ r. IsTold t early c.op r in
+    let P : Act → Type 0 = λ a. IsReplyTo t early a x.reply in
+    let Q : Reply → Type 0 = λ r. IsReplyTo t early c.op r in
     let R : Bool → Type 0 = λ p. (cond p (write_rule d) (try_rule d)).fits (block (cond p (write_rule d) (try_rule d)) x.worker early) (op_at x early) ≡ true in
     let due : is_due (try_call d before) (without_value c.op) ≡ true =
     (elim (step_due t (database_rules t d) x early f.declared acc fol) [
@@ -124,9 +124,9 @@ stands_at t d h w past before c early f is role e =
       followed = fol;
     }
 
-read_number : (t : Tables) (past : List Entry) (e : ℕ) (op : Act) (reply : Reply) → op ≡ Read e → is_pending reply ≡ false → IsTold t past op reply → reply ≡ Number (reply_number reply)
+read_number : (t : Tables) (past : List Entry) (e : ℕ) (op : Act) (reply : Reply) → op ≡ Read e → is_pending reply ≡ false → IsReplyTo t past op reply → reply ≡ Number (reply_number reply)
 read_number t past e op reply is done returned =
-    let P : Act → Type 0 = λ a. IsTold t past a reply in
+    let P : Act → Type 0 = λ a. IsReplyTo t past a reply in
     elim (subst P is returned) [
       | inl pending ↦ (let no : is_pending reply ≡ true = ap is_pending pending in cc)
       | inr k ↦ k.2 ∙ ap Number (sym (ap reply_number k.2))
@@ -284,7 +284,7 @@ got_is : (t : Tables) (d : Database) (h : List Entry) (w : ℕ) (r i : Completed
 got_is t d h w r i gets j c early lt le s =
     let many : length (take j gets) ≡ j = length-take-le j gets le in
     let op : c.op ≡ Get (d.first_cell + j) = get_due d r i (take j gets) c.op (omega arith) s.due ∙ ap (λ n. Get (d.first_cell + n)) many in
-    let P : Act → Type 0 = λ a. IsTold t early a c.reply in
+    let P : Act → Type 0 = λ a. IsReplyTo t early a c.reply in
     let returned : c.reply ≡ Number (cell_value (d.first_cell + j) early) = subst P op s.returned in
     let reply : c.reply ≡ Number (reply_number c.reply) = returned
     ∙ ap Number (sym (ap reply_number returned)) in

@@ -13,8 +13,8 @@ use Rattle.ec_core.specs.Calls.{is_pending}
 use Rattle.ec_core.specs.Acceptance.{IsAccepted}
 use Rattle.ec_core.specs.Following.{CompletedCall, block}
 use Rattle.ec_core.specs.CallLists.{is_due, without_value, reply_number}
-use Rattle.ec_core.proofs.shared.Following.{other_block, same_test, IsTold, op_at, step_opened, total_step, issued_step, cell_step, due_is, after_told, after_pending}
-use Rattle.ec_core.proofs.shared.Queue.{Seat, IsQueue, IsElsewhereSame, still, draw, enter, make, leave, turn_is}
+use Rattle.ec_core.proofs.shared.Following.{other_block, same_test, IsReplyTo, op_at, step_opened, total_step, issued_step, cell_step, due_is, after_told, after_pending}
+use Rattle.ec_core.proofs.shared.Queue.{QueuePosition, IsQueue, IsElsewhereSame, still, draw, enter, make, leave, turn_is}
 use Rattle.ec_core.proofs.shared.Reading.{made_by, made_by_other, made_by_own}
 use Rattle.ec_database.specs.Shapes.{Database, IsShape}
 use Rattle.ec_database.specs.Calls.{write_call}
@@ -26,16 +26,16 @@ use Rattle.ec_database.specs.Tries.{is_put_on}
 
 -- POSITIONS, one queue for each cell
 
-abbrev pub nobody : Seat
+abbrev pub nobody : QueuePosition
 nobody = record { stage = 0; turn = 0 }
 
-abbrev pub seat_at : ℕ → List CompletedCall → Seat
+abbrev pub seat_at : ℕ → List CompletedCall → QueuePosition
 seat_at j [] = nobody
 seat_at j (a ∷ []) = nobody
 seat_at j (a ∷ t ∷ []) = record { stage = 1; turn = reply_number t.reply }
 seat_at j (a ∷ t ∷ i ∷ puts) = record { stage = cond (nat_le (length puts) j) 2 4; turn = reply_number t.reply }
 
-abbrev pub seat : Database → (ℕ → Bool) → ℕ → List Entry → ℕ → Seat
+abbrev pub seat : Database → (ℕ → Bool) → ℕ → List Entry → ℕ → QueuePosition
 seat d writers j past w = cond (writers w) (seat_at j (block (write_rule d) w past)) nobody
 
 -- whether a writer is in its list, and whether it is there without a ticket
@@ -75,7 +75,7 @@ plus_is : (a : Bool) (n : ℕ) → cond a 1 0 + n ≡ plus_if a n
 plus_is true n = refl
 plus_is false n = zero-add n
 
-moved_queue : (s : ℕ → Seat) (drawn gone made drawn' gone' made' : ℕ) → drawn' ≡ drawn → gone' ≡ gone → made' ≡ made → IsQueue s drawn gone made → IsQueue s drawn' gone' made'
+moved_queue : (s : ℕ → QueuePosition) (drawn gone made drawn' gone' made' : ℕ) → drawn' ≡ drawn → gone' ≡ gone → made' ≡ made → IsQueue s drawn gone made → IsQueue s drawn' gone' made'
 moved_queue s drawn gone made drawn' gone' made' ed eg em q =
     let P : ℕ → Type 0 = λ n. IsQueue s n gone' made' in
     let Q : ℕ → Type 0 = λ n. IsQueue s drawn n made' in
@@ -262,7 +262,7 @@ write_draw : (d : Database) (writers : ℕ → Bool) (t : Tables) (x : Entry) (p
     → op_at x past ≡ Ticket d.turn → block (write_rule d) x.worker past ≡ a ∷ [] → block (write_rule d) x.worker (x ∷ past) ≡ a ∷ c ∷ [] → reply_number c.reply ≡ issued d.turn past → IsWriting d writers (x ∷ past)
 write_draw d writers t x past a c s role is at after turn =
     moved d writers t x past (Ticket d.turn) false false true (a ∷ []) (a ∷ c ∷ []) s role is at after refl refl (eq-eqb d.turn d.turn refl) refl refl
-    (λ j lt was now. draw _ _ _ _ _ x.worker (s.before.queue j lt) (elsewhere d writers j x past) (ap (λ (z : Seat). z.stage) now) (ap (λ (z : Seat). z.turn) now ∙ turn))
+    (λ j lt was now. draw _ _ _ _ _ x.worker (s.before.queue j lt) (elsewhere d writers j x past) (ap (λ (z : QueuePosition). z.stage) now) (ap (λ (z : QueuePosition). z.turn) now ∙ turn))
     (unput d writers t x past (Ticket d.turn) s is (λ y. refl))
 
 write_enter : (d : Database) (writers : ℕ → Bool) (t : Tables) (x : Entry) (past : List Entry) (a c i : CompletedCall) → IsStep d writers t x past → writers x.worker ≡ true
@@ -271,10 +271,11 @@ write_enter : (d : Database) (writers : ℕ → Bool) (t : Tables) (x : Entry) (
 write_enter d writers t x past a c i s role is at after reached =
     moved d writers t x past (Await d.done (reply_number c.reply)) false false false (a ∷ c ∷ []) (a ∷ c ∷ i ∷ []) s role is at after refl refl refl refl refl
     (λ j lt was now.
-    (let st : (seat d writers j past x.worker).stage ≡ 1 = ap (λ (z : Seat). z.stage) was in
-    let tu : (seat d writers j past x.worker).turn ≡ reply_number c.reply = ap (λ (z : Seat). z.turn) was in
-    let st' : (seat d writers j (x ∷ past) x.worker).stage ≡ 2 = ap (λ (z : Seat). z.stage) now ∙ ap (λ b. cond b 2 4) (le-leb 0 j (omega arith)) in
-    let tu' : (seat d writers j (x ∷ past) x.worker).turn ≡ reply_number c.reply = ap (λ (z : Seat). z.turn) now in
+    (let st : (seat d writers j past x.worker).stage ≡ 1 =
+    ap (λ (z : QueuePosition). z.stage) was in
+    let tu : (seat d writers j past x.worker).turn ≡ reply_number c.reply = ap (λ (z : QueuePosition). z.turn) was in
+    let st' : (seat d writers j (x ∷ past) x.worker).stage ≡ 2 = ap (λ (z : QueuePosition). z.stage) now ∙ ap (λ b. cond b 2 4) (le-leb 0 j (omega arith)) in
+    let tu' : (seat d writers j (x ∷ past) x.worker).turn ≡ reply_number c.reply = ap (λ (z : QueuePosition). z.turn) now in
     enter _ _ _ _ _ x.worker (s.before.queue j lt) (elsewhere d writers j x past) (omega arith) (omega arith) (omega arith) (omega arith) (tu' ∙ sym tu) (omega arith)))
     (unput d writers t x past (Await d.done (reply_number c.reply)) s is (λ y. refl))
 
@@ -283,8 +284,8 @@ write_leave : (d : Database) (writers : ℕ → Bool) (t : Tables) (x : Entry) (
 write_leave d writers t x past a c i puts s role is at full after =
     moved d writers t x past (Advance d.done) false true false (a ∷ c ∷ i ∷ puts) [] s role is at after (turned d.start d.done s.shape.counts) (eq-eqb d.done d.done refl) refl refl refl
     (λ j lt was now.
-    (let st : (seat d writers j past x.worker).stage ≡ 4 = ap (λ (z : Seat). z.stage) was ∙ ap (λ b. cond b 2 4) (lt-leb (length puts) j (omega arith)) in
-    leave _ _ _ _ _ x.worker (s.before.queue j lt) (elsewhere d writers j x past) st (ap (λ (z : Seat). z.stage) now)))
+    (let st : (seat d writers j past x.worker).stage ≡ 4 = ap (λ (z : QueuePosition). z.stage) was ∙ ap (λ b. cond b 2 4) (lt-leb (length puts) j (omega arith)) in
+    leave _ _ _ _ _ x.worker (s.before.queue j lt) (elsewhere d writers j x past) st (ap (λ (z : QueuePosition). z.stage) now)))
     (unput d writers t x past (Advance d.done) s is (λ y. refl))
 
 pub rules_write : (d : Database) (writers : ℕ → Bool) (past : List Entry) (w : ℕ) (calls : List CompletedCall) → writers w ≡ true → block (write_rule d) w past ≡ calls → block (rules d writers w) w past ≡ calls
@@ -320,14 +321,14 @@ write_put d writers t x past a c i p puts v s role is at room after =
     (λ j lt was now. elim (k == j) as (λ b. (k == j) ≡ b → IsQueue (seat d writers j (x ∷ past)) (issued d.turn past) (total d.done past) (plus_if (is_some (put_in (d.first_cell + j) (Put (d.first_cell + k) v))) (puts_at d j past))) [
       | true ↦ λ h.
           (let same : length puts ≡ j = eqb-true k j h in
-          let st : (seat d writers j past x.worker).stage ≡ 2 = ap (λ (z : Seat). z.stage) was ∙ ap (λ b. cond b 2 4) (le-leb (length puts) j (omega arith)) in
-          let st' : (seat d writers j (x ∷ past) x.worker).stage ≡ 4 = ap (λ (z : Seat). z.stage) now ∙ ap (λ b. cond b 2 4) (lt-leb (length (puts ++ p ∷ [])) j (omega arith)) in
-          let tu : (seat d writers j (x ∷ past) x.worker).turn ≡ (seat d writers j past x.worker).turn = ap (λ (z : Seat). z.turn) now ∙ sym (ap (λ (z : Seat). z.turn) was) in
+          let st : (seat d writers j past x.worker).stage ≡ 2 = ap (λ (z : QueuePosition). z.stage) was ∙ ap (λ b. cond b 2 4) (le-leb (length puts) j (omega arith)) in
+          let st' : (seat d writers j (x ∷ past) x.worker).stage ≡ 4 = ap (λ (z : QueuePosition). z.stage) now ∙ ap (λ b. cond b 2 4) (lt-leb (length (puts ++ p ∷ [])) j (omega arith)) in
+          let tu : (seat d writers j (x ∷ past) x.worker).turn ≡ (seat d writers j past x.worker).turn = ap (λ (z : QueuePosition). z.turn) now ∙ sym (ap (λ (z : QueuePosition). z.turn) was) in
           let P : Option ℕ → Type 0 = λ o. IsQueue (seat d writers j (x ∷ past)) (issued d.turn past) (total d.done past) (plus_if (is_some o) (puts_at d j past)) in
           subst P (sym (put_this d.first_cell k j v h)) (make _ _ _ _ _ x.worker (s.before.queue j lt) (elsewhere d writers j x past) (omega arith) (omega arith) st' tu))
       | false ↦ λ h.
           (let keep : seat d writers j (x ∷ past) x.worker ≡ seat d writers j past x.worker =
-          now ∙ ap (λ b. (let z : Seat = record { stage = cond b 2 4; turn = reply_number c.reply } in z)) (same_side k (length (puts ++ p ∷ [])) j longer h) ∙ sym was in
+          now ∙ ap (λ b. (let z : QueuePosition = record { stage = cond b 2 4; turn = reply_number c.reply } in z)) (same_side k (length (puts ++ p ∷ [])) j longer h) ∙ sym was in
           let P : Option ℕ → Type 0 = λ o. IsQueue (seat d writers j (x ∷ past)) (issued d.turn past) (total d.done past) (plus_if (is_some o) (puts_at d j past)) in
           subst P (sym (put_other d.first_cell k j v h)) (still _ _ _ _ _ x.worker (s.before.queue j lt) (elsewhere d writers j x past) keep))
     ] refl)
@@ -335,11 +336,11 @@ write_put d writers t x past a c i p puts v s role is at room after =
       | true ↦ λ h.
           (let same : length puts ≡ j = eqb-true k j h in
           let was = seat_is d writers j past x.worker (a ∷ c ∷ i ∷ puts) role at in
-          let st : (seat d writers j past x.worker).stage ≡ 2 = ap (λ (z : Seat). z.stage) was ∙ ap (λ b. cond b 2 4) (le-leb (length puts) j (omega arith)) in
+          let st : (seat d writers j past x.worker).stage ≡ 2 = ap (λ (z : QueuePosition). z.stage) was ∙ ap (λ b. cond b 2 4) (le-leb (length puts) j (omega arith)) in
           let mine = turn_is _ _ _ _ x.worker (s.before.queue j lt) (omega arith) (omega arith) in
           let turn : drawn_turn (block (rules d writers x.worker) x.worker past)
           ≡ puts_at d j past =
-          ap drawn_turn (rules_write d writers past x.worker (a ∷ c ∷ i ∷ puts) role at) ∙ sym (ap (λ (z : Seat). z.turn) was) ∙ mine.0 in
+          ap drawn_turn (rules_write d writers past x.worker (a ∷ c ∷ i ∷ puts) role at) ∙ sym (ap (λ (z : QueuePosition). z.turn) was) ∙ mine.0 in
           let here : put_in (d.first_cell + j) (op_at x past) ≡ Some v = ap (put_in (d.first_cell + j)) is ∙ put_this d.first_cell k j v h in
           let more : puts_at d j (x ∷ past) ≡ suc (puts_at d j past) = puts_step d j t x past s.accepted ∙ ap (λ o. cond (is_some o) 1 0 + puts_at d j past) here ∙ one_plus (puts_at d j past) in
           let value : cell_value (d.first_cell + j) (x ∷ past) ≡ v = cell_step t (d.first_cell + j) x past s.accepted ∙ ap (λ o. unwrap_or o (cell_value (d.first_cell + j) past)) here in
@@ -372,27 +373,27 @@ await_cases d writers t x past e v s is (inl pending) go = quiet_same d writers 
 await_cases d writers t x past e v s is (inr k) go = (let low : v ≤ k.0 = k.1 in let high : k.0 ≤ total e past = k.2 in go (ap is_pending k.3, omega arith))
 
 pub write_step : (d : Database) (writers : ℕ → Bool) (t : Tables) (x : Entry) (past : List Entry) (calls : List CompletedCall) → IsStep d writers t x past → writers x.worker ≡ true
-    → block (write_rule d) x.worker past ≡ calls → is_on d (op_at x past) ≡ true → is_due (write_call d [] calls) (without_value (op_at x past)) ≡ true → IsTold t past (op_at x past) x.reply
+    → block (write_rule d) x.worker past ≡ calls → is_on d (op_at x past) ≡ true → is_due (write_call d [] calls) (without_value (op_at x past)) ≡ true → IsReplyTo t past (op_at x past) x.reply
     → IsWriting d writers (x ∷ past)
 write_step d writers t x past [] s role at on due returned =
     let op : op_at x past ≡ Advance d.start = (due_is (Advance d.start) (op_at x past) due).1 in
-    let P : Act → Type 0 = λ a. IsTold t past a x.reply in
+    let P : Act → Type 0 = λ a. IsReplyTo t past a x.reply in
     let reply : x.reply ≡ Done = subst P op returned in
     write_start d writers t x past (record { op = Advance d.start; reply = x.reply }) s role op at (after_told (write_rule d) x past [] (Advance d.start) at op (ap (is_on d) (sym op) ∙ on) (ap is_pending reply))
 write_step d writers t x past (a ∷ []) s role at on due returned =
     let op : op_at x past ≡ Ticket d.turn = (due_is (Ticket d.turn) (op_at x past) due).1 in
-    let P : Act → Type 0 = λ a. IsTold t past a x.reply in
+    let P : Act → Type 0 = λ a. IsReplyTo t past a x.reply in
     let reply : x.reply ≡ Number (issued d.turn past) = subst P op returned in
     write_draw d writers t x past a (record { op = Ticket d.turn; reply = x.reply }) s role op at (after_told (write_rule d) x past (a ∷ []) (Ticket d.turn) at op (ap (is_on d) (sym op) ∙ on) (ap is_pending reply)) (ap reply_number reply)
 write_step d writers t x past (a ∷ c ∷ []) s role at on due returned =
     let op : op_at x past ≡ Await d.done (reply_number c.reply) = (due_is (Await d.done (reply_number c.reply)) (op_at x past) due).1 in
-    let P : Act → Type 0 = λ a. IsTold t past a x.reply in
+    let P : Act → Type 0 = λ a. IsReplyTo t past a x.reply in
     await_cases d writers t x past d.done (reply_number c.reply) s op (subst P op returned)
     (λ k. write_enter d writers t x past a c (record { op = Await d.done (reply_number c.reply); reply = x.reply }) s role op at
     (after_told (write_rule d) x past (a ∷ c ∷ []) (Await d.done (reply_number c.reply)) at op (ap (is_on d) (sym op) ∙ on) k.0
     ∙ ap (λ b. cond (not b) [] (a ∷ c ∷ record { op = Await d.done (reply_number c.reply); reply = x.reply } ∷ [])) (chosen_some d [] 0 (omega arith))) k.1)
 write_step d writers t x past (a ∷ c ∷ i ∷ puts) s role at on due returned =
-    let P : Act → Type 0 = λ a. IsTold t past a x.reply in
+    let P : Act → Type 0 = λ a. IsReplyTo t past a x.reply in
     elim (nat_lt (length puts) d.cells) as (λ b. nat_lt (length puts) d.cells ≡ b
     → is_due (cond b (Some (Put (d.first_cell + length puts) (get_or [] (length puts) 0))) (cond (length puts == d.cells) (Some (Advance d.done)) None)) (without_value (op_at x past)) ≡ true → IsWriting d writers (x ∷ past)) [
       | true ↦ λ h due.

@@ -14,7 +14,7 @@ use Rattle.ec_core.specs.Calls.{under_way, is_intermediate}
 use Rattle.ec_core.specs.Following.{opening_act}
 use Rattle.ec_core.specs.Scanning.{TrackerModel, IsTrackerModel}
 use Rattle.ec_database.specs.Following.{is_on, try_rule, writes, database_rules}
-use Rattle.ec_database.specs.Places.{list_progress}
+use Rattle.ec_database.specs.SnapshotPhases.{list_progress}
 use Rattle.ec_database.specs.Tries.{AcceptedTry, accepted_tries}
 
 -- the answers of a test for the first n workers, by number
@@ -26,8 +26,8 @@ abbrev pub accepted_try : Accepted → AcceptedTry
 accepted_try a = record { worker = a.worker; version = a.version; values = a.values.items }
 
 -- the call on the database that an entry of a reader completes, if it completes one
-abbrev pub finished_call : Database → Bool → ListProgress → Act → Entry → Option ReaderCall
-finished_call d is_writer kept op x =
+abbrev pub completed_call : Database → Bool → ListProgress → Act → Entry → Option ReaderCall
+completed_call d is_writer kept op x =
     if is_writer || is_pending x.reply || not (is_on d op)
     then None
     else Some (record { worker = x.worker; at = kept.at; version = kept.first; number = reply_number x.reply })
@@ -71,28 +71,28 @@ pub record VersionAuditModel : Type 0 where
   pub tracked : TrackerModel
   pub rows : List (List ℕ)
   pub list : List AcceptedTry
-  pub lacks : Bool
+  pub out_of_memory : Bool
 
 -- how many accepted tries were found so far, if there was memory for each
 abbrev pub found_in : VersionAuditModel → Option ℕ
-found_in a = if a.lacks then None else Some (length a.list)
+found_in a = if a.out_of_memory then None else Some (length a.list)
 
 -- it is the state after this history so far
-pub record IsVersioning (a : VersionAuditModel) (past : List Entry) : Type 0 where
+pub record RepresentsVersions (a : VersionAuditModel) (past : List Entry) : Type 0 where
   pub tracked : IsTrackerModel (database_rules a.setup a.shape) list_progress a.tracked past
-  pub held : a.lacks ≡ false → HoldsGot a.shape (writes a.setup a.shape) a.rows past
-  pub list : a.lacks ≡ false → a.list ≡ accepted_tries a.shape (writes a.setup a.shape) past
+  pub held : a.out_of_memory ≡ false → HoldsGot a.shape (writes a.setup a.shape) a.rows past
+  pub list : a.out_of_memory ≡ false → a.list ≡ accepted_tries a.shape (writes a.setup a.shape) past
 
 -- of the same database, after this history so far
 abbrev pub VersionsOn : VersionAuditModel → VersionAuditModel → List Entry → Type 0
-VersionsOn start now past = (now.shape ≡ start.shape) × (now.setup ≡ start.setup) × IsVersioning now past
+VersionsOn start now past = (now.shape ≡ start.shape) × (now.setup ≡ start.setup) × RepresentsVersions now past
 
 -- the state of the audit after a history so far is also that after one more entry whose call is not
 -- on the database
 abbrev pub OthersMayBeLeftOut : Type 0
 OthersMayBeLeftOut = (a : VersionAuditModel) (x : Entry) (past : List Entry) → is_on a.shape (opening_act x.act (under_way x.worker past)) ≡ false
-    → IsVersioning a past → IsVersioning a (x ∷ past)
+    → RepresentsVersions a past → RepresentsVersions a (x ∷ past)
 
 -- and that after a go that ends no call
 abbrev pub GoesMayBeLeftOut : Type 0
-GoesMayBeLeftOut = (a : VersionAuditModel) (x : Entry) (past : List Entry) → is_intermediate x ≡ true → IsVersioning a past → IsVersioning a (x ∷ past)
+GoesMayBeLeftOut = (a : VersionAuditModel) (x : Entry) (past : List Entry) → is_intermediate x ≡ true → RepresentsVersions a past → RepresentsVersions a (x ∷ past)

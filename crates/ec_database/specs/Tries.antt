@@ -11,7 +11,7 @@ use Rattle.ec_core.specs.declared.act.Entry.{Entry}
 use Rattle.ec_core.specs.Counts.{past_at}
 use Rattle.ec_core.specs.Calls.{is_pending, under_way}
 use Rattle.ec_core.specs.Following.{CompletedCall, opening_act, block}
-use Rattle.ec_core.specs.JoinedLists.{finished_by, calls_on}
+use Rattle.ec_core.specs.JoinedLists.{completed_calls_of, calls_on}
 use Rattle.ec_database.specs.Shapes.{Database}
 use Rattle.ec_database.specs.Following.{is_cell, is_on, writes, try_rule}
 use Rattle.ec_database.specs.Versions.{IsOfVersion}
@@ -82,7 +82,7 @@ pub record EndsCall (h : List Entry) (k w : ℕ) (op : Act) (reply : Reply) : Ty
 
 -- how many calls on the database w has completed before entry k
 abbrev pub calls_before : Database → List Entry → ℕ → ℕ → ℕ
-calls_before d h w k = length (calls_on (is_on d) (finished_by w (past_at k h)))
+calls_before d h w k = length (calls_on (is_on d) (completed_calls_of w (past_at k h)))
 
 -- the entries of the accepted try that ends at entry last: its reader read its version at entry
 -- first, got each value at entry got j, one after another, and read the version again at entry

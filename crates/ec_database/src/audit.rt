@@ -7,7 +7,7 @@ ghost use Rattle.ec_core.specs.Ending.{EndsAt};
 ghost use Rattle.ec_core.specs.Following.{block};
 ghost use Rattle.ec_database.specs.Following.{writes, database_rules, FollowsDatabase};
 ghost use Rattle.ec_database.specs.Tries.{ended_at, accepted_tries, ListsTries, AreUndisturbed};
-ghost use Rattle.ec_database.specs.Auditing.{accepted_try, finished_call, found_in, rows_after, try_ended, HasRow, HoldsGot, ReadsOn, IsVersioning};
+ghost use Rattle.ec_database.specs.Auditing.{accepted_try, completed_call, found_in, rows_after, try_ended, HasRow, HoldsGot, ReadsOn, RepresentsVersions};
 
 use crate::DatabaseShape;
 use crate::lists::{Lists, is_on};
@@ -28,8 +28,8 @@ struct ReaderCall {
 }
 
 /// Returns the call of a reader on the database that an entry completes, if it completes one.
-fn finished_call(lists: &Lists, kept: &ListProgress, op: &Act, entry: &Entry) -> Option<ReaderCall>
-    ensures { result ≡ finished_call lists.now.shape.now (writes lists.now.setup.now lists.now.shape.now entry.now.worker) kept.now op.now entry.now }
+fn completed_call(lists: &Lists, kept: &ListProgress, op: &Act, entry: &Entry) -> Option<ReaderCall>
+    ensures { result ≡ completed_call lists.now.shape.now (writes lists.now.setup.now lists.now.shape.now entry.now.worker) kept.now op.now entry.now }
 {
     if lists.writes(entry.worker) {
         return None;
@@ -115,7 +115,7 @@ impl Got {
             → tries.new.list ≡ accepted_tries lists.now.shape.now (writes lists.now.setup.now lists.now.shape.now) (entry.now ∷ past)) }
     {
         let _reader = entry.worker.get();
-        let Some(call) = finished_call(lists, kept, op, entry) else {
+        let Some(call) = completed_call(lists, kept, op, entry) else {
             return Ok(());
         };
         let cells = lists.shape.cells();
@@ -132,7 +132,7 @@ pub struct VersionAudit<'a> {
     tracker: Tracker,
     got: Got,
     tries: AcceptedTries,
-    lacks: bool,
+    out_of_memory: bool,
 }
 
 impl<'a> Model for VersionAudit<'a> {
@@ -141,15 +141,15 @@ impl<'a> Model for VersionAudit<'a> {
 
     ghost Value = { VersionAuditModel };
 
-    ghost view = { λ s. record { shape = s.lists.shape.now; setup = s.lists.setup.now; tracked = s.tracker; rows = s.got.rows; list = s.tries.list; lacks = s.lacks } };
+    ghost view = { λ s. record { shape = s.lists.shape.now; setup = s.lists.setup.now; tracked = s.tracker; rows = s.got.rows; list = s.tries.list; out_of_memory = s.out_of_memory } };
 
     ghost invariant = { λ s. s.tries.cells ≡ s.lists.shape.now.cells };
 }
 
 /// Processes the next entry, and adds the accepted try that it ends, unless an allocation has
 /// failed before. Returns whether one has failed.
-fn lacks_after(
-    lacks: bool,
+fn add_fails(
+    out_of_memory: bool,
     lists: &Lists,
     kept: &ListProgress,
     op: &Act,
@@ -159,7 +159,7 @@ fn lacks_after(
 ) -> bool
     requires { tries.old.cells ≡ lists.now.shape.now.cells }
     ensures cells { tries.new.cells ≡ tries.old.cells }
-    ensures before { result ≡ false → lacks ≡ false }
+    ensures before { result ≡ false → out_of_memory ≡ false }
     ensures held { result ≡ false → (past : List Entry) → ReadsOn lists.now.setup.now lists.now.shape.now kept.now op.now entry.now past
         → HoldsGot lists.now.shape.now (writes lists.now.setup.now lists.now.shape.now) got.old.rows past
         → HoldsGot lists.now.shape.now (writes lists.now.setup.now lists.now.shape.now) got.new.rows (entry.now ∷ past) }
@@ -168,7 +168,7 @@ fn lacks_after(
         → tries.old.list ≡ accepted_tries lists.now.shape.now (writes lists.now.setup.now lists.now.shape.now) past
         → tries.new.list ≡ accepted_tries lists.now.shape.now (writes lists.now.setup.now lists.now.shape.now) (entry.now ∷ past) }
 {
-    lacks || got.take(lists, kept, op, entry, tries).is_err()
+    out_of_memory || got.take(lists, kept, op, entry, tries).is_err()
 }
 
 impl<'a> Audit for VersionAudit<'a> {
@@ -183,10 +183,10 @@ impl<'a> Audit for VersionAudit<'a> {
             tracker,
             got,
             tries,
-            lacks,
+            out_of_memory,
         } = self;
         let kept = tracker.list_progress(entry.worker);
-        *lacks = lacks_after(*lacks, lists, &kept, op, entry, got, tries);
+        *out_of_memory = add_fails(*out_of_memory, lists, &kept, op, entry, got, tries);
         tracker.take(lists, place, op, entry);
     }
 }
@@ -196,7 +196,7 @@ impl<'a> VersionAudit<'a> {
     pub fn new(alloc: Global, shape: &'a DatabaseShape, setup: &'a Setup) -> Self
         ensures shape { result.shape ≡ shape.now }
         ensures setup { result.setup ≡ setup.now }
-        ensures first { IsVersioning result [] }
+        ensures first { RepresentsVersions result [] }
     {
         let lists = Lists::new(shape, setup);
         let tracker = Tracker::new(&lists);
@@ -205,13 +205,13 @@ impl<'a> VersionAudit<'a> {
             tracker,
             got: Got::new(),
             tries: AcceptedTries::new(alloc, shape.cells()),
-            lacks: false,
+            out_of_memory: false,
         }
     }
 
     /// Returns how many calls of its current list a worker has completed, after the entries so far.
     pub fn completed_count(&self, worker: WorkerId) -> usize
-        ensures { (past : List Entry) → IsVersioning self.now past → result ≡ length (block (database_rules self.now.setup self.now.shape worker) worker past) }
+        ensures { (past : List Entry) → RepresentsVersions self.now past → result ≡ length (block (database_rules self.now.setup self.now.shape worker) worker past) }
     {
         let kept = self.tracker.list_progress(worker);
         kept.at
@@ -221,7 +221,7 @@ impl<'a> VersionAudit<'a> {
     pub fn accepted_count(&self) -> Option<usize>
         ensures { result ≡ found_in self.now }
     {
-        if self.lacks {
+        if self.out_of_memory {
             None
         } else {
             Some(self.tries.len())
@@ -237,23 +237,23 @@ impl<'a> VersionAudit<'a> {
 
     /// Returns the accepted tries after the entries so far, as `versions` lists them.
     pub fn finish(self) -> Result<AcceptedTries, AuditFault>
-        ensures followed { (h : List Entry) → EndsAt self.entry.setup (IsVersioning self.entry) h → OnOk result (FollowsDatabase self.entry.setup self.entry.shape (reverse h)) }
-        ensures tries { (h : List Entry) → EndsAt self.entry.setup (IsVersioning self.entry) h → IfOk result (λ tries. ListsTries self.entry.setup self.entry.shape h tries.list) }
-        ensures undisturbed { (h : List Entry) → EndsAt self.entry.setup (IsVersioning self.entry) h → IfOk result (λ tries. AreUndisturbed self.entry.setup self.entry.shape h tries.list) }
-        ensures err { (h : List Entry) → EndsAt self.entry.setup (IsVersioning self.entry) h → IfErr result (IsAuditFault (database_rules self.entry.setup self.entry.shape) h) }
+        ensures followed { (h : List Entry) → EndsAt self.entry.setup (RepresentsVersions self.entry) h → OnOk result (FollowsDatabase self.entry.setup self.entry.shape (reverse h)) }
+        ensures tries { (h : List Entry) → EndsAt self.entry.setup (RepresentsVersions self.entry) h → IfOk result (λ tries. ListsTries self.entry.setup self.entry.shape h tries.list) }
+        ensures undisturbed { (h : List Entry) → EndsAt self.entry.setup (RepresentsVersions self.entry) h → IfOk result (λ tries. AreUndisturbed self.entry.setup self.entry.shape h tries.list) }
+        ensures err { (h : List Entry) → EndsAt self.entry.setup (RepresentsVersions self.entry) h → IfErr result (IsAuditFault (database_rules self.entry.setup self.entry.shape) h) }
     {
         let VersionAudit {
             lists,
             tracker,
             tries,
-            lacks,
+            out_of_memory,
             ..
         } = self;
         lists.shape.invariant();
         if let Err(fault) = tracker.finding() {
             return Err(fault);
         }
-        if lacks {
+        if out_of_memory {
             return Err(AuditFault::Memory);
         }
         Ok(tries)
@@ -262,7 +262,7 @@ impl<'a> VersionAudit<'a> {
     /// Returns the accepted tries after all entries of a run, as `versions` lists them.
     pub fn versions(self, run: &Run) -> Result<AcceptedTries, AuditFault>
         requires setup { self.setup ≡ run.now.setup }
-        requires represents { IsVersioning self (reverse run.now.entries) }
+        requires represents { RepresentsVersions self (reverse run.now.entries) }
         ensures followed { OnOk result (FollowsDatabase run.now.setup self.entry.shape (reverse run.now.entries)) }
         ensures tries { IfOk result (λ tries. ListsTries run.now.setup self.entry.shape run.now.entries tries.list) }
         ensures undisturbed { IfOk result (λ tries. AreUndisturbed run.now.setup self.entry.shape run.now.entries tries.list) }

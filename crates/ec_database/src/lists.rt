@@ -6,7 +6,7 @@ ghost use Rattle.ec_core.specs.declared.act.Act.TheVariants.{Read, Ticket, Get};
 ghost use Rattle.ec_core.specs.Following.{CompletedCall};
 ghost use Rattle.ec_database.specs.Following.{is_cell, is_on, writes, rules};
 ghost use Rattle.ec_database.specs.Auditing.{ArePlaced};
-ghost use Rattle.ec_database.specs.Places.{list_progress};
+ghost use Rattle.ec_database.specs.SnapshotPhases.{list_progress};
 
 use crate::DatabaseShape;
 use crate::places::{try_at, write_at};

@@ -1,6 +1,6 @@
 //! The call lists of a database, by index.
 ghost use Rattle.std.specs.Prelude.{◌≡◌, ℕ, ◌-◌, List, get_or};
-ghost use Rattle.ec_database.specs.Places.{write_at, try_at};
+ghost use Rattle.ec_database.specs.SnapshotPhases.{write_at, try_at};
 
 use crate::DatabaseShape;
 use ec_core::Act;

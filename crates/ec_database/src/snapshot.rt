@@ -32,7 +32,7 @@ pub struct Snapshot {
 
 impl Snapshot {
     ghost use Rattle.ec_database.specs.Standing.{try_place, ending};
-    ghost use Rattle.ec_database.specs.Places.{next_place};
+    ghost use Rattle.ec_database.specs.SnapshotPhases.{next_phase};
 
     /// Makes a snapshot of at most so many tries, from 1 to 1000.
     pub fn new(shape: DatabaseShape, tries: usize) -> Self
@@ -57,7 +57,7 @@ impl Snapshot {
     /// Takes the number that the current call returned.
     fn take_reply(&mut self, number: u64)
         requires { self.old.at ≤ self.old.shape.cells + 2 }
-        ensures place { try_place self.new ≡ next_place self.old.shape (try_place self.old) number }
+        ensures place { try_place self.new ≡ next_phase self.old.shape (try_place self.old) number }
         ensures going { self.new.going ≡ false }
         ensures same { self.new.shape ≡ self.old.shape }
     {
@@ -97,7 +97,7 @@ impl Snapshot {
 }
 
 impl Procedure for Snapshot {
-    ghost use Rattle.ec_database.specs.Places.{snapshot_rest};
+    ghost use Rattle.ec_database.specs.SnapshotPhases.{snapshot_rest};
     ghost use Rattle.ec_database.specs.Standing.{try_place, ending};
 
     ghost rest = { λ s calls. snapshot_rest s.shape (try_place s) calls };

@@ -4,7 +4,7 @@ ghost use Rattle.std.specs.List.{All};
 ghost use Rattle.arrayvec.specs.ArrayVec.{array_vec_len};
 ghost use Rattle.ec_core.specs.Following.{CompletedCall};
 ghost use Rattle.ec_database.specs.Calls.{write_call};
-ghost use Rattle.ec_database.specs.Places.{write_rest};
+ghost use Rattle.ec_database.specs.SnapshotPhases.{write_rest};
 
 use crate::DatabaseShape;
 use crate::places::write_at;
@@ -67,7 +67,7 @@ impl WriteAll {
 }
 
 impl Procedure for WriteAll {
-    ghost use Rattle.ec_database.specs.Places.{write_rest};
+    ghost use Rattle.ec_database.specs.SnapshotPhases.{write_rest};
 
     ghost rest = { λ s calls. write_rest s.shape s.values.items s.at s.turn calls };
 

@@ -15,7 +15,7 @@ use Rattle.ec_core.proofs.shared.Places.{get_set}
 use Rattle.ec_database.specs.Shapes.{Database}
 use Rattle.ec_database.specs.Following.{is_on, writes, database_rules, FollowsDatabase}
 use Rattle.ec_database.specs.Tries.{accepted_tries, ended_at}
-use Rattle.ec_database.specs.Auditing.{VersionAuditModel, IsVersioning, found_in}
+use Rattle.ec_database.specs.Auditing.{VersionAuditModel, RepresentsVersions, found_in}
 use Rattle.ec_draw.specs.declared.window.Window.{Window}
 use Rattle.ec_draw.specs.declared.shade.Span.{Span}
 use Rattle.ec_draw.specs.Shades.{ShadeModel, AddsNewest, AreStarts, begins_list, list_start}
@@ -97,10 +97,10 @@ newest [] None = refl
 newest [] (Some x) = refl
 newest (y ∷ ys) o = newest ys o
 
-counted : (a : VersionAuditModel) (n : ℕ) → Some n ≡ found_in a → (a.lacks ≡ false)
+counted : (a : VersionAuditModel) (n : ℕ) → Some n ≡ found_in a → (a.out_of_memory ≡ false)
     × (n ≡ length a.list)
 counted a n e =
-    elim (a.lacks) as (λ b. Some n ≡ cond b None (Some (length a.list))
+    elim (a.out_of_memory) as (λ b. Some n ≡ cond b None (Some (length a.list))
     → (b ≡ false) × (n ≡ length a.list)) [
       | true ↦ λ f. (cc)
       | false ↦ λ f. (refl, (cc))
@@ -109,7 +109,8 @@ counted a n e =
 -- one entry more
 pub shades_next : (a b : VersionAuditModel) (w : Window) (x : Entry) (past : List Entry)
     (before : Option ℕ) (span : Span) (hs gs : List ShadeModel)
-    → b.shape ≡ a.shape → b.setup ≡ a.setup → IsVersioning a past → IsVersioning b (x ∷ past)
+    → b.shape ≡ a.shape → b.setup ≡ a.setup → RepresentsVersions a past
+    → RepresentsVersions b (x ∷ past)
     → before ≡ found_in a → span ≡ span_at b.setup b.shape x past
     → hs ≡ shades_shown b.setup b.shape w past → AddsNewest b.shape.start w span before b hs gs
     → gs ≡ shades_shown b.setup b.shape w (x ∷ past)
@@ -139,7 +140,8 @@ shades_next a b w x past (Some n) span hs gs same on old new is at was adds =
 pub tries_next : (a b : VersionAuditModel) (d : Database) (w : Window) (x : Entry) (past : List Entry)
     (before : Option ℕ) (count i place : ℕ) (starts : List ℕ) (hs gs : List ShadeModel)
     → x.worker < 16 → i ≡ x.worker → place ≡ length past → a.shape ≡ d → b.shape ≡ a.shape
-    → b.setup ≡ a.setup → IsVersioning a past → IsVersioning b (x ∷ past) → before ≡ found_in a
+    → b.setup ≡ a.setup → RepresentsVersions a past → RepresentsVersions b (x ∷ past)
+    → before ≡ found_in a
     → AreStarts a.setup d starts past → hs ≡ shades_shown a.setup d w past → count ≡ d.start
     → AddsNewest count w (record { first = slice_index starts i; last = place }) before b hs gs
     → gs ≡ shades_shown b.setup d w (x ∷ past)

@@ -26,7 +26,7 @@ use Rattle.ec_draw.specs.declared.window.Window.{Window}
 use Rattle.ec_draw.specs.declared.open.PendingBar.{PendingBar}
 use Rattle.ec_draw.specs.declared.dot.Dot.{Dot}
 use Rattle.ec_draw.specs.Windows.{shows}
-use Rattle.ec_draw.specs.Open.{begins, begun_at, open_bars_of, open_calls, open_of}
+use Rattle.ec_draw.specs.Open.{begins, begun_at, open_bars_of, pending_bars_of, open_of}
 use Rattle.ec_draw.specs.Dots.{dot_of, dots_of}
 
 -- MOMENTS
@@ -78,16 +78,16 @@ pub begun_none : (w : ℕ) (h : List Entry) → begun_at w (past_at 0 h) ≡ 0
 unfolding begun_at
 begun_none w h = refl
 
-pub no_open : (w : Window) (past : List Entry) → [] ≡ open_calls w 0 past
-unfolding open_calls
+pub no_open : (w : Window) (past : List Entry) → [] ≡ pending_bars_of w 0 past
+unfolding pending_bars_of
 no_open w past = refl
 
 pub more_open : (w : Window) (past : List Entry) (n : ℕ) (os : List PendingBar)
-    → os ≡ open_calls w n past
-    → os ++ open_bars_of w n past ≡ open_calls w (n + 1) past
-unfolding open_calls
+    → os ≡ pending_bars_of w n past
+    → os ++ open_bars_of w n past ≡ pending_bars_of w (n + 1) past
+unfolding pending_bars_of
 more_open w past n os is = ap (λ z. z ++ open_bars_of w n past) is
-    ∙ ap (λ m. open_calls w m past) (sym (add-one n))
+    ∙ ap (λ m. pending_bars_of w m past) (sym (add-one n))
 
 -- DOTS
 

@@ -32,11 +32,11 @@ use Rattle.ec_semaphore.proofs.Moments.{never_negative}
 use Rattle.ec_draw.specs.declared.window.Window.{Window}
 use Rattle.ec_draw.specs.declared.arrow.Move.{Move}
 use Rattle.ec_draw.specs.declared.arrow.Move.TheVariants as moves
-use Rattle.ec_draw.specs.Balances.{units_left_after, lefts, list_if_moment}
+use Rattle.ec_draw.specs.Balances.{units_left_after, units_left_at_moments, list_if_moment}
 use Rattle.ec_draw.specs.LeftOut.{told_long}
 use Rattle.ec_draw.specs.Shades.{ShadeModel, shade, shade_at, shades_in, span_at}
 use Rattle.ec_draw.specs.Arrows.{arrow_of, is_move, move_position, places}
-use Rattle.ec_draw.specs.Laws.{BalanceCurvesAreLefts, LeftsAreBalances, ShadesEndTries}
+use Rattle.ec_draw.specs.Laws.{BalanceCurvesAreUnitsLeft, UnitsLeftAreBalances, ShadesEndTries}
 use Rattle.ec_draw.specs.Laws.{TriesHaveShades, ArrowsAreDeliveries, IsArrow}
 use Rattle.ec_draw.proofs.Stepping.{long_past}
 use Rattle.ec_draw.proofs.WalkLemmas.{taken}
@@ -77,27 +77,29 @@ split_last (suc k) (suc m) le =
 less : (a d : ℕ) → pos 0 ≤ℤ (pos a -ℤ pos d) → pos (a - d) ≡ pos a -ℤ pos d
 less a d low = (let few : d ≤ a = omega (arith, ints) in omega (arith, ints))
 
-pub lefts_are_balances : LeftsAreBalances
+pub lefts_are_balances : UnitsLeftAreBalances
 lefts_are_balances s t k h dec acc f =
     less (s.initial + ups s (past_at k h)) (downs s (past_at k h))
     (never_negative s t k h dec acc f)
 
 lefts_step : (s : Semaphore) (w : Window) (h : List Entry) (m : ℕ) (x : Entry)
     → slice_get h m ≡ Some x
-    → lefts s w (past_at (suc m) h) ≡ lefts s w (past_at m h)
+    → units_left_at_moments s w (past_at (suc m) h) ≡ units_left_at_moments s w (past_at m h)
     ++ list_if_moment w (m + 1) (units_left_after s (past_at (suc m) h))
-unfolding lefts
+unfolding units_left_at_moments
 lefts_step s w h m x at =
     let p = past_at m h in
     let next : past_at (suc m) h ≡ x ∷ p = past_next h m x at in
-    ap (lefts s w) next
-    ∙ ap (λ n. lefts s w p
+    ap (units_left_at_moments s w) next
+    ∙ ap (λ n. units_left_at_moments s w p
     ++ list_if_moment w (n + 1) (units_left_after s (x ∷ p))) (long_past h m x at)
-    ∙ ap (λ q. lefts s w p ++ list_if_moment w (m + 1) (units_left_after s q)) (sym next)
+    ∙ ap (λ q. units_left_at_moments s w p
+    ++ list_if_moment w (m + 1) (units_left_after s q)) (sym next)
 
 lefts_none : (s : Semaphore) (w : Window) (h : List Entry)
-    → lefts s w (past_at 0 h) ≡ list_if_moment w 0 (units_left_after s (past_at 0 h))
-unfolding lefts
+    → units_left_at_moments s w (past_at 0 h)
+    ≡ list_if_moment w 0 (units_left_after s (past_at 0 h))
+unfolding units_left_at_moments
 lefts_none s w h = refl
 
 told_yes : (w : Window) (k n : ℕ) → w.from ≤ k → k ≤ w.to → list_if_moment w k n ≡ n ∷ []
@@ -105,7 +107,7 @@ told_yes w k n low high = ap (λ b. cond (b && nat_le k w.to) (n ∷ []) []) (le
     ∙ ap (λ c. cond c (n ∷ []) []) (le-leb k w.to high)
 
 lefts_long : (s : Semaphore) (w : Window) (h : List Entry) (m : ℕ) → m ≤ length h → m ≤ w.to
-    → length (lefts s w (past_at m h)) ≡ m + 1 - w.from
+    → length (units_left_at_moments s w (past_at m h)) ≡ m + 1 - w.from
 lefts_long s w h zero le high =
     let none = ap length (lefts_none s w h) in
     let returned = told_long w 0 (units_left_after s (past_at 0 h)) high in
@@ -117,12 +119,13 @@ lefts_long s w h (suc m) le high =
     let returned : length (list_if_moment w (m + 1) n) + (m + 1 - w.from) ≡ m + 1 + 1 - w.from =
     told_long w (m + 1) n (omega arith) in
     let all = ap length (lefts_step s w h m x.0 x.1)
-    ∙ length-append (lefts s w (past_at m h)) (list_if_moment w (m + 1) n) in
+    ∙ length-append (units_left_at_moments s w (past_at m h)) (list_if_moment w (m + 1) n) in
     omega arith
 
 lefts_at : (s : Semaphore) (w : Window) (h : List Entry) (m k : ℕ) → m ≤ length h → k ≤ m
     → w.from ≤ k → k ≤ w.to
-    → slice_get (lefts s w (past_at m h)) (k - w.from) ≡ Some (units_left_after s (past_at k h))
+    → slice_get (units_left_at_moments s w (past_at m h)) (k - w.from)
+    ≡ Some (units_left_after s (past_at k h))
 lefts_at s w h zero k le in' low high =
     let n = units_left_after s (past_at 0 h) in
     let at : k ≡ 0 = omega arith in
@@ -136,22 +139,23 @@ lefts_at s w h (suc m) k le in' low high =
     let step = lefts_step s w h m x.0 x.1 in
     elim (split_last k m in') [
       | inl before ↦ ap (λ l. slice_get l (k - w.from)) step
-          ∙ still_there (lefts s w (past_at m h)) (list_if_moment w (m + 1) n) (k - w.from)
+          ∙ still_there (units_left_at_moments s w (past_at m h)) (list_if_moment w (m + 1) n) (k - w.from)
           (units_left_after s (past_at k h)) (lefts_at s w h m k (omega arith) before low high)
       | inr last ↦
           (let long = lefts_long s w h m (omega arith) (omega arith) in
-          let place : k - w.from ≡ length (lefts s w (past_at m h)) + 0 = omega arith in
+          let place : k - w.from ≡ length (units_left_at_moments s w (past_at m h)) + 0 =
+          omega arith in
           ap (λ l. slice_get l (k - w.from)) step
-          ∙ get_back (lefts s w (past_at m h)) (list_if_moment w (m + 1) n) (k - w.from) 0 place
+          ∙ get_back (units_left_at_moments s w (past_at m h)) (list_if_moment w (m + 1) n) (k - w.from) 0 place
           ∙ ap (λ l. slice_get l 0) (told_yes w (m + 1) n (omega arith) (omega arith))
           ∙ ap (λ j. Some (units_left_after s (past_at j h))) (sym last))
     ]
 
-pub curves_are_lefts : BalanceCurvesAreLefts
+pub curves_are_lefts : BalanceCurvesAreUnitsLeft
 curves_are_lefts s w h j high in' =
     let place : w.from + j - w.from ≡ j = omega arith in
-    ap (λ p. slice_get (lefts s w (reverse p)) j) (sym (take-length h))
-    ∙ ap (slice_get (lefts s w (past_at (length h) h))) (sym place)
+    ap (λ p. slice_get (units_left_at_moments s w (reverse p)) j) (sym (take-length h))
+    ∙ ap (slice_get (units_left_at_moments s w (past_at (length h) h))) (sym place)
     ∙ lefts_at s w h (length h) (w.from + j) (omega arith) in' (omega arith) high
 
 -- SHADES

@@ -7,7 +7,7 @@ use Rattle.ec_count.specs.Tables.{Tables}
 use Rattle.ec_core.specs.declared.act.Act.{Act}
 use Rattle.ec_core.specs.declared.act.Entry.{Entry}
 use Rattle.ec_buffer.specs.declared.delivery.Delivery.{Delivery}
-use Rattle.ec_buffer.specs.Auditing.{DeliveryAuditModel, IsDelivering}
+use Rattle.ec_buffer.specs.Auditing.{DeliveryAuditModel, RepresentsDeliveries}
 use Rattle.ec_buffer.specs.Shapes.{Buffer}
 use Rattle.ec_buffer.specs.Follows.{buffer_rules}
 use Rattle.ec_buffer.specs.Items.{put_on, is_get_on}
@@ -73,16 +73,16 @@ pub record MovesModel : Type 0 where
   pub shape : Buffer
   pub puts : List ℕ
   pub gets : List ℕ
-  pub lacks : Bool
+  pub out_of_memory : Bool
 
 -- it is the state after the history so far
-pub record IsMoving (m : MovesModel) (past : List Entry) : Type 0 where
+pub record RepresentsMoves (m : MovesModel) (past : List Entry) : Type 0 where
   pub shape : m.audit.shape ≡ m.shape
-  pub audit : IsDelivering m.audit past
-  pub puts : m.lacks ≡ false → m.puts ≡ places moves.Put m.shape past
-  pub gets : m.lacks ≡ false → m.gets ≡ places moves.Get m.shape past
+  pub audit : RepresentsDeliveries m.audit past
+  pub puts : m.out_of_memory ≡ false → m.puts ≡ places moves.Put m.shape past
+  pub gets : m.out_of_memory ≡ false → m.gets ≡ places moves.Get m.shape past
 
 -- it is the state of the same buffer after the history so far
 abbrev pub MovesOn : MovesModel → MovesModel → List Entry → Type 0
 MovesOn start now past = (now.shape ≡ start.shape) × (now.audit.setup ≡ start.audit.setup)
-    × IsMoving now past
+    × RepresentsMoves now past

@@ -6,9 +6,9 @@ use Rattle.std.specs.List.{flat_map}
 use Rattle.ec_core.specs.declared.act.Entry.{Entry}
 use Rattle.ec_semaphore.specs.Shapes.{Semaphore}
 use Rattle.ec_semaphore.specs.Uses.{use_rules}
-use Rattle.ec_semaphore.specs.Both.{is_line, both_rules}
+use Rattle.ec_semaphore.specs.Both.{is_semaphore_sequencer, both_rules}
 use Rattle.ec_semaphore.specs.Balances.{downs, ups}
-use Rattle.ec_semaphore.specs.Auditing.{BalanceAuditModel, IsCounted}
+use Rattle.ec_semaphore.specs.Auditing.{BalanceAuditModel, RepresentsBalance}
 use Rattle.ec_heading.specs.declared.group.Group.{Group}
 use Rattle.ec_heading.specs.declared.group.Group.TheVariants as groups
 use Rattle.ec_heading.specs.Rules.{semaphores_of}
@@ -32,27 +32,28 @@ abbrev pub list_if_moment : Window → ℕ → ℕ → List ℕ
 list_if_moment w k n = if has_moment w k then n ∷ [] else []
 
 -- the units left at each moment of the history so far that is shown, in order
-unfoldable pub lefts : Semaphore → Window → List Entry → List ℕ
-lefts s w [] = list_if_moment w 0 (units_left_after s [])
-lefts s w (x ∷ past) = lefts s w past
+unfoldable pub units_left_at_moments : Semaphore → Window → List Entry → List ℕ
+units_left_at_moments s w [] = list_if_moment w 0 (units_left_after s [])
+units_left_at_moments s w (x ∷ past) = units_left_at_moments s w past
     ++ list_if_moment w (length past + 1) (units_left_after s (x ∷ past))
 
 -- CURVES
 
 -- the curve of a semaphore's balance; its eventcount identifies the semaphore
-abbrev pub balance_line : Window → List Entry → Semaphore → CurveModel
-balance_line w h s = record { object = Balance s.count; heights = lefts s w (reverse h) }
+abbrev pub balance_curve : Window → List Entry → Semaphore → CurveModel
+balance_curve w h s =
+    record { object = Balance s.count; heights = units_left_at_moments s w (reverse h) }
 
-abbrev pub line_if : Bool → CurveModel → List CurveModel
-line_if b l = if b then l ∷ [] else []
+abbrev pub curve_if : Bool → CurveModel → List CurveModel
+curve_if b l = if b then l ∷ [] else []
 
 -- the curve of a group, if it is a semaphore or `both` and its workers follow its rules; these are
 -- all the semaphores
 abbrev pub group_line : List Semaphore → Window → List Entry → Group → List CurveModel
 group_line all w h (groups.Semaphore s) =
-    line_if (follows (use_rules s) (reverse h)) (balance_line w h s)
+    curve_if (follows (use_rules s) (reverse h)) (balance_curve w h s)
 group_line all w h (groups.Both c) =
-    line_if (follows (both_rules c (is_line c all)) (reverse h)) (balance_line w h c)
+    curve_if (follows (both_rules c (is_semaphore_sequencer c all)) (reverse h)) (balance_curve w h c)
 group_line all w h _ = []
 
 -- the curves of all groups
@@ -67,11 +68,11 @@ moments w k = min k w.to + 1 - w.from
 
 -- the state of a semaphore: its audit, and the units left at the first of the moments that are
 -- shown, or that an allocation failed
-pub record Course : Type 0 where
+pub record BalanceState : Type 0 where
   pub audit : BalanceAuditModel
   pub window : Window
   pub heights : List ℕ
-  pub lacks : Bool
+  pub out_of_memory : Bool
 
 -- how many units the semaphore has left by its audit
 abbrev pub left_by : BalanceAuditModel → ℕ
@@ -79,7 +80,7 @@ left_by a = a.shape.initial + a.ups - a.downs
 
 -- the units left at each moment that is shown up to moment k; none was added or taken since the
 -- latest moment that is stored
-abbrev pub pad : Course → ℕ → List ℕ
+abbrev pub pad : BalanceState → ℕ → List ℕ
 pad c k = c.heights ++ replicate (moments c.window k - length c.heights) (left_by c.audit)
 
 -- no count of the semaphore overflows after the history so far
@@ -87,12 +88,12 @@ abbrev pub IsSmall : Semaphore → List Entry → Type 0
 IsSmall s past = s.initial + ups s past < 2 ^ 64
 
 -- it is the state after the history so far
-pub record IsCourse (c : Course) (past : List Entry) : Type 0 where
-  pub counted : IsCounted c.audit past
-  pub heights : c.lacks ≡ false → IsSmall c.audit.shape past
-      → pad c (length past) ≡ lefts c.audit.shape c.window past
+pub record RepresentsCurve (c : BalanceState) (past : List Entry) : Type 0 where
+  pub counted : RepresentsBalance c.audit past
+  pub heights : c.out_of_memory ≡ false → IsSmall c.audit.shape past
+      → pad c (length past) ≡ units_left_at_moments c.audit.shape c.window past
 
 -- it is the state of the same semaphore after the history so far
-abbrev pub CoursesOn : Course → Course → List Entry → Type 0
-CoursesOn start now past = (now.window ≡ start.window) × (now.audit.shape ≡ start.audit.shape)
-    × IsCourse now past
+abbrev pub BalanceStatesOn : BalanceState → BalanceState → List Entry → Type 0
+BalanceStatesOn start now past = (now.window ≡ start.window) × (now.audit.shape ≡ start.audit.shape)
+    × RepresentsCurve now past

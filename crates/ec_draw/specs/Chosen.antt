@@ -13,7 +13,7 @@ use Rattle.ec_draw.specs.declared.curve.CurveSource.{CurveSource}
 use Rattle.ec_draw.specs.declared.curve.CurveSource.TheVariants as plotted
 use Rattle.ec_draw.specs.declared.curve.Counter.TheVariants as counted
 use Rattle.ec_draw.specs.declared.arrow.Arrow.{Arrow}
-use Rattle.ec_draw.specs.declared.chosen.Choice.{Choice}
+use Rattle.ec_draw.specs.declared.chosen.NameFilter.{NameFilter}
 use Rattle.ec_draw.specs.Shades.{ShadeModel}
 
 -- CHOSEN NAMES
@@ -33,16 +33,16 @@ abbrev pub is_chosen : List (Bor (List ℕ)) → List ℕ → Bool
 is_chosen names word = (length names == 0) || list_any (λ name. is_name_of word name.now) names
 
 -- the names that can choose a target
-abbrev pub names_for : Choice → Target → List (Bor (List ℕ))
+abbrev pub names_for : NameFilter → Target → List (Bor (List ℕ))
 names_for n (Worker w) = n.workers.now
 names_for n _ = n.objects.now
 
 -- whether the target of a word is drawn
-abbrev pub is_drawn : Choice → List ℕ × Target → Bool
+abbrev pub is_drawn : NameFilter → List ℕ × Target → Bool
 is_drawn n e = is_chosen (names_for n e.1) e.0
 
 -- the targets of a symbol table that are drawn
-abbrev pub chosen_targets : Choice → NameTable → List Target
+abbrev pub chosen_targets : NameFilter → NameTable → List Target
 chosen_targets n words = map (λ (e : List ℕ × Target). e.1) (filter (is_drawn n) words)
 
 -- WHAT IS DRAWN IF THESE TARGETS ARE CHOSEN

@@ -49,22 +49,23 @@ abbrev pub curve_of_count : Window → List Entry → Counter → CurveModel
 curve_of_count w h object = record { object = Count object; heights = heights object w h }
 
 -- the curves of the first n eventcounts
-unfoldable pub event_lines : Window → List Entry → ℕ → List CurveModel
-event_lines w h zero = []
-event_lines w h (suc n) = event_lines w h n ++ curve_of_count w h (Event n) ∷ []
+unfoldable pub event_curves : Window → List Entry → ℕ → List CurveModel
+event_curves w h zero = []
+event_curves w h (suc n) = event_curves w h n ++ curve_of_count w h (Event n) ∷ []
 
 -- the curves of the first n sequencers
-unfoldable pub sequencer_lines : Window → List Entry → ℕ → List CurveModel
-sequencer_lines w h zero = []
-sequencer_lines w h (suc n) = sequencer_lines w h n ++ curve_of_count w h (Sequencer n) ∷ []
+unfoldable pub sequencer_curves : Window → List Entry → ℕ → List CurveModel
+sequencer_curves w h zero = []
+sequencer_curves w h (suc n) = sequencer_curves w h n ++ curve_of_count w h (Sequencer n) ∷ []
 
 -- the curves of all that is counted: the eventcounts, and then the sequencers
-abbrev pub lines : Tables → Window → List Entry → List CurveModel
-lines t w h = event_lines w h (length t.events) ++ sequencer_lines w h (length t.takers)
+abbrev pub curves_of_counts : Tables → Window → List Entry → List CurveModel
+curves_of_counts t w h = event_curves w h (length t.events)
+    ++ sequencer_curves w h (length t.takers)
 
 -- IN A WORLD
 
 -- what is counted is declared
-abbrev pub IsCounted : Tables → Counter → Type 0
-IsCounted t (Event e) = e < length t.events
-IsCounted t (Sequencer q) = q < length t.takers
+abbrev pub IsDeclaredCounter : Tables → Counter → Type 0
+IsDeclaredCounter t (Event e) = e < length t.events
+IsDeclaredCounter t (Sequencer q) = q < length t.takers

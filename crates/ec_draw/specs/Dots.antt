@@ -7,7 +7,7 @@ use Rattle.ec_core.specs.declared.act.Act.TheVariants.{Advance, Read, Await, Go}
 use Rattle.ec_core.specs.declared.act.Entry.{Entry}
 use Rattle.ec_core.specs.Calls.{CallSoFar, under_way}
 use Rattle.ec_core.specs.Counts.{component_at, component_total}
-use Rattle.ec_core.specs.Rounds.{event_or, next_component, read_of, component_count}
+use Rattle.ec_core.specs.Rounds.{event_or, next_component, read_event, component_count}
 use Rattle.ec_draw.specs.declared.window.Window.{Window}
 use Rattle.ec_draw.specs.declared.dot.Dot.{Dot}
 use Rattle.ec_draw.specs.Windows.{shows}
@@ -47,7 +47,7 @@ abbrev pub read_by_go : Tables → List Entry → Option CallSoFar → Option �
 read_by_go t past None = None
 read_by_go t past (Some call) =
     option_and_then (λ e. held_in t e (next_component t (event_or call.op) call.moments) past)
-    (read_of call.op)
+    (read_event call.op)
 
 -- what an act of w reads of its component after the history so far
 abbrev pub number_in : Tables → ℕ → List Entry → Act → Option ℕ

@@ -27,7 +27,7 @@ use Rattle.ec_draw.specs.declared.curve.Counter.{Counter}
 use Rattle.ec_draw.specs.Bars.{bars, is_shown}
 use Rattle.ec_draw.specs.Curves.{count_at, heights}
 use Rattle.ec_draw.specs.Following.{follows}
-use Rattle.ec_draw.specs.Balances.{units_left_after, lefts}
+use Rattle.ec_draw.specs.Balances.{units_left_after, units_left_at_moments}
 use Rattle.ec_draw.specs.Open.{begun_at}
 use Rattle.ec_draw.specs.Shades.{ShadeModel, begins_list, shades_in}
 use Rattle.ec_draw.specs.declared.arrow.Arrow.{Arrow}
@@ -66,14 +66,16 @@ FollowingIsAnswered = (rules : ℕ → Rule) (past : List Entry) → follows rul
 
 -- the curve of a balance at column j is the number of units left at moment from + j, up to the last
 -- moment of the history
-abbrev pub BalanceCurvesAreLefts : Type 0
-BalanceCurvesAreLefts = (s : Semaphore) (w : Window) (h : List Entry) (j : ℕ) → w.from + j ≤ w.to
+abbrev pub BalanceCurvesAreUnitsLeft : Type 0
+BalanceCurvesAreUnitsLeft = (s : Semaphore) (w : Window) (h : List Entry) (j : ℕ)
+    → w.from + j ≤ w.to
     → w.from + j ≤ length h
-    → slice_get (lefts s w (reverse h)) j ≡ Some (units_left_after s (past_at (w.from + j) h))
+    → slice_get (units_left_at_moments s w (reverse h)) j
+    ≡ Some (units_left_after s (past_at (w.from + j) h))
 
 -- the units left are the balance, if the semaphore's workers follow its rules
-abbrev pub LeftsAreBalances : Type 0
-LeftsAreBalances = (s : Semaphore) (t : Tables) (k : ℕ) (h : List Entry) → IsDeclared t
+abbrev pub UnitsLeftAreBalances : Type 0
+UnitsLeftAreBalances = (s : Semaphore) (t : Tables) (k : ℕ) (h : List Entry) → IsDeclared t
     → IsAccepted t (reverse h) → Follow (use_rules s) (reverse h)
     → pos (units_left_after s (past_at k h)) ≡ balance_of s (past_at k h)
 

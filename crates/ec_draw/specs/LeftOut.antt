@@ -28,20 +28,20 @@ use Rattle.ec_database.specs.Tries.{accepted_of, ended_at}
 use Rattle.ec_database.proofs.shared.LeftOut.{versioning_off, versioning_going, none_going}
 use Rattle.ec_semaphore.specs.Shapes.{Semaphore}
 use Rattle.ec_semaphore.specs.Uses as semaphores
-use Rattle.ec_semaphore.specs.Auditing.{BalanceAuditModel, IsCounted}
+use Rattle.ec_semaphore.specs.Auditing.{BalanceAuditModel, RepresentsBalance}
 use Rattle.ec_semaphore.specs.Balances.{ups}
 use Rattle.ec_semaphore.proofs.shared.LeftOut.{counted_off, counted_going, pairing_going}
 use Rattle.ec_walk.specs.Walks.{is_on}
 use Rattle.ec_draw.specs.declared.window.Window.{Window}
 use Rattle.ec_draw.specs.declared.arrow.Move.{Move}
 use Rattle.ec_draw.specs.declared.arrow.Move.TheVariants as moves
-use Rattle.ec_draw.specs.declared.finding.Finding.{Finding}
-use Rattle.ec_draw.specs.declared.finding.Finding.TheVariants as finds
-use Rattle.ec_draw.specs.Balances.{Course, IsCourse, IsSmall, left_by, units_left_after, lefts, moments}
+use Rattle.ec_draw.specs.declared.finding.GroupState.{GroupState}
+use Rattle.ec_draw.specs.declared.finding.GroupState.TheVariants as finds
+use Rattle.ec_draw.specs.Balances.{BalanceState, RepresentsCurve, IsSmall, left_by, units_left_after, units_left_at_moments, moments}
 use Rattle.ec_draw.specs.Balances.{pad, list_if_moment}
-use Rattle.ec_draw.specs.Shades.{TriesModel, IsTrying, begins_list, list_start, shade, shades_in}
+use Rattle.ec_draw.specs.Shades.{TriesModel, RepresentsTries, begins_list, list_start, shade, shades_in}
 use Rattle.ec_draw.specs.Shades.{shades_shown, span_at, is_in}
-use Rattle.ec_draw.specs.Arrows.{MovesModel, IsMoving, is_move, places}
+use Rattle.ec_draw.specs.Arrows.{MovesModel, RepresentsMoves, is_move, places}
 use Rattle.ec_draw.specs.Findings.{group_of, FindsOn}
 
 -- BALANCES
@@ -112,8 +112,8 @@ pad_more w k n hs few =
     ∙ sym (append_assoc hs (replicate (moments w k - length hs) n) (list_if_moment w (k + 1) n))
 
 pub lefts_many : (s : Semaphore) (w : Window) (past : List Entry)
-    → length (lefts s w past) ≡ moments w (length past)
-unfolding lefts
+    → length (units_left_at_moments s w past) ≡ moments w (length past)
+unfolding units_left_at_moments
 lefts_many s w [] =
     let none : min 0 w.to ≡ 0 = zero-min w.to in
     let returned = told_long w 0 (units_left_after s []) (omega arith) in
@@ -122,7 +122,7 @@ lefts_many s w (x ∷ past) =
     let was = lefts_many s w past in
     let n = units_left_after s (x ∷ past) in
     let next = moments_next w (length past) n in
-    let all = length-append (lefts s w past) (list_if_moment w (length past + 1) n) in
+    let all = length-append (units_left_at_moments s w past) (list_if_moment w (length past + 1) n) in
     let one : length past + 1 ≡ suc (length past) = omega arith in
     all ∙ ap (λ m. m + length (list_if_moment w (length past + 1) n)) was ∙ sym next
     ∙ ap (moments w) one
@@ -136,14 +136,14 @@ small_before s x past small =
     omega arith
 
 -- the units left by the audit are those that the semaphore has left
-pub left_is : (a : BalanceAuditModel) (past : List Entry) → IsCounted a past
+pub left_is : (a : BalanceAuditModel) (past : List Entry) → RepresentsBalance a past
     → left_by a ≡ units_left_after a.shape past
 left_is a past counted = ap (λ n. a.shape.initial + n - a.downs) counted.ups
     ∙ ap (λ n. a.shape.initial + ups a.shape past - n) counted.downs
 
 -- no more numbers are stored than moments are shown
 pub few_kept : (s : Semaphore) (w : Window) (past : List Entry) (n : ℕ) (hs : List ℕ)
-    → hs ++ replicate (moments w (length past) - length hs) n ≡ lefts s w past
+    → hs ++ replicate (moments w (length past) - length hs) n ≡ units_left_at_moments s w past
     → length hs ≤ moments w (length past)
 few_kept s w past n hs was =
     let m = moments w (length past) in
@@ -153,10 +153,11 @@ few_kept s w past n hs was =
     omega arith
 
 -- a state stays right after an entry that its audit does not process
-course_kept : (c : Course) (x : Entry) (past : List Entry) → IsCounted c.audit (x ∷ past)
-    → IsCourse c past → IsCourse c (x ∷ past)
-unfolding lefts
-course_kept c x past counted is =
+balance_kept : (c : BalanceState) (x : Entry) (past : List Entry)
+    → RepresentsBalance c.audit (x ∷ past)
+    → RepresentsCurve c past → RepresentsCurve c (x ∷ past)
+unfolding units_left_at_moments
+balance_kept c x past counted is =
     let s = c.audit.shape in
     let w = c.window in
     record {
@@ -167,19 +168,19 @@ course_kept c x past counted is =
           let one : suc (length past) ≡ length past + 1 = omega arith in
           ap (pad c) one ∙ pad_more w (length past) (left_by c.audit) c.heights few
           ∙ ap (λ l. l ++ list_if_moment w (length past + 1) (left_by c.audit)) was
-          ∙ ap (λ n. lefts s w past ++ list_if_moment w (length past + 1) n)
+          ∙ ap (λ n. units_left_at_moments s w past ++ list_if_moment w (length past + 1) n)
           (left_is c.audit (x ∷ past) counted));
     }
 
-course_off : (c : Course) (x : Entry) (past : List Entry)
-    → semaphores.is_on c.audit.shape (op_at x past) ≡ false → IsCourse c past
-    → IsCourse c (x ∷ past)
-course_off c x past off is = course_kept c x past (counted_off c.audit x past off is.counted) is
+balance_off : (c : BalanceState) (x : Entry) (past : List Entry)
+    → semaphores.is_on c.audit.shape (op_at x past) ≡ false → RepresentsCurve c past
+    → RepresentsCurve c (x ∷ past)
+balance_off c x past off is = balance_kept c x past (counted_off c.audit x past off is.counted) is
 
-course_going : (c : Course) (x : Entry) (past : List Entry) → is_intermediate x ≡ true
-    → IsCourse c past
-    → IsCourse c (x ∷ past)
-course_going c x past on is = course_kept c x past (counted_going c.audit x past on is.counted) is
+balance_going : (c : BalanceState) (x : Entry) (past : List Entry) → is_intermediate x ≡ true
+    → RepresentsCurve c past
+    → RepresentsCurve c (x ∷ past)
+balance_going c x past on is = balance_kept c x past (counted_going c.audit x past on is.counted) is
 
 -- TRIES
 
@@ -238,7 +239,8 @@ shades_off t d w x past off =
     ∙ ap (filter (is_in w)) (append-nil (shades_in t d past))
 
 trying_off : (a : TriesModel) (x : Entry) (past : List Entry)
-    → databases.is_on a.shape (op_at x past) ≡ false → IsTrying a past → IsTrying a (x ∷ past)
+    → databases.is_on a.shape (op_at x past) ≡ false → RepresentsTries a past
+    → RepresentsTries a (x ∷ past)
 trying_off a x past off is = record {
   shape = is.shape;
   audit = versioning_off a.audit x past
@@ -274,10 +276,10 @@ shades_going t d w v past =
     ∙ ap (filter (is_in w)) (append-nil (shades_in t d past))
 
 trying_going : (a : TriesModel) (x : Entry) (past : List Entry) → is_intermediate x ≡ true
-    → IsTrying a past
-    → IsTrying a (x ∷ past)
+    → RepresentsTries a past
+    → RepresentsTries a (x ∷ past)
 trying_going a x past on is =
-    by_going (λ y. is_intermediate y ≡ true → IsTrying a (y ∷ past)) (λ v on. record {
+    by_going (λ y. is_intermediate y ≡ true → RepresentsTries a (y ∷ past)) (λ v on. record {
       shape = is.shape;
       audit = versioning_going a.audit (going v) past on is.audit;
       starts = λ w lt. is.starts w lt
@@ -302,7 +304,8 @@ places_off m b x past off =
     (move_off m b x.act (under_way x.worker past) off) ∙ append-nil (places m b past)
 
 moving_off : (m : MovesModel) (x : Entry) (past : List Entry)
-    → buffers.is_on m.shape (op_at x past) ≡ false → IsMoving m past → IsMoving m (x ∷ past)
+    → buffers.is_on m.shape (op_at x past) ≡ false → RepresentsMoves m past
+    → RepresentsMoves m (x ∷ past)
 moving_off m x past off is = record {
   shape = is.shape;
   audit = delivering_off m.audit x past
@@ -322,10 +325,10 @@ places_going m b w past = ap (λ c. places m b past ++ cond c (length past ∷ [
     ∙ append-nil (places m b past)
 
 moving_going : (m : MovesModel) (x : Entry) (past : List Entry) → is_intermediate x ≡ true
-    → IsMoving m past
-    → IsMoving m (x ∷ past)
+    → RepresentsMoves m past
+    → RepresentsMoves m (x ∷ past)
 moving_going m x past on is =
-    by_going (λ y. is_intermediate y ≡ true → IsMoving m (y ∷ past)) (λ w on. record {
+    by_going (λ y. is_intermediate y ≡ true → RepresentsMoves m (y ∷ past)) (λ w on. record {
       shape = is.shape;
       audit = delivering_going m.audit (going w) past on is.audit;
       puts = λ ok. is.puts ok ∙ sym (places_going moves.Put m.shape w past);
@@ -334,13 +337,13 @@ moving_going m x past on is =
 
 -- ALL GROUPS
 
-pub finds_off : (start now : Finding) (x : Entry) (past : List Entry)
+pub finds_off : (start now : GroupState) (x : Entry) (past : List Entry)
     → is_on (group_of start) (op_at x past) ≡ false → FindsOn start now past
     → FindsOn start now (x ∷ past)
 finds_off (finds.Balance a) (finds.Balance b) x past off on = (
   on.0,
   on.1,
-  course_off b x past
+  balance_off b x past
       (subst (λ (s : Semaphore). semaphores.is_on s (op_at x past) ≡ false) (sym on.1) off) on.2,
 )
 finds_off (finds.Tries a) (finds.Tries b) x past off on = (
@@ -359,16 +362,16 @@ finds_off (finds.Moves a) (finds.Moves b) x past off on = (
 finds_off (finds.Both a) now x past off on = absurd (true≢false off)
 finds_off start now x past off on = absurd on
 
-pub finds_stay : (start now : Finding) (x : Entry) (past : List Entry) → is_intermediate x ≡ true
+pub finds_stay : (start now : GroupState) (x : Entry) (past : List Entry) → is_intermediate x ≡ true
     → FindsOn start now past → FindsOn start now (x ∷ past)
 finds_stay (finds.Balance a) (finds.Balance b) x past on is =
-    (is.0, is.1, course_going b x past on is.2)
+    (is.0, is.1, balance_going b x past on is.2)
 finds_stay (finds.Tries a) (finds.Tries b) x past on is =
     (is.0, is.1, is.2, trying_going b x past on is.3)
 finds_stay (finds.Moves a) (finds.Moves b) x past on is =
     (is.0, is.1, moving_going b x past on is.2)
-finds_stay (finds.Both a) (finds.Both b) x past on (course, pairs) = (
-  (course.0, course.1, course_going b.course x past on course.2),
+finds_stay (finds.Both a) (finds.Both b) x past on (state, pairs) = (
+  (state.0, state.1, balance_going b.state x past on state.2),
   (pairs.0, pairs.1, pairing_going b.pairs x past on pairs.2),
 )
 finds_stay start now x past on is = absurd is

@@ -34,10 +34,10 @@ abbrev pub open_bars_of : Window → ℕ → List Entry → List PendingBar
 open_bars_of w n past = filter (is_open_shown w) (option_to_list (open_call n past))
 
 -- the shown pending calls of the first n workers
-unfoldable pub open_calls : Window → ℕ → List Entry → List PendingBar
-open_calls w zero past = []
-open_calls w (suc n) past = open_calls w n past ++ open_bars_of w n past
+unfoldable pub pending_bars_of : Window → ℕ → List Entry → List PendingBar
+pending_bars_of w zero past = []
+pending_bars_of w (suc n) past = pending_bars_of w n past ++ open_bars_of w n past
 
 -- the calls that are pending at the end of a history and are shown, in the order of their workers
-abbrev pub open_bars : Tables → Window → List Entry → List PendingBar
-open_bars t w h = open_calls w t.workers (reverse h)
+abbrev pub pending_bars : Tables → Window → List Entry → List PendingBar
+pending_bars t w h = pending_bars_of w t.workers (reverse h)

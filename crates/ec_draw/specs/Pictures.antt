@@ -8,11 +8,11 @@ use Rattle.ec_draw.specs.declared.window.Window.{Window}
 use Rattle.ec_draw.specs.declared.open.PendingBar.{PendingBar}
 use Rattle.ec_draw.specs.declared.dot.Dot.{Dot}
 use Rattle.ec_draw.specs.Bars.{bars}
-use Rattle.ec_draw.specs.Open.{open_bars}
+use Rattle.ec_draw.specs.Open.{pending_bars}
 use Rattle.ec_draw.specs.Dots.{dots_of}
 use Rattle.ec_draw.specs.declared.picture.Picture.{Picture}
 use Rattle.ec_draw.specs.declared.arrow.Arrow.{Arrow}
-use Rattle.ec_draw.specs.Curves.{CurveModel, lines, curve_model}
+use Rattle.ec_draw.specs.Curves.{CurveModel, curves_of_counts, curve_model}
 use Rattle.ec_draw.specs.Balances.{balance_lines}
 use Rattle.ec_draw.specs.Shades.{ShadeModel, shade_model, shades}
 use Rattle.ec_draw.specs.Arrows.{arrows}
@@ -34,9 +34,9 @@ abbrev pub shapes : Tables → List Group → Window → List Entry → Shapes
 shapes t gs w h = record {
   window = w;
   calls = bars t w h;
-  begun = open_bars t w h;
+  begun = pending_bars t w h;
   dots = dots_of t w (reverse h);
-  curves = lines t w h ++ balance_lines gs w h;
+  curves = curves_of_counts t w h ++ balance_lines gs w h;
   shades = shades t gs w h;
   arrows = arrows t gs w h;
 }

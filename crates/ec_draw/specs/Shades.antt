@@ -13,7 +13,7 @@ use Rattle.ec_core.specs.Following.{CompletedCall, Rule, block}
 use Rattle.ec_database.specs.Shapes.{Database}
 use Rattle.ec_database.specs.Following.{is_on, writes, database_rules}
 use Rattle.ec_database.specs.Tries.{AcceptedTry, ended_at}
-use Rattle.ec_database.specs.Auditing.{VersionAuditModel, IsVersioning, accepted_try as shown_try}
+use Rattle.ec_database.specs.Auditing.{VersionAuditModel, RepresentsVersions, accepted_try as shown_try}
 use Rattle.ec_heading.specs.declared.group.Group.{Group}
 use Rattle.ec_heading.specs.declared.group.Group.TheVariants as groups
 use Rattle.ec_draw.specs.declared.window.Window.{Window}
@@ -97,7 +97,7 @@ pub record TriesModel : Type 0 where
   pub window : Window
   pub starts : List ℕ
   pub shades : List ShadeModel
-  pub lacks : Bool
+  pub out_of_memory : Bool
 
 -- for each worker, the position at which its call sequence began
 abbrev pub AreStarts : Tables → Database → List ℕ → List Entry → Type 0
@@ -105,16 +105,16 @@ AreStarts t d starts past = (w : ℕ) → w < 16
     → slice_get starts w ≡ Some (list_start (database_rules t d w) w past)
 
 -- it is the state after the history so far
-pub record IsTrying (a : TriesModel) (past : List Entry) : Type 0 where
+pub record RepresentsTries (a : TriesModel) (past : List Entry) : Type 0 where
   pub shape : a.audit.shape ≡ a.shape
-  pub audit : IsVersioning a.audit past
+  pub audit : RepresentsVersions a.audit past
   pub starts : AreStarts a.audit.setup a.shape a.starts past
-  pub shades : a.lacks ≡ false → a.shades ≡ shades_shown a.audit.setup a.shape a.window past
+  pub shades : a.out_of_memory ≡ false → a.shades ≡ shades_shown a.audit.setup a.shape a.window past
 
 -- it is the state of the same database after the history so far
 abbrev pub TriesOn : TriesModel → TriesModel → List Entry → Type 0
 TriesOn start now past = (now.shape ≡ start.shape) × (now.audit.setup ≡ start.audit.setup)
-    × (now.window ≡ start.window) × IsTrying now past
+    × (now.window ≡ start.window) × RepresentsTries now past
 
 -- the starts after an entry at this position, if its worker had completed this many calls of its
 -- sequence
@@ -130,6 +130,6 @@ abbrev pub AddsNewest : ℕ → Window → Span → Option ℕ → VersionAuditM
     → Type 0
 AddsNewest count w span None a old new = ⊥
 AddsNewest count w span (Some n) a old new =
-    (a.lacks ≡ false)
+    (a.out_of_memory ≡ false)
     × (new ≡ old ++ filter (is_in w)
     (option_to_list (option_map (shade count span) (slice_get a.list n))))

@@ -1,7 +1,7 @@
 //! The arrows of deliveries.
 ghost use Rattle.std.specs.Prelude.{◌≡◌, ◌++◌, ◌∷◌, [], false, if◌then◌else◌, OnOk, map, reverse};
 ghost use Rattle.std.specs.List.{filter};
-ghost use Rattle.ec_draw.specs.Arrows.{IsMoving, arrow_of, group_arrows, is_in, is_move};
+ghost use Rattle.ec_draw.specs.Arrows.{RepresentsMoves, arrow_of, group_arrows, is_in, is_move};
 ghost use Rattle.ec_draw.specs.Arrows.{move_position};
 ghost use Rattle.ec_heading.specs.declared.group.Group.TheVariants as groups;
 
@@ -62,20 +62,20 @@ fn note_move(
 
 /// Adds a position as `note_move` does, unless an earlier addition failed. Returns whether any has
 /// failed.
-fn lacks_after(
-    lacks: bool,
+fn add_fails(
+    out_of_memory: bool,
     list: &mut Vec<usize>,
     what: Move,
     shape: &BufferShape,
     place: usize,
     act: &Act,
 ) -> bool
-    ensures before { result ≡ false → lacks ≡ false }
+    ensures before { result ≡ false → out_of_memory ≡ false }
     ensures noted { result ≡ false
         → list.new.items ≡ list.old.items ++ (if is_move what shape.now act.now then place ∷ []
         else []) }
 {
-    lacks || note_move(list, what, shape, place, act).is_err()
+    out_of_memory || note_move(list, what, shape, place, act).is_err()
 }
 
 /// The audit of a buffer in a pass over a run, and the positions of the puts and the gets so far.
@@ -85,7 +85,7 @@ pub(crate) struct Moves<'a> {
     shape: &'a BufferShape,
     puts: Vec<usize>,
     gets: Vec<usize>,
-    lacks: bool,
+    out_of_memory: bool,
 }
 
 impl<'a> Model for Moves<'a> {
@@ -98,7 +98,7 @@ impl<'a> Model for Moves<'a> {
       shape = s.shape.now;
       puts = s.puts.items;
       gets = s.gets.items;
-      lacks = s.lacks;
+      out_of_memory = s.out_of_memory;
     } };
 }
 
@@ -113,10 +113,10 @@ impl<'a> Audit for Moves<'a> {
             shape,
             puts,
             gets,
-            lacks,
+            out_of_memory,
         } = self;
-        *lacks = lacks_after(*lacks, puts, Move::Put, shape, place, &entry.act);
-        *lacks = lacks_after(*lacks, gets, Move::Get, shape, place, &entry.act);
+        *out_of_memory = add_fails(*out_of_memory, puts, Move::Put, shape, place, &entry.act);
+        *out_of_memory = add_fails(*out_of_memory, gets, Move::Get, shape, place, &entry.act);
         audit.take(place, op, entry);
     }
 }
@@ -126,14 +126,14 @@ impl<'a> Moves<'a> {
     pub(crate) fn new(alloc: Global, shape: &'a BufferShape, setup: &'a Setup) -> Self
         ensures shape { result.shape ≡ shape.now }
         ensures setup { result.audit.setup ≡ setup.now }
-        ensures first { IsMoving result [] }
+        ensures first { RepresentsMoves result [] }
     {
         Moves {
             audit: DeliveryAudit::new(alloc, shape, setup),
             shape,
             puts: Vec::new(alloc),
             gets: Vec::new(alloc),
-            lacks: false,
+            out_of_memory: false,
         }
     }
 }
@@ -197,7 +197,7 @@ pub(crate) fn add_buffer(
 ) -> Result<(), AllocError>
     requires shape { moves.shape ≡ shape.now }
     requires setup { moves.audit.setup ≡ run.now.setup }
-    requires represents { IsMoving moves (reverse run.now.entries) }
+    requires represents { RepresentsMoves moves (reverse run.now.entries) }
     ensures { OnOk result
         (arrows.new.items ≡ arrows.old.items ++ group_arrows run.now.setup window run.now.entries
         (groups.Buffer shape.now)) }
@@ -208,12 +208,12 @@ pub(crate) fn add_buffer(
         audit,
         puts,
         gets,
-        lacks,
+        out_of_memory,
         ..
     } = moves;
     match audit.deliveries(run) {
         Ok(list) => {
-            if lacks {
+            if out_of_memory {
                 return Err(AllocError);
             }
             add_deliveries(

@@ -1,9 +1,10 @@
 //! The curves of balances.
 ghost use Rattle.std.specs.Prelude.{◌≡◌, ◌+◌, ◌-◌, ◌<◌, ◌≤◌, ◌^◌, ◌++◌, [], false, length};
 ghost use Rattle.std.specs.Prelude.{replicate, IfOk, OnOk, map, reverse};
-ghost use Rattle.ec_semaphore.specs.Auditing.{IsCounted};
+ghost use Rattle.ec_semaphore.specs.Auditing.{RepresentsBalance};
 ghost use Rattle.ec_semaphore.specs.Uses.{use_rules};
-ghost use Rattle.ec_draw.specs.Balances.{IsCourse, left_by, lefts, line_if, moments};
+ghost use Rattle.ec_draw.specs.Balances.{RepresentsCurve, left_by, units_left_at_moments, curve_if};
+ghost use Rattle.ec_draw.specs.Balances.{moments};
 ghost use Rattle.ec_draw.specs.Curves.{curve_model};
 ghost use Rattle.ec_draw.specs.declared.curve.CurveSource.TheVariants as plotted;
 ghost use Rattle.ec_draw.specs.Following.{follows};
@@ -57,78 +58,78 @@ fn pad(heights: &mut Vec<u64>, window: Window, moment: usize, number: u64) -> Re
 }
 
 /// Adds numbers as `pad` does, unless an earlier addition failed. Returns whether any has failed.
-fn lacks_after(
-    lacks: bool,
+fn add_fails(
+    out_of_memory: bool,
     heights: &mut Vec<u64>,
     window: Window,
     moment: usize,
     number: u64,
 ) -> bool
-    ensures before { result ≡ false → lacks ≡ false }
+    ensures before { result ≡ false → out_of_memory ≡ false }
     ensures added { result ≡ false
         → heights.new.items ≡ heights.old.items
         ++ replicate (moments window moment - length heights.old.items) number }
 {
-    lacks || pad(heights, window, moment, number).is_err()
+    out_of_memory || pad(heights, window, moment, number).is_err()
 }
 
 /// The audit of a semaphore in a pass over a run, and the units left at the shown moments so far.
 #[derive(Drop)]
-pub(crate) struct Course {
+pub(crate) struct BalanceState {
     audit: BalanceAudit,
     window: Window,
     heights: Vec<u64>,
-    lacks: bool,
+    out_of_memory: bool,
 }
 
-impl Model for Course {
+impl Model for BalanceState {
     ghost use Rattle.ec_draw.specs.Balances as balances;
 
-    ghost Value = { balances.Course };
+    ghost Value = { balances.BalanceState };
 
     ghost view = { λ s. record {
       audit = s.audit;
       window = s.window;
       heights = s.heights.items;
-      lacks = s.lacks;
+      out_of_memory = s.out_of_memory;
     } };
 }
 
-impl Audit for Course {
-    ghost use Rattle.ec_draw.specs.Balances.{CoursesOn};
+impl Audit for BalanceState {
+    ghost use Rattle.ec_draw.specs.Balances.{BalanceStatesOn};
 
-    ghost represents = { CoursesOn };
+    ghost represents = { BalanceStatesOn };
 
     fn take(&mut self, place: usize, op: &Act, entry: &Entry) {
-        let Course {
+        let BalanceState {
             audit,
             window,
             heights,
-            lacks,
+            out_of_memory,
         } = self;
-        *lacks = lacks_after(*lacks, heights, *window, place, units_left(audit));
+        *out_of_memory = add_fails(*out_of_memory, heights, *window, place, units_left(audit));
         audit.take(place, op, entry);
     }
 }
 
-impl Course {
+impl BalanceState {
     /// Returns the state before the first entry. It allocates nothing.
     pub(crate) fn new(alloc: Global, shape: SemaphoreShape, window: Window) -> Self
         ensures shape { result.audit.shape ≡ shape }
         ensures window { result.window ≡ window }
-        ensures first { IsCourse result [] }
+        ensures first { RepresentsCurve result [] }
     {
-        Course {
+        BalanceState {
             audit: BalanceAudit::new(shape),
             window,
             heights: Vec::new(alloc),
-            lacks: false,
+            out_of_memory: false,
         }
     }
 
     /// Returns whether the workers follow the semaphore's rules, after all entries of a run.
     pub(crate) fn follows(&self, run: &Run) -> bool
-        requires { IsCounted self.now.audit (reverse run.now.entries) }
+        requires { RepresentsBalance self.now.audit (reverse run.now.entries) }
         ensures { result ≡ follows (use_rules self.now.audit.shape) (reverse run.now.entries) }
     {
         self.audit.balance(run).is_ok()
@@ -137,19 +138,19 @@ impl Course {
     /// Returns the units left at the moments that are shown, after all entries of a run.
     pub(crate) fn heights(self, run: &Run, shape: &SemaphoreShape) -> Result<Vec<u64>, AllocError>
         requires shape { self.audit.shape ≡ shape.now }
-        requires represents { IsCourse self (reverse run.now.entries) }
+        requires represents { RepresentsCurve self (reverse run.now.entries) }
         ensures { IfOk result
-            (λ hs. hs.items ≡ lefts shape.now self.window (reverse run.now.entries)) }
+            (λ hs. hs.items ≡ units_left_at_moments shape.now self.window (reverse run.now.entries)) }
     {
         run.invariant();
         let _initial = shape.initial();
-        let Course {
+        let BalanceState {
             audit,
             window,
             mut heights,
-            lacks,
+            out_of_memory,
         } = self;
-        if lacks {
+        if out_of_memory {
             return Err(AllocError);
         }
         pad(&mut heights, window, run.len(), units_left(&audit))?;
@@ -160,18 +161,18 @@ impl Course {
 /// The audits of `both` in a pass over a run: of its common semaphore, with the units left, and of
 /// its critical sections.
 #[derive(Drop)]
-pub(crate) struct BothCourse<'a> {
-    pub(crate) course: Course,
+pub(crate) struct BothState<'a> {
+    pub(crate) state: BalanceState,
     pub(crate) pairs: PairAudit<'a>,
 }
 
-impl<'a> Audit for BothCourse<'a> {
+impl<'a> Audit for BothState<'a> {
     ghost use Rattle.ec_draw.specs.Findings.{BothOn};
 
     ghost represents = { BothOn };
 
     fn take(&mut self, place: usize, op: &Act, entry: &Entry) {
-        self.course.take(place, op, entry);
+        self.state.take(place, op, entry);
         self.pairs.take(place, op, entry);
     }
 }
@@ -183,19 +184,19 @@ pub(crate) fn add_if(
     run: &Run,
     follows: bool,
     shape: &SemaphoreShape,
-    course: Course,
+    state: BalanceState,
 ) -> Result<(), AllocError>
-    requires shape { course.audit.shape ≡ shape.now }
-    requires represents { IsCourse course (reverse run.now.entries) }
+    requires shape { state.audit.shape ≡ shape.now }
+    requires represents { RepresentsCurve state (reverse run.now.entries) }
     ensures { OnOk result (map curve_model curves.new.items ≡ map curve_model curves.old.items
-        ++ line_if follows
+        ++ curve_if follows
         (record {
           object = plotted.Balance shape.now.count;
-          heights = lefts shape.now course.window (reverse run.now.entries);
+          heights = units_left_at_moments shape.now state.window (reverse run.now.entries);
         })) }
 {
     if follows {
-        let heights = course.heights(run, shape)?;
+        let heights = state.heights(run, shape)?;
         let object = CurveSource::Balance(shape.count());
         curves.push(Curve { object, heights })?;
     }

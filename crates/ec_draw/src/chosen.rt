@@ -15,18 +15,18 @@ use std::marker::Model;
 
 /// The names of the workers and of the objects to draw. If a list is empty, all are drawn.
 #[derive(Clone, Copy, Debug)]
-pub struct Choice<'a> {
+pub struct NameFilter<'a> {
     pub workers: &'a [&'a str],
     pub objects: &'a [&'a str],
 }
 
 /// The workers and the objects that are drawn.
 #[derive(Drop)]
-pub struct Chosen {
+pub struct Selection {
     targets: Vec<Target>,
 }
 
-impl Model for Chosen {
+impl Model for Selection {
     ghost use Rattle.std.specs.Prelude.{List};
     ghost use Rattle.ec_count.specs.declared.target.Target.{Target};
 
@@ -71,7 +71,7 @@ fn is_chosen(names: &[&str], word: &[u8]) -> bool
 }
 
 /// Returns whether the target of a word is drawn.
-fn is_drawn(choice: &Choice<'_>, word: &[u8], target: &Target) -> bool
+fn is_drawn(choice: &NameFilter<'_>, word: &[u8], target: &Target) -> bool
     ensures { result ≡ is_drawn choice.now (word.now, target.now) }
 {
     match *target {
@@ -83,7 +83,7 @@ fn is_drawn(choice: &Choice<'_>, word: &[u8], target: &Target) -> bool
 /// Adds the target of a word, if it is drawn.
 fn add_drawn(
     targets: &mut Vec<Target>,
-    choice: &Choice<'_>,
+    choice: &NameFilter<'_>,
     word: &[u8],
     target: &Target,
 ) -> Result<(), AllocError>
@@ -107,13 +107,13 @@ fn cell_in(cell: usize, target: &Target) -> bool
     }
 }
 
-impl Chosen {
+impl Selection {
     /// Returns the targets of a symbol table that are drawn.
     pub fn new(
         alloc: Global,
-        choice: &Choice<'_>,
+        choice: &NameFilter<'_>,
         words: &SymbolTable,
-    ) -> Result<Chosen, AllocError>
+    ) -> Result<Selection, AllocError>
         ensures { IfOk result (λ c. c ≡ chosen_targets choice.now words.now) }
     {
         let mut targets = Vec::new(alloc);
@@ -122,7 +122,7 @@ impl Chosen {
                 add_drawn(&mut targets, choice, word, &target)?;
             }
         }
-        Ok(Chosen { targets })
+        Ok(Selection { targets })
     }
 
     /// Returns whether a worker is drawn.

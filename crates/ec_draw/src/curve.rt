@@ -4,8 +4,9 @@ ghost use Rattle.std.specs.Prelude.{map, reverse, take};
 ghost use Rattle.ec_core.specs.declared.act.Entry.{Entry};
 ghost use Rattle.ec_draw.specs.declared.curve.Counter.TheVariants.{Event, Sequencer};
 ghost use Rattle.ec_core.specs.Standing.{StandsFor};
-ghost use Rattle.ec_draw.specs.Curves.{IsCounted, count_at, count_of, heights, curve_of_count};
-ghost use Rattle.ec_draw.specs.Curves.{lines};
+ghost use Rattle.ec_draw.specs.Curves.{IsDeclaredCounter, count_at, count_of, heights};
+ghost use Rattle.ec_draw.specs.Curves.{curve_of_count};
+ghost use Rattle.ec_draw.specs.Curves.{curves_of_counts};
 ghost use Rattle.ec_draw.specs.Curves.{raises, curve_model};
 
 use crate::Window;
@@ -68,7 +69,7 @@ fn raise_amount(run: &Run, object: &Counter, position: usize) -> u64
 
 /// Returns a count in a world; 0 if its object is not declared.
 fn count_in(world: &World, object: &Counter) -> u64
-    requires { IsCounted world.now.setup object.now }
+    requires { IsDeclaredCounter world.now.setup object.now }
     ensures { (h : List Entry) → StandsFor world.now h → result ≡ count_of object.now (reverse h) }
 {
     match *object {
@@ -107,7 +108,7 @@ fn curve_of(
     object: Counter,
     window: Window,
 ) -> Result<Curve, AllocError>
-    requires counted { IsCounted world.now.setup object }
+    requires counted { IsDeclaredCounter world.now.setup object }
     requires represents { StandsFor world.now (take window.from run.now.entries) }
     ensures { IfOk result (λ c. curve_model c ≡ curve_of_count window run.now.entries object) }
 {
@@ -174,7 +175,7 @@ pub(crate) fn curves(
     requires setup { world.now.setup ≡ run.now.setup }
     requires represents { StandsFor world.now (take window.from run.now.entries) }
     ensures { IfOk result (λ cs. map curve_model cs.items
-        ≡ lines run.now.setup window run.now.entries) }
+        ≡ curves_of_counts run.now.setup window run.now.entries) }
 {
     run.invariant();
     let mut curves = Vec::new(alloc);

@@ -1,7 +1,7 @@
 //! The dots of entries.
 ghost use Rattle.std.specs.Prelude.{◌≡◌, IfOk, List, length, option_and_then, reverse, take};
 ghost use Rattle.ec_core.specs.declared.act.Entry.{Entry};
-ghost use Rattle.ec_core.specs.Rounds.{read_of};
+ghost use Rattle.ec_core.specs.Rounds.{read_event};
 ghost use Rattle.ec_core.specs.Standing.{StandsFor};
 ghost use Rattle.ec_draw.specs.Dots.{component_in, dot_of, dots_of, held_in, number_in, op_in};
 
@@ -56,7 +56,7 @@ fn component_in(world: &World, worker: WorkerId, act: Act) -> Option<usize>
 fn read_by_go(world: &World, call: &UnderWay) -> Option<u64>
     ensures { (h : List Entry) → StandsFor world.now h
         → result ≡ option_and_then (λ e. held_in world.now.setup e call.now.index (reverse h))
-        (read_of call.now.op) }
+        (read_event call.now.op) }
 {
     match call.op() {
         Act::Read(event) | Act::Await(event, _) => world.component(event, call.index()),

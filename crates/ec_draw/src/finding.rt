@@ -1,20 +1,20 @@
 //! What the audits of groups find, in one pass over the entries of a run.
 ghost use Rattle.std.specs.Prelude.{◌≡◌, ◌++◌, [], IfOk, OnOk, map, reverse};
 ghost use Rattle.std.specs.List.{flat_map};
-ghost use Rattle.ec_semaphore.specs.Auditing.{IsPairing};
-ghost use Rattle.ec_semaphore.specs.Both.{is_line, both_rules};
+ghost use Rattle.ec_semaphore.specs.Auditing.{RepresentsPairs};
+ghost use Rattle.ec_semaphore.specs.Both.{is_semaphore_sequencer, both_rules};
 ghost use Rattle.ec_semaphore.specs.Uses.{use_rules};
 ghost use Rattle.ec_heading.specs.declared.group.Group.TheVariants as groups;
 ghost use Rattle.ec_draw.specs.Arrows.{arrows, group_arrows};
-ghost use Rattle.ec_draw.specs.Balances.{balance_line, balance_lines, group_line, line_if};
+ghost use Rattle.ec_draw.specs.Balances.{balance_curve, balance_lines, group_line, curve_if};
 ghost use Rattle.ec_draw.specs.Curves.{curve_model};
 ghost use Rattle.ec_draw.specs.Following.{follows};
-ghost use Rattle.ec_draw.specs.Findings.{AddsGroup, BothFor, CourseFor, EachFinds, FindsFor};
+ghost use Rattle.ec_draw.specs.Findings.{AddsGroup, BothFor, BalanceStateFor, EachFinds, FindsFor};
 ghost use Rattle.ec_draw.specs.Findings.{MovesFor, TriesFor};
 ghost use Rattle.ec_draw.specs.Shades.{group_shades, shade_model, shades};
 
 use crate::arrow::{Moves, add_buffer};
-use crate::balance::{BothCourse, Course, add_if};
+use crate::balance::{BalanceState, BothState, add_if};
 use crate::shade::{Tries, add_database};
 use crate::{Arrow, Curve, Shade, Window};
 use ec_buffer::BufferShape;
@@ -28,11 +28,11 @@ use std::alloc::{AllocError, Global};
 
 /// The state of one group in a pass over a run.
 #[derive(Drop)]
-pub(crate) enum Finding<'a> {
+pub(crate) enum GroupState<'a> {
     /// Of a semaphore.
-    Balance(Course),
+    Balance(BalanceState),
     /// Of `both`.
-    Both(BothCourse<'a>),
+    Both(BothState<'a>),
     /// Of a database.
     Tries(Tries<'a>),
     /// Of a buffer.
@@ -41,33 +41,37 @@ pub(crate) enum Finding<'a> {
 
 /// What the states of all groups have in common.
 #[derive(Clone, Copy)]
-struct FindingContext<'a> {
+struct PassContext<'a> {
     setup: &'a Setup,
     semaphores: &'a [SemaphoreShape],
     window: Window,
 }
 
-impl<'a> Finding<'a> {
+impl<'a> GroupState<'a> {
     /// Returns the state before the first entry.
-    fn new(alloc: Global, group: &'a Group, asked: &FindingContext<'a>) -> Self
+    fn new(alloc: Global, group: &'a Group, asked: &PassContext<'a>) -> Self
         ensures { FindsFor asked.now.setup.now asked.now.semaphores.now asked.now.window group.now
             result [] }
     {
         match group {
-            Group::Buffer(shape) => Finding::Moves(Moves::new(alloc, shape, asked.setup)),
+            Group::Buffer(shape) => GroupState::Moves(Moves::new(alloc, shape, asked.setup)),
             Group::Database(shape) => {
-                Finding::Tries(Tries::new(alloc, shape, asked.setup, asked.window))
+                GroupState::Tries(Tries::new(alloc, shape, asked.setup, asked.window))
             }
-            Group::Semaphore(shape) => Finding::Balance(Course::new(alloc, *shape, asked.window)),
-            Group::Both(shape) => Finding::Both(BothCourse {
-                course: Course::new(alloc, *shape, asked.window),
+            Group::Semaphore(shape) => GroupState::Balance(BalanceState::new(
+                alloc,
+                *shape,
+                asked.window,
+            )),
+            Group::Both(shape) => GroupState::Both(BothState {
+                state: BalanceState::new(alloc, *shape, asked.window),
                 pairs: PairAudit::new(alloc, *shape, asked.semaphores),
             }),
         }
     }
 }
 
-impl<'a> Audit for Finding<'a> {
+impl<'a> Audit for GroupState<'a> {
     ghost use Rattle.ec_draw.specs.Following.{follows};
     ghost use Rattle.ec_draw.specs.Findings.{FindsOn};
 
@@ -75,15 +79,15 @@ impl<'a> Audit for Finding<'a> {
 
     fn take(&mut self, place: usize, op: &Act, entry: &Entry) {
         match self {
-            Finding::Balance(course) => course.take(place, op, entry),
-            Finding::Both(both) => both.take(place, op, entry),
-            Finding::Tries(tries) => tries.take(place, op, entry),
-            Finding::Moves(moves) => moves.take(place, op, entry),
+            GroupState::Balance(state) => state.take(place, op, entry),
+            GroupState::Both(both) => both.take(place, op, entry),
+            GroupState::Tries(tries) => tries.take(place, op, entry),
+            GroupState::Moves(moves) => moves.take(place, op, entry),
         }
     }
 }
 
-impl<'a> GroupAudit for Finding<'a> {
+impl<'a> GroupAudit for GroupState<'a> {
     ghost use Rattle.ec_draw.specs.Following.{follows};
     ghost use Rattle.ec_draw.specs.Findings.{group_of};
     ghost use Rattle.ec_draw.specs.LeftOut.{finds_off, finds_stay};
@@ -99,15 +103,15 @@ impl<'a> GroupAudit for Finding<'a> {
 fn open_findings<'a>(
     alloc: Global,
     groups: &'a [Group],
-    asked: &FindingContext<'a>,
-) -> Result<Vec<Finding<'a>>, AllocError>
+    asked: &PassContext<'a>,
+) -> Result<Vec<GroupState<'a>>, AllocError>
     ensures { IfOk result
         (λ list. EachFinds asked.now.setup.now asked.now.semaphores.now asked.now.window groups.now
         list.items []) }
 {
     let mut list = Vec::new(alloc);
     for number in 0..groups.len() {
-        list.push(Finding::new(alloc, &groups[number], asked))?;
+        list.push(GroupState::new(alloc, &groups[number], asked))?;
     }
     Ok(list)
 }
@@ -117,8 +121,8 @@ fn find_all<'a>(
     alloc: Global,
     run: &'a Run,
     groups: &'a [Group],
-    asked: &FindingContext<'a>,
-) -> Result<Vec<Finding<'a>>, AllocError>
+    asked: &PassContext<'a>,
+) -> Result<Vec<GroupState<'a>>, AllocError>
     ensures { IfOk result
         (λ list. EachFinds asked.now.setup.now asked.now.semaphores.now asked.now.window groups.now
         list.items (reverse run.now.entries)) }
@@ -145,31 +149,31 @@ fn add_semaphore(
     run: &Run,
     shape: &SemaphoreShape,
     window: Window,
-    finding: Finding<'_>,
+    finding: GroupState<'_>,
 ) -> Result<(), AllocError>
-    requires { CourseFor window shape.now finding (reverse run.now.entries) }
+    requires { BalanceStateFor window shape.now finding (reverse run.now.entries) }
     ensures { OnOk result (map curve_model curves.new.items ≡ map curve_model curves.old.items
-        ++ line_if (follows (use_rules shape.now) (reverse run.now.entries))
-        (balance_line window run.now.entries shape.now)) }
+        ++ curve_if (follows (use_rules shape.now) (reverse run.now.entries))
+        (balance_curve window run.now.entries shape.now)) }
 {
     let _ = window;
     match finding {
-        Finding::Balance(course) => {
-            let follows = course.follows(run);
-            add_if(curves, run, follows, shape, course)
+        GroupState::Balance(state) => {
+            let follows = state.follows(run);
+            add_if(curves, run, follows, shape, state)
         }
-        Finding::Both(_) => unreachable!(),
-        Finding::Tries(_) => unreachable!(),
-        Finding::Moves(_) => unreachable!(),
+        GroupState::Both(_) => unreachable!(),
+        GroupState::Tries(_) => unreachable!(),
+        GroupState::Moves(_) => unreachable!(),
     }
 }
 
 /// Returns whether the workers follow the rules of `both`, after all entries of a run.
 fn follows_both(run: &Run, pairs: PairAudit<'_>) -> Result<bool, AllocError>
-    requires { IsPairing pairs (reverse run.now.entries) }
+    requires { RepresentsPairs pairs (reverse run.now.entries) }
     ensures { IfOk result
         (λ b. b ≡ follows
-        (both_rules pairs.entry.common (is_line pairs.entry.common pairs.entry.shapes))
+        (both_rules pairs.entry.common (is_semaphore_sequencer pairs.entry.common pairs.entry.shapes))
         (reverse run.now.entries)) }
 {
     match pairs.pairs(run) {
@@ -184,24 +188,24 @@ fn add_both(
     curves: &mut Vec<Curve>,
     run: &Run,
     shape: &SemaphoreShape,
-    asked: &FindingContext<'_>,
-    finding: Finding<'_>,
+    asked: &PassContext<'_>,
+    finding: GroupState<'_>,
 ) -> Result<(), AllocError>
     requires { BothFor asked.now.semaphores.now asked.now.window shape.now finding
         (reverse run.now.entries) }
     ensures { OnOk result (map curve_model curves.new.items ≡ map curve_model curves.old.items
-        ++ line_if (follows (both_rules shape.now (is_line shape.now asked.now.semaphores.now))
-        (reverse run.now.entries)) (balance_line asked.now.window run.now.entries shape.now)) }
+        ++ curve_if (follows (both_rules shape.now (is_semaphore_sequencer shape.now asked.now.semaphores.now))
+        (reverse run.now.entries)) (balance_curve asked.now.window run.now.entries shape.now)) }
 {
     let _ = asked;
     match finding {
-        Finding::Balance(_) => unreachable!(),
-        Finding::Both(BothCourse { course, pairs }) => {
+        GroupState::Balance(_) => unreachable!(),
+        GroupState::Both(BothState { state, pairs }) => {
             let follows = follows_both(run, pairs)?;
-            add_if(curves, run, follows, shape, course)
+            add_if(curves, run, follows, shape, state)
         }
-        Finding::Tries(_) => unreachable!(),
-        Finding::Moves(_) => unreachable!(),
+        GroupState::Tries(_) => unreachable!(),
+        GroupState::Moves(_) => unreachable!(),
     }
 }
 
@@ -211,7 +215,7 @@ fn add_tries(
     run: &Run,
     shape: &DatabaseShape,
     window: Window,
-    finding: Finding<'_>,
+    finding: GroupState<'_>,
 ) -> Result<(), AllocError>
     requires { TriesFor run.now.setup window shape.now finding (reverse run.now.entries) }
     ensures { OnOk result (map shade_model shades.new.items ≡ map shade_model shades.old.items
@@ -219,10 +223,10 @@ fn add_tries(
 {
     let _ = window;
     match finding {
-        Finding::Balance(_) => unreachable!(),
-        Finding::Both(_) => unreachable!(),
-        Finding::Tries(tries) => add_database(shades, run, shape, tries),
-        Finding::Moves(_) => unreachable!(),
+        GroupState::Balance(_) => unreachable!(),
+        GroupState::Both(_) => unreachable!(),
+        GroupState::Tries(tries) => add_database(shades, run, shape, tries),
+        GroupState::Moves(_) => unreachable!(),
     }
 }
 
@@ -232,7 +236,7 @@ fn add_moves(
     run: &Run,
     shape: &BufferShape,
     window: Window,
-    finding: Finding<'_>,
+    finding: GroupState<'_>,
 ) -> Result<(), AllocError>
     requires { MovesFor run.now.setup shape.now finding (reverse run.now.entries) }
     ensures { OnOk result
@@ -240,10 +244,10 @@ fn add_moves(
         (groups.Buffer shape.now)) }
 {
     match finding {
-        Finding::Balance(_) => unreachable!(),
-        Finding::Both(_) => unreachable!(),
-        Finding::Tries(_) => unreachable!(),
-        Finding::Moves(moves) => add_buffer(arrows, run, shape, moves, window),
+        GroupState::Balance(_) => unreachable!(),
+        GroupState::Both(_) => unreachable!(),
+        GroupState::Tries(_) => unreachable!(),
+        GroupState::Moves(moves) => add_buffer(arrows, run, shape, moves, window),
     }
 }
 
@@ -252,8 +256,8 @@ fn add_group(
     found: &mut Findings,
     run: &Run,
     group: &Group,
-    asked: &FindingContext<'_>,
-    finding: Finding<'_>,
+    asked: &PassContext<'_>,
+    finding: GroupState<'_>,
 ) -> Result<(), AllocError>
     requires { FindsFor run.now.setup asked.now.semaphores.now asked.now.window group.now finding
         (reverse run.now.entries) }
@@ -279,8 +283,8 @@ fn add_groups(
     found: &mut Findings,
     run: &Run,
     groups: &[Group],
-    asked: &FindingContext<'_>,
-    list: Vec<Finding<'_>>,
+    asked: &PassContext<'_>,
+    list: Vec<GroupState<'_>>,
 ) -> Result<(), AllocError>
     requires { EachFinds run.now.setup asked.now.semaphores.now asked.now.window groups.now
         list.items (reverse run.now.entries) }
@@ -322,7 +326,7 @@ pub(crate) fn findings_of(
         (λ f. f.arrows.items ≡ arrows run.now.setup groups.now window run.now.entries) }
 {
     let semaphores = semaphores_of(alloc, groups)?;
-    let asked = FindingContext {
+    let asked = PassContext {
         setup: run.setup(),
         semaphores: semaphores.as_slice(),
         window,

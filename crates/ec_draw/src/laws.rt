@@ -1,8 +1,8 @@
 //! Theorems on bars, curves, shades and arrows, each the contract of a function that does nothing.
 ghost use Rattle.std.specs.Prelude.{◌≡◌};
 ghost use Rattle.ec_draw.specs.declared.window.TheConstants.{COLUMNS_MAX};
-ghost use Rattle.ec_draw.specs.Laws.{ArrowsAreDeliveries, BalanceCurvesAreLefts, BarsAreCalls};
-ghost use Rattle.ec_draw.specs.Laws.{CurvesAreCounts, FollowingIsAnswered, LeftsAreBalances};
+ghost use Rattle.ec_draw.specs.Laws.{ArrowsAreDeliveries, BalanceCurvesAreUnitsLeft, BarsAreCalls};
+ghost use Rattle.ec_draw.specs.Laws.{CurvesAreCounts, FollowingIsAnswered, UnitsLeftAreBalances};
 ghost use Rattle.ec_draw.specs.Laws.{PendingBarsBegin, ShadesBeginLists, ShadesEndTries};
 ghost use Rattle.ec_draw.specs.Laws.{TriesHaveShades};
 
@@ -41,8 +41,8 @@ pub fn following_is_answered()
 /// States that the curve of a balance at column j is the number of units left at moment from + j.
 /// That is the semaphore's balance if its workers follow its rules.
 pub fn balance_curves_are_balances()
-    ensures curve { BalanceCurvesAreLefts }
-    ensures balance { LeftsAreBalances }
+    ensures curve { BalanceCurvesAreUnitsLeft }
+    ensures balance { UnitsLeftAreBalances }
 {}
 
 /// States that each shade is that of an accepted try, which ends with the shade's last entry. Each

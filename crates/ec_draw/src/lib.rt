@@ -16,7 +16,7 @@ mod shade;
 mod window;
 
 pub use arrow::Arrow;
-pub use chosen::{Choice, Chosen};
+pub use chosen::{NameFilter, Selection};
 pub use curve::{Counter, Curve, CurveSource};
 pub use dot::Dot;
 pub use laws::{

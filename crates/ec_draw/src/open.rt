@@ -1,6 +1,6 @@
 //! The bars of pending calls.
 ghost use Rattle.std.specs.Prelude.{◌≡◌, ◌<◌, ◌++◌, ◌∷◌, [], IfOk, OnOk, reverse};
-ghost use Rattle.ec_draw.specs.Open.{begins, begun_at, open_bars, open_bars_of, open_call};
+ghost use Rattle.ec_draw.specs.Open.{begins, begun_at, pending_bars, open_bars_of, open_call};
 
 use crate::Window;
 use ec_core::{Act, Entry, Run};
@@ -81,12 +81,12 @@ fn add_open(
 /// Returns the calls that are pending at the end of a run and are shown, in the order of their
 /// workers.
 #[tactic(auto, using(crate::proofs::Stepping::no_open, crate::proofs::Stepping::more_open))]
-pub(crate) fn open_bars(
+pub(crate) fn pending_bars(
     alloc: Global,
     run: &Run,
     window: Window,
 ) -> Result<Vec<PendingBar>, AllocError>
-    ensures { IfOk result (λ os. os.items ≡ open_bars run.now.setup window run.now.entries) }
+    ensures { IfOk result (λ os. os.items ≡ pending_bars run.now.setup window run.now.entries) }
 {
     run.invariant();
     let mut bars = Vec::new(alloc);

@@ -6,7 +6,7 @@ ghost use Rattle.ec_draw.specs.Pictures.{kept_shapes, shapes};
 use crate::curve::curves;
 use crate::dot::dots;
 use crate::finding::findings_of;
-use crate::open::open_bars;
+use crate::open::pending_bars;
 use crate::replay::world_at;
 use crate::{Arrow, Curve, Dot, PendingBar, Shade, Window};
 use ec_core::Run;
@@ -62,7 +62,7 @@ pub fn picture_of(
     Ok(Picture {
         window,
         calls: order_between(alloc, run, window.from, window.to)?,
-        begun: open_bars(alloc, run, window)?,
+        begun: pending_bars(alloc, run, window)?,
         dots: dots(alloc, run, world, window)?,
         curves,
         shades: found.shades,

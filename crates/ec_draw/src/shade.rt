@@ -4,7 +4,8 @@ ghost use Rattle.std.specs.Prelude.{option_to_list, reverse, slice_get};
 ghost use Rattle.std.specs.List.{filter, flat_map};
 ghost use Rattle.std.specs.Option.{option_map};
 ghost use Rattle.ec_core.specs.Calls.{is_go};
-ghost use Rattle.ec_draw.specs.Shades.{AddsNewest, IsTrying, group_shades, is_in, shade_model};
+ghost use Rattle.ec_draw.specs.Shades.{AddsNewest, RepresentsTries, group_shades, is_in};
+ghost use Rattle.ec_draw.specs.Shades.{shade_model};
 ghost use Rattle.ec_draw.specs.Shades.{shade};
 ghost use Rattle.ec_draw.specs.Shades.{starts_after};
 ghost use Rattle.ec_heading.specs.declared.group.Group.TheVariants as groups;
@@ -112,8 +113,8 @@ fn add_newest(
 
 /// Adds a shade as `add_newest` does, unless an earlier addition failed. Returns whether any has
 /// failed.
-fn lacks_after(
-    lacks: bool,
+fn add_fails(
+    out_of_memory: bool,
     shades: &mut Vec<Shade>,
     audit: &VersionAudit<'_>,
     before: Option<usize>,
@@ -121,12 +122,12 @@ fn lacks_after(
     window: Window,
     span: Span,
 ) -> bool
-    ensures before { result ≡ false → lacks ≡ false }
+    ensures before { result ≡ false → out_of_memory ≡ false }
     ensures added { result ≡ false
         → AddsNewest count window span before audit.now (map shade_model shades.old.items)
         (map shade_model shades.new.items) }
 {
-    lacks || add_newest(shades, audit, before, count, window, span).is_err()
+    out_of_memory || add_newest(shades, audit, before, count, window, span).is_err()
 }
 
 /// The audit of a database in a pass over a run, where the call sequence of each worker began, and
@@ -138,7 +139,7 @@ pub(crate) struct Tries<'a> {
     window: Window,
     starts: [usize; 16],
     shades: Vec<Shade>,
-    lacks: bool,
+    out_of_memory: bool,
 }
 
 impl<'a> Model for Tries<'a> {
@@ -153,7 +154,7 @@ impl<'a> Model for Tries<'a> {
       window = s.window;
       starts = s.starts;
       shades = map shade_model s.shades.items;
-      lacks = s.lacks;
+      out_of_memory = s.out_of_memory;
     } };
 }
 
@@ -169,7 +170,7 @@ impl<'a> Audit for Tries<'a> {
             window,
             starts,
             shades,
-            lacks,
+            out_of_memory,
         } = self;
         let first = starts[entry.worker.get()];
         let span = Span { first, last: place };
@@ -177,7 +178,15 @@ impl<'a> Audit for Tries<'a> {
         let finished = audit.completed_count(entry.worker);
         note_start(shape, finished, place, entry, starts);
         audit.take(place, op, entry);
-        *lacks = lacks_after(*lacks, shades, audit, before, shape.start(), *window, span);
+        *out_of_memory = add_fails(
+            *out_of_memory,
+            shades,
+            audit,
+            before,
+            shape.start(),
+            *window,
+            span,
+        );
     }
 }
 
@@ -192,7 +201,7 @@ impl<'a> Tries<'a> {
         ensures shape { result.shape ≡ shape.now }
         ensures setup { result.audit.setup ≡ setup.now }
         ensures window { result.window ≡ window }
-        ensures first { IsTrying result [] }
+        ensures first { RepresentsTries result [] }
     {
         Tries {
             audit: VersionAudit::new(alloc, shape, setup),
@@ -200,7 +209,7 @@ impl<'a> Tries<'a> {
             window,
             starts: no_starts(),
             shades: Vec::new(alloc),
-            lacks: false,
+            out_of_memory: false,
         }
     }
 }
@@ -225,7 +234,7 @@ pub(crate) fn add_database(
 ) -> Result<(), AllocError>
     requires shape { tries.shape ≡ shape.now }
     requires setup { tries.audit.setup ≡ run.now.setup }
-    requires represents { IsTrying tries (reverse run.now.entries) }
+    requires represents { RepresentsTries tries (reverse run.now.entries) }
     ensures { OnOk result (map shade_model shades.new.items ≡ map shade_model shades.old.items
         ++ group_shades run.now.setup tries.entry.window run.now.entries
         (groups.Database shape.now)) }
@@ -234,12 +243,12 @@ pub(crate) fn add_database(
     let Tries {
         audit,
         shades: list,
-        lacks,
+        out_of_memory,
         ..
     } = tries;
     match audit.versions(run) {
         Ok(_accepted) => {
-            if lacks {
+            if out_of_memory {
                 return Err(AllocError);
             }
             add_all(shades, list)

@@ -6,8 +6,8 @@ use Rattle.ec_text.specs.Words.{words_of}
 use Rattle.ec_heading.specs.declared.heading.HeadFault.TheVariants as heads
 use Rattle.ec_script.specs.declared.fault.Kind as scripts
 use Rattle.ec_script.specs.declared.fault.Kind.TheVariants as script
-use Rattle.calls_text.specs.declared.fault.Kind as histories
-use Rattle.calls_text.specs.declared.fault.Kind.TheVariants as calls
+use Rattle.calls_text.specs.declared.fault.FaultKind as histories
+use Rattle.calls_text.specs.declared.fault.FaultKind.TheVariants as calls
 use Rattle.ec_explain.specs.declared.cause.Cause.{Cause}
 use Rattle.ec_explain.specs.declared.cause.Cause.TheVariants as causes
 use Rattle.ec_explain.specs.declared.finding.Finding.{Finding}
@@ -80,7 +80,7 @@ finding_with_call cause place n text =
     record (finding_by_bytes cause n (word_start place (line_at n text)) (line_at n text))
     { see = call_line_to_see n text }
 
-abbrev pub calls_finding : histories.Kind → ℕ → List ℕ → Finding
+abbrev pub calls_finding : histories.FaultKind → ℕ → List ℕ → Finding
 calls_finding calls.BadHeader n text = finding_of_line sites.First n (line_at n text)
 calls_finding calls.BadLine n text = finding_of_line sites.Calls n (line_at n text)
 calls_finding calls.BadName n text =

@@ -13,9 +13,9 @@ text_after_line xs =
     if nat_lt (position_or_end 10 xs) (length xs) then drop (position_or_end 10 xs + 1) xs else []
 
 -- what follows the first n lines
-unfoldable pub behind : ℕ → List ℕ → List ℕ
-behind zero xs = xs
-behind (suc n) xs = text_after_line (behind n xs)
+unfoldable pub text_after_lines : ℕ → List ℕ → List ℕ
+text_after_lines zero xs = xs
+text_after_lines (suc n) xs = text_after_line (text_after_lines n xs)
 
 -- the first line without its LF
 abbrev pub first_line : List ℕ → List ℕ
@@ -23,10 +23,10 @@ first_line xs = take (position_or_end 10 xs) xs
 
 -- line n of a text, and all that precedes it
 abbrev pub line_at : ℕ → List ℕ → List ℕ
-line_at n xs = first_line (behind (n - 1) xs)
+line_at n xs = first_line (text_after_lines (n - 1) xs)
 
 abbrev pub text_before_line : ℕ → List ℕ → List ℕ
-text_before_line n xs = take (length xs - length (behind (n - 1) xs)) xs
+text_before_line n xs = take (length xs - length (text_after_lines (n - 1) xs)) xs
 
 -- how many LFs a text has
 abbrev pub lines_in : List ℕ → ℕ

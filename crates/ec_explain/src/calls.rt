@@ -10,7 +10,7 @@ use crate::lines::line_at;
 use crate::related_line::call_line;
 use crate::site::Site;
 use crate::words::{is_same, word_at, word_start};
-use calls_text::Kind;
+use calls_text::FaultKind;
 use ec_heading::{HeadFault, count_words};
 
 /// Returns the index of the word that names the object, in a call or in a line of the header.
@@ -69,34 +69,39 @@ fn finding_with_call(cause: Cause, place: usize, number: u64, text: &[u8]) -> Fi
 /// Returns what is wrong with histories of calls.
 ///
 /// The first faulty line has this number, and this is the lowest kind of its errors.
-pub fn calls_finding(kind: Kind, number: u64, text: &[u8]) -> Finding
+pub fn calls_finding(kind: FaultKind, number: u64, text: &[u8]) -> Finding
     ensures { result ≡ calls_finding kind number text.now }
 {
     let line = line_at(number, text);
     match kind {
-        Kind::BadHeader => finding_of_line(&Site::First, number, line),
-        Kind::BadLine => finding_of_line(&Site::Calls, number, line),
-        Kind::BadName => finding_of_line(&Site::Heading(HeadFault::BadName), number, line),
-        Kind::NameTaken => finding_by_bytes(Cause::NameTaken, number, word_start(1, line), line),
-        Kind::UnknownName => finding_by_bytes(Cause::UnknownWord, number, 0, line),
-        Kind::BadNumber => {
+        FaultKind::BadHeader => finding_of_line(&Site::First, number, line),
+        FaultKind::BadLine => finding_of_line(&Site::Calls, number, line),
+        FaultKind::BadName => finding_of_line(&Site::Heading(HeadFault::BadName), number, line),
+        FaultKind::NameTaken => finding_by_bytes(
+            Cause::NameTaken,
+            number,
+            word_start(1, line),
+            line,
+        ),
+        FaultKind::UnknownName => finding_by_bytes(Cause::UnknownWord, number, 0, line),
+        FaultKind::BadNumber => {
             let place = word_start(number_place(line), line);
             finding_by_bytes(Cause::OutOfRange, number, place, line)
         }
-        Kind::TooMany => finding_by_bytes(Cause::Full, number, 0, line),
-        Kind::Hidden => finding_by_bytes(
+        FaultKind::TooMany => finding_by_bytes(Cause::Full, number, 0, line),
+        FaultKind::Hidden => finding_by_bytes(
             Cause::Hidden,
             number,
             word_start(object_place(line), line),
             line,
         ),
-        Kind::TwoRoles => roles_at(number, line),
-        Kind::NoRight => finding_by_bytes(Cause::NoRole, number, 0, line),
-        Kind::BadOrder => finding_by_bytes(Cause::BadOrder, number, word_start(1, line), line),
-        Kind::Unfinished => find_early_end(Cause::StopsEarly, text),
-        Kind::Busy => finding_with_call(Cause::CallPending, 0, number, text),
-        Kind::Idle => finding_by_bytes(Cause::NoPendingCall, number, 0, line),
-        Kind::Unsuited => finding_with_call(Cause::Unsuited, 2, number, text),
-        Kind::AtLimit => finding_by_bytes(Cause::CallLimit, number, word_start(2, line), line),
+        FaultKind::TwoRoles => roles_at(number, line),
+        FaultKind::NoRight => finding_by_bytes(Cause::NoRole, number, 0, line),
+        FaultKind::BadOrder => finding_by_bytes(Cause::BadOrder, number, word_start(1, line), line),
+        FaultKind::Unfinished => find_early_end(Cause::StopsEarly, text),
+        FaultKind::Busy => finding_with_call(Cause::CallPending, 0, number, text),
+        FaultKind::Idle => finding_by_bytes(Cause::NoPendingCall, number, 0, line),
+        FaultKind::Unsuited => finding_with_call(Cause::Unsuited, 2, number, text),
+        FaultKind::AtLimit => finding_by_bytes(Cause::CallLimit, number, word_start(2, line), line),
     }
 }

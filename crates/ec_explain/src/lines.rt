@@ -1,7 +1,8 @@
 //! The lines of a text, by their numbers.
 ghost use Rattle.std.specs.Prelude.{◌≡◌, ◌≤◌, ◌<◌, ◌==◌, IfSome, length};
 ghost use Rattle.std.specs.List.{position_from};
-ghost use Rattle.ec_explain.specs.TextLines.{text_before_line, behind, text_after_line, first_line};
+ghost use Rattle.ec_explain.specs.TextLines.{text_before_line, text_after_lines, text_after_line};
+ghost use Rattle.ec_explain.specs.TextLines.{first_line};
 ghost use Rattle.ec_explain.specs.TextLines.{line_at};
 ghost use Rattle.ec_explain.specs.TextLines.{lines_in, position_or_end};
 
@@ -37,8 +38,8 @@ fn text_after_line(text: &[u8]) -> &[u8]
 }
 
 /// Returns what follows the first `lines` lines.
-fn behind(lines: u64, text: &[u8]) -> &[u8]
-    ensures { result.now ≡ behind lines text.now }
+fn text_after_lines(lines: u64, text: &[u8]) -> &[u8]
+    ensures { result.now ≡ text_after_lines lines text.now }
 {
     let mut rest = text;
     for _line in 0..lines {
@@ -58,14 +59,14 @@ fn first_line(text: &[u8]) -> &[u8]
 pub fn line_at(number: u64, text: &[u8]) -> &[u8]
     ensures { result.now ≡ line_at number text.now }
 {
-    first_line(behind(number.saturating_sub(1), text))
+    first_line(text_after_lines(number.saturating_sub(1), text))
 }
 
 /// Returns all that precedes a line.
 pub fn text_before_line(number: u64, text: &[u8]) -> &[u8]
     ensures { result.now ≡ text_before_line number text.now }
 {
-    let rest = behind(number.saturating_sub(1), text);
+    let rest = text_after_lines(number.saturating_sub(1), text);
     &text[..text.len().saturating_sub(rest.len())]
 }
 

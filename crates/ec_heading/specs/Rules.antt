@@ -7,7 +7,7 @@ use Rattle.ec_buffer.specs.Follows.{buffer_rules}
 use Rattle.ec_database.specs.Following.{database_rules}
 use Rattle.ec_semaphore.specs.Shapes.{Semaphore}
 use Rattle.ec_semaphore.specs.Uses.{use_rules}
-use Rattle.ec_semaphore.specs.Both.{is_line, both_rules}
+use Rattle.ec_semaphore.specs.Both.{is_semaphore_sequencer, both_rules}
 use Rattle.ec_heading.specs.declared.group.Group.{Group}
 use Rattle.ec_heading.specs.declared.group.Group.TheVariants as groups
 
@@ -22,7 +22,7 @@ abbrev pub group_rules : Tables → List Group → Group → ℕ → Rule
 group_rules t gs (groups.Buffer b) = buffer_rules t b
 group_rules t gs (groups.Database d) = database_rules t d
 group_rules t gs (groups.Semaphore s) = use_rules s
-group_rules t gs (groups.Both c) = both_rules c (is_line c (semaphores_of gs))
+group_rules t gs (groups.Both c) = both_rules c (is_semaphore_sequencer c (semaphores_of gs))
 
 -- a reversed history follows the protocol of the group
 abbrev pub FollowsGroup : Tables → List Group → List Entry → Group → Type 0

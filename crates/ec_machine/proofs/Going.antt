@@ -12,14 +12,14 @@ use Rattle.ec_machine.specs.declared.command.Command.{Command}
 use Rattle.ec_machine.specs.declared.machine.Machine.{Machine}
 use Rattle.ec_machine.specs.declared.outcome.Outcome.{Outcome}
 use Rattle.ec_machine.specs.declared.outcome.Outcome.TheVariants as outcomes
-use Rattle.ec_machine.specs.Outcomes.{is_running, is_set}
-use Rattle.ec_machine.specs.Steps.{begun_by, opening, finished, due_after, IsRun}
-use Rattle.ec_machine.specs.Runs.{ProgramState, start, command_call, next_call, next_in, next_place, after_call, place_after, number_after, last_number, program_call, IsRunOf, next_act, outcome_in, outcome_at}
+use Rattle.ec_machine.specs.Outcomes.{is_running, is_external}
+use Rattle.ec_machine.specs.Steps.{begun_by, opening, completed_calls, due_after, IsRun}
+use Rattle.ec_machine.specs.Runs.{ProgramState, start, command_call, next_call, next_in, next_state, after_call, state_after, number_after, last_number, program_call, IsRunOf, next_act, outcome_in, outcome_at}
 use Rattle.ec_machine.specs.Tasks.{task_rest, task_going}
 use Rattle.ec_machine.specs.Standing.{IsAt, due_act, StandsFor}
 use Rattle.ec_machine.specs.Values.{has_large}
 
-pub not_set : (o : Outcome) → is_running o ≡ true → is_set o ≡ false
+pub not_set : (o : Outcome) → is_running o ≡ true → is_external o ≡ false
 not_set outcomes.Running is = refl
 not_set outcomes.Finished is = refl
 not_set outcomes.ValueTooLarge is = refl
@@ -39,8 +39,8 @@ running_is outcomes.Memory is = cc
 
 -- STATES
 
-pub place_more : (p : ProgramState) (calls : List CompletedCall) (c : CompletedCall) → place_after p (calls ++ c ∷ []) ≡ after_call (place_after p calls) c
-unfolding place_after
+pub place_more : (p : ProgramState) (calls : List CompletedCall) (c : CompletedCall) → state_after p (calls ++ c ∷ []) ≡ after_call (state_after p calls) c
+unfolding state_after
 place_more p [] c = refl
 place_more p (d ∷ calls) c = place_more (after_call p d) calls c
 
@@ -54,20 +54,20 @@ last_if : (b : Bool) (c : Command) (cs : List Command) (last : ℕ) (completed :
 last_if true c cs last completed = refl
 last_if false c cs last completed = refl
 
-last_moved : (left : List Command) (last : ℕ) (completed : List CompletedCall) → last_number (next_place left last completed).last (next_place left last completed).completed ≡ last_number last completed
+last_moved : (left : List Command) (last : ℕ) (completed : List CompletedCall) → last_number (next_state left last completed).last (next_state left last completed).completed ≡ last_number last completed
 last_moved [] last completed = refl
 last_moved (c ∷ cs) last completed =
     last_if (is_some (command_call last c completed)) c cs last completed
 
 -- the last number returned in a state is that of all calls before it
-pub last_at : (p : ProgramState) (calls : List CompletedCall) → last_number (place_after p calls).last (place_after p calls).completed ≡ last_number (last_number p.last p.completed) calls
-unfolding place_after
+pub last_at : (p : ProgramState) (calls : List CompletedCall) → last_number (state_after p calls).last (state_after p calls).completed ≡ last_number (last_number p.last p.completed) calls
+unfolding state_after
 last_at p [] = refl
 last_at p (c ∷ calls) =
     last_at (after_call p c) calls
     ∙ ap (λ n. last_number n calls) (last_moved p.left p.last (p.completed ++ c ∷ []) ∙ last_more p.last p.completed c)
 
-pub last_from_start : (cs : List Command) (calls : List CompletedCall) → last_number (place_after (start cs) calls).last (place_after (start cs) calls).completed ≡ last_number 0 calls
+pub last_from_start : (cs : List Command) (calls : List CompletedCall) → last_number (state_after (start cs) calls).last (state_after (start cs) calls).completed ≡ last_number 0 calls
 last_from_start cs calls = last_at (start cs) calls
 
 pub at_first : (f : List CompletedCall → Option Act) (all left : List Command) (last : ℕ) (c : Command) → all ≡ c ∷ left → has_large last c ≡ false
@@ -90,7 +90,7 @@ goes_on f g left p c at some law more =
     let here : ProgramState = record { left = d ∷ left; last = p.last; completed = completed } in
     let next : g [] ≡ command_call p.last d completed = law [] ∙ i.rest (c ∷ []) in
     let e : after_call p c ≡ here =
-    ap (λ cs. next_place cs p.last completed) i.commands
+    ap (λ cs. next_state cs p.last completed) i.commands
     ∙ ap (λ b. if b then here else record { left = left; last = last_number p.last completed; completed = [] }) (ap is_some (sym next) ∙ more) in
     subst (IsAt g left) (sym e) (record {
       due = ap (λ b. if b then None else command_call p.last d completed) i.fits ∙ sym next;
@@ -112,7 +112,7 @@ is_done f g left p c at some law none =
     let d = (at.at some).0 in
     let i = (at.at some).1 in
     let completed = p.completed ++ c ∷ [] in
-    ap (λ cs. next_place cs p.last completed) i.commands
+    ap (λ cs. next_state cs p.last completed) i.commands
     ∙ ap (λ b. if b then record { left = d ∷ left; last = p.last; completed = completed } else record { left = left; last = last_number p.last completed; completed = [] })
     (ap is_some (sym (law [] ∙ i.rest (c ∷ []))) ∙ none)
     ∙ ap (λ n. record { left = left; last = n; completed = [] }) (last_more p.last p.completed c)
@@ -150,24 +150,24 @@ under_if true list done more begun op due is = due ∙ is
 under_if false list done more begun op due is = cc
 
 -- in a run the pending call is the one that is next
-pub opening_is_due : (list : List CompletedCall → Option Act) (past : List Entry) → IsRun list past → (op : Act) → opening past ≡ Some op → list (finished past) ≡ Some op
-unfolding IsRun opening finished
+pub opening_is_due : (list : List CompletedCall → Option Act) (past : List Entry) → IsRun list past → (op : Act) → opening past ≡ Some op → list (completed_calls past) ≡ Some op
+unfolding IsRun opening completed_calls
 opening_is_due list [] run op is = cc
 opening_is_due list (x ∷ past) run op is =
-    under_if (is_pending x.reply) list (finished past) (finished past ++ record { op = begun_by x.act (opening past); reply = x.reply } ∷ []) (begun_by x.act (opening past)) op
-    (begun_due (list (finished past)) (opening past) x.act run.0 (opening_is_due list past run.1)) is
+    under_if (is_pending x.reply) list (completed_calls past) (completed_calls past ++ record { op = begun_by x.act (opening past); reply = x.reply } ∷ []) (begun_by x.act (opening past)) op
+    (begun_due (list (completed_calls past)) (opening past) x.act run.0 (opening_is_due list past run.1)) is
 
 pub begun_is_due : (list : List CompletedCall → Option Act) (past : List Entry) (act : Act) → IsRun list past → due_after list past ≡ Some act
-    → list (finished past) ≡ Some (begun_by act (opening past))
-begun_is_due list past act run due = begun_due (list (finished past)) (opening past) act due (opening_is_due list past run)
+    → list (completed_calls past) ≡ Some (begun_by act (opening past))
+begun_is_due list past act run due = begun_due (list (completed_calls past)) (opening past) act due (opening_is_due list past run)
 
-pub finished_pending : (x : Entry) (past : List Entry) → is_pending x.reply ≡ true → finished (x ∷ past) ≡ finished past
-unfolding finished
-finished_pending x past is = ap (λ b. if b then finished past else finished past ++ record { op = begun_by x.act (opening past); reply = x.reply } ∷ []) is
+pub finished_pending : (x : Entry) (past : List Entry) → is_pending x.reply ≡ true → completed_calls (x ∷ past) ≡ completed_calls past
+unfolding completed_calls
+finished_pending x past is = ap (λ b. if b then completed_calls past else completed_calls past ++ record { op = begun_by x.act (opening past); reply = x.reply } ∷ []) is
 
-pub finished_told : (x : Entry) (past : List Entry) → is_pending x.reply ≡ false → finished (x ∷ past) ≡ finished past ++ record { op = begun_by x.act (opening past); reply = x.reply } ∷ []
-unfolding finished
-finished_told x past is = ap (λ b. if b then finished past else finished past ++ record { op = begun_by x.act (opening past); reply = x.reply } ∷ []) is
+pub finished_told : (x : Entry) (past : List Entry) → is_pending x.reply ≡ false → completed_calls (x ∷ past) ≡ completed_calls past ++ record { op = begun_by x.act (opening past); reply = x.reply } ∷ []
+unfolding completed_calls
+finished_told x past is = ap (λ b. if b then completed_calls past else completed_calls past ++ record { op = begun_by x.act (opening past); reply = x.reply } ∷ []) is
 
 if_some : (b : Bool) (act : Act) → is_some (if b then Some act else None) ≡ b
 if_some true act = refl
@@ -189,27 +189,27 @@ same_number n (Number m) is = cc
 -- INTERPRETERS
 
 -- what is asked for is what is due
-pub asked_is : (cs : List Command) (m : Machine) (past : List Entry) → StandsFor cs m past → is_set m.outcome ≡ false → due_act m ≡ next_act cs past
+pub asked_is : (cs : List Command) (m : Machine) (past : List Entry) → StandsFor cs m past → is_external m.outcome ≡ false → due_act m ≡ next_act cs past
 asked_is cs m past s set =
     ap (λ b. next_of b (task_rest m.task [])) (s.going set) ∙ ap (next_of (is_some (opening past))) (sym (s.left set).due)
 
 -- the call that is asked for, or gone on with
-rest_is : (cs : List Command) (m : Machine) (past : List Entry) (act : Act) → StandsFor cs m past → is_set m.outcome ≡ false → due_act m ≡ Some act
+rest_is : (cs : List Command) (m : Machine) (past : List Entry) (act : Act) → StandsFor cs m past → is_external m.outcome ≡ false → due_act m ≡ Some act
     → task_rest m.task [] ≡ Some (begun_by act (opening past))
 rest_is cs m past act s set asks =
     sym (s.left set).due ∙ begun_is_due (program_call cs) past act s.run (sym (asked_is cs m past s set) ∙ asks)
 
-run_is : (cs : List Command) (m : Machine) (past : List Entry) (x : Entry) → StandsFor cs m past → is_set m.outcome ≡ false → due_act m ≡ Some x.act → IsRunOf cs (x ∷ past)
+run_is : (cs : List Command) (m : Machine) (past : List Entry) (x : Entry) → StandsFor cs m past → is_external m.outcome ≡ false → due_act m ≡ Some x.act → IsRunOf cs (x ∷ past)
 run_is cs m past x s set asks = run_more (program_call cs) x past (sym (asked_is cs m past s set) ∙ asks) s.run
 
-last_told : (n : ℕ) (x : Entry) (past : List Entry) → n ≡ last_number 0 (finished past) → is_pending x.reply ≡ false → number_after n x.reply ≡ last_number 0 (finished (x ∷ past))
+last_told : (n : ℕ) (x : Entry) (past : List Entry) → n ≡ last_number 0 (completed_calls past) → is_pending x.reply ≡ false → number_after n x.reply ≡ last_number 0 (completed_calls (x ∷ past))
 last_told n x past is completed =
-    ap (λ m. number_after m x.reply) is ∙ sym (last_more 0 (finished past) (record { op = begun_by x.act (opening past); reply = x.reply })) ∙ ap (last_number 0) (sym (finished_told x past completed))
+    ap (λ m. number_after m x.reply) is ∙ sym (last_more 0 (completed_calls past) (record { op = begun_by x.act (opening past); reply = x.reply })) ∙ ap (last_number 0) (sym (finished_told x past completed))
 
 place_told : (cs : List Command) (x : Entry) (past : List Entry) → is_pending x.reply ≡ false
-    → place_after (start cs) (finished (x ∷ past)) ≡ after_call (place_after (start cs) (finished past)) (record { op = begun_by x.act (opening past); reply = x.reply })
+    → state_after (start cs) (completed_calls (x ∷ past)) ≡ after_call (state_after (start cs) (completed_calls past)) (record { op = begun_by x.act (opening past); reply = x.reply })
 place_told cs x past completed =
-    ap (place_after (start cs)) (finished_told x past completed) ∙ place_more (start cs) (finished past) (record { op = begun_by x.act (opening past); reply = x.reply })
+    ap (state_after (start cs)) (finished_told x past completed) ∙ place_more (start cs) (completed_calls past) (record { op = begun_by x.act (opening past); reply = x.reply })
 
 -- what a reply does to a task
 pub record Takes (old new : List CompletedCall → Option Act) (reply : Reply) : Type 0 where
@@ -233,10 +233,10 @@ step_pending cs old new past x s running asks pending last outcome rest going al
     record {
       run = run_is cs old past x s set asks;
       last = last ∙ same_number old.last x.reply pending ∙ s.last ∙ ap (last_number 0) (sym done);
-      outcome = λ _. outcome ∙ s.outcome set ∙ ap (λ calls. outcome_at (place_after (start cs) calls)) (sym done);
+      outcome = λ _. outcome ∙ s.outcome set ∙ ap (λ calls. outcome_at (state_after (start cs) calls)) (sym done);
       going = λ _. going ∙ sym (opening_is x past);
-      left = λ _. subst (λ calls. IsAt (task_rest new.task) new.rest (place_after (start cs) calls)) (sym done)
-          (subst (λ left. IsAt (task_rest new.task) left (place_after (start cs) (finished past))) (sym rest)
+      left = λ _. subst (λ calls. IsAt (task_rest new.task) new.rest (state_after (start cs) calls)) (sym done)
+          (subst (λ left. IsAt (task_rest new.task) left (state_after (start cs) (completed_calls past))) (sym rest)
           (rest_alike (task_rest old.task) (task_rest new.task) old.rest _ alike (s.left set)));
     }
 
@@ -248,7 +248,7 @@ step_told cs old new past x s running asks completed last outcome rest going tak
     let set = not_set old.outcome running in
     let due = rest_is cs old past x.act s set asks in
     let c : CompletedCall = record { op = begun_by x.act (opening past); reply = x.reply } in
-    let p = place_after (start cs) (finished past) in
+    let p = state_after (start cs) (completed_calls past) in
     let at : IsAt (task_rest new.task) old.rest (after_call p c) =
     goes_on (task_rest old.task) (task_rest new.task) old.rest p c (s.left set) (ap is_some due) (takes.completed completed c.op due) more in
     let e = place_told cs x past completed in
@@ -299,9 +299,9 @@ step_over cs old new past x mid going s running asks last is takes none at outco
     let completed : is_pending x.reply ≡ false = sym is ∙ not_going going (mid []) none in
     let due = rest_is cs old past x.act s set asks in
     let c : CompletedCall = record { op = begun_by x.act (opening past); reply = x.reply } in
-    let p = place_after (start cs) (finished past) in
-    let here : last_number p.last p.completed ≡ old.last = last_from_start cs (finished past) ∙ sym s.last in
-    let e : place_after (start cs) (finished (x ∷ past)) ≡ record { left = old.rest; last = new.last; completed = [] } =
+    let p = state_after (start cs) (completed_calls past) in
+    let here : last_number p.last p.completed ≡ old.last = last_from_start cs (completed_calls past) ∙ sym s.last in
+    let e : state_after (start cs) (completed_calls (x ∷ past)) ≡ record { left = old.rest; last = new.last; completed = [] } =
     place_told cs x past completed
     ∙ is_done (task_rest old.task) mid old.rest p c (s.left set) (ap is_some due) (takes.completed completed c.op due) (none_due going (mid []) none)
     ∙ ap (λ n. record { left = old.rest; last = n; completed = [] }) (ap (λ n. number_after n x.reply) here ∙ sym last) in
@@ -314,7 +314,7 @@ step_over cs old new past x mid going s running asks last is takes none at outco
     }
 
 pub stands_at_start : (cs : List Command) (m : Machine) → m.last ≡ 0 → m.outcome ≡ outcome_at (start cs) → task_going m.task ≡ false → IsAt (task_rest m.task) m.rest (start cs) → StandsFor cs m []
-unfolding IsRun finished opening place_after
+unfolding IsRun completed_calls opening state_after
 stands_at_start cs m last outcome going at = record {
   run = tt;
   last = last;

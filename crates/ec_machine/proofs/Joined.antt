@@ -8,7 +8,7 @@ use Rattle.ec_core.specs.declared.act.Entry.{Entry}
 use Rattle.ec_core.specs.Acceptance.{answer_of, IsAccepted}
 use Rattle.ec_core.specs.Calls.{CallSoFar, is_go, is_pending, under_way}
 use Rattle.ec_core.specs.Following.{CompletedCall}
-use Rattle.ec_core.specs.JoinedLists.{finished_by, op_of}
+use Rattle.ec_core.specs.JoinedLists.{completed_calls_of, op_of}
 use Rattle.ec_core.specs.Procedures.{next_of, IsWritten}
 use Rattle.ec_core.proofs.shared.Answering.{allowed}
 use Rattle.ec_machine.specs.declared.command.Command.{Command, map-Command}
@@ -19,10 +19,10 @@ use Rattle.ec_machine.specs.declared.command.Command.TheFolds.{ind-Command, fold
 use Rattle.ec_machine.specs.declared.command.Command.TheVariants as commands
 use Rattle.ec_machine.specs.Unrolled.{unroll, unroll_command, written_step, repeated}
 use Rattle.ec_machine.specs.Values.{has_large}
-use Rattle.ec_machine.specs.Steps.{begun_by, opening, finished, IsRun, own}
-use Rattle.ec_machine.specs.Runs.{ProgramState, start, command_call, next_call, next_in, last_number, after_call, place_after, program_call, IsRunOf}
+use Rattle.ec_machine.specs.Steps.{begun_by, opening, completed_calls, IsRun, own}
+use Rattle.ec_machine.specs.Runs.{ProgramState, start, command_call, next_call, next_in, last_number, after_call, state_after, program_call, IsRunOf}
 use Rattle.ec_machine.specs.Follows.{program_at}
-use Rattle.ec_machine.specs.Laws.{AreWhole, IsBegunOf, IsBegun, number_after_lists}
+use Rattle.ec_machine.specs.Laws.{AreWhole, IsCommandPrefix, IsProgramPrefix, number_after_lists}
 use Rattle.ec_machine.specs.Joined.{AreListsOf, AreSteps, RunsMeanWholeLists, FollowingMeansWholeLists}
 use Rattle.ec_machine.proofs.Going.{begun_alone, opening_is_due}
 use Rattle.ec_machine.proofs.shared.OwnCalls.{own_cut}
@@ -126,18 +126,18 @@ abbrev AskedFrom : ProgramState → List CompletedCall → Type 0
 AskedFrom p [] = Unit {0}
 AskedFrom p (c ∷ calls) = (next_call p ≡ Some c.op) × AskedFrom (after_call p c) calls
 
-from_append : (p : ProgramState) (xs ys : List CompletedCall) → AskedFrom p xs → AskedFrom (place_after p xs) ys → AskedFrom p (xs ++ ys)
-unfolding place_after
+from_append : (p : ProgramState) (xs ys : List CompletedCall) → AskedFrom p xs → AskedFrom (state_after p xs) ys → AskedFrom p (xs ++ ys)
+unfolding state_after
 from_append p [] ys a b = b
 from_append p (x ∷ xs) ys a b = (a.0, from_append (after_call p x) xs ys a.1 b)
 
-after_append : (p : ProgramState) (xs ys : List CompletedCall) → place_after p (xs ++ ys) ≡ place_after (place_after p xs) ys
-unfolding place_after
+after_append : (p : ProgramState) (xs ys : List CompletedCall) → state_after p (xs ++ ys) ≡ state_after (state_after p xs) ys
+unfolding state_after
 after_append p [] ys = refl
 after_append p (x ∷ xs) ys = after_append (after_call p x) xs ys
 
 asked_of : (p : ProgramState) (calls : List CompletedCall) → AskedFrom p calls → IsAsked p calls
-unfolding place_after
+unfolding state_after
 asked_of p [] asked k d at = cc
 asked_of p (c ∷ calls) asked zero d at = (let same : c ≡ d = cc in asked.0 ∙ ap (λ (y : CompletedCall). Some y.op) same)
 asked_of p (c ∷ calls) asked (suc k) d at = asked_of (after_call p c) calls asked.1 k d at
@@ -147,7 +147,7 @@ at_place left last completed = record { left = left; last = last; completed = co
 
 -- what these calls lead to, each of them being next
 abbrev Leads : ProgramState → List CompletedCall → ProgramState → Type 0
-Leads p calls q = AskedFrom p calls × (place_after p calls ≡ q)
+Leads p calls q = AskedFrom p calls × (state_after p calls ≡ q)
 
 leads_next : (p q r : ProgramState) (c : CompletedCall) (calls : List CompletedCall) → next_call p ≡ Some c.op → after_call p c ≡ q → Leads q calls r → Leads p (c ∷ calls) r
 leads_next p q r c calls next is lead = ((next, subst (λ z. AskedFrom z calls) (sym is) lead.0), place_next p q c calls is ∙ lead.1)
@@ -155,10 +155,10 @@ leads_next p q r c calls next is lead = ((next, subst (λ z. AskedFrom z calls) 
 leads_on : (p q r : ProgramState) (xs ys : List CompletedCall) → Leads p xs q → Leads q ys r
     → Leads p (xs ++ ys) r
 leads_on p q r xs ys a b =
-    (from_append p xs ys a.0 (subst (λ z. AskedFrom z ys) (sym a.1) b.0), after_append p xs ys ∙ ap (λ z. place_after z ys) a.1 ∙ b.1)
+    (from_append p xs ys a.0 (subst (λ z. AskedFrom z ys) (sym a.1) b.0), after_append p xs ys ∙ ap (λ z. state_after z ys) a.1 ∙ b.1)
 
 leads_nowhere : (p : ProgramState) → Leads p [] p
-unfolding place_after
+unfolding state_after
 leads_nowhere p = (tt, refl)
 
 next_fits : (d : Command) (ds : List Command) (last : ℕ) (completed : List CompletedCall) (act : Act) → has_large last d ≡ false → command_call last d completed ≡ Some act
@@ -213,14 +213,14 @@ begun_list d ds last completed (c ∷ (b ∷ more)) fits asked (inr some) =
     (stays d ds last completed c (ap is_some asked.1.0))
     (subst (λ l. Leads (at_place (d ∷ ds) last now) (b ∷ more) (at_place (d ∷ ds) last l)) same rest)
 
-begun_if : (b : Bool) (d : Command) (ds : List Command) (last : ℕ) (part : List CompletedCall) → has_large last d ≡ b → IsBegunOf last d part
+begun_if : (b : Bool) (d : Command) (ds : List Command) (last : ℕ) (part : List CompletedCall) → has_large last d ≡ b → IsCommandPrefix last d part
     → Leads (at_place (d ∷ ds) last []) part (at_place (d ∷ ds) last part)
 begun_if true d ds last part large begun =
     subst (λ l. Leads (at_place (d ∷ ds) last []) l (at_place (d ∷ ds) last l)) (sym (begun.fits large)) (leads_nowhere (at_place (d ∷ ds) last []))
 begun_if false d ds last part fits begun =
     begun_list d ds last [] part fits (asked_by (command_call last d) [] part begun.asked) begun.unfinished
 
-begun_leads : (left : List Command) (last : ℕ) (part : List CompletedCall) → IsBegun last left part → Leads (at_place left last []) part (at_place left last part)
+begun_leads : (left : List Command) (last : ℕ) (part : List CompletedCall) → IsProgramPrefix last left part → Leads (at_place left last []) part (at_place left last part)
 begun_leads [] last part none =
     subst (λ l. Leads (at_place [] last []) l (at_place [] last l)) (sym none) (leads_nowhere (at_place [] last []))
 begun_leads (d ∷ ds) last part begun = begun_if (has_large last d) d ds last part refl begun
@@ -230,7 +230,7 @@ some_call last d [] some none = (let no : false ≡ true = ap is_some (sym none)
 some_call last d (c ∷ b) some none = omega arith
 
 lists_lead : (done left : List Command) (lists : List (List CompletedCall)) (last : ℕ) (part : List CompletedCall) → AllByRecursion Asks done → AreWhole last done lists
-    → IsBegun (last_number last (flat_map (λ b. b) lists)) left part
+    → IsProgramPrefix (last_number last (flat_map (λ b. b) lists)) left part
     → Leads (at_place (done ++ left) last []) (flat_map (λ b. b) lists ++ part) (at_place left (last_number last (flat_map (λ b. b) lists)) part)
 lists_lead [] left [] last part asks whole begun = begun_leads left last part begun
 lists_lead [] left (b ∷ lists) last part asks whole begun = absurd whole
@@ -240,7 +240,7 @@ lists_lead (d ∷ ds) left (b ∷ lists) last part asks whole begun =
     let all = flat_map (λ c. c) lists in
     let number : last_number last (b ++ all) ≡ last_number (last_number last b) all = last_append last b all in
     let here = whole_list d (ds ++ left) last [] b first.fits (asked_by (command_call last d) [] b first.asked) first.whole (some_call last d b (asks.0 last) first.whole) in
-    let rest = lists_lead ds left lists (last_number last b) part asks.1 whole.1 (subst (λ n. IsBegun n left part) number begun) in
+    let rest = lists_lead ds left lists (last_number last b) part asks.1 whole.1 (subst (λ n. IsProgramPrefix n left part) number begun) in
     let q = at_place (ds ++ left) (last_number last b) [] in
     let joined = leads_on (at_place (d ∷ (ds ++ left)) last []) q (at_place left (last_number (last_number last b) all) part) b (all ++ part) here rest in
     subst (λ n. Leads (at_place (d ∷ (ds ++ left)) last []) ((b ++ all) ++ part) (at_place left n part)) (sym number)
@@ -274,14 +274,15 @@ before_if : (b : Bool) (list : List CompletedCall → Option Act) (done : List C
 before_if true list done c w under = (w, under c.op refl)
 before_if false list done c w under = (written_front list done c w, written_at list done c [] w)
 
-run_of : (list : List CompletedCall → Option Act) (past : List Entry) → AreSteps past → IsWritten list (finished past)
-    → ((op : Act) → opening past ≡ Some op → list (finished past) ≡ Some op) → IsRun list past
-unfolding IsRun AreSteps finished opening
+run_of : (list : List CompletedCall → Option Act) (past : List Entry) → AreSteps past → IsWritten list (completed_calls past)
+    → ((op : Act) → opening past ≡ Some op → list (completed_calls past) ≡ Some op)
+    → IsRun list past
+unfolding IsRun AreSteps completed_calls opening
 run_of list [] steps w under = tt
 run_of list (x ∷ past) steps w under =
-    let b = before_if (is_pending x.reply) list (finished past) (record { op = begun_by x.act (opening past); reply = x.reply }) w under in (
-      due_of (list (finished past)) (opening past) x.act steps.0 b.1,
-      run_of list past steps.1 b.0 (λ op is. under_of (list (finished past)) (opening past) x.act op steps.0 b.1 is),
+    let b = before_if (is_pending x.reply) list (completed_calls past) (record { op = begun_by x.act (opening past); reply = x.reply }) w under in (
+      due_of (list (completed_calls past)) (opening past) x.act steps.0 b.1,
+      run_of list past steps.1 b.0 (λ op is. under_of (list (completed_calls past)) (opening past) x.act op steps.0 b.1 is),
     )
 
 -- BOTH DIRECTIONS
@@ -293,9 +294,9 @@ for_some (Some x) P each = each x refl
 of_some : (o : Option Act) (P : Act → Type 0) (x : Act) → o ≡ Some x → IfSome o P → P x
 of_some o P x is each = subst (λ p. IfSome p P) is each
 
-lists_of : (cs : List Command) (past : List Entry) → IsRunOf cs past → AreListsOf cs (finished past) (opening past)
+lists_of : (cs : List Command) (past : List Entry) → IsRunOf cs past → AreListsOf cs (completed_calls past) (opening past)
 lists_of cs past run =
-    let a = calls_of cs (finished past) (finished_written (program_call cs) past run) in
+    let a = calls_of cs (completed_calls past) (finished_written (program_call cs) past run) in
     record {
       done = a.done;
       left = a.left;
@@ -310,14 +311,14 @@ lists_of cs past run =
           (λ op is. sym a.next ∙ opening_is_due (program_call cs) past run op is);
     }
 
-run_of_lists : (cs : List Command) (past : List Entry) → AreSteps past → AreListsOf cs (finished past) (opening past) → IsRunOf cs past
+run_of_lists : (cs : List Command) (past : List Entry) → AreSteps past → AreListsOf cs (completed_calls past) (opening past) → IsRunOf cs past
 run_of_lists cs past steps a =
     let q = at_place a.left (number_after_lists a.lists) a.last in
     let asks = every_front a.done a.left (subst (AllByRecursion Asks) a.commands (program_asks cs)) in
     let lead = lists_lead a.done a.left a.lists 0 a.last asks a.whole a.begun in
-    let all : Leads (start cs) (finished past) q =
-    subst (λ ws. Leads (at_place ws 0 []) (finished past) q) (sym a.commands) (subst (λ l. Leads (at_place (a.done ++ a.left) 0 []) l q) (sym a.order) lead) in
-    run_of (program_call cs) past steps (asked_of (start cs) (finished past) all.0)
+    let all : Leads (start cs) (completed_calls past) q =
+    subst (λ ws. Leads (at_place ws 0 []) (completed_calls past) q) (sym a.commands) (subst (λ l. Leads (at_place (a.done ++ a.left) 0 []) l q) (sym a.order) lead) in
+    run_of (program_call cs) past steps (asked_of (start cs) (completed_calls past) all.0)
     (λ op is. ap next_call all.1 ∙ of_some (opening past) (λ o. next_in a.left (number_after_lists a.lists) a.last ≡ Some o) op is a.next)
 
 pub runs_mean : RunsMeanWholeLists
@@ -356,7 +357,7 @@ following_means t programs h w acc =
     let past = reverse h in
     let steps = own_steps t w past acc in
     let cut = own_cut t w past acc in (
-      λ run. subst (AreListsOf cs (finished_by w past)) cut.1 (subst (λ calls. AreListsOf cs calls (opening (own w past))) cut.0 (lists_of cs (own w past) run)),
+      λ run. subst (AreListsOf cs (completed_calls_of w past)) cut.1 (subst (λ calls. AreListsOf cs calls (opening (own w past))) cut.0 (lists_of cs (own w past) run)),
       λ a. run_of_lists cs (own w past) steps
-          (subst (AreListsOf cs (finished (own w past))) (sym cut.1) (subst (λ calls. AreListsOf cs calls (op_of (under_way w past))) (sym cut.0) a)),
+          (subst (AreListsOf cs (completed_calls (own w past))) (sym cut.1) (subst (λ calls. AreListsOf cs calls (op_of (under_way w past))) (sym cut.0) a)),
     )

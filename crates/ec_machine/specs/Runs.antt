@@ -17,7 +17,7 @@ use Rattle.ec_machine.specs.declared.outcome.Outcome.{Outcome}
 use Rattle.ec_machine.specs.declared.outcome.Outcome.TheVariants as outcomes
 use Rattle.ec_machine.specs.Unrolled.{unroll}
 use Rattle.ec_machine.specs.Values.{eval, values_of, has_large}
-use Rattle.ec_machine.specs.Steps.{finished, due_after, IsRun}
+use Rattle.ec_machine.specs.Steps.{completed_calls, due_after, IsRun}
 
 -- the number that was returned last: that of this reply, or `last` if it has none
 abbrev pub number_after : ℕ → Reply → ℕ
@@ -72,24 +72,24 @@ abbrev pub next_call : ProgramState → Option Act
 next_call p = next_in p.left p.last p.completed
 
 -- if the first command has no call after these, the next command is due
-abbrev pub next_place : List Command → ℕ → List CompletedCall → ProgramState
-next_place [] last completed = record { left = []; last = last; completed = completed }
-next_place (c ∷ cs) last completed =
+abbrev pub next_state : List Command → ℕ → List CompletedCall → ProgramState
+next_state [] last completed = record { left = []; last = last; completed = completed }
+next_state (c ∷ cs) last completed =
     if is_some (command_call last c completed)
     then record { left = c ∷ cs; last = last; completed = completed }
     else record { left = cs; last = last_number last completed; completed = [] }
 
 -- the state after one more completed call
 abbrev pub after_call : ProgramState → CompletedCall → ProgramState
-after_call p c = next_place p.left p.last (p.completed ++ c ∷ [])
+after_call p c = next_state p.left p.last (p.completed ++ c ∷ [])
 
-unfoldable pub place_after : ProgramState → List CompletedCall → ProgramState
-place_after p [] = p
-place_after p (c ∷ calls) = place_after (after_call p c) calls
+unfoldable pub state_after : ProgramState → List CompletedCall → ProgramState
+state_after p [] = p
+state_after p (c ∷ calls) = state_after (after_call p c) calls
 
 -- the written list of a program: the call that comes after these completed calls, or none
 abbrev pub program_call : List Command → List CompletedCall → Option Act
-program_call cs calls = next_call (place_after (start cs) calls)
+program_call cs calls = next_call (state_after (start cs) calls)
 
 -- the steps are a run of the program, perhaps incomplete
 abbrev pub IsRunOf : List Command → List Entry → Type 0
@@ -108,4 +108,4 @@ outcome_at p = outcome_in p.left p.last
 
 -- how the program has ended after a run of it, if it has
 abbrev pub outcome_of : List Command → List Entry → Outcome
-outcome_of cs past = outcome_at (place_after (start cs) (finished past))
+outcome_of cs past = outcome_at (state_after (start cs) (completed_calls past))

@@ -7,10 +7,10 @@ use Rattle.ec_core.specs.Procedures.{next_of}
 use Rattle.ec_machine.specs.declared.command.Command.{Command}
 use Rattle.ec_machine.specs.declared.outcome.Outcome.{Outcome}
 use Rattle.ec_machine.specs.declared.machine.Machine.{Machine}
-use Rattle.ec_machine.specs.Outcomes.{is_set}
+use Rattle.ec_machine.specs.Outcomes.{is_external}
 use Rattle.ec_machine.specs.Values.{has_large}
-use Rattle.ec_machine.specs.Steps.{opening, finished}
-use Rattle.ec_machine.specs.Runs.{ProgramState, start, command_call, next_call, last_number, place_after, IsRunOf, outcome_of}
+use Rattle.ec_machine.specs.Steps.{opening, completed_calls}
+use Rattle.ec_machine.specs.Runs.{ProgramState, start, command_call, next_call, last_number, state_after, IsRunOf, outcome_of}
 use Rattle.ec_machine.specs.Tasks.{task_rest, task_going}
 
 -- the calls are what is left of the command c, the first in a state; after it these commands are
@@ -33,7 +33,7 @@ machine_outcome m = m.outcome
 
 -- whether it was ended from outside, by `refuse`
 abbrev pub is_refused : Machine → Bool
-is_refused m = is_set m.outcome
+is_refused m = is_external m.outcome
 
 -- the act that it asks for
 abbrev pub due_act : Machine → Option Act
@@ -43,7 +43,7 @@ due_act m = next_of (task_going m.task) (task_rest m.task [])
 -- outside, its outcome, the pending call and the calls that are left, are those after these steps
 pub record StandsFor (cs : List Command) (m : Machine) (past : List Entry) : Type 0 where
   pub run : IsRunOf cs past
-  pub last : m.last ≡ last_number 0 (finished past)
-  pub outcome : is_set m.outcome ≡ false → m.outcome ≡ outcome_of cs past
-  pub going : is_set m.outcome ≡ false → task_going m.task ≡ is_some (opening past)
-  pub left : is_set m.outcome ≡ false → IsAt (task_rest m.task) m.rest (place_after (start cs) (finished past))
+  pub last : m.last ≡ last_number 0 (completed_calls past)
+  pub outcome : is_external m.outcome ≡ false → m.outcome ≡ outcome_of cs past
+  pub going : is_external m.outcome ≡ false → task_going m.task ≡ is_some (opening past)
+  pub left : is_external m.outcome ≡ false → IsAt (task_rest m.task) m.rest (state_after (start cs) (completed_calls past))

@@ -22,16 +22,16 @@ opening [] = None
 opening (x ∷ past) = if is_pending x.reply then Some (begun_by x.act (opening past)) else None
 
 -- the completed calls, in order
-unfoldable pub finished : List Entry → List CompletedCall
-finished [] = []
-finished (x ∷ past) =
+unfoldable pub completed_calls : List Entry → List CompletedCall
+completed_calls [] = []
+completed_calls (x ∷ past) =
     if is_pending x.reply
-    then finished past
-    else finished past ++ record { op = begun_by x.act (opening past); reply = x.reply } ∷ []
+    then completed_calls past
+    else completed_calls past ++ record { op = begun_by x.act (opening past); reply = x.reply } ∷ []
 
 -- the act that a written list of calls has next: Go if a call is pending
 abbrev pub due_after : (List CompletedCall → Option Act) → List Entry → Option Act
-due_after list past = next_of (is_some (opening past)) (list (finished past))
+due_after list past = next_of (is_some (opening past)) (list (completed_calls past))
 
 -- each step is the one that the list has next after those before it: the calls are a prefix of the
 -- list, and a pending call is the next one

@@ -1,6 +1,6 @@
 //! What the definitions mean: each function states a theorem and does nothing.
 ghost use Rattle.ec_machine.specs.Joined.{RunsMeanWholeLists, FollowingMeansWholeLists};
-ghost use Rattle.ec_machine.specs.Laws.{RunsAreOfWholeLists, OwnStepsAreCut, BeginningsAreRuns};
+ghost use Rattle.ec_machine.specs.Laws.{RunsAreOfWholeLists, OwnStepsAreCut, PrefixesAreRuns};
 
 /// States that the completed calls of a run are the call lists of its program's first commands, in
 /// order. The repeats are unrolled. After these whole lists comes a proper prefix of the list of
@@ -28,6 +28,6 @@ pub fn own_steps_are_cut()
 {}
 
 /// States that each prefix of a run of a program is a run of it.
-pub fn beginnings_are_runs()
-    ensures { BeginningsAreRuns }
+pub fn prefixes_are_runs()
+    ensures { PrefixesAreRuns }
 {}

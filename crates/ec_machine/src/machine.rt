@@ -11,8 +11,8 @@ ghost use Rattle.ec_machine.specs.Runs.{number_after, next_act, outcome_of};
 ghost use Rattle.ec_machine.specs.Tasks.{task_rest, task_going};
 ghost use Rattle.ec_machine.specs.Unrolled.{unroll};
 
+use crate::due_command::begin_next;
 use crate::remaining::Remaining;
-use crate::settling::settle;
 use crate::small_task::SmallTask;
 use crate::task::Task;
 use crate::{Outcome, Program};
@@ -61,7 +61,7 @@ impl<'a> Machine<'a> {
         ensures unset { is_refused result ≡ false }
     {
         let mut task = Task::nothing();
-        let outcome = settle(&mut rest, 0, &mut task);
+        let outcome = begin_next(&mut rest, 0, &mut task);
         Machine {
             rest,
             task,
@@ -101,7 +101,7 @@ impl<'a> Machine<'a> {
         self.last = number_after(self.last, reply);
         self.task.take(reply);
         if self.task.next().is_none() {
-            self.outcome = settle(&mut self.rest, self.last, &mut self.task);
+            self.outcome = begin_next(&mut self.rest, self.last, &mut self.task);
         }
     }
 

@@ -11,14 +11,14 @@ use Rattle.ec_core.specs.declared.act.Entry.{Entry}
 use Rattle.ec_core.specs.Acceptance.{IsAccepted}
 use Rattle.ec_core.specs.Calls.{CallSoFar, under_way, call_with_act, call_with, is_pending}
 use Rattle.ec_core.specs.Counts.{total, is_advance}
-use Rattle.ec_core.specs.Rounds.{read_of}
+use Rattle.ec_core.specs.Rounds.{read_event}
 use Rattle.ec_core.proofs.shared.Places.{get_set}
 use Rattle.ec_core.proofs.shared.Scans.{call_own, call_other}
 use Rattle.ec_order.specs.declared.call.Call.{Call}
 use Rattle.ec_order.specs.Calls.{call_of_entries, ended_by, is_one_entry_call}
-use Rattle.ec_order.specs.Index.{advanced, raised_by}
+use Rattle.ec_order.specs.Index.{advance_moments, advanced_event}
 use Rattle.ec_order.specs.AdvanceLogModel.{AdvanceLogModel, ended_event, is_reading_of, readers, opening_past, AddsAdvance, BeginsRead, EndsRead, IsAdvanceLog, AreAdvanceLogs, NotesAlone, FollowsReading}
-use Rattle.ec_order.specs.Walk.{is_alone}
+use Rattle.ec_order.specs.Walk.{is_one_entry_act}
 use Rattle.ec_order.proofs.Chains.{IsChain, IsGone, call_chain, gone_chain}
 use Rattle.ec_order.proofs.Indexing.{raises, raises_none}
 use Rattle.ec_order.proofs.Reaching.{length_advanced}
@@ -26,15 +26,16 @@ use Rattle.ec_order.proofs.Readers.{few_readers, left_on, no_readers, none_reads
 
 -- WHAT IS KNOWN OF AN ACCEPTED ENTRY
 
-pub advanced_none : (e : ℕ) (x : Entry) (past : List Entry) → is_advance e x.act ≡ false → advanced e (x ∷ past) ≡ advanced e past
-unfolding advanced
-advanced_none e x past none = ap (λ b. advanced e past ++ cond b ((length past + 1) ∷ []) []) none ∙ append-nil (advanced e past)
+pub advanced_none : (e : ℕ) (x : Entry) (past : List Entry) → is_advance e x.act ≡ false → advance_moments e (x ∷ past) ≡ advance_moments e past
+unfolding advance_moments
+advanced_none e x past none = ap (λ b. advance_moments e past ++ cond b ((length past + 1) ∷ []) []) none ∙ append-nil (advance_moments e past)
 
-advanced_one : (e : ℕ) (x : Entry) (past : List Entry) → is_advance e x.act ≡ true → advanced e (x ∷ past) ≡ advanced e past ++ (length past + 1) ∷ []
-unfolding advanced
-advanced_one e x past one = ap (λ b. advanced e past ++ cond b ((length past + 1) ∷ []) []) one
+advanced_one : (e : ℕ) (x : Entry) (past : List Entry) → is_advance e x.act ≡ true → advance_moments e (x ∷ past) ≡ advance_moments e past ++ (length past + 1) ∷ []
+unfolding advance_moments
+advanced_one e x past one =
+    ap (λ b. advance_moments e past ++ cond b ((length past + 1) ∷ []) []) one
 
-pub not_advance : (act : Act) (e : ℕ) → is_alone act ≡ false → is_advance e act ≡ false
+pub not_advance : (act : Act) (e : ℕ) → is_one_entry_act act ≡ false → is_advance e act ≡ false
 not_advance (Advance f) e other = cc
 not_advance act e other = refl
 
@@ -177,7 +178,7 @@ one_changes kept past late i was now within read changes stays s = λ e lt.
 
 -- an entry that is a whole call
 
-pub notes_none : (kept : List AdvanceLogModel) (act : Act) (moment : ℕ) → None ≡ raised_by act → NotesAlone kept act moment kept
+pub notes_none : (kept : List AdvanceLogModel) (act : Act) (moment : ℕ) → None ≡ advanced_event act → NotesAlone kept act moment kept
 notes_none kept act moment none = record {
   after = λ t past x d acc is whole here s.
       all_stay kept past (x ∷ past) (λ e k one. same_next e x past k (ap (is_advance e) (sym is) ∙ raises_none act e (sym none)) (readers_whole t e x past d acc whole) one) s;
@@ -196,7 +197,7 @@ raised_one t e x past moment was now d acc whole one here small unread read s =
           subst (IsAdvanceLog e (x ∷ past)) (sym (unread none fits)) (counted_next e x past was one same none s))
     ]
 
-pub notes_one : (old kept : List AdvanceLogModel) (act : Act) (moment e : ℕ) (was now : AdvanceLogModel) → kept ≡ old → Some e ≡ raised_by act → length kept ≡ 32 → e < 32 → was ≡ get_or kept e was → moment < 2 ^ 64 → AddsAdvance was moment now
+pub notes_one : (old kept : List AdvanceLogModel) (act : Act) (moment e : ℕ) (was now : AdvanceLogModel) → kept ≡ old → Some e ≡ advanced_event act → length kept ≡ 32 → e < 32 → was ≡ get_or kept e was → moment < 2 ^ 64 → AddsAdvance was moment now
     → NotesAlone old act moment (slice_set kept e now)
 notes_one old kept act moment e was now view raised long low at small once = record {
   after = λ t past x d acc is whole here s.
@@ -208,7 +209,7 @@ notes_one old kept act moment e was now view raised long low at small once = rec
 
 -- an entry of a read or an await
 
-pub begins_none : (kept : List AdvanceLogModel) (act : Act) → None ≡ read_of act → FollowsReading kept act None kept
+pub begins_none : (kept : List AdvanceLogModel) (act : Act) → None ≡ read_event act → FollowsReading kept act None kept
 begins_none kept act none = record {
   after = λ t past x d acc is other ended s.
       all_stay kept past (x ∷ past) (λ e k one.
@@ -217,14 +218,14 @@ begins_none kept act none = record {
       same_next e x past k (not_advance x.act e other) (omega arith) one) s;
 }
 
-begun_one : (t : Tables) (e : ℕ) (x : Entry) (past : List Entry) (was now : AdvanceLogModel) → IsDeclared t → IsAccepted t (x ∷ past) → is_alone x.act ≡ false → ended_by t x (call_with x past) ≡ []
+begun_one : (t : Tables) (e : ℕ) (x : Entry) (past : List Entry) (was now : AdvanceLogModel) → IsDeclared t → IsAccepted t (x ∷ past) → is_one_entry_act x.act ≡ false → ended_by t x (call_with x past) ≡ []
     → is_reading_of e x.act ≡ true → (was.readers < 255 → now ≡ record was { readers = was.readers + 1 }) → IsAdvanceLog e past was → IsAdvanceLog e (x ∷ past) now
 begun_one t e x past was now d acc other ended reads more s =
     let few : was.readers < 255 = omega (arith, s.readers, few_readers e past) in
     let next : readers e (x ∷ past) ≡ readers e past + 1 = readers_begun t e x past d acc other ended ∙ ap (λ b. readers e past + cond b 1 0) reads in
     subst (IsAdvanceLog e (x ∷ past)) (sym (more few)) (kept_next e x past was (was.readers + 1) (not_advance x.act e other) (omega (arith, s.readers)) (λ none. absurd (omega arith)) s)
 
-pub begins_one : (old kept : List AdvanceLogModel) (act : Act) (e : ℕ) (was now : AdvanceLogModel) → kept ≡ old → Some e ≡ read_of act → length kept ≡ 32 → e < 32 → was ≡ get_or kept e was
+pub begins_one : (old kept : List AdvanceLogModel) (act : Act) (e : ℕ) (was now : AdvanceLogModel) → kept ≡ old → Some e ≡ read_event act → length kept ≡ 32 → e < 32 → was ≡ get_or kept e was
     → BeginsRead was now → FollowsReading old act None (slice_set kept e now)
 begins_one old kept act e was now view read long low at begun = record {
   after = λ t past x d acc is other ended s.
@@ -253,7 +254,7 @@ ends_none kept act c none = record {
       same_next e x past k (not_advance x.act e other) (omega arith) one) s;
 }
 
-ended_one : (t : Tables) (e : ℕ) (x : Entry) (past : List Entry) (c : Call) (was now : AdvanceLogModel) → IsDeclared t → IsAccepted t (x ∷ past) → is_alone x.act ≡ false → ended_by t x (call_with x past) ≡ c ∷ []
+ended_one : (t : Tables) (e : ℕ) (x : Entry) (past : List Entry) (c : Call) (was now : AdvanceLogModel) → IsDeclared t → IsAccepted t (x ∷ past) → is_one_entry_act x.act ≡ false → ended_by t x (call_with x past) ≡ c ∷ []
     → left_on e x.act c ≡ 1 → length past < 2 ^ 64 → (1 < was.readers → now ≡ record was { readers = was.readers - 1 })
     → (was.readers ≡ 1 → was.before + length was.moments < 2 ^ 64 → now ≡ record { before = was.before + length was.moments; moments = []; readers = 0 })
     → IsAdvanceLog e past was → IsAdvanceLog e (x ∷ past) now
@@ -308,7 +309,7 @@ ends_one old kept act c e was now view left long low at fits done = record {
 -- BEFORE THE FIRST ENTRY
 
 raised_none : (e : ℕ) → IsAdvanceLog e [] (record { before = 0; moments = []; readers = 0 })
-unfolding advanced under_way
+unfolding advance_moments under_way
 raised_none e = record {
   gone = [];
   all = refl;

@@ -14,7 +14,7 @@ use Rattle.ec_order.specs.Calls.{finished_calls, is_reading}
 use Rattle.ec_order.specs.Cuts.{IsFinishedCall}
 use Rattle.ec_order.specs.Orders.{calls_in}
 use Rattle.ec_order.specs.Points.{IsPoint, point_of, reads_at, acts_at, at_moment, by_moments, with_point, ordered_by_points}
-use Rattle.ec_order.specs.Verdicts.{IsGood}
+use Rattle.ec_order.specs.Verdicts.{IsLinearizationWithPoints}
 use Rattle.ec_order.specs.Laws.{ComesFirst, OrderByPointsAscends, OrderByPointsIsTheOnlyOne}
 use Rattle.ec_order.proofs.Fits.{acts_there}
 use Rattle.ec_order.proofs.Finished.{calls_cut}
@@ -98,7 +98,7 @@ same_place : (p q : Placed) → p.call ≡ q.call → p.point ≡ q.point → p 
 same_place p q e f = ap (λ c. record { call = c; point = p.point }) e ∙ ap (λ k. record { call = q.call; point = k }) f
 
 module _ (t : Tables) (h : List Entry) (d : IsDeclared t) (acc : IsAccepted t (reverse h)) where
-  good : IsGood t (reverse h) (ordered_by_points t (reverse h))
+  good : IsLinearizationWithPoints t (reverse h) (ordered_by_points t (reverse h))
   good = order_good t (reverse h) d acc
 
   point_there : (p : Placed) → Contains (finished_calls t (reverse h)) p.call → p.point ≡ point_of (reverse h) p.call → IsPoint h p.call p.point

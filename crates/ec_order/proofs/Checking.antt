@@ -11,9 +11,9 @@ use Rattle.ec_core.specs.Acceptance.{IsAccepted}
 use Rattle.ec_order.specs.declared.call.Call.{Call}
 use Rattle.ec_order.specs.declared.placed.Placed.{Placed}
 use Rattle.ec_order.specs.Calls.{finished_calls, ended_by}
-use Rattle.ec_order.specs.Sequential.{zero_state, IsSequentialRun}
-use Rattle.ec_order.specs.Orders.{FinishedBefore, calls_in}
-use Rattle.ec_order.specs.Verdicts.{IsGood}
+use Rattle.ec_order.specs.Sequential.{zero_state, IsLegalHistory}
+use Rattle.ec_order.specs.Orders.{Precedes, calls_in}
+use Rattle.ec_order.specs.Verdicts.{IsLinearizationWithPoints}
 use Rattle.ec_order.specs.Verdicts.{AreSound}
 use Rattle.ec_order.proofs.Fits.{Fits, all_fit}
 use Rattle.ec_order.proofs.Ends.{Ends, ends}
@@ -31,7 +31,7 @@ pub calls_more : (ps : List Placed) (p : Placed) → calls_in (ps ++ p ∷ []) �
 calls_more ps p = map-append (λ (q : Placed). q.call) ps (p ∷ [])
 
 -- the calls at sound places are a legal sequential history
-run_upto : (t : Tables) (past : List Entry) (ps : List Placed) (i : ℕ) → i ≤ length ps → AreSound t past ps i → IsSequentialRun zero_state (calls_in (take i ps))
+run_upto : (t : Tables) (past : List Entry) (ps : List Placed) (i : ℕ) → i ≤ length ps → AreSound t past ps i → IsLegalHistory zero_state (calls_in (take i ps))
 run_upto t past ps zero h s = tt
 run_upto t past ps (suc i) h s =
     let a = at_index ps i (omega arith) in
@@ -39,9 +39,9 @@ run_upto t past ps (suc i) h s =
     let one : i + 1 ≡ suc i = omega arith in
     let more : take (suc i) ps ≡ take i ps ++ p ∷ [] = ap (λ n. take n ps) (sym one) ∙ taken_more ps i p a.1 in
     let here = s i p (omega arith) a.1 in
-    let run : IsSequentialRun zero_state (calls_in (take i ps) ++ p.call ∷ []) =
+    let run : IsLegalHistory zero_state (calls_in (take i ps) ++ p.call ∷ []) =
     run_append zero_state (calls_in (take i ps)) (p.call ∷ []) (run_upto t past ps i (omega arith) (λ k q lt at. s k q (omega arith) at)) (here.right, tt) in
-    subst (IsSequentialRun zero_state) (sym (ap calls_in more ∙ calls_more (take i ps) p)) run
+    subst (IsLegalHistory zero_state) (sym (ap calls_in more ∙ calls_more (take i ps) p)) run
 
 -- sound places have different calls
 has_last : {X : Type 0} (xs : List X) (x z : X) → Has (xs ++ x ∷ []) z → Has xs z ⊎ (x ≡ z)
@@ -106,7 +106,7 @@ differ_from (c ∷ cs) h =
     (λ k. (let lt : c.last < c.last = All-contains (EndsFirst c) cs c first (contains_from cs c k) in omega arith), differ_from cs rest)
 
 in_time_at : (t : Tables) (past : List Entry) (ps : List Placed) → AreSound t past ps (length ps) → (i j : ℕ) (e : Placed) → i < j → j < length ps
-    → FinishedBefore (get_or ps j e).call (get_or ps i e).call → ⊥
+    → Precedes (get_or ps j e).call (get_or ps i e).call → ⊥
 in_time_at t past ps s i j e lt le h =
     let b = get_or ps j e in
     let a = get_or ps i e in
@@ -116,7 +116,7 @@ in_time_at t past ps s i j e lt le h =
 
 -- a list of sound places that lacks no completed call is good
 pub sound_good : (t : Tables) (past : List Entry) (ps : List Placed) → IsDeclared t → IsAccepted t past → AreSound t past ps (length ps)
-    → ((c : Call) → Contains (finished_calls t past) c → Contains (calls_in ps) c) → IsGood t past ps
+    → ((c : Call) → Contains (finished_calls t past) c → Contains (calls_in ps) c) → IsLinearizationWithPoints t past ps
 sound_good t past ps d acc s all =
     let whole : take (length ps) ps ≡ ps = take_all (length ps) ps (omega arith) in
     let n = length ps in
@@ -126,8 +126,8 @@ sound_good t past ps d acc s all =
             (subst (λ (zs : List Placed). Differ (calls_in zs)) whole (differ_upto t past ps n (omega arith) s))
             (λ z h. has_from (calls_in ps) z (all z (contains_from (finished_calls t past) z h)))
             (λ z h. known_upto t past ps n (omega arith) s z (subst (λ (zs : List Placed). Has (calls_in zs) z) (sym whole) h));
-        in_order = AllPairs-map (λ a b. FinishedBefore b a → ⊥) (λ (p : Placed). p.call) ps (λ i j e lt le h. in_time_at t past ps s i j e lt le h);
-        run = subst (λ (zs : List Placed). IsSequentialRun zero_state (calls_in zs)) whole (run_upto t past ps n (omega arith) s);
+        in_order = AllPairs-map (λ a b. Precedes b a → ⊥) (λ (p : Placed). p.call) ps (λ i j e lt le h. in_time_at t past ps s i j e lt le h);
+        run = subst (λ (zs : List Placed). IsLegalHistory zero_state (calls_in zs)) whole (run_upto t past ps n (omega arith) s);
       };
       points = λ k e lt. (s k (get_or ps k e) lt (slice_get-get_or ps k e lt)).there;
     }

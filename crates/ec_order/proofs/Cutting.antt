@@ -342,8 +342,8 @@ whole_begun : (w : ℕ) (x : Entry) (act : Act) (p : List Entry) (op : Act) (res
 whole_begun w x act p op rest own is begins h =
     let a : x.act ≡ op = is ∙ same_op act op (p ∷ []) (p ∷ rest) h in
     let none : [] ≡ rest = same_rest act op p [] rest h in
-    let alone : IsWhole w x.act x p [] = whole_alone w x p own (ap is_go is ∙ begins) in
-    subst (IsWhole w op x p) none (subst (λ o. IsWhole w o x p []) a alone)
+    let one_entry_calls : IsWhole w x.act x p [] = whole_alone w x p own (ap is_go is ∙ begins) in
+    subst (IsWhole w op x p) none (subst (λ o. IsWhole w o x p []) a one_entry_calls)
 
 whole_gone : (w : ℕ) (x : Entry) (p : List Entry) (a op : Act) (ms rest : List (List Entry)) → x.worker ≡ w → x.act ≡ Go → Own w a p ms × (is_go a ≡ false)
     → Some (record { op = a; moments = p ∷ ms }) ≡ Some (so_far op (p ∷ rest)) → IsWhole w op x p rest

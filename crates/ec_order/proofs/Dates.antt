@@ -12,7 +12,7 @@ use Rattle.ec_order.specs.declared.placed.Placed.{Placed}
 use Rattle.ec_order.specs.Calls.{is_one_entry_call}
 use Rattle.ec_order.specs.Points.{at_moment, by_moments}
 use Rattle.ec_order.specs.Linearizer.{LinearizerModel, IsLinearizerModel, linearized_entry, linearized_entries, entries_from_moment, entries_after_moment, due_moment, long_readings, read_comes}
-use Rattle.ec_order.specs.Walk.{alone_at, due_then, is_alone, own_calls}
+use Rattle.ec_order.specs.Walk.{alone_at, due_then, is_one_entry_act, own_calls}
 use Rattle.ec_order.proofs.Gathering.{placed}
 use Rattle.ec_order.proofs.Moments.{IsMoment, moment_of, told_calls}
 use Rattle.ec_order.proofs.Sorting.{moment_is}
@@ -76,19 +76,19 @@ module _ (k : ℕ) (x : Entry) (ms : List Bool) (xs : List Entry) (here late : L
       ∙ ap (λ ps. linearized_entry (alone_at k x) ∷ (map linearized_entry ps
       ++ rest)) (sym (append-nil here))
 
-  moment_comes : (is_alone x.act ≡ true → is_one_entry_call x ≡ true)
+  moment_comes : (is_one_entry_act x.act ≡ true → is_one_entry_call x ≡ true)
       → entries_from_moment k (is_one_entry_call x ∷ ms) (cond (is_one_entry_call x) (x ∷ xs) xs) (map linearized_entry here ++ map linearized_entry late) ≡ map linearized_entry (told_calls k x ++ (here ++ own_calls k x)) ++ rest
   moment_comes whole =
-      elim (is_one_entry_call x) as (λ s. (is_alone x.act ≡ true → s ≡ true) → entries_from_moment k (s ∷ ms) (cond s (x ∷ xs) xs) (map linearized_entry here ++ map linearized_entry late)
-      ≡ map linearized_entry (cond (s && not (is_alone x.act)) (alone_at k x ∷ []) [] ++ (here ++ cond (is_alone x.act) (alone_at k x ∷ []) [])) ++ rest) [
+      elim (is_one_entry_call x) as (λ s. (is_one_entry_act x.act ≡ true → s ≡ true) → entries_from_moment k (s ∷ ms) (cond s (x ∷ xs) xs) (map linearized_entry here ++ map linearized_entry late)
+      ≡ map linearized_entry (cond (s && not (is_one_entry_act x.act)) (alone_at k x ∷ []) [] ++ (here ++ cond (is_one_entry_act x.act) (alone_at k x ∷ []) [])) ++ rest) [
         | true ↦ λ h.
-            (elim (is_alone x.act) as (λ a. due_then (due_moment (not a)) k (entries_after_moment k (true ∷ ms) (x ∷ xs)) (map linearized_entry here ++ map linearized_entry late)
+            (elim (is_one_entry_act x.act) as (λ a. due_then (due_moment (not a)) k (entries_after_moment k (true ∷ ms) (x ∷ xs)) (map linearized_entry here ++ map linearized_entry late)
             ≡ map linearized_entry (cond (not a) (alone_at k x ∷ []) [] ++ (here ++ cond a (alone_at k x ∷ []) [])) ++ rest) [
               | true ↦ act_comes
               | false ↦ told_comes
             ])
         | false ↦ λ h.
-            (elim (is_alone x.act) as (λ a. (a ≡ true → false ≡ true) → entries_from_moment k (false ∷ ms) xs (map linearized_entry here ++ map linearized_entry late) ≡ map linearized_entry (here ++ cond a (alone_at k x ∷ []) []) ++ rest) [
+            (elim (is_one_entry_act x.act) as (λ a. (a ≡ true → false ≡ true) → entries_from_moment k (false ∷ ms) xs (map linearized_entry here ++ map linearized_entry late) ≡ map linearized_entry (here ++ cond a (alone_at k x ∷ []) []) ++ rest) [
               | true ↦ λ g. (let e : false ≡ true = g refl in cc)
               | false ↦ λ g. passes
             ] h)
@@ -129,11 +129,11 @@ dates_are t h ds d acc is =
     ap (entries_from_moment 0 (map is_one_entry_call h) (filter is_one_entry_call h)) (is ∙ ap (map linearized_entry) (from longs)) ∙ moments_come all longs 0 h each ∙ ap (map linearized_entry) (sym (from all))
 
 -- what is stored of an accepted past gives its completed calls in order of their points
-pub dates_of : (k : LinearizerModel) (past : List Entry) → IsDeclared k.setup → IsAccepted k.setup past → IsLinearizerModel k past → entries_from_moment 0 k.marks k.alone k.readings ≡ linearized_entries k.setup past
+pub dates_of : (k : LinearizerModel) (past : List Entry) → IsDeclared k.setup → IsAccepted k.setup past → IsLinearizerModel k past → entries_from_moment 0 k.marks k.one_entry_calls k.readings ≡ linearized_entries k.setup past
 dates_of k past d acc s =
     let h = reverse past in
     let back : reverse h ≡ past = reverse-reverse past in
-    ap (λ ms. entries_from_moment 0 ms k.alone k.readings) s.marks ∙ ap (λ xs. entries_from_moment 0 (map is_one_entry_call h) xs k.readings) s.alone
+    ap (λ ms. entries_from_moment 0 ms k.one_entry_calls k.readings) s.marks ∙ ap (λ xs. entries_from_moment 0 (map is_one_entry_call h) xs k.readings) s.one_entry_calls
     ∙ dates_are k.setup h k.readings d (subst (IsAccepted k.setup) (sym back) acc) (s.readings (length past) (omega arith) ∙ ap (λ xs. map linearized_entry (by_moments (long_readings k.setup xs) (length xs))) (sym back))
     ∙ ap (linearized_entries k.setup) back
 

@@ -16,7 +16,7 @@ use Rattle.ec_core.proofs.shared.Answering.{allowed, IsAllowed, IsReading, IsRea
 use Rattle.ec_order.specs.Calls.{call_of_entries, ended_by, is_reading}
 use Rattle.ec_core.specs.CallLists.{reply_number}
 use Rattle.ec_order.specs.Sequential.{SequentialState, sequential_reply, sequential_after}
-use Rattle.ec_order.specs.Walk.{is_alone}
+use Rattle.ec_order.specs.Walk.{is_one_entry_act}
 use Rattle.ec_order.proofs.Chains.{IsChain, IsChained, call_chain}
 use Rattle.ec_core.proofs.shared.Stepping.{entry}
 
@@ -27,24 +27,24 @@ pub record Shows (o : SequentialState) (past : List Entry) : Type 0 where
   pub cells : (x : ℕ) → o.cells x ≡ cell_value x past
 
 -- if the number is the one returned, the sequential object gives this reply
-abbrev pub IsTold : Act → Reply → Type 0
-IsTold op reply = (o : SequentialState) → o.events (event_or op) ≡ reply_number reply → sequential_reply o op ≡ Some reply
+abbrev pub IsReturned : Act → Reply → Type 0
+IsReturned op reply = (o : SequentialState) → o.events (event_or op) ≡ reply_number reply → sequential_reply o op ≡ Some reply
 
 -- what an entry that ends a read or an await returns: a round is whole, and its sum is the number
 pub record EndsRound (t : Tables) (op : Act) (past : List Entry) (rest : List (List Entry)) (reply : Reply) : Type 0 where
   pub whole : suc (length rest % component_count t (event_or op)) ≡ component_count t (event_or op)
   pub number : reply_number reply
       ≡ sum_read t (event_or op) (component_count t (event_or op)) (past ∷ rest)
-  pub returned : IsTold op reply
+  pub returned : IsReturned op reply
 
 number_told : (n : ℕ) (reply : Reply) → Number n ≡ reply → (m : ℕ) → m ≡ reply_number reply → Some (Number m) ≡ Some reply
 number_told n reply h m e = ap (λ k. Some (Number k)) (e ∙ ap reply_number (sym h)) ∙ ap Some h
 
 round_told : (op : Act) (s : ℕ) (reply : Reply) → is_reading op ≡ true → round_reply op s ≡ reply → is_pending reply ≡ false
-    → (reply_number reply ≡ s) × IsTold op reply
+    → (reply_number reply ≡ s) × IsReturned op reply
 round_told (Read e) s reply r h p = (ap reply_number (sym h), λ o k. number_told s reply h (o.events e) k)
 round_told (Await e v) s reply r h p =
-    elim (nat_le v s) as (λ b. nat_le v s ≡ b → cond b (Number s) Pending ≡ reply → (reply_number reply ≡ s) × IsTold (Await e v) reply) [
+    elim (nat_le v s) as (λ b. nat_le v s ≡ b → cond b (Number s) Pending ≡ reply → (reply_number reply ≡ s) × IsReturned (Await e v) reply) [
       | true ↦ λ le g. (
         ap reply_number (sym g),
         λ o k.
@@ -79,7 +79,7 @@ IsQuiet act = (o : SequentialState) → sequential_after o act ≡ o
 pub record EndsNothing (t : Tables) (x : Entry) (past : List Entry) (o : Option CallSoFar) : Type 0 where
   pub is : ended_by t x (call_with_act x.act past o) ≡ []
   pub quiet : IsQuiet x.act
-  pub goes_on : is_alone x.act ≡ false
+  pub goes_on : is_one_entry_act x.act ≡ false
 
 pub record EndsReading (t : Tables) (x : Entry) (past : List Entry) (o : Option CallSoFar) : Type 0 where
   pub op : Act
@@ -87,7 +87,7 @@ pub record EndsReading (t : Tables) (x : Entry) (past : List Entry) (o : Option 
   pub gone : call_with_act x.act past o ≡ Some (record { op = op; moments = past ∷ rest })
   pub is : ended_by t x (call_with_act x.act past o) ≡ call_of_entries t x op (past ∷ rest) ∷ []
   pub quiet : IsQuiet x.act
-  pub goes_on : is_alone x.act ≡ false
+  pub goes_on : is_one_entry_act x.act ≡ false
   pub reading : is_reading op ≡ true
   pub known : event_or op < 32
   pub chain : IsChain past rest
@@ -105,7 +105,7 @@ abbrev pub Ends : Tables → Entry → List Entry → Option CallSoFar → Type 
 Ends t x past o = EndsNothing t x past o ⊎ (EndsReading t x past o ⊎ EndsActing t x past o)
 
 reading_ends : (t : Tables) (past : List Entry) (w : ℕ) (act op : Act) (reply : Reply) (rest : List (List Entry)) (o : Option CallSoFar)
-    → call_with_act act past o ≡ Some (record { op = op; moments = past ∷ rest }) → IsQuiet act → is_alone act ≡ false → is_reading op ≡ true → event_or op < 32 → IsChain past rest
+    → call_with_act act past o ≡ Some (record { op = op; moments = past ∷ rest }) → IsQuiet act → is_one_entry_act act ≡ false → is_reading op ≡ true → event_or op < 32 → IsChain past rest
     → 0 < component_count t (event_or op) → read_reply t op past rest ≡ reply → Ends t (entry w act reply) past o
 reading_ends t past w act op reply rest o gone quiet goes_on r known chain some h =
     elim (is_pending reply) as (λ b. is_pending reply ≡ b → Ends t (entry w act reply) past o) [

@@ -23,7 +23,7 @@ use Rattle.ec_core.proofs.shared.Pasts.{past_itself}
 use Rattle.ec_order.proofs.Chains.{past_next, past_shorter, IsChain, chain_at, chain_between, chain_each, chain_of_each}
 use Rattle.ec_core.proofs.shared.CallRounds.{sum_taken as sum_take}
 use Rattle.ec_order.proofs.Points.{first_next, first_of_past, total_step, first_is}
-use Rattle.ec_order.proofs.Ends.{IsTold, EndsRound, Ends, ends}
+use Rattle.ec_order.proofs.Ends.{IsReturned, EndsRound, Ends, ends}
 
 -- what is known of each completed call of a past
 pub record Fits (past : List Entry) (c : Call) : Type 0 where
@@ -32,7 +32,7 @@ pub record Fits (past : List Entry) (c : Call) : Type 0 where
   pub last : c.last < length past
   pub low : is_reading c.op ≡ true → total (event_or c.op) (first_entries c.round past) ≤ reply_number c.reply
   pub high : is_reading c.op ≡ true → reply_number c.reply ≤ total (event_or c.op) (first_entries c.last past)
-  pub returned : is_reading c.op ≡ true → IsTold c.op c.reply
+  pub returned : is_reading c.op ≡ true → IsReturned c.op c.reply
   pub known : is_reading c.op ≡ true → event_or c.op < 32
 
 pub fits_later : (x : Entry) (past : List Entry) (c : Call) → Fits past c → Fits (x ∷ past) c

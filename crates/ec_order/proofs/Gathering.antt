@@ -17,7 +17,7 @@ use Rattle.ec_order.specs.declared.placed.Placed.{Placed}
 use Rattle.ec_order.specs.Calls.{call_of_entries, ended_by, finished_calls, is_reading, is_one_entry_call}
 use Rattle.ec_core.specs.CallLists.{reply_number}
 use Rattle.ec_order.specs.Points.{first_entries, first_moment, point_of, with_point, by_moments}
-use Rattle.ec_order.specs.Walk.{is_alone, placed_point, reads, readings, IsPlaceFor}
+use Rattle.ec_order.specs.Walk.{is_one_entry_act, placed_point, reads, readings, IsPlaceFor}
 use Rattle.ec_order.proofs.Points.{first_next}
 use Rattle.ec_order.proofs.Ends.{Ends, ends}
 use Rattle.ec_order.proofs.Fits.{Fits, all_fit, point_bounds}
@@ -71,11 +71,11 @@ added t x past d acc =
     ap (filter reads) (placed_more t x past d acc) ∙ filter-append reads (placed t past) (map (with_point (x ∷ past)) more)
 
 -- what any other entry ends is one
-pub others_read : (t : Tables) (x : Entry) (past : List Entry) → is_alone x.act ≡ false → Ends t x past (under_way x.worker past)
+pub others_read : (t : Tables) (x : Entry) (past : List Entry) → is_one_entry_act x.act ≡ false → Ends t x past (under_way x.worker past)
     → All (λ (c : Call). is_reading c.op ≡ true) (ended_by t x (call_with_act x.act past (under_way x.worker past)))
 others_read t x past other (inl n) = rw n.is (All-nil (λ (c : Call). is_reading c.op ≡ true))
 others_read t x past other (inr (inl r)) = rw r.is (All-cons (λ (c : Call). is_reading c.op ≡ true) (call_of_entries t x r.op (past ∷ r.rest)) [] r.reading (All-nil (λ (c : Call). is_reading c.op ≡ true)))
-others_read t x past other (inr (inr a)) = (let alone : is_alone x.act ≡ true = alone_from x.act a.begins a.acting in cc)
+others_read t x past other (inr (inr a)) = (let one_entry_calls : is_one_entry_act x.act ≡ true = alone_from x.act a.begins a.acting in cc)
 
 -- A WHOLE CALL CHANGES NO PENDING CALL
 
@@ -100,10 +100,12 @@ pub whole_from : (x : Entry) → is_go x.act ≡ false → is_pending x.reply �
 whole_from x begins final = ap (λ a. not a && not (is_pending x.reply)) begins ∙ ap not final
 
 -- so is each act but a read, an await and a go
-pub alone_whole : (t : Tables) (x : Entry) (past : List Entry) → is_alone x.act ≡ true → Ends t x past (under_way x.worker past) → is_one_entry_call x ≡ true
-alone_whole t x past alone (inl n) = (let other : is_alone x.act ≡ false = n.goes_on in cc)
-alone_whole t x past alone (inr (inl r)) = (let other : is_alone x.act ≡ false = r.goes_on in cc)
-alone_whole t x past alone (inr (inr a)) = whole_from x a.begins a.final
+pub alone_whole : (t : Tables) (x : Entry) (past : List Entry) → is_one_entry_act x.act ≡ true → Ends t x past (under_way x.worker past) → is_one_entry_call x ≡ true
+alone_whole t x past one_entry_calls (inl n) =
+    (let other : is_one_entry_act x.act ≡ false = n.goes_on in cc)
+alone_whole t x past one_entry_calls (inr (inl r)) =
+    (let other : is_one_entry_act x.act ≡ false = r.goes_on in cc)
+alone_whole t x past one_entry_calls (inr (inr a)) = whole_from x a.begins a.final
 
 pub whole_leaves : (t : Tables) (x : Entry) (past : List Entry) (w : ℕ) → IsDeclared t → IsAccepted t (x ∷ past) → is_one_entry_call x ≡ true → under_way w (x ∷ past) ≡ under_way w past
 unfolding under_way
@@ -136,7 +138,7 @@ pub record AddsReading (t : Tables) (x : Entry) (past : List Entry) (p : Placed)
   pub low : p.point < suc (length past)
   pub is : readings t (x ∷ past) ≡ readings t past ++ p ∷ []
 
-pub readings_more : (t : Tables) (x : Entry) (past : List Entry) (c : Call) → IsDeclared t → IsAccepted t (x ∷ past) → is_alone x.act ≡ false → ended_by t x (call_with x past) ≡ c ∷ []
+pub readings_more : (t : Tables) (x : Entry) (past : List Entry) (c : Call) → IsDeclared t → IsAccepted t (x ∷ past) → is_one_entry_act x.act ≡ false → ended_by t x (call_with x past) ≡ c ∷ []
     → AddsReading t x past (with_point (x ∷ past) c)
 readings_more t x past c d acc other is =
     let reading : is_reading c.op ≡ true = All-head (λ (c : Call). is_reading c.op ≡ true) c [] (subst (All (λ (c : Call). is_reading c.op ≡ true)) is (others_read t x past other (ends t x past d acc))) in

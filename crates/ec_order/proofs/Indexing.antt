@@ -9,7 +9,7 @@ use Rattle.ec_core.specs.declared.act.Act.TheVariants.{Advance}
 use Rattle.ec_core.specs.declared.act.Entry.{Entry}
 use Rattle.ec_core.specs.Counts.{is_advance}
 use Rattle.ec_numbers.specs.Numbers.{NumberListModel}
-use Rattle.ec_order.specs.Index.{advanced, moments_in, IsIndex, NotesAct, raised_by}
+use Rattle.ec_order.specs.Index.{advance_moments, moments_in, IsIndex, NotesAct, advanced_event}
 use Rattle.ec_order.proofs.Scanning.{prefix_more, prefix_long}
 
 pub moments_empty : (lists : List NumberListModel) → All (λ (v : NumberListModel). v.list ≡ []) lists → (e : ℕ) → moments_in lists e ≡ []
@@ -35,11 +35,11 @@ moments_set lists e f v low =
           ap (λ (xs : List (List ℕ)). get_or xs f []) (map-set items lists e v) ∙ get_or-set_other (map items lists) e f v.list [] other)
     ] refl
 
-pub raises : (act : Act) (f e : ℕ) → raised_by act ≡ Some e → is_advance f act ≡ (e == f)
+pub raises : (act : Act) (f e : ℕ) → advanced_event act ≡ Some e → is_advance f act ≡ (e == f)
 raises (Advance g) f e h = (let same : g ≡ e = cc in ap (λ k. k == f) same)
 raises act f e h = cc
 
-pub raises_none : (act : Act) (f : ℕ) → raised_by act ≡ None → is_advance f act ≡ false
+pub raises_none : (act : Act) (f : ℕ) → advanced_event act ≡ None → is_advance f act ≡ false
 raises_none (Advance g) f h = cc
 raises_none act f h = refl
 
@@ -49,10 +49,10 @@ pub record IsIndexed (h : List Entry) (i : ℕ) (lists : List NumberListModel) :
   pub index : IsIndex (reverse (take i h)) lists
 
 pub indexed_start : (h : List Entry) (lists : List NumberListModel) → length lists ≡ 32 → ((e : ℕ) → moments_in lists e ≡ []) → IsIndexed h 0 lists
-unfolding advanced
+unfolding advance_moments
 indexed_start h lists long none = record { long = long; index = λ e lt. none e }
 
-pub noted_one : (lists lists' : List NumberListModel) (act : Act) (moment e : ℕ) (v : NumberListModel) → Some e ≡ raised_by act → e < length lists
+pub noted_one : (lists lists' : List NumberListModel) (act : Act) (moment e : ℕ) (v : NumberListModel) → Some e ≡ advanced_event act → e < length lists
     → v.list ≡ moments_in lists e ++ moment ∷ [] → lists' ≡ set lists e v → NotesAct lists act moment lists'
 noted_one lists lists' act moment e v raised low items is = record {
   long = ap length is ∙ length-set lists e v;
@@ -66,10 +66,10 @@ noted_one lists lists' act moment e v raised low items is = record {
 }
 
 pub index_next : (x : Entry) (past : List Entry) (i : ℕ) (lists lists' : List NumberListModel) → i ≡ length past → IsIndex past lists → NotesAct lists x.act (i + 1) lists' → IsIndex (x ∷ past) lists'
-unfolding advanced
+unfolding advance_moments
 index_next x past i lists lists' here s notes = λ e lt.
     notes.moments e ∙ ap (λ ms. ms ++ cond (is_advance e x.act) ((i + 1) ∷ []) []) (s e lt)
-    ∙ ap (λ k. advanced e past ++ cond (is_advance e x.act) ((k + 1) ∷ []) []) here
+    ∙ ap (λ k. advance_moments e past ++ cond (is_advance e x.act) ((k + 1) ∷ []) []) here
 
 pub indexed_more : (h : List Entry) (i : ℕ) (x : Entry) (lists lists' : List NumberListModel) → Some x ≡ slice_get h i → IsIndexed h i lists → NotesAct lists x.act (i + 1) lists' → IsIndexed h (i + 1) lists'
 indexed_more h i x lists lists' at s notes =

@@ -12,15 +12,15 @@ use Rattle.ec_core.specs.declared.act.Entry.{Entry}
 use Rattle.ec_core.specs.Acceptance.{IsAccepted}
 use Rattle.ec_core.specs.Calls.{call_with}
 use Rattle.ec_core.specs.Counts.{total}
-use Rattle.ec_core.specs.Rounds.{event_or, read_of, IsPastOf}
+use Rattle.ec_core.specs.Rounds.{event_or, read_event, IsPastOf}
 use Rattle.ec_core.proofs.shared.Pasts.{past_itself}
 use Rattle.ec_order.specs.declared.call.Call.{Call}
 use Rattle.ec_order.specs.Calls.{ended_by, finished_calls, is_reading}
 use Rattle.ec_core.specs.CallLists.{reply_number}
-use Rattle.ec_order.specs.Index.{advanced, moment_of_advance, point_by}
+use Rattle.ec_order.specs.Index.{advance_moments, moment_of_advance, point_by}
 use Rattle.ec_order.specs.Points.{first_entries, point_of}
 use Rattle.ec_order.specs.AdvanceLogModel.{AdvanceLogModel, moment_since, is_reading_of, opening_past, IsAdvanceLog, IsPointBy}
-use Rattle.ec_order.specs.Walk.{is_alone}
+use Rattle.ec_order.specs.Walk.{is_one_entry_act}
 use Rattle.ec_order.proofs.Chains.{chain_at, past_next}
 use Rattle.ec_order.proofs.Ends.{ends}
 use Rattle.ec_order.proofs.Fits.{Fits, all_fit}
@@ -51,22 +51,22 @@ moment_kept gone moments all k (suc r) is long lt =
     let at : suc r - k.before - 1 ≡ r - k.before = omega arith in
     ap (λ j. get_or k.moments j 0) at ∙ sym (get_or-append_right gone k.moments k.before r 0 long (omega arith)) ∙ ap (λ ms. get_or ms r 0) (sym is)
 
-event_read : (op : Act) (e : ℕ) → read_of op ≡ Some e → event_or op ≡ e
+event_read : (op : Act) (e : ℕ) → read_event op ≡ Some e → event_or op ≡ e
 event_read (Read f) e is = cc
 event_read (Await f v) e is = cc
 event_read op e is = cc
 
-pub point_kept : (t : Tables) (e : ℕ) (x : Entry) (past : List Entry) (c : Call) (k : AdvanceLogModel) → IsDeclared t → IsAccepted t (x ∷ past) → is_alone x.act ≡ false → ended_by t x (call_with x past) ≡ c ∷ []
-    → read_of c.op ≡ Some e → IsAdvanceLog e past k → max c.round (moment_since k (reply_number c.reply)) ≡ point_of (x ∷ past) c
+pub point_kept : (t : Tables) (e : ℕ) (x : Entry) (past : List Entry) (c : Call) (k : AdvanceLogModel) → IsDeclared t → IsAccepted t (x ∷ past) → is_one_entry_act x.act ≡ false → ended_by t x (call_with x past) ≡ c ∷ []
+    → read_event c.op ≡ Some e → IsAdvanceLog e past k → max c.round (moment_since k (reply_number c.reply)) ≡ point_of (x ∷ past) c
 point_kept t e x past c k d acc other ended read s =
     let late = x ∷ past in
     let n = reply_number c.reply in
-    let all = advanced e late in
+    let all = advance_moments e late in
     let reading : is_reading c.op ≡ true = All-head (λ (z : Call). is_reading z.op ≡ true) c [] (subst (All (λ (z : Call). is_reading z.op ≡ true)) ended (others_read t x past other (ends t x past d acc))) in
     let known : Contains (finished_calls t late) c = known_call t x past c ended in
     let f : Fits late c = All-contains (Fits late) (finished_calls t late) c (all_fit t late d acc) known in
     let event : event_or c.op ≡ e = event_read c.op e read in
-    let is : point_of late c ≡ max c.round (moment_of_advance all n) = point_is late c f ∙ ap (λ j. point_by (advanced j late) c) event ∙ ap (λ b. cond b (max c.round (moment_of_advance all n)) c.last) reading in
+    let is : point_of late c ≡ max c.round (moment_of_advance all n) = point_is late c f ∙ ap (λ j. point_by (advance_moments j late) c) event ∙ ap (λ b. cond b (max c.round (moment_of_advance all n)) c.last) reading in
     let same : all ≡ s.gone ++ k.moments = advanced_none e x past (not_advance x.act e other) ∙ s.all in
     elim (nat_le n k.before) as (λ b. nat_le n k.before ≡ b → max c.round (cond b 0 (get_or k.moments (n - k.before - 1) 0)) ≡ point_of late c) [
       | true ↦ λ h.
@@ -85,7 +85,7 @@ point_kept t e x past c k d acc other ended read s =
           ap (max c.round) (moment_kept s.gone k.moments all k n same s.before more) ∙ sym is)
     ] refl
 
-pub point_one : (kept : List AdvanceLogModel) (c : Call) (e k : ℕ) (was : AdvanceLogModel) → Some e ≡ read_of c.op → e < 32 → was ≡ get_or kept e was → k ≡ max c.round (moment_since was (reply_number c.reply)) → IsPointBy kept c k
+pub point_one : (kept : List AdvanceLogModel) (c : Call) (e k : ℕ) (was : AdvanceLogModel) → Some e ≡ read_event c.op → e < 32 → was ≡ get_or kept e was → k ≡ max c.round (moment_since was (reply_number c.reply)) → IsPointBy kept c k
 point_one kept c e k was read low at is = record {
   is = λ t past x d acc other ended s.
       let r = s e low in
@@ -94,12 +94,12 @@ point_one kept c e k was read low at is = record {
 }
 
 -- a call that an entry of a read or an await ends is one
-reading_read : (op : Act) → is_reading op ≡ true → read_of op ≡ None → ⊥
+reading_read : (op : Act) → is_reading op ≡ true → read_event op ≡ None → ⊥
 reading_read (Read f) r none = cc
 reading_read (Await f v) r none = cc
 reading_read op r none = cc
 
-pub point_none : (kept : List AdvanceLogModel) (c : Call) (k : ℕ) → None ≡ read_of c.op
+pub point_none : (kept : List AdvanceLogModel) (c : Call) (k : ℕ) → None ≡ read_event c.op
     → IsPointBy kept c k
 point_none kept c k none = record {
   is = λ t past x d acc other ended s.

@@ -13,7 +13,7 @@ use Rattle.ec_order.specs.declared.placed.Placed.{Placed}
 use Rattle.ec_order.specs.Calls.{ended_by, finished_calls, is_reading, is_one_entry_call}
 use Rattle.ec_order.specs.Points.{acts_at, at_moment, point_of, reads_at, with_point}
 use Rattle.ec_order.specs.Linearizer.{is_long, long_readings}
-use Rattle.ec_order.specs.Walk.{alone_at, is_alone, own_calls, reads, readings}
+use Rattle.ec_order.specs.Walk.{alone_at, is_one_entry_act, own_calls, reads, readings}
 use Rattle.ec_order.proofs.Ends.{ends}
 use Rattle.ec_order.proofs.Fits.{Fits, all_fit, point_bounds}
 use Rattle.ec_order.proofs.Gathering.{alone_whole, placed, placed_more, whole_parts}
@@ -26,7 +26,8 @@ use Rattle.ec_order.proofs.Wholes.{IsLongReading, long_read, not_long, others_lo
 -- the call of one entry, whose position and point are k, if it is a read or an await that returns
 -- at once
 abbrev pub told_calls : ℕ → Entry → List Placed
-told_calls k x = if is_one_entry_call x && not (is_alone x.act) then alone_at k x ∷ [] else []
+told_calls k x =
+    if is_one_entry_call x && not (is_one_entry_act x.act) then alone_at k x ∷ [] else []
 
 -- whether a call is a read or an await of more entries whose point is k
 abbrev long_at : ℕ → Placed → Bool
@@ -107,11 +108,11 @@ adds_here t y past d acc =
     let n = length past in
     let q = alone_at n y in
     let more = map (with_point (y ∷ past)) (ended_by t y (call_with_act y.act past (under_way y.worker past))) in
-    elim (is_one_entry_call y) as (λ b. is_one_entry_call y ≡ b → filter (reads_at n) more ≡ cond (b && not (is_alone y.act)) (q ∷ []) [] ++ filter (long_at n) more) [
+    elim (is_one_entry_call y) as (λ b. is_one_entry_call y ≡ b → filter (reads_at n) more ≡ cond (b && not (is_one_entry_act y.act)) (q ∷ []) [] ++ filter (long_at n) more) [
       | true ↦ λ whole.
           (let is : more ≡ q ∷ [] = placed_whole t y past (y ∷ past) whole in
-          let reading : is_reading y.act ≡ not (is_alone y.act) = reading_or_alone y.act (whole_parts y whole).0 in
-          let returned = cond (not (is_alone y.act)) (q ∷ []) [] in
+          let reading : is_reading y.act ≡ not (is_one_entry_act y.act) = reading_or_alone y.act (whole_parts y whole).0 in
+          let returned = cond (not (is_one_entry_act y.act)) (q ∷ []) [] in
           ap (filter (reads_at n)) is ∙ ap (λ b. cond (b && is_reading y.act) (q ∷ []) []) (eq-eqb n n refl) ∙ ap (λ b. cond b (q ∷ []) []) reading
           ∙ sym (ap (λ ps. returned ++ ps) (ap (filter (long_at n)) is ∙ whole_long n n y) ∙ append-nil returned))
       | false ↦ λ part. part_adds t y past n d acc part
@@ -150,7 +151,7 @@ long_here t past k =
 -- what is so at a moment, if these are all calls and the long ones, and this is its entry
 pub record IsMoment (all longs : List Placed) (k : ℕ) (x : Entry) : Type 0 where
   pub calls : at_moment all k ≡ told_calls k x ++ (at_moment longs k ++ own_calls k x)
-  pub whole : is_alone x.act ≡ true → is_one_entry_call x ≡ true
+  pub whole : is_one_entry_act x.act ≡ true → is_one_entry_call x ≡ true
 
 pub moment_of : (t : Tables) (past : List Entry) (k : ℕ) (x : Entry) → IsDeclared t → IsAccepted t past → entry_at past k ≡ Some x → IsMoment (placed t past) (long_readings t past) k x
 moment_of t past k x d acc at =
@@ -160,5 +161,5 @@ moment_of t past k x d acc at =
     record {
       calls = ap (λ ps. ps ++ filter (acts_at k) all) (reads_here t past k x d acc at) ∙ ap (λ ps. (told_calls k x ++ filter (long_at k) all) ++ ps) (acts_here t past k x d acc at)
           ∙ append_assoc (told_calls k x) (filter (long_at k) all) (own_calls k x) ∙ ap (λ ps. told_calls k x ++ (ps ++ own_calls k x)) (sym (long_here t past k));
-      whole = λ alone. alone_whole t x f.before alone (ends t x f.before d acc');
+      whole = λ one_entry_calls. alone_whole t x f.before one_entry_calls (ends t x f.before d acc');
     }

@@ -12,7 +12,7 @@ use Rattle.ec_core.specs.declared.act.Entry.{Entry}
 use Rattle.ec_core.specs.Acceptance.{IsAccepted}
 use Rattle.ec_core.specs.Calls.{CallSoFar, under_way, call_with_act, is_go, is_pending}
 use Rattle.ec_core.specs.Following.{opening_act}
-use Rattle.ec_core.specs.JoinedLists.{finished_by}
+use Rattle.ec_core.specs.JoinedLists.{completed_calls_of}
 use Rattle.ec_core.proofs.shared.Answering.{allowed}
 use Rattle.ec_core.proofs.shared.FittingCalls.{finished_other, finished_same, finished_more}
 use Rattle.ec_order.specs.declared.call.Call.{Call}
@@ -40,10 +40,10 @@ ended_by_other : (t : Tables) (x : Entry) (w : ℕ) (o : Option CallSoFar) → (
 ended_by_other t x w None other = refl
 ended_by_other t x w (Some call) other =
     let c = call_of_entries t x call.op call.moments in
-    let alone : completed_by w (c ∷ []) ≡ [] = one_told w c ∙ ap (λ b. cond b (op_and_reply c ∷ []) []) other in
+    let one_entry_calls : completed_by w (c ∷ []) ≡ [] = one_told w c ∙ ap (λ b. cond b (op_and_reply c ∷ []) []) other in
     elim (is_pending x.reply) as (λ b. completed_by w (cond b [] (c ∷ [])) ≡ []) [
       | true ↦ refl
-      | false ↦ alone
+      | false ↦ one_entry_calls
     ]
 
 ended_pending : (t : Tables) (x : Entry) (o : Option CallSoFar) → is_pending x.reply ≡ true → ended_by t x o ≡ []
@@ -73,7 +73,7 @@ ended_by_own t w (Get x) reply past o going final = ended_one t (entry w (Get x)
 ended_by_own t w (Hand e b) reply past o going final = ended_one t (entry w (Hand e b) reply) (Hand e b) (past ∷ []) final
 
 abbrev AreTheirs : Tables → ℕ → List Entry → Type 0
-AreTheirs t w past = completed_by w (finished_calls t past) ≡ finished_by w past
+AreTheirs t w past = completed_by w (finished_calls t past) ≡ completed_calls_of w past
 
 one_more : (t : Tables) (w : ℕ) (x : Entry) (past : List Entry)
     → completed_by w (finished_calls t (x ∷ past)) ≡ completed_by w (finished_calls t past) ++ completed_by w (ended_by t x (call_with_act x.act past (under_way x.worker past)))
@@ -107,7 +107,7 @@ own t x past going before =
     ] refl
 
 calls_are_theirs : (t : Tables) (w : ℕ) (past : List Entry) → IsAccepted t past → AreTheirs t w past
-unfolding finished_calls finished_by
+unfolding finished_calls completed_calls_of
 calls_are_theirs t w [] accepted = refl
 calls_are_theirs t w (x ∷ past) accepted =
     let going = (allowed t past x.worker x.act x.reply accepted.0).0.going in

@@ -21,7 +21,7 @@ use Rattle.ec_order.specs.declared.placed.Placed.{Placed}
 use Rattle.ec_order.specs.Calls.{call_of_entries, ended_by, finished_calls, is_reading}
 use Rattle.ec_core.specs.CallLists.{reply_number}
 use Rattle.ec_order.specs.Points.{point_of, first_entries}
-use Rattle.ec_order.specs.Sequential.{SequentialState, zero_state, update_at, sequential_reply, sequential_after, sequential_after_all, IsSequentialRun}
+use Rattle.ec_order.specs.Sequential.{SequentialState, zero_state, update_at, sequential_reply, sequential_after, sequential_after_all, IsLegalHistory}
 use Rattle.ec_order.specs.Orders.{calls_in}
 use Rattle.ec_order.specs.Points.{with_point, reads_at, acts_at, at_moment, by_moments}
 use Rattle.ec_order.proofs.Chains.{past_before}
@@ -32,7 +32,7 @@ use Rattle.ec_order.proofs.Sorting.{filter_none}
 
 -- SEQUENTIAL HISTORIES
 
-pub run_append : (o : SequentialState) (xs ys : List Call) → IsSequentialRun o xs → IsSequentialRun (sequential_after_all o xs) ys → IsSequentialRun o (xs ++ ys)
+pub run_append : (o : SequentialState) (xs ys : List Call) → IsLegalHistory o xs → IsLegalHistory (sequential_after_all o xs) ys → IsLegalHistory o (xs ++ ys)
 run_append o [] ys a b = b
 run_append o (x ∷ xs) ys a b = (a.0, run_append (sequential_after o x.op) xs ys a.1 b)
 
@@ -42,17 +42,17 @@ after_append o (x ∷ xs) ys = after_append (sequential_after o x.op) xs ys
 
 -- an object has run the calls of ps, and has the numbers after a past
 pub record RunsTo (ps : List Placed) (o s : SequentialState) (past : List Entry) : Type 0 where
-  pub run : IsSequentialRun o (calls_in ps)
+  pub run : IsLegalHistory o (calls_in ps)
   pub ends_in : sequential_after_all o (calls_in ps) ≡ s
   pub shows : Shows s past
 
 runs_on : (xs ys : List Placed) (o m s : SequentialState) (early late : List Entry) → RunsTo xs o m early → RunsTo ys m s late → RunsTo (xs ++ ys) o s late
 runs_on xs ys o m s early late a b =
     let e : calls_in (xs ++ ys) ≡ calls_in xs ++ calls_in ys = map-append (λ (p : Placed). p.call) xs ys in
-    let r : IsSequentialRun (sequential_after_all o (calls_in xs)) (calls_in ys) = subst (λ n. IsSequentialRun n (calls_in ys)) (sym a.ends_in) b.run in
-    let run : IsSequentialRun o (calls_in xs ++ calls_in ys) = run_append o (calls_in xs) (calls_in ys) a.run r in
+    let r : IsLegalHistory (sequential_after_all o (calls_in xs)) (calls_in ys) = subst (λ n. IsLegalHistory n (calls_in ys)) (sym a.ends_in) b.run in
+    let run : IsLegalHistory o (calls_in xs ++ calls_in ys) = run_append o (calls_in xs) (calls_in ys) a.run r in
     record {
-      run = subst (IsSequentialRun o) (sym e) run;
+      run = subst (IsLegalHistory o) (sym e) run;
       ends_in = ap (sequential_after_all o) e ∙ after_append o (calls_in xs) (calls_in ys) ∙ ap (λ n. sequential_after_all n (calls_in ys)) a.ends_in ∙ b.ends_in;
       shows = b.shows;
     }
@@ -101,7 +101,7 @@ quiet_runs o past (p ∷ ps) h all =
     let here : IsQuietRun o p = All-head (IsQuietRun o) p ps all in
     let rest = quiet_runs o past ps h (All-tail (IsQuietRun o) p ps all) in
     record {
-      run = (here.0, subst (λ s. IsSequentialRun s (calls_in ps)) (sym here.1) rest.run);
+      run = (here.0, subst (λ s. IsLegalHistory s (calls_in ps)) (sym here.1) rest.run);
       ends_in = ap (λ s. sequential_after_all s (calls_in ps)) here.1 ∙ rest.ends_in;
       shows = h;
     }

@@ -18,7 +18,7 @@ use Rattle.ec_order.specs.Calls.{ended_by, finished_calls, is_one_entry_call, En
 use Rattle.ec_order.specs.Points.{by_moments, with_point}
 use Rattle.ec_order.specs.AdvanceLogModel.{AdvanceLogModel, AreAdvanceLogs, NotesAlone, FollowsReading}
 use Rattle.ec_order.specs.Linearizer.{LinearizerModel, IsLinearizerModel, PutsByPoint, TakesIn, linearized_entry, entry_point, is_long, long_readings}
-use Rattle.ec_order.specs.Walk.{alone_at, is_alone, placed_point, reads, readings, IsPlaceFor}
+use Rattle.ec_order.specs.Walk.{alone_at, is_one_entry_act, placed_point, reads, readings, IsPlaceFor}
 use Rattle.ec_order.proofs.Ends.{ends}
 use Rattle.ec_order.proofs.Inserting.{map_insert}
 use Rattle.ec_order.proofs.Gathering.{AddsReading, added, alone_whole, by_moments_none, put_among, readings_more, readings_none, whole_from, whole_leaves}
@@ -46,20 +46,20 @@ place_told ps k at h = record {
 -- WITH ONE MORE ENTRY
 
 abbrev pub kept : Tables → List (Option PendingCall) → List AdvanceLogModel → List Bool → List Entry → List LinearizedEntry → Bool → LinearizerModel
-kept t calls ks marks alone rs lacks = record { setup = t; under_way = calls; advances = ks; marks = marks; alone = alone; readings = rs; lacks = lacks }
+kept t calls ks marks one_entry_calls rs out_of_memory = record { setup = t; under_way = calls; advances = ks; marks = marks; one_entry_calls = one_entry_calls; readings = rs; out_of_memory = out_of_memory }
 
 marked : (x : Entry) (past : List Entry) (marks : List Bool) (b : Bool) → is_one_entry_call x ≡ b → marks ≡ map is_one_entry_call (reverse past) → marks ++ b ∷ [] ≡ map is_one_entry_call (reverse (x ∷ past))
 marked x past marks b is same =
     ap (λ ms. ms ++ b ∷ []) same ∙ ap (λ c. map is_one_entry_call (reverse past) ++ c ∷ []) (sym is)
     ∙ sym (ap (map is_one_entry_call) (newest_last x past) ∙ map-append is_one_entry_call (reverse past) (x ∷ []))
 
-left_alone : (x : Entry) (past : List Entry) (alone : List Entry) → alone ≡ filter is_one_entry_call (reverse past) → alone ++ cond (is_one_entry_call x) (x ∷ []) [] ≡ filter is_one_entry_call (reverse (x ∷ past))
-left_alone x past alone same =
+left_alone : (x : Entry) (past : List Entry) (one_entry_calls : List Entry) → one_entry_calls ≡ filter is_one_entry_call (reverse past) → one_entry_calls ++ cond (is_one_entry_call x) (x ∷ []) [] ≡ filter is_one_entry_call (reverse (x ∷ past))
+left_alone x past one_entry_calls same =
     ap (λ xs. xs ++ cond (is_one_entry_call x) (x ∷ []) []) same ∙ sym (ap (filter is_one_entry_call) (newest_last x past) ∙ filter-append is_one_entry_call (reverse past) (x ∷ []))
 
-pub timed_start : (t : Tables) (calls : List (Option PendingCall)) (ks : List AdvanceLogModel) (lacks : Bool) → AreCalls t calls [] → AreAdvanceLogs ks [] → IsLinearizerModel (kept t calls ks [] [] [] lacks) []
+pub timed_start : (t : Tables) (calls : List (Option PendingCall)) (ks : List AdvanceLogModel) (out_of_memory : Bool) → AreCalls t calls [] → AreAdvanceLogs ks [] → IsLinearizerModel (kept t calls ks [] [] [] out_of_memory) []
 unfolding finished_calls
-timed_start t calls ks lacks empty none = record { under_way = empty; advances = none; marks = refl; alone = refl; readings = λ n le. ap (map linearized_entry) (sym (by_moments_none n)) }
+timed_start t calls ks out_of_memory empty none = record { under_way = empty; advances = none; marks = refl; one_entry_calls = refl; readings = λ n le. ap (map linearized_entry) (sym (by_moments_none n)) }
 
 -- a whole call adds no long one
 long_whole : (t : Tables) (x : Entry) (past : List Entry) → IsDeclared t → IsAccepted t (x ∷ past) → is_one_entry_call x ≡ true → long_readings t (x ∷ past) ≡ long_readings t past
@@ -69,37 +69,38 @@ long_whole t x past d acc whole =
     ∙ filter-append is_long (readings t past) (filter reads (p ∷ [])) ∙ ap (λ ps. long_readings t past ++ ps) (whole_short (length past) x) ∙ append-nil (long_readings t past)
 
 -- a whole call
-pub timed_alone : (t : Tables) (calls : List (Option PendingCall)) (ks ks' : List AdvanceLogModel) (marks marks' : List Bool) (alone alone' : List Entry) (rs : List LinearizedEntry) (lacks : Bool) (x : Entry) (past : List Entry) → IsDeclared t → IsAccepted t (x ∷ past)
-    → is_one_entry_call x ≡ true → IsLinearizerModel (kept t calls ks marks alone rs lacks) past → NotesAlone ks x.act (length past + 1) ks' → marks' ≡ marks ++ true ∷ [] → alone' ≡ alone ++ x ∷ []
-    → IsLinearizerModel (kept t calls ks' marks' alone' rs lacks) (x ∷ past)
-timed_alone t calls ks ks' marks marks' alone alone' rs lacks x past d acc is s notes more one = record {
+pub timed_alone : (t : Tables) (calls : List (Option PendingCall)) (ks ks' : List AdvanceLogModel) (marks marks' : List Bool) (one_entry_calls alone' : List Entry) (rs : List LinearizedEntry) (out_of_memory : Bool) (x : Entry) (past : List Entry) → IsDeclared t → IsAccepted t (x ∷ past)
+    → is_one_entry_call x ≡ true → IsLinearizerModel (kept t calls ks marks one_entry_calls rs out_of_memory) past → NotesAlone ks x.act (length past + 1) ks' → marks' ≡ marks ++ true ∷ [] → alone' ≡ one_entry_calls ++ x ∷ []
+    → IsLinearizerModel (kept t calls ks' marks' alone' rs out_of_memory) (x ∷ past)
+timed_alone t calls ks ks' marks marks' one_entry_calls alone' rs out_of_memory x past d acc is s notes more one = record {
   under_way = λ w lt. s.under_way w lt ∙ ap (λ o. Some (option_map (pending_call t) o)) (sym (whole_leaves t x past w d acc is));
   advances = notes.after t past x d acc refl is refl s.advances;
   marks = more ∙ marked x past marks true is s.marks;
-  alone = one ∙ ap (λ b. alone ++ cond b (x ∷ []) []) (sym is) ∙ left_alone x past alone s.alone;
+  one_entry_calls = one ∙ ap (λ b. one_entry_calls ++ cond b (x ∷ []) []) (sym is)
+      ∙ left_alone x past one_entry_calls s.one_entry_calls;
   readings = λ n le. s.readings n (omega arith) ∙ ap (λ ps. map linearized_entry (by_moments ps n)) (sym (long_whole t x past d acc is));
 }
 
-others_stay : (x : Entry) (past : List Entry) (alone : List Entry) → is_one_entry_call x ≡ false → alone ≡ filter is_one_entry_call (reverse past) → alone ≡ filter is_one_entry_call (reverse (x ∷ past))
-others_stay x past alone is same = sym (append-nil alone) ∙ ap (λ b. alone ++ cond b (x ∷ []) []) (sym is) ∙ left_alone x past alone same
+others_stay : (x : Entry) (past : List Entry) (one_entry_calls : List Entry) → is_one_entry_call x ≡ false → one_entry_calls ≡ filter is_one_entry_call (reverse past) → one_entry_calls ≡ filter is_one_entry_call (reverse (x ∷ past))
+others_stay x past one_entry_calls is same = sym (append-nil one_entry_calls) ∙ ap (λ b. one_entry_calls ++ cond b (x ∷ []) []) (sym is) ∙ left_alone x past one_entry_calls same
 
 same_no : (b : Bool) → (b ≡ true → true ≡ false) → b ≡ false
 same_no true h = h refl
 same_no false h = refl
 
 -- what is no whole call is one of a read or an await
-part_reads : (t : Tables) (x : Entry) (past : List Entry) → IsDeclared t → IsAccepted t (x ∷ past) → is_one_entry_call x ≡ false → is_alone x.act ≡ false
-part_reads t x past d acc part = same_no (is_alone x.act) (λ alone. sym (alone_whole t x past alone (ends t x past d acc)) ∙ part)
+part_reads : (t : Tables) (x : Entry) (past : List Entry) → IsDeclared t → IsAccepted t (x ∷ past) → is_one_entry_call x ≡ false → is_one_entry_act x.act ≡ false
+part_reads t x past d acc part = same_no (is_one_entry_act x.act) (λ one_entry_calls. sym (alone_whole t x past one_entry_calls (ends t x past d acc)) ∙ part)
 
 -- an entry of a read or an await, if it ends none
-pub timed_none : (t : Tables) (calls calls' : List (Option PendingCall)) (ks ks' : List AdvanceLogModel) (marks marks' : List Bool) (alone : List Entry) (rs : List LinearizedEntry) (lacks : Bool) (x : Entry) (past : List Entry) → IsDeclared t → IsAccepted t (x ∷ past)
-    → is_one_entry_call x ≡ false → IsLinearizerModel (kept t calls ks marks alone rs lacks) past → FollowsReading ks x.act None ks' → marks' ≡ marks ++ false ∷ [] → EndsCall t past x None calls'
-    → IsLinearizerModel (kept t calls' ks' marks' alone rs lacks) (x ∷ past)
-timed_none t calls calls' ks ks' marks marks' alone rs lacks x past d acc is s follows more ended = record {
+pub timed_none : (t : Tables) (calls calls' : List (Option PendingCall)) (ks ks' : List AdvanceLogModel) (marks marks' : List Bool) (one_entry_calls : List Entry) (rs : List LinearizedEntry) (out_of_memory : Bool) (x : Entry) (past : List Entry) → IsDeclared t → IsAccepted t (x ∷ past)
+    → is_one_entry_call x ≡ false → IsLinearizerModel (kept t calls ks marks one_entry_calls rs out_of_memory) past → FollowsReading ks x.act None ks' → marks' ≡ marks ++ false ∷ [] → EndsCall t past x None calls'
+    → IsLinearizerModel (kept t calls' ks' marks' one_entry_calls rs out_of_memory) (x ∷ past)
+timed_none t calls calls' ks ks' marks marks' one_entry_calls rs out_of_memory x past d acc is s follows more ended = record {
   under_way = ended.after;
   advances = follows.after t past x d acc refl (part_reads t x past d acc is) ended.call s.advances;
   marks = more ∙ marked x past marks false is s.marks;
-  alone = others_stay x past alone is s.alone;
+  one_entry_calls = others_stay x past one_entry_calls is s.one_entry_calls;
   readings = λ n le. s.readings n (omega arith) ∙ ap (λ ps. map linearized_entry (by_moments (filter is_long ps) n)) (sym (readings_none t x past d acc ended.call));
 }
 
@@ -112,18 +113,18 @@ long_more t x past c d acc part is adds =
     ap (filter is_long) adds.is ∙ filter-append is_long (readings t past) (p ∷ []) ∙ ap (λ b. long_readings t past ++ cond b (p ∷ []) []) long.1
 
 -- an entry of a read or an await, if it ends one
-pub timed_one : (t : Tables) (calls calls' : List (Option PendingCall)) (ks ks' : List AdvanceLogModel) (marks marks' : List Bool) (alone : List Entry) (rs rs' : List LinearizedEntry) (lacks : Bool) (x : Entry) (past : List Entry) (c : Call) → IsDeclared t → IsAccepted t (x ∷ past)
-    → is_one_entry_call x ≡ false → IsLinearizerModel (kept t calls ks marks alone rs lacks) past → FollowsReading ks x.act (Some c) ks' → marks' ≡ marks ++ false ∷ [] → EndsCall t past x (Some c) calls'
+pub timed_one : (t : Tables) (calls calls' : List (Option PendingCall)) (ks ks' : List AdvanceLogModel) (marks marks' : List Bool) (one_entry_calls : List Entry) (rs rs' : List LinearizedEntry) (out_of_memory : Bool) (x : Entry) (past : List Entry) (c : Call) → IsDeclared t → IsAccepted t (x ∷ past)
+    → is_one_entry_call x ≡ false → IsLinearizerModel (kept t calls ks marks one_entry_calls rs out_of_memory) past → FollowsReading ks x.act (Some c) ks' → marks' ≡ marks ++ false ∷ [] → EndsCall t past x (Some c) calls'
     → PutsByPoint ks c rs rs'
-    → IsLinearizerModel (kept t calls' ks' marks' alone rs' lacks) (x ∷ past)
-timed_one t calls calls' ks ks' marks marks' alone rs rs' lacks x past c d acc part s follows more ended put =
-    let is : is_alone x.act ≡ false = part_reads t x past d acc part in
+    → IsLinearizerModel (kept t calls' ks' marks' one_entry_calls rs' out_of_memory) (x ∷ past)
+timed_one t calls calls' ks ks' marks marks' one_entry_calls rs rs' out_of_memory x past c d acc part s follows more ended put =
+    let is : is_one_entry_act x.act ≡ false = part_reads t x past d acc part in
     let adds = readings_more t x past c d acc is ended.call in
     record {
       under_way = ended.after;
       advances = follows.after t past x d acc refl is ended.call s.advances;
       marks = more ∙ marked x past marks false part s.marks;
-      alone = others_stay x past alone part s.alone;
+      one_entry_calls = others_stay x past one_entry_calls part s.one_entry_calls;
       readings = λ n le.
           let puts = put.puts in
           let p : Placed = record { call = c; point = put.point } in
@@ -140,47 +141,47 @@ timed_one t calls calls' ks ks' marks marks' alone rs rs' lacks x past c d acc p
 -- These are the paths of `gather` and `end`, by the contracts of their calls.
 
 -- a whole call
-pub takes_alone : (t : Tables) (calls : List (Option PendingCall)) (ks ks' : List AdvanceLogModel) (marks marks' : List Bool) (alone alone' : List Entry) (rs : List LinearizedEntry) (lacks b : Bool) (old : LinearizerModel) (x : Entry) (place : ℕ)
-    → kept t calls ks marks alone rs lacks ≡ old → IsDeclared t → NotesAlone ks x.act (place + 1) ks' → b ≡ not (is_pending x.reply) → b ≡ true → is_go x.act ≡ false → marks' ≡ marks ++ true ∷ [] → alone' ≡ alone ++ x ∷ []
-    → TakesIn old place x (kept t calls ks' marks' alone' rs lacks)
-takes_alone t calls ks ks' marks marks' alone alone' rs lacks b old x place were d notes kind is begins more one =
-    subst (λ k. TakesIn k place x (kept t calls ks' marks' alone' rs lacks)) were (record {
+pub takes_alone : (t : Tables) (calls : List (Option PendingCall)) (ks ks' : List AdvanceLogModel) (marks marks' : List Bool) (one_entry_calls alone' : List Entry) (rs : List LinearizedEntry) (out_of_memory b : Bool) (old : LinearizerModel) (x : Entry) (place : ℕ)
+    → kept t calls ks marks one_entry_calls rs out_of_memory ≡ old → IsDeclared t → NotesAlone ks x.act (place + 1) ks' → b ≡ not (is_pending x.reply) → b ≡ true → is_go x.act ≡ false → marks' ≡ marks ++ true ∷ [] → alone' ≡ one_entry_calls ++ x ∷ []
+    → TakesIn old place x (kept t calls ks' marks' alone' rs out_of_memory)
+takes_alone t calls ks ks' marks marks' one_entry_calls alone' rs out_of_memory b old x place were d notes kind is begins more one =
+    subst (λ k. TakesIn k place x (kept t calls ks' marks' alone' rs out_of_memory)) were (record {
       timed = λ past here acc s.
-          timed_alone t calls ks ks' marks marks' alone alone' rs lacks x past d acc (whole_from x begins (not-true (is_pending x.reply) (sym kind ∙ is))) s (subst (λ n. NotesAlone ks x.act (n + 1) ks') here notes) more one;
+          timed_alone t calls ks ks' marks marks' one_entry_calls alone' rs out_of_memory x past d acc (whole_from x begins (not-true (is_pending x.reply) (sym kind ∙ is))) s (subst (λ n. NotesAlone ks x.act (n + 1) ks') here notes) more one;
     })
 
-none_taken : (t : Tables) (calls calls' : List (Option PendingCall)) (ks ks' : List AdvanceLogModel) (marks marks' : List Bool) (alone : List Entry) (rs : List LinearizedEntry) (lacks : Bool) (old : LinearizerModel) (x : Entry) (place : ℕ)
-    → kept t calls ks marks alone rs lacks ≡ old → IsDeclared t → is_one_entry_call x ≡ false → marks' ≡ marks ++ false ∷ [] → Ending calls place x None calls' t
-    → FollowsReading ks x.act None ks' → TakesIn old place x (kept t calls' ks' marks' alone rs lacks)
-none_taken t calls calls' ks ks' marks marks' alone rs lacks old x place were d part more ends follows =
-    subst (λ k. TakesIn k place x (kept t calls' ks' marks' alone rs lacks)) were (record {
-      timed = λ past here acc s. timed_none t calls calls' ks ks' marks marks' alone rs lacks x past d acc part s follows more (ends.ends past acc.1 here s.under_way);
+none_taken : (t : Tables) (calls calls' : List (Option PendingCall)) (ks ks' : List AdvanceLogModel) (marks marks' : List Bool) (one_entry_calls : List Entry) (rs : List LinearizedEntry) (out_of_memory : Bool) (old : LinearizerModel) (x : Entry) (place : ℕ)
+    → kept t calls ks marks one_entry_calls rs out_of_memory ≡ old → IsDeclared t → is_one_entry_call x ≡ false → marks' ≡ marks ++ false ∷ [] → Ending calls place x None calls' t
+    → FollowsReading ks x.act None ks' → TakesIn old place x (kept t calls' ks' marks' one_entry_calls rs out_of_memory)
+none_taken t calls calls' ks ks' marks marks' one_entry_calls rs out_of_memory old x place were d part more ends follows =
+    subst (λ k. TakesIn k place x (kept t calls' ks' marks' one_entry_calls rs out_of_memory)) were (record {
+      timed = λ past here acc s. timed_none t calls calls' ks ks' marks marks' one_entry_calls rs out_of_memory x past d acc part s follows more (ends.ends past acc.1 here s.under_way);
     })
 
 go_part : (x : Entry) → is_go x.act ≡ true → is_one_entry_call x ≡ false
 go_part x go = ap (λ a. not a && not (is_pending x.reply)) go
 
 -- an entry after which its call goes on
-pub takes_pending : (t : Tables) (calls calls' : List (Option PendingCall)) (ks ks' : List AdvanceLogModel) (marks marks' : List Bool) (alone : List Entry) (rs : List LinearizedEntry) (lacks b : Bool) (old : LinearizerModel) (x : Entry) (place : ℕ)
-    → kept t calls ks marks alone rs lacks ≡ old → IsDeclared t → b ≡ not (is_pending x.reply) → b ≡ false → marks' ≡ marks ++ false ∷ [] → Ending calls place x None calls' t
-    → FollowsReading ks x.act None ks' → TakesIn old place x (kept t calls' ks' marks' alone rs lacks)
-takes_pending t calls calls' ks ks' marks marks' alone rs lacks b old x place were d kind is more ends follows =
+pub takes_pending : (t : Tables) (calls calls' : List (Option PendingCall)) (ks ks' : List AdvanceLogModel) (marks marks' : List Bool) (one_entry_calls : List Entry) (rs : List LinearizedEntry) (out_of_memory b : Bool) (old : LinearizerModel) (x : Entry) (place : ℕ)
+    → kept t calls ks marks one_entry_calls rs out_of_memory ≡ old → IsDeclared t → b ≡ not (is_pending x.reply) → b ≡ false → marks' ≡ marks ++ false ∷ [] → Ending calls place x None calls' t
+    → FollowsReading ks x.act None ks' → TakesIn old place x (kept t calls' ks' marks' one_entry_calls rs out_of_memory)
+takes_pending t calls calls' ks ks' marks marks' one_entry_calls rs out_of_memory b old x place were d kind is more ends follows =
     let part : is_one_entry_call x ≡ false = ap (λ r. not (is_go x.act) && r) (sym kind ∙ is) ∙ neither_way (not (is_go x.act)) in
-    none_taken t calls calls' ks ks' marks marks' alone rs lacks old x place were d part more ends follows
+    none_taken t calls calls' ks ks' marks marks' one_entry_calls rs out_of_memory old x place were d part more ends follows
 
 -- a go that ends none
-pub takes_none : (t : Tables) (calls calls' : List (Option PendingCall)) (ks ks' : List AdvanceLogModel) (marks marks' : List Bool) (alone : List Entry) (rs : List LinearizedEntry) (lacks : Bool) (old : LinearizerModel) (x : Entry) (place : ℕ) (returned : Option Call)
-    → kept t calls ks marks alone rs lacks ≡ old → IsDeclared t → is_go x.act ≡ true → marks' ≡ marks ++ false ∷ [] → Ending calls place x returned calls' t → returned ≡ None
-    → FollowsReading ks x.act None ks' → TakesIn old place x (kept t calls' ks' marks' alone rs lacks)
-takes_none t calls calls' ks ks' marks marks' alone rs lacks old x place returned were d go more ends none follows =
-    none_taken t calls calls' ks ks' marks marks' alone rs lacks old x place were d (go_part x go) more (subst (λ o. Ending calls place x o calls' t) none ends) follows
+pub takes_none : (t : Tables) (calls calls' : List (Option PendingCall)) (ks ks' : List AdvanceLogModel) (marks marks' : List Bool) (one_entry_calls : List Entry) (rs : List LinearizedEntry) (out_of_memory : Bool) (old : LinearizerModel) (x : Entry) (place : ℕ) (returned : Option Call)
+    → kept t calls ks marks one_entry_calls rs out_of_memory ≡ old → IsDeclared t → is_go x.act ≡ true → marks' ≡ marks ++ false ∷ [] → Ending calls place x returned calls' t → returned ≡ None
+    → FollowsReading ks x.act None ks' → TakesIn old place x (kept t calls' ks' marks' one_entry_calls rs out_of_memory)
+takes_none t calls calls' ks ks' marks marks' one_entry_calls rs out_of_memory old x place returned were d go more ends none follows =
+    none_taken t calls calls' ks ks' marks marks' one_entry_calls rs out_of_memory old x place were d (go_part x go) more (subst (λ o. Ending calls place x o calls' t) none ends) follows
 
 -- and one that ends one
-pub takes_one : (t : Tables) (calls calls' : List (Option PendingCall)) (ks ks' : List AdvanceLogModel) (marks marks' : List Bool) (alone : List Entry) (rs rs' : List LinearizedEntry) (lacks : Bool) (old : LinearizerModel) (x : Entry) (place : ℕ) (c : Call)
-    → kept t calls ks marks alone rs lacks ≡ old → IsDeclared t → is_go x.act ≡ true → marks' ≡ marks ++ false ∷ [] → Ending calls place x (Some c) calls' t
-    → PutsByPoint ks c rs rs' → FollowsReading ks x.act (Some c) ks' → TakesIn old place x (kept t calls' ks' marks' alone rs' lacks)
-takes_one t calls calls' ks ks' marks marks' alone rs rs' lacks old x place c were d go more ends put follows =
-    subst (λ k. TakesIn k place x (kept t calls' ks' marks' alone rs' lacks)) were (record {
+pub takes_one : (t : Tables) (calls calls' : List (Option PendingCall)) (ks ks' : List AdvanceLogModel) (marks marks' : List Bool) (one_entry_calls : List Entry) (rs rs' : List LinearizedEntry) (out_of_memory : Bool) (old : LinearizerModel) (x : Entry) (place : ℕ) (c : Call)
+    → kept t calls ks marks one_entry_calls rs out_of_memory ≡ old → IsDeclared t → is_go x.act ≡ true → marks' ≡ marks ++ false ∷ [] → Ending calls place x (Some c) calls' t
+    → PutsByPoint ks c rs rs' → FollowsReading ks x.act (Some c) ks' → TakesIn old place x (kept t calls' ks' marks' one_entry_calls rs' out_of_memory)
+takes_one t calls calls' ks ks' marks marks' one_entry_calls rs rs' out_of_memory old x place c were d go more ends put follows =
+    subst (λ k. TakesIn k place x (kept t calls' ks' marks' one_entry_calls rs' out_of_memory)) were (record {
       timed = λ past here acc s.
-          timed_one t calls calls' ks ks' marks marks' alone rs rs' lacks x past c d acc (go_part x go) s follows more (ends.ends past acc.1 here s.under_way) put;
+          timed_one t calls calls' ks ks' marks marks' one_entry_calls rs rs' out_of_memory x past c d acc (go_part x go) s follows more (ends.ends past acc.1 here s.under_way) put;
     })

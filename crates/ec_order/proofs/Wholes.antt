@@ -16,7 +16,7 @@ use Rattle.ec_order.specs.Calls.{call_of_entries, ended_by, is_reading, is_one_e
 use Rattle.ec_core.specs.CallLists.{reply_number}
 use Rattle.ec_order.specs.Points.{first_entries, first_moment, point_of, with_point}
 use Rattle.ec_order.specs.Linearizer.{is_long, long_readings}
-use Rattle.ec_order.specs.Walk.{alone_at, is_alone, reads, readings}
+use Rattle.ec_order.specs.Walk.{alone_at, is_one_entry_act, reads, readings}
 use Rattle.ec_order.proofs.Chains.{past_shorter}
 use Rattle.ec_order.proofs.Cutting.{Own, first_at_end, first_more, first_past, gone_begins, own_first, own_under_way, rest_own}
 use Rattle.ec_order.proofs.Ends.{Ends}
@@ -67,7 +67,7 @@ whole_short k x =
       | false ↦ refl
     ]
 
-pub reading_or_alone : (act : Act) → is_go act ≡ false → is_reading act ≡ not (is_alone act)
+pub reading_or_alone : (act : Act) → is_go act ≡ false → is_reading act ≡ not (is_one_entry_act act)
 reading_or_alone Go begins = cc
 reading_or_alone act begins = refl
 

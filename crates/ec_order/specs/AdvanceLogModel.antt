@@ -11,12 +11,12 @@ use Rattle.ec_core.specs.declared.act.Entry.{Entry}
 use Rattle.ec_core.specs.Acceptance.{IsAccepted}
 use Rattle.ec_core.specs.Calls.{CallSoFar, under_way, call_with}
 use Rattle.ec_core.specs.Counts.{total, sum_to}
-use Rattle.ec_core.specs.Rounds.{read_of}
+use Rattle.ec_core.specs.Rounds.{read_event}
 use Rattle.ec_order.specs.declared.call.Call.{Call}
 use Rattle.ec_order.specs.Calls.{ended_by, is_one_entry_call}
-use Rattle.ec_order.specs.Index.{advanced}
+use Rattle.ec_order.specs.Index.{advance_moments}
 use Rattle.ec_order.specs.Points.{point_of}
-use Rattle.ec_order.specs.Walk.{is_alone}
+use Rattle.ec_order.specs.Walk.{is_one_entry_act}
 
 -- of one eventcount: how many advances came before those whose moments are stored, the moments
 -- after these, and how many reads and awaits of it are pending
@@ -69,7 +69,7 @@ opening_past call = slice_index_or call.moments (length call.moments - 1) []
 -- before any read or await of e that is pending began
 pub record IsAdvanceLog (e : ℕ) (past : List Entry) (k : AdvanceLogModel) : Type 0 where
   pub gone : List ℕ
-  pub all : advanced e past ≡ gone ++ k.moments
+  pub all : advance_moments e past ≡ gone ++ k.moments
   pub before : length gone ≡ k.before
   pub readers : k.readers ≡ readers e past
   pub unread : k.readers ≡ 0 → k.moments ≡ []
@@ -84,7 +84,7 @@ AreAdvanceLogs kept past = (e : ℕ) → e < 32 → (k : AdvanceLogModel) × (sl
 -- the eventcount that a call begun by the second act was pending on, if an entry with the first act
 -- ends it: a call of one entry never was pending
 abbrev pub ended_event : Act → Act → Option ℕ
-ended_event Go op = read_of op
+ended_event Go op = read_event op
 ended_event _ op = None
 
 -- an entry with this act, which is a whole call, is added; the moment is the one after it
@@ -95,12 +95,12 @@ pub record NotesAlone (old : List AdvanceLogModel) (act : Act) (moment : ℕ) (n
 -- an entry with this act, which is one of a read or an await, is added; what is returned is the
 -- call that it ends, if it ends one
 pub record FollowsReading (old : List AdvanceLogModel) (act : Act) (returned : Option Call) (new : List AdvanceLogModel) : Type 0 where
-  pub after : (t : Tables) (past : List Entry) (x : Entry) → IsDeclared t → IsAccepted t (x ∷ past) → act ≡ x.act → is_alone x.act ≡ false
+  pub after : (t : Tables) (past : List Entry) (x : Entry) → IsDeclared t → IsAccepted t (x ∷ past) → act ≡ x.act → is_one_entry_act x.act ≡ false
       → ended_by t x (call_with x past) ≡ option_to_list returned → AreAdvanceLogs old past → AreAdvanceLogs new (x ∷ past)
 
 -- it is the point of the read or await that an entry ends, by what is stored before that entry is
 -- added
 pub record IsPointBy (kept : List AdvanceLogModel) (c : Call) (k : ℕ) : Type 0 where
-  pub is : (t : Tables) (past : List Entry) (x : Entry) → IsDeclared t → IsAccepted t (x ∷ past) → is_alone x.act ≡ false
+  pub is : (t : Tables) (past : List Entry) (x : Entry) → IsDeclared t → IsAccepted t (x ∷ past) → is_one_entry_act x.act ≡ false
       → ended_by t x (call_with x past) ≡ c ∷ [] → AreAdvanceLogs kept past
       → k ≡ point_of (x ∷ past) c

@@ -12,9 +12,9 @@ use Rattle.ec_order.specs.Calls.{is_reading}
 use Rattle.ec_core.specs.CallLists.{reply_number}
 
 -- the moments after the advances of e
-unfoldable pub advanced : ℕ → List Entry → List ℕ
-advanced e [] = []
-advanced e (x ∷ past) = advanced e past ++ (if is_advance e x.act then (length past + 1) ∷ [] else [])
+unfoldable pub advance_moments : ℕ → List Entry → List ℕ
+advance_moments e [] = []
+advance_moments e (x ∷ past) = advance_moments e past ++ (if is_advance e x.act then (length past + 1) ∷ [] else [])
 
 -- the moment after the r-th advance, and moment 0 for r = 0
 abbrev pub moment_of_advance : List ℕ → ℕ → ℕ
@@ -26,7 +26,7 @@ abbrev pub moments_in : List NumberListModel → ℕ → List ℕ
 moments_in lists e = slice_index_or (map (λ v. v.list) lists) e []
 
 abbrev pub IsIndex : List Entry → List NumberListModel → Type 0
-IsIndex past lists = (e : ℕ) → e < 32 → moments_in lists e ≡ advanced e past
+IsIndex past lists = (e : ℕ) → e < 32 → moments_in lists e ≡ advance_moments e past
 
 -- the point of a call, if these are the moments after the advances of its eventcount
 abbrev pub point_by : List ℕ → Call → ℕ
@@ -44,6 +44,6 @@ pub record NotesAct (lists : List NumberListModel) (act : Act) (moment : ℕ) (n
   pub moments : (e : ℕ) → moments_in new e ≡ moments_in lists e ++ (if is_advance e act then moment ∷ [] else [])
 
 -- the eventcount that an act advances
-abbrev pub raised_by : Act → Option ℕ
-raised_by (Advance e) = Some e
-raised_by _ = None
+abbrev pub advanced_event : Act → Option ℕ
+advanced_event (Advance e) = Some e
+advanced_event _ = None

@@ -8,15 +8,15 @@ use Rattle.ec_core.specs.Counts.{total, past_at}
 use Rattle.ec_core.specs.Rounds.{event_or}
 use Rattle.ec_core.specs.Acceptance.{IsAccepted}
 use Rattle.ec_core.specs.Following.{CompletedCall}
-use Rattle.ec_core.specs.JoinedLists.{finished_by}
+use Rattle.ec_core.specs.JoinedLists.{completed_calls_of}
 use Rattle.ec_order.specs.declared.call.Call.{Call}
 use Rattle.ec_order.specs.declared.placed.Placed.{Placed}
 use Rattle.ec_order.specs.Calls.{finished_calls, is_reading}
 use Rattle.ec_core.specs.CallLists.{reply_number}
 use Rattle.ec_order.specs.Cuts.{IsFinishedCall}
-use Rattle.ec_order.specs.Orders.{IsLegalOrder, calls_in}
+use Rattle.ec_order.specs.Orders.{IsLinearization, calls_in}
 use Rattle.ec_order.specs.Points.{IsPoint, point_of, ordered_by_points}
-use Rattle.ec_order.specs.Verdicts.{IsGood}
+use Rattle.ec_order.specs.Verdicts.{IsLinearizationWithPoints}
 
 -- the completed calls are exactly the calls that the workers' entries are cut into, in order of
 -- their responses
@@ -40,7 +40,7 @@ completed_by w calls = map op_and_reply (filter (λ c. c.worker == w) calls)
 -- them, are those listed here
 abbrev pub ProtocolsSpeakOfTheseCalls : Type 0
 ProtocolsSpeakOfTheseCalls = (t : Tables) (h : List Entry) (w : ℕ) → IsAccepted t (reverse h)
-    → completed_by w (finished_calls t (reverse h)) ≡ finished_by w (reverse h)
+    → completed_by w (finished_calls t (reverse h)) ≡ completed_calls_of w (reverse h)
 
 -- each completed call has its point
 abbrev pub PointsExist : Type 0
@@ -57,7 +57,7 @@ pub record StoodBetween (h : List Entry) (c : Call) : Type 0 where
 
 -- the order by points is a linearization of the completed calls, each with its point
 abbrev pub OrderByPointsIsGood : Type 0
-OrderByPointsIsGood = (t : Tables) (h : List Entry) → IsDeclared t → IsAccepted t (reverse h) → IsGood t (reverse h) (ordered_by_points t (reverse h))
+OrderByPointsIsGood = (t : Tables) (h : List Entry) → IsDeclared t → IsAccepted t (reverse h) → IsLinearizationWithPoints t (reverse h) (ordered_by_points t (reverse h))
 
 -- p comes before q: its point is less; or they have one point, p is a read or an await, and q is none or ended later
 abbrev pub ComesFirst : Placed → Placed → Type 0
@@ -83,7 +83,7 @@ OrderByPointsIsTheOnlyOne = (t : Tables) (h : List Entry) (ps : List Placed) →
 pub record HasAnOrder (t : Tables) (h : List Entry) : Type 0 where
   pub order : List Call
   pub by_points : order ≡ calls_in (ordered_by_points t (reverse h))
-  pub legal : IsLegalOrder t (reverse h) order
+  pub legal : IsLinearization t (reverse h) order
   pub stood : (c : Call) → Contains (finished_calls t (reverse h)) c → is_reading c.op ≡ true → StoodBetween h c
 
 -- the main theorem: whatever the interleaving, every accepted history has a linearization, the

@@ -13,8 +13,8 @@ use Rattle.ec_order.specs.declared.placed.Placed.{Placed}
 use Rattle.ec_order.specs.Calls.{is_one_entry_call}
 use Rattle.ec_order.specs.Points.{by_moments, ordered_by_points}
 use Rattle.ec_order.specs.AdvanceLogModel.{AdvanceLogModel, AreAdvanceLogs, IsPointBy}
-use Rattle.ec_order.specs.Verdicts.{IsGood}
-use Rattle.ec_order.specs.Walk.{is_alone, due_then, readings, PutsIn}
+use Rattle.ec_order.specs.Verdicts.{IsLinearizationWithPoints}
+use Rattle.ec_order.specs.Walk.{is_one_entry_act, due_then, readings, PutsIn}
 
 -- a call, written as one entry: the act that began it, and its last reply
 abbrev pub entry_of_call : Call → Entry
@@ -31,7 +31,7 @@ entry_point d = d.point
 pub record IsGoodLinearization (t : Tables) (past : List Entry) (calls : List LinearizedEntry) : Type 0 where
   pub placed : List Placed
   pub returned : calls ≡ map linearized_entry placed
-  pub good : IsGood t past placed
+  pub good : IsLinearizationWithPoints t past placed
 
 -- the completed calls of a past in order of their points, so written
 abbrev pub linearized_entries : Tables → List Entry → List LinearizedEntry
@@ -48,9 +48,9 @@ pub record LinearizerModel : Type 0 where
   pub under_way : List (Option PendingCall)
   pub advances : List AdvanceLogModel
   pub marks : List Bool
-  pub alone : List Entry
+  pub one_entry_calls : List Entry
   pub readings : List LinearizedEntry
-  pub lacks : Bool
+  pub out_of_memory : Bool
 
 -- whether a call has more than one entry
 abbrev pub is_long : Placed → Bool
@@ -65,7 +65,7 @@ pub record IsLinearizerModel (k : LinearizerModel) (past : List Entry) : Type 0 
   pub under_way : AreCalls k.setup k.under_way past
   pub advances : AreAdvanceLogs k.advances past
   pub marks : k.marks ≡ map is_one_entry_call (reverse past)
-  pub alone : k.alone ≡ filter is_one_entry_call (reverse past)
+  pub one_entry_calls : k.one_entry_calls ≡ filter is_one_entry_call (reverse past)
   pub readings : (n : ℕ) → length past ≤ n → k.readings ≡ map linearized_entry (by_moments (long_readings k.setup past) n)
 
 -- a call that an entry ends is inserted by its point, found by the advances that are stored before
@@ -81,7 +81,7 @@ pub record TakesIn (old : LinearizerModel) (place : ℕ) (x : Entry) (new : Line
 
 -- it represents a past, if the past is accepted and no allocation failed
 abbrev pub IsLinearizer : LinearizerModel → List Entry → Type 0
-IsLinearizer k past = k.lacks ≡ false → IsAccepted k.setup past → IsLinearizerModel k past
+IsLinearizer k past = k.out_of_memory ≡ false → IsAccepted k.setup past → IsLinearizerModel k past
 
 -- it has the same declarations as at the start, and represents a past
 abbrev pub LinearizesOn : LinearizerModel → LinearizerModel → List Entry → Type 0
@@ -93,8 +93,8 @@ LinearizesOn start now past = (now.setup ≡ start.setup) × IsLinearizer now pa
 
 -- whether the next entry is a read or an await that is a whole call
 abbrev pub read_comes : List Bool → List Entry → Bool
-read_comes (true ∷ marks) (x ∷ alone) = not (is_alone x.act)
-read_comes marks alone = false
+read_comes (true ∷ marks) (x ∷ one_entry_calls) = not (is_one_entry_act x.act)
+read_comes marks one_entry_calls = false
 
 -- the moment at which a read or an await of more entries comes: its point, but the moment after it
 -- if it waits for a read or an await that is a whole call, and so has its point there and ends no
@@ -106,13 +106,13 @@ due_moment waits d = if waits then d.point + 1 else d.point
 -- entries that are left
 unfoldable pub entries_after_moment : ℕ → List Bool → List Entry → List LinearizedEntry
     → List LinearizedEntry
-entries_after_moment k [] alone readings = []
+entries_after_moment k [] one_entry_calls readings = []
 entries_after_moment k (true ∷ marks) [] readings = due_then (due_moment (read_comes marks [])) (k + 1) (entries_after_moment (k + 1) marks []) readings
-entries_after_moment k (true ∷ marks) (x ∷ alone) readings =
-    record { point = k; entry = x } ∷ due_then (due_moment (read_comes marks alone)) (k + 1) (entries_after_moment (k + 1) marks alone) readings
-entries_after_moment k (false ∷ marks) alone readings = due_then (due_moment (read_comes marks alone)) (k + 1) (entries_after_moment (k + 1) marks alone) readings
+entries_after_moment k (true ∷ marks) (x ∷ one_entry_calls) readings =
+    record { point = k; entry = x } ∷ due_then (due_moment (read_comes marks one_entry_calls)) (k + 1) (entries_after_moment (k + 1) marks one_entry_calls) readings
+entries_after_moment k (false ∷ marks) one_entry_calls readings = due_then (due_moment (read_comes marks one_entry_calls)) (k + 1) (entries_after_moment (k + 1) marks one_entry_calls) readings
 
 -- the calls from moment k on
 abbrev pub entries_from_moment : ℕ → List Bool → List Entry → List LinearizedEntry
     → List LinearizedEntry
-entries_from_moment k marks alone readings = due_then (due_moment (read_comes marks alone)) k (entries_after_moment k marks alone) readings
+entries_from_moment k marks one_entry_calls readings = due_then (due_moment (read_comes marks one_entry_calls)) k (entries_after_moment k marks one_entry_calls) readings

@@ -48,6 +48,6 @@ sequential_after_all s (c ∷ cs) = sequential_after_all (sequential_after s c.o
 
 -- a legal sequential history: the calls, one after another, are possible and get the replies that
 -- they had
-abbrev pub IsSequentialRun : SequentialState → List Call → Type 0
-IsSequentialRun s [] = Unit {0}
-IsSequentialRun s (c ∷ cs) = (sequential_reply s c.op ≡ Some c.reply) × IsSequentialRun (sequential_after s c.op) cs
+abbrev pub IsLegalHistory : SequentialState → List Call → Type 0
+IsLegalHistory s [] = Unit {0}
+IsLegalHistory s (c ∷ cs) = (sequential_reply s c.op ≡ Some c.reply) × IsLegalHistory (sequential_after s c.op) cs

@@ -38,7 +38,7 @@ impl AdvanceLog {
 
     /// Adds an advance, by the moment after it. It allocates only for a moment that is stored.
     #[inline(always)]
-    pub(crate) fn raise(&mut self, moment: usize) -> Result<(), AllocError>
+    pub(crate) fn add_advance(&mut self, moment: usize) -> Result<(), AllocError>
         ensures ok { OnOk result (AddsAdvance self.old moment self.new) }
         ensures err { OnErr result (0 < self.old.readers) }
     {

@@ -1,12 +1,12 @@
 //! The advances of all eventcounts, as a pass over a history stores them.
 ghost use Rattle.std.specs.Prelude.{◌≡◌, ◌<◌, Some, None, [], length, IfOk, IfSome, OnOk};
-ghost use Rattle.ec_core.specs.Rounds.{read_of};
+ghost use Rattle.ec_core.specs.Rounds.{read_event};
 ghost use Rattle.ec_order.specs.AdvanceLogModel.{AreAdvanceLogs, FollowsReading, IsPointBy};
 ghost use Rattle.ec_order.specs.AdvanceLogModel.{NotesAlone, ended_event};
 
 use crate::Call;
 use crate::advance_log::AdvanceLog;
-use crate::index::event_to_raise;
+use crate::index::advanced_event;
 use ec_core::Act;
 use std::alloc::{AllocError, Global};
 use std::marker::Model;
@@ -44,8 +44,8 @@ impl Advances {
     pub(crate) fn note(&mut self, act: Act, moment: usize) -> Result<(), AllocError>
         ensures { OnOk result (NotesAlone self.old act moment self.new) }
     {
-        if let Some(event) = event_to_raise(act) {
-            self.events[event].raise(moment)?;
+        if let Some(event) = advanced_event(act) {
+            self.events[event].add_advance(moment)?;
         }
         Ok(())
     }
@@ -55,7 +55,7 @@ impl Advances {
     pub(crate) fn begin(&mut self, act: Act)
         ensures { FollowsReading self.old act None self.new }
     {
-        if let Some(event) = read_by(act) {
+        if let Some(event) = read_event(act) {
             self.events[event].begin();
         }
     }
@@ -67,7 +67,7 @@ impl Advances {
     {
         // It is read for the proof: a position fits its type.
         let _last = call.last;
-        if let Some(event) = left_by(act, call.op) {
+        if let Some(event) = ended_event(act, call.op) {
             self.events[event].end();
         }
     }
@@ -78,7 +78,7 @@ impl Advances {
     pub(crate) fn point(&self, call: &Call) -> usize
         ensures { IsPointBy self.now call.now result }
     {
-        match read_by(call.op) {
+        match read_event(call.op) {
             Some(event) => self.events[event].point(call.round, call.reply.number()),
             None => call.last,
         }
@@ -86,8 +86,8 @@ impl Advances {
 }
 
 /// Returns the eventcount that an act reads or awaits.
-fn read_by(act: Act) -> Option<usize>
-    ensures value { result ≡ read_of act }
+fn read_event(act: Act) -> Option<usize>
+    ensures value { result ≡ read_event act }
     ensures small { IfSome result (λ e. e < 32) }
 {
     match act {
@@ -98,12 +98,12 @@ fn read_by(act: Act) -> Option<usize>
 
 /// Returns the eventcount that a call was pending on, by the act that ends it and the one that
 /// began it. A call of one entry was never pending.
-fn left_by(act: Act, op: Act) -> Option<usize>
+fn ended_event(act: Act, op: Act) -> Option<usize>
     ensures value { result ≡ ended_event act op }
     ensures small { IfSome result (λ e. e < 32) }
 {
     match act {
-        Act::Go => read_by(op),
+        Act::Go => read_event(op),
         _ => None,
     }
 }

@@ -2,7 +2,7 @@
 ghost use Rattle.std.specs.Prelude.{◌≡◌, ◌<◌, true, false, Some, length, reverse, slice_get, IfOk, MatchOption};
 ghost use Rattle.std.specs.List.{All, AllPairs, Contains};
 ghost use Rattle.std.specs.Bool.{Decides};
-ghost use Rattle.ec_order.specs.Verdicts.{IsGood, IsVerdict};
+ghost use Rattle.ec_order.specs.Verdicts.{IsLinearizationWithPoints, IsVerdict};
 
 use crate::index::{index, point};
 use crate::numbers::Numbers;
@@ -86,7 +86,7 @@ fn judge(alloc: Global, run: &Run, placed: &[Placed]) -> Result<Verdict, AllocEr
         }
         seen[j] = true;
         latest = latest.max(call.first);
-        numbers.take_in(call.op, i);
+        numbers.apply(call.op, i);
     }
     match first_unset(&seen) {
         Some(_) => Ok(Verdict::Missing(placed.len())),
@@ -100,7 +100,7 @@ pub fn verify(alloc: Global, run: &Run, placed: &[Placed]) -> Result<Verdict, Al
     ensures verdict { IfOk result (λ v.
         IsVerdict run.now.setup (reverse run.now.entries) placed.now v) }
     ensures only { IfOk result (λ v.
-        IsGood run.now.setup (reverse run.now.entries) placed.now → v ≡ Verdict.Good) }
+        IsLinearizationWithPoints run.now.setup (reverse run.now.entries) placed.now → v ≡ Verdict.Good) }
 {
     run.invariant();
     let verdict = judge(alloc, run, placed)?;

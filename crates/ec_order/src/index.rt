@@ -1,6 +1,6 @@
 //! Points by an index of the advances.
 ghost use Rattle.std.specs.Prelude.{◌≡◌, ℕ, ◌<◌, ◌+◌, [], ◌∷◌, ◌++◌, length, reverse, slice_set, slice_index_or, IfOk, OnOk, IfSome};
-ghost use Rattle.ec_order.specs.Index.{moment_of_advance, moments_in, IsIndex, NotesAct, point_in, raised_by};
+ghost use Rattle.ec_order.specs.Index.{moment_of_advance, moments_in, IsIndex, NotesAct, point_in, advanced_event};
 
 use crate::Call;
 use ec_core::{Act, Run};
@@ -9,8 +9,8 @@ use std::alloc::{AllocError, Global};
 
 /// Returns the eventcount that an act advances.
 #[inline(always)]
-pub(crate) fn event_to_raise(act: Act) -> Option<usize>
-    ensures value { result ≡ raised_by act }
+pub(crate) fn advanced_event(act: Act) -> Option<usize>
+    ensures value { result ≡ advanced_event act }
     ensures small { IfSome result (λ e. e < 32) }
 {
     match act {
@@ -38,7 +38,7 @@ fn note(lists: &mut Vec<NumberList>, act: Act, moment: usize) -> Result<(), Allo
     ensures long { length lists.new.items ≡ 32 }
     ensures notes { OnOk result (NotesAct lists.old.items act moment lists.new.items) }
 {
-    if let Some(event) = event_to_raise(act) {
+    if let Some(event) = advanced_event(act) {
         add_moment(lists, event, moment)?;
     }
     Ok(())

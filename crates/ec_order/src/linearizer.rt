@@ -4,13 +4,13 @@ ghost use Rattle.ec_core.specs.declared.act.Entry.{Entry};
 ghost use Rattle.ec_core.specs.Acceptance.{IsAccepted};
 ghost use Rattle.ec_core.specs.Calls.{is_go};
 ghost use Rattle.ec_order.specs.AdvanceLogModel.{FollowsReading};
-ghost use Rattle.ec_order.specs.Walk.{is_alone, IsDue};
+ghost use Rattle.ec_order.specs.Walk.{is_one_entry_act, IsDue};
 ghost use Rattle.ec_order.specs.Linearizer.{entry_of_call, linearized_entries, entries_from_moment, due_moment, read_comes, IsLinearizer, PutsByPoint, TakesIn, IsGoodLinearization};
 
 use crate::advances::Advances;
 use crate::bit_vec::{BitIter, BitVec};
 use crate::linearized_reads::LinearizedReads;
-use crate::scan::{go_on, is_last, take_in};
+use crate::scan::{add_entry, go_on, is_last};
 use crate::{Call, LinearizedEntry, OrderFault};
 use ec_core::{Act, Audit, Entries, Entry, PendingCalls, Segments};
 use ec_count::Setup;
@@ -28,9 +28,9 @@ pub struct Linearizer<'a> {
     under_way: PendingCalls,
     advances: Advances,
     marks: BitVec,
-    alone: Segments,
+    one_entry_calls: Segments,
     readings: LinearizedReads,
-    lacks: bool,
+    out_of_memory: bool,
 }
 
 impl<'a> Model for Linearizer<'a> {
@@ -38,7 +38,7 @@ impl<'a> Model for Linearizer<'a> {
 
     ghost Value = { LinearizerModel };
 
-    ghost view = { λ s. record { setup = s.setup.now; under_way = s.under_way; advances = s.advances; marks = s.marks; alone = s.alone; readings = s.readings; lacks = s.lacks } };
+    ghost view = { λ s. record { setup = s.setup.now; under_way = s.under_way; advances = s.advances; marks = s.marks; one_entry_calls = s.one_entry_calls; readings = s.readings; out_of_memory = s.out_of_memory } };
 }
 
 /// Returns a call, written as one entry.
@@ -71,17 +71,17 @@ fn store_read(
 impl<'a> Linearizer<'a> {
     /// Returns a linearizer before the first entry of a history on this setup.
     pub fn open(alloc: Global, setup: &'a Setup) -> Result<Self, OrderFault>
-        ensures setup { IfOk result (λ timeline. timeline.setup ≡ setup.now) }
-        ensures first { IfOk result (λ timeline. IsLinearizer timeline []) }
+        ensures setup { IfOk result (λ linearizer. linearizer.setup ≡ setup.now) }
+        ensures first { IfOk result (λ linearizer. IsLinearizer linearizer []) }
     {
         Ok(Linearizer {
             setup,
             under_way: PendingCalls::new(),
             advances: Advances::none(alloc)?,
             marks: BitVec::new(alloc),
-            alone: Segments::open(alloc)?,
+            one_entry_calls: Segments::open(alloc)?,
             readings: LinearizedReads::open(alloc)?,
-            lacks: false,
+            out_of_memory: false,
         })
     }
 
@@ -100,7 +100,7 @@ impl<'a> Linearizer<'a> {
             }
             self.advances.note(entry.act, place + 1)?;
             self.marks.push(true)?;
-            self.alone.push(*entry)?;
+            self.one_entry_calls.push(*entry)?;
             return Ok(());
         }
         self.marks.push(false)?;
@@ -120,7 +120,7 @@ impl<'a> Linearizer<'a> {
     {
         self.setup.invariant();
         self.marks.push(false)?;
-        match take_in(&mut self.under_way, self.setup, entry, place) {
+        match add_entry(&mut self.under_way, self.setup, entry, place) {
             Some(call) => store_read(&mut self.readings, &mut self.advances, entry.act, &call),
             None => {
                 self.advances.begin(entry.act);
@@ -136,10 +136,10 @@ impl<'a> Linearizer<'a> {
         ensures good { (past : List Entry) → IsLinearizer self.now past → IsAccepted self.now.setup past → IfOk result (λ calls. IsGoodLinearization self.now.setup past calls) }
     {
         self.setup.invariant();
-        if self.lacks {
+        if self.out_of_memory {
             return Err(OrderFault::Memory);
         }
-        Ok(Linearization::all(&self.marks, &self.alone, &self.readings))
+        Ok(Linearization::all(&self.marks, &self.one_entry_calls, &self.readings))
     }
 }
 
@@ -150,8 +150,8 @@ impl<'a> Audit for Linearizer<'a> {
 
     #[inline(always)]
     fn take(&mut self, place: usize, _op: &Act, entry: &Entry) {
-        if !self.lacks && self.gather(place, entry).is_err() {
-            self.lacks = true;
+        if !self.out_of_memory && self.gather(place, entry).is_err() {
+            self.out_of_memory = true;
         }
     }
 }
@@ -159,8 +159,8 @@ impl<'a> Audit for Linearizer<'a> {
 /// Returns whether each entry with this act is a whole call. One of a read or an await may not be:
 /// it may go on by `go` entries.
 #[inline(always)]
-fn is_alone(act: Act) -> bool
-    ensures { result ≡ is_alone act }
+fn is_one_entry_act(act: Act) -> bool
+    ensures { result ≡ is_one_entry_act act }
 {
     match act {
         Act::Read(_) | Act::Await(_, _) | Act::Go => false,
@@ -170,14 +170,14 @@ fn is_alone(act: Act) -> bool
 
 /// Returns whether the next entry is a read or an await that is told at once.
 #[inline(always)]
-fn read_comes(marks: &BitIter<'_>, alone: &Entries<'_>) -> bool
-    ensures { result ≡ read_comes marks.now alone.now }
+fn read_comes(marks: &BitIter<'_>, one_entry_calls: &Entries<'_>) -> bool
+    ensures { result ≡ read_comes marks.now one_entry_calls.now }
 {
     let Some(true) = marks.peek() else {
         return false;
     };
-    match alone.peek() {
-        Some(entry) => !is_alone(entry.act),
+    match one_entry_calls.peek() {
+        Some(entry) => !is_one_entry_act(entry.act),
         None => false,
     }
 }
@@ -191,16 +191,16 @@ fn due(
     i: usize,
     moment: usize,
     marks: &BitIter<'_>,
-    alone: &Entries<'_>,
+    one_entry_calls: &Entries<'_>,
 ) -> Option<LinearizedEntry>
-    ensures value { IsDue (due_moment (read_comes marks.now alone.now)) readings.now i moment result }
+    ensures value { IsDue (due_moment (read_comes marks.now one_entry_calls.now)) readings.now i moment result }
     ensures within { IfSome result (λ _. i + 1 < 2 ^ 64) }
 {
-    let dated = readings.due(i, moment)?;
-    if dated.point == moment && read_comes(marks, alone) {
+    let linearized = readings.due(i, moment)?;
+    if linearized.point == moment && read_comes(marks, one_entry_calls) {
         return None;
     }
-    Some(dated)
+    Some(linearized)
 }
 
 /// An iterator over completed calls in order of their points. A contract sees it as the list of
@@ -208,7 +208,7 @@ fn due(
 #[derive(Drop)]
 pub struct Linearization<'a> {
     marks: BitIter<'a>,
-    alone: Entries<'a>,
+    one_entry_calls: Entries<'a>,
     readings: &'a LinearizedReads,
     position: usize,
     given: usize,
@@ -221,19 +221,19 @@ impl<'a> Model for Linearization<'a> {
 
     ghost Value = { List LinearizedEntry };
 
-    ghost view = { λ s. entries_from_moment s.position s.marks s.alone (drop s.given s.readings.now) };
+    ghost view = { λ s. entries_from_moment s.position s.marks s.one_entry_calls (drop s.given s.readings.now) };
 
     ghost invariant = { λ s. s.position + length s.marks < 2 ^ 64 };
 }
 
 impl<'a> Linearization<'a> {
     /// Returns an iterator over all calls.
-    fn all(marks: &'a BitVec, alone: &'a Segments, readings: &'a LinearizedReads) -> Self
-        ensures { result ≡ entries_from_moment 0 marks.now alone.now readings.now }
+    fn all(marks: &'a BitVec, one_entry_calls: &'a Segments, readings: &'a LinearizedReads) -> Self
+        ensures { result ≡ entries_from_moment 0 marks.now one_entry_calls.now readings.now }
     {
         Linearization {
             marks: marks.iter(),
-            alone: alone.entries(),
+            one_entry_calls: one_entry_calls.entries(),
             readings,
             position: 0,
             given: 0,
@@ -252,23 +252,23 @@ impl<'a> Iterator for Linearization<'a> {
 
     fn next(&mut self) -> Option<LinearizedEntry> {
         loop {
-            if let Some(dated) = due(
+            if let Some(linearized) = due(
                 self.readings,
                 self.given,
                 self.position,
                 &self.marks,
-                &self.alone,
+                &self.one_entry_calls,
             ) {
                 self.given += 1;
-                return Some(dated);
+                return Some(linearized);
             }
             let point = self.position;
-            let Some(is_alone) = self.marks.next() else {
+            let Some(is_whole) = self.marks.next() else {
                 return None;
             };
             self.position += 1;
-            if is_alone {
-                if let Some(entry) = self.alone.next() {
+            if is_whole {
+                if let Some(entry) = self.one_entry_calls.next() {
                     return Some(LinearizedEntry { point, entry });
                 }
             }

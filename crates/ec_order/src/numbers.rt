@@ -71,7 +71,7 @@ impl Numbers {
     }
 
     /// Changes the numbers as the call at place i does.
-    pub(crate) fn take_in(&mut self, op: Act, i: usize)
+    pub(crate) fn apply(&mut self, op: Act, i: usize)
         requires few { AreFew self.old i }
         requires small { i + 1 < 2 ^ 64 }
         ensures { self.new ≡ after_in self.old op }

@@ -41,7 +41,7 @@ fn call_ended_by(entry: &Entry, call: &Option<PendingCall>, i: usize) -> Option<
 /// Adds the entry at position i to the pending calls, and returns the call that it ends, if it ends
 /// one. (This and `go_on` have no `#[inline(always)]`: with them, the function that enters an entry
 /// of a trace would grow so large that the compiler drops that function's own attribute.)
-pub(crate) fn take_in(
+pub(crate) fn add_entry(
     under_way: &mut PendingCalls,
     setup: &Setup,
     entry: &Entry,
@@ -87,7 +87,7 @@ pub fn calls(alloc: Global, run: &Run) -> Result<Vec<Call>, AllocError>
     for i in 0..run.len() {
         if let Some(entry) = run.entry(i) {
             let _act = entry.act;
-            if let Some(call) = take_in(&mut under_way, run.setup(), &entry, i) {
+            if let Some(call) = add_entry(&mut under_way, run.setup(), &entry, i) {
                 calls.push(call)?;
             }
         }

@@ -30,34 +30,34 @@ lt_of m n h = grind (arith, nat_tests)
 -- WHO IS ACTIVE
 
 -- a worker that is active after the state of w is set
-set_live : (states : List WorkerState) (w u : ℕ) (s : WorkerState) → w < length states → is_active (worker_state (slice_set states w s) u) ≡ true
+set_active : (states : List WorkerState) (w u : ℕ) (s : WorkerState) → w < length states → is_active (worker_state (slice_set states w s) u) ≡ true
     → ((u ≡ w) × (is_active s ≡ true)) ⊎ (is_active (worker_state states u) ≡ true)
-set_live states w u s within h =
+set_active states w u s within h =
     elim (w == u) as (λ b. (w == u) ≡ b → is_active (unwrap_or (cond b (Some s) (slice_get states u)) Gone) ≡ true → ((u ≡ w) × (is_active s ≡ true)) ⊎ (is_active (worker_state states u) ≡ true)) [
       | true ↦ λ e k. inl (sym (eqb-true w u e), k)
       | false ↦ λ e k. inr k
     ] refl (ap (λ (o : Option WorkerState). is_active (unwrap_or o Gone)) (sym (get_set states w u s within)) ∙ h)
 
-kept_live : (f sum : ℕ) (s : WorkerState) → is_active (state_at_total f sum s) ≡ is_active s
-kept_live f sum Gone = refl
-kept_live f sum Running = refl
-kept_live f sum (Waiting g u) = elim (g == f && nat_le u sum) as (λ b. is_active (cond b Running (Waiting g u)) ≡ true) [ true ↦ refl | false ↦ refl ]
+kept_active : (f sum : ℕ) (s : WorkerState) → is_active (state_at_total f sum s) ≡ is_active s
+kept_active f sum Gone = refl
+kept_active f sum Running = refl
+kept_active f sum (Waiting g u) = elim (g == f && nat_le u sum) as (λ b. is_active (cond b Running (Waiting g u)) ≡ true) [ true ↦ refl | false ↦ refl ]
 
 map_live : (f sum : ℕ) (o : Option WorkerState) → is_active (unwrap_or (option_map (state_at_total f sum) o) Gone) ≡ is_active (unwrap_or o Gone)
 map_live f sum None = refl
-map_live f sum (Some s) = kept_live f sum s
+map_live f sum (Some s) = kept_active f sum s
 
 -- no act changes who is active
-woken_live : (act : Act) (past : List Entry) (states : List WorkerState) (u : ℕ) → is_active (worker_state (states_after_act act past states) u) ≡ is_active (worker_state states u)
-woken_live (Advance f) past states u =
+woken_active : (act : Act) (past : List Entry) (states : List WorkerState) (u : ℕ) → is_active (worker_state (states_after_act act past states) u) ≡ is_active (worker_state states u)
+woken_active (Advance f) past states u =
     ap (λ (o : Option WorkerState). is_active (unwrap_or o Gone)) (slice_get-map (state_at_total f (total f past)) states u) ∙ map_live f (total f past) (slice_get states u)
-woken_live (Read f) past states u = refl
-woken_live (Await f n) past states u = refl
-woken_live Go past states u = refl
-woken_live (Ticket q) past states u = refl
-woken_live (Put x n) past states u = refl
-woken_live (Get x) past states u = refl
-woken_live (Hand f b) past states u = refl
+woken_active (Read f) past states u = refl
+woken_active (Await f n) past states u = refl
+woken_active Go past states u = refl
+woken_active (Ticket q) past states u = refl
+woken_active (Put x n) past states u = refl
+woken_active (Get x) past states u = refl
+woken_active (Hand f b) past states u = refl
 
 -- WHAT IS WAITED FOR
 
@@ -88,7 +88,7 @@ awaited_other t w x past h = ap (option_and_then (fallen_short t)) (call_other w
 -- a wait that a worker has: it is active, its round fell short, and the total is below the
 -- threshold
 pub record IsWait (b : BoardModel) (w : ℕ) (a : Wait) : Type 0 where
-  pub live : is_active (worker_state b.states w) ≡ true
+  pub active : is_active (worker_state b.states w) ≡ true
   pub short : await_fallen_short b.run.setup w (past_of b.run) ≡ Some a
   pub above : total a.event (past_of b.run) < a.threshold
 
@@ -108,7 +108,7 @@ pub is_wait : (b : BoardModel) (w : ℕ) (a : Wait) → wait_of b w ≡ Some a �
 is_wait b w a h =
     let i = wait_if (is_active (worker_state b.states w)) _ a h in
     let k = unmet_is (past_of b.run) (await_fallen_short b.run.setup w (past_of b.run)) a i.1 in
-    record { live = i.0; short = k.0; above = k.1 }
+    record { active = i.0; short = k.0; above = k.1 }
 
 wait_made : (a : Wait) (e v : ℕ) → a.event ≡ e → a.threshold ≡ v → a ≡ record { event = e; threshold = v }
 wait_made a e v p q =
@@ -116,14 +116,14 @@ wait_made a e v p q =
 
 -- PARK
 
-stuck_waits : (a b : Bool) → (a && b) ≡ true → b ≡ true
-stuck_waits a b h = (and_parts a b h).1
+deadlocked_waits : (a b : Bool) → (a && b) ≡ true → b ≡ true
+deadlocked_waits a b h = (and_parts a b h).1
 
 pub parked : (b : BoardModel) (w : ℕ) (a : Wait) → AreWaiters b → w < length b.states → IsWait b w a
     → AreWaiters (record { run = b.run; states = slice_set b.states w (Waiting a.event a.threshold); deadlocked = is_deadlocked (slice_set b.states w (Waiting a.event a.threshold)) })
 parked b w a h within k = record {
-  declared = λ u l. elim (set_live b.states w u (Waiting a.event a.threshold) within l) as (λ _. u < b.run.setup.workers) [
-    | inl p ↦ subst (λ (z : ℕ). z < b.run.setup.workers) (sym p.0) (h.declared w k.live)
+  declared = λ u l. elim (set_active b.states w u (Waiting a.event a.threshold) within l) as (λ _. u < b.run.setup.workers) [
+    | inl p ↦ subst (λ (z : ℕ). z < b.run.setup.workers) (sym p.0) (h.declared w k.active)
     | inr p ↦ h.declared u p
   ];
   short = λ u e v g. elim (moved_to b.states w u (Waiting a.event a.threshold) (Waiting e v) within g) as (λ _. await_fallen_short b.run.setup u (past_of b.run) ≡ Some (record { event = e; threshold = v })) [
@@ -139,7 +139,7 @@ parked b w a h within k = record {
         subst (λ (d : ℕ). total d (past_of b.run) < v) event (subst (λ (n : ℕ). total a.event (past_of b.run) < n) threshold k.above))
     | inr p ↦ h.above u e v p.1
   ];
-  all = λ s. stuck_waits (list_any is_active (slice_set b.states w (Waiting a.event a.threshold))) _ s;
+  all = λ s. deadlocked_waits (list_any is_active (slice_set b.states w (Waiting a.event a.threshold))) _ s;
 }
 
 -- LEAVE
@@ -162,11 +162,12 @@ not_is false h = refl
 all_wait_still : (deadlocked : Bool) (states : List WorkerState) (w : ℕ) → (deadlocked ≡ true → every_active_waits states ≡ true) → (deadlocked || is_deadlocked (slice_set states w Gone)) ≡ true
     → every_active_waits (slice_set states w Gone) ≡ true
 all_wait_still true states w h k = ap not (gone_runs_not states w (not_is (list_any is_running states) (h refl)))
-all_wait_still false states w h k = stuck_waits (list_any is_active (slice_set states w Gone)) _ k
+all_wait_still false states w h k =
+    deadlocked_waits (list_any is_active (slice_set states w Gone)) _ k
 
 pub left : (b : BoardModel) (w : ℕ) → AreWaiters b → w < length b.states → AreWaiters (with_worker_state b w Gone)
 left b w h within = record {
-  declared = λ u l. elim (set_live b.states w u Gone within l) as (λ _. u < b.run.setup.workers) [
+  declared = λ u l. elim (set_active b.states w u Gone within l) as (λ _. u < b.run.setup.workers) [
     | inl p ↦ (let gone : is_active Gone ≡ true = p.1 in cc)
     | inr p ↦ h.declared u p
   ];
@@ -254,7 +255,7 @@ stepped_on t states x past within short above u e v g =
 stepped_live : (states : List WorkerState) (n : ℕ) (x : Entry) (past : List Entry) → x.worker < length states → x.worker < n
     → ((w : ℕ) → is_active (worker_state states w) ≡ true → w < n) → (w : ℕ) → is_active (worker_state (states_after_act x.act past (slice_set states x.worker Running)) w) ≡ true → w < n
 stepped_live states n x past within known declared w l =
-    elim (set_live states x.worker w Running within (sym (woken_live x.act past (slice_set states x.worker Running) w) ∙ l)) as (λ _. w < n) [
+    elim (set_active states x.worker w Running within (sym (woken_active x.act past (slice_set states x.worker Running) w) ∙ l)) as (λ _. w < n) [
       | inl p ↦ subst (λ (z : ℕ). z < n) (sym p.0) known
       | inr p ↦ declared w p
     ]
@@ -277,17 +278,17 @@ stepped b x h free within known =
 -- A NEW BOARD
 
 live_if : (b : Bool) (s : WorkerState) → s ≡ cond b Running Gone → is_active s ≡ true → b ≡ true
-live_if true s is live = refl
-live_if false s is live = sym (ap is_active is) ∙ live
+live_if true s is active = refl
+live_if false s is active = sym (ap is_active is) ∙ active
 
 none_waits : (b : Bool) (s : WorkerState) (e v : ℕ) → s ≡ cond b Running Gone → s ≡ Waiting e v → ⊥
 none_waits true s e v is waits = (let no : Running ≡ Waiting e v = sym is ∙ waits in cc)
 none_waits false s e v is waits = (let no : Gone ≡ Waiting e v = sym is ∙ waits in cc)
 
 -- the state of a worker, if the first n are active
-seat_there : (states : List WorkerState) (n w : ℕ) (s : WorkerState) → length states ≡ 16 → ((v : ℕ) → v < 16 → slice_get states v ≡ Some (cond (nat_lt v n) Running Gone))
+state_there : (states : List WorkerState) (n w : ℕ) (s : WorkerState) → length states ≡ 16 → ((v : ℕ) → v < 16 → slice_get states v ≡ Some (cond (nat_lt v n) Running Gone))
     → slice_get states w ≡ Some s → s ≡ cond (nat_lt w n) Running Gone
-seat_there states n w s long is at =
+state_there states n w s long is at =
     let within : w < length states = slice_get_within states w s at in
     let both : Some s ≡ Some (cond (nat_lt w n) Running Gone) = sym at ∙ is w (omega arith) in
     cc
@@ -296,12 +297,12 @@ seat_there states n w s long is at =
 pub opened : (b : BoardModel) (n : ℕ) → n ≡ b.run.setup.workers → length b.states ≡ 16 → ((w : ℕ) → w < 16 → slice_get b.states w ≡ Some (cond (nat_lt w n) Running Gone))
     → b.deadlocked ≡ false → AreWaiters b
 opened b n all long is down = record {
-  declared = λ w live.
+  declared = λ w active.
       (elim (slice_get b.states w) as (λ o. slice_get b.states w ≡ o → is_active (unwrap_or o Gone) ≡ true → w < b.run.setup.workers) [
         | None ↦ λ at h. (cc)
-        | Some s ↦ λ at h. (let below : w < n = lt_of w n (live_if (nat_lt w n) s (seat_there b.states n w s long is at) h) in omega arith)
-      ] refl live);
-  short = λ w e v at. absurd (none_waits (nat_lt w n) (Waiting e v) e v (seat_there b.states n w (Waiting e v) long is at) refl);
-  above = λ w e v at. absurd (none_waits (nat_lt w n) (Waiting e v) e v (seat_there b.states n w (Waiting e v) long is at) refl);
+        | Some s ↦ λ at h. (let below : w < n = lt_of w n (live_if (nat_lt w n) s (state_there b.states n w s long is at) h) in omega arith)
+      ] refl active);
+  short = λ w e v at. absurd (none_waits (nat_lt w n) (Waiting e v) e v (state_there b.states n w (Waiting e v) long is at) refl);
+  above = λ w e v at. absurd (none_waits (nat_lt w n) (Waiting e v) e v (state_there b.states n w (Waiting e v) long is at) refl);
   all = λ up. (cc);
 }

@@ -12,7 +12,7 @@ use Rattle.ec_runner.specs.declared.wait_queue.Waiter.{Waiter}
 use Rattle.ec_runner.specs.declared.worker_state.WorkerState.{WorkerState}
 use Rattle.ec_runner.specs.declared.worker_state.WorkerState.TheVariants.{Gone, Running, Waiting}
 use Rattle.ec_runner.specs.WorkerStates.{is_waiting, state_at_total}
-use Rattle.ec_runner.specs.WaitQueues.{comes_before, Each, IsAmong, AreInOrder, insert_waiter, place_in, without, first_ready, remove_waiter, waits_on, number_on, IsWaitQueue, AreWaitQueues}
+use Rattle.ec_runner.specs.WaitQueues.{comes_before, Each, IsAmong, AreInOrder, insert_waiter, insertion_index, without, first_ready, remove_waiter, waits_on, number_on, IsWaitQueue, AreWaitQueues}
 use Rattle.ec_semaphore.proofs.shared.Implying.{fits_or as or_right}
 
 -- ORDER
@@ -88,10 +88,11 @@ placed_length y (x ∷ xs) =
       | false ↦ omega arith
     ]
 
-pub placed_is : (y : Waiter) (xs : List Waiter) → insert xs (place_in y xs) y ≡ insert_waiter y xs
+pub placed_is : (y : Waiter) (xs : List Waiter)
+    → insert xs (insertion_index y xs) y ≡ insert_waiter y xs
 placed_is y [] = refl
 placed_is y (x ∷ xs) =
-    elim (comes_before x y) as (λ b. insert (x ∷ xs) (cond b (suc (place_in y xs)) 0) y ≡ cond b (x ∷ insert_waiter y xs) (y ∷ x ∷ xs)) [
+    elim (comes_before x y) as (λ b. insert (x ∷ xs) (cond b (suc (insertion_index y xs)) 0) y ≡ cond b (x ∷ insert_waiter y xs) (y ∷ x ∷ xs)) [
       | true ↦ ap (λ ys. x ∷ ys) (placed_is y xs)
       | false ↦ refl
     ]
@@ -223,11 +224,11 @@ waits_nowhere e (Waiting f v) h = cc
 no_waiter : (e v : ℕ) (s : WorkerState) → waits_on e s ≡ false → s ≡ Waiting e v → ⊥
 no_waiter e v s h same = (let is : waits_on e s ≡ true = ap (waits_on e) same ∙ waits_itself e v in cc)
 
-pub seat_set : (states : List WorkerState) (w : ℕ) (was s : WorkerState) → slice_get states w ≡ Some was → slice_get (slice_set states w s) w ≡ Some s
-seat_set states w was s at = get_set states w w s (slice_get_within states w was at) ∙ ap (λ b. cond b (Some s) (slice_get states w)) (eq-eqb w w refl)
+pub state_set : (states : List WorkerState) (w : ℕ) (was s : WorkerState) → slice_get states w ≡ Some was → slice_get (slice_set states w s) w ≡ Some s
+state_set states w was s at = get_set states w w s (slice_get_within states w was at) ∙ ap (λ b. cond b (Some s) (slice_get states w)) (eq-eqb w w refl)
 
-pub seat_kept : (states : List WorkerState) (w u : ℕ) (was s r : WorkerState) → slice_get states w ≡ Some was → u ≢ w → slice_get states u ≡ Some r → slice_get (slice_set states w s) u ≡ Some r
-seat_kept states w u was s r at n h =
+pub state_kept : (states : List WorkerState) (w u : ℕ) (was s r : WorkerState) → slice_get states w ≡ Some was → u ≢ w → slice_get states u ≡ Some r → slice_get (slice_set states w s) u ≡ Some r
+state_kept states w u was s r at n h =
     get_set states w u s (slice_get_within states w was at)
     ∙ elim (w == u) as (λ b. (w == u) ≡ b → cond b (Some s) (slice_get states u) ≡ Some r) [
       | true ↦ λ e. absurd (n (sym (eqb-true w u e)))
@@ -243,9 +244,9 @@ moved_to states w u s r within h =
       | false ↦ λ e k. inr ((λ same. eqb-false w u e (sym same)), k)
     ] refl now
 
-pub seat_moved : (states : List WorkerState) (w u : ℕ) (was s r : WorkerState) → slice_get states w ≡ Some was → slice_get (slice_set states w s) u ≡ Some r
+pub state_moved : (states : List WorkerState) (w u : ℕ) (was s r : WorkerState) → slice_get states w ≡ Some was → slice_get (slice_set states w s) u ≡ Some r
     → ((u ≡ w) × (s ≡ r)) ⊎ ((u ≢ w) × (slice_get states u ≡ Some r))
-seat_moved states w u was s r at h = moved_to states w u s r (slice_get_within states w was at) h
+state_moved states w u was s r at h = moved_to states w u s r (slice_get_within states w was at) h
 
 pub set_again : {X : Type 0} (xs : List X) (i : ℕ) (x y : X) → slice_set (slice_set xs i x) i y ≡ slice_set xs i y
 set_again [] i x y = refl
@@ -264,48 +265,48 @@ elsewhere e w states was x at n p same =
     let is : was ≡ Waiting e x.threshold = cc in
     no_waiter e x.threshold was n is)
 
-line_join : (e w v : ℕ) (states : List WorkerState) (line : List Waiter) → slice_get states w ≡ Some Running → IsWaitQueue e states line
-    → IsWaitQueue e (slice_set states w (Waiting e v)) (insert_waiter (waiter v w) line)
-line_join e w v states line at h =
+line_join : (e w v : ℕ) (states : List WorkerState) (queue : List Waiter) → slice_get states w ≡ Some Running → IsWaitQueue e states queue
+    → IsWaitQueue e (slice_set states w (Waiting e v)) (insert_waiter (waiter v w) queue)
+line_join e w v states queue at h =
     let y : Waiter = waiter v w in
     let s : WorkerState = Waiting e v in
     record {
-      order = placed_order y line (each_map (λ x p. elsewhere e w states Running x at refl p) line h.wait) h.order;
-      wait = placed_each (λ x. slice_get (slice_set states w s) x.worker ≡ Some (Waiting e x.threshold)) y line (seat_set states w Running s at)
-          (each_map (λ x p. seat_kept states w x.worker Running s (Waiting e x.threshold) at (elsewhere e w states Running x at refl p) p) line h.wait);
-      all = λ u z k. elim (seat_moved states w u Running s (Waiting e z) at k) as (λ _. IsAmong (waiter z u) (insert_waiter y line)) [
-        | inl p ↦ (let threshold : v ≡ z = (let same = p.1 in cc) in let same : y ≡ waiter z u = (let worker = p.0 in cc) in subst (λ (x : Waiter). IsAmong x (insert_waiter y line)) same (placed_own y line))
-        | inr p ↦ placed_stands (waiter z u) y line (h.all u z p.1)
+      order = placed_order y queue (each_map (λ x p. elsewhere e w states Running x at refl p) queue h.wait) h.order;
+      wait = placed_each (λ x. slice_get (slice_set states w s) x.worker ≡ Some (Waiting e x.threshold)) y queue (state_set states w Running s at)
+          (each_map (λ x p. state_kept states w x.worker Running s (Waiting e x.threshold) at (elsewhere e w states Running x at refl p) p) queue h.wait);
+      all = λ u z k. elim (state_moved states w u Running s (Waiting e z) at k) as (λ _. IsAmong (waiter z u) (insert_waiter y queue)) [
+        | inl p ↦ (let threshold : v ≡ z = (let same = p.1 in cc) in let same : y ≡ waiter z u = (let worker = p.0 in cc) in subst (λ (x : Waiter). IsAmong x (insert_waiter y queue)) same (placed_own y queue))
+        | inr p ↦ placed_stands (waiter z u) y queue (h.all u z p.1)
       ];
       few = (let more : number_on e (slice_set states w s) ≡ number_on e states + 1 = one_more (waits_on e Running) (waits_on e s) _ _ refl (waits_itself e v) (number_set e states w Running s at) in
-          let long : length (insert_waiter y line) ≡ length line + 1 = placed_length y line in
+          let long : length (insert_waiter y queue) ≡ length queue + 1 = placed_length y queue in
           let few = h.few in omega arith);
     }
 
-line_drop : (e w v : ℕ) (s : WorkerState) (states : List WorkerState) (line : List Waiter) → slice_get states w ≡ Some (Waiting e v) → is_waiting s ≡ false → IsWaitQueue e states line
-    → IsWaitQueue e (slice_set states w s) (without w line)
-line_drop e w v s states line at n h =
+line_drop : (e w v : ℕ) (s : WorkerState) (states : List WorkerState) (queue : List Waiter) → slice_get states w ≡ Some (Waiting e v) → is_waiting s ≡ false → IsWaitQueue e states queue
+    → IsWaitQueue e (slice_set states w s) (without w queue)
+line_drop e w v s states queue at n h =
     let was : WorkerState = Waiting e v in
     record {
-      order = without_order w line h.order;
+      order = without_order w queue h.order;
       wait = each_both (λ x. slice_get (slice_set states w s) x.worker ≡ Some (Waiting e x.threshold))
-          (λ x p other. seat_kept states w x.worker was s (Waiting e x.threshold) at other p) (without w line)
-          (without_each (λ x. slice_get states x.worker ≡ Some (Waiting e x.threshold)) w line h.wait) (without_other w line);
-      all = λ u z k. elim (seat_moved states w u was s (Waiting e z) at k) as (λ _. IsAmong (waiter z u) (without w line)) [
+          (λ x p other. state_kept states w x.worker was s (Waiting e x.threshold) at other p) (without w queue)
+          (without_each (λ x. slice_get states x.worker ≡ Some (Waiting e x.threshold)) w queue h.wait) (without_other w queue);
+      all = λ u z k. elim (state_moved states w u was s (Waiting e z) at k) as (λ _. IsAmong (waiter z u) (without w queue)) [
         | inl p ↦ absurd (no_waiter e z s (waits_nowhere e s n) p.1)
-        | inr p ↦ without_stands (waiter z u) w line p.0 (h.all u z p.1)
+        | inr p ↦ without_stands (waiter z u) w queue p.0 (h.all u z p.1)
       ];
       few = (let less : number_on e (slice_set states w s) + 1 ≡ number_on e states = one_less (waits_on e was) (waits_on e s) _ _ (waits_itself e v) (waits_nowhere e s n) (number_set e states w was s at) in
-          let short : length (without w line) < length line = without_short (waiter v w) w line refl (h.all w v at) in
+          let short : length (without w queue) < length queue = without_short (waiter v w) w queue refl (h.all w v at) in
           let few = h.few in omega arith);
     }
 
-line_same : (e w : ℕ) (s was : WorkerState) (states : List WorkerState) (line : List Waiter) → slice_get states w ≡ Some was → waits_on e was ≡ false → waits_on e s ≡ false → IsWaitQueue e states line
-    → IsWaitQueue e (slice_set states w s) line
-line_same e w s was states line at before after h = record {
+line_same : (e w : ℕ) (s was : WorkerState) (states : List WorkerState) (queue : List Waiter) → slice_get states w ≡ Some was → waits_on e was ≡ false → waits_on e s ≡ false → IsWaitQueue e states queue
+    → IsWaitQueue e (slice_set states w s) queue
+line_same e w s was states queue at before after h = record {
   order = h.order;
-  wait = each_map (λ x p. seat_kept states w x.worker was s (Waiting e x.threshold) at (elsewhere e w states was x at before p) p) line h.wait;
-  all = λ u z k. elim (seat_moved states w u was s (Waiting e z) at k) as (λ _. IsAmong (waiter z u) line) [
+  wait = each_map (λ x p. state_kept states w x.worker was s (Waiting e x.threshold) at (elsewhere e w states was x at before p) p) queue h.wait;
+  all = λ u z k. elim (state_moved states w u was s (Waiting e z) at k) as (λ _. IsAmong (waiter z u) queue) [
     | inl p ↦ absurd (no_waiter e z s after p.1)
     | inr p ↦ h.all u z p.1
   ];
@@ -335,75 +336,75 @@ without_first x xs h = ap (λ b. cond (not b) (x ∷ without x.worker xs) (witho
 
 line_pop : (e : ℕ) (states : List WorkerState) (x : Waiter) (xs : List Waiter) → IsWaitQueue e states (x ∷ xs) → IsWaitQueue e (slice_set states x.worker Running) xs
 line_pop e states x xs h =
-    subst (λ line. IsWaitQueue e (slice_set states x.worker Running) line) (without_first x xs (others e states x xs h.wait.0 h.order.0 h.wait.1))
+    subst (λ queue. IsWaitQueue e (slice_set states x.worker Running) queue) (without_first x xs (others e states x xs h.wait.0 h.order.0 h.wait.1))
     (line_drop e x.worker x.threshold Running states (x ∷ xs) h.wait.0 refl h)
 
 -- ALL QUEUES
 
-lines_set : (states : List WorkerState) (lines : List (List Waiter)) (e w : ℕ) (s was : WorkerState) (line now : List Waiter) → AreWaitQueues states lines
-    → slice_get states w ≡ Some was → slice_get lines e ≡ Some line
+lines_set : (states : List WorkerState) (queues : List (List Waiter)) (e w : ℕ) (s was : WorkerState) (queue now : List Waiter) → AreWaitQueues states queues
+    → slice_get states w ≡ Some was → slice_get queues e ≡ Some queue
     → ((f : ℕ) → (e == f) ≡ false → (waits_on f was ≡ false) × (waits_on f s ≡ false))
     → IsWaitQueue e (slice_set states w s) now
-    → AreWaitQueues (slice_set states w s) (slice_set lines e now)
-lines_set states lines e w s was line now h at here other new = record {
+    → AreWaitQueues (slice_set states w s) (slice_set queues e now)
+lines_set states queues e w s was queue now h at here other new = record {
   workers = length-set states w s ∙ h.workers;
-  events = length-set lines e now ∙ h.events;
+  events = length-set queues e now ∙ h.events;
   each = λ f l k.
-      (let found : cond (e == f) (Some now) (slice_get lines f) ≡ Some l = sym (get_set lines e f now (slice_get_within lines e line here)) ∙ k in
-      elim (e == f) as (λ b. (e == f) ≡ b → cond b (Some now) (slice_get lines f) ≡ Some l → IsWaitQueue f (slice_set states w s) l) [
+      (let found : cond (e == f) (Some now) (slice_get queues f) ≡ Some l = sym (get_set queues e f now (slice_get_within queues e queue here)) ∙ k in
+      elim (e == f) as (λ b. (e == f) ≡ b → cond b (Some now) (slice_get queues f) ≡ Some l → IsWaitQueue f (slice_set states w s) l) [
         | true ↦ λ t g. (let is : now ≡ l = cc in
             subst (λ (d : ℕ). IsWaitQueue d (slice_set states w s) l) (eqb-true e f t) (subst (λ (m : List Waiter). IsWaitQueue e (slice_set states w s) m) is new))
         | false ↦ λ t g. line_same f w s was states l at (other f t).0 (other f t).1 (h.each f l g)
       ] refl found);
 }
 
-lines_still : (states : List WorkerState) (lines : List (List Waiter)) (w : ℕ) (s was : WorkerState) → AreWaitQueues states lines → slice_get states w ≡ Some was
-    → ((f : ℕ) (l : List Waiter) → slice_get lines f ≡ Some l → waits_on f was ≡ false) → is_waiting s ≡ false → AreWaitQueues (slice_set states w s) lines
-lines_still states lines w s was h at other n = record {
+lines_still : (states : List WorkerState) (queues : List (List Waiter)) (w : ℕ) (s was : WorkerState) → AreWaitQueues states queues → slice_get states w ≡ Some was
+    → ((f : ℕ) (l : List Waiter) → slice_get queues f ≡ Some l → waits_on f was ≡ false) → is_waiting s ≡ false → AreWaitQueues (slice_set states w s) queues
+lines_still states queues w s was h at other n = record {
   workers = length-set states w s ∙ h.workers;
   events = h.events;
   each = λ f l k. line_same f w s was states l at (other f l k) (waits_nowhere f s n) (h.each f l k);
 }
 
-pub settled : (states : List WorkerState) (lines : List (List Waiter)) (w : ℕ) (s was : WorkerState) → AreWaitQueues states lines → slice_get states w ≡ Some was → is_waiting s ≡ false
-    → AreWaitQueues (slice_set states w s) (remove_waiter was w lines)
-settled states lines w s Gone h at n = lines_still states lines w s Gone h at (λ f l k. refl) n
-settled states lines w s Running h at n =
-    lines_still states lines w s Running h at (λ f l k. refl) n
-settled states lines w s (Waiting e v) h at n =
-    elim (slice_get lines e) as (λ o. slice_get lines e ≡ o → AreWaitQueues (slice_set states w s) (option_map_or (λ line. slice_set lines e (without w line)) o lines)) [
-      | None ↦ λ none. lines_still states lines w s (Waiting e v) h at
+pub settled : (states : List WorkerState) (queues : List (List Waiter)) (w : ℕ) (s was : WorkerState) → AreWaitQueues states queues → slice_get states w ≡ Some was → is_waiting s ≡ false
+    → AreWaitQueues (slice_set states w s) (remove_waiter was w queues)
+settled states queues w s Gone h at n = lines_still states queues w s Gone h at (λ f l k. refl) n
+settled states queues w s Running h at n =
+    lines_still states queues w s Running h at (λ f l k. refl) n
+settled states queues w s (Waiting e v) h at n =
+    elim (slice_get queues e) as (λ o. slice_get queues e ≡ o → AreWaitQueues (slice_set states w s) (option_map_or (λ queue. slice_set queues e (without w queue)) o queues)) [
+      | None ↦ λ none. lines_still states queues w s (Waiting e v) h at
           (λ f l k. elim (e == f) as (λ b. (e == f) ≡ b → b ≡ false) [
-            | true ↦ λ t. absurd (let same : slice_get lines e ≡ Some l = ap (slice_get lines) (eqb-true e f t) ∙ k in cc)
+            | true ↦ λ t. absurd (let same : slice_get queues e ≡ Some l = ap (slice_get queues) (eqb-true e f t) ∙ k in cc)
             | false ↦ λ t. refl
           ] refl) n
-      | Some line ↦ λ some. lines_set states lines e w s (Waiting e v) line (without w line) h at some (λ f t. (t, waits_nowhere f s n))
-          (line_drop e w v s states line at n (h.each e line some))
+      | Some queue ↦ λ some. lines_set states queues e w s (Waiting e v) queue (without w queue) h at some (λ f t. (t, waits_nowhere f s n))
+          (line_drop e w v s states queue at n (h.each e queue some))
     ] refl
 
-some_line : (lines : List (List Waiter)) (e : ℕ) → e < length lines → (line : List Waiter) × (slice_get lines e ≡ Some line)
+some_line : (queues : List (List Waiter)) (e : ℕ) → e < length queues → (queue : List Waiter) × (slice_get queues e ≡ Some queue)
 some_line [] e h = absurd (omega arith)
-some_line (l ∷ lines) zero h = (l, refl)
-some_line (l ∷ lines) (suc e) h = some_line lines e (omega arith)
+some_line (l ∷ queues) zero h = (l, refl)
+some_line (l ∷ queues) (suc e) h = some_line queues e (omega arith)
 
 -- there is a queue for each eventcount
-pub line_at : (states : List WorkerState) (lines : List (List Waiter)) (e : ℕ) → AreWaitQueues states lines → e < 32 → (line : List Waiter) × (slice_get lines e ≡ Some line)
-line_at states lines e h lt = some_line lines e (let events = h.events in omega arith)
+pub line_at : (states : List WorkerState) (queues : List (List Waiter)) (e : ℕ) → AreWaitQueues states queues → e < 32 → (queue : List Waiter) × (slice_get queues e ≡ Some queue)
+line_at states queues e h lt = some_line queues e (let events = h.events in omega arith)
 
-changed_is : (f : List Waiter → List Waiter) (lines : List (List Waiter)) (e : ℕ) (line : List Waiter) → slice_get lines e ≡ Some line → map_at f lines e ≡ slice_set lines e (f line)
-changed_is f lines e line h = ap (λ o. option_map_or (λ (x : List Waiter). slice_set lines e (f x)) o lines) h
+changed_is : (f : List Waiter → List Waiter) (queues : List (List Waiter)) (e : ℕ) (queue : List Waiter) → slice_get queues e ≡ Some queue → map_at f queues e ≡ slice_set queues e (f queue)
+changed_is f queues e queue h = ap (λ o. option_map_or (λ (x : List Waiter). slice_set queues e (f x)) o queues) h
 
-pub waited : (states : List WorkerState) (lines : List (List Waiter)) (e w v : ℕ) → AreWaitQueues states lines → slice_get states w ≡ Some Running → e < 32
-    → AreWaitQueues (slice_set states w (Waiting e v)) (map_at (insert_waiter (record { threshold = v; worker = w })) lines e)
-waited states lines e w v h at lt =
-    let l = line_at states lines e h lt in
-    subst (λ (ls : List (List Waiter)). AreWaitQueues (slice_set states w (Waiting e v)) ls) (sym (changed_is (insert_waiter (waiter v w)) lines e l.0 l.1))
-    (lines_set states lines e w (Waiting e v) Running l.0 (insert_waiter (waiter v w) l.0) h at l.1 (λ f t. (refl, t)) (line_join e w v states l.0 at (h.each e l.0 l.1)))
+pub waited : (states : List WorkerState) (queues : List (List Waiter)) (e w v : ℕ) → AreWaitQueues states queues → slice_get states w ≡ Some Running → e < 32
+    → AreWaitQueues (slice_set states w (Waiting e v)) (map_at (insert_waiter (record { threshold = v; worker = w })) queues e)
+waited states queues e w v h at lt =
+    let l = line_at states queues e h lt in
+    subst (λ (ls : List (List Waiter)). AreWaitQueues (slice_set states w (Waiting e v)) ls) (sym (changed_is (insert_waiter (waiter v w)) queues e l.0 l.1))
+    (lines_set states queues e w (Waiting e v) Running l.0 (insert_waiter (waiter v w) l.0) h at l.1 (λ f t. (refl, t)) (line_join e w v states l.0 at (h.each e l.0 l.1)))
 
 -- there is room for one more
-pub has_room : (states : List WorkerState) (lines : List (List Waiter)) (e w : ℕ) (line : List Waiter) → AreWaitQueues states lines → slice_get states w ≡ Some Running → slice_get lines e ≡ Some line → length line < 16
-has_room states lines e w line h at here =
-    let few = (h.each e line here).few in
+pub has_room : (states : List WorkerState) (queues : List (List Waiter)) (e w : ℕ) (queue : List Waiter) → AreWaitQueues states queues → slice_get states w ≡ Some Running → slice_get queues e ≡ Some queue → length queue < 16
+has_room states queues e w queue h at here =
+    let few = (h.each e queue here).few in
     let less : number_on e states < length states = number_less e states w Running at refl in
     let workers = h.workers in omega arith
 
@@ -416,30 +417,30 @@ reached_first sum y x xs h =
 
 -- what holds after the first of a queue was released, or nobody was
 abbrev pub rest_of : Option Waiter → List Waiter → List Waiter
-rest_of o line = cond (is_some o) (drop 1 line) line
+rest_of o queue = cond (is_some o) (drop 1 queue) queue
 
-pub record IsLetGo (states : List WorkerState) (lines : List (List Waiter)) (e sum : ℕ) (x : Waiter) : Type 0 where
+pub record IsLetGo (states : List WorkerState) (queues : List (List Waiter)) (e sum : ℕ) (x : Waiter) : Type 0 where
   pub waits : slice_get states x.worker ≡ Some (Waiting e x.threshold)
   pub reached : x.threshold ≤ sum
-  pub keeps : AreWaitQueues (slice_set states x.worker Running) (map_at (drop 1) lines e)
+  pub keeps : AreWaitQueues (slice_set states x.worker Running) (map_at (drop 1) queues e)
 
-let_first_go : (states : List WorkerState) (lines : List (List Waiter)) (e sum : ℕ) (line : List Waiter) (x : Waiter) → AreWaitQueues states lines → slice_get lines e ≡ Some line → first_ready sum line ≡ Some x
-    → IsLetGo states lines e sum x
-let_first_go states lines e sum [] x h here first = cc
-let_first_go states lines e sum (y ∷ ys) x h here first =
+let_first_go : (states : List WorkerState) (queues : List (List Waiter)) (e sum : ℕ) (queue : List Waiter) (x : Waiter) → AreWaitQueues states queues → slice_get queues e ≡ Some queue → first_ready sum queue ≡ Some x
+    → IsLetGo states queues e sum x
+let_first_go states queues e sum [] x h here first = cc
+let_first_go states queues e sum (y ∷ ys) x h here first =
     (let k = reached_first sum y x ys first in
     let own = h.each e (y ∷ ys) here in
-    subst (λ (z : Waiter). IsLetGo states lines e sum z) k.0 (record {
+    subst (λ (z : Waiter). IsLetGo states queues e sum z) k.0 (record {
       waits = own.wait.0;
       reached = k.1;
-      keeps = subst (λ (ls : List (List Waiter)). AreWaitQueues (slice_set states y.worker Running) ls) (sym (changed_is (drop 1) lines e (y ∷ ys) here))
-          (lines_set states lines e y.worker Running (Waiting e y.threshold) (y ∷ ys) ys h own.wait.0 here (λ f t. (t, refl)) (line_pop e states y ys own));
+      keeps = subst (λ (ls : List (List Waiter)). AreWaitQueues (slice_set states y.worker Running) ls) (sym (changed_is (drop 1) queues e (y ∷ ys) here))
+          (lines_set states queues e y.worker Running (Waiting e y.threshold) (y ∷ ys) ys h own.wait.0 here (λ f t. (t, refl)) (line_pop e states y ys own));
     }))
 
-pub let_go : (states : List WorkerState) (lines : List (List Waiter)) (e sum : ℕ) (x : Waiter) → AreWaitQueues states lines → e < 32
-    → ((line : List Waiter) → slice_get lines e ≡ Some line → Some x ≡ first_ready sum line) → IsLetGo states lines e sum x
-let_go states lines e sum x h lt first =
-    let l = line_at states lines e h lt in let_first_go states lines e sum l.0 x h l.1 (sym (first l.0 l.1))
+pub let_go : (states : List WorkerState) (queues : List (List Waiter)) (e sum : ℕ) (x : Waiter) → AreWaitQueues states queues → e < 32
+    → ((queue : List Waiter) → slice_get queues e ≡ Some queue → Some x ≡ first_ready sum queue) → IsLetGo states queues e sum x
+let_go states queues e sum x h lt first =
+    let l = line_at states queues e h lt in let_first_go states queues e sum l.0 x h l.1 (sym (first l.0 l.1))
 
 reached_none : (sum : ℕ) (y : Waiter) → cond (nat_le y.threshold sum) (Some y) None ≡ None → sum < y.threshold
 reached_none sum y h =
@@ -448,7 +449,7 @@ reached_none sum y h =
       | false ↦ λ t k. leb-false y.threshold sum t
     ] refl h
 
-all_above : (sum : ℕ) (line : List Waiter) → AreInOrder line → first_ready sum line ≡ None → Each (λ x. sum < x.threshold) line
+all_above : (sum : ℕ) (queue : List Waiter) → AreInOrder queue → first_ready sum queue ≡ None → Each (λ x. sum < x.threshold) queue
 all_above sum [] h none = tt
 all_above sum (y ∷ ys) h none =
     (let first : sum < y.threshold = reached_none sum y none in
@@ -469,16 +470,16 @@ kept_none e sum (Waiting f v ∷ states) h =
     ] refl in
     ap (λ s. s ∷ map (state_at_total e sum) states) here ∙ ap (λ ss. Waiting f v ∷ ss) (kept_none e sum states (λ w u k. h (suc w) u k))
 
-none_first : (states : List WorkerState) (lines : List (List Waiter)) (e sum : ℕ) (line : List Waiter) → AreWaitQueues states lines → slice_get lines e ≡ Some line → first_ready sum line ≡ None
+none_first : (states : List WorkerState) (queues : List (List Waiter)) (e sum : ℕ) (queue : List Waiter) → AreWaitQueues states queues → slice_get queues e ≡ Some queue → first_ready sum queue ≡ None
     → map (state_at_total e sum) states ≡ states
-none_first states lines e sum line h here none =
-    let own = h.each e line here in
-    kept_none e sum states (λ w v k. each_at (λ x. sum < x.threshold) (waiter v w) line (all_above sum line own.order none) (own.all w v k))
+none_first states queues e sum queue h here none =
+    let own = h.each e queue here in
+    kept_none e sum states (λ w v k. each_at (λ x. sum < x.threshold) (waiter v w) queue (all_above sum queue own.order none) (own.all w v k))
 
-pub none_let_go : (states : List WorkerState) (lines : List (List Waiter)) (e sum : ℕ) → AreWaitQueues states lines → e < 32
-    → ((line : List Waiter) → slice_get lines e ≡ Some line → None ≡ first_ready sum line) → map (state_at_total e sum) states ≡ states
-none_let_go states lines e sum h lt none =
-    let l = line_at states lines e h lt in none_first states lines e sum l.0 h l.1 (sym (none l.0 l.1))
+pub none_let_go : (states : List WorkerState) (queues : List (List Waiter)) (e sum : ℕ) → AreWaitQueues states queues → e < 32
+    → ((queue : List Waiter) → slice_get queues e ≡ Some queue → None ≡ first_ready sum queue) → map (state_at_total e sum) states ≡ states
+none_let_go states queues e sum h lt none =
+    let l = line_at states queues e h lt in none_first states queues e sum l.0 h l.1 (sym (none l.0 l.1))
 
 pub kept_again : (e sum : ℕ) (states : List WorkerState) (w v : ℕ) → slice_get states w ≡ Some (Waiting e v) → v ≤ sum → map (state_at_total e sum) (slice_set states w Running) ≡ map (state_at_total e sum) states
 kept_again e sum [] w v h le = refl
@@ -500,10 +501,10 @@ same_set (y ∷ ys) zero x h = (let same : y ≡ x = cc in ap (λ z. z ∷ ys) (
 same_set (y ∷ ys) (suc i) x h = ap (λ zs. y ∷ zs) (same_set ys i x h)
 
 -- a queue that is written back unchanged
-pub lines_again : (states : List WorkerState) (lines : List (List Waiter)) (e : ℕ) → AreWaitQueues states lines → e < 32 → AreWaitQueues states (map_at (λ line. line) lines e)
-lines_again states lines e h lt =
-    let l = line_at states lines e h lt in
-    subst (λ (ls : List (List Waiter)). AreWaitQueues states ls) (sym (same_set lines e l.0 l.1) ∙ sym (changed_is (λ line. line) lines e l.0 l.1)) h
+pub lines_again : (states : List WorkerState) (queues : List (List Waiter)) (e : ℕ) → AreWaitQueues states queues → e < 32 → AreWaitQueues states (map_at (λ queue. queue) queues e)
+lines_again states queues e h lt =
+    let l = line_at states queues e h lt in
+    subst (λ (ls : List (List Waiter)). AreWaitQueues states ls) (sym (same_set queues e l.0 l.1) ∙ sym (changed_is (λ queue. queue) queues e l.0 l.1)) h
 
 -- nobody waits
 nobody : (e : ℕ) (states : List WorkerState) → ((w : ℕ) (s : WorkerState) → slice_get states w ≡ Some s → is_waiting s ≡ false) → IsWaitQueue e states []
@@ -518,13 +519,13 @@ opened_seat : (b : Bool) → is_waiting (cond b Running Gone) ≡ false
 opened_seat true = refl
 opened_seat false = refl
 
-pub opened : (n : ℕ) (states : List WorkerState) (lines : List (List Waiter)) → length states ≡ 16 → length lines ≡ 32
+pub opened : (n : ℕ) (states : List WorkerState) (queues : List (List Waiter)) → length states ≡ 16 → length queues ≡ 32
     → ((w : ℕ) → w < 16 → slice_get states w ≡ Some (cond (nat_lt w n) Running Gone))
-    → ((e : ℕ) (line : List Waiter) → slice_get lines e ≡ Some line → line ≡ []) → AreWaitQueues states lines
-opened n states lines ws es h k = record {
+    → ((e : ℕ) (queue : List Waiter) → slice_get queues e ≡ Some queue → queue ≡ []) → AreWaitQueues states queues
+opened n states queues ws es h k = record {
   workers = ws;
   events = es;
-  each = λ e line here. subst (λ (l : List Waiter). IsWaitQueue e states l) (sym (k e line here)) (nobody e states
+  each = λ e queue here. subst (λ (l : List Waiter). IsWaitQueue e states l) (sym (k e queue here)) (nobody e states
       (λ w s at. (let within : w < length states = slice_get_within states w s at in
       let is : s ≡ cond (nat_lt w n) Running Gone = (let there = h w (omega arith) in cc) in
       ap is_waiting is ∙ opened_seat (nat_lt w n))));
@@ -553,6 +554,6 @@ holds_one : (n : ℕ) → 0 < n → not (n == 0) ≡ true
 holds_one n h = grind (arith, nat_tests)
 
 -- somebody waits exactly if the queue isn't empty
-pub line_tells : (e : ℕ) (states : List WorkerState) (line : List Waiter) → IsWaitQueue e states line → not (length line == 0) ≡ list_any (waits_on e) states
+pub line_tells : (e : ℕ) (states : List WorkerState) (queue : List Waiter) → IsWaitQueue e states queue → not (length queue == 0) ≡ list_any (waits_on e) states
 line_tells e states [] is = sym (none_waits e states (λ w v at. is.all w v at))
-line_tells e states (x ∷ line) is = holds_one (length (x ∷ line)) (omega arith) ∙ sym (one_waits e states x.worker x.threshold is.wait.0)
+line_tells e states (x ∷ queue) is = holds_one (length (x ∷ queue)) (omega arith) ∙ sym (one_waits e states x.worker x.threshold is.wait.0)

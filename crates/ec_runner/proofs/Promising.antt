@@ -7,7 +7,7 @@ use Rattle.ec_runner.specs.declared.run_fault.RunFault.{RunFault}
 use Rattle.ec_runner.specs.declared.run_fault.RunFault.TheVariants as faults
 use Rattle.ec_runner.specs.declared.summary.Summary.{Summary}
 use Rattle.ec_runner.specs.Works.{IsSummaryOf}
-use Rattle.ec_runner.specs.WorkPromises.{Handle, IsFor, AreFor, IsJoinResult, AreAllJoined, lacks_one, AreJoinResults, IsOneMore, AreSummariesOf, IsWant}
+use Rattle.ec_runner.specs.WorkPromises.{Handle, IsFor, AreFor, IsJoinResult, AreAllJoined, some_not_started, AreJoinResults, IsOneMore, AreSummariesOf, IsThreadFault}
 
 for_more : (hs : List (Option Handle)) (programs : List (List Command)) (turns : ℕ) (h : Option Handle) (cs : List Command) → AreFor hs programs turns → IsFor h cs turns
     → AreFor (hs ++ h ∷ []) (programs ++ cs ∷ []) turns
@@ -30,19 +30,20 @@ kept_more (k ∷ hs) [] h t a i = absurd a
 kept_more (k ∷ hs) (p ∷ summaries) h t a i = (a.0, kept_more hs summaries h t a.1 i)
 
 -- threads that returned were started
-none_lacks : (hs : List (Option Handle)) (summaries : List Summary) → AreAllJoined hs summaries → lacks_one hs ≡ false
+none_lacks : (hs : List (Option Handle)) (summaries : List Summary) → AreAllJoined hs summaries → some_not_started hs ≡ false
 none_lacks [] summaries a = refl
 none_lacks (None ∷ hs) [] a = absurd a
 none_lacks (None ∷ hs) (t ∷ summaries) a = absurd a.0
 none_lacks (Some h ∷ hs) [] a = absurd a
 none_lacks (Some h ∷ hs) (t ∷ summaries) a = none_lacks hs summaries a.1
 
-lacks_more : (hs : List (Option Handle)) → lacks_one (hs ++ None ∷ []) ≡ true
+lacks_more : (hs : List (Option Handle)) → some_not_started (hs ++ None ∷ []) ≡ true
 lacks_more [] = refl
 lacks_more (None ∷ hs) = refl
 lacks_more (Some h ∷ hs) = lacks_more hs
 
-lacks_same : (hs : List (Option Handle)) (h : Handle) → lacks_one (hs ++ Some h ∷ []) ≡ lacks_one hs
+lacks_same : (hs : List (Option Handle)) (h : Handle)
+    → some_not_started (hs ++ Some h ∷ []) ≡ some_not_started hs
 lacks_same [] h = refl
 lacks_same (None ∷ hs) h = refl
 lacks_same (Some k ∷ hs) h = lacks_same hs h
@@ -82,7 +83,7 @@ told_of (h ∷ hs) (p ∷ programs) turns (t ∷ summaries) a k = (of_own h p tu
 
 -- the summaries that the threads of these programs returned, or why there are none
 pub all_told : (hs : List (Option Handle)) (programs : List (List Command)) (turns : ℕ) (r : Result (Vec Summary) RunFault) → AreFor hs programs turns → AreJoinResults hs r
-    → MatchResult r (λ v. AreSummariesOf programs turns v.items) IsWant
+    → MatchResult r (λ v. AreSummariesOf programs turns v.items) IsThreadFault
 all_told hs programs turns (Ok v) a j = told_of hs programs turns v.items a j
 all_told hs programs turns (Err faults.Spawn) a j = tt
 all_told hs programs turns (Err faults.Memory) a j = tt

@@ -19,7 +19,7 @@ use Rattle.ec_runner.specs.declared.summary.Summary.{Summary}
 use Rattle.ec_runner.specs.declared.summary.LastRequest.{LastRequest}
 use Rattle.ec_runner.specs.RunReports.{EndedAs, IsWorkerReport, IsReportOf, NamesDeclared}
 use Rattle.ec_runner.specs.Fits.{IsBorneOut, Fits, AllFit, IsMisfit, IsOf, IsVerdict}
-use Rattle.ec_runner.specs.WorkPromises.{AreSummariesOf, IsWant}
+use Rattle.ec_runner.specs.WorkPromises.{AreSummariesOf, IsThreadFault}
 use Rattle.ec_runner.specs.RunFaults.{IsRunFault}
 use Rattle.ec_runner.specs.Works.{IsAsked, EndsSo, IsSummaryOf}
 use Rattle.ec_runner.proofs.Promising.{told_at, told_many}
@@ -105,34 +105,34 @@ verdict_names t run summaries (Err (faults.Mismatch w)) many (inr misfit) = λ s
 verdict_names t run summaries (Err faults.Spawn) many v = tt
 verdict_names t run summaries (Err faults.Memory) many v = tt
 
-want_names : (t : Tables) (fault : RunFault) → IsWant fault → NamesDeclared t fault
-want_names t faults.Spawn is = tt
-want_names t faults.Memory is = tt
-want_names t (faults.Mismatch w) is = absurd is
+thread_fault_names : (t : Tables) (fault : RunFault) → IsThreadFault fault → NamesDeclared t fault
+thread_fault_names t faults.Spawn is = tt
+thread_fault_names t faults.Memory is = tt
+thread_fault_names t (faults.Mismatch w) is = absurd is
 
 -- what threads returned, and the verdict on it
 pub answer_few : (programs : List (List Command)) (turns : ℕ) (ran : Result (RunModel × Vec Summary) RunFault) → length programs ≤ 16
-    → MatchResult ran (λ r. AreSummariesOf programs turns r.1.items) IsWant → IfOk ran (λ r. length r.1.items ≤ 16)
+    → MatchResult ran (λ r. AreSummariesOf programs turns r.1.items) IsThreadFault → IfOk ran (λ r. length r.1.items ≤ 16)
 answer_few programs turns (Ok r) few summary = subst (λ (n : ℕ). n ≤ 16) (sym (told_many programs turns r.1.items summary)) few
 answer_few programs turns (Err fault) few summary = tt
 
 pub answer_each : (t : Tables) (programs : List (List Command)) (turns : ℕ) (ran : Result (RunModel × Vec Summary) RunFault) → length programs ≡ t.workers
-    → MatchResult ran (λ r. AreSummariesOf programs turns r.1.items) IsWant → IfOk ran (λ r. length r.1.items ≡ t.workers)
+    → MatchResult ran (λ r. AreSummariesOf programs turns r.1.items) IsThreadFault → IfOk ran (λ r. length r.1.items ≡ t.workers)
 answer_each t programs turns (Ok r) many summary = told_many programs turns r.1.items summary ∙ many
 answer_each t programs turns (Err fault) many summary = tt
 
 pub answer_report : (t : Tables) (programs : List (List Command)) (turns : ℕ) (ran : Result (RunModel × Vec Summary) RunFault) (result : Result Report RunFault) → length programs ≡ t.workers
-    → MatchResult ran (λ r. AreSummariesOf programs turns r.1.items) IsWant → MatchResult ran (λ r. IsVerdict result t r.0 r.1.items) (λ fault. result ≡ Err fault)
+    → MatchResult ran (λ r. AreSummariesOf programs turns r.1.items) IsThreadFault → MatchResult ran (λ r. IsVerdict result t r.0 r.1.items) (λ fault. result ≡ Err fault)
     → IfOk result (IsReportOf t programs turns)
 answer_report t programs turns (Ok r) result many summary v = verdict_report t programs turns r.0 r.1.items result many summary v
 answer_report t programs turns (Err fault) result many summary is = subst (λ (x : Result Report RunFault). IfOk x (IsReportOf t programs turns)) (sym is) tt
 
 pub answer_names : (t : Tables) (programs : List (List Command)) (turns : ℕ) (ran : Result (RunModel × Vec Summary) RunFault) (result : Result Report RunFault)
     → length programs ≡ t.workers
-    → MatchResult ran (λ r. AreSummariesOf programs turns r.1.items) IsWant
+    → MatchResult ran (λ r. AreSummariesOf programs turns r.1.items) IsThreadFault
     → MatchResult ran (λ r. IsVerdict result t r.0 r.1.items) (λ fault. result ≡ Err fault) → IfErr result (NamesDeclared t)
 answer_names t programs turns (Ok r) result many summary v = verdict_names t r.0 r.1.items result (told_many programs turns r.1.items summary ∙ many) v
-answer_names t programs turns (Err fault) result many summary is = subst (λ (x : Result Report RunFault). IfErr x (NamesDeclared t)) (sym is) (want_names t fault summary)
+answer_names t programs turns (Err fault) result many summary is = subst (λ (x : Result Report RunFault). IfErr x (NamesDeclared t)) (sym is) (thread_fault_names t fault summary)
 
 -- a mismatch is of what the threads returned, and the threads themselves return none
 verdict_fault : (t : Tables) (programs : List (List Command)) (turns : ℕ) (run : RunModel) (summaries : List Summary) (r : Result Report RunFault)
@@ -142,13 +142,13 @@ verdict_fault t programs turns run summaries (Err (faults.Mismatch w)) summary v
 verdict_fault t programs turns run summaries (Err faults.Spawn) summary v = tt
 verdict_fault t programs turns run summaries (Err faults.Memory) summary v = tt
 
-want_fault : (t : Tables) (programs : List (List Command)) (turns : ℕ) (fault : RunFault) → IsWant fault → IsRunFault t programs turns fault
+want_fault : (t : Tables) (programs : List (List Command)) (turns : ℕ) (fault : RunFault) → IsThreadFault fault → IsRunFault t programs turns fault
 want_fault t programs turns faults.Spawn is = tt
 want_fault t programs turns faults.Memory is = tt
 want_fault t programs turns (faults.Mismatch w) is = absurd is
 
 pub answer_fault : (t : Tables) (programs : List (List Command)) (turns : ℕ) (ran : Result (RunModel × Vec Summary) RunFault) (result : Result Report RunFault)
-    → MatchResult ran (λ r. AreSummariesOf programs turns r.1.items) IsWant
+    → MatchResult ran (λ r. AreSummariesOf programs turns r.1.items) IsThreadFault
     → MatchResult ran (λ r. IsVerdict result t r.0 r.1.items) (λ fault. result ≡ Err fault) → IfErr result (IsRunFault t programs turns)
 answer_fault t programs turns (Ok r) result summary v = verdict_fault t programs turns r.0 r.1.items result summary v
 answer_fault t programs turns (Err fault) result summary is =

@@ -13,16 +13,16 @@ use Rattle.ec_machine.specs.declared.machine.Machine.{Machine}
 use Rattle.ec_machine.specs.declared.outcome.Outcome.{Outcome}
 use Rattle.ec_machine.specs.declared.outcome.Outcome.TheVariants as outcomes
 use Rattle.ec_machine.specs.Follows.{program_at}
-use Rattle.ec_machine.specs.Outcomes.{is_running, is_set, outcome_after_refusal}
+use Rattle.ec_machine.specs.Outcomes.{is_running, is_external, outcome_after_refusal}
 use Rattle.ec_machine.specs.Runs.{next_act, outcome_of}
 use Rattle.ec_machine.specs.Standing.{StandsFor, machine_outcome, is_refused}
 use Rattle.ec_machine.specs.Steps.{own}
-use Rattle.ec_runner.specs.Machines.{IsMachineOf, IsRunOf, HasTurn, MayTakeTurn}
+use Rattle.ec_runner.specs.Machines.{IsMachineOf, IsMadeByTurns, HasTurn, MayTakeTurn}
 use Rattle.ec_runner.specs.Schedules.{Turn, entries_of, refusal_in_turns, ended_by, outcome_after}
 use Rattle.ec_machine.proofs.Going.{running_is}
 
-pub not_set : (o : Outcome) → is_running o ≡ true → is_set o ≡ false
-not_set o is = ap is_set (running_is o is)
+pub not_set : (o : Outcome) → is_running o ≡ true → is_external o ≡ false
+not_set o is = ap is_external (running_is o is)
 
 pub none_told : (o : Option Refusal) (outcome : Outcome) → ended_by o outcome ≡ outcomes.Running → o ≡ None
 none_told None outcome is = refl
@@ -35,14 +35,15 @@ either false o = refl
 pub own_mine : (w : ℕ) (x : Entry) (past : List Entry) → x.worker ≡ w → own w (x ∷ past) ≡ x ∷ own w past
 own_mine w x past is = ap (λ b. cond b (x ∷ own w past) (own w past)) (eq-eqb _ _ is)
 
-answer_then : (t : Tables) (turns : List Turn) (w : ℕ) (r : RunModel) (act : Act) → IsRunOf t turns r
+answer_then : (t : Tables) (turns : List Turn) (w : ℕ) (r : RunModel) (act : Act) → IsMadeByTurns t turns r
     → answer_of t (entries_of turns) w act ≡ answer_of r.setup (reverse r.entries) w act
 answer_then t turns w r act of =
     ap (λ s. answer_of s (entries_of turns) w act) (sym of.setup) ∙ ap (λ past. answer_of r.setup past w act) (sym of.entries)
 
 -- a turn that made an entry
 pub turn_made : (t : Tables) (programs : List (List Command)) (turns : List Turn) (w : ℕ) (old new : RunModel) (m n : Machine) (act : Act) (reply : Reply)
-    → IsRunOf t turns old → IsMachineOf programs turns w m → is_running (machine_outcome m) ≡ true
+    → IsMadeByTurns t turns old → IsMachineOf programs turns w m
+    → is_running (machine_outcome m) ≡ true
     → next_act (program_at programs w) (own w (entries_of turns)) ≡ Some act
     → answer_of old.setup (reverse old.entries) w act ≡ Ok reply
     → new ≡ record old { entries = old.entries ++ record { worker = w; act = act; reply = reply } ∷ [] }
@@ -74,7 +75,8 @@ told_now w r o = ap (λ b. cond b (Some r) o) (eq-eqb w w refl)
 
 -- a turn that was refused
 pub turn_refused : (t : Tables) (programs : List (List Command)) (turns : List Turn) (w : ℕ) (old new : RunModel) (m n : Machine) (act : Act) (r : Refusal)
-    → IsRunOf t turns old → IsMachineOf programs turns w m → is_running (machine_outcome m) ≡ true
+    → IsMadeByTurns t turns old → IsMachineOf programs turns w m
+    → is_running (machine_outcome m) ≡ true
     → next_act (program_at programs w) (own w (entries_of turns)) ≡ Some act
     → answer_of old.setup (reverse old.entries) w act ≡ Err r → new ≡ old
     → StandsFor (program_at programs w) n (own w (entries_of turns)) → machine_outcome n ≡ outcome_after_refusal (machine_outcome m) (outcomes.Refused r)
@@ -95,7 +97,8 @@ turn_refused t programs turns w old new m n act r of machine running due answer 
 
 -- a turn for whose step there was no memory
 pub turn_short : (t : Tables) (programs : List (List Command)) (turns : List Turn) (w : ℕ) (old : RunModel) (m : Machine) (act : Act)
-    → IsRunOf t turns old → IsMachineOf programs turns w m → is_running (machine_outcome m) ≡ true
+    → IsMadeByTurns t turns old → IsMachineOf programs turns w m
+    → is_running (machine_outcome m) ≡ true
     → next_act (program_at programs w) (own w (entries_of turns)) ≡ Some act
     → IsOk (answer_of old.setup (reverse old.entries) w act) → MayTakeTurn t programs turns w
 turn_short t programs turns w old m act of machine running due ok = record {

@@ -116,17 +116,17 @@ woken_by b d w s t was is same v =
           ∙ ap (λ (x : Bool). (sits && not s) && not (sits && not x)) is)
     ] refl
 
-was_stuck : (x y z : Bool) → (x && ((y && not true) && z)) ≡ false
-was_stuck false y z = refl
-was_stuck true false z = refl
-was_stuck true true z = refl
+was_deadlocked : (x y z : Bool) → (x && ((y && not true) && z)) ≡ false
+was_deadlocked false y z = refl
+was_deadlocked true false z = refl
+was_deadlocked true true z = refl
 
 -- nobody is woken on a board that was deadlocked
 pub none_slept : (b d : BoardModel) (w : ℕ) → b.deadlocked ≡ true → (v : ℕ)
     → is_woken b w d v ≡ false
 none_slept b d w was v =
     ap (λ (s : Bool). not (v == w) && ((is_waiting (worker_state b.states v) && not s) && not (is_asleep d v))) was
-    ∙ was_stuck (not (v == w)) (is_waiting (worker_state b.states v)) (not (is_asleep d v))
+    ∙ was_deadlocked (not (v == w)) (is_waiting (worker_state b.states v)) (not (is_asleep d v))
 
 sleeps_on : (x y : Bool) → (x && ((y && not false) && not (y && not false))) ≡ false
 sleeps_on false y = refl

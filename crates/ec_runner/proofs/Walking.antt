@@ -15,7 +15,7 @@ use Rattle.ec_core.proofs.shared.Answering.{allowed}
 use Rattle.ec_machine.specs.Steps.{own}
 use Rattle.ec_machine.proofs.shared.OwnSteps.{slice_here as get_at, own_append}
 use Rattle.ec_runner.specs.declared.summary.Summary.{Summary}
-use Rattle.ec_runner.specs.Walks.{AreWalked, AreLogsOf, IsUnfinished, IsUnlike}
+use Rattle.ec_runner.specs.LogComparison.{AreComparedSoFar, AreLogsOf, IsUnfinished, IsLogMismatch}
 
 pub append_none : (xs : List Entry) → xs ++ [] ≡ xs
 append_none [] = refl
@@ -61,9 +61,9 @@ not_same v w n =
       | false ↦ λ t. refl
     ] refl
 
-pub walks : (summaries : List Summary) (cursors : List ℕ) (done : List Entry) (x : Entry) (summary : Summary) → AreWalked summaries cursors done → x.worker < 16
+pub walks : (summaries : List Summary) (cursors : List ℕ) (done : List Entry) (x : Entry) (summary : Summary) → AreComparedSoFar summaries cursors done → x.worker < 16
     → slice_get summaries x.worker ≡ Some summary → slice_get summary.log.items (slice_index cursors x.worker) ≡ Some x
-    → AreWalked summaries (slice_set cursors x.worker (slice_index cursors x.worker + 1)) (done ++ x ∷ [])
+    → AreComparedSoFar summaries (slice_set cursors x.worker (slice_index cursors x.worker + 1)) (done ++ x ∷ [])
 walks summaries cursors done x summary h small is next =
     let at = slice_index cursors x.worker in
     let in_table : x.worker < length cursors = omega (arith, h.room) in
@@ -97,7 +97,7 @@ walks summaries cursors done x summary h small is next =
     }
 
 -- if each cursor is at the end of its log, the logs are those of the entries passed
-pub all_walked : (summaries : List Summary) (cursors : List ℕ) (done : List Entry) → AreWalked summaries cursors done
+pub all_walked : (summaries : List Summary) (cursors : List ℕ) (done : List Entry) → AreComparedSoFar summaries cursors done
     → ((w : ℕ) (summary : Summary) → slice_get summaries w ≡ Some summary → slice_index cursors w ≡ length summary.log.items)
     → AreLogsOf summaries done
 all_walked summaries cursors done h ends w summary is =
@@ -117,8 +117,8 @@ own_there w done rest x mine =
     ∙ get_at (own w done) (own w rest) x
 
 -- a log in which another entry comes next is not its worker's
-pub unlike : (summaries : List Summary) (cursors : List ℕ) (done rest : List Entry) (x : Entry) (summary : Summary) → AreWalked summaries cursors done
-    → slice_get summaries x.worker ≡ Some summary → slice_get summary.log.items (slice_index cursors x.worker) ≢ Some x → IsUnlike summaries (done ++ x ∷ rest) x.worker
+pub unlike : (summaries : List Summary) (cursors : List ℕ) (done rest : List Entry) (x : Entry) (summary : Summary) → AreComparedSoFar summaries cursors done
+    → slice_get summaries x.worker ≡ Some summary → slice_get summary.log.items (slice_index cursors x.worker) ≢ Some x → IsLogMismatch summaries (done ++ x ∷ rest) x.worker
 unlike summaries cursors done rest x summary h is not =
     let w = x.worker in
     let at = slice_index cursors w in
@@ -133,12 +133,12 @@ unlike summaries cursors done rest x summary h is not =
     }
 
 pub unlike_there : (summaries : List Summary) (h done rest others : List Entry) (x : Entry) → done ++ rest ≡ h → rest ≡ x ∷ others
-    → ((more : List Entry) → IsUnlike summaries (done ++ x ∷ more) x.worker)
-    → IsUnlike summaries h x.worker
-unlike_there summaries h done rest others x is first f = subst (λ (xs : List Entry). IsUnlike summaries xs x.worker) (ap (λ r. done ++ r) (sym first) ∙ is) (f others)
+    → ((more : List Entry) → IsLogMismatch summaries (done ++ x ∷ more) x.worker)
+    → IsLogMismatch summaries h x.worker
+unlike_there summaries h done rest others x is first f = subst (λ (xs : List Entry). IsLogMismatch summaries xs x.worker) (ap (λ r. done ++ r) (sym first) ∙ is) (f others)
 
 -- nor is one that goes on beyond its cursor
-pub unfinished : (summaries : List Summary) (cursors : List ℕ) (done : List Entry) (w : ℕ) → AreWalked summaries cursors done → IsUnfinished summaries cursors w → IsUnlike summaries done w
+pub unfinished : (summaries : List Summary) (cursors : List ℕ) (done : List Entry) (w : ℕ) → AreComparedSoFar summaries cursors done → IsUnfinished summaries cursors w → IsLogMismatch summaries done w
 unfinished summaries cursors done w h u =
     let at = slice_index cursors w in
     let log = u.summary.log.items in

@@ -6,14 +6,14 @@ use Rattle.ec_machine.specs.declared.command.Command.{Command}
 use Rattle.ec_machine.specs.declared.machine.Machine.{Machine}
 use Rattle.ec_machine.specs.declared.outcome.Outcome.{Outcome}
 use Rattle.ec_machine.specs.declared.outcome.Outcome.TheVariants as outcomes
-use Rattle.ec_machine.specs.Outcomes.{is_set, is_running, outcome_after_refusal}
+use Rattle.ec_machine.specs.Outcomes.{is_external, is_running, outcome_after_refusal}
 use Rattle.ec_machine.specs.Runs.{outcome_of}
 use Rattle.ec_machine.specs.Standing.{StandsFor, machine_outcome}
 use Rattle.ec_runner.specs.declared.summary.LastRequest.{LastRequest}
 use Rattle.ec_runner.specs.Works.{IsStop, Works, HasHad, IsAsked, EndsSo, is_out_of_turns}
 use Rattle.ec_machine.proofs.Going.{running_is as is_it}
 
-not_running : (o : Outcome) → is_set o ≡ true → is_running o ≡ false
+not_running : (o : Outcome) → is_external o ≡ true → is_running o ≡ false
 not_running outcomes.Running h = cc
 not_running outcomes.Finished h = cc
 not_running (outcomes.Refused r) h = refl
@@ -22,7 +22,7 @@ not_running outcomes.Stopped h = refl
 not_running outcomes.OutOfTurns h = refl
 not_running outcomes.Memory h = refl
 
-in_time : (o : Outcome) → is_set o ≡ false → is_out_of_turns o ≡ false
+in_time : (o : Outcome) → is_external o ≡ false → is_out_of_turns o ≡ false
 in_time outcomes.Running h = refl
 in_time outcomes.Finished h = refl
 in_time (outcomes.Refused r) h = cc
@@ -31,7 +31,7 @@ in_time outcomes.Stopped h = cc
 in_time outcomes.OutOfTurns h = cc
 in_time outcomes.Memory h = cc
 
-pub takes : (old o : Outcome) → is_running old ≡ true → is_set o ≡ true
+pub takes : (old o : Outcome) → is_running old ≡ true → is_external o ≡ true
     → outcome_after_refusal old o ≡ o
 takes outcomes.Running outcomes.Running r h = cc
 takes outcomes.Running outcomes.Finished r h = cc
@@ -47,8 +47,8 @@ takes outcomes.Stopped o r h = cc
 takes outcomes.OutOfTurns o r h = cc
 takes outcomes.Memory o r h = cc
 
-pub unset : (o : Outcome) → is_running o ≡ true → is_set o ≡ false
-unset o h = ap is_set (is_it o h)
+pub unset : (o : Outcome) → is_running o ≡ true → is_external o ≡ false
+unset o h = ap is_external (is_it o h)
 
 -- a program that is running did not run out of memory
 pub has_memory : (o : Outcome) → is_running o ≡ true → o ≢ outcomes.Memory
@@ -76,7 +76,7 @@ had_last m n log o stop running outcome =
     record { few = omega arith; each = λ r. cc }
 
 -- one more step
-pub goes_on : (cs : List Command) (n : Machine) (log more : List Entry) (x : Entry) → StandsFor cs n (x ∷ reverse log) → is_set (machine_outcome n) ≡ false
+pub goes_on : (cs : List Command) (n : Machine) (log more : List Entry) (x : Entry) → StandsFor cs n (x ∷ reverse log) → is_external (machine_outcome n) ≡ false
     → more ≡ log ++ x ∷ [] → Works cs n more
 goes_on cs n log more x represents free is =
     subst (λ (es : List Entry). Works cs n es) (sym is) (record {
@@ -86,8 +86,8 @@ goes_on cs n log more x represents free is =
       turns_left = in_time (machine_outcome n) free;
     })
 
-ends : (o : Outcome) (cs : List Command) (turns : ℕ) (log : List Entry) → (is_set o ≡ true → outcome_of cs (reverse log) ≡ outcomes.Running)
-    → (is_set o ≡ false → o ≡ outcome_of cs (reverse log)) → is_out_of_turns o ≡ false → (is_running o ≡ true → length log ≡ turns)
+ends : (o : Outcome) (cs : List Command) (turns : ℕ) (log : List Entry) → (is_external o ≡ true → outcome_of cs (reverse log) ≡ outcomes.Running)
+    → (is_external o ≡ false → o ≡ outcome_of cs (reverse log)) → is_out_of_turns o ≡ false → (is_running o ≡ true → length log ≡ turns)
     → EndsSo (outcome_after_refusal o outcomes.OutOfTurns) cs turns log
 ends outcomes.Running cs turns log stopped after left each = (sym (after refl), each refl)
 ends outcomes.Finished cs turns log stopped after left each = sym (after refl)

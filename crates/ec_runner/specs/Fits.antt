@@ -13,7 +13,7 @@ use Rattle.ec_runner.specs.declared.run_fault.RunFault.{RunFault}
 use Rattle.ec_runner.specs.declared.run_fault.RunFault.TheVariants as faults
 use Rattle.ec_runner.specs.declared.summary.LastRequest.{LastRequest}
 use Rattle.ec_runner.specs.declared.summary.Summary.{Summary}
-use Rattle.ec_runner.specs.RunReports.{IsCaught}
+use Rattle.ec_runner.specs.RunReports.{WaitsForever}
 
 -- w had made all its steps by a moment of the run
 pub record IsDoneBy (run : RunModel) (moment w : ℕ) : Type 0 where
@@ -38,7 +38,7 @@ IsAtEnd (Some a) run = a.moment ≡ length run.entries
 -- board, so at the end of the run
 abbrev pub IsBorneOut : Outcome → RunModel → ℕ → Option LastRequest → Type 0
 IsBorneOut (outcomes.Refused r) run w asked = WasRefusedSo run w r asked
-IsBorneOut outcomes.Stopped run w asked = IsAtEnd asked run × IsCaught run w
+IsBorneOut outcomes.Stopped run w asked = IsAtEnd asked run × WaitsForever run w
 IsBorneOut _ run w asked = Unit {0}
 
 -- the request was made at a moment of the run
@@ -49,7 +49,7 @@ IsWithin (Some a) run = a.moment ≤ length run.entries
 -- the run bears out why the program of w was cut off, but of a refusal only the moment is checked
 abbrev pub MayBeBorneOut : Outcome → RunModel → ℕ → Option LastRequest → Type 0
 MayBeBorneOut (outcomes.Refused r) run w asked = IsWithin asked run
-MayBeBorneOut outcomes.Stopped run w asked = IsAtEnd asked run × IsCaught run w
+MayBeBorneOut outcomes.Stopped run w asked = IsAtEnd asked run × WaitsForever run w
 MayBeBorneOut _ run w asked = Unit {0}
 
 -- the refusal of w is right, if it was at moment k

@@ -6,7 +6,7 @@ pub mod Holds
 pub mod WorkPromises
 pub mod BoardFaults
 pub mod RunReports
-pub mod Walks
+pub mod LogComparison
 pub mod Fits
 pub mod RunFaults
 pub mod Schedules

@@ -27,7 +27,7 @@ abbrev pub AreMachines : List (List Command) → List Turn → List Machine → 
 AreMachines programs turns machines = (w : ℕ) (m : Machine) → slice_get machines w ≡ Some m → IsMachineOf programs turns w m
 
 -- the run is the one that these turns made
-pub record IsRunOf (t : Tables) (turns : List Turn) (run : RunModel) : Type 0 where
+pub record IsMadeByTurns (t : Tables) (turns : List Turn) (run : RunModel) : Type 0 where
   pub setup : run.setup ≡ t
   pub entries : reverse run.entries ≡ entries_of turns
 
@@ -36,7 +36,7 @@ pub record HasTurn (t : Tables) (programs : List (List Command)) (turns : List T
   pub turn : Turn
   pub worker : turn.worker ≡ w
   pub right : IsTurn t programs turns turn
-  pub made : IsRunOf t (turn ∷ turns) run
+  pub made : IsMadeByTurns t (turn ∷ turns) run
   pub machine : IsMachineOf programs (turn ∷ turns) w m
 
 -- after these turns w is due a turn whose step is not refused
@@ -57,7 +57,7 @@ Takes played.Memory t programs turns w run m = MayTakeTurn t programs turns w
 -- those after them
 pub record IsPlayed (t : Tables) (programs : List (List Command)) (schedule : List ℕ) (turns : List Turn) (run : RunModel) (machines : List Machine) : Type 0 where
   pub plays : Plays t programs schedule turns
-  pub made : IsRunOf t turns run
+  pub made : IsMadeByTurns t turns run
   pub each : AreMachines programs turns machines
 
 -- w had one more turn, and each interpreter is that of its worker
@@ -65,7 +65,7 @@ pub record HasPlayed (t : Tables) (programs : List (List Command)) (turns : List
   pub turn : Turn
   pub worker : turn.worker ≡ w
   pub right : IsTurn t programs turns turn
-  pub made : IsRunOf t (turn ∷ turns) run
+  pub made : IsMadeByTurns t (turn ∷ turns) run
   pub each : AreMachines programs (turn ∷ turns) machines
 
 -- the result of the place of w after these turns
@@ -75,7 +75,7 @@ PlaysOne played.Ended t programs turns w run machines = outcome_after programs w
 PlaysOne played.Memory t programs turns w run machines = MayTakeTurn t programs turns w
 
 -- at a place of the schedule there was no memory for a step that is not refused
-pub record LacksMemory (t : Tables) (programs : List (List Command)) (schedule : List ℕ) : Type 0 where
+pub record RunsOutOfMemory (t : Tables) (programs : List (List Command)) (schedule : List ℕ) : Type 0 where
   pub place : ℕ
   pub w : ℕ
   pub turns : List Turn
@@ -87,10 +87,10 @@ pub record LacksMemory (t : Tables) (programs : List (List Command)) (schedule :
 abbrev pub PlaysAll : Result Unit SimFault → Tables → List (List Command) → List ℕ → RunModel → List Machine → Type 0
 PlaysAll (Ok done) t programs schedule run machines = (turns : List Turn) × IsPlayed t programs schedule turns run machines
 PlaysAll (Err (Ended place w)) t programs schedule run machines = EndsBeforePlace t programs schedule place w
-PlaysAll (Err Memory) t programs schedule run machines = LacksMemory t programs schedule
+PlaysAll (Err Memory) t programs schedule run machines = RunsOutOfMemory t programs schedule
 
 -- why there is no report of a schedule: it names a worker that has ended, or there was no memory
 -- for a step that is not refused or, once all places were played, for the report
 abbrev pub IsPlayFault : Tables → List (List Command) → List ℕ → SimFault → Type 0
 IsPlayFault t programs schedule (Ended place w) = EndsBeforePlace t programs schedule place w
-IsPlayFault t programs schedule Memory = LacksMemory t programs schedule ⊎ ((turns : List Turn) × Plays t programs schedule turns)
+IsPlayFault t programs schedule Memory = RunsOutOfMemory t programs schedule ⊎ ((turns : List Turn) × Plays t programs schedule turns)

@@ -21,7 +21,7 @@ use Rattle.ec_runner.specs.declared.run_fault.RunFault.TheVariants as faults
 use Rattle.ec_runner.specs.BoardModel.{past_of, await_fallen_short}
 
 -- the call of w that is pending at the end is an await that has just fallen short, and its threshold is above the total
-pub record IsCaught (run : RunModel) (w : ℕ) : Type 0 where
+pub record WaitsForever (run : RunModel) (w : ℕ) : Type 0 where
   pub wait : Wait
   pub short : await_fallen_short run.setup w (past_of run) ≡ Some wait
   pub above : total wait.event (past_of run) < wait.threshold
@@ -38,7 +38,7 @@ pub record WasRefused (run : RunModel) (w : ℕ) (cs : List Command) (log : List
 -- what else holds of a worker whose program had not ended after its log, given so many turns
 abbrev pub IsCutOff : Outcome → RunModel → ℕ → List Command → ℕ → List Entry → Type 0
 IsCutOff (outcomes.Refused r) run w cs turns log = WasRefused run w cs log r
-IsCutOff outcomes.Stopped run w cs turns log = IsCaught run w
+IsCutOff outcomes.Stopped run w cs turns log = WaitsForever run w
 IsCutOff outcomes.OutOfTurns run w cs turns log = length log ≡ turns
 IsCutOff outcomes.Memory run w cs turns log = Unit {0}
 IsCutOff _ run w cs turns log = ⊥

@@ -24,9 +24,9 @@ AreInOrder [] = Unit {0}
 AreInOrder (x ∷ xs) = Each (λ y. comes_before x y ≡ true) xs × AreInOrder xs
 
 -- the position of one more, and the queue with it
-abbrev pub place_in : Waiter → List Waiter → ℕ
-place_in y [] = 0
-place_in y (x ∷ xs) = if comes_before x y then suc (place_in y xs) else 0
+abbrev pub insertion_index : Waiter → List Waiter → ℕ
+insertion_index y [] = 0
+insertion_index y (x ∷ xs) = if comes_before x y then suc (insertion_index y xs) else 0
 
 abbrev pub insert_waiter : Waiter → List Waiter → List Waiter
 insert_waiter y [] = y ∷ []
@@ -34,7 +34,7 @@ insert_waiter y (x ∷ xs) = if comes_before x y then x ∷ insert_waiter y xs e
 
 -- the queue without a worker
 abbrev pub without : ℕ → List Waiter → List Waiter
-without w line = filter (λ x. not (x.worker == w)) line
+without w queue = filter (λ x. not (x.worker == w)) queue
 
 -- the first of the queue, if the total has reached its threshold
 abbrev pub first_ready : ℕ → List Waiter → Option Waiter
@@ -54,17 +54,17 @@ number_on e (s ∷ states) = (if waits_on e s then 1 else 0) + number_on e state
 
 -- a queue is that of e: its workers wait on e for their thresholds, every worker that waits on e is
 -- in it, and it is in order
-pub record IsWaitQueue (e : ℕ) (states : List WorkerState) (line : List Waiter) : Type 0 where
-  pub order : AreInOrder line
-  pub wait : Each (λ x. slice_get states x.worker ≡ Some (Waiting e x.threshold)) line
-  pub all : (w v : ℕ) → slice_get states w ≡ Some (Waiting e v) → IsAmong (record { threshold = v; worker = w }) line
-  pub few : length line ≤ number_on e states
+pub record IsWaitQueue (e : ℕ) (states : List WorkerState) (queue : List Waiter) : Type 0 where
+  pub order : AreInOrder queue
+  pub wait : Each (λ x. slice_get states x.worker ≡ Some (Waiting e x.threshold)) queue
+  pub all : (w v : ℕ) → slice_get states w ≡ Some (Waiting e v) → IsAmong (record { threshold = v; worker = w }) queue
+  pub few : length queue ≤ number_on e states
 
 -- the queues after a worker with this state is removed from its own, if it waits
 abbrev pub remove_waiter : WorkerState → ℕ → List (List Waiter) → List (List Waiter)
-remove_waiter Gone w lines = lines
-remove_waiter Running w lines = lines
-remove_waiter (Waiting e v) w lines = map_at (without w) lines e
+remove_waiter Gone w queues = queues
+remove_waiter Running w queues = queues
+remove_waiter (Waiting e v) w queues = map_at (without w) queues e
 
 -- one waiter on e, whose threshold the sum has reached, is released
 pub record LetsOneGo (e sum : ℕ) (old new : List WorkerState) : Type 0 where
@@ -75,8 +75,8 @@ pub record LetsOneGo (e sum : ℕ) (old new : List WorkerState) : Type 0 where
   pub states : new ≡ slice_set old worker Running
 
 -- each queue is that of its eventcount
-pub record AreWaitQueues (states : List WorkerState) (lines : List (List Waiter)) : Type 0 where
+pub record AreWaitQueues (states : List WorkerState) (queues : List (List Waiter)) : Type 0 where
   pub workers : length states ≡ 16
-  pub events : length lines ≡ 32
-  pub each : (e : ℕ) (line : List Waiter) → slice_get lines e ≡ Some line
-      → IsWaitQueue e states line
+  pub events : length queues ≡ 32
+  pub each : (e : ℕ) (queue : List Waiter) → slice_get queues e ≡ Some queue
+      → IsWaitQueue e states queue

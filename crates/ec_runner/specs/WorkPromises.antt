@@ -38,16 +38,16 @@ AreAllJoined (h ∷ hs) [] = ⊥
 AreAllJoined (h ∷ hs) (t ∷ summaries) = IsJoinResult h (Some t) × AreAllJoined hs summaries
 
 -- whether some thread was not started
-abbrev pub lacks_one : List (Option Handle) → Bool
-lacks_one [] = false
-lacks_one (None ∷ hs) = true
-lacks_one (Some h ∷ hs) = lacks_one hs
+abbrev pub some_not_started : List (Option Handle) → Bool
+some_not_started [] = false
+some_not_started (None ∷ hs) = true
+some_not_started (Some h ∷ hs) = some_not_started hs
 
 -- the result of the joins: Spawn exactly if a thread was not started, so Memory only if all were
 abbrev pub AreJoinResults : List (Option Handle) → Result (Vec Summary) RunFault → Type 0
 AreJoinResults hs (Ok summaries) = AreAllJoined hs summaries.items
-AreJoinResults hs (Err faults.Spawn) = lacks_one hs ≡ true
-AreJoinResults hs (Err faults.Memory) = lacks_one hs ≡ false
+AreJoinResults hs (Err faults.Spawn) = some_not_started hs ≡ true
+AreJoinResults hs (Err faults.Memory) = some_not_started hs ≡ false
 AreJoinResults hs (Err (faults.Mismatch w)) = ⊥
 
 -- one more summary, after the others; a thread that was not started is reported rather than out of
@@ -66,7 +66,7 @@ AreSummariesOf (cs ∷ programs) turns (t ∷ summaries) = IsSummaryOf cs turns 
     × AreSummariesOf programs turns summaries
 
 -- threads report no mismatch: only the comparison does
-abbrev pub IsWant : RunFault → Type 0
-IsWant faults.Spawn = Unit {0}
-IsWant faults.Memory = Unit {0}
-IsWant (faults.Mismatch w) = ⊥
+abbrev pub IsThreadFault : RunFault → Type 0
+IsThreadFault faults.Spawn = Unit {0}
+IsThreadFault faults.Memory = Unit {0}
+IsThreadFault (faults.Mismatch w) = ⊥

@@ -5,7 +5,7 @@ use Rattle.ec_machine.specs.declared.command.Command.{Command}
 use Rattle.ec_machine.specs.declared.machine.Machine.{Machine}
 use Rattle.ec_machine.specs.declared.outcome.Outcome.{Outcome}
 use Rattle.ec_machine.specs.declared.outcome.Outcome.TheVariants as outcomes
-use Rattle.ec_machine.specs.Outcomes.{is_set, is_running}
+use Rattle.ec_machine.specs.Outcomes.{is_external, is_running}
 use Rattle.ec_machine.specs.Runs.{IsRunOf, next_act, outcome_of}
 use Rattle.ec_machine.specs.Standing.{StandsFor, machine_outcome}
 use Rattle.ec_runner.specs.declared.summary.LastRequest.{LastRequest}
@@ -17,14 +17,15 @@ is_out_of_turns _ = false
 
 -- a step may end the program with this outcome
 pub record IsStop (outcome : Outcome) : Type 0 where
-  pub set : is_set outcome ≡ true
+  pub set : is_external outcome ≡ true
   pub turns_left : is_out_of_turns outcome ≡ false
 
 -- the interpreter represents the program cs after the steps of a log, and if a step ended it, it
 -- was running after them
 pub record Works (cs : List Command) (m : Machine) (log : List Entry) : Type 0 where
   pub represents : StandsFor cs m (reverse log)
-  pub stopped : is_set (machine_outcome m) ≡ true → outcome_of cs (reverse log) ≡ outcomes.Running
+  pub stopped : is_external (machine_outcome m) ≡ true
+      → outcome_of cs (reverse log) ≡ outcomes.Running
   pub turns_left : is_out_of_turns (machine_outcome m) ≡ false
 
 -- it has had so many turns: each made an entry, except one that ended it

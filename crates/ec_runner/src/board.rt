@@ -131,7 +131,7 @@ impl Board {
         let Some(wait) = self.wait_of(worker) else {
             return ParkOutcome::Ready;
         };
-        self.states.settle(worker, WorkerState::Running);
+        self.states.stop_waiting(worker, WorkerState::Running);
         self.states.wait(worker, wait.event, wait.threshold);
         self.deadlocked = self.states.are_deadlocked();
         if self.deadlocked {
@@ -151,7 +151,7 @@ impl Board {
         if !self.is_active(worker) {
             return;
         }
-        self.states.settle(worker, WorkerState::Gone);
+        self.states.stop_waiting(worker, WorkerState::Gone);
         self.deadlocked = self.deadlocked || self.states.are_deadlocked();
     }
 

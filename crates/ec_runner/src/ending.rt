@@ -3,7 +3,7 @@ ghost use Rattle.std.specs.Prelude.{◌≡◌, ◌↔◌, ◌<◌, ◌≤◌, �
 ghost use Rattle.ec_runner.specs.declared.summary.Summary.{Summary};
 ghost use Rattle.ec_runner.specs.Fits.{IsAtEnd, IsBorneOut, IsUnborne, IsWithin, MayBeBorneOut, asked_at, moment_of_summary};
 
-use crate::caught::is_caught;
+use crate::endless_wait::waits_forever;
 use crate::refused::first_wrong;
 use crate::summary::{LastRequest, Summary};
 use ec_core::Run;
@@ -36,7 +36,7 @@ fn may_be_borne_out(run: &Run, worker: WorkerId, summary: &Summary) -> bool
 {
     match summary.outcome {
         Outcome::Refused(_) => is_within(run, summary.asked),
-        Outcome::Stopped => is_at_end(run, summary.asked) && is_caught(run, worker),
+        Outcome::Stopped => is_at_end(run, summary.asked) && waits_forever(run, worker),
         _ => true,
     }
 }
@@ -81,7 +81,7 @@ pub(crate) fn nth_worker(number: usize) -> WorkerId
 
 /// Returns the first worker whose end the run does not bear out. Of refusals only the moments are
 /// checked.
-fn first_unlikely(run: &Run, summaries: &[Summary]) -> Option<WorkerId>
+fn first_implausible_end(run: &Run, summaries: &[Summary]) -> Option<WorkerId>
     requires { length summaries.now ≤ 16 }
     ensures { MatchOption result
         ((w : ℕ) (summary : Summary) → slice_get summaries.now w ≡ Some summary → MayBeBorneOut summary.outcome run.now w summary.asked)
@@ -103,7 +103,7 @@ pub(crate) fn first_not_borne_out(run: &Run, summaries: &[Summary]) -> Option<Wo
         ((w : ℕ) (summary : Summary) → slice_get summaries.now w ≡ Some summary → IsBorneOut summary.outcome run.now w summary.asked)
         (IsUnborne run.now summaries.now) }
 {
-    match first_unlikely(run, summaries) {
+    match first_implausible_end(run, summaries) {
         Some(worker) => Some(worker),
         None => first_wrong(run, summaries, last_moment(summaries).min(run.len())),
     }

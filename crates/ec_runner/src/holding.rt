@@ -31,7 +31,7 @@ pub(crate) struct SectionOutcome {
 }
 
 /// Returns, for each worker, whether it is to sleep.
-fn asleep(board: &Board) -> [bool; 16]
+fn sleeping_workers(board: &Board) -> [bool; 16]
     ensures long { length result ≡ 16 }
     ensures each { (v : ℕ) → v < 16 → slice_get result v ≡ Some (is_asleep board.now v) }
 {
@@ -55,7 +55,7 @@ fn is_woken(before: &[bool], board: &Board, worker: WorkerId, place: usize) -> b
 }
 
 /// Returns which other workers slept before and are not to sleep any more.
-fn woken(before: &[bool], board: &Board, worker: WorkerId) -> [bool; 16]
+fn workers_to_wake(before: &[bool], board: &Board, worker: WorkerId) -> [bool; 16]
     ensures { (b : BoardModel) → ((v : ℕ) → v < 16 → slice_get before.now v ≡ Some (is_asleep b v))
         → (v : ℕ) → v < 16 → slice_get result v ≡ Some (is_woken b worker board.now v) }
 {
@@ -67,7 +67,7 @@ fn woken(before: &[bool], board: &Board, worker: WorkerId) -> [bool; 16]
 }
 
 /// Returns which other workers wait.
-fn waiting(board: &Board, worker: WorkerId) -> [bool; 16]
+fn waiting_workers(board: &Board, worker: WorkerId) -> [bool; 16]
     ensures { (v : ℕ) → v < 16 → slice_get result v ≡ Some (not (v == worker) && is_waiting (worker_state board.now.states v)) }
 {
     let mut table = [false; 16];
@@ -122,7 +122,7 @@ fn wake_if_deadlocked(was_stuck: bool, board: &Board, worker: WorkerId) -> Optio
     if !board.is_deadlocked() {
         return None;
     }
-    Some(waiting(board, worker))
+    Some(waiting_workers(board, worker))
 }
 
 /// Makes an advance of an eventcount that somebody waits for, and returns whom it wakes. Its worker
@@ -134,9 +134,9 @@ fn advance(board: &mut Board, worker: WorkerId, act: Act, may_park: bool) -> Sec
     ensures kind { FitsAct result.next act }
     ensures woken { AreWoken result.woken board.old worker board.new }
 {
-    let before = asleep(board);
+    let before = sleeping_workers(board);
     let next = step(board, worker, act, may_park);
-    let woken = Some(woken(&before, board, worker));
+    let woken = Some(workers_to_wake(&before, board, worker));
     SectionOutcome { next, woken }
 }
 
@@ -167,7 +167,7 @@ pub(crate) fn leave(board: &mut Board, worker: WorkerId) -> [bool; 16]
         → board.new ≡ board.old }
     ensures woken { (v : ℕ) → v < 16 → slice_get result v ≡ Some (is_woken board.old worker board.new v) }
 {
-    let before = asleep(board);
+    let before = sleeping_workers(board);
     board.leave(worker);
-    woken(&before, board, worker)
+    workers_to_wake(&before, board, worker)
 }

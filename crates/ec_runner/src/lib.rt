@@ -2,11 +2,12 @@
 #![tactic(auto)]
 
 mod board;
-mod caught;
 mod ending;
+mod endless_wait;
 mod gate;
 mod holding;
 mod laws;
+mod log_comparison;
 mod logs;
 mod mismatch;
 mod playing;
@@ -18,7 +19,6 @@ mod summary;
 mod threads;
 mod wait;
 mod wait_queue;
-mod walk;
 mod work_promise;
 mod worker_state;
 mod worker_states;

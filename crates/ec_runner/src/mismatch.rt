@@ -3,8 +3,8 @@ ghost use Rattle.std.specs.Prelude.{◌≡◌, ◌↔◌, ◌≤◌, length, IsT
 ghost use Rattle.ec_runner.specs.Fits.{AllFit, IsMismatch};
 
 use crate::ending::{first_not_borne_out, nth_worker};
+use crate::log_comparison::first_log_mismatch;
 use crate::summary::Summary;
-use crate::walk::first_unlike;
 use ec_core::Run;
 use ec_count::{Setup, WorkerId};
 
@@ -24,7 +24,7 @@ pub(crate) fn find_mismatch(setup: &Setup, run: &Run, summaries: &[Summary]) -> 
     if !are_same(run.setup(), setup) {
         return Some(nth_worker(0));
     }
-    match first_unlike(run, summaries) {
+    match first_log_mismatch(run, summaries) {
         Some(worker) => Some(worker),
         None => first_not_borne_out(run, summaries),
     }

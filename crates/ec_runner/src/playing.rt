@@ -2,7 +2,7 @@
 ghost use Rattle.std.specs.Prelude.{◌≡◌, ◌<◌, ◌∷◌, [], List, length, reverse, true};
 ghost use Rattle.ec_count.specs.Tables.{Tables};
 ghost use Rattle.ec_machine.specs.declared.command.Command.{Command};
-ghost use Rattle.ec_runner.specs.Machines.{AreMachines, IsMachineOf, IsPlayed, IsRunOf, PlaysAll, PlaysOne, Takes};
+ghost use Rattle.ec_runner.specs.Machines.{AreMachines, IsMachineOf, IsPlayed, IsMadeByTurns, PlaysAll, PlaysOne, Takes};
 ghost use Rattle.std.specs.List.{All};
 ghost use Rattle.ec_runner.specs.Schedules.{Turn};
 
@@ -25,7 +25,7 @@ pub(crate) enum TurnOutcome {
 /// Makes the turn of a worker: the step that its program asks for next. A refusal ends the program.
 fn take_turn(run: &mut Run, machine: &mut Machine<'_>, worker: WorkerId) -> TurnOutcome
     ensures { (t : Tables) (programs : List (List Command)) (turns : List Turn)
-        → IsRunOf t turns run.old → IsMachineOf programs turns worker machine.old → Takes result t programs turns worker run.new machine.new }
+        → IsMadeByTurns t turns run.old → IsMachineOf programs turns worker machine.old → Takes result t programs turns worker run.new machine.new }
 {
     let Some(act) = machine.next() else {
         return TurnOutcome::Ended;
@@ -47,7 +47,7 @@ fn take_turn(run: &mut Run, machine: &mut Machine<'_>, worker: WorkerId) -> Turn
 fn play_place(run: &mut Run, machines: &mut [Machine<'_>], worker: WorkerId) -> TurnOutcome
     requires { worker < length machines.old }
     ensures { (t : Tables) (programs : List (List Command)) (turns : List Turn)
-        → IsRunOf t turns run.old → AreMachines programs turns machines.old → PlaysOne result t programs turns worker run.new machines.new }
+        → IsMadeByTurns t turns run.old → AreMachines programs turns machines.old → PlaysOne result t programs turns worker run.new machines.new }
 {
     let machine = &mut machines[worker.get()];
     take_turn(run, machine, worker)

@@ -4,7 +4,7 @@ ghost use Rattle.ec_core.specs.declared.act.Entry.{Entry};
 ghost use Rattle.ec_core.specs.Procedures.{IsReply};
 ghost use Rattle.ec_machine.specs.declared.command.Command.{Command};
 ghost use Rattle.ec_machine.specs.declared.outcome.Outcome.TheVariants.{Memory, OutOfTurns};
-ghost use Rattle.ec_machine.specs.Outcomes.{is_running, is_set, outcome_after_refusal};
+ghost use Rattle.ec_machine.specs.Outcomes.{is_running, is_external, outcome_after_refusal};
 ghost use Rattle.ec_machine.specs.Standing.{due_act, machine_outcome};
 ghost use Rattle.ec_runner.specs.declared.summary.LastRequest.{LastRequest};
 ghost use Rattle.ec_runner.specs.Holds.{FitsAct, IsTaken, is_sleep};
@@ -29,7 +29,7 @@ use std::thread::{PromisedHandle, Scope};
 /// gate, and how many steps a worker may ask for.
 pub(crate) struct SharedState<'a, G> {
     pub board: &'a Mutex<Board>,
-    pub sleeps: &'a [Condvar; 16],
+    pub condvars: &'a [Condvar; 16],
     pub gate: &'a G,
     pub turns: u64,
     pub alloc: Global,
@@ -60,18 +60,18 @@ fn lock_board<'b, R: Wait>(rt: &R, board: &'b Mutex<Board>) -> MutexGuard<'b, Bo
 }
 
 /// Wakes these workers.
-fn wake(sleeps: &[Condvar], woken: &[bool]) {
-    for (sleep, is_woken) in sleeps.iter().zip(woken) {
+fn wake(condvars: &[Condvar], woken: &[bool]) {
+    for (condvar, is_woken) in condvars.iter().zip(woken) {
         if *is_woken {
-            sleep.notify_one();
+            condvar.notify_one();
         }
     }
 }
 
 /// Wakes these workers, if any.
-fn wake_some(sleeps: &[Condvar], woken: &Option<[bool; 16]>) {
+fn wake_some(condvars: &[Condvar], woken: &Option<[bool; 16]>) {
     if let Some(woken) = woken {
-        wake(sleeps, woken);
+        wake(condvars, woken);
     }
 }
 
@@ -94,18 +94,18 @@ fn step_under_lock<R: Wait, G>(
     ensures kind { FitsAct result act }
     ensures last { is_sleep result ≡ true → length log.now + 1 < shared.entry.turns }
 {
-    let sleeps = shared.sleeps;
+    let condvars = shared.condvars;
     let may_park = has_turn_after_next(log, shared.turns);
     let mut guard = lock_board(rt, shared.board);
     let held = hold(&mut *guard, worker, act, may_park);
     match held.next {
         Next::Sleep(_) => {
-            let sleep = &sleeps[worker.get()];
-            let _guard = sleep.wait_while(rt, guard, |board| board.is_asleep(worker));
+            let condvar = &condvars[worker.get()];
+            let _guard = condvar.wait_while(rt, guard, |board| board.is_asleep(worker));
         }
         Next::GoOn(_) | Next::Leave(_, _) => {
             drop(guard);
-            wake_some(sleeps, &held.woken);
+            wake_some(condvars, &held.woken);
         }
     }
     held.next
@@ -113,11 +113,11 @@ fn step_under_lock<R: Wait, G>(
 
 /// Makes the worker leave the board, and wakes the others if they are deadlocked by that.
 fn leave_under_lock<R: Wait, G>(rt: &R, shared: SharedState<'_, G>, worker: WorkerId) {
-    let sleeps = shared.sleeps;
+    let condvars = shared.condvars;
     let mut guard = lock_board(rt, shared.board);
     let woken = leave(&mut *guard, worker);
     drop(guard);
-    wake(sleeps, &woken);
+    wake(condvars, &woken);
 }
 
 /// Returns whether a step is due.
@@ -144,7 +144,7 @@ fn take(machine: &mut Machine<'_>, log: &mut Vec<Entry>, worker: WorkerId, act: 
     requires due { due_act machine.old ≡ Some act.now }
     requires kind { IsReply act.now reply }
     ensures works { (cs : List Command) → Works cs machine.old log.old.items → Works cs machine.new log.new.items }
-    ensures unset { is_set (machine_outcome machine.new) ≡ false }
+    ensures unset { is_external (machine_outcome machine.new) ≡ false }
     ensures entry { log.new.items ≡ log.old.items ++ record { worker = worker; act = act.now; reply = reply } ∷ [] }
     ensures len { vec_len log.new ≡ vec_len log.old + 1 }
 {

@@ -1,6 +1,6 @@
 //! The waiters of one eventcount.
 ghost use Rattle.std.specs.Prelude.{◌≡◌, ◌==◌, ◌<◌, ◌≤◌, [], length, drop, is_some, if◌then◌else◌, Some, IfSome};
-ghost use Rattle.ec_runner.specs.WaitQueues.{comes_before, place_in, insert_waiter, without};
+ghost use Rattle.ec_runner.specs.WaitQueues.{comes_before, insertion_index, insert_waiter, without};
 ghost use Rattle.ec_runner.specs.WaitQueues.{first_ready};
 
 use arrayvec::ArrayVec;
@@ -67,16 +67,16 @@ impl WaitQueue {
     }
 
     /// Inserts a waiter at its position.
-    pub fn join(&mut self, waiter: Waiter)
+    pub fn insert(&mut self, waiter: Waiter)
         requires { length self.old < 16 }
         ensures { self.new ≡ insert_waiter waiter self.old }
     {
-        let place = place_in(self.waiters.as_slice(), &waiter);
+        let place = insertion_index(self.waiters.as_slice(), &waiter);
         self.waiters.insert(place, waiter);
     }
 
     /// Removes a worker.
-    pub fn drop_out(&mut self, worker: WorkerId)
+    pub fn remove(&mut self, worker: WorkerId)
         ensures { self.new ≡ without worker self.old }
     {
         self.waiters.retain(|waiter| waiter.worker != worker);
@@ -97,13 +97,13 @@ impl WaitQueue {
 }
 
 /// Returns the position at which a waiter is inserted: after those that come before it.
-fn place_in(line: &[Waiter], waiter: &Waiter) -> usize
-    requires { length line.now ≤ 16 }
-    ensures place { result ≡ place_in waiter.now line.now }
-    ensures within { result ≤ length line.now }
+fn insertion_index(queue: &[Waiter], waiter: &Waiter) -> usize
+    requires { length queue.now ≤ 16 }
+    ensures place { result ≡ insertion_index waiter.now queue.now }
+    ensures within { result ≤ length queue.now }
 {
-    match line {
-        [first, rest @ ..] if first.comes_before(waiter) => place_in(rest, waiter) + 1,
+    match queue {
+        [first, rest @ ..] if first.comes_before(waiter) => insertion_index(rest, waiter) + 1,
         _ => 0,
     }
 }

@@ -23,7 +23,7 @@ use std::marker::Model;
 #[derive(Drop)]
 pub(crate) struct WorkerStates {
     table: [WorkerState; 16],
-    lines: [WaitQueue; 32],
+    queues: [WaitQueue; 32],
 }
 
 impl Model for WorkerStates {
@@ -36,7 +36,7 @@ impl Model for WorkerStates {
 
     ghost view = { λ s. s.table };
 
-    ghost invariant = { λ s. AreWaitQueues s.table s.lines };
+    ghost invariant = { λ s. AreWaitQueues s.table s.queues };
 }
 
 impl WorkerStates {
@@ -47,8 +47,8 @@ impl WorkerStates {
         ensures long { length result ≡ 16 }
     {
         WorkerStates {
-            table: running(workers),
-            lines: std::array::from_fn(|_| WaitQueue::empty()),
+            table: initial_states(workers),
+            queues: std::array::from_fn(|_| WaitQueue::empty()),
         }
     }
 
@@ -63,19 +63,19 @@ impl WorkerStates {
     pub fn has_waiters(&self, event: EventId) -> bool
         ensures { result ≡ list_any (waits_on event) self.now }
     {
-        let line = &self.lines[event.get()];
-        !line.is_empty()
+        let queue = &self.queues[event.get()];
+        !queue.is_empty()
     }
 
     /// Gives a worker a state in which it doesn't wait, and removes it from the queue that it is
     /// in.
-    pub fn settle(&mut self, worker: WorkerId, state: WorkerState)
+    pub fn stop_waiting(&mut self, worker: WorkerId, state: WorkerState)
         requires { is_waiting state ≡ false }
         ensures states { self.new ≡ slice_set self.old worker state }
         ensures within { worker < length self.old }
     {
         let was = self.get(worker);
-        drop_out(&mut self.lines, was, worker);
+        remove_from_queue(&mut self.queues, was, worker);
         self.table[worker.get()] = state;
     }
 
@@ -84,7 +84,7 @@ impl WorkerStates {
         requires { slice_get self.old worker ≡ Some Running }
         ensures { self.new ≡ slice_set self.old worker (Waiting event threshold) }
     {
-        join(&mut self.lines, event, Waiter { threshold, worker });
+        insert_into_queue(&mut self.queues, event, Waiter { threshold, worker });
         self.table[worker.get()] = WorkerState::Waiting(event, threshold);
     }
 
@@ -94,7 +94,7 @@ impl WorkerStates {
         ensures yes { result ≡ true → LetsOneGo event total self.old self.new }
         ensures no { result ≡ false → (self.new ≡ self.old) × (map (state_at_total event total) self.old ≡ self.old) }
     {
-        match pop_ready(&mut self.lines, event, total) {
+        match pop_ready(&mut self.queues, event, total) {
             Some(waiter) => {
                 self.table[waiter.worker.get()] = WorkerState::Running;
                 true
@@ -117,7 +117,7 @@ impl WorkerStates {
         ensures states { self.new ≡ states_after_act act.now (past_of run.now) (slice_set self.old worker Running) }
         ensures within { worker < length self.old }
     {
-        self.settle(worker, WorkerState::Running);
+        self.stop_waiting(worker, WorkerState::Running);
         if let Act::Advance(event) = *act {
             if let Some(total) = run.world().total(event) {
                 self.release(event, total);
@@ -129,42 +129,42 @@ impl WorkerStates {
     pub fn are_deadlocked(&self) -> bool
         ensures { result ≡ is_deadlocked self.now }
     {
-        any_is_live(&self.table) && !any_is_running(&self.table)
+        any_is_active(&self.table) && !any_is_running(&self.table)
     }
 }
 
 /// Removes a worker with this state from the queue that it is in.
-fn drop_out(lines: &mut [WaitQueue; 32], state: WorkerState, worker: WorkerId)
-    ensures { lines.new ≡ remove_waiter state worker lines.old }
+fn remove_from_queue(queues: &mut [WaitQueue; 32], state: WorkerState, worker: WorkerId)
+    ensures { queues.new ≡ remove_waiter state worker queues.old }
 {
     if let WorkerState::Waiting(event, _) = state {
-        let line = &mut lines[event.get()];
-        line.drop_out(worker);
+        let queue = &mut queues[event.get()];
+        queue.remove(worker);
     }
 }
 
 /// Inserts a waiter into the queue of an eventcount.
-fn join(lines: &mut [WaitQueue; 32], event: EventId, waiter: Waiter)
-    requires { (line : List Waiter) → slice_get lines.old event ≡ Some line → length line < 16 }
-    ensures line { lines.new ≡ map_at (insert_waiter waiter) lines.old event }
+fn insert_into_queue(queues: &mut [WaitQueue; 32], event: EventId, waiter: Waiter)
+    requires { (queue : List Waiter) → slice_get queues.old event ≡ Some queue → length queue < 16 }
+    ensures queue { queues.new ≡ map_at (insert_waiter waiter) queues.old event }
     ensures event { event < 32 }
 {
-    let line = &mut lines[event.get()];
-    line.join(waiter);
+    let queue = &mut queues[event.get()];
+    queue.insert(waiter);
 }
 
 /// Removes and returns the first waiter on an eventcount, if the total has reached its threshold.
-fn pop_ready(lines: &mut [WaitQueue; 32], event: EventId, total: u64) -> Option<Waiter>
-    ensures first { (line : List Waiter) → slice_get lines.old event ≡ Some line → result ≡ first_ready total line }
-    ensures rest { lines.new ≡ map_at (λ line. if is_some result then drop 1 line else line) lines.old event }
+fn pop_ready(queues: &mut [WaitQueue; 32], event: EventId, total: u64) -> Option<Waiter>
+    ensures first { (queue : List Waiter) → slice_get queues.old event ≡ Some queue → result ≡ first_ready total queue }
+    ensures rest { queues.new ≡ map_at (λ queue. if is_some result then drop 1 queue else queue) queues.old event }
     ensures event { event < 32 }
 {
-    let line = &mut lines[event.get()];
-    line.pop_ready(total)
+    let queue = &mut queues[event.get()];
+    queue.pop_ready(total)
 }
 
 /// Makes states in which the first `workers` workers run, and the others are gone.
-fn running(workers: usize) -> [WorkerState; 16]
+fn initial_states(workers: usize) -> [WorkerState; 16]
     requires { workers ≤ 16 }
     ensures long { length result ≡ 16 }
     ensures each { (w : ℕ) → w < 16 → slice_get result w ≡ Some (if nat_lt w workers then Running else Gone) }
@@ -176,7 +176,7 @@ fn running(workers: usize) -> [WorkerState; 16]
     states
 }
 
-fn any_is_live(states: &[WorkerState]) -> bool
+fn any_is_active(states: &[WorkerState]) -> bool
     ensures { result ≡ list_any is_active states.now }
 {
     states.iter().any(|state| state.is_active())

@@ -2,7 +2,7 @@
 ghost use Rattle.std.specs.Prelude.{◌≡◌, ℕ, ◌≤◌, map, length, Err, IfOk, IfErr, MatchResult};
 ghost use Rattle.ec_runner.specs.Fits.{AllFit, IsVerdict};
 ghost use Rattle.ec_runner.specs.WorkPromises.{IsJoinResult, IsOneMore, AreJoinResults};
-ghost use Rattle.ec_runner.specs.WorkPromises.{AreSummariesOf, IsWant};
+ghost use Rattle.ec_runner.specs.WorkPromises.{AreSummariesOf, IsThreadFault};
 ghost use Rattle.ec_runner.specs.RunReports.{IsReportOf, NamesDeclared};
 ghost use Rattle.ec_runner.specs.RunFaults.{IsRunFault};
 
@@ -24,7 +24,11 @@ use std::thread;
 use std::thread::{PromisedHandle, Scope, Threads};
 
 /// Returns the report of a run and its workers' summaries.
-fn made_report(alloc: Global, run: Run, summaries: Vec<Summary>) -> Result<Report, AllocError>
+fn report_of_summaries(
+    alloc: Global,
+    run: Run,
+    summaries: Vec<Summary>,
+) -> Result<Report, AllocError>
     ensures run { IfOk result (λ r. r.run ≡ run) }
     ensures logs { IfOk result (λ r. r.logs.items ≡ map (λ t. t.log) summaries.items) }
     ensures outcomes { IfOk result (λ r. r.outcomes.items ≡ map (λ t. t.outcome) summaries.items) }
@@ -68,7 +72,7 @@ fn join_worker<R: Threads>(
     ensures { IsJoinResult handle.entry result }
 {
     match handle {
-        Some(handle) => Some(handle.join(rt)),
+        Some(handle) => Some(handle.insert(rt)),
         None => None,
     }
 }
@@ -94,21 +98,21 @@ fn start_and_join<'s, E: 's, R: Threads + Wait + Sync, G: Gate + Sync>(
     rt: &'s R,
     scope: &Scope<'s, E>,
     board: &'s Mutex<Board>,
-    sleeps: &'s [Condvar; 16],
+    condvars: &'s [Condvar; 16],
     programs: &'s [Program],
     gate: &'s G,
     turns: u64,
     alloc: Global,
 ) -> Result<Vec<Summary>, RunFault>
     requires { length programs.now ≤ 16 }
-    ensures { MatchResult result (λ v. AreSummariesOf programs.now turns v.items) IsWant }
+    ensures { MatchResult result (λ v. AreSummariesOf programs.now turns v.items) IsThreadFault }
 {
     let Ok(room) = Vec::with_capacity(alloc, programs.len()) else {
         return Err(RunFault::Memory);
     };
     let shared = SharedState {
         board,
-        sleeps,
+        condvars,
         gate,
         turns,
         alloc,
@@ -118,13 +122,13 @@ fn start_and_join<'s, E: 's, R: Threads + Wait + Sync, G: Gate + Sync>(
 }
 
 /// Returns a condition variable for each worker.
-fn sleeps() -> [Condvar; 16] {
+fn new_condvars() -> [Condvar; 16] {
     std::array::from_fn(|_| Condvar::new())
 }
 
 /// Runs each program in a thread of its own, all at once, on one board. Returns the board's run,
 /// once all threads have ended, and their summaries.
-fn ran<R: Threads + Wait + Sync, G: Gate + Sync>(
+fn run_threads<R: Threads + Wait + Sync, G: Gate + Sync>(
     rt: &R,
     alloc: Global,
     setup: &Setup,
@@ -133,23 +137,34 @@ fn ran<R: Threads + Wait + Sync, G: Gate + Sync>(
     turns: u64,
 ) -> Result<(Run, Vec<Summary>), RunFault>
     requires { length programs.now ≤ 16 }
-    ensures { MatchResult result (λ r. AreSummariesOf programs.now turns r.1.items) IsWant }
+    ensures { MatchResult result (λ r. AreSummariesOf programs.now turns r.1.items) IsThreadFault }
 {
     let Ok(board) = Board::open(alloc, setup.copy()) else {
         return Err(RunFault::Memory);
     };
     let board = Mutex::new(board);
-    let sleeps = sleeps();
+    let condvars = new_condvars();
     let lock = &board;
-    let beds = &sleeps;
+    let shared_condvars = &condvars;
     let summaries = thread::scope(
         thread::scope_env(),
         rt,
         |scope| -> Result<Vec<Summary>, RunFault>
             requires { length programs.now ≤ 16 }
             ensures { MatchResult result (λ v. AreSummariesOf programs.entry.now turns v.items)
-                IsWant }
-        { start_and_join(rt, scope, lock, beds, programs, gate, turns, alloc) },
+                IsThreadFault }
+        {
+            start_and_join(
+                rt,
+                scope,
+                lock,
+                shared_condvars,
+                programs,
+                gate,
+                turns,
+                alloc,
+            )
+        },
     )?;
     Ok((board.into_inner().into_run(), summaries))
 }
@@ -169,7 +184,7 @@ fn report_or_mismatch(
         Some(worker) => return Err(RunFault::Mismatch(worker)),
         None => {}
     }
-    match made_report(alloc, run, summaries) {
+    match report_of_summaries(alloc, run, summaries) {
         Ok(report) => Ok(report),
         Err(_) => Err(RunFault::Memory),
     }
@@ -204,7 +219,7 @@ fn run_on<R: Threads + Wait + Sync, G: Gate + Sync>(
     ensures fault { IfErr result (IsRunFault setup.now programs.now turns) }
 {
     setup.invariant();
-    let ended = ran(rt, alloc, setup, programs, gate, turns);
+    let ended = run_threads(rt, alloc, setup, programs, gate, turns);
     conclude(alloc, setup, ended)
 }
 

@@ -18,26 +18,26 @@ use Rattle.ec_script.specs.declared.object.Object.{Object}
 use Rattle.ec_script.specs.declared.object.Object.TheVariants.{Nothing, Worker}
 use Rattle.ec_script.specs.declared.block_item.BlockItem.{BlockItem}
 use Rattle.ec_script.specs.declared.block_item.BlockItem.TheVariants.{Begin, End}
-use Rattle.ec_script.specs.declared.script.Block.{Block as Open}
+use Rattle.ec_script.specs.declared.script.OpenBlock.{OpenBlock as Open}
 use Rattle.ec_script.specs.declared.stage.Stage.{Stage}
 use Rattle.ec_script.specs.declared.stage.Stage.TheVariants.{Reading}
 use Rattle.ec_script.specs.Forms.{Phrase, phrase_in}
 use Rattle.ec_script.specs.Objects.{object_for, object_in}
 use Rattle.ec_script.specs.Kinds.{or_nothing, is_named_again}
 use Rattle.ec_script.specs.BlockItems.{size_in, command_in}
-use Rattle.ec_script.specs.Verbs.{is_giving, is_outer}
+use Rattle.ec_script.specs.Verbs.{is_update, is_outer}
 use Rattle.ec_script.specs.DraftModel.{empty_draft, draft_with_item}
 use Rattle.ec_script.specs.ScriptModel.{ScriptModel, PlanModel}
-use Rattle.ec_script.specs.Reading.{view_of_block, context_of_script, after, after_verb, after_command, ordered_in, is_declaring, script_step, step}
+use Rattle.ec_script.specs.Reading.{view_of_block, context_of_script, after, after_verb, after_command, block_with_item, is_declaring, script_step, step}
 use Rattle.ec_script.specs.Outcome.{plan_in}
 use Rattle.ec_script.specs.Grammar.{Leads}
-use Rattle.ec_script.specs.Layout.{order_by, IsLineOfItem, Block, IsBlock, texts_of, orders_of, AreNested, commands_in, worker_line, block_lines, schedule_line, IsRow, concat_rows, workers_of}
+use Rattle.ec_script.specs.Layout.{item_by, IsLineOfItem, Block, IsBlock, texts_of, items_of, AreNested, commands_in, worker_line, block_lines, schedule_line, IsRow, concat_rows, workers_of}
 use Rattle.ec_script.specs.Phrased.{Worded}
 use Rattle.ec_script.proofs.PhraseWords.{made, worded}
-use Rattle.ec_script.proofs.Passing.{Passes, IsTaken, IsBehind, taken_back, read_back}
+use Rattle.ec_script.proofs.Passing.{Passes, IsAcceptedAs, IsNoDeclaration, taken_back, read_back}
 use Rattle.ec_script.proofs.Said.{IsCommand, Ordered, ordered_of, some_object, said, MayNest, step_may, nested_more, few_more, room_more}
 use Rattle.ec_script.proofs.Room.{below, end_deep as end_inner}
-use Rattle.ec_script.proofs.shared.Keeping.{with_order_adds as orders_more}
+use Rattle.ec_script.proofs.shared.Keeping.{with_item_adds as orders_more}
 
 abbrev pub state : HeadingModel → List ℕ → List (List BlockItem) → Option Open → List ℕ
     → ScriptModel
@@ -46,7 +46,7 @@ state h named ps b sc = record { heading = h; named = named; programs = ps; bloc
 -- the programs after these blocks
 abbrev pub set_all : List (List BlockItem) → List Block → List (List BlockItem)
 set_all ps [] = ps
-set_all ps (b ∷ bs) = set_all (slice_set ps b.worker (orders_of b.lines)) bs
+set_all ps (b ∷ bs) = set_all (slice_set ps b.worker (items_of b.lines)) bs
 
 abbrev pub planned : HeadingModel → List (List BlockItem) → List ℕ → PlanModel
 planned h ps sc = record { heading = h; programs = ps; schedule = sc }
@@ -70,9 +70,9 @@ pub record Opened (h : HeadingModel) (ws : List (List ℕ)) (named : List ℕ) (
   pub more : List (List ℕ)
   pub are : lines ≡ texts_of inside ++ codes "end" ∷ more
   pub each : AllByRecursion (λ (l : List ℕ × BlockItem). IsLineOfItem h b.worker l.0 l.1) inside
-  pub nested : AreNested b.draft.depth b.draft.is_empty (orders_of inside)
-  pub few : b.draft.commands + commands_in (orders_of inside) ≤ 4096
-  pub behind : Closed h ws named (slice_set ps b.worker (b.draft.orders ++ orders_of inside)) sc more p
+  pub nested : AreNested b.draft.depth b.draft.is_empty (items_of inside)
+  pub few : b.draft.commands + commands_in (items_of inside) ≤ 4096
+  pub behind : Closed h ws named (slice_set ps b.worker (b.draft.block_items ++ items_of inside)) sc more p
 
 abbrev pub Rests : HeadingModel → List (List ℕ) → List ℕ → List (List BlockItem) → Option Open → List ℕ → List (List ℕ) → PlanModel → Type 0
 Rests h ws named ps None sc lines p = Closed h ws named ps sc lines p
@@ -230,29 +230,29 @@ goes_before : (h : HeadingModel) (ws : List (List ℕ)) (p : PlanModel) (line : 
     → IsLineOfItem h b.worker line o → MayNest b.draft o
     → Opened h ws named ps (record { worker = b.worker; draft = draft_with_item b.draft o }) sc lines p → Opened h ws named ps b sc (line ∷ lines) p
 goes_before h ws p line lines named ps b sc o says may r =
-    let all : (draft_with_item b.draft o).orders ++ orders_of r.inside ≡ b.draft.orders ++ o ∷ orders_of r.inside =
-    ap (λ (os : List BlockItem). os ++ orders_of r.inside) (orders_more b.draft o) ∙ append_assoc b.draft.orders (o ∷ []) (orders_of r.inside) in
+    let all : (draft_with_item b.draft o).block_items ++ items_of r.inside ≡ b.draft.block_items ++ o ∷ items_of r.inside =
+    ap (λ (os : List BlockItem). os ++ items_of r.inside) (orders_more b.draft o) ∙ append_assoc b.draft.block_items (o ∷ []) (items_of r.inside) in
     record {
       inside = (line, o) ∷ r.inside;
       more = r.more;
       are = ap (λ (ls : List (List ℕ)). line ∷ ls) r.are;
       each = (says, r.each);
-      nested = nested_more b.draft o (orders_of r.inside) may r.nested;
-      few = few_more b.draft o (orders_of r.inside) r.few;
+      nested = nested_more b.draft o (items_of r.inside) may r.nested;
+      few = few_more b.draft o (items_of r.inside) r.few;
       behind = subst (λ (os : List BlockItem). Closed h ws named (slice_set ps b.worker os) sc r.more p) all r.behind;
     }
 
 -- an item that a line says comes next in the block
-order_goes : (h : HeadingModel) (ws : List (List ℕ)) (p : PlanModel) (line : List ℕ) (lines : List (List ℕ)) (named : List ℕ) (ps : List (List BlockItem)) (b : Open) (sc : List ℕ) (o : BlockItem) (s : ScriptModel)
-    → IsWithin named (Some b) sc → IsLineOfItem h b.worker line o → MayNest b.draft o → s ≡ ordered_in (state h named ps (Some b) sc) (Some b) o → Others h ws lines p s → Opened h ws named ps b sc (line ∷ lines) p
-order_goes h ws p line lines named ps b sc o s within says may is others =
+item_goes : (h : HeadingModel) (ws : List (List ℕ)) (p : PlanModel) (line : List ℕ) (lines : List (List ℕ)) (named : List ℕ) (ps : List (List BlockItem)) (b : Open) (sc : List ℕ) (o : BlockItem) (s : ScriptModel)
+    → IsWithin named (Some b) sc → IsLineOfItem h b.worker line o → MayNest b.draft o → s ≡ block_with_item (state h named ps (Some b) sc) (Some b) o → Others h ws lines p s → Opened h ws named ps b sc (line ∷ lines) p
+item_goes h ws p line lines named ps b sc o s within says may is others =
     goes_before h ws p line lines named ps b sc o says may
     (others named ps (Some (record { worker = b.worker; draft = draft_with_item b.draft o })) sc (within.0, room_more b.draft o may within.1, within.2)
     (and_left _ _ (ne_eqb (length named) 0 (λ e. (let some : 0 < length named = within.2 in omega (arith, e, some))))) is)
 
 -- the `end` of the block
 block_ends : (h : HeadingModel) (ws : List (List ℕ)) (p : PlanModel) (line : List ℕ) (lines : List (List ℕ)) (named : List ℕ) (ps : List (List BlockItem)) (b : Open) (sc : List ℕ)
-    → IsWithin named (Some b) sc → line ≡ codes "end" → b.draft.depth ≡ 0 → Closed h ws named (slice_set ps b.worker b.draft.orders) sc lines p → Opened h ws named ps b sc (line ∷ lines) p
+    → IsWithin named (Some b) sc → line ≡ codes "end" → b.draft.depth ≡ 0 → Closed h ws named (slice_set ps b.worker b.draft.block_items) sc lines p → Opened h ws named ps b sc (line ∷ lines) p
 block_ends h ws p line lines named ps b sc within is closed r = record {
   inside = [];
   more = lines;
@@ -260,26 +260,26 @@ block_ends h ws p line lines named ps b sc within is closed r = record {
   each = tt;
   nested = closed;
   few = omega (arith, within.1);
-  behind = subst (λ (os : List BlockItem). Closed h ws named (slice_set ps b.worker os) sc lines p) (sym (append-nil b.draft.orders)) r;
+  behind = subst (λ (os : List BlockItem). Closed h ws named (slice_set ps b.worker os) sc lines p) (sym (append-nil b.draft.block_items)) r;
 }
 
 command_goes : (h : HeadingModel) (ws : List (List ℕ)) (p : PlanModel) (line : List ℕ) (lines : List (List ℕ)) (named : List ℕ) (ps : List (List BlockItem)) (b : Open) (sc : List ℕ) (v : LineWord) (w : List ℕ) (us : List (List ℕ))
-    → IsCommand v → IsWithin named (Some b) sc → Form line v w us → PassesIn (state h named ps (Some b) sc) v w us → is_outer v ≡ false → ((o : Object) → order_by v o us ≡ command_in v (is_giving v) o us) → nat_le 4096 b.draft.commands ≡ false
-    → after (state h named ps (Some b) sc) (made v w us) ≡ after_command (state h named ps (Some b) sc) (command_in v (is_giving v) (or_nothing (object_for h v w us)) us)
+    → IsCommand v → IsWithin named (Some b) sc → Form line v w us → PassesIn (state h named ps (Some b) sc) v w us → is_outer v ≡ false → ((o : Object) → item_by v o us ≡ command_in v (is_update v) o us) → nat_le 4096 b.draft.commands ≡ false
+    → after (state h named ps (Some b) sc) (made v w us) ≡ after_command (state h named ps (Some b) sc) (command_in v (is_update v) (or_nothing (object_for h v w us)) us)
     → Others h ws lines p (after (state h named ps (Some b) sc) (made v w us)) → Opened h ws named ps b sc (line ∷ lines) p
 command_goes h ws p line lines named ps b sc v w us command within form passes inner by room leads others =
     let x = some_object (object_for h v w us) passes.found in
     let d : Ordered v x.0 us = ordered_of h v w us x.0 command x.1 in
-    let says : IsLineOfItem h b.worker line d.order = said (context_of_script (state h named ps (Some b) sc)) (view_of_block b) line v w us x.0 d.order form.0 form.1 inner refl x.1 passes (by x.0 ∙ d.is) in
-    order_goes h ws p line lines named ps b sc d.order (after (state h named ps (Some b) sc) (made v w us)) within says (step_may b.draft d.order d.step (below 4096 b.draft.commands room))
-    (leads ∙ ap (λ y. after_command (state h named ps (Some b) sc) (command_in v (is_giving v) (or_nothing y) us)) x.1 ∙ ap (after_command (state h named ps (Some b) sc)) d.is) others
+    let says : IsLineOfItem h b.worker line d.item = said (context_of_script (state h named ps (Some b) sc)) (view_of_block b) line v w us x.0 d.item form.0 form.1 inner refl x.1 passes (by x.0 ∙ d.is) in
+    item_goes h ws p line lines named ps b sc d.item (after (state h named ps (Some b) sc) (made v w us)) within says (step_may b.draft d.item d.step (below 4096 b.draft.commands room))
+    (leads ∙ ap (λ y. after_command (state h named ps (Some b) sc) (command_in v (is_update v) (or_nothing y) us)) x.1 ∙ ap (after_command (state h named ps (Some b) sc)) d.is) others
 
 repeat_goes : (h : HeadingModel) (ws : List (List ℕ)) (p : PlanModel) (line : List ℕ) (lines : List (List ℕ)) (named : List ℕ) (ps : List (List BlockItem)) (b : Open) (sc : List ℕ) (w : List ℕ) (us : List (List ℕ))
     → IsWithin named (Some b) sc → Form line verbs.Repeat w us → PassesIn (state h named ps (Some b) sc) verbs.Repeat w us
     → Others h ws lines p (after (state h named ps (Some b) sc) (made verbs.Repeat w us)) → Opened h ws named ps b sc (line ∷ lines) p
 repeat_goes h ws p line lines named ps b sc w us within form passes others =
     let says : IsLineOfItem h b.worker line (Begin (size_in us)) = said (context_of_script (state h named ps (Some b) sc)) (view_of_block b) line verbs.Repeat w us Nothing (Begin (size_in us)) form.0 form.1 refl refl refl passes refl in
-    order_goes h ws p line lines named ps b sc (Begin (size_in us)) (after (state h named ps (Some b) sc) (made verbs.Repeat w us)) within says (below 4 b.draft.depth passes.nested, below 4096 b.draft.commands passes.few) refl others
+    item_goes h ws p line lines named ps b sc (Begin (size_in us)) (after (state h named ps (Some b) sc) (made verbs.Repeat w us)) within says (below 4 b.draft.depth passes.nested, below 4096 b.draft.commands passes.few) refl others
 
 end_goes : (h : HeadingModel) (ws : List (List ℕ)) (p : PlanModel) (line : List ℕ) (lines : List (List ℕ)) (named : List ℕ) (ps : List (List BlockItem)) (b : Open) (sc : List ℕ) (w : List ℕ) (us : List (List ℕ))
     → IsWithin named (Some b) sc → Form line verbs.End w us → PassesIn (state h named ps (Some b) sc) verbs.End w us
@@ -287,17 +287,17 @@ end_goes : (h : HeadingModel) (ws : List (List ℕ)) (p : PlanModel) (line : Lis
 end_goes h ws p line lines named ps b sc w us within form passes others =
     let words : Worded (words_of line) (made verbs.End w us) = worded (words_of line) (made verbs.End w us) form.1 in
     let is : line ≡ codes "end" = line_of line (codes "end" ∷ us) words.are ∙ ap (λ (vs : List (List ℕ)). join_with_byte 32 (codes "end" ∷ vs)) (no_words us words.tail) in
-    let done : ScriptModel = state h named (slice_set ps b.worker b.draft.orders) None sc in
-    let inner : ScriptModel = ordered_in (state h named ps (Some b) sc) (Some b) End in
+    let done : ScriptModel = state h named (slice_set ps b.worker b.draft.block_items) None sc in
+    let inner : ScriptModel = block_with_item (state h named ps (Some b) sc) (Some b) End in
     let past : eqb (length named) 0 ≡ false = ne_eqb (length named) 0 (λ e. (let some : 0 < length named = within.2 in omega (arith, e, some))) in
     (elim (eqb b.draft.depth 0) as (λ t. eqb b.draft.depth 0 ≡ t → Opened h ws named ps b sc (line ∷ lines) p) [
       | true ↦ λ e.
           block_ends h ws p line lines named ps b sc within is (eqb-true _ _ e)
-          (others named (slice_set ps b.worker b.draft.orders) None sc within.0 (and_left _ _ past) (ap (λ t. cond t done inner) e))
+          (others named (slice_set ps b.worker b.draft.block_items) None sc within.0 (and_left _ _ past) (ap (λ t. cond t done inner) e))
       | false ↦ λ e.
           (let deep : 0 < b.draft.depth = omega (arith, eqb-false _ _ e) in
           let says : IsLineOfItem h b.worker line End = said (context_of_script (state h named ps (Some b) sc)) (view_of_block b) line verbs.End w us Nothing End form.0 form.1 refl refl refl passes refl in
-          order_goes h ws p line lines named ps b sc End (after (state h named ps (Some b) sc) (made verbs.End w us)) within says (deep, end_inner b.draft.depth b.draft.is_empty passes.nested deep) (ap (λ t. cond t done inner) e) others)
+          item_goes h ws p line lines named ps b sc End (after (state h named ps (Some b) sc) (made verbs.End w us)) within says (deep, end_inner b.draft.depth b.draft.is_empty passes.nested deep) (ap (λ t. cond t done inner) e) others)
     ]) refl
 
 inside : (h : HeadingModel) (ws : List (List ℕ)) (p : PlanModel) (line : List ℕ) (lines : List (List ℕ)) (named : List ℕ) (ps : List (List BlockItem)) (b : Open) (sc : List ℕ) (v : LineWord) (w : List ℕ) (us : List (List ℕ))
@@ -312,13 +312,14 @@ inside h ws p line lines named ps b sc v w us within form passes others = comman
 -- ALL LINES
 
 -- none is read as a declaration
-abbrev pub AreBehind : ScriptModel → List (List ℕ) → Type 0
-AreBehind s [] = Unit {0}
-AreBehind s (line ∷ lines) = IsBehind s line
+abbrev pub AreNoDeclarations : ScriptModel → List (List ℕ) → Type 0
+AreNoDeclarations s [] = Unit {0}
+AreNoDeclarations s (line ∷ lines) = IsNoDeclaration s line
 
-behind_all : (s : ScriptModel) (lines : List (List ℕ)) → is_declaring s ≡ false → AreBehind s lines
-behind_all s [] is = tt
-behind_all s (line ∷ lines) is = and_left _ _ is
+none_declares : (s : ScriptModel) (lines : List (List ℕ)) → is_declaring s ≡ false
+    → AreNoDeclarations s lines
+none_declares s [] is = tt
+none_declares s (line ∷ lines) is = and_left _ _ is
 
 no_more : (h : HeadingModel) (ws : List (List ℕ)) (p : PlanModel) (named : List ℕ) (ps : List (List BlockItem)) (b : Option Open) (sc : List ℕ) (t : Stage)
     → IsWithin named b sc → Reading (state h named ps b sc) ≡ t → plan_in t ≡ Some p → Rests h ws named ps b sc [] p
@@ -347,13 +348,13 @@ one_more h ws heads p line lines named ps None sc q within whole form passes oth
 one_more h ws heads p line lines named ps (Some b) sc q within whole form passes others = inside h ws p line lines named ps b sc q.verb q.object q.rest within (whole, form) passes others
 
 pub rests : (h : HeadingModel) (ws : List (List ℕ)) → Heads ws h → (p : PlanModel) (t : Stage) (lines : List (List ℕ)) (named : List ℕ) (ps : List (List BlockItem)) (b : Option Open) (sc : List ℕ)
-    → IsWithin named b sc → AreBehind (state h named ps b sc) lines → Leads (Reading (state h named ps b sc)) lines t → plan_in t ≡ Some p → Rests h ws named ps b sc lines p
+    → IsWithin named b sc → AreNoDeclarations (state h named ps b sc) lines → Leads (Reading (state h named ps b sc)) lines t → plan_in t ≡ Some p → Rests h ws named ps b sc lines p
 unfolding step
 rests h ws heads p t [] named ps b sc within behind leads plan = no_more h ws p named ps b sc t within leads plan
 rests h ws heads p t (line ∷ lines) named ps b sc within behind leads plan =
     let r = read_back (script_step (state h named ps b sc) line) leads.0 leads.1 in
-    let taken : IsTaken (state h named ps b sc) line r.0 = taken_back (state h named ps b sc) r.0 line behind r.1 in
+    let taken : IsAcceptedAs (state h named ps b sc) line r.0 = taken_back (state h named ps b sc) r.0 line behind r.1 in
     one_more h ws heads p line lines named ps b sc taken.phrase within taken.whole taken.form taken.passes
     (λ named' ps' b' sc' within' past is.
-    rests h ws heads p t lines named' ps' b' sc' within' (behind_all (state h named' ps' b' sc') lines past)
+    rests h ws heads p t lines named' ps' b' sc' within' (none_declares (state h named' ps' b' sc') lines past)
     (subst (λ (u : Stage). Leads u lines t) (r.2 ∙ ap Reading (sym taken.leads ∙ is)) leads.2) plan)

@@ -34,7 +34,7 @@ use Rattle.ec_script.specs.declared.block_item.BlockItem.TheVariants.{Do, Write,
 use Rattle.ec_script.specs.Confined.{UsesGroups}
 use Rattle.ec_script.specs.Grammar.{IsLine}
 use Rattle.ec_script.specs.Layout.{schedule_line}
-use Rattle.ec_script.specs.Spelling.{value_word, group_word, command_words, order_words, order_line, spelled_block, script_lines}
+use Rattle.ec_script.specs.Spelling.{value_word, group_word, command_words, item_words, item_line, spelled_block, script_lines}
 use Rattle.ec_script.specs.Given.{may_do, is_line_of, IsGiven, MayGive}
 use Rattle.ec_script.specs.ScriptTree.{ScriptTree, IsGivenBlock, IsScriptTree}
 use Rattle.ec_script.proofs.Owners.{owning}
@@ -162,26 +162,26 @@ command_clean h f n (layer.Up s) uses may line = (literal_clean (codes "v") refl
 command_clean h f n (layer.DownBoth r s t) uses may line = (literal_clean (codes "pboth") refl, (semaphore_clean h f s uses.1, (semaphore_clean h f t uses.2, tt)))
 command_clean h f n (layer.Repeat k block) uses may line = tt
 
-order_words_clean : (h : HeadingModel) → IsFound h → (n : ℕ) (order : BlockItem) → IsGiven h n order → AllByRecursion IsClean (order_words h order)
-order_words_clean h f n (Do c) given = command_clean h f n (out-Command c) given.0 given.1 given.2
-order_words_clean h f n (Write d vs) given = (literal_clean (codes "write") refl, (database_clean h f d given.0, values_clean vs given.4))
-order_words_clean h f n (Begin k) given = (literal_clean (codes "repeat") refl, (decimal_clean k (omega (arith, given.1)), tt))
-order_words_clean h f n End given = (literal_clean (codes "end") refl, tt)
+item_words_clean : (h : HeadingModel) → IsFound h → (n : ℕ) (item : BlockItem) → IsGiven h n item → AllByRecursion IsClean (item_words h item)
+item_words_clean h f n (Do c) given = command_clean h f n (out-Command c) given.0 given.1 given.2
+item_words_clean h f n (Write d vs) given = (literal_clean (codes "write") refl, (database_clean h f d given.0, values_clean vs given.4))
+item_words_clean h f n (Begin k) given = (literal_clean (codes "repeat") refl, (decimal_clean k (omega (arith, given.1)), tt))
+item_words_clean h f n End given = (literal_clean (codes "end") refl, tt)
 
-order_clean : (h : HeadingModel) → IsFound h → (n : ℕ) (order : BlockItem) → IsGiven h n order → IsClean (order_line h order)
-unfolding order_line
-order_clean h f n order given = clean_join (order_words h order) (order_words_clean h f n order given)
+item_clean : (h : HeadingModel) → IsFound h → (n : ℕ) (item : BlockItem) → IsGiven h n item → IsClean (item_line h item)
+unfolding item_line
+item_clean h f n item given = clean_join (item_words h item) (item_words_clean h f n item given)
 
-orders_clean : (h : HeadingModel) → IsFound h → (n : ℕ) (os : List BlockItem) → AllByRecursion (MayGive h n) os → AllByRecursion IsClean (map (order_line h) os)
-orders_clean h f n [] all = tt
-orders_clean h f n (x ∷ os) all = (order_clean h f n x all.0.0, orders_clean h f n os all.1)
+items_clean : (h : HeadingModel) → IsFound h → (n : ℕ) (os : List BlockItem) → AllByRecursion (MayGive h n) os → AllByRecursion IsClean (map (item_line h) os)
+items_clean h f n [] all = tt
+items_clean h f n (x ∷ os) all = (item_clean h f n x all.0.0, items_clean h f n os all.1)
 
 -- ALL LINES
 
 block_clean : (o : HeaderTree) → IsHeaderTree o → IsFound (heading_of_tree o) → (b : ℕ × List BlockItem) → IsGivenBlock (heading_of_tree o) b → AllByRecursion IsClean (spelled_block o b)
 block_clean o is f b given = (
   clean_join (codes "worker" ∷ list_words o.workers (b.0 ∷ [])) (literal_clean (codes "worker") refl, list_clean o.workers (b.0 ∷ []) (outline_workers o is)),
-  each_append IsClean (map (order_line (heading_of_tree o)) b.1) (codes "end" ∷ []) (orders_clean (heading_of_tree o) f b.0 b.1 given.each) (literal_clean (codes "end") refl, tt),
+  each_append IsClean (map (item_line (heading_of_tree o)) b.1) (codes "end" ∷ []) (items_clean (heading_of_tree o) f b.0 b.1 given.each) (literal_clean (codes "end") refl, tt),
 )
 
 blocks_clean : (o : HeaderTree) → IsHeaderTree o → IsFound (heading_of_tree o) → (blocks : List (ℕ × List BlockItem)) → AllByRecursion (IsGivenBlock (heading_of_tree o)) blocks → AllByRecursion IsClean (flat_map (spelled_block o) blocks)

@@ -33,8 +33,8 @@ use Rattle.ec_script.specs.Forms.{only_in}
 use Rattle.ec_script.specs.Objects.{group_place, group_in, semaphore_in, semaphore_pair, transfer_object, object_for, is_owned}
 use Rattle.ec_heading.specs.Groups.{buffer_of, database_of, semaphore_of, both_of}
 use Rattle.ec_script.specs.Kinds.{or_nothing, has_two_roles}
-use Rattle.ec_script.specs.BlockItems.{event_order, cell_order, buffer_order, database_order, semaphore_order, command_in, amount_in, size_in}
-use Rattle.ec_script.specs.Versioned.{has_command, HasOrder}
+use Rattle.ec_script.specs.BlockItems.{event_item, cell_item, buffer_item, database_item, semaphore_item, command_in, amount_in, size_in}
+use Rattle.ec_script.specs.Versioned.{has_command, HasItem}
 use Rattle.ec_script.specs.Confined.{UsesGroups, IsConfined, AreApart}
 use Rattle.ec_script.proofs.shared.WrittenOut.{by_layer}
 
@@ -163,42 +163,42 @@ object_fits h verbs.Schedule w ws apart has free roles = tt
 
 -- an item that the programs of a script may have
 abbrev pub IsProper : List Group → Version → BlockItem → Type 0
-IsProper gs v o = IsConfined gs o × HasOrder v o
+IsProper gs v o = IsConfined gs o × HasItem v o
 
 proper_of : (gs : List Group) (ver : Version) (d : Command-F Command) (c : Command) → roll-Command d ≡ c → UsesGroups gs d → has_command ver d ≡ true → IsProper gs ver (Do c)
 proper_of gs ver d c is uses has = (by_layer (UsesGroups gs) d c is uses, by_layer (λ x. has_command ver x ≡ true) d c is has)
 
-event_proper : (gs : List Group) (ver : Version) (v : LineWord) (e : ℕ) (x : amounts.Value) → is_owned gs (Event e) ≡ false → IsProper gs ver (event_order v e x)
+event_proper : (gs : List Group) (ver : Version) (v : LineWord) (e : ℕ) (x : amounts.Value) → is_owned gs (Event e) ≡ false → IsProper gs ver (event_item v e x)
 event_proper gs ver verbs.Advance e x free = proper_of gs ver (layer.Advance e) (commands.Advance e) (commands.rolls-Advance e) free refl
 event_proper gs ver verbs.Read e x free = proper_of gs ver (layer.Read e) (commands.Read e) (commands.rolls-Read e) free refl
 event_proper gs ver _ e x free = proper_of gs ver (layer.Await e x) (commands.Await e x) (commands.rolls-Await e x) free refl
 
-cell_proper : (gs : List Group) (ver : Version) (giving : Bool) (i : ℕ) (x : amounts.Value) → is_owned gs (Cell i) ≡ false → IsProper gs ver (cell_order giving i x)
+cell_proper : (gs : List Group) (ver : Version) (update : Bool) (i : ℕ) (x : amounts.Value) → is_owned gs (Cell i) ≡ false → IsProper gs ver (cell_item update i x)
 cell_proper gs ver true i x free = proper_of gs ver (layer.Put i x) (commands.Put i x) (commands.rolls-Put i x) free refl
 cell_proper gs ver false i x free = proper_of gs ver (layer.Get i) (commands.Get i) (commands.rolls-Get i) free refl
 
-buffer_proper : (gs : List Group) (ver : Version) (giving : Bool) (b : Buffer) (x : amounts.Value) → Contains gs (groups.Buffer b) → IsProper gs ver (buffer_order giving b x)
+buffer_proper : (gs : List Group) (ver : Version) (update : Bool) (b : Buffer) (x : amounts.Value) → Contains gs (groups.Buffer b) → IsProper gs ver (buffer_item update b x)
 buffer_proper gs ver true b x declared = proper_of gs ver (layer.Produce b x) (commands.Produce b x) (commands.rolls-Produce b x) declared refl
 buffer_proper gs ver false b x declared = proper_of gs ver (layer.Consume b) (commands.Consume b) (commands.rolls-Consume b) declared refl
 
-database_proper : (gs : List Group) (ver : Version) (v : LineWord) (d : Database) (ws : List (List ℕ)) → Contains gs (groups.Database d) → IfSome (database_order v d ws) (IsProper gs ver)
+database_proper : (gs : List Group) (ver : Version) (v : LineWord) (d : Database) (ws : List (List ℕ)) → Contains gs (groups.Database d) → IfSome (database_item v d ws) (IsProper gs ver)
 database_proper gs ver verbs.Write d ws declared = (declared, refl)
 database_proper gs ver verbs.Snapshot d ws declared = proper_of gs ver (layer.Snapshot d (size_in ws)) (commands.Snapshot d (size_in ws)) (commands.rolls-Snapshot d (size_in ws)) declared refl
 database_proper gs ver _ d ws declared = tt
 
-semaphore_proper : (gs : List Group) (ver : Version) (v : LineWord) (s : Semaphore) → Contains gs (groups.Semaphore s) → IsProper gs ver (semaphore_order v s)
+semaphore_proper : (gs : List Group) (ver : Version) (v : LineWord) (s : Semaphore) → Contains gs (groups.Semaphore s) → IsProper gs ver (semaphore_item v s)
 semaphore_proper gs ver verbs.Down s declared = proper_of gs ver (layer.Down s) (commands.Down s) (commands.rolls-Down s) declared refl
 semaphore_proper gs ver _ s declared = proper_of gs ver (layer.Up s) (commands.Up s) (commands.rolls-Up s) declared refl
 
 -- the command that is made with such an object
-pub command_proper : (gs : List Group) (ver : Version) (v : LineWord) (giving : Bool) (o : Object) (ws : List (List ℕ)) → IsFit gs ver o → IfSome (command_in v giving o ws) (IsProper gs ver)
-command_proper gs ver v giving (Event e) ws fit = event_proper gs ver v e (amount_in ws) fit
-command_proper gs ver v giving (Sequencer q) ws fit = proper_of gs ver (layer.Ticket q) (commands.Ticket q) (commands.rolls-Ticket q) fit refl
-command_proper gs ver v giving (Cell x) ws fit = cell_proper gs ver giving x (amount_in ws) fit
-command_proper gs ver v giving (Handed e b) ws fit = proper_of gs ver (layer.Hand e b) (commands.Hand e b) (commands.rolls-Hand e b) fit.0 fit.1
-command_proper gs ver v giving (OfBuffer b) ws fit = buffer_proper gs ver giving b (amount_in ws) fit
-command_proper gs ver v giving (OfDatabase d) ws fit = database_proper gs ver v d ws fit
-command_proper gs ver v giving (OfSemaphore s) ws fit = semaphore_proper gs ver v s fit
-command_proper gs ver v giving (SemaphorePair common one other) ws fit = proper_of gs ver (layer.DownBoth common one other) (commands.DownBoth common one other) (commands.rolls-DownBoth common one other) fit refl
-command_proper gs ver v giving Nothing ws fit = tt
-command_proper gs ver v giving (Worker w) ws fit = tt
+pub command_proper : (gs : List Group) (ver : Version) (v : LineWord) (update : Bool) (o : Object) (ws : List (List ℕ)) → IsFit gs ver o → IfSome (command_in v update o ws) (IsProper gs ver)
+command_proper gs ver v update (Event e) ws fit = event_proper gs ver v e (amount_in ws) fit
+command_proper gs ver v update (Sequencer q) ws fit = proper_of gs ver (layer.Ticket q) (commands.Ticket q) (commands.rolls-Ticket q) fit refl
+command_proper gs ver v update (Cell x) ws fit = cell_proper gs ver update x (amount_in ws) fit
+command_proper gs ver v update (Handed e b) ws fit = proper_of gs ver (layer.Hand e b) (commands.Hand e b) (commands.rolls-Hand e b) fit.0 fit.1
+command_proper gs ver v update (OfBuffer b) ws fit = buffer_proper gs ver update b (amount_in ws) fit
+command_proper gs ver v update (OfDatabase d) ws fit = database_proper gs ver v d ws fit
+command_proper gs ver v update (OfSemaphore s) ws fit = semaphore_proper gs ver v s fit
+command_proper gs ver v update (SemaphorePair common one other) ws fit = proper_of gs ver (layer.DownBoth common one other) (commands.DownBoth common one other) (commands.rolls-DownBoth common one other) fit refl
+command_proper gs ver v update Nothing ws fit = tt
+command_proper gs ver v update (Worker w) ws fit = tt

@@ -13,7 +13,7 @@ use Rattle.ec_count.specs.Members.{is_member, has_repeat}
 use Rattle.ec_text.specs.Words.{number_in_word}
 use Rattle.ec_text.proofs.shared.NumberLemmas.{number_again, number_takes}
 use Rattle.ec_heading.specs.Lists.{has_word_twice}
-use Rattle.ec_script.specs.declared.script.Block.{Block}
+use Rattle.ec_script.specs.declared.script.OpenBlock.{OpenBlock}
 use Rattle.ec_script.specs.declared.kinds.BlockContext.{BlockContext}
 use Rattle.ec_script.specs.Holding.{OccursTwice}
 use Rattle.ec_script.specs.Reading.{view_of_block}
@@ -117,7 +117,7 @@ decides_number p few w = (
 -- WHAT MAY BE MISSING
 
 -- a block is open, of which the test decides
-pub decides_block : (o : Option Block) (t : Option BlockContext → Bool) (T : Block → Type 0) → t None ≡ false → ((b : Block) → Decides (t (Some (view_of_block b))) (T b))
-    → Decides (t (option_map view_of_block o)) ((b : Block) × (o ≡ Some b) × T b)
+pub decides_block : (o : Option OpenBlock) (t : Option BlockContext → Bool) (T : OpenBlock → Type 0) → t None ≡ false → ((b : OpenBlock) → Decides (t (Some (view_of_block b))) (T b))
+    → Decides (t (option_map view_of_block o)) ((b : OpenBlock) × (o ≡ Some b) × T b)
 decides_block None t T none each = ((λ e. absurd (true≢false (sym e ∙ none))), λ h. (let k : None ≡ Some h.0 = h.1 in cc))
 decides_block (Some b) t T none each = ((λ e. (b, refl, (each b).0 e)), λ h. (each b).1 (subst T (sym (same_Some b h.0 h.1)) h.2))

@@ -22,7 +22,7 @@ use Rattle.ec_script.specs.Flat.{flat, flat_one, flat_step, all_of, is_plain, pl
 use Rattle.ec_script.specs.Inner.{begun, inner_command_count, IsPart, IsOpen, AreOpen, IsDraft}
 
 abbrev pub view_of : List OpenRepeat → List Command → ℕ → DraftModel
-view_of os cs n = record { orders = begun os ++ flat cs; depth = length os; is_empty = length cs == 0; commands = n }
+view_of os cs n = record { block_items = begun os ++ flat cs; depth = length os; is_empty = length cs == 0; commands = n }
 
 -- REPEATS
 
@@ -132,7 +132,7 @@ pub added_is : (os : List OpenRepeat) (cs new : List Command) (n : ℕ) (c : Com
 added_is os cs new n c o is line =
     let f : begun os ++ flat new ≡ (begun os ++ flat cs) ++ o ∷ [] =
     ap (λ xs. begun os ++ flat xs) is ∙ ap (λ xs. begun os ++ xs) (flat_push cs c ∙ ap (λ xs. flat cs ++ xs) line.flat) ∙ sym (append_assoc (begun os) (flat cs) (o ∷ [])) in
-    ap₂ (λ xs b. record { orders = xs; depth = length os; is_empty = b; commands = n + 1 }) f (ap (λ xs. length xs == 0) is ∙ none_long cs c)
+    ap₂ (λ xs b. record { block_items = xs; depth = length os; is_empty = b; commands = n + 1 }) f (ap (λ xs. length xs == 0) is ∙ none_long cs c)
 
 pub added_fits : (os : List OpenRepeat) (cs new : List Command) (n : ℕ) (c : Command) (o : BlockItem) → new ≡ cs ++ c ∷ [] → IsLine c o → is_sound_one c ≡ true → n < 4096 → IsDraft os cs n → IsDraft os new (n + 1)
 added_fits os cs new n c o is line sound room d =
@@ -152,7 +152,7 @@ opened_is os news cs n o is before =
     let f : begun news ++ flat [] ≡ (begun os ++ flat cs) ++ Begin o.times ∷ [] =
     ap (λ xs. begun news ++ xs) flat_nil ∙ append-nil (begun news) ∙ ap begun is ∙ begun_push os o ∙ ap (λ xs. begun os ++ (flat xs ++ Begin o.times ∷ [])) before ∙ sym (append_assoc (begun os) (flat cs) (Begin o.times ∷ [])) in
     let m : length news ≡ length os + 1 = omega (arith, ap length is, length-append os (o ∷ [])) in
-    ap₂ (λ xs k. record { orders = xs; depth = k; is_empty = true; commands = n + 1 }) f m
+    ap₂ (λ xs k. record { block_items = xs; depth = k; is_empty = true; commands = n + 1 }) f m
 
 pub opened_fits : (os news : List OpenRepeat) (cs : List Command) (n : ℕ) (o : OpenRepeat) → news ≡ os ++ o ∷ [] → o.before.items ≡ cs → 0 < o.times → o.times ≤ 1000000 → length os < 4 → n < 4096 → IsDraft os cs n → IsDraft news [] (n + 1)
 opened_fits os news cs n o is before some few deep room d =
@@ -181,8 +181,8 @@ closed_is os olds cs before new n o b was first block is =
     let g : (begun os ++ (flat before ++ Begin o.times ∷ [])) ≡ begun olds =
     ap (λ ds. begun os ++ (flat ds ++ Begin o.times ∷ [])) (sym first) ∙ sym (begun_push os o) ∙ ap begun (sym was) in
     let m : length os ≡ length olds - 1 = omega (arith, ap length was, length-append os (o ∷ [])) in
-    ap (λ xs. record { orders = xs; depth = length os; is_empty = length new == 0; commands = n }) (f ∙ ap (λ xs. (xs ++ flat cs) ++ End ∷ []) g)
-    ∙ ap₂ (λ k e. record { orders = (begun olds ++ flat cs) ++ End ∷ []; depth = k; is_empty = e; commands = n }) m (ap (λ xs. length xs == 0) is ∙ none_long before (Repeat o.times b))
+    ap (λ xs. record { block_items = xs; depth = length os; is_empty = length new == 0; commands = n }) (f ∙ ap (λ xs. (xs ++ flat cs) ++ End ∷ []) g)
+    ∙ ap₂ (λ k e. record { block_items = (begun olds ++ flat cs) ++ End ∷ []; depth = k; is_empty = e; commands = n }) m (ap (λ xs. length xs == 0) is ∙ none_long before (Repeat o.times b))
 
 le_true : (m n : ℕ) → m ≤ n → nat_le m n ≡ true
 le_true m n h = search rules
@@ -213,11 +213,11 @@ closed_fits os olds cs before new n o b was first block is some d =
       few = d.few;
     }
 
-start_is : view_of [] [] 0 ≡ record { orders = []; depth = 0; is_empty = true; commands = 0 }
+start_is : view_of [] [] 0 ≡ record { block_items = []; depth = 0; is_empty = true; commands = 0 }
 unfolding begun all_of
 start_is = refl
 
-pub empty_is : (os : List OpenRepeat) (cs : List Command) → os ≡ [] → cs ≡ [] → view_of os cs 0 ≡ record { orders = []; depth = 0; is_empty = true; commands = 0 }
+pub empty_is : (os : List OpenRepeat) (cs : List Command) → os ≡ [] → cs ≡ [] → view_of os cs 0 ≡ record { block_items = []; depth = 0; is_empty = true; commands = 0 }
 empty_is os cs e f = ap₂ (λ os cs. view_of os cs 0) e f ∙ start_is
 
 pub half_fits : (os olds : List OpenRepeat) (cs new : List Command) (n : ℕ) (o : OpenRepeat) → olds ≡ os ++ o ∷ [] → new ≡ o.before.items → IsDraft olds cs n → IsDraft os new n
@@ -241,10 +241,10 @@ unfolding begun
 no_begun [] is = refl
 no_begun (o ∷ os) is = absurd (omega arith)
 
-pub finished : (os : List OpenRepeat) (cs : List Command) (n : ℕ) (d : DraftModel) → view_of os cs n ≡ d → d.depth ≡ 0 → flat cs ≡ d.orders
+pub finished : (os : List OpenRepeat) (cs : List Command) (n : ℕ) (d : DraftModel) → view_of os cs n ≡ d → d.depth ≡ 0 → flat cs ≡ d.block_items
 finished os cs n d is none =
     let l : length os ≡ 0 = ap (λ (e : DraftModel). e.depth) is ∙ none in
-    ap (λ xs. xs ++ flat cs) (sym (no_begun os l)) ∙ ap (λ (e : DraftModel). e.orders) is
+    ap (λ xs. xs ++ flat cs) (sym (no_begun os l)) ∙ ap (λ (e : DraftModel). e.block_items) is
 
 none_flat : (n : ℕ) → map flat (replicate n []) ≡ replicate n []
 unfolding all_of

@@ -29,7 +29,7 @@ use Rattle.ec_script.specs.declared.object.Object.{Object}
 use Rattle.ec_script.specs.declared.object.Object.TheVariants.{Event, Sequencer, Cell, Handed, OfBuffer, OfDatabase, OfSemaphore, SemaphorePair}
 use Rattle.ec_script.specs.declared.block_item.BlockItem.{BlockItem}
 use Rattle.ec_script.specs.declared.block_item.BlockItem.TheVariants.{Do, Write, Begin, End}
-use Rattle.ec_script.specs.Verbs.{has_verb, tail_of, is_giving, is_outer}
+use Rattle.ec_script.specs.Verbs.{has_verb, tail_of, is_update, is_outer}
 use Rattle.ec_script.specs.Forms.{more_in, last_plus, number_or_more, value_of, only_in, is_tail}
 use Rattle.ec_script.specs.Objects.{object_for, group_in, buffer_in, database_in, semaphore_in, semaphore_pair, transfer_object, is_owned}
 use Rattle.ec_heading.specs.Groups.{both_of}
@@ -37,7 +37,7 @@ use Rattle.ec_script.specs.Kinds.{is_no_value, is_bad_tail, has_two_roles, has_r
 use Rattle.ec_script.specs.BlockItems.{amount_of, amount_in, size_in}
 use Rattle.ec_script.specs.Versioned.{has_command}
 use Rattle.ec_script.specs.Confined.{UsesGroups, AreApart}
-use Rattle.ec_script.specs.Layout.{order_by, IsLineOfItem}
+use Rattle.ec_script.specs.Layout.{item_by, IsLineOfItem}
 use Rattle.ec_script.specs.Given.{may_do, is_line_of, IsGiven}
 use Rattle.ec_script.specs.Phrased.{Worded}
 use Rattle.ec_script.proofs.PhraseWords.{worded}
@@ -110,10 +110,10 @@ pub record IsRight (h : HeadingModel) (n : ℕ) (v : LineWord) (us : List (List 
   pub tail : IsTailOf v us o
   pub apart : is_owned h.groups o ≡ false
   pub differ : has_two_roles o ≡ false
-  pub right : has_right h.version h.setup n (is_giving v) o ≡ true
+  pub right : has_right h.version h.setup n (is_update v) o ≡ true
 
 abbrev Gives : HeadingModel → ℕ → LineWord → List (List ℕ) → Object → Type 0
-Gives h n v us o = IsRight h n v us o → (order : BlockItem) → order_by v o us ≡ Some order → IsGiven h n order
+Gives h n v us o = IsRight h n v us o → (item : BlockItem) → item_by v o us ≡ Some item → IsGiven h n item
 
 pub case_event : (P : Object → Type 0) (x : Option ℕ) (o : Object) → ((e : ℕ) → x ≡ Some e → P (Event e)) → option_map Event x ≡ Some o → P o
 case_event P None o f is = cc
@@ -149,9 +149,9 @@ case_three P _ _ _ o f is = cc
 
 -- COMMANDS
 
-given_by : (h : HeadingModel) (n : ℕ) (d : Command-F Command) (c : Command) (order : BlockItem) → roll-Command d ≡ c → Some (Do c) ≡ Some order → UsesGroups h.groups d → may_do h.version h.setup n d ≡ true → is_line_of d ≡ true → has_command h.version d ≡ true → IsGiven h n order
-given_by h n d c order rolls says uses may line has =
-    let same : Do c ≡ order = cc in
+given_by : (h : HeadingModel) (n : ℕ) (d : Command-F Command) (c : Command) (item : BlockItem) → roll-Command d ≡ c → Some (Do c) ≡ Some item → UsesGroups h.groups d → may_do h.version h.setup n d ≡ true → is_line_of d ≡ true → has_command h.version d ≡ true → IsGiven h n item
+given_by h n d c item rolls says uses may line has =
+    let same : Do c ≡ item = cc in
     let e : d ≡ out-Command c = sym (out-roll-Command d) ∙ ap out-Command rolls in
     subst (IsGiven h n) same (subst (λ x. UsesGroups h.groups x × (may_do h.version h.setup n x ≡ true) × (is_line_of x ≡ true) × (has_command h.version x ≡ true)) e (uses, may, line, has))
 
@@ -161,45 +161,45 @@ declared_buffer h w b is = found_group h w (groups.Buffer b) (buffer_back (group
 declared_database : (h : HeadingModel) (w : List ℕ) (d : Database) → database_in h w ≡ Some d → Contains h.groups (groups.Database d)
 declared_database h w d is = found_group h w (groups.Database d) (database_back (group_in h w) d is)
 
-write_given : (h : HeadingModel) (n : ℕ) (d : Database) (us : List (List ℕ)) (order : BlockItem) → Some (Write d (map amount_of us)) ≡ Some order → Contains h.groups (groups.Database d) → IsRight h n verbs.Write us (OfDatabase d) → IsGiven h n order
-write_given h n d us order says declared r =
-    let same : Write d (map amount_of us) ≡ order = cc in
+write_given : (h : HeadingModel) (n : ℕ) (d : Database) (us : List (List ℕ)) (item : BlockItem) → Some (Write d (map amount_of us)) ≡ Some item → Contains h.groups (groups.Database d) → IsRight h n verbs.Write us (OfDatabase d) → IsGiven h n item
+write_given h n d us item says declared r =
+    let same : Write d (map amount_of us) ≡ item = cc in
     let p = or_parts (list_any is_no_value us) (not (length us == d.cells)) r.tail.1 in
     let some : 1 ≤ length us = leb-true _ _ (and_parts _ _ r.tail.0).0 in
     subst (IsGiven h n) same (declared, r.right, omega (arith, some, length-map us amount_of), as_many us d.cells (not-false _ p.1), amounts_ranged us p.0)
 
 command_given : (h : HeadingModel) (n : ℕ) → AreApart h.groups → (v : LineWord) (w : List ℕ) (us : List (List ℕ)) (o : Object) → IsCommand v → object_for h v w us ≡ Some o → Gives h n v us o
-command_given h n apart verbs.Advance w us o command is = case_event (Gives h n verbs.Advance us) (event_in h.words w) o (λ e at r order says. given_by h n (layer.Advance e) (commands.Advance e) order (commands.rolls-Advance e) says r.apart r.right refl refl) is
-command_given h n apart verbs.Read w us o command is = case_event (Gives h n verbs.Read us) (event_in h.words w) o (λ e at r order says. given_by h n (layer.Read e) (commands.Read e) order (commands.rolls-Read e) says r.apart r.right refl refl) is
+command_given h n apart verbs.Advance w us o command is = case_event (Gives h n verbs.Advance us) (event_in h.words w) o (λ e at r item says. given_by h n (layer.Advance e) (commands.Advance e) item (commands.rolls-Advance e) says r.apart r.right refl refl) is
+command_given h n apart verbs.Read w us o command is = case_event (Gives h n verbs.Read us) (event_in h.words w) o (λ e at r item says. given_by h n (layer.Read e) (commands.Read e) item (commands.rolls-Read e) says r.apart r.right refl refl) is
 command_given h n apart verbs.Await w us o command is =
-    case_event (Gives h n verbs.Await us) (event_in h.words w) o (λ e at r order says.
-    given_by h n (layer.Await e (amount_in us)) (commands.Await e (amount_in us)) order (commands.rolls-Await e (amount_in us)) says r.apart r.right (one_ranged us (is_one _ us r.tail.0) r.tail.1) refl) is
-command_given h n apart verbs.Ticket w us o command is = case_sequencer (Gives h n verbs.Ticket us) (sequencer_in h.words w) o (λ q at r order says. given_by h n (layer.Ticket q) (commands.Ticket q) order (commands.rolls-Ticket q) says r.apart r.right refl refl) is
+    case_event (Gives h n verbs.Await us) (event_in h.words w) o (λ e at r item says.
+    given_by h n (layer.Await e (amount_in us)) (commands.Await e (amount_in us)) item (commands.rolls-Await e (amount_in us)) says r.apart r.right (one_ranged us (is_one _ us r.tail.0) r.tail.1) refl) is
+command_given h n apart verbs.Ticket w us o command is = case_sequencer (Gives h n verbs.Ticket us) (sequencer_in h.words w) o (λ q at r item says. given_by h n (layer.Ticket q) (commands.Ticket q) item (commands.rolls-Ticket q) says r.apart r.right refl refl) is
 command_given h n apart verbs.Put w us o command is =
-    case_cell (Gives h n verbs.Put us) (cell_in_word h.words w) o (λ x at r order says.
-    given_by h n (layer.Put x (amount_in us)) (commands.Put x (amount_in us)) order (commands.rolls-Put x (amount_in us)) says r.apart r.right (one_ranged us (is_one _ us r.tail.0) r.tail.1) refl) is
-command_given h n apart verbs.Get w us o command is = case_cell (Gives h n verbs.Get us) (cell_in_word h.words w) o (λ x at r order says. given_by h n (layer.Get x) (commands.Get x) order (commands.rolls-Get x) says r.apart r.right refl refl) is
+    case_cell (Gives h n verbs.Put us) (cell_in_word h.words w) o (λ x at r item says.
+    given_by h n (layer.Put x (amount_in us)) (commands.Put x (amount_in us)) item (commands.rolls-Put x (amount_in us)) says r.apart r.right (one_ranged us (is_one _ us r.tail.0) r.tail.1) refl) is
+command_given h n apart verbs.Get w us o command is = case_cell (Gives h n verbs.Get us) (cell_in_word h.words w) o (λ x at r item says. given_by h n (layer.Get x) (commands.Get x) item (commands.rolls-Get x) says r.apart r.right refl refl) is
 command_given h n apart verbs.Hand w us o command is =
-    case_handed (Gives h n verbs.Hand us) (event_in h.words w) (option_and_then (worker_in h.words) (only_in us)) o (λ e b at to r order says.
-    given_by h n (layer.Hand e b) (commands.Hand e b) order (commands.rolls-Hand e b) says r.apart r.right refl r.version) is
+    case_handed (Gives h n verbs.Hand us) (event_in h.words w) (option_and_then (worker_in h.words) (only_in us)) o (λ e b at to r item says.
+    given_by h n (layer.Hand e b) (commands.Hand e b) item (commands.rolls-Hand e b) says r.apart r.right refl r.version) is
 command_given h n apart verbs.Produce w us o command is =
-    case_buffer (Gives h n verbs.Produce us) (buffer_in h w) o (λ b at r order says.
-    given_by h n (layer.Produce b (amount_in us)) (commands.Produce b (amount_in us)) order (commands.rolls-Produce b (amount_in us)) says (declared_buffer h w b at) r.right (one_ranged us (is_one _ us r.tail.0) r.tail.1) refl) is
+    case_buffer (Gives h n verbs.Produce us) (buffer_in h w) o (λ b at r item says.
+    given_by h n (layer.Produce b (amount_in us)) (commands.Produce b (amount_in us)) item (commands.rolls-Produce b (amount_in us)) says (declared_buffer h w b at) r.right (one_ranged us (is_one _ us r.tail.0) r.tail.1) refl) is
 command_given h n apart verbs.Consume w us o command is =
-    case_buffer (Gives h n verbs.Consume us) (buffer_in h w) o (λ b at r order says. given_by h n (layer.Consume b) (commands.Consume b) order (commands.rolls-Consume b) says (declared_buffer h w b at) r.right refl refl) is
-command_given h n apart verbs.Write w us o command is = case_database (Gives h n verbs.Write us) (database_in h w) o (λ d at r order says. write_given h n d us order says (declared_database h w d at) r) is
+    case_buffer (Gives h n verbs.Consume us) (buffer_in h w) o (λ b at r item says. given_by h n (layer.Consume b) (commands.Consume b) item (commands.rolls-Consume b) says (declared_buffer h w b at) r.right refl refl) is
+command_given h n apart verbs.Write w us o command is = case_database (Gives h n verbs.Write us) (database_in h w) o (λ d at r item says. write_given h n d us item says (declared_database h w d at) r) is
 command_given h n apart verbs.Snapshot w us o command is =
-    case_database (Gives h n verbs.Snapshot us) (database_in h w) o (λ d at r order says.
-    given_by h n (layer.Snapshot d (size_in us)) (commands.Snapshot d (size_in us)) order (commands.rolls-Snapshot d (size_in us)) says (declared_database h w d at) r.right
+    case_database (Gives h n verbs.Snapshot us) (database_in h w) o (λ d at r item says.
+    given_by h n (layer.Snapshot d (size_in us)) (commands.Snapshot d (size_in us)) item (commands.rolls-Snapshot d (size_in us)) says (declared_database h w d at) r.right
     (size_sound 1000 (option_and_then number_in_word (only_in us)) (not-false _ r.tail.1)) refl) is
-command_given h n apart verbs.Down w us o command is = case_semaphore (Gives h n verbs.Down us) (semaphore_in h w) o (λ s at r order says. given_by h n (layer.Down s) (commands.Down s) order (commands.rolls-Down s) says (found_semaphore h w s at) r.right refl refl) is
-command_given h n apart verbs.Up w us o command is = case_semaphore (Gives h n verbs.Up us) (semaphore_in h w) o (λ s at r order says. given_by h n (layer.Up s) (commands.Up s) order (commands.rolls-Up s) says (found_semaphore h w s at) r.right refl refl) is
+command_given h n apart verbs.Down w us o command is = case_semaphore (Gives h n verbs.Down us) (semaphore_in h w) o (λ s at r item says. given_by h n (layer.Down s) (commands.Down s) item (commands.rolls-Down s) says (found_semaphore h w s at) r.right refl refl) is
+command_given h n apart verbs.Up w us o command is = case_semaphore (Gives h n verbs.Up us) (semaphore_in h w) o (λ s at r item says. given_by h n (layer.Up s) (commands.Up s) item (commands.rolls-Up s) says (found_semaphore h w s at) r.right refl refl) is
 command_given h n apart verbs.DownBoth w us o command is =
-    case_three (Gives h n verbs.DownBoth us) (both_of h.groups) (semaphore_in h w) (option_and_then (semaphore_in h) (only_in us)) o (λ c s t common first second r order says.
+    case_three (Gives h n verbs.DownBoth us) (both_of h.groups) (semaphore_in h w) (option_and_then (semaphore_in h) (only_in us)) o (λ c s t common first second r item says.
     (let one = found_semaphore h w s first in
     let other = only_semaphore h (only_in us) t second in
     let differ : are_apart c s t ≡ true = not-false _ r.differ in
-    given_by h n (layer.DownBoth c s t) (commands.DownBoth c s t) order (commands.rolls-DownBoth c s t) says (common, one, other, lines_differ h.groups c s t apart one other differ) r.right differ refl)) is
+    given_by h n (layer.DownBoth c s t) (commands.DownBoth c s t) item (commands.rolls-DownBoth c s t) says (common, one, other, lines_differ h.groups c s t apart one other differ) r.right differ refl)) is
 command_given h n apart verbs.Repeat w us o command is = absurd command
 command_given h n apart verbs.End w us o command is = absurd command
 command_given h n apart verbs.Worker w us o command is = absurd command
@@ -207,18 +207,18 @@ command_given h n apart verbs.Schedule w us o command is = absurd command
 
 -- ANY LINE
 
-given_in : (h : HeadingModel) (n : ℕ) → AreApart h.groups → (v : LineWord) (w : List ℕ) (us : List (List ℕ)) (o : Object) (order : BlockItem) → is_outer v ≡ false → object_for h v w us ≡ Some o → IsRight h n v us o → order_by v o us ≡ Some order → IsGiven h n order
-given_in h n apart verbs.Worker w us o order inner is r says = cc
-given_in h n apart verbs.Schedule w us o order inner is r says = cc
-given_in h n apart verbs.Repeat w us o order inner is r says =
-    let same : Begin (size_in us) ≡ order = cc in
+given_in : (h : HeadingModel) (n : ℕ) → AreApart h.groups → (v : LineWord) (w : List ℕ) (us : List (List ℕ)) (o : Object) (item : BlockItem) → is_outer v ≡ false → object_for h v w us ≡ Some o → IsRight h n v us o → item_by v o us ≡ Some item → IsGiven h n item
+given_in h n apart verbs.Worker w us o item inner is r says = cc
+given_in h n apart verbs.Schedule w us o item inner is r says = cc
+given_in h n apart verbs.Repeat w us o item inner is r says =
+    let same : Begin (size_in us) ≡ item = cc in
     let k = count_range 1000000 (option_and_then number_in_word (only_in us)) (not-false _ r.tail.1) in
     subst (IsGiven h n) same (k.some, k.few)
-given_in h n apart verbs.End w us o order inner is r says = (let same : End ≡ order = cc in subst (IsGiven h n) same tt)
-given_in h n apart v w us o order inner is r says = command_given h n apart v w us o tt is r order says
+given_in h n apart verbs.End w us o item inner is r says = (let same : End ≡ item = cc in subst (IsGiven h n) same tt)
+given_in h n apart v w us o item inner is r says = command_given h n apart v w us o tt is r item says
 
-pub line_given : (o : HeaderTree) (n : ℕ) (line : List ℕ) (order : BlockItem) → IsHeaderTree o → IsLineOfItem (heading_of_tree o) n line order → IsGiven (heading_of_tree o) n order
-line_given o n line order is says =
+pub line_given : (o : HeaderTree) (n : ℕ) (line : List ℕ) (item : BlockItem) → IsHeaderTree o → IsLineOfItem (heading_of_tree o) n line item → IsGiven (heading_of_tree o) n item
+line_given o n line item is says =
     let words : Worded (words_of line) says.phrase = worded (words_of line) says.phrase says.form in
-    given_in (heading_of_tree o) n (outline_keeps o is).apart.apart says.phrase.verb says.phrase.object says.phrase.rest says.object order says.inner says.declared
+    given_in (heading_of_tree o) n (outline_keeps o is).apart.apart says.phrase.verb says.phrase.object says.phrase.rest says.object item says.inner says.declared
     (record { version = says.version; tail = (words.tail, says.range); apart = says.apart; differ = says.differ; right = says.right }) says.says

@@ -9,7 +9,7 @@ use Rattle.ec_count.specs.Members.{is_member, has_repeat}
 use Rattle.ec_text.specs.Words.{words_of, number_in_word, is_number_form}
 use Rattle.ec_text.proofs.shared.NumberLemmas.{number_takes}
 use Rattle.ec_heading.specs.Versions.{greatest_limit, is_limit, version_of}
-use Rattle.ec_script.specs.Headers.{script_header, bound}
+use Rattle.ec_script.specs.Headers.{script_header, version_limit}
 use Rattle.ec_heading.specs.declared.version.Version.{Version}
 use Rattle.ec_heading.proofs.shared.VersionFacts.{limit_parts, version_back}
 use Rattle.ec_heading.specs.HeadingModel.{HeadingModel}
@@ -26,40 +26,40 @@ use Rattle.ec_script.specs.declared.stage.Stage.{Stage}
 use Rattle.ec_script.specs.declared.stage.Stage.TheVariants.{Opening, Limiting, Naming, Reading}
 use Rattle.ec_script.specs.Forms.{phrase_in}
 use Rattle.ec_script.specs.ScriptModel.{ScriptModel, PlanModel}
-use Rattle.ec_script.specs.Reading.{headed_on, after_phrase, opens_outer, script_step, limiting, after_limit, limit_digits, limit_or, limit_step, script_of, named_on, step}
+use Rattle.ec_script.specs.Reading.{map_heading, after_phrase, opens_outer, script_step, stage_of_version, after_limit, limit_digits, limit_or, limit_step, script_of, stage_of_heading, step}
 use Rattle.ec_script.specs.Outcome.{plan_in}
 use Rattle.ec_script.specs.Grammar.{Leads}
-use Rattle.ec_script.specs.Layout.{Block, orders_of, workers_of, concat_rows, layout_lines, program_of, ScriptsAreLaidOut}
+use Rattle.ec_script.specs.Layout.{Block, items_of, workers_of, concat_rows, layout_lines, program_of, ScriptsAreLaidOut}
 use Rattle.ec_script.proofs.Declaring.{HeadKeeps, Grows, first_keeps, head_grows}
 use Rattle.ec_script.proofs.Passing.{read_back}
-use Rattle.ec_script.proofs.Blocks.{state, set_all, planned, Closed, AreBehind, line_of, rests}
+use Rattle.ec_script.proofs.Blocks.{state, set_all, planned, Closed, AreNoDeclarations, line_of, rests}
 
 -- THE PROGRAMS
 
 set_all_length : (bs : List Block) (ps : List (List BlockItem)) → length (set_all ps bs) ≡ length ps
 set_all_length [] ps = refl
-set_all_length (b ∷ bs) ps = set_all_length bs (slice_set ps b.worker (orders_of b.lines)) ∙ length-set ps b.worker (orders_of b.lines)
+set_all_length (b ∷ bs) ps = set_all_length bs (slice_set ps b.worker (items_of b.lines)) ∙ length-set ps b.worker (items_of b.lines)
 
 untouched : (bs : List Block) (ps : List (List BlockItem)) (w : ℕ) → is_member w (workers_of bs) ≡ false → get_or (set_all ps bs) w [] ≡ get_or ps w []
 untouched [] ps w none = refl
 untouched (b ∷ bs) ps w none =
     let p = or_parts (eqb b.worker w) (is_member w (workers_of bs)) none in
-    untouched bs (slice_set ps b.worker (orders_of b.lines)) w p.1
-    ∙ get_or-set_other ps b.worker w (orders_of b.lines) [] (λ e. eqb-false b.worker w p.0 (sym e))
+    untouched bs (slice_set ps b.worker (items_of b.lines)) w p.1
+    ∙ get_or-set_other ps b.worker w (items_of b.lines) [] (λ e. eqb-false b.worker w p.0 (sym e))
 
 program_is : (bs : List Block) (ps : List (List BlockItem)) (w : ℕ) → has_repeat (workers_of bs) ≡ false → w < length ps → get_or ps w [] ≡ [] → get_or (set_all ps bs) w [] ≡ program_of bs w
 program_is [] ps w differ within none = none
 program_is (b ∷ bs) ps w differ within none =
     let p = or_parts (is_member b.worker (workers_of bs)) (has_repeat (workers_of bs)) differ in
-    (elim (eqb b.worker w) as (λ t. eqb b.worker w ≡ t → get_or (set_all (slice_set ps b.worker (orders_of b.lines)) bs) w [] ≡ cond t (orders_of b.lines) (program_of bs w)) [
+    (elim (eqb b.worker w) as (λ t. eqb b.worker w ≡ t → get_or (set_all (slice_set ps b.worker (items_of b.lines)) bs) w [] ≡ cond t (items_of b.lines) (program_of bs w)) [
       | true ↦ λ e.
           (let same : b.worker ≡ w = eqb-true b.worker w e in
-          untouched bs (slice_set ps b.worker (orders_of b.lines)) w (ap (λ i. is_member i (workers_of bs)) (sym same) ∙ p.0)
-          ∙ ap (λ i. get_or (slice_set ps i (orders_of b.lines)) w []) same
-          ∙ get_or-set_same ps w (orders_of b.lines) [] within)
+          untouched bs (slice_set ps b.worker (items_of b.lines)) w (ap (λ i. is_member i (workers_of bs)) (sym same) ∙ p.0)
+          ∙ ap (λ i. get_or (slice_set ps i (items_of b.lines)) w []) same
+          ∙ get_or-set_same ps w (items_of b.lines) [] within)
       | false ↦ λ e.
-          program_is bs (slice_set ps b.worker (orders_of b.lines)) w p.1 (omega (arith, within, length-set ps b.worker (orders_of b.lines)))
-          (get_or-set_other ps b.worker w (orders_of b.lines) [] (λ same. eqb-false b.worker w e (sym same)) ∙ none)
+          program_is bs (slice_set ps b.worker (items_of b.lines)) w p.1 (omega (arith, within, length-set ps b.worker (items_of b.lines)))
+          (get_or-set_other ps b.worker w (items_of b.lines) [] (λ same. eqb-false b.worker w e (sym same)) ∙ none)
     ]) refl
 
 pub programs_are : (bs : List Block) (n : ℕ) → has_repeat (workers_of bs) ≡ false → set_all (replicate n []) bs ≡ map (program_of bs) (range_with_len 0 n)
@@ -73,7 +73,7 @@ programs_are bs n differ =
 
 -- THE FIRST LINES
 
-limiting_back : (o : Option Version) (t : Stage) → limiting o ≡ Ok t → (v : Version) × (o ≡ Some v) × (t ≡ Limiting v)
+limiting_back : (o : Option Version) (t : Stage) → stage_of_version o ≡ Ok t → (v : Version) × (o ≡ Some v) × (t ≡ Limiting v)
 limiting_back None t is = cc
 limiting_back (Some v) t is = (v, refl, cc)
 
@@ -87,11 +87,11 @@ record Limits (v : Version) (words : List (List ℕ)) (t : Stage) : Type 0 where
   are : words ≡ codes "limit" ∷ decimal limit ∷ []
   low : 1 ≤ limit
   high : limit ≤ greatest_limit v
-  leads : t ≡ Naming (bound v limit)
+  leads : t ≡ Naming (version_limit v limit)
 
-range_back : (v : Version) (w : List ℕ) (n : ℕ) (t : Stage) → number_in_word w ≡ Some n → cond (is_limit v n) (Ok (Naming (bound v n))) (Err kinds.BadNumber) ≡ Ok t → Limits v (codes "limit" ∷ w ∷ []) t
+range_back : (v : Version) (w : List ℕ) (n : ℕ) (t : Stage) → number_in_word w ≡ Some n → cond (is_limit v n) (Ok (Naming (version_limit v n))) (Err kinds.BadNumber) ≡ Ok t → Limits v (codes "limit" ∷ w ∷ []) t
 range_back v w n t number is =
-    (elim (is_limit v n) as (λ b. is_limit v n ≡ b → cond b (Ok (Naming (bound v n))) (Err kinds.BadNumber) ≡ Ok t → Limits v (codes "limit" ∷ w ∷ []) t) [
+    (elim (is_limit v n) as (λ b. is_limit v n ≡ b → cond b (Ok (Naming (version_limit v n))) (Err kinds.BadNumber) ≡ Ok t → Limits v (codes "limit" ∷ w ∷ []) t) [
       | true ↦ λ e h.
           (let p = limit_parts v n e in
           record {
@@ -128,7 +128,7 @@ limit_back v line t is =
       | false ↦ λ h. digits_back v (words_of line) t h
     ]) is
 
-named_back : (r : Result HeadingModel HeadFault) (t : Stage) → named_on r ≡ Ok t → (h : HeadingModel) × (r ≡ Ok h) × (t ≡ Reading (script_of h))
+named_back : (r : Result HeadingModel HeadFault) (t : Stage) → stage_of_heading r ≡ Ok t → (h : HeadingModel) × (r ≡ Ok h) × (t ≡ Reading (script_of h))
 named_back (Ok h) t is = (h, refl, cc)
 named_back (Err f) t is = cc
 
@@ -141,10 +141,10 @@ record Declares (h : HeadingModel) (lines : List (List ℕ)) (t : Stage) : Type 
   end : HeadingModel
   are : lines ≡ prefix ++ rest
   heads : LinesLead h prefix end
-  behind : AreBehind (script_of end) rest
+  behind : AreNoDeclarations (script_of end) rest
   leads : Leads (Reading (script_of end)) rest t
 
-headed_back : (s t : ScriptModel) (r : Result HeadingModel HeadFault) → headed_on s r ≡ Ok t → (h : HeadingModel) × (r ≡ Ok h) × (t ≡ record s { heading = h })
+headed_back : (s t : ScriptModel) (r : Result HeadingModel HeadFault) → map_heading s r ≡ Ok t → (h : HeadingModel) × (r ≡ Ok h) × (t ≡ record s { heading = h })
 headed_back s t (Ok h) is = (h, refl, cc)
 headed_back s t (Err f) is = cc
 
@@ -163,7 +163,7 @@ declares_along h next line lines t is d = record {
 declared_line : (h : HeadingModel) (line : List ℕ) (s : ScriptModel) → HeadKeeps h → not (opens_outer (words_of line)) ≡ true → script_step (script_of h) line ≡ Ok s → (next : HeadingModel) × (head_step h line ≡ Ok next) × (s ≡ script_of next) × HeadKeeps next
 unfolding script_step
 declared_line h line s keeps declaring is =
-    let r = headed_back (script_of h) s (head_step h line) (ap (λ b. cond b (headed_on (script_of h) (head_step h line)) (cond (is_no_line line) (Err kinds.BadLine) (after_phrase (script_of h) (phrase_in (words_of line))))) (sym declaring) ∙ is) in
+    let r = headed_back (script_of h) s (head_step h line) (ap (λ b. cond b (map_heading (script_of h) (head_step h line)) (cond (is_no_line line) (Err kinds.BadLine) (after_phrase (script_of h) (phrase_in (words_of line))))) (sym declaring) ∙ is) in
     let grows : Grows h r.0 = head_grows h line r.0 keeps r.1 in
     let none : List BlockItem = [] in
     (r.0, r.1, r.2 ∙ ap (λ n. state r.0 [] (replicate n none) None []) (sym grows.workers), grows.keeps)
@@ -187,7 +187,7 @@ record Headings (lines : List (List ℕ)) (t : Stage) : Type 0 where
   rest : List (List ℕ)
   is : IsHeaderTree outline
   are : lines ≡ script_header outline.version ∷ heading_lines outline ++ rest
-  behind : AreBehind (script_of (heading_of_tree outline)) rest
+  behind : AreNoDeclarations (script_of (heading_of_tree outline)) rest
   leads : Leads (Reading (script_of (heading_of_tree outline))) rest t
 
 heading_of : (v : Version) (limit line : List ℕ) (lines : List (List ℕ)) (n : ℕ) (t : Stage) (h : HeadingModel) → limit ≡ limit_line n → 1 ≤ n → n ≤ greatest_limit v → head_step (empty_heading v n []) line ≡ Ok h → Declares h lines t
@@ -203,16 +203,16 @@ heading_of v limit line lines n t h is low high opens d =
       are =
           ap (λ (w : Version). script_header w ∷ limit ∷ line ∷ lines) (sym o.version_is)
           ∙ ap₂ (λ (l : List ℕ) (ls : List (List ℕ)). script_header o.outline.version ∷ l ∷ ls) first all;
-      behind = subst (λ (g : HeadingModel). AreBehind (script_of g) d.rest) o.end_is d.behind;
+      behind = subst (λ (g : HeadingModel). AreNoDeclarations (script_of g) d.rest) o.end_is d.behind;
       leads = subst (λ (g : HeadingModel). Leads (Reading (script_of g)) d.rest t) o.end_is d.leads;
     }
 
 no_plan : (s t : Stage) (p : PlanModel) → plan_in s ≡ None → s ≡ t → plan_in t ≡ Some p → ⊥
 no_plan s t p none is plan = (let e : None ≡ Some p = sym none ∙ ap plan_in is ∙ plan in cc)
 
-named_leads : (v : Version) (n : ℕ) (limit : List ℕ) (lines : List (List ℕ)) (t : Stage) (p : PlanModel) → limit ≡ limit_line n → 1 ≤ n → n ≤ greatest_limit v → Leads (Naming (bound v n)) lines t → plan_in t ≡ Some p → Headings (script_header v ∷ limit ∷ lines) t
+named_leads : (v : Version) (n : ℕ) (limit : List ℕ) (lines : List (List ℕ)) (t : Stage) (p : PlanModel) → limit ≡ limit_line n → 1 ≤ n → n ≤ greatest_limit v → Leads (Naming (version_limit v n)) lines t → plan_in t ≡ Some p → Headings (script_header v ∷ limit ∷ lines) t
 unfolding step
-named_leads v n limit [] t p is low high leads plan = absurd (no_plan (Naming (bound v n)) t p refl leads plan)
+named_leads v n limit [] t p is low high leads plan = absurd (no_plan (Naming (version_limit v n)) t p refl leads plan)
 named_leads v n limit (line ∷ lines) t p is low high leads plan =
     let r = named_back (head_step (empty_heading v n []) line) leads.0 leads.1 in
     heading_of v limit line lines n t r.0 is low high r.1 (declares r.0 lines t (first_keeps v n line r.0 r.1) (subst (λ (u : Stage). Leads u lines t) r.2 leads.2))

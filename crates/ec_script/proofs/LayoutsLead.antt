@@ -9,7 +9,7 @@ use Rattle.ec_text.proofs.shared.WordLemmas.{words_join, literal_word}
 use Rattle.ec_text.proofs.shared.NumberLemmas.{number_again, number_is_form, number_word}
 use Rattle.ec_text.proofs.shared.DecimalLemmas.{at_most_20}
 use Rattle.ec_heading.specs.Versions.{greatest_limit, is_limit}
-use Rattle.ec_script.specs.Headers.{script_header, bound}
+use Rattle.ec_script.specs.Headers.{script_header, version_limit}
 use Rattle.ec_heading.specs.declared.version.Version.{Version}
 use Rattle.ec_heading.specs.declared.version.Version.TheVariants.{One, Two}
 use Rattle.ec_heading.proofs.shared.VersionFacts.{limit_low, limit_from}
@@ -34,25 +34,25 @@ use Rattle.ec_script.specs.declared.object.Object.{Object}
 use Rattle.ec_script.specs.declared.object.Object.TheVariants.{Nothing, Worker}
 use Rattle.ec_script.specs.declared.block_item.BlockItem.{BlockItem}
 use Rattle.ec_script.specs.declared.block_item.BlockItem.TheVariants.{Do, Write, Begin, End}
-use Rattle.ec_script.specs.declared.script.Block.{Block as Open}
+use Rattle.ec_script.specs.declared.script.OpenBlock.{OpenBlock as Open}
 use Rattle.ec_script.specs.declared.stage.Stage.{Stage}
 use Rattle.ec_script.specs.declared.stage.Stage.TheVariants.{Opening, Limiting, Naming, Reading}
-use Rattle.ec_script.specs.Verbs.{parse_verb, is_giving, is_outer}
+use Rattle.ec_script.specs.Verbs.{parse_line_word, is_update, is_outer}
 use Rattle.ec_script.specs.Forms.{phrase_in}
 use Rattle.ec_script.specs.Objects.{object_for, owns, is_owned}
 use Rattle.ec_script.specs.Kinds.{or_nothing, is_allowed, is_named_again, has_unknown_name, is_too_many, is_badly_nested}
 use Rattle.ec_script.specs.BlockItems.{size_in, command_in}
 use Rattle.ec_script.specs.DraftModel.{DraftModel, empty_draft, draft_with_item}
 use Rattle.ec_script.specs.ScriptModel.{ScriptModel, PlanModel}
-use Rattle.ec_script.specs.Reading.{view_of_block, context_of_script, after_verb, after_command, ordered_in, headed_on, after_phrase, opens_outer, script_step, limit_digits, limit_or, after_limit, limit_step, script_of, named_on, read_on, step}
+use Rattle.ec_script.specs.Reading.{view_of_block, context_of_script, after_verb, after_command, block_with_item, map_heading, after_phrase, opens_outer, script_step, limit_digits, limit_or, after_limit, limit_step, script_of, stage_of_heading, read_on, step}
 use Rattle.ec_script.specs.Grammar.{Leads, IsScript, IsLine}
-use Rattle.ec_script.specs.Layout.{order_by, IsLineOfItem, Block, IsBlock, texts_of, orders_of, AreNested, commands_in, worker_line, block_lines, schedule_line, IsRow, concat_rows, workers_of, layout_lines, program_of, IsLaidOut}
+use Rattle.ec_script.specs.Layout.{item_by, IsLineOfItem, Block, IsBlock, texts_of, items_of, AreNested, commands_in, worker_line, block_lines, schedule_line, IsRow, concat_rows, workers_of, layout_lines, program_of, IsLaidOut}
 use Rattle.ec_script.proofs.Declaring.{not_refused, HeadKeeps, Grows, first_keeps, head_grows}
 use Rattle.ec_script.specs.Phrased.{verb_word}
 use Rattle.ec_script.proofs.PhraseWords.{made, verb_back}
 use Rattle.ec_script.proofs.Passing.{Passes, taken_so}
 use Rattle.ec_script.proofs.Said.{IsCommand, IsStep, Ordered, ordered_of, MayNest}
-use Rattle.ec_script.proofs.shared.Keeping.{with_order_adds as orders_more}
+use Rattle.ec_script.proofs.shared.Keeping.{with_item_adds as orders_more}
 use Rattle.ec_script.proofs.Blocks.{state, set_all, planned, joins}
 use Rattle.ec_script.proofs.Layouts.{programs_are}
 
@@ -164,16 +164,16 @@ known_in : (h : HeadingModel) (v : LineWord) (us : List (List ℕ)) → is_outer
 known_in h verbs.Schedule us inner = cc
 known_in h v us inner = refl
 
-no_worker : (v : LineWord) (o : Object) (us : List (List ℕ)) (order : BlockItem) (named : List ℕ) → command_in v (is_giving v) o us ≡ Some order → is_named_again named o ≡ false
-no_worker v (Worker w) us order named is = cc
-no_worker v _ us order named is = refl
+no_worker : (v : LineWord) (o : Object) (us : List (List ℕ)) (item : BlockItem) (named : List ℕ) → command_in v (is_update v) o us ≡ Some item → is_named_again named o ≡ false
+no_worker v (Worker w) us item named is = cc
+no_worker v _ us item named is = refl
 
-not_named : (h : HeadingModel) (v : LineWord) (w : List ℕ) (us : List (List ℕ)) (o : Object) (order : BlockItem) (named : List ℕ) → is_outer v ≡ false → object_for h v w us ≡ Some o → order_by v o us ≡ Some order → is_named_again named o ≡ false
-not_named h verbs.Worker w us o order named inner is says = cc
-not_named h verbs.Schedule w us o order named inner is says = cc
-not_named h verbs.Repeat w us o order named inner is says = (let e : Nothing ≡ o = cc in subst (λ x. is_named_again named x ≡ false) e refl)
-not_named h verbs.End w us o order named inner is says = (let e : Nothing ≡ o = cc in subst (λ x. is_named_again named x ≡ false) e refl)
-not_named h v w us o order named inner is says = no_worker v o us order named says
+not_named : (h : HeadingModel) (v : LineWord) (w : List ℕ) (us : List (List ℕ)) (o : Object) (item : BlockItem) (named : List ℕ) → is_outer v ≡ false → object_for h v w us ≡ Some o → item_by v o us ≡ Some item → is_named_again named o ≡ false
+not_named h verbs.Worker w us o item named inner is says = cc
+not_named h verbs.Schedule w us o item named inner is says = cc
+not_named h verbs.Repeat w us o item named inner is says = (let e : Nothing ≡ o = cc in subst (λ x. is_named_again named x ≡ false) e refl)
+not_named h verbs.End w us o item named inner is says = (let e : Nothing ≡ o = cc in subst (λ x. is_named_again named x ≡ false) e refl)
+not_named h v w us o item named inner is says = no_worker v o us item named says
 
 step_room : (d : DraftModel) (o : BlockItem) → IsStep o → MayNest d o → d.commands < 4096
 step_room d (Do c) step may = may
@@ -181,67 +181,67 @@ step_room d (Write b vs) step may = may
 step_room d (Begin n) step may = absurd step
 step_room d End step may = absurd step
 
-room_for : (d : DraftModel) (h : HeadingModel) (v : LineWord) (w : List ℕ) (us : List (List ℕ)) (o : Object) (order : BlockItem) → IsCommand v → object_for h v w us ≡ Some o → command_in v (is_giving v) o us ≡ Some order → MayNest d order → nat_le 4096 d.commands ≡ false
-room_for d h v w us o order command is says may =
+room_for : (d : DraftModel) (h : HeadingModel) (v : LineWord) (w : List ℕ) (us : List (List ℕ)) (o : Object) (item : BlockItem) → IsCommand v → object_for h v w us ≡ Some o → command_in v (is_update v) o us ≡ Some item → MayNest d item → nat_le 4096 d.commands ≡ false
+room_for d h v w us o item command is says may =
     let r : Ordered v o us = ordered_of h v w us o command is in
-    let same : Some r.order ≡ Some order = sym r.is ∙ says in
-    let e : r.order ≡ order = cc in
-    lt-leb 4096 d.commands (step_room d order (subst IsStep e r.step) may)
+    let same : Some r.item ≡ Some item = sym r.is ∙ says in
+    let e : r.item ≡ item = cc in
+    lt-leb 4096 d.commands (step_room d item (subst IsStep e r.step) may)
 
-few_in : (h : HeadingModel) (b : Open) (v : LineWord) (w : List ℕ) (us : List (List ℕ)) (o : Object) (order : BlockItem) (n : ℕ) → is_outer v ≡ false → object_for h v w us ≡ Some o → order_by v o us ≡ Some order → MayNest b.draft order
+few_in : (h : HeadingModel) (b : Open) (v : LineWord) (w : List ℕ) (us : List (List ℕ)) (o : Object) (item : BlockItem) (n : ℕ) → is_outer v ≡ false → object_for h v w us ≡ Some o → item_by v o us ≡ Some item → MayNest b.draft item
     → is_too_many v us (Some (view_of_block b)) n ≡ false
-few_in h b verbs.Worker w us o order n inner is says may = cc
-few_in h b verbs.Schedule w us o order n inner is says may = cc
-few_in h b verbs.Repeat w us o order n inner is says may = (let e : Begin (size_in us) ≡ order = cc in lt-leb 4096 b.draft.commands (subst (MayNest b.draft) (sym e) may).1)
-few_in h b verbs.End w us o order n inner is says may = refl
-few_in h b v w us o order n inner is says may = room_for b.draft h v w us o order tt is says may
+few_in h b verbs.Worker w us o item n inner is says may = cc
+few_in h b verbs.Schedule w us o item n inner is says may = cc
+few_in h b verbs.Repeat w us o item n inner is says may = (let e : Begin (size_in us) ≡ item = cc in lt-leb 4096 b.draft.commands (subst (MayNest b.draft) (sym e) may).1)
+few_in h b verbs.End w us o item n inner is says may = refl
+few_in h b v w us o item n inner is says may = room_for b.draft h v w us o item tt is says may
 
-nested_in : (h : HeadingModel) (b : Open) (v : LineWord) (w : List ℕ) (us : List (List ℕ)) (o : Object) (order : BlockItem) → is_outer v ≡ false → order_by v o us ≡ Some order → MayNest b.draft order
+nested_in : (h : HeadingModel) (b : Open) (v : LineWord) (w : List ℕ) (us : List (List ℕ)) (o : Object) (item : BlockItem) → is_outer v ≡ false → item_by v o us ≡ Some item → MayNest b.draft item
     → is_badly_nested v (Some (view_of_block b)) ≡ false
-nested_in h b verbs.Worker w us o order inner says may = cc
-nested_in h b verbs.Schedule w us o order inner says may = cc
-nested_in h b verbs.Repeat w us o order inner says may = (let e : Begin (size_in us) ≡ order = cc in lt-leb 4 b.draft.depth (subst (MayNest b.draft) (sym e) may).0)
-nested_in h b verbs.End w us o order inner says may = (let e : End ≡ order = cc in and_right (nat_lt 0 b.draft.depth) b.draft.is_empty (subst (MayNest b.draft) (sym e) may).1)
-nested_in h b v w us o order inner says may = refl
+nested_in h b verbs.Worker w us o item inner says may = cc
+nested_in h b verbs.Schedule w us o item inner says may = cc
+nested_in h b verbs.Repeat w us o item inner says may = (let e : Begin (size_in us) ≡ item = cc in lt-leb 4 b.draft.depth (subst (MayNest b.draft) (sym e) may).0)
+nested_in h b verbs.End w us o item inner says may = (let e : End ≡ item = cc in and_right (nat_lt 0 b.draft.depth) b.draft.is_empty (subst (MayNest b.draft) (sym e) may).1)
+nested_in h b v w us o item inner says may = refl
 
-after_in : (h : HeadingModel) (named : List ℕ) (ps : List (List BlockItem)) (b : Open) (sc : List ℕ) (v : LineWord) (us : List (List ℕ)) (o : Object) (order : BlockItem) → is_outer v ≡ false → order_by v o us ≡ Some order → MayNest b.draft order
-    → after_verb v (state h named ps (Some b) sc) o us ≡ state h named ps (Some (record { worker = b.worker; draft = draft_with_item b.draft order })) sc
-after_in h named ps b sc verbs.Worker us o order inner says may = cc
-after_in h named ps b sc verbs.Schedule us o order inner says may = cc
-after_in h named ps b sc verbs.Repeat us o order inner says may = (let e : Begin (size_in us) ≡ order = cc in ap (λ x. state h named ps (Some (record { worker = b.worker; draft = draft_with_item b.draft x })) sc) e)
-after_in h named ps b sc verbs.End us o order inner says may =
-    let e : End ≡ order = cc in
+after_in : (h : HeadingModel) (named : List ℕ) (ps : List (List BlockItem)) (b : Open) (sc : List ℕ) (v : LineWord) (us : List (List ℕ)) (o : Object) (item : BlockItem) → is_outer v ≡ false → item_by v o us ≡ Some item → MayNest b.draft item
+    → after_verb v (state h named ps (Some b) sc) o us ≡ state h named ps (Some (record { worker = b.worker; draft = draft_with_item b.draft item })) sc
+after_in h named ps b sc verbs.Worker us o item inner says may = cc
+after_in h named ps b sc verbs.Schedule us o item inner says may = cc
+after_in h named ps b sc verbs.Repeat us o item inner says may = (let e : Begin (size_in us) ≡ item = cc in ap (λ x. state h named ps (Some (record { worker = b.worker; draft = draft_with_item b.draft x })) sc) e)
+after_in h named ps b sc verbs.End us o item inner says may =
+    let e : End ≡ item = cc in
     let deep : 0 < b.draft.depth = (subst (MayNest b.draft) (sym e) may).0 in
     let inner_one : eqb b.draft.depth 0 ≡ false = ne_eqb b.draft.depth 0 (λ none. omega (arith, none, deep)) in
-    ap (λ t. cond t (state h named (slice_set ps b.worker b.draft.orders) None sc) (ordered_in (state h named ps (Some b) sc) (Some b) End)) inner_one
+    ap (λ t. cond t (state h named (slice_set ps b.worker b.draft.block_items) None sc) (block_with_item (state h named ps (Some b) sc) (Some b) End)) inner_one
     ∙ ap (λ x. state h named ps (Some (record { worker = b.worker; draft = draft_with_item b.draft x })) sc) e
-after_in h named ps b sc v us o order inner says may = ap (after_command (state h named ps (Some b) sc)) says
+after_in h named ps b sc v us o item inner says may = ap (after_command (state h named ps (Some b) sc)) says
 
-order_leads : (h : HeadingModel) (named : List ℕ) (ps : List (List BlockItem)) (b : Open) (sc : List ℕ) (line : List ℕ) (order : BlockItem) → 0 < length named → IsLineOfItem h b.worker line order → MayNest b.draft order
-    → step (Reading (state h named ps (Some b) sc)) line ≡ Ok (Reading (state h named ps (Some (record { worker = b.worker; draft = draft_with_item b.draft order })) sc))
-order_leads h named ps b sc line order some says may =
+item_leads : (h : HeadingModel) (named : List ℕ) (ps : List (List BlockItem)) (b : Open) (sc : List ℕ) (line : List ℕ) (item : BlockItem) → 0 < length named → IsLineOfItem h b.worker line item → MayNest b.draft item
+    → step (Reading (state h named ps (Some b) sc)) line ≡ Ok (Reading (state h named ps (Some (record { worker = b.worker; draft = draft_with_item b.draft item })) sc))
+item_leads h named ps b sc line item some says may =
     let passes : Passes (context_of_script (state h named ps (Some b) sc)) says.phrase (Some says.object) = record {
       version = says.version;
       allowed = allowed_in says.phrase.verb (length sc);
-      new = not_named h says.phrase.verb says.phrase.object says.phrase.rest says.object order named says.inner says.declared says.says;
+      new = not_named h says.phrase.verb says.phrase.object says.phrase.rest says.object item named says.inner says.declared says.says;
       found = refl;
       known = known_in h says.phrase.verb says.phrase.rest says.inner;
       range = says.range;
-      few = few_in h b says.phrase.verb says.phrase.object says.phrase.rest says.object order (length sc) says.inner says.declared says.says may;
+      few = few_in h b says.phrase.verb says.phrase.object says.phrase.rest says.object item (length sc) says.inner says.declared says.says may;
       apart = says.apart;
       differ = says.differ;
       right = not_from_true _ says.right;
-      nested = nested_in h b says.phrase.verb says.phrase.object says.phrase.rest says.object order says.inner says.says may;
+      nested = nested_in h b says.phrase.verb says.phrase.object says.phrase.rest says.object item says.inner says.says may;
     } in
     let past : eqb (length named) 0 ≡ false = ne_eqb (length named) 0 (λ e. omega (arith, e, some)) in
-    reads (state h named ps (Some b) sc) (state h named ps (Some (record { worker = b.worker; draft = draft_with_item b.draft order })) sc) line
+    reads (state h named ps (Some b) sc) (state h named ps (Some (record { worker = b.worker; draft = draft_with_item b.draft item })) sc) line
     (taken_so (state h named ps (Some b) sc) line says.phrase (and_left _ _ (and_left _ _ past)) says.whole says.form (subst (Passes (context_of_script (state h named ps (Some b) sc)) says.phrase) (sym says.declared) passes)
     ∙ ap (λ o. Ok (after_verb says.phrase.verb (state h named ps (Some b) sc) (or_nothing o) says.phrase.rest)) says.declared
-    ∙ ap Ok (after_in h named ps b sc says.phrase.verb says.phrase.rest says.object order says.inner says.says may))
+    ∙ ap Ok (after_in h named ps b sc says.phrase.verb says.phrase.rest says.object item says.inner says.says may))
 
 -- the `end` of a block
 end_leads : (h : HeadingModel) (named : List ℕ) (ps : List (List BlockItem)) (b : Open) (sc : List ℕ) → 0 < length named → b.draft.depth ≡ 0
-    → step (Reading (state h named ps (Some b) sc)) (codes "end") ≡ Ok (Reading (state h named (slice_set ps b.worker b.draft.orders) None sc))
+    → step (Reading (state h named ps (Some b) sc)) (codes "end") ≡ Ok (Reading (state h named (slice_set ps b.worker b.draft.block_items) None sc))
 unfolding phrase_in
 end_leads h named ps b sc some closed =
     let fit : AreFit (codes "end" ∷ []) = (record { word = literal_word (codes "end") refl; some = refl }, tt) in
@@ -261,9 +261,9 @@ end_leads h named ps b sc some closed =
       nested = and_left (nat_lt 0 b.draft.depth) b.draft.is_empty (le-ltb 0 b.draft.depth (omega (arith, closed)));
     } in
     let done : eqb b.draft.depth 0 ≡ true = ap (λ d. eqb d 0) closed in
-    reads (state h named ps (Some b) sc) (state h named (slice_set ps b.worker b.draft.orders) None sc) (codes "end")
+    reads (state h named ps (Some b) sc) (state h named (slice_set ps b.worker b.draft.block_items) None sc) (codes "end")
     (taken_so (state h named ps (Some b) sc) (codes "end") (made verbs.End [] []) (and_left _ _ (and_left _ _ past)) l.1 (ap phrase_in l.0) passes
-    ∙ ap (λ t. Ok (cond t (state h named (slice_set ps b.worker b.draft.orders) None sc) (ordered_in (state h named ps (Some b) sc) (Some b) End))) done)
+    ∙ ap (λ t. Ok (cond t (state h named (slice_set ps b.worker b.draft.block_items) None sc) (block_with_item (state h named ps (Some b) sc) (Some b) End))) done)
 
 record Follows (d : DraftModel) (o : BlockItem) (os : List BlockItem) : Type 0 where
   may : MayNest d o
@@ -277,20 +277,20 @@ follows d (Begin n) os nested few = record { may = (nested.0, omega (arith, few)
 follows d End os nested few = record { may = (nested.0, nested.1); nested = nested.2; few = few }
 
 inside_leads : (h : HeadingModel) (named : List ℕ) (ps : List (List BlockItem)) (b : Open) (sc : List ℕ) (inside : List (List ℕ × BlockItem)) (more : List (List ℕ)) (t : Stage)
-    → 0 < length named → AllByRecursion (λ (l : List ℕ × BlockItem). IsLineOfItem h b.worker l.0 l.1) inside → AreNested b.draft.depth b.draft.is_empty (orders_of inside) → b.draft.commands + commands_in (orders_of inside) ≤ 4096
-    → Leads (Reading (state h named (slice_set ps b.worker (b.draft.orders ++ orders_of inside)) None sc)) more t
+    → 0 < length named → AllByRecursion (λ (l : List ℕ × BlockItem). IsLineOfItem h b.worker l.0 l.1) inside → AreNested b.draft.depth b.draft.is_empty (items_of inside) → b.draft.commands + commands_in (items_of inside) ≤ 4096
+    → Leads (Reading (state h named (slice_set ps b.worker (b.draft.block_items ++ items_of inside)) None sc)) more t
     → Leads (Reading (state h named ps (Some b) sc)) (texts_of inside ++ codes "end" ∷ more) t
 inside_leads h named ps b sc [] more t some all nested few leads = (
-  Reading (state h named (slice_set ps b.worker b.draft.orders) None sc),
+  Reading (state h named (slice_set ps b.worker b.draft.block_items) None sc),
   end_leads h named ps b sc some nested,
-  subst (λ (os : List BlockItem). Leads (Reading (state h named (slice_set ps b.worker os) None sc)) more t) (append-nil b.draft.orders) leads,
+  subst (λ (os : List BlockItem). Leads (Reading (state h named (slice_set ps b.worker os) None sc)) more t) (append-nil b.draft.block_items) leads,
 )
 inside_leads h named ps b sc (l ∷ inside) more t some all nested few leads =
-    let f : Follows b.draft l.1 (orders_of inside) = follows b.draft l.1 (orders_of inside) nested few in
-    let e : b.draft.orders ++ orders_of (l ∷ inside) ≡ (draft_with_item b.draft l.1).orders ++ orders_of inside =
-    sym (ap (λ (os : List BlockItem). os ++ orders_of inside) (orders_more b.draft l.1) ∙ append_assoc b.draft.orders (l.1 ∷ []) (orders_of inside)) in (
+    let f : Follows b.draft l.1 (items_of inside) = follows b.draft l.1 (items_of inside) nested few in
+    let e : b.draft.block_items ++ items_of (l ∷ inside) ≡ (draft_with_item b.draft l.1).block_items ++ items_of inside =
+    sym (ap (λ (os : List BlockItem). os ++ items_of inside) (orders_more b.draft l.1) ∙ append_assoc b.draft.block_items (l.1 ∷ []) (items_of inside)) in (
       Reading (state h named ps (Some (record { worker = b.worker; draft = draft_with_item b.draft l.1 })) sc),
-      order_leads h named ps b sc l.0 l.1 some all.0 f.may,
+      item_leads h named ps b sc l.0 l.1 some all.0 f.may,
       inside_leads h named ps (record { worker = b.worker; draft = draft_with_item b.draft l.1 }) sc inside more t some all.1 f.nested f.few
           (subst (λ (os : List BlockItem). Leads (Reading (state h named (slice_set ps b.worker os) None sc)) more t) e leads),
     )
@@ -327,7 +327,7 @@ blocks_lead h ws heads are named ps (b ∷ bs) rest t all new differ leads =
       subst (λ ls. Leads (Reading (state h (named ++ b.worker ∷ []) ps (Some (record { worker = b.worker; draft = empty_draft })) [])) ls t) (joins (texts_of b.lines) (codes "end") (flat_map (block_lines ws) bs) rest)
           (inside_leads h (named ++ b.worker ∷ []) ps (record { worker = b.worker; draft = empty_draft }) [] b.lines (flat_map (block_lines ws) bs ++ rest) t
           (omega (arith, length-append named (b.worker ∷ []))) all.0.each all.0.nested (omega (arith, all.0.few))
-          (blocks_lead h ws heads are (named ++ b.worker ∷ []) (slice_set ps b.worker (orders_of b.lines)) bs rest t all.1 (still_new b.worker named bs p.0 new.1) p.1 leads)),
+          (blocks_lead h ws heads are (named ++ b.worker ∷ []) (slice_set ps b.worker (items_of b.lines)) bs rest t all.1 (still_new b.worker named bs p.0 new.1) p.1 leads)),
     )
 
 -- THE HEADER
@@ -337,7 +337,7 @@ outer_verb verbs.Worker is = inl refl
 outer_verb verbs.Schedule is = inr refl
 outer_verb v is = cc
 
-outer_word : (w : List ℕ) (o : Option LineWord) → parse_verb w ≡ o → option_map_or is_outer o false ≡ true → (w ≡ codes "worker") ⊎ (w ≡ codes "schedule")
+outer_word : (w : List ℕ) (o : Option LineWord) → parse_line_word w ≡ o → option_map_or is_outer o false ≡ true → (w ≡ codes "worker") ⊎ (w ≡ codes "schedule")
 outer_word w None e is = cc
 outer_word w (Some v) e is =
     elim (outer_verb v is) [
@@ -357,7 +357,7 @@ no_sort w ws is = elim is [ inl f ↦ ap (λ (x : List ℕ). parts_in (x ∷ ws)
 
 declaring_words : (h next : HeadingModel) (words : List (List ℕ)) → eqb h.setup.workers 0 ≡ false → words_step h words ≡ Ok next → opens_outer words ≡ false
 declaring_words h next [] some is = refl
-declaring_words h next (w ∷ ws) some is = false_from_ne_true _ (λ outer. refused_words h next (w ∷ ws) ws some (no_sort w ws (outer_word w (parse_verb w) refl outer)) is)
+declaring_words h next (w ∷ ws) some is = false_from_ne_true _ (λ outer. refused_words h next (w ∷ ws) ws some (no_sort w ws (outer_word w (parse_line_word w) refl outer)) is)
 
 declaring_line : (h next : HeadingModel) (line : List ℕ) → HeadKeeps h → head_step h line ≡ Ok next → opens_outer (words_of line) ≡ false
 unfolding head_step
@@ -371,8 +371,8 @@ declaration_leads h next line keeps is =
     let declaring : not (opens_outer (words_of line)) ≡ true = not_from_false _ (declaring_line h next line keeps is) in
     let grows : Grows h next = head_grows h line next keeps is in
     let none : List BlockItem = [] in
-    ap (λ b. cond b (headed_on (script_of h) (head_step h line)) (cond (is_no_line line) (Err kinds.BadLine) (after_phrase (script_of h) (phrase_in (words_of line))))) declaring
-    ∙ ap (headed_on (script_of h)) is
+    ap (λ b. cond b (map_heading (script_of h) (head_step h line)) (cond (is_no_line line) (Err kinds.BadLine) (after_phrase (script_of h) (phrase_in (words_of line))))) declaring
+    ∙ ap (map_heading (script_of h)) is
     ∙ ap (λ n. Ok (state next [] (replicate n none) None [])) (sym grows.workers)
 
 declarations_lead : (h end : HeadingModel) (lines more : List (List ℕ)) (t : Stage) → HeadKeeps h → LinesLead h lines end → Leads (Reading (script_of end)) more t → Leads (Reading (script_of h)) (lines ++ more) t
@@ -389,7 +389,7 @@ unfolding step
 header_leads One = refl
 header_leads Two = refl
 
-limit_leads : (v : Version) (n : ℕ) → 1 ≤ n → n ≤ greatest_limit v → step (Limiting v) (limit_line n) ≡ Ok (Naming (bound v n))
+limit_leads : (v : Version) (n : ℕ) → 1 ≤ n → n ≤ greatest_limit v → step (Limiting v) (limit_line n) ≡ Ok (Naming (version_limit v n))
 unfolding step limit_step
 limit_leads v n low high =
     let small : n < 2 ^ 48 = limit_low v n high in
@@ -402,11 +402,11 @@ limit_leads v n low high =
     ∙ ap (λ ws. limit_or v (limit_digits ws)) words
     ∙ ap (λ b. limit_or v (cond b (Some (decimal n)) None)) form
     ∙ ap (after_limit v) number
-    ∙ ap (λ b. cond b (Ok (Naming (bound v n))) (Err kinds.BadNumber)) range
+    ∙ ap (λ b. cond b (Ok (Naming (version_limit v n))) (Err kinds.BadNumber)) range
 
-workers_lead : (v : Version) (n : ℕ) (line : List ℕ) (h : HeadingModel) → head_step (empty_heading v n []) line ≡ Ok h → step (Naming (bound v n)) line ≡ Ok (Reading (script_of h))
+workers_lead : (v : Version) (n : ℕ) (line : List ℕ) (h : HeadingModel) → head_step (empty_heading v n []) line ≡ Ok h → step (Naming (version_limit v n)) line ≡ Ok (Reading (script_of h))
 unfolding step
-workers_lead v n line h is = ap named_on is
+workers_lead v n line h is = ap stage_of_heading is
 
 heading_leads : (o : HeaderTree) → IsHeaderTree o → (more : List (List ℕ)) (t : Stage) → Leads (Reading (script_of (heading_of_tree o))) more t → Leads Opening (script_header o.version ∷ heading_lines o ++ more) t
 heading_leads o is more t leads =
@@ -414,7 +414,7 @@ heading_leads o is more t leads =
       Limiting o.version,
       header_leads o.version,
       (
-        Naming (bound o.version o.limit),
+        Naming (version_limit o.version o.limit),
         limit_leads o.version o.limit is.low is.high,
         (
           Reading (script_of heads.0),

@@ -5,7 +5,7 @@ use Rattle.std.proofs.lemmas.List.Splits.{slice_split_at, slice_split_none}
 use Rattle.std.proofs.lemmas.List.Elements.{All-weaker}
 use Rattle.ec_script.specs.declared.stage.Stage.{Stage}
 use Rattle.ec_script.specs.Reading.{step}
-use Rattle.ec_script.specs.Outcome.{lines_of_text, goes, after_line, parse_end, first_or_empty}
+use Rattle.ec_script.specs.Outcome.{lines_of_text, parse_from, after_line, parse_end, first_or_empty}
 use Rattle.ec_text.proofs.shared.WordLemmas.{onto_has}
 
 -- a list of parts has a first
@@ -41,13 +41,13 @@ first_rest rest none = ap first_or_empty (parts_rest rest (no_lf rest none))
 pub ruleset first_lines = (first_line, first_rest)
 
 -- the text goes on after a line
-pub goes_line : (n : ℕ) (s : Stage) (line more : List ℕ) → All (λ b. eqb b 10 ≡ false) line → goes n s (lines_of_text (line ++ 10 ∷ more)) ≡ after_line n (step s line) (λ t. goes (n + 1) t (lines_of_text more))
-unfolding goes
+pub goes_line : (n : ℕ) (s : Stage) (line more : List ℕ) → All (λ b. eqb b 10 ≡ false) line → parse_from n s (lines_of_text (line ++ 10 ∷ more)) ≡ after_line n (step s line) (λ t. parse_from (n + 1) t (lines_of_text more))
+unfolding parse_from
 goes_line n s line more none =
     let f : HasFirst more = has_first more in
     rw (parts_line line more none, f.is) refl
 
 -- the text ends in a line
-pub goes_rest : (n : ℕ) (s : Stage) (rest : List ℕ) → All (λ b. eqb b 10 ≡ false) rest → goes n s (lines_of_text rest) ≡ parse_end n s rest
-unfolding goes
+pub goes_rest : (n : ℕ) (s : Stage) (rest : List ℕ) → All (λ b. eqb b 10 ≡ false) rest → parse_from n s (lines_of_text rest) ≡ parse_end n s rest
+unfolding parse_from
 goes_rest n s rest none = rw (parts_rest rest none) refl

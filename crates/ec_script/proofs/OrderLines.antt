@@ -42,8 +42,8 @@ use Rattle.ec_script.specs.Objects.{object_for, group_place, group_in, buffer_in
 use Rattle.ec_heading.specs.Groups.{buffer_of, database_of, semaphore_of, both_of}
 use Rattle.ec_script.specs.Kinds.{is_no_value, cells_of, is_count, is_bad_tail}
 use Rattle.ec_script.specs.BlockItems.{amount_of, amount_in, size_in}
-use Rattle.ec_script.specs.Layout.{order_by, IsLineOfItem, Block, IsBlock, texts_of, orders_of, worker_line, block_lines, schedule_line, Layout, IsLayout, layout_lines}
-use Rattle.ec_script.specs.Spelling.{value_word, group_word, command_words, order_words, order_line, spelled_block, script_lines, ordered_blocks, LinesAreSpelled, LayoutsAreSpelled}
+use Rattle.ec_script.specs.Layout.{item_by, IsLineOfItem, Block, IsBlock, texts_of, items_of, worker_line, block_lines, schedule_line, Layout, IsLayout, layout_lines}
+use Rattle.ec_script.specs.Spelling.{value_word, group_word, command_words, item_words, item_line, spelled_block, script_lines, blocks_of_items, LinesAreSpelled, LayoutsAreSpelled}
 use Rattle.ec_script.specs.Phrased.{verb_word, behind_verb, Worded}
 use Rattle.ec_script.proofs.PhraseWords.{worded}
 use Rattle.ec_script.proofs.Blocks.{line_of, no_words}
@@ -182,7 +182,7 @@ semaphore_named h word s is found = group_named h word (groups.Semaphore s) (Seq
 
 -- COMMANDS
 
-rolled : (h : HeadingModel) (d : Command-F Command) (c : Command) → roll-Command d ≡ c → order_words h (Do c) ≡ command_words h d
+rolled : (h : HeadingModel) (d : Command-F Command) (c : Command) → roll-Command d ≡ c → item_words h (Do c) ≡ command_words h d
 rolled h d c is = ap (λ x. command_words h (out-Command x)) (sym is) ∙ ap (command_words h) (out-roll-Command d)
 
 -- what is known of the header
@@ -192,10 +192,10 @@ record Known (h : HeadingModel) : Type 0 where
 
 -- the words of an item that a line says
 abbrev Spells : HeadingModel → LineWord → List ℕ → List (List ℕ) → Object → Type 0
-Spells h v w us o = (order : BlockItem) → order_by v o us ≡ Some order → order_words h order ≡ verb_word v ∷ w ∷ us
+Spells h v w us o = (item : BlockItem) → item_by v o us ≡ Some item → item_words h item ≡ verb_word v ∷ w ∷ us
 
-by_command : (h : HeadingModel) (d : Command-F Command) (c : Command) (order : BlockItem) (words : List (List ℕ)) → roll-Command d ≡ c → Some (Do c) ≡ Some order → command_words h d ≡ words → order_words h order ≡ words
-by_command h d c order words rolls is spelled = (let same : Do c ≡ order = cc in ap (order_words h) (sym same) ∙ rolled h d c rolls ∙ spelled)
+by_command : (h : HeadingModel) (d : Command-F Command) (c : Command) (item : BlockItem) (words : List (List ℕ)) → roll-Command d ≡ c → Some (Do c) ≡ Some item → command_words h d ≡ words → item_words h item ≡ words
+by_command h d c item words rolls is spelled = (let same : Do c ≡ item = cc in ap (item_words h) (sym same) ∙ rolled h d c rolls ∙ spelled)
 
 of_event : (h : HeadingModel) (v : LineWord) (w : List ℕ) (us : List (List ℕ)) (o : Object) (x : Option ℕ) → event_in h.words w ≡ x → ((e : ℕ) → event_in h.words w ≡ Some e → Spells h v w us (Event e)) → option_map Event x ≡ Some o → Spells h v w us o
 of_event h v w us o None at f is = cc
@@ -243,8 +243,8 @@ receiver_named names [] b apart found = cc
 receiver_named names (u ∷ []) b apart found = ap (λ (x : List ℕ). x ∷ []) (worker_spelled names u b apart found)
 receiver_named names (u ∷ v ∷ us) b apart found = cc
 
-write_words : (h : HeadingModel) (d : Database) (vs : List Value) (order : BlockItem) (w : List ℕ) (us : List (List ℕ)) → Some (Write d vs) ≡ Some order → group_word h (Event d.start) ≡ w → map value_word vs ≡ us → order_words h order ≡ codes "write" ∷ w ∷ us
-write_words h d vs order w us is name values = (let same : Write d vs ≡ order = cc in ap (order_words h) (sym same) ∙ ap₂ (λ (x : List ℕ) (xs : List (List ℕ)). codes "write" ∷ x ∷ xs) name values)
+write_words : (h : HeadingModel) (d : Database) (vs : List Value) (item : BlockItem) (w : List ℕ) (us : List (List ℕ)) → Some (Write d vs) ≡ Some item → group_word h (Event d.start) ≡ w → map value_word vs ≡ us → item_words h item ≡ codes "write" ∷ w ∷ us
+write_words h d vs item w us is name values = (let same : Write d vs ≡ item = cc in ap (item_words h) (sym same) ∙ ap₂ (λ (x : List ℕ) (xs : List (List ℕ)). codes "write" ∷ x ∷ xs) name values)
 
 two : (c : List ℕ) (x w : List ℕ) (us : List (List ℕ)) → x ≡ w → us ≡ [] → c ∷ x ∷ [] ≡ c ∷ w ∷ us
 two c x w us is none = ap₂ (λ (y : List ℕ) (ys : List (List ℕ)). c ∷ y ∷ ys) is (sym none)
@@ -258,60 +258,60 @@ IsTailOf v us o = (is_tail (tail_of v) us ≡ true) × (is_bad_tail (tail_of v) 
 
 object_spelled : (h : HeadingModel) → Known h → (v : LineWord) (w : List ℕ) (us : List (List ℕ)) (o : Object) → IsCommand v → IsTailOf v us o → object_for h v w us ≡ Some o → Spells h v w us o
 object_spelled h k verbs.Advance w us o command tail is =
-    of_event h verbs.Advance w us o (event_in h.words w) refl (λ e at order says.
-    by_command h (layer.Advance e) (commands.Advance e) order (codes "advance" ∷ w ∷ us) (commands.rolls-Advance e) says
+    of_event h verbs.Advance w us o (event_in h.words w) refl (λ e at item says.
+    by_command h (layer.Advance e) (commands.Advance e) item (codes "advance" ∷ w ∷ us) (commands.rolls-Advance e) says
     (two (codes "advance") _ w us (event_spelled h.words w e k.apart at) (no_words us tail.0))) is
 object_spelled h k verbs.Read w us o command tail is =
-    of_event h verbs.Read w us o (event_in h.words w) refl (λ e at order says.
-    by_command h (layer.Read e) (commands.Read e) order (codes "read" ∷ w ∷ us) (commands.rolls-Read e) says
+    of_event h verbs.Read w us o (event_in h.words w) refl (λ e at item says.
+    by_command h (layer.Read e) (commands.Read e) item (codes "read" ∷ w ∷ us) (commands.rolls-Read e) says
     (two (codes "read") _ w us (event_spelled h.words w e k.apart at) (no_words us tail.0))) is
 object_spelled h k verbs.Await w us o command tail is =
-    of_event h verbs.Await w us o (event_in h.words w) refl (λ e at order says.
-    by_command h (layer.Await e (amount_in us)) (commands.Await e (amount_in us)) order (codes "await" ∷ w ∷ us) (commands.rolls-Await e (amount_in us)) says
+    of_event h verbs.Await w us o (event_in h.words w) refl (λ e at item says.
+    by_command h (layer.Await e (amount_in us)) (commands.Await e (amount_in us)) item (codes "await" ∷ w ∷ us) (commands.rolls-Await e (amount_in us)) says
     (three (codes "await") _ _ w us (event_spelled h.words w e k.apart at) (one_amount us (is_one _ us tail.0) tail.1))) is
 object_spelled h k verbs.Ticket w us o command tail is =
-    of_sequencer h verbs.Ticket w us o (sequencer_in h.words w) refl (λ q at order says.
-    by_command h (layer.Ticket q) (commands.Ticket q) order (codes "ticket" ∷ w ∷ us) (commands.rolls-Ticket q) says
+    of_sequencer h verbs.Ticket w us o (sequencer_in h.words w) refl (λ q at item says.
+    by_command h (layer.Ticket q) (commands.Ticket q) item (codes "ticket" ∷ w ∷ us) (commands.rolls-Ticket q) says
     (two (codes "ticket") _ w us (sequencer_spelled h.words w q k.apart at) (no_words us tail.0))) is
 object_spelled h k verbs.Put w us o command tail is =
-    of_cell h verbs.Put w us o (cell_in_word h.words w) refl (λ x at order says.
-    by_command h (layer.Put x (amount_in us)) (commands.Put x (amount_in us)) order (codes "put" ∷ w ∷ us) (commands.rolls-Put x (amount_in us)) says
+    of_cell h verbs.Put w us o (cell_in_word h.words w) refl (λ x at item says.
+    by_command h (layer.Put x (amount_in us)) (commands.Put x (amount_in us)) item (codes "put" ∷ w ∷ us) (commands.rolls-Put x (amount_in us)) says
     (three (codes "put") _ _ w us (cell_spelled h.words w x k.apart at) (one_amount us (is_one _ us tail.0) tail.1))) is
 object_spelled h k verbs.Get w us o command tail is =
-    of_cell h verbs.Get w us o (cell_in_word h.words w) refl (λ x at order says.
-    by_command h (layer.Get x) (commands.Get x) order (codes "get" ∷ w ∷ us) (commands.rolls-Get x) says
+    of_cell h verbs.Get w us o (cell_in_word h.words w) refl (λ x at item says.
+    by_command h (layer.Get x) (commands.Get x) item (codes "get" ∷ w ∷ us) (commands.rolls-Get x) says
     (two (codes "get") _ w us (cell_spelled h.words w x k.apart at) (no_words us tail.0))) is
 object_spelled h k verbs.Hand w us o command tail is =
-    of_handed h verbs.Hand w us o (event_in h.words w) (option_and_then (worker_in h.words) (only_in us)) refl refl (λ e b at to order says.
-    by_command h (layer.Hand e b) (commands.Hand e b) order (codes "hand" ∷ w ∷ us) (commands.rolls-Hand e b) says
+    of_handed h verbs.Hand w us o (event_in h.words w) (option_and_then (worker_in h.words) (only_in us)) refl refl (λ e b at to item says.
+    by_command h (layer.Hand e b) (commands.Hand e b) item (codes "hand" ∷ w ∷ us) (commands.rolls-Hand e b) says
     (three (codes "hand") _ _ w us (event_spelled h.words w e k.apart at) (sym (receiver_named h.words us b k.apart to)))) is
 object_spelled h k verbs.Produce w us o command tail is =
-    of_buffer h verbs.Produce w us o (buffer_in h w) refl (λ b at order says.
-    by_command h (layer.Produce b (amount_in us)) (commands.Produce b (amount_in us)) order (codes "produce" ∷ w ∷ us) (commands.rolls-Produce b (amount_in us)) says
+    of_buffer h verbs.Produce w us o (buffer_in h w) refl (λ b at item says.
+    by_command h (layer.Produce b (amount_in us)) (commands.Produce b (amount_in us)) item (codes "produce" ∷ w ∷ us) (commands.rolls-Produce b (amount_in us)) says
     (three (codes "produce") _ _ w us (buffer_named h w b k.owning at) (one_amount us (is_one _ us tail.0) tail.1))) is
 object_spelled h k verbs.Consume w us o command tail is =
-    of_buffer h verbs.Consume w us o (buffer_in h w) refl (λ b at order says.
-    by_command h (layer.Consume b) (commands.Consume b) order (codes "consume" ∷ w ∷ us) (commands.rolls-Consume b) says
+    of_buffer h verbs.Consume w us o (buffer_in h w) refl (λ b at item says.
+    by_command h (layer.Consume b) (commands.Consume b) item (codes "consume" ∷ w ∷ us) (commands.rolls-Consume b) says
     (two (codes "consume") _ w us (buffer_named h w b k.owning at) (no_words us tail.0))) is
 object_spelled h k verbs.Write w us o command tail is =
-    of_database h verbs.Write w us o (database_in h w) refl (λ d at order says.
-    write_words h d (map amount_of us) order w us says (database_named h w d k.owning at)
+    of_database h verbs.Write w us o (database_in h w) refl (λ d at item says.
+    write_words h d (map amount_of us) item w us says (database_named h w d k.owning at)
     (sym (amounts_are us (or_parts (list_any is_no_value us) (not (length us == cells_of o)) tail.1).0))) is
 object_spelled h k verbs.Snapshot w us o command tail is =
-    of_database h verbs.Snapshot w us o (database_in h w) refl (λ d at order says.
-    by_command h (layer.Snapshot d (size_in us)) (commands.Snapshot d (size_in us)) order (codes "snapshot" ∷ w ∷ us) (commands.rolls-Snapshot d (size_in us)) says
+    of_database h verbs.Snapshot w us o (database_in h w) refl (λ d at item says.
+    by_command h (layer.Snapshot d (size_in us)) (commands.Snapshot d (size_in us)) item (codes "snapshot" ∷ w ∷ us) (commands.rolls-Snapshot d (size_in us)) says
     (three (codes "snapshot") _ _ w us (database_named h w d k.owning at) (one_count 1000 us tail.1))) is
 object_spelled h k verbs.Down w us o command tail is =
-    of_semaphore h verbs.Down w us o (semaphore_in h w) refl (λ s at order says.
-    by_command h (layer.Down s) (commands.Down s) order (codes "p" ∷ w ∷ us) (commands.rolls-Down s) says
+    of_semaphore h verbs.Down w us o (semaphore_in h w) refl (λ s at item says.
+    by_command h (layer.Down s) (commands.Down s) item (codes "p" ∷ w ∷ us) (commands.rolls-Down s) says
     (two (codes "p") _ w us (semaphore_named h w s k.owning at) (no_words us tail.0))) is
 object_spelled h k verbs.Up w us o command tail is =
-    of_semaphore h verbs.Up w us o (semaphore_in h w) refl (λ s at order says.
-    by_command h (layer.Up s) (commands.Up s) order (codes "v" ∷ w ∷ us) (commands.rolls-Up s) says
+    of_semaphore h verbs.Up w us o (semaphore_in h w) refl (λ s at item says.
+    by_command h (layer.Up s) (commands.Up s) item (codes "v" ∷ w ∷ us) (commands.rolls-Up s) says
     (two (codes "v") _ w us (semaphore_named h w s k.owning at) (no_words us tail.0))) is
 object_spelled h k verbs.DownBoth w us o command tail is =
-    of_three h verbs.DownBoth w us o (both_of h.groups) (semaphore_in h w) (option_and_then (semaphore_in h) (only_in us)) refl refl (λ r s t at too order says.
-    by_command h (layer.DownBoth r s t) (commands.DownBoth r s t) order (codes "pboth" ∷ w ∷ us) (commands.rolls-DownBoth r s t) says
+    of_three h verbs.DownBoth w us o (both_of h.groups) (semaphore_in h w) (option_and_then (semaphore_in h) (only_in us)) refl refl (λ r s t at too item says.
+    by_command h (layer.DownBoth r s t) (commands.DownBoth r s t) item (codes "pboth" ∷ w ∷ us) (commands.rolls-DownBoth r s t) says
     (three (codes "pboth") _ _ w us (semaphore_named h w s k.owning at) (sym (second_named h us t k.owning too)))) is
 object_spelled h k verbs.Repeat w us o command tail is = absurd command
 object_spelled h k verbs.End w us o command tail is = absurd command
@@ -320,34 +320,34 @@ object_spelled h k verbs.Schedule w us o command tail is = absurd command
 
 -- ANY LINE
 
-spelled_by : (h : HeadingModel) → Known h → (v : LineWord) (w : List ℕ) (us : List (List ℕ)) (o : Object) (order : BlockItem) → is_outer v ≡ false → IsTailOf v us o → object_for h v w us ≡ Some o → order_by v o us ≡ Some order
-    → order_words h order ≡ verb_word v ∷ behind_verb (has_object v) w us
-spelled_by h k verbs.Worker w us o order inner tail is says = cc
-spelled_by h k verbs.Schedule w us o order inner tail is says = cc
-spelled_by h k verbs.Repeat w us o order inner tail is says = (let same : Begin (size_in us) ≡ order = cc in ap (order_words h) (sym same) ∙ ap (λ (xs : List (List ℕ)). codes "repeat" ∷ xs) (sym (one_count 1000000 us tail.1)))
-spelled_by h k verbs.End w us o order inner tail is says = (let same : End ≡ order = cc in ap (order_words h) (sym same) ∙ ap (λ (xs : List (List ℕ)). codes "end" ∷ xs) (sym (no_words us tail.0)))
-spelled_by h k v w us o order inner tail is says = object_spelled h k v w us o tt tail is order says
+spelled_by : (h : HeadingModel) → Known h → (v : LineWord) (w : List ℕ) (us : List (List ℕ)) (o : Object) (item : BlockItem) → is_outer v ≡ false → IsTailOf v us o → object_for h v w us ≡ Some o → item_by v o us ≡ Some item
+    → item_words h item ≡ verb_word v ∷ behind_verb (has_object v) w us
+spelled_by h k verbs.Worker w us o item inner tail is says = cc
+spelled_by h k verbs.Schedule w us o item inner tail is says = cc
+spelled_by h k verbs.Repeat w us o item inner tail is says = (let same : Begin (size_in us) ≡ item = cc in ap (item_words h) (sym same) ∙ ap (λ (xs : List (List ℕ)). codes "repeat" ∷ xs) (sym (one_count 1000000 us tail.1)))
+spelled_by h k verbs.End w us o item inner tail is says = (let same : End ≡ item = cc in ap (item_words h) (sym same) ∙ ap (λ (xs : List (List ℕ)). codes "end" ∷ xs) (sym (no_words us tail.0)))
+spelled_by h k v w us o item inner tail is says = object_spelled h k v w us o tt tail is item says
 
 pub line_spelled : LinesAreSpelled
-unfolding order_line
-line_spelled o w line order is says =
+unfolding item_line
+line_spelled o w line item is says =
     let words : Worded (words_of line) says.phrase = worded (words_of line) says.phrase says.form in
     let k : Known (heading_of_tree o) = record { apart = (sound o is).apart; owning = owning o } in
     line_of line (verb_word says.phrase.verb ∷ behind_verb (has_object says.phrase.verb) says.phrase.object says.phrase.rest) words.are
-    ∙ ap (join_with_byte 32) (sym (spelled_by (heading_of_tree o) k says.phrase.verb says.phrase.object says.phrase.rest says.object order says.inner (words.tail, says.range) says.declared says.says))
+    ∙ ap (join_with_byte 32) (sym (spelled_by (heading_of_tree o) k says.phrase.verb says.phrase.object says.phrase.rest says.object item says.inner (words.tail, says.range) says.declared says.says))
 
 -- WHOLE LAYOUTS
 
-lines_spelled : (o : HeaderTree) → IsHeaderTree o → (w : ℕ) (lines : List (List ℕ × BlockItem)) → AllByRecursion (λ (l : List ℕ × BlockItem). IsLineOfItem (heading_of_tree o) w l.0 l.1) lines → texts_of lines ≡ map (order_line (heading_of_tree o)) (orders_of lines)
+lines_spelled : (o : HeaderTree) → IsHeaderTree o → (w : ℕ) (lines : List (List ℕ × BlockItem)) → AllByRecursion (λ (l : List ℕ × BlockItem). IsLineOfItem (heading_of_tree o) w l.0 l.1) lines → texts_of lines ≡ map (item_line (heading_of_tree o)) (items_of lines)
 lines_spelled o is w [] all = refl
 lines_spelled o is w (l ∷ lines) all = ap₂ (λ (x : List ℕ) (xs : List (List ℕ)). x ∷ xs) (line_spelled o w l.0 l.1 is all.0) (lines_spelled o is w lines all.1)
 
-blocks_spelled : (o : HeaderTree) → IsHeaderTree o → (blocks : List Block) → AllByRecursion (IsBlock (heading_of_tree o)) blocks → flat_map (block_lines o.workers) blocks ≡ flat_map (spelled_block o) (ordered_blocks blocks)
+blocks_spelled : (o : HeaderTree) → IsHeaderTree o → (blocks : List Block) → AllByRecursion (IsBlock (heading_of_tree o)) blocks → flat_map (block_lines o.workers) blocks ≡ flat_map (spelled_block o) (blocks_of_items blocks)
 blocks_spelled o is [] all = refl
 blocks_spelled o is (b ∷ blocks) all =
     ap₂ (λ (xs ys : List (List ℕ)). (worker_line o.workers b.worker ∷ xs ++ codes "end" ∷ []) ++ ys) (lines_spelled o is b.worker b.lines all.0.each) (blocks_spelled o is blocks all.1)
 
-pub layout_lines_are : (l : Layout) → IsLayout l → layout_lines l ≡ script_lines l.outline (ordered_blocks l.blocks) l.rows
+pub layout_lines_are : (l : Layout) → IsLayout l → layout_lines l ≡ script_lines l.outline (blocks_of_items l.blocks) l.rows
 layout_lines_are l is =
     ap (λ (ls : List (List ℕ)). script_header l.outline.version ∷ heading_lines l.outline ++ (ls ++ map (schedule_line l.outline.workers) l.rows)) (blocks_spelled l.outline is.heading l.blocks is.blocks)
 

@@ -24,7 +24,7 @@ use Rattle.ec_script.specs.declared.fault.Kind.TheVariants as kinds
 use Rattle.ec_script.specs.declared.kinds.BlockContext.{BlockContext}
 use Rattle.ec_script.specs.declared.object.Object.{Object}
 use Rattle.ec_script.specs.declared.object.Object.TheVariants.{Nothing, Worker, OfDatabase}
-use Rattle.ec_script.specs.declared.script.Block.{Block}
+use Rattle.ec_script.specs.declared.script.OpenBlock.{OpenBlock}
 use Rattle.ec_script.specs.declared.verb.LineWord.{LineWord}
 use Rattle.ec_script.specs.declared.verb.LineWord.TheVariants as verbs
 use Rattle.ec_script.specs.Forms.{Phrase, is_value_form, only_in, more_in, last_plus, number_or_more, value_of, is_tail}
@@ -33,7 +33,7 @@ use Rattle.ec_script.specs.Kinds.{is_no_value, cells_of, is_count, is_allowed, i
 use Rattle.ec_script.specs.Objects.{object_for, object_in, database_in, owns, is_owned}
 use Rattle.ec_script.specs.Reading.{view_of_block, context_of_script}
 use Rattle.ec_script.specs.ScriptModel.{ScriptModel}
-use Rattle.ec_script.specs.Verbs.{has_verb, tail_of, is_giving, is_counted}
+use Rattle.ec_script.specs.Verbs.{has_verb, tail_of, is_update, is_counted}
 use Rattle.ec_script.proofs.Deciding.{never, decides_none, decides_not, decides_itself, decides_any, decides_member, decides_number, decides_block}
 use Rattle.ec_script.proofs.HeadKinds.{unknown_decided}
 use Rattle.ec_script.proofs.OrderLines.{value_back}
@@ -127,7 +127,7 @@ one_more : (n : ℕ) → Decides (nat_le 4096 n) (4096 < n + 1)
 one_more n = ((λ e. (let le = leb-true 4096 n e in omega (arith, le))), λ lt. le-leb 4096 n (omega (arith, lt)))
 
 -- a line of a block
-block_many : (v : LineWord) (n : ℕ) (o : Option Block) → Decides (option_map_or (λ (x : BlockContext). is_counted v && nat_le 4096 x.commands) (option_map view_of_block o) false) ((b : Block) × (o ≡ Some b) × ((is_counted v ≡ true) × (4096 < b.draft.commands + 1)))
+block_many : (v : LineWord) (n : ℕ) (o : Option OpenBlock) → Decides (option_map_or (λ (x : BlockContext). is_counted v && nat_le 4096 x.commands) (option_map view_of_block o) false) ((b : OpenBlock) × (o ≡ Some b) × ((is_counted v ≡ true) × (4096 < b.draft.commands + 1)))
 block_many v n o =
     decides_block o (λ x. option_map_or (λ (y : BlockContext). is_counted v && nat_le 4096 y.commands) x false) (λ b. (is_counted v ≡ true) × (4096 < b.draft.commands + 1)) refl
     (λ b. Decides-and (is_counted v) (nat_le 4096 b.draft.commands) (decides_itself (is_counted v)) (one_more b.draft.commands))
@@ -170,11 +170,11 @@ roles_decided h p is = (
   ]) refl,
 )
 
-right_decided : (h : HeadingModel) (v : LineWord) (o : Option Object) (w : ℕ) → Decides (not (has_right h.version h.setup w (is_giving v) (or_nothing o))) ((x : Object) × (o ≡ Some x) × (has_right h.version h.setup w (is_giving v) x ≡ false))
+right_decided : (h : HeadingModel) (v : LineWord) (o : Option Object) (w : ℕ) → Decides (not (has_right h.version h.setup w (is_update v) (or_nothing o))) ((x : Object) × (o ≡ Some x) × (has_right h.version h.setup w (is_update v) x ≡ false))
 right_decided h v o w =
-    decides_object o (λ x. not (has_right h.version h.setup w (is_giving v) x)) (λ x. has_right h.version h.setup w (is_giving v) x ≡ false) refl (λ x. decides_not (has_right h.version h.setup w (is_giving v) x))
+    decides_object o (λ x. not (has_right h.version h.setup w (is_update v) x)) (λ x. has_right h.version h.setup w (is_update v) x ≡ false) refl (λ x. decides_not (has_right h.version h.setup w (is_update v) x))
 
-misplaced_decided : (v : LineWord) (b : Block) → Decides (is_badly_nested v (Some (view_of_block b))) (IsMisplaced b v)
+misplaced_decided : (v : LineWord) (b : OpenBlock) → Decides (is_badly_nested v (Some (view_of_block b))) (IsMisplaced b v)
 misplaced_decided verbs.Worker b = ((λ e. tt), λ t. refl)
 misplaced_decided verbs.Schedule b = ((λ e. tt), λ t. refl)
 misplaced_decided verbs.Repeat b = (leb-true 4 b.draft.depth, le-leb 4 b.draft.depth)
@@ -205,7 +205,7 @@ other_decided s p kinds.Hidden is tail =
     (λ o. decides_any (owns o) (λ (g : Group). owns o g ≡ true) (λ g. decides_itself (owns o g)) s.heading.groups)
 other_decided s p kinds.TwoRoles is tail = roles_decided s.heading p is
 other_decided s p kinds.NoRight is tail =
-    decides_block s.block (λ n. lacks_right s.heading n p.verb (or_nothing (object_in s.heading p))) (λ b. About s p (λ o. has_right s.heading.version s.heading.setup b.worker (is_giving p.verb) o ≡ false)) refl
+    decides_block s.block (λ n. lacks_right s.heading n p.verb (or_nothing (object_in s.heading p))) (λ b. About s p (λ o. has_right s.heading.version s.heading.setup b.worker (is_update p.verb) o ≡ false)) refl
     (λ b. right_decided s.heading p.verb (object_in s.heading p) b.worker)
 other_decided s p kinds.BadNesting is tail = decides_block s.block (is_badly_nested p.verb) (λ b. IsMisplaced b p.verb) refl (misplaced_decided p.verb)
 other_decided s p _ is tail = never (λ t. t)

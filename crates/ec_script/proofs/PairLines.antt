@@ -9,14 +9,14 @@ use Rattle.ec_heading.specs.declared.heading.HeadFault.{HeadFault}
 use Rattle.ec_heading.specs.declared.heading.HeadFault.TheVariants as heads
 use Rattle.ec_script.specs.declared.fault.Kind.{Kind}
 use Rattle.ec_script.specs.declared.fault.Kind.TheVariants as kinds
-use Rattle.ec_script.specs.declared.script.Block.{Block}
+use Rattle.ec_script.specs.declared.script.OpenBlock.{OpenBlock}
 use Rattle.ec_script.specs.declared.stage.Stage.TheVariants.{Opening, Reading}
 use Rattle.ec_script.specs.Faults.{kind_of_head}
 use Rattle.ec_script.specs.Forms.{Phrase, phrase_in}
 use Rattle.ec_script.specs.Objects.{object_in}
 use Rattle.ec_script.specs.Kinds.{phrase_fault}
 use Rattle.ec_script.specs.ScriptModel.{ScriptModel}
-use Rattle.ec_script.specs.Reading.{view_of_block, context_of_script, after, fault_or, after_phrase, headed_on, is_declaring, opens_outer, script_step, read_on, step}
+use Rattle.ec_script.specs.Reading.{view_of_block, context_of_script, after, fault_or, after_phrase, map_heading, is_declaring, opens_outer, script_step, read_on, step}
 use Rattle.ec_script.specs.Pairs.{PairsOneName, LinesOfTwoRoles}
 use Rattle.ec_script.proofs.shared.Keeping.{Keeps, not_bare, leads_keeps}
 use Rattle.ec_script.proofs.LedHeadings.{lines_lead}
@@ -35,9 +35,9 @@ head_roles heads.Memory is = cc
 same_kind : {S : Type 0} (k l : Kind) (r : Result S Kind) → r ≡ Err k → r ≡ Err l → k ≡ l
 same_kind k l r is too = cc
 
-headed_roles : (s : ScriptModel) (r : Result HeadingModel HeadFault) → headed_on s r ≡ Err kinds.TwoRoles → r ≡ Err heads.TwoRoles
+headed_roles : (s : ScriptModel) (r : Result HeadingModel HeadFault) → map_heading s r ≡ Err kinds.TwoRoles → r ≡ Err heads.TwoRoles
 headed_roles s (Ok h) is = cc
-headed_roles s (Err f) is = ap Err (head_roles f (same_kind (kind_of_head f) kinds.TwoRoles (headed_on s (Err f)) refl is))
+headed_roles s (Err f) is = ap Err (head_roles f (same_kind (kind_of_head f) kinds.TwoRoles (map_heading s (Err f)) refl is))
 
 faulted : (o : Option Kind) (s : ScriptModel) (k : Kind) → fault_or o s ≡ Err k → o ≡ Some k
 faulted None s k is = cc
@@ -60,7 +60,7 @@ line_roles : (s : ScriptModel) (line : List ℕ) → IsHeading s.heading → scr
 unfolding script_step
 line_roles s line is returned =
     (elim (is_declaring s && not (opens_outer (words_of line))) as (λ b.
-    cond b (headed_on s (head_step s.heading line)) (cond (is_no_line line) (Err kinds.BadLine) (after_phrase s (phrase_in (words_of line)))) ≡ Err kinds.TwoRoles
+    cond b (map_heading s (head_step s.heading line)) (cond (is_no_line line) (Err kinds.BadLine) (after_phrase s (phrase_in (words_of line)))) ≡ Err kinds.TwoRoles
     → (head_step s.heading line ≡ Err heads.TwoRoles) ⊎ PairsOneName s line) [
       | true ↦ λ t. inl (headed_roles s (head_step s.heading line) t)
       | false ↦ λ t. inr ((elim (is_no_line line) as (λ b. is_no_line line ≡ b → cond b (Err kinds.BadLine) (after_phrase s (phrase_in (words_of line))) ≡ Err kinds.TwoRoles → PairsOneName s line) [
@@ -70,7 +70,7 @@ line_roles s line is returned =
     ]) returned
 
 -- a line in a block comes after a `worker` line
-some_block : (b : Option Block) → is_some (option_map view_of_block b) ≡ true → (x : Block) × (b ≡ Some x)
+some_block : (b : Option OpenBlock) → is_some (option_map view_of_block b) ≡ true → (x : OpenBlock) × (b ≡ Some x)
 some_block None is = cc
 some_block (Some x) is = (x, refl)
 
@@ -84,7 +84,7 @@ no_declaring s keeps inside =
 pair_told : (s : ScriptModel) (line : List ℕ) → IsHeading s.heading → Keeps s → PairsOneName s line → script_step s line ≡ Err kinds.TwoRoles
 unfolding script_step
 pair_told s line is keeps pairs =
-    ap (λ b. cond (b && not (opens_outer (words_of line))) (headed_on s (head_step s.heading line)) (cond (is_no_line line) (Err kinds.BadLine) (after_phrase s (phrase_in (words_of line)))))
+    ap (λ b. cond (b && not (opens_outer (words_of line))) (map_heading s (head_step s.heading line)) (cond (is_no_line line) (Err kinds.BadLine) (after_phrase s (phrase_in (words_of line)))))
     (no_declaring s keeps pairs.names.inside)
     ∙ ap (λ b. cond b (Err kinds.BadLine) (after_phrase s (phrase_in (words_of line)))) pairs.plain
     ∙ ap (after_phrase s) pairs.form

@@ -15,7 +15,7 @@ use Rattle.ec_script.specs.Forms.{Phrase, phrase_in}
 use Rattle.ec_script.specs.Objects.{object_in, is_owned}
 use Rattle.ec_script.specs.Kinds.{LineContextModel, phrase_fault, or_nothing, is_allowed, is_named_again, has_unknown_name, is_bad_tail, is_too_many, has_two_roles, lacks_right, is_badly_nested}
 use Rattle.ec_script.specs.ScriptModel.{ScriptModel}
-use Rattle.ec_script.specs.Reading.{context_of_script, after, fault_or, after_phrase, headed_on, is_declaring, opens_outer, script_step, read_on}
+use Rattle.ec_script.specs.Reading.{context_of_script, after, fault_or, after_phrase, map_heading, is_declaring, opens_outer, script_step, read_on}
 use Rattle.ec_script.proofs.shared.Keeping.{unfaulted as faultless}
 
 -- no test holds of the line
@@ -102,7 +102,7 @@ no_fault_of s p o h =
 -- A LINE
 
 -- the line is accepted as a phrase, and leads on
-pub record IsTaken (s : ScriptModel) (line : List ℕ) (t : ScriptModel) : Type 0 where
+pub record IsAcceptedAs (s : ScriptModel) (line : List ℕ) (t : ScriptModel) : Type 0 where
   pub whole : is_no_line line ≡ false
   pub phrase : Phrase
   pub form : phrase_in (words_of line) ≡ Some phrase
@@ -110,30 +110,30 @@ pub record IsTaken (s : ScriptModel) (line : List ℕ) (t : ScriptModel) : Type 
   pub leads : after s phrase ≡ t
 
 -- the line is not read as a declaration
-abbrev pub IsBehind : ScriptModel → List ℕ → Type 0
-IsBehind s line = (is_declaring s && not (opens_outer (words_of line))) ≡ false
+abbrev pub IsNoDeclaration : ScriptModel → List ℕ → Type 0
+IsNoDeclaration s line = (is_declaring s && not (opens_outer (words_of line))) ≡ false
 
-phrased_back : (s t : ScriptModel) (line : List ℕ) (o : Option Phrase) → is_no_line line ≡ false → phrase_in (words_of line) ≡ o → after_phrase s o ≡ Ok t → IsTaken s line t
+phrased_back : (s t : ScriptModel) (line : List ℕ) (o : Option Phrase) → is_no_line line ≡ false → phrase_in (words_of line) ≡ o → after_phrase s o ≡ Ok t → IsAcceptedAs s line t
 phrased_back s t line None whole form is = cc
 phrased_back s t line (Some p) whole form is =
     let f = faultless (phrase_fault (context_of_script s) p (object_in s.heading p)) (after s p) t is in
     record { whole = whole; phrase = p; form = form; passes = passes (context_of_script s) p (object_in s.heading p) f.0; leads = f.1 }
 
-line_back : (s t : ScriptModel) (line : List ℕ) (b : Bool) → is_no_line line ≡ b → cond b (Err kinds.BadLine) (after_phrase s (phrase_in (words_of line))) ≡ Ok t → IsTaken s line t
+line_back : (s t : ScriptModel) (line : List ℕ) (b : Bool) → is_no_line line ≡ b → cond b (Err kinds.BadLine) (after_phrase s (phrase_in (words_of line))) ≡ Ok t → IsAcceptedAs s line t
 line_back s t line true whole is = cc
 line_back s t line false whole is = phrased_back s t line (phrase_in (words_of line)) whole refl is
 
-pub taken_back : (s t : ScriptModel) (line : List ℕ) → IsBehind s line → script_step s line ≡ Ok t → IsTaken s line t
+pub taken_back : (s t : ScriptModel) (line : List ℕ) → IsNoDeclaration s line → script_step s line ≡ Ok t → IsAcceptedAs s line t
 unfolding script_step
 taken_back s t line behind is =
     line_back s t line (is_no_line line) refl
-    (ap (λ b. cond b (headed_on s (head_step s.heading line)) (cond (is_no_line line) (Err kinds.BadLine) (after_phrase s (phrase_in (words_of line))))) (sym behind) ∙ is)
+    (ap (λ b. cond b (map_heading s (head_step s.heading line)) (cond (is_no_line line) (Err kinds.BadLine) (after_phrase s (phrase_in (words_of line))))) (sym behind) ∙ is)
 
 -- a line that passes is accepted
-pub taken_so : (s : ScriptModel) (line : List ℕ) (p : Phrase) → IsBehind s line → is_no_line line ≡ false → phrase_in (words_of line) ≡ Some p → Passes (context_of_script s) p (object_in s.heading p) → script_step s line ≡ Ok (after s p)
+pub taken_so : (s : ScriptModel) (line : List ℕ) (p : Phrase) → IsNoDeclaration s line → is_no_line line ≡ false → phrase_in (words_of line) ≡ Some p → Passes (context_of_script s) p (object_in s.heading p) → script_step s line ≡ Ok (after s p)
 unfolding script_step
 taken_so s line p behind whole form h =
-    ap (λ b. cond b (headed_on s (head_step s.heading line)) (cond (is_no_line line) (Err kinds.BadLine) (after_phrase s (phrase_in (words_of line))))) behind
+    ap (λ b. cond b (map_heading s (head_step s.heading line)) (cond (is_no_line line) (Err kinds.BadLine) (after_phrase s (phrase_in (words_of line))))) behind
     ∙ ap (λ b. cond b (Err kinds.BadLine) (after_phrase s (phrase_in (words_of line)))) whole
     ∙ ap (after_phrase s) form
     ∙ ap (λ o. fault_or o (after s p)) (no_fault_of (context_of_script s) p (object_in s.heading p) h)

@@ -3,7 +3,7 @@ use Rattle.std.proofs.Common.{◌≡◌, ℕ, List, [], ◌∷◌, Bool, true, f
 use Rattle.std.proofs.lemmas.Slice.Eq.{bytes_eq-Decides}
 use Rattle.ec_script.specs.declared.verb.LineWord.{LineWord}
 use Rattle.ec_script.specs.declared.verb.LineWord.TheVariants as verbs
-use Rattle.ec_script.specs.Verbs.{raw_verb_of, procedure_verb_of, order_verb_of, or_else, parse_verb, has_object, tail_of}
+use Rattle.ec_script.specs.Verbs.{raw_verb_of, procedure_verb_of, item_verb_of, or_else, parse_line_word, has_object, tail_of}
 use Rattle.ec_script.specs.Phrased.{verb_word, behind_verb, object_word, Worded}
 use Rattle.ec_script.specs.Forms.{Phrase, is_tail, tailed_in, objected_in, verbed_in, phrase_in}
 
@@ -30,18 +30,18 @@ procedure_back : (w : List ℕ) (v : LineWord) → procedure_verb_of w ≡ Some 
 procedure_back w v =
     pick w verbs.Produce _ v (pick w verbs.Consume _ v (pick w verbs.Write _ v (pick w verbs.Snapshot _ v (pick w verbs.Down _ v (pick w verbs.Up _ v (pick w verbs.DownBoth _ v (no_verb w v None refl)))))))
 
-order_back : (w : List ℕ) (v : LineWord) → order_verb_of w ≡ Some v → w ≡ verb_word v
-order_back w v = pick w verbs.Repeat _ v (pick w verbs.End _ v (pick w verbs.Worker _ v (pick w verbs.Schedule _ v (no_verb w v None refl))))
+item_back : (w : List ℕ) (v : LineWord) → item_verb_of w ≡ Some v → w ≡ verb_word v
+item_back w v = pick w verbs.Repeat _ v (pick w verbs.End _ v (pick w verbs.Worker _ v (pick w verbs.Schedule _ v (no_verb w v None refl))))
 
 or_back : (w : List ℕ) (v : LineWord) (o p : Option LineWord) → (o ≡ Some v → w ≡ verb_word v) → (p ≡ Some v → w ≡ verb_word v) → or_else o p ≡ Some v → w ≡ verb_word v
 or_back w v None p f g is = g is
 or_back w v (Some u) p f g is = f is
 
 -- it is the verb's own word
-pub verb_back : (w : List ℕ) (v : LineWord) → parse_verb w ≡ Some v → w ≡ verb_word v
-verb_back w v = or_back w v (raw_verb_of w) (or_else (procedure_verb_of w) (order_verb_of w)) (raw_back w v) (or_back w v (procedure_verb_of w) (order_verb_of w) (procedure_back w v) (order_back w v))
+pub verb_back : (w : List ℕ) (v : LineWord) → parse_line_word w ≡ Some v → w ≡ verb_word v
+verb_back w v = or_back w v (raw_verb_of w) (or_else (procedure_verb_of w) (item_verb_of w)) (raw_back w v) (or_back w v (procedure_verb_of w) (item_verb_of w) (procedure_back w v) (item_back w v))
 
-pub verb_again : (v : LineWord) → parse_verb (verb_word v) ≡ Some v
+pub verb_again : (v : LineWord) → parse_line_word (verb_word v) ≡ Some v
 verb_again verbs.Advance = refl
 verb_again verbs.Read = refl
 verb_again verbs.Await = refl
@@ -106,7 +106,7 @@ verbed_back w (Some v) ws p is h =
 pub worded : (words : List (List ℕ)) (p : Phrase) → phrase_in words ≡ Some p → Worded words p
 unfolding phrase_in
 worded [] p h = cc
-worded (w ∷ ws) p h = verbed_back w (parse_verb w) ws p (verb_back w) h
+worded (w ∷ ws) p h = verbed_back w (parse_line_word w) ws p (verb_back w) h
 
 -- such words are parsed to it
 verbed_again : (v : LineWord) (object : List ℕ) (ws : List (List ℕ)) (b : Bool) → object_word b object → is_tail (tail_of v) ws ≡ true

@@ -9,8 +9,8 @@ use Rattle.ec_script.specs.declared.parsing.TheConstants.{SCRIPT_MAX}
 use Rattle.ec_script.specs.declared.stage.Stage.{Stage}
 use Rattle.ec_script.specs.declared.stage.Stage.TheVariants.{Opening}
 use Rattle.ec_script.specs.Reading.{step}
-use Rattle.ec_script.specs.Outcome.{lines_of_text, plan_or_fault, after_line, parse_end, goes, outcome, first_or_empty, long_by, long_kind}
-use Rattle.ec_script.specs.Grammar.{IsLine, Leads, IsRefused, IsCutOff, IsFirstFault, IsLongFault, IsFault, FaultsAreTold}
+use Rattle.ec_script.specs.Outcome.{lines_of_text, plan_or_fault, after_line, parse_end, parse_from, parse_result, first_or_empty, long_by, long_kind}
+use Rattle.ec_script.specs.Grammar.{IsLine, Leads, IsRefused, IsCutOff, IsFirstFault, IsLongFault, IsFault, FaultsAreReported}
 use Rattle.ec_heading.specs.Spelling.{lines_text}
 use Rattle.ec_script.proofs.Lines.{HasFirst, has_first, parts_line, parts_rest, goes_line, goes_rest}
 use Rattle.ec_heading.specs.Versions.{version_of}
@@ -27,43 +27,43 @@ rest_ended n s [] some = absurd (omega arith)
 rest_ended n s (b ∷ bs) some = refl
 
 -- the text ends in a line
-last_line : (n : ℕ) (s : Stage) (line behind : List ℕ) → IsLine line → behind ≡ [] → goes n s (lines_of_text (line ++ behind)) ≡ parse_end n s line
-last_line n s line behind plain none = ap (λ (r : List ℕ). goes n s (lines_of_text (line ++ r))) none ∙ ap (λ (r : List ℕ). goes n s (lines_of_text r)) (append-nil line) ∙ goes_rest n s line plain
+last_line : (n : ℕ) (s : Stage) (line behind : List ℕ) → IsLine line → behind ≡ [] → parse_from n s (lines_of_text (line ++ behind)) ≡ parse_end n s line
+last_line n s line behind plain none = ap (λ (r : List ℕ). parse_from n s (lines_of_text (line ++ r))) none ∙ ap (λ (r : List ℕ). parse_from n s (lines_of_text r)) (append-nil line) ∙ goes_rest n s line plain
 
-refused_goes : (n : ℕ) (s : Stage) (line behind : List ℕ) (kind : Kind) → IsLine line → IsRefused s line behind kind → goes n s (lines_of_text (line ++ behind)) ≡ Err (n, kind)
+refused_goes : (n : ℕ) (s : Stage) (line behind : List ℕ) (kind : Kind) → IsLine line → IsRefused s line behind kind → parse_from n s (lines_of_text (line ++ behind)) ≡ Err (n, kind)
 refused_goes n s line behind kind plain (inl (more, is), refused) =
-    ap (λ (r : List ℕ). goes n s (lines_of_text (line ++ r))) is ∙ goes_line n s line more plain ∙ ap (λ r. after_line n r (λ t. goes (n + 1) t (lines_of_text more))) refused
+    ap (λ (r : List ℕ). parse_from n s (lines_of_text (line ++ r))) is ∙ goes_line n s line more plain ∙ ap (λ r. after_line n r (λ t. parse_from (n + 1) t (lines_of_text more))) refused
 refused_goes n s line behind kind plain (inr (none, some), refused) =
     last_line n s line behind plain none ∙ rest_ended n s line some ∙ ap (λ r. after_line n r (λ t. Err (n, kinds.Unfinished))) refused
 
-cut_goes : (n : ℕ) (s : Stage) (line behind : List ℕ) (kind : Kind) → IsLine line → IsCutOff s line behind kind → goes n s (lines_of_text (line ++ behind)) ≡ Err (n, kind)
+cut_goes : (n : ℕ) (s : Stage) (line behind : List ℕ) (kind : Kind) → IsLine line → IsCutOff s line behind kind → parse_from n s (lines_of_text (line ++ behind)) ≡ Err (n, kind)
 cut_goes n s line behind kind plain (none, is, inl (some, (next, taken_on))) =
     last_line n s line behind plain none ∙ rest_ended n s line some ∙ ap (λ r. after_line n r (λ t. Err (n, kinds.Unfinished))) taken_on ∙ ap (λ k. Err (n, k)) (sym is)
 cut_goes n s line behind kind plain (none, is, inr (empty, no_plan)) =
     last_line n s line behind plain none ∙ ap (parse_end n s) empty ∙ ap (plan_or_fault n) no_plan ∙ ap (λ k. Err (n, k)) (sym is)
 
-at_fault : (n : ℕ) (s : Stage) (line behind : List ℕ) (kind : Kind) → IsLine line → IsRefused s line behind kind ⊎ IsCutOff s line behind kind → goes n s (lines_of_text (line ++ behind)) ≡ Err (n, kind)
+at_fault : (n : ℕ) (s : Stage) (line behind : List ℕ) (kind : Kind) → IsLine line → IsRefused s line behind kind ⊎ IsCutOff s line behind kind → parse_from n s (lines_of_text (line ++ behind)) ≡ Err (n, kind)
 at_fault n s line behind kind plain (inl refused) = refused_goes n s line behind kind plain refused
 at_fault n s line behind kind plain (inr cut) = cut_goes n s line behind kind plain cut
 
 faulty_goes : (n : ℕ) (s t : Stage) (before : List (List ℕ)) (line behind : List ℕ) (kind : Kind) → AllByRecursion IsLine before → Leads s before t → IsLine line → IsRefused t line behind kind ⊎ IsCutOff t line behind kind
-    → goes n s (lines_of_text (lines_text before ++ (line ++ behind)))
+    → parse_from n s (lines_of_text (lines_text before ++ (line ++ behind)))
     ≡ Err (n + length before, kind)
 faulty_goes n s t [] line behind kind each leads plain why =
-    ap (λ (u : Stage). goes n u (lines_of_text (line ++ behind))) leads ∙ at_fault n t line behind kind plain why ∙ ap (λ (m : ℕ). Err (m, kind)) (omega arith)
+    ap (λ (u : Stage). parse_from n u (lines_of_text (line ++ behind))) leads ∙ at_fault n t line behind kind plain why ∙ ap (λ (m : ℕ). Err (m, kind)) (omega arith)
 faulty_goes n s t (l ∷ before) line behind kind each leads plain why =
     let e : lines_text (l ∷ before) ++ (line ++ behind) ≡ l ++ 10 ∷ (lines_text before ++ (line ++ behind)) =
     append_assoc (l ++ 10 ∷ []) (lines_text before) (line ++ behind) ∙ append_assoc l (10 ∷ []) (lines_text before ++ (line ++ behind)) in
-    ap (λ (bs : List ℕ). goes n s (lines_of_text bs)) e
+    ap (λ (bs : List ℕ). parse_from n s (lines_of_text bs)) e
     ∙ goes_line n s l (lines_text before ++ (line ++ behind)) each.0
-    ∙ ap (λ r. after_line n r (λ u. goes (n + 1) u (lines_of_text (lines_text before ++ (line ++ behind))))) leads.1
+    ∙ ap (λ r. after_line n r (λ u. parse_from (n + 1) u (lines_of_text (lines_text before ++ (line ++ behind))))) leads.1
     ∙ faulty_goes (n + 1) leads.0 t before line behind kind each.1 leads.2 plain why
     ∙ ap (λ (m : ℕ). Err (m, kind)) (omega arith)
 
-first_is_told : (text : List ℕ) (n : ℕ) (kind : Kind) → length text ≤ SCRIPT_MAX → IsFirstFault text n kind → outcome text ≡ Err (n, kind)
+first_is_told : (text : List ℕ) (n : ℕ) (kind : Kind) → length text ≤ SCRIPT_MAX → IsFirstFault text n kind → parse_result text ≡ Err (n, kind)
 first_is_told text n kind within is =
     within_goes text within
-    ∙ ap (λ (bs : List ℕ). goes 1 Opening (lines_of_text bs)) is.whole
+    ∙ ap (λ (bs : List ℕ). parse_from 1 Opening (lines_of_text bs)) is.whole
     ∙ faulty_goes 1 Opening is.stage is.before is.line is.behind kind is.each is.leads is.plain is.why
     ∙ ap (λ (m : ℕ). Err (m, kind)) (omega (arith, is.number))
 
@@ -82,7 +82,7 @@ long_kind_is : (line : List ℕ) (kind : Kind) → ((v : Version) × (line ≡ s
 long_kind_is line kind (inl (v, is, many)) = ap long_by (ap (version_of script_header) is ∙ header_told v) ∙ sym many
 long_kind_is line kind (inr (other, bad)) = ap long_by (version_none_from script_header line other) ∙ sym bad
 
-long_is_told : (text : List ℕ) (n : ℕ) (kind : Kind) → SCRIPT_MAX < length text → IsLongFault text n kind → outcome text ≡ Err (n, kind)
+long_is_told : (text : List ℕ) (n : ℕ) (kind : Kind) → SCRIPT_MAX < length text → IsLongFault text n kind → parse_result text ≡ Err (n, kind)
 long_is_told text n kind long is =
     let first : first_or_empty (lines_of_text text) ≡ is.line = ap (λ (t : List ℕ). first_or_empty (lines_of_text t)) is.whole ∙ first_is is.line is.behind is.plain is.ends in
     let kind_is : long_kind (first_or_empty (lines_of_text text)) ≡ kind = ap long_kind first ∙ long_kind_is is.line kind is.why in
@@ -99,7 +99,7 @@ why_long line kind is =
       | None ↦ λ q k. inr (version_none script_header line q, k)
     ]) refl is
 
-long_fault : (text : List ℕ) (n : ℕ) (kind : Kind) → SCRIPT_MAX < length text → outcome text ≡ Err (n, kind) → IsLongFault text n kind
+long_fault : (text : List ℕ) (n : ℕ) (kind : Kind) → SCRIPT_MAX < length text → parse_result text ≡ Err (n, kind) → IsLongFault text n kind
 long_fault text n kind long is =
     let f : HasFirst text = has_first text in
     let q = long_is_line_1 text n kind long is in
@@ -115,15 +115,15 @@ long_fault text n kind long is =
 
 -- BOTH
 
-fault_of : (text : List ℕ) (n : ℕ) (kind : Kind) → outcome text ≡ Err (n, kind) → IsFault text n kind
+fault_of : (text : List ℕ) (n : ℕ) (kind : Kind) → parse_result text ≡ Err (n, kind) → IsFault text n kind
 fault_of text n kind is = elim (cases_lt SCRIPT_MAX (length text)) [
   | inl long ↦ inr (long, long_fault text n kind long is)
   | inr within ↦ inl (within, fault_is_first text n kind within is)
 ]
 
-fault_is_told : (text : List ℕ) (n : ℕ) (kind : Kind) → IsFault text n kind → outcome text ≡ Err (n, kind)
+fault_is_told : (text : List ℕ) (n : ℕ) (kind : Kind) → IsFault text n kind → parse_result text ≡ Err (n, kind)
 fault_is_told text n kind (inl (within, is)) = first_is_told text n kind within is
 fault_is_told text n kind (inr (long, is)) = long_is_told text n kind long is
 
-pub faults_are_told : FaultsAreTold
-faults_are_told text n kind = (fault_of text n kind, fault_is_told text n kind)
+pub faults_are_reported : FaultsAreReported
+faults_are_reported text n kind = (fault_of text n kind, fault_is_told text n kind)

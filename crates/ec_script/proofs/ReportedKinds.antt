@@ -10,7 +10,7 @@ use Rattle.std.proofs.lemmas.Option.{same_Some}
 use Rattle.std.proofs.lemmas.Slice.Eq.{bytes_eq-Decides}
 use Rattle.ec_text.specs.Words.{words_of, number_in_word, is_number_form}
 use Rattle.ec_heading.specs.Versions.{is_limit, version_of}
-use Rattle.ec_script.specs.Headers.{script_header, bound, BoundModel}
+use Rattle.ec_script.specs.Headers.{script_header, version_limit, VersionLimitModel}
 use Rattle.ec_heading.specs.declared.version.Version.{Version}
 use Rattle.ec_heading.specs.declared.version.Version.TheVariants.{One, Two}
 use Rattle.ec_heading.proofs.shared.VersionFacts.{version_none, version_none_from}
@@ -31,21 +31,21 @@ use Rattle.ec_heading.proofs.shared.Phrases.{parts_spelled, spelled_parts}
 use Rattle.ec_heading.proofs.shared.ReadHeadings.{IsSound, sound}
 use Rattle.ec_script.specs.declared.fault.Kind.{Kind}
 use Rattle.ec_script.specs.declared.fault.Kind.TheVariants as kinds
-use Rattle.ec_script.specs.declared.script.Block.{Block}
+use Rattle.ec_script.specs.declared.script.OpenBlock.{OpenBlock}
 use Rattle.ec_script.specs.declared.stage.Stage.{Stage}
 use Rattle.ec_script.specs.declared.stage.Stage.TheVariants.{Opening, Limiting, Naming, Reading}
 use Rattle.ec_script.specs.declared.verb.LineWord.{LineWord}
 use Rattle.ec_script.specs.declared.verb.LineWord.TheVariants as verbs
-use Rattle.ec_script.specs.Endings.{FaultlessLinesAreTaken}
+use Rattle.ec_script.specs.Endings.{FaultlessLinesAreAccepted}
 use Rattle.ec_script.specs.Faults.{kind_number, kind_of_head}
 use Rattle.ec_script.specs.Forms.{Phrase, phrase_in}
 use Rattle.ec_script.specs.Grammar.{Leads}
-use Rattle.ec_script.specs.Holding.{LimitHas, WorkersHave, DeclarationHas, OtherHas, OfForm, OfEither, HasKind, LeastKindIsTold}
+use Rattle.ec_script.specs.Holding.{LimitHas, WorkersHave, DeclarationHas, OtherHas, OfForm, OfEither, HasKind, LeastKindWins}
 use Rattle.ec_script.specs.Kinds.{is_allowed, phrase_fault}
 use Rattle.ec_script.specs.Objects.{object_in}
 use Rattle.ec_script.specs.Phrased.{Worded}
 use Rattle.ec_script.specs.Placed.{IsOfWords, IsLimitLine, IsWorkersLine, IsDeclaration, MayOccur, IsOther}
-use Rattle.ec_script.specs.Reading.{view_of_block, context_of_script, after, fault_or, after_phrase, headed_on, is_declaring, opens_outer, script_step, limiting, after_limit, limit_digits, limit_or, limit_step, named_on, read_on, step}
+use Rattle.ec_script.specs.Reading.{view_of_block, context_of_script, after, fault_or, after_phrase, map_heading, is_declaring, opens_outer, script_step, stage_of_version, after_limit, limit_digits, limit_or, limit_step, stage_of_heading, read_on, step}
 use Rattle.ec_script.specs.ScriptModel.{ScriptModel}
 use Rattle.ec_heading.specs.Versions.{has_transfer}
 use Rattle.ec_script.specs.Verbs.{has_verb, is_outer}
@@ -161,7 +161,7 @@ opening_decided line _ = never (λ t. t)
 
 opening_least : (line : List ℕ) → fault_in (step Opening line) ≡ least (opening_tests line)
 unfolding step
-opening_least line = elim (version_of script_header line) as (λ o. fault_in (limiting o) ≡ cond (is_none o) (Some kinds.BadHeader) None) [ None ↦ refl | Some v ↦ refl ]
+opening_least line = elim (version_of script_header line) as (λ o. fault_in (stage_of_version o) ≡ cond (is_none o) (Some kinds.BadHeader) None) [ None ↦ refl | Some v ↦ refl ]
 
 -- THE LIMIT
 
@@ -201,7 +201,7 @@ limit_least v line =
         | None ↦ refl
         | Some digits ↦ elim (number_in_word digits) as (λ o. fault_in (after_limit v o) ≡ cond (not (option_map_or (is_limit v) o false)) (Some kinds.BadNumber) None) [
           | None ↦ refl
-          | Some n ↦ elim (is_limit v n) as (λ b. fault_in (cond b (Ok (Naming (bound v n))) (Err kinds.BadNumber)) ≡ cond (not b) (Some kinds.BadNumber) None) [ true ↦ refl | false ↦ refl ]
+          | Some n ↦ elim (is_limit v n) as (λ b. fault_in (cond b (Ok (Naming (version_limit v n))) (Err kinds.BadNumber)) ≡ cond (not b) (Some kinds.BadNumber) None) [ true ↦ refl | false ↦ refl ]
         ]
       ]
     ]
@@ -236,16 +236,16 @@ workers_reads line = record {
   read = λ names is. ap (λ b. cond b None (workers_in (words_of line))) (words_so line is.0) ∙ ap workers_in is.1 ∙ names_read names is.2;
 }
 
-named_fault : (o : Option HeadFault) (h : HeadingModel) → fault_in (named_on (heading.fault_or o h)) ≡ option_map kind_of_head o
+named_fault : (o : Option HeadFault) (h : HeadingModel) → fault_in (stage_of_heading (heading.fault_or o h)) ≡ option_map kind_of_head o
 named_fault None h = refl
 named_fault (Some f) h = refl
 
-naming_least : (b : BoundModel) (line : List ℕ) → fault_in (step (Naming b) line) ≡ least (form_tests (workers_form line) workers_tests)
+naming_least : (b : VersionLimitModel) (line : List ℕ) → fault_in (step (Naming b) line) ≡ least (form_tests (workers_form line) workers_tests)
 unfolding step head_step
 naming_least b line =
-    elim (is_no_line line) as (λ c. fault_in (named_on (cond c (Err heads.BadLine) (words_step (empty_heading b.version b.limit []) (words_of line)))) ≡ least (form_tests (cond c None (workers_in (words_of line))) workers_tests)) [
+    elim (is_no_line line) as (λ c. fault_in (stage_of_heading (cond c (Err heads.BadLine) (words_step (empty_heading b.version b.limit []) (words_of line)))) ≡ least (form_tests (cond c None (workers_in (words_of line))) workers_tests)) [
       | true ↦ refl
-      | false ↦ elim (workers_in (words_of line)) as (λ o. fault_in (named_on (opened_by b.version b.limit o)) ≡ least (form_tests o workers_tests)) [
+      | false ↦ elim (workers_in (words_of line)) as (λ o. fault_in (stage_of_heading (opened_by b.version b.limit o)) ≡ least (form_tests o workers_tests)) [
         | None ↦ refl
         | Some names ↦ named_fault (workers_fault names) (empty_heading b.version b.limit names) ∙ workers_least names
       ]
@@ -283,7 +283,7 @@ reading_form s line =
     (cond (is_no_line line) None (other_form s (phrase_in (words_of line))))
 
 -- where a line is allowed
-block_is : (o : Option Block) → Decides (is_some (option_map view_of_block o)) (o ≢ None)
+block_is : (o : Option OpenBlock) → Decides (is_some (option_map view_of_block o)) (o ≢ None)
 block_is None = ((λ e. cc), λ n. absurd (n refl))
 block_is (Some b) = ((λ e k. cc), λ n. refl)
 
@@ -396,7 +396,7 @@ reading_reads : (s : ScriptModel) (line : List ℕ) → Keeps s → Reads (readi
 reading_reads s line keeps = record { has = reading_has s line; read = reading_read s line keeps }
 
 -- the fault of a line by its form
-headed_fault : (s : ScriptModel) (o : Option HeadFault) (h : HeadingModel) → fault_in (headed_on s (heading.fault_or o h)) ≡ option_map kind_of_head o
+headed_fault : (s : ScriptModel) (o : Option HeadFault) (h : HeadingModel) → fault_in (map_heading s (heading.fault_or o h)) ≡ option_map kind_of_head o
 headed_fault s None h = refl
 headed_fault s (Some f) h = refl
 
@@ -404,7 +404,7 @@ phrase_told : (s t : ScriptModel) (o : Option Kind) → fault_in (fault_or o t) 
 phrase_told s t None = refl
 phrase_told s t (Some k) = refl
 
-declared_least : (s : ScriptModel) (o : Option headings.Phrase) → fault_in (headed_on s (declared_or s.heading o)) ≡ least (form_tests (declared_form o) (reading_tests s))
+declared_least : (s : ScriptModel) (o : Option headings.Phrase) → fault_in (map_heading s (declared_or s.heading o)) ≡ least (form_tests (declared_form o) (reading_tests s))
 declared_least s None = refl
 declared_least s (Some p) = headed_fault s (declaration_fault s.heading.setup s.heading.words p) (with_declaration s.heading (declaration_of s.heading.words p)) ∙ declaration_least s.heading p
 
@@ -429,11 +429,11 @@ unfolding script_step
 reading_least s line keeps =
     let some : (s.heading.setup.workers == 0) ≡ false = ne_eqb s.heading.setup.workers 0 (λ e. omega (arith, e, keeps.head.some)) in
     elim (is_declaring s && not (opens_outer (words_of line))) as (λ a.
-    fault_in (cond a (headed_on s (head_step s.heading line)) (cond (is_no_line line) (Err kinds.BadLine) (after_phrase s (phrase_in (words_of line)))))
+    fault_in (cond a (map_heading s (head_step s.heading line)) (cond (is_no_line line) (Err kinds.BadLine) (after_phrase s (phrase_in (words_of line)))))
     ≡ least (form_tests (cond a (cond (is_no_line line) None (declared_form (headings.parts_in (words_of line)))) (cond (is_no_line line) None (other_form s (phrase_in (words_of line))))) (reading_tests s))) [
       | true ↦
-          ap (λ r. fault_in (headed_on s r)) (behind_workers s.heading line some)
-          ∙ elim (is_no_line line) as (λ b. fault_in (headed_on s (cond b (Err heads.BadLine) (declared_or s.heading (headings.parts_in (words_of line))))) ≡ least (form_tests (cond b None (declared_form (headings.parts_in (words_of line)))) (reading_tests s))) [
+          ap (λ r. fault_in (map_heading s r)) (behind_workers s.heading line some)
+          ∙ elim (is_no_line line) as (λ b. fault_in (map_heading s (cond b (Err heads.BadLine) (declared_or s.heading (headings.parts_in (words_of line))))) ≡ least (form_tests (cond b None (declared_form (headings.parts_in (words_of line)))) (reading_tests s))) [
             | true ↦ refl
             | false ↦ declared_least s (headings.parts_in (words_of line))
           ]
@@ -505,8 +505,8 @@ stage_fits before (Limiting v) leads = tt
 stage_fits before (Naming b) leads = tt
 stage_fits before (Reading s) leads = (leads_keeps Opening before (Reading s) tt leads, lines_outlined before s leads)
 
-pub least_is_told : LeastKindIsTold
+pub least_is_told : LeastKindWins
 least_is_told before stage line kind leads = told_so (step stage line) (HasKind stage line) (tested_at stage line (stage_fits before stage leads)) kind
 
-pub faultless_taken : FaultlessLinesAreTaken
+pub faultless_taken : FaultlessLinesAreAccepted
 faultless_taken before stage line leads = taken_so (step stage line) (HasKind stage line) (tested_at stage line (stage_fits before stage leads))

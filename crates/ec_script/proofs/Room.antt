@@ -7,7 +7,7 @@ use Rattle.ec_text.specs.Words.{number_in_word}
 use Rattle.ec_script.specs.declared.fault.Kind.{Kind}
 use Rattle.ec_script.specs.declared.fault.Kind.TheVariants as kinds
 use Rattle.ec_script.specs.declared.object.Object.{Object}
-use Rattle.ec_script.specs.declared.script.Block.{Block}
+use Rattle.ec_script.specs.declared.script.OpenBlock.{OpenBlock}
 use Rattle.ec_script.specs.declared.block_item.BlockItem.{BlockItem}
 use Rattle.ec_script.specs.declared.block_item.BlockItem.TheVariants.{Do, Write, Begin, End}
 use Rattle.ec_script.specs.declared.verb.LineWord.{LineWord}
@@ -19,11 +19,11 @@ use Rattle.ec_script.specs.Kinds.{LineContextModel, phrase_fault, or_nothing, is
 use Rattle.ec_script.specs.BlockItems.{IsSound, size_in}
 use Rattle.ec_script.specs.ScriptModel.{ScriptModel}
 use Rattle.ec_script.specs.Reading.{view_of_block, context_of_script}
-use Rattle.ec_script.specs.Rooms.{MayOrder, MayEnd, HasRoom}
+use Rattle.ec_script.specs.Rooms.{MayTakeItem, MayEnd, HasRoom}
 use Rattle.ec_script.proofs.Sizes.{count_range}
 use Rattle.ec_script.proofs.PhraseWords.{made}
 
-pub may_command : (b : Option Block) (o : BlockItem) → HasRoom b → IsSound o → MayOrder b o
+pub may_command : (b : Option OpenBlock) (o : BlockItem) → HasRoom b → IsSound o → MayTakeItem b o
 may_command None o room sound = tt
 may_command (Some b) (Do c) room sound = (sound.0, sound.1, room)
 may_command (Some b) (Write d vs) room sound = (sound.0, sound.1, room)
@@ -96,16 +96,16 @@ no_fault s p o is =
 pub below : (m n : ℕ) → nat_le m n ≡ false → n < m
 below m n h = leb-false m n h
 
-pub room_for : (v : LineWord) (ws : List (List ℕ)) (b : Option Block) (n : ℕ) → is_counted v ≡ true → is_too_many v ws (option_map view_of_block b) n ≡ false → HasRoom b
+pub room_for : (v : LineWord) (ws : List (List ℕ)) (b : Option OpenBlock) (n : ℕ) → is_counted v ≡ true → is_too_many v ws (option_map view_of_block b) n ≡ false → HasRoom b
 room_for v ws None n counted h = tt
 room_for verbs.Schedule ws (Some b) n counted h = cc
 room_for verbs.Worker ws (Some b) n counted h = cc
 room_for verbs.End ws (Some b) n counted h = cc
 room_for v ws (Some b) n counted h = below 4096 b.draft.commands h
 
-pub may_repeat : (ws : List (List ℕ)) (b : Option Block) (n : ℕ) (o : Object)
+pub may_repeat : (ws : List (List ℕ)) (b : Option OpenBlock) (n : ℕ) (o : Object)
     → is_bad_tail (tail_of verbs.Repeat) verbs.Repeat ws o ≡ false → is_too_many verbs.Repeat ws (option_map view_of_block b) n ≡ false → is_badly_nested verbs.Repeat (option_map view_of_block b) ≡ false
-    → MayOrder b (Begin (size_in ws))
+    → MayTakeItem b (Begin (size_in ws))
 may_repeat ws None n o number many nested = tt
 may_repeat ws (Some b) n o number many nested =
     let r = count_range 1000000 (option_and_then number_in_word (only_in ws)) (not_false _ number) in
@@ -115,14 +115,14 @@ pub end_deep : (d : ℕ) (e : Bool) → (nat_lt 0 d && e) ≡ false → 0 < d �
 end_deep d false h deep = refl
 end_deep d true h deep = let l : nat_lt 0 d ≡ true = lt-ltb 0 d deep in let g : (nat_lt 0 d && true) ≡ true = rw l refl in cc
 
-pub may_end : (b : Option Block) → is_badly_nested verbs.End (option_map view_of_block b) ≡ false → MayEnd b
+pub may_end : (b : Option OpenBlock) → is_badly_nested verbs.End (option_map view_of_block b) ≡ false → MayEnd b
 may_end None nested = tt
 may_end (Some b) nested = λ deep. end_deep b.draft.depth b.draft.is_empty nested deep
 
 -- BY ITS VERB
 
 -- a repeat without fault
-pub repeat_may : (s : ScriptModel) (v : LineWord) (object : List ℕ) (ws : List (List ℕ)) (o : Option Object) → v ≡ verbs.Repeat → phrase_fault (context_of_script s) (made v object ws) o ≡ None → MayOrder s.block (Begin (size_in ws))
+pub repeat_may : (s : ScriptModel) (v : LineWord) (object : List ℕ) (ws : List (List ℕ)) (o : Option Object) → v ≡ verbs.Repeat → phrase_fault (context_of_script s) (made v object ws) o ≡ None → MayTakeItem s.block (Begin (size_in ws))
 repeat_may s v object ws o is none =
     let f = no_fault (context_of_script s) (made verbs.Repeat object ws) o (ap (λ w. phrase_fault (context_of_script s) (made w object ws) o) (sym is) ∙ none) in
     may_repeat ws s.block (length s.schedule) (or_nothing o) f.number f.commands f.nested

@@ -15,14 +15,14 @@ use Rattle.ec_script.specs.declared.object.Object.TheVariants.{Event, Sequencer,
 use Rattle.ec_script.specs.declared.block_item.BlockItem.{BlockItem}
 use Rattle.ec_script.specs.declared.block_item.BlockItem.TheVariants.{Do, Write, Begin, End}
 use Rattle.ec_script.specs.declared.kinds.BlockContext.{BlockContext}
-use Rattle.ec_script.specs.Verbs.{is_giving, is_outer}
+use Rattle.ec_script.specs.Verbs.{is_update, is_outer}
 use Rattle.ec_script.specs.Forms.{phrase_in}
 use Rattle.ec_script.specs.Objects.{object_for, buffer_in, database_in, semaphore_in, semaphore_pair, transfer_object}
 use Rattle.ec_heading.specs.Groups.{both_of}
 use Rattle.ec_script.specs.Kinds.{LineContextModel, lacks_right}
 use Rattle.ec_script.specs.BlockItems.{command_in}
 use Rattle.ec_script.specs.DraftModel.{DraftModel, draft_with_item}
-use Rattle.ec_script.specs.Layout.{order_by, IsLineOfItem, AreNested, commands_in}
+use Rattle.ec_script.specs.Layout.{item_by, IsLineOfItem, AreNested, commands_in}
 use Rattle.ec_script.proofs.PhraseWords.{made}
 use Rattle.ec_script.proofs.Passing.{Passes}
 
@@ -44,9 +44,9 @@ IsCommand verbs.Schedule = ⊥
 IsCommand v = Unit {0}
 
 pub record Ordered (v : LineWord) (o : Object) (ws : List (List ℕ)) : Type 0 where
-  pub order : BlockItem
-  pub is : command_in v (is_giving v) o ws ≡ Some order
-  pub step : IsStep order
+  pub item : BlockItem
+  pub is : command_in v (is_update v) o ws ≡ Some item
+  pub step : IsStep item
 
 of_event : (v : LineWord) (ws : List (List ℕ)) (o : Object) (x : Option ℕ) → ((e : ℕ) → Ordered v (Event e) ws) → option_map Event x ≡ Some o → Ordered v o ws
 of_event v ws o None f is = cc
@@ -81,20 +81,20 @@ of_three v ws o (Some r) (Some s) (Some t) f is = let same : SemaphorePair r s t
 of_three v ws o _ _ _ f is = cc
 
 pub ordered_of : (h : HeadingModel) (v : LineWord) (w : List ℕ) (ws : List (List ℕ)) (o : Object) → IsCommand v → object_for h v w ws ≡ Some o → Ordered v o ws
-ordered_of h verbs.Advance w ws o command is = of_event verbs.Advance ws o (event_in h.words w) (λ e. record { order = _; is = refl; step = tt }) is
-ordered_of h verbs.Read w ws o command is = of_event verbs.Read ws o (event_in h.words w) (λ e. record { order = _; is = refl; step = tt }) is
-ordered_of h verbs.Await w ws o command is = of_event verbs.Await ws o (event_in h.words w) (λ e. record { order = _; is = refl; step = tt }) is
-ordered_of h verbs.Ticket w ws o command is = of_sequencer verbs.Ticket ws o (sequencer_in h.words w) (λ e. record { order = _; is = refl; step = tt }) is
-ordered_of h verbs.Put w ws o command is = of_cell verbs.Put ws o (cell_in_word h.words w) (λ e. record { order = _; is = refl; step = tt }) is
-ordered_of h verbs.Get w ws o command is = of_cell verbs.Get ws o (cell_in_word h.words w) (λ e. record { order = _; is = refl; step = tt }) is
-ordered_of h verbs.Hand w ws o command is = of_handed verbs.Hand ws o (event_in h.words w) _ (λ e b. record { order = _; is = refl; step = tt }) is
-ordered_of h verbs.Produce w ws o command is = of_buffer verbs.Produce ws o (buffer_in h w) (λ e. record { order = _; is = refl; step = tt }) is
-ordered_of h verbs.Consume w ws o command is = of_buffer verbs.Consume ws o (buffer_in h w) (λ e. record { order = _; is = refl; step = tt }) is
-ordered_of h verbs.Write w ws o command is = of_database verbs.Write ws o (database_in h w) (λ e. record { order = _; is = refl; step = tt }) is
-ordered_of h verbs.Snapshot w ws o command is = of_database verbs.Snapshot ws o (database_in h w) (λ e. record { order = _; is = refl; step = tt }) is
-ordered_of h verbs.Down w ws o command is = of_semaphore verbs.Down ws o (semaphore_in h w) (λ e. record { order = _; is = refl; step = tt }) is
-ordered_of h verbs.Up w ws o command is = of_semaphore verbs.Up ws o (semaphore_in h w) (λ e. record { order = _; is = refl; step = tt }) is
-ordered_of h verbs.DownBoth w ws o command is = of_three verbs.DownBoth ws o (both_of h.groups) (semaphore_in h w) _ (λ r s t. record { order = _; is = refl; step = tt }) is
+ordered_of h verbs.Advance w ws o command is = of_event verbs.Advance ws o (event_in h.words w) (λ e. record { item = _; is = refl; step = tt }) is
+ordered_of h verbs.Read w ws o command is = of_event verbs.Read ws o (event_in h.words w) (λ e. record { item = _; is = refl; step = tt }) is
+ordered_of h verbs.Await w ws o command is = of_event verbs.Await ws o (event_in h.words w) (λ e. record { item = _; is = refl; step = tt }) is
+ordered_of h verbs.Ticket w ws o command is = of_sequencer verbs.Ticket ws o (sequencer_in h.words w) (λ e. record { item = _; is = refl; step = tt }) is
+ordered_of h verbs.Put w ws o command is = of_cell verbs.Put ws o (cell_in_word h.words w) (λ e. record { item = _; is = refl; step = tt }) is
+ordered_of h verbs.Get w ws o command is = of_cell verbs.Get ws o (cell_in_word h.words w) (λ e. record { item = _; is = refl; step = tt }) is
+ordered_of h verbs.Hand w ws o command is = of_handed verbs.Hand ws o (event_in h.words w) _ (λ e b. record { item = _; is = refl; step = tt }) is
+ordered_of h verbs.Produce w ws o command is = of_buffer verbs.Produce ws o (buffer_in h w) (λ e. record { item = _; is = refl; step = tt }) is
+ordered_of h verbs.Consume w ws o command is = of_buffer verbs.Consume ws o (buffer_in h w) (λ e. record { item = _; is = refl; step = tt }) is
+ordered_of h verbs.Write w ws o command is = of_database verbs.Write ws o (database_in h w) (λ e. record { item = _; is = refl; step = tt }) is
+ordered_of h verbs.Snapshot w ws o command is = of_database verbs.Snapshot ws o (database_in h w) (λ e. record { item = _; is = refl; step = tt }) is
+ordered_of h verbs.Down w ws o command is = of_semaphore verbs.Down ws o (semaphore_in h w) (λ e. record { item = _; is = refl; step = tt }) is
+ordered_of h verbs.Up w ws o command is = of_semaphore verbs.Up ws o (semaphore_in h w) (λ e. record { item = _; is = refl; step = tt }) is
+ordered_of h verbs.DownBoth w ws o command is = of_three verbs.DownBoth ws o (both_of h.groups) (semaphore_in h w) _ (λ r s t. record { item = _; is = refl; step = tt }) is
 ordered_of h verbs.Repeat w ws o command is = absurd command
 ordered_of h verbs.End w ws o command is = absurd command
 ordered_of h verbs.Worker w ws o command is = absurd command
@@ -106,9 +106,9 @@ pub some_object : (o : Option Object) → is_none o ≡ false → (x : Object) �
 some_object None is = cc
 some_object (Some x) is = (x, refl)
 
-pub said : (s : LineContextModel) (n : BlockContext) (line : List ℕ) (v : LineWord) (w : List ℕ) (ws : List (List ℕ)) (o : Object) (order : BlockItem) → is_no_line line ≡ false → phrase_in (words_of line) ≡ Some (made v w ws) → is_outer v ≡ false → s.block ≡ Some n
-    → object_for s.heading v w ws ≡ Some o → Passes s (made v w ws) (object_for s.heading v w ws) → order_by v o ws ≡ Some order → IsLineOfItem s.heading n.worker line order
-said s n line v w ws o order whole form inner nest is h says =
+pub said : (s : LineContextModel) (n : BlockContext) (line : List ℕ) (v : LineWord) (w : List ℕ) (ws : List (List ℕ)) (o : Object) (item : BlockItem) → is_no_line line ≡ false → phrase_in (words_of line) ≡ Some (made v w ws) → is_outer v ≡ false → s.block ≡ Some n
+    → object_for s.heading v w ws ≡ Some o → Passes s (made v w ws) (object_for s.heading v w ws) → item_by v o ws ≡ Some item → IsLineOfItem s.heading n.worker line item
+said s n line v w ws o item whole form inner nest is h says =
     let g : Passes s (made v w ws) (Some o) = subst (Passes s (made v w ws)) is h in
     record {
       whole = whole;

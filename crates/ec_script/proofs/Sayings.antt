@@ -42,7 +42,7 @@ use Rattle.ec_script.specs.declared.object.Object.{Object}
 use Rattle.ec_script.specs.declared.object.Object.TheVariants.{Nothing, Event, Sequencer, Cell, Handed, OfBuffer, OfDatabase, OfSemaphore, SemaphorePair}
 use Rattle.ec_script.specs.declared.block_item.BlockItem.{BlockItem}
 use Rattle.ec_script.specs.declared.block_item.BlockItem.TheVariants.{Do, Write, Begin, End}
-use Rattle.ec_script.specs.Verbs.{has_verb, tail_of, has_object, is_giving, is_outer}
+use Rattle.ec_script.specs.Verbs.{has_verb, tail_of, has_object, is_update, is_outer}
 use Rattle.ec_script.specs.Forms.{more_in, last_plus, number_or_more, value_of, is_value_form, is_tail, objected_in, tailed_in, verbed_in, phrase_in}
 use Rattle.ec_script.specs.Objects.{object_for, buffer_in, database_in, semaphore_in, semaphore_pair, transfer_object, is_owned}
 use Rattle.ec_heading.specs.Groups.{buffer_of, database_of, semaphore_of}
@@ -50,9 +50,9 @@ use Rattle.ec_script.specs.Kinds.{is_no_value, is_count, is_bad_tail, has_two_ro
 use Rattle.ec_script.specs.BlockItems.{amount_of}
 use Rattle.ec_script.specs.Versioned.{has_command}
 use Rattle.ec_script.specs.Confined.{UsesGroups}
-use Rattle.ec_script.specs.Layout.{order_by, IsLineOfItem}
-use Rattle.ec_script.specs.Spelling.{value_word, group_word, command_words, order_words, order_line}
-use Rattle.ec_script.specs.Given.{may_do, is_line_of, IsGiven, MayGive, LinesSayOrders}
+use Rattle.ec_script.specs.Layout.{item_by, IsLineOfItem}
+use Rattle.ec_script.specs.Spelling.{value_word, group_word, command_words, item_words, item_line}
+use Rattle.ec_script.specs.Given.{may_do, is_line_of, IsGiven, MayGive, LinesMeanItems}
 use Rattle.ec_script.specs.Phrased.{verb_word}
 use Rattle.ec_script.proofs.PhraseWords.{made, verb_again}
 use Rattle.ec_script.proofs.LayoutsLead.{fit_line, none_owned}
@@ -246,7 +246,7 @@ verb_fits verbs.Worker = record { word = literal_word (codes "worker") refl; som
 verb_fits verbs.Schedule = record { word = literal_word (codes "schedule") refl; some = refl }
 
 -- what is known of a line that says an item by these words
-record IsSaid (h : HeadingModel) (n : ℕ) (v : LineWord) (w : List ℕ) (us : List (List ℕ)) (o : Object) (order : BlockItem) : Type 0 where
+record IsSaid (h : HeadingModel) (n : ℕ) (v : LineWord) (w : List ℕ) (us : List (List ℕ)) (o : Object) (item : BlockItem) : Type 0 where
   version : has_verb h.version v ≡ true
   tail : is_tail (tail_of v) us ≡ true
   fit : AreFit us
@@ -254,13 +254,13 @@ record IsSaid (h : HeadingModel) (n : ℕ) (v : LineWord) (w : List ℕ) (us : L
   range : is_bad_tail (tail_of v) v us o ≡ false
   apart : is_owned h.groups o ≡ false
   differ : has_two_roles o ≡ false
-  right : has_right h.version h.setup n (is_giving v) o ≡ true
-  says : order_by v o us ≡ Some order
+  right : has_right h.version h.setup n (is_update v) o ≡ true
+  says : item_by v o us ≡ Some item
 
 -- a line with an object
-say : (h : HeadingModel) (n : ℕ) (v : LineWord) (w : List ℕ) (us : List (List ℕ)) (o : Object) (order : BlockItem) → has_object v ≡ true → is_outer v ≡ false → IsFit w → IsSaid h n v w us o order → length (join_with_byte 32 (verb_word v ∷ w ∷ us)) ≤ 8192
-    → IsLineOfItem h n (join_with_byte 32 (verb_word v ∷ w ∷ us)) order
-say h n v w us o order has inner fits s short =
+say : (h : HeadingModel) (n : ℕ) (v : LineWord) (w : List ℕ) (us : List (List ℕ)) (o : Object) (item : BlockItem) → has_object v ≡ true → is_outer v ≡ false → IsFit w → IsSaid h n v w us o item → length (join_with_byte 32 (verb_word v ∷ w ∷ us)) ≤ 8192
+    → IsLineOfItem h n (join_with_byte 32 (verb_word v ∷ w ∷ us)) item
+say h n v w us o item has inner fits s short =
     let l = fit_line (verb_word v) (w ∷ us) (verb_fits v, (fits, s.fit)) short in
     record {
       whole = l.1;
@@ -278,9 +278,9 @@ say h n v w us o order has inner fits s short =
     }
 
 -- a line without an object
-say_alone : (h : HeadingModel) (n : ℕ) (v : LineWord) (us : List (List ℕ)) (o : Object) (order : BlockItem) → has_object v ≡ false → is_outer v ≡ false → IsSaid h n v [] us o order → length (join_with_byte 32 (verb_word v ∷ us)) ≤ 8192
-    → IsLineOfItem h n (join_with_byte 32 (verb_word v ∷ us)) order
-say_alone h n v us o order has inner s short =
+say_alone : (h : HeadingModel) (n : ℕ) (v : LineWord) (us : List (List ℕ)) (o : Object) (item : BlockItem) → has_object v ≡ false → is_outer v ≡ false → IsSaid h n v [] us o item → length (join_with_byte 32 (verb_word v ∷ us)) ≤ 8192
+    → IsLineOfItem h n (join_with_byte 32 (verb_word v ∷ us)) item
+say_alone h n v us o item has inner s short =
     let l = fit_line (verb_word v) us (verb_fits v, s.fit) short in
     record {
       whole = l.1;
@@ -420,10 +420,10 @@ says_layer h f n (layer.Repeat k block) uses may line has = cc
 
 -- ANY ITEM
 
-says_order : (h : HeadingModel) → IsFound h → (n : ℕ) (order : BlockItem) → IsGiven h n order → length (join_with_byte 32 (order_words h order)) ≤ 8192 → IsLineOfItem h n (join_with_byte 32 (order_words h order)) order
-says_order h f n (Do c) given short =
+says_item : (h : HeadingModel) → IsFound h → (n : ℕ) (item : BlockItem) → IsGiven h n item → length (join_with_byte 32 (item_words h item)) ≤ 8192 → IsLineOfItem h n (join_with_byte 32 (item_words h item)) item
+says_item h f n (Do c) given short =
     subst (λ x. IsLineOfItem h n (join_with_byte 32 (command_words h (out-Command c))) (Do x)) (roll-out-Command c) (says_layer h f n (out-Command c) given.0 given.1 given.2 given.3 short)
-says_order h f n (Write d vs) given short =
+says_item h f n (Write d vs) given short =
     let w = database_again h f d given.0 in
     let x : AreSpelled vs = values_spelled vs given.4 in
     let many : length (map value_word vs) ≡ length vs = length-map vs value_word in
@@ -439,7 +439,7 @@ says_order h f n (Write d vs) given short =
       right = given.1;
       says = ap (λ ys. Some (Write d ys)) x.amounts;
     }) short
-says_order h f n (Begin k) given short =
+says_item h f n (Begin k) given short =
     let within : (nat_le 1 k && nat_le k 1000000) ≡ true = and_from _ _ (le-leb 1 k given.0) (le-leb k 1000000 given.1) in
     let x = count_in k 1000000 within (omega arith) in
     say_alone h n verbs.Repeat (decimal k ∷ []) Nothing (Begin k) refl refl
@@ -454,22 +454,22 @@ says_order h f n (Begin k) given short =
       right = refl;
       says = ap (λ o. Some (Begin (unwrap_or o 0))) x.1;
     }) short
-says_order h f n End given short =
+says_item h f n End given short =
     say_alone h n verbs.End [] Nothing End refl refl
     (record { version = refl; tail = refl; fit = tt; found = refl; range = refl; apart = none_owned h.groups Nothing (λ g. refl); differ = refl; right = refl; says = refl }) short
 
-line_said : (o : HeaderTree) (n : ℕ) (line : List ℕ) (order : BlockItem) → IsHeaderTree o → line ≡ order_line (heading_of_tree o) order → MayGive (heading_of_tree o) n order → IsLineOfItem (heading_of_tree o) n line order
-unfolding order_line
-line_said o n line order is spelled may =
-    subst (λ (l : List ℕ). IsLineOfItem (heading_of_tree o) n l order) (sym spelled) (says_order (heading_of_tree o) (found_in o is (owning o)) n order may.0 may.1)
+line_said : (o : HeaderTree) (n : ℕ) (line : List ℕ) (item : BlockItem) → IsHeaderTree o → line ≡ item_line (heading_of_tree o) item → MayGive (heading_of_tree o) n item → IsLineOfItem (heading_of_tree o) n line item
+unfolding item_line
+line_said o n line item is spelled may =
+    subst (λ (l : List ℕ). IsLineOfItem (heading_of_tree o) n l item) (sym spelled) (says_item (heading_of_tree o) (found_in o is (owning o)) n item may.0 may.1)
 
-short_line : (o : HeaderTree) (n : ℕ) (line : List ℕ) (order : BlockItem) → IsHeaderTree o → IsLineOfItem (heading_of_tree o) n line order → length (order_line (heading_of_tree o) order) ≤ 8192
-short_line o n line order is says =
+short_line : (o : HeaderTree) (n : ℕ) (line : List ℕ) (item : BlockItem) → IsHeaderTree o → IsLineOfItem (heading_of_tree o) n line item → length (item_line (heading_of_tree o) item) ≤ 8192
+short_line o n line item is says =
     let long = or_parts (nat_lt 8192 (length line)) (list_any (λ w. length w == 0) (words_of line)) says.whole in
-    subst (λ (l : List ℕ). length l ≤ 8192) (line_spelled o n line order is says) (ltb-false _ _ long.0)
+    subst (λ (l : List ℕ). length l ≤ 8192) (line_spelled o n line item is says) (ltb-false _ _ long.0)
 
-pub lines_say : LinesSayOrders
-lines_say o n line order is = (
-  λ says. (line_spelled o n line order is says, (line_given o n line order is says, short_line o n line order is says)),
-  λ may. line_said o n line order is may.0 may.1,
+pub lines_say : LinesMeanItems
+lines_say o n line item is = (
+  λ says. (line_spelled o n line item is says, (line_given o n line item is says, short_line o n line item is says)),
+  λ may. line_said o n line item is may.0 may.1,
 )

@@ -8,8 +8,8 @@ use Rattle.ec_script.specs.declared.block_item.BlockItem.{BlockItem}
 use Rattle.ec_script.specs.ScriptModel.{PlanModel}
 use Rattle.ec_script.specs.Grammar.{IsScript, IsLine}
 use Rattle.ec_heading.specs.Spelling.{lines_text}
-use Rattle.ec_script.specs.Layout.{IsLineOfItem, Block, IsBlock, orders_of, workers_of, concat_rows, AreNested, commands_in, IsLayout, layout_lines, program_of, plan_of, IsLaidOut, LayoutsAreScripts, Layout}
-use Rattle.ec_script.specs.Spelling.{order_line, script_lines, ordered_blocks}
+use Rattle.ec_script.specs.Layout.{IsLineOfItem, Block, IsBlock, items_of, workers_of, concat_rows, AreNested, commands_in, IsLayout, layout_lines, program_of, plan_of, IsLaidOut, LayoutsAreScripts, Layout}
+use Rattle.ec_script.specs.Spelling.{item_line, script_lines, blocks_of_items}
 use Rattle.ec_script.specs.Given.{MayGive}
 use Rattle.ec_script.specs.ScriptTree.{IsGivenBlock, their_workers, items_of_worker, plan_of_tree, IsSpelling, ScriptsAreSpelled, ScriptTree, IsScriptTree}
 use Rattle.ec_script.proofs.Layouts.{laid_out}
@@ -20,37 +20,37 @@ use Rattle.ec_script.proofs.Sayings.{lines_say}
 
 -- BLOCKS BY THEIR ITEMS
 
-same_workers : (blocks : List Block) → workers_of blocks ≡ their_workers (ordered_blocks blocks)
+same_workers : (blocks : List Block) → workers_of blocks ≡ their_workers (blocks_of_items blocks)
 same_workers [] = refl
 same_workers (b ∷ blocks) = ap (λ (ws : List ℕ). b.worker ∷ ws) (same_workers blocks)
 
-same_program : (blocks : List Block) (w : ℕ) → program_of blocks w ≡ items_of_worker (ordered_blocks blocks) w
+same_program : (blocks : List Block) (w : ℕ) → program_of blocks w ≡ items_of_worker (blocks_of_items blocks) w
 same_program [] w = refl
-same_program (b ∷ blocks) w = ap (λ os. cond (b.worker == w) (orders_of b.lines) os) (same_program blocks w)
+same_program (b ∷ blocks) w = ap (λ os. cond (b.worker == w) (items_of b.lines) os) (same_program blocks w)
 
-same_programs : (blocks : List Block) (ws : List ℕ) → map (program_of blocks) ws ≡ map (items_of_worker (ordered_blocks blocks)) ws
+same_programs : (blocks : List Block) (ws : List ℕ) → map (program_of blocks) ws ≡ map (items_of_worker (blocks_of_items blocks)) ws
 same_programs blocks [] = refl
 same_programs blocks (w ∷ ws) = ap₂ (λ (os : List BlockItem) (more : List (List BlockItem)). os ∷ more) (same_program blocks w) (same_programs blocks ws)
 
-same_plan : (o : HeaderTree) (blocks : List Block) (rows : List (List ℕ)) → plan_of (record { outline = o; blocks = blocks; rows = rows }) ≡ plan_of_tree (record { outline = o; blocks = ordered_blocks blocks; rows = rows })
+same_plan : (o : HeaderTree) (blocks : List Block) (rows : List (List ℕ)) → plan_of (record { outline = o; blocks = blocks; rows = rows }) ≡ plan_of_tree (record { outline = o; blocks = blocks_of_items blocks; rows = rows })
 same_plan o blocks rows = ap (λ (ps : List (List BlockItem)). let q : PlanModel = record { heading = heading_of_tree o; programs = ps; schedule = concat_rows rows } in q) (same_programs blocks (range_with_len 0 (length o.workers)))
 
 -- WHAT LINES SAY IS ALLOWED
 
-orders_given : (o : HeaderTree) → IsHeaderTree o → (w : ℕ) (lines : List (List ℕ × BlockItem)) → AllByRecursion (λ (l : List ℕ × BlockItem). IsLineOfItem (heading_of_tree o) w l.0 l.1) lines → AllByRecursion (MayGive (heading_of_tree o) w) (orders_of lines)
-orders_given o is w [] all = tt
-orders_given o is w (l ∷ lines) all = (((lines_say o w l.0 l.1 is).0 all.0).1, orders_given o is w lines all.1)
+items_given : (o : HeaderTree) → IsHeaderTree o → (w : ℕ) (lines : List (List ℕ × BlockItem)) → AllByRecursion (λ (l : List ℕ × BlockItem). IsLineOfItem (heading_of_tree o) w l.0 l.1) lines → AllByRecursion (MayGive (heading_of_tree o) w) (items_of lines)
+items_given o is w [] all = tt
+items_given o is w (l ∷ lines) all = (((lines_say o w l.0 l.1 is).0 all.0).1, items_given o is w lines all.1)
 
-blocks_given : (o : HeaderTree) → IsHeaderTree o → (blocks : List Block) → AllByRecursion (IsBlock (heading_of_tree o)) blocks → AllByRecursion (IsGivenBlock (heading_of_tree o)) (ordered_blocks blocks)
+blocks_given : (o : HeaderTree) → IsHeaderTree o → (blocks : List Block) → AllByRecursion (IsBlock (heading_of_tree o)) blocks → AllByRecursion (IsGivenBlock (heading_of_tree o)) (blocks_of_items blocks)
 blocks_given o is [] all = tt
 blocks_given o is (b ∷ blocks) all = (
-  record { worker = all.0.worker; each = orders_given o is b.worker b.lines all.0.each; nested = all.0.nested; few = all.0.few },
+  record { worker = all.0.worker; each = items_given o is b.worker b.lines all.0.each; nested = all.0.nested; few = all.0.few },
   blocks_given o is blocks all.1,
 )
 
 -- what a layout says
 abbrev spelled_of : Layout → ScriptTree
-spelled_of l = record { outline = l.outline; blocks = ordered_blocks l.blocks; rows = l.rows }
+spelled_of l = record { outline = l.outline; blocks = blocks_of_items l.blocks; rows = l.rows }
 
 is_spelled : (l : Layout) → IsLayout l → IsScriptTree (spelled_of l)
 is_spelled l is = record {
@@ -80,28 +80,28 @@ is_script bytes p d = layout_leads bytes p d (subst (AllByRecursion IsLine) (sym
 
 -- an item with its line
 abbrev lined : HeadingModel → List BlockItem → List (List ℕ × BlockItem)
-lined h os = map (λ (o : BlockItem). (order_line h o, o)) os
+lined h os = map (λ (o : BlockItem). (item_line h o, o)) os
 
 abbrev lined_blocks : HeadingModel → List (ℕ × List BlockItem) → List Block
 lined_blocks h blocks = map (λ (b : ℕ × List BlockItem). record { worker = b.0; lines = lined h b.1 }) blocks
 
-orders_again : (h : HeadingModel) (os : List BlockItem) → orders_of (lined h os) ≡ os
-orders_again h [] = refl
-orders_again h (o ∷ os) = ap (λ (xs : List BlockItem). o ∷ xs) (orders_again h os)
+items_again : (h : HeadingModel) (os : List BlockItem) → items_of (lined h os) ≡ os
+items_again h [] = refl
+items_again h (o ∷ os) = ap (λ (xs : List BlockItem). o ∷ xs) (items_again h os)
 
-blocks_again : (h : HeadingModel) (blocks : List (ℕ × List BlockItem)) → ordered_blocks (lined_blocks h blocks) ≡ blocks
+blocks_again : (h : HeadingModel) (blocks : List (ℕ × List BlockItem)) → blocks_of_items (lined_blocks h blocks) ≡ blocks
 blocks_again h [] = refl
-blocks_again h (b ∷ blocks) = ap₂ (λ (os : List BlockItem) (more : List (ℕ × List BlockItem)). (b.0, os) ∷ more) (orders_again h b.1) (blocks_again h blocks)
+blocks_again h (b ∷ blocks) = ap₂ (λ (os : List BlockItem) (more : List (ℕ × List BlockItem)). (b.0, os) ∷ more) (items_again h b.1) (blocks_again h blocks)
 
 lines_said : (o : HeaderTree) → IsHeaderTree o → (w : ℕ) (os : List BlockItem) → AllByRecursion (MayGive (heading_of_tree o) w) os → AllByRecursion (λ (l : List ℕ × BlockItem). IsLineOfItem (heading_of_tree o) w l.0 l.1) (lined (heading_of_tree o) os)
 lines_said o is w [] all = tt
-lines_said o is w (x ∷ os) all = ((lines_say o w (order_line (heading_of_tree o) x) x is).1 (refl, all.0), lines_said o is w os all.1)
+lines_said o is w (x ∷ os) all = ((lines_say o w (item_line (heading_of_tree o) x) x is).1 (refl, all.0), lines_said o is w os all.1)
 
 blocks_said : (o : HeaderTree) → IsHeaderTree o → (blocks : List (ℕ × List BlockItem)) → AllByRecursion (IsGivenBlock (heading_of_tree o)) blocks → AllByRecursion (IsBlock (heading_of_tree o)) (lined_blocks (heading_of_tree o) blocks)
 blocks_said o is [] all = tt
 blocks_said o is (b ∷ blocks) all =
-    let same : b.1 ≡ orders_of (lined (heading_of_tree o) b.1) =
-    sym (orders_again (heading_of_tree o) b.1) in (
+    let same : b.1 ≡ items_of (lined (heading_of_tree o) b.1) =
+    sym (items_again (heading_of_tree o) b.1) in (
       record {
         worker = all.0.worker;
         each = lines_said o is b.0 b.1 all.0.each;
@@ -113,7 +113,7 @@ blocks_said o is (b ∷ blocks) all =
 
 spelled_is_script : (bytes : List ℕ) (p : PlanModel) → IsSpelling bytes p → IsScript bytes p
 spelled_is_script bytes p s =
-    let again : ordered_blocks (lined_blocks (heading_of_tree s.spelled.outline) s.spelled.blocks) ≡ s.spelled.blocks = blocks_again (heading_of_tree s.spelled.outline) s.spelled.blocks in
+    let again : blocks_of_items (lined_blocks (heading_of_tree s.spelled.outline) s.spelled.blocks) ≡ s.spelled.blocks = blocks_again (heading_of_tree s.spelled.outline) s.spelled.blocks in
     let is : IsLayout (record { outline = s.spelled.outline; blocks = lined_blocks (heading_of_tree s.spelled.outline) s.spelled.blocks; rows = s.spelled.rows }) = record {
       heading = s.is.heading;
       blocks = blocks_said s.spelled.outline s.is.heading s.spelled.blocks s.is.blocks;

@@ -23,7 +23,7 @@ use Rattle.ec_script.specs.Forms.{Phrase, only_in}
 use Rattle.ec_script.specs.Objects.{buffer_in, database_in, semaphore_in, semaphore_pair, transfer_object, object_for, object_in, is_owned}
 use Rattle.ec_heading.specs.Groups.{both_of}
 use Rattle.ec_script.specs.Kinds.{LineContextModel, is_allowed, is_named_again, is_too_many, has_two_roles, or_nothing, phrase_fault}
-use Rattle.ec_script.specs.Pairs.{TwoRolesAreOneName, NamesOneTwice, TwoRolesAreTold}
+use Rattle.ec_script.specs.Pairs.{TwoRolesAreOneName, NamesOneTwice, TwoRolesAreReported}
 use Rattle.ec_script.proofs.Commons.{common_starts, common_counts}
 use Rattle.ec_script.proofs.Confining.{itself as same_itself, found_semaphore}
 use Rattle.ec_script.proofs.OneName.{one_name}
@@ -223,5 +223,5 @@ is_told s p is names =
     → phrase_fault s (record { verb = v; object = p.object; rest = ws }) (object_for s.heading v p.object ws) ≡ Some kinds.TwoRoles in
     subst (λ v. P v p.rest) (sym names.verb) (subst (P verbs.DownBoth) (sym names.twice) (two_told s p.object)) is names.declared names.inside names.room
 
-pub roles_told : TwoRolesAreTold
+pub roles_told : TwoRolesAreReported
 roles_told s p is = (names_one s p is, is_told s p is)

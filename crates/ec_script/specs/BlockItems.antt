@@ -32,41 +32,41 @@ size_in ws = unwrap_or (option_and_then number_in_word (only_in ws)) 0
 
 -- THE COMMAND OF A LINE
 
-abbrev pub event_order : LineWord → ℕ → amounts.Value → BlockItem
-event_order verbs.Advance e v = Do (commands.Advance e)
-event_order verbs.Read e v = Do (commands.Read e)
-event_order _ e v = Do (commands.Await e v)
+abbrev pub event_item : LineWord → ℕ → amounts.Value → BlockItem
+event_item verbs.Advance e v = Do (commands.Advance e)
+event_item verbs.Read e v = Do (commands.Read e)
+event_item _ e v = Do (commands.Await e v)
 
-abbrev pub cell_order : Bool → ℕ → amounts.Value → BlockItem
-cell_order true x v = Do (commands.Put x v)
-cell_order false x v = Do (commands.Get x)
+abbrev pub cell_item : Bool → ℕ → amounts.Value → BlockItem
+cell_item true x v = Do (commands.Put x v)
+cell_item false x v = Do (commands.Get x)
 
-abbrev pub buffer_order : Bool → Buffer → amounts.Value → BlockItem
-buffer_order true b v = Do (commands.Produce b v)
-buffer_order false b v = Do (commands.Consume b)
+abbrev pub buffer_item : Bool → Buffer → amounts.Value → BlockItem
+buffer_item true b v = Do (commands.Produce b v)
+buffer_item false b v = Do (commands.Consume b)
 
-abbrev pub database_order : LineWord → Database → List (List ℕ) → Option BlockItem
-database_order verbs.Write d ws = Some (Write d (map amount_of ws))
-database_order verbs.Snapshot d ws = Some (Do (commands.Snapshot d (size_in ws)))
-database_order _ d ws = None
+abbrev pub database_item : LineWord → Database → List (List ℕ) → Option BlockItem
+database_item verbs.Write d ws = Some (Write d (map amount_of ws))
+database_item verbs.Snapshot d ws = Some (Do (commands.Snapshot d (size_in ws)))
+database_item _ d ws = None
 
-abbrev pub semaphore_order : LineWord → Semaphore → BlockItem
-semaphore_order verbs.Down s = Do (commands.Down s)
-semaphore_order _ s = Do (commands.Up s)
+abbrev pub semaphore_item : LineWord → Semaphore → BlockItem
+semaphore_item verbs.Down s = Do (commands.Down s)
+semaphore_item _ s = Do (commands.Up s)
 
 -- the item of a line with this object, which these words follow; none if no command has such an
 -- object
 abbrev pub command_in : LineWord → Bool → Object → List (List ℕ) → Option BlockItem
-command_in v giving (Event e) ws = Some (event_order v e (amount_in ws))
-command_in v giving (Sequencer q) ws = Some (Do (commands.Ticket q))
-command_in v giving (Cell x) ws = Some (cell_order giving x (amount_in ws))
-command_in v giving (Handed e b) ws = Some (Do (commands.Hand e b))
-command_in v giving (OfBuffer b) ws = Some (buffer_order giving b (amount_in ws))
-command_in v giving (OfDatabase d) ws = database_order v d ws
-command_in v giving (OfSemaphore s) ws = Some (semaphore_order v s)
-command_in v giving (SemaphorePair common one other) ws = Some (Do (commands.DownBoth common one other))
-command_in v giving Nothing ws = None
-command_in v giving (Worker w) ws = None
+command_in v update (Event e) ws = Some (event_item v e (amount_in ws))
+command_in v update (Sequencer q) ws = Some (Do (commands.Ticket q))
+command_in v update (Cell x) ws = Some (cell_item update x (amount_in ws))
+command_in v update (Handed e b) ws = Some (Do (commands.Hand e b))
+command_in v update (OfBuffer b) ws = Some (buffer_item update b (amount_in ws))
+command_in v update (OfDatabase d) ws = database_item v d ws
+command_in v update (OfSemaphore s) ws = Some (semaphore_item v s)
+command_in v update (SemaphorePair common one other) ws = Some (Do (commands.DownBoth common one other))
+command_in v update Nothing ws = None
+command_in v update (Worker w) ws = None
 
 -- a command within the limits
 abbrev pub IsSound : BlockItem → Type 0

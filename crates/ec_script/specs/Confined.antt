@@ -14,10 +14,10 @@ use Rattle.ec_script.specs.declared.block_item.BlockItem.{BlockItem}
 use Rattle.ec_script.specs.declared.block_item.BlockItem.TheVariants.{Do, Write, Begin, End}
 use Rattle.ec_script.specs.Objects.{owns, is_owned}
 use Rattle.ec_heading.specs.Groups.{both_of}
-use Rattle.ec_script.specs.Versioned.{HasOrders}
+use Rattle.ec_script.specs.Versioned.{HasItems}
 use Rattle.ec_script.specs.Flat.{flat}
 use Rattle.ec_script.specs.ScriptModel.{PlanModel}
-use Rattle.ec_script.specs.Outcome.{outcome}
+use Rattle.ec_script.specs.Outcome.{parse_result}
 
 -- ONE COMMAND
 
@@ -65,12 +65,12 @@ pub record IsPlan (p : PlanModel) : Type 0 where
   pub apart : AreApart p.heading.groups
   pub programs : length p.programs ≡ p.heading.setup.workers
   pub confined : AreConfined p.heading.groups p.programs
-  pub version : HasOrders p.heading.version p.programs
+  pub version : HasItems p.heading.version p.programs
   pub schedule : AllByRecursion (λ w. w < p.heading.setup.workers) p.schedule
 
 -- every script is such a plan
 abbrev pub PlansAreConfined : Type 0
-PlansAreConfined = (bytes : List ℕ) (p : PlanModel) → outcome bytes ≡ Ok p → IsPlan p
+PlansAreConfined = (bytes : List ℕ) (p : PlanModel) → parse_result bytes ≡ Ok p → IsPlan p
 
 -- UNROLLED
 

@@ -3,7 +3,7 @@
 use Rattle.std.specs.Prelude.{◌≡◌, ◌↔◌, ℕ, ◌+◌, ◌<◌, true, List, [], ◌∷◌, ◌++◌, Some}
 use Rattle.ec_script.specs.declared.block_item.BlockItem.{BlockItem}
 use Rattle.ec_script.specs.declared.block_item.BlockItem.TheVariants.{Do, Write, Begin, End}
-use Rattle.ec_script.specs.declared.script.Block.{Block}
+use Rattle.ec_script.specs.declared.script.OpenBlock.{OpenBlock}
 use Rattle.ec_script.specs.declared.stage.Stage.TheVariants.{Opening, Reading}
 use Rattle.ec_script.specs.DraftModel.{DraftModel}
 use Rattle.ec_script.specs.Grammar.{Leads}
@@ -32,13 +32,13 @@ EndsInBegin os = (prefix : List BlockItem) × (n : ℕ) × (os ≡ prefix ++ Beg
 -- there are as many commands as the lines say, the repeats that begin are those that end and those
 -- that are open, and if one is open the innermost has no command yet exactly if the last line
 -- begins it
-pub record IsCounted (d : DraftModel) : Type 0 where
-  pub commands : d.commands ≡ commands_in d.orders
-  pub repeats : begins_in d.orders ≡ ends_in d.orders + d.depth
-  pub last : 0 < d.depth → (d.is_empty ≡ true) ↔ EndsInBegin d.orders
+pub record HasCounts (d : DraftModel) : Type 0 where
+  pub commands : d.commands ≡ commands_in d.block_items
+  pub repeats : begins_in d.block_items ≡ ends_in d.block_items + d.depth
+  pub last : 0 < d.depth → (d.is_empty ≡ true) ↔ EndsInBegin d.block_items
 
 -- THEOREM
 
 -- the open block of every script is so
 abbrev pub BlocksAreCounted : Type 0
-BlocksAreCounted = (before : List (List ℕ)) (s : ScriptModel) (b : Block) → Leads Opening before (Reading s) → s.block ≡ Some b → IsCounted b.draft
+BlocksAreCounted = (before : List (List ℕ)) (s : ScriptModel) (b : OpenBlock) → Leads Opening before (Reading s) → s.block ≡ Some b → HasCounts b.draft

@@ -8,23 +8,23 @@ use Rattle.ec_script.specs.declared.block_item.BlockItem.TheVariants.{Do, Write,
 
 -- its lines so far, how many repeats are open, whether the innermost has no command yet, and how many commands there are
 pub record DraftModel : Type 0 where
-  pub orders : List BlockItem
+  pub block_items : List BlockItem
   pub depth : ℕ
   pub is_empty : Bool
   pub commands : ℕ
 
 abbrev pub empty_draft : DraftModel
-empty_draft = record { orders = []; depth = 0; is_empty = true; commands = 0 }
+empty_draft = record { block_items = []; depth = 0; is_empty = true; commands = 0 }
 
 -- one more command, a repeat that opens, and one that ends
 abbrev pub draft_with_command : DraftModel → BlockItem → DraftModel
-draft_with_command d o = record { orders = d.orders ++ o ∷ []; depth = d.depth; is_empty = false; commands = d.commands + 1 }
+draft_with_command d o = record { block_items = d.block_items ++ o ∷ []; depth = d.depth; is_empty = false; commands = d.commands + 1 }
 
 abbrev pub draft_with_repeat : DraftModel → ℕ → DraftModel
-draft_with_repeat d n = record { orders = d.orders ++ Begin n ∷ []; depth = d.depth + 1; is_empty = true; commands = d.commands + 1 }
+draft_with_repeat d n = record { block_items = d.block_items ++ Begin n ∷ []; depth = d.depth + 1; is_empty = true; commands = d.commands + 1 }
 
 abbrev pub draft_with_end : DraftModel → DraftModel
-draft_with_end d = record { orders = d.orders ++ End ∷ []; depth = d.depth - 1; is_empty = false; commands = d.commands }
+draft_with_end d = record { block_items = d.block_items ++ End ∷ []; depth = d.depth - 1; is_empty = false; commands = d.commands }
 
 -- the block with one more line
 abbrev pub draft_with_item : DraftModel → BlockItem → DraftModel

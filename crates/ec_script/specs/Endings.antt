@@ -9,7 +9,7 @@ use Rattle.ec_script.specs.declared.stage.Stage.TheVariants.{Opening, Reading}
 use Rattle.ec_script.specs.Grammar.{IsLine, Leads}
 use Rattle.ec_heading.specs.Spelling.{lines_text}
 use Rattle.ec_script.specs.Holding.{HasKind}
-use Rattle.ec_script.specs.Outcome.{outcome}
+use Rattle.ec_script.specs.Outcome.{parse_result}
 use Rattle.ec_script.specs.Reading.{step}
 
 -- no kind of fault holds of the line in its place
@@ -37,9 +37,9 @@ pub record EndsEarly (text : List ℕ) (n : ℕ) : Type 0 where
 -- THEOREMS
 
 -- a line is accepted exactly if no kind holds of it
-abbrev pub FaultlessLinesAreTaken : Type 0
-FaultlessLinesAreTaken = (before : List (List ℕ)) (stage : Stage) (line : List ℕ) → Leads Opening before stage → ((next : Stage) × (step stage line ≡ Ok next)) ↔ IsFaultless stage line
+abbrev pub FaultlessLinesAreAccepted : Type 0
+FaultlessLinesAreAccepted = (before : List (List ℕ)) (stage : Stage) (line : List ℕ) → Leads Opening before stage → ((next : Stage) × (step stage line ≡ Ok next)) ↔ IsFaultless stage line
 
 -- a text is reported as unfinished exactly if it is within the bound and ends too early
-abbrev pub UnfinishedIsTold : Type 0
-UnfinishedIsTold = (text : List ℕ) (n : ℕ) → (outcome text ≡ Err (n, kinds.Unfinished)) ↔ ((length text ≤ SCRIPT_MAX) × EndsEarly text n)
+abbrev pub UnfinishedIsReported : Type 0
+UnfinishedIsReported = (text : List ℕ) (n : ℕ) → (parse_result text ≡ Err (n, kinds.Unfinished)) ↔ ((length text ≤ SCRIPT_MAX) × EndsEarly text n)

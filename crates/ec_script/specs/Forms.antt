@@ -6,7 +6,7 @@ use Rattle.std.specs.Borrow.{Bor}
 use Rattle.ec_text.specs.Words.{words_of, number_in_word, is_number_form}
 use Rattle.ec_machine.specs.declared.command.Value.{Value}
 use Rattle.ec_machine.specs.declared.command.Value.TheVariants.{Number, Last, LastPlus}
-use Rattle.ec_script.specs.Verbs.{parse_verb, has_object, tail_of}
+use Rattle.ec_script.specs.Verbs.{parse_line_word, has_object, tail_of}
 use Rattle.ec_script.specs.declared.verb.LineWord.{LineWord}
 use Rattle.ec_script.specs.declared.verb.Tail.{Tail}
 use Rattle.ec_script.specs.declared.verb.Tail.TheVariants as tails
@@ -71,7 +71,7 @@ verbed_in (Some v) ws = if has_object v then objected_in v ws else tailed_in v [
 -- the parts of a line, if it has one of the forms
 unfoldable pub phrase_in : List (List ℕ) → Option Phrase
 phrase_in [] = None
-phrase_in (w ∷ ws) = verbed_in (parse_verb w) ws
+phrase_in (w ∷ ws) = verbed_in (parse_line_word w) ws
 
 -- AS THE CODE REPRESENTS THEM
 

@@ -17,7 +17,7 @@ use Rattle.ec_script.specs.Kinds.{may_signal, are_declared}
 use Rattle.ec_script.specs.Versioned.{has_command}
 use Rattle.ec_script.specs.Confined.{UsesGroups}
 use Rattle.ec_script.specs.Layout.{IsLineOfItem}
-use Rattle.ec_script.specs.Spelling.{order_line}
+use Rattle.ec_script.specs.Spelling.{item_line}
 
 -- whether a script of the version may have the worker do this, by the rights of its declarations
 abbrev pub may_do : Version → Tables → ℕ → Command-F Command → Bool
@@ -60,10 +60,10 @@ IsGiven h w End = Unit {0}
 
 -- it is allowed, and its line has at most 8192 bytes
 abbrev pub MayGive : HeadingModel → ℕ → BlockItem → Type 0
-MayGive h w o = IsGiven h w o × (length (order_line h o) ≤ 8192)
+MayGive h w o = IsGiven h w o × (length (item_line h o) ≤ 8192)
 
 -- THEOREMS
 
 -- a line says an item exactly if it is the canonical encoding of the item, and the item is allowed
-abbrev pub LinesSayOrders : Type 0
-LinesSayOrders = (o : HeaderTree) (w : ℕ) (line : List ℕ) (order : BlockItem) → IsHeaderTree o → IsLineOfItem (heading_of_tree o) w line order ↔ ((line ≡ order_line (heading_of_tree o) order) × MayGive (heading_of_tree o) w order)
+abbrev pub LinesMeanItems : Type 0
+LinesMeanItems = (o : HeaderTree) (w : ℕ) (line : List ℕ) (item : BlockItem) → IsHeaderTree o → IsLineOfItem (heading_of_tree o) w line item ↔ ((line ≡ item_line (heading_of_tree o) item) × MayGive (heading_of_tree o) w item)

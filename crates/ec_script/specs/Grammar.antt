@@ -11,7 +11,7 @@ use Rattle.ec_script.specs.declared.stage.Stage.{Stage}
 use Rattle.ec_script.specs.declared.stage.Stage.TheVariants.{Opening}
 use Rattle.ec_script.specs.ScriptModel.{PlanModel}
 use Rattle.ec_script.specs.Reading.{step}
-use Rattle.ec_script.specs.Outcome.{outcome, lines_of_text, plan_in, first_or_empty, long_kind}
+use Rattle.ec_script.specs.Outcome.{parse_result, lines_of_text, plan_in, first_or_empty, long_kind}
 use Rattle.ec_heading.specs.Spelling.{lines_text}
 
 -- a line has no LF
@@ -39,11 +39,11 @@ IsNoScript bytes = (p : PlanModel) → IsScript bytes p → ⊥
 
 -- a script is parsed to its plan
 abbrev pub ScriptIsRead : Type 0
-ScriptIsRead = (bytes : List ℕ) (p : PlanModel) → IsScript bytes p → outcome bytes ≡ Ok p
+ScriptIsRead = (bytes : List ℕ) (p : PlanModel) → IsScript bytes p → parse_result bytes ≡ Ok p
 
 -- what is parsed to a plan is a script of that plan
 abbrev pub ReadIsScript : Type 0
-ReadIsScript = (bytes : List ℕ) (p : PlanModel) → outcome bytes ≡ Ok p → IsScript bytes p
+ReadIsScript = (bytes : List ℕ) (p : PlanModel) → parse_result bytes ≡ Ok p → IsScript bytes p
 
 -- THE FIRST FAULTY LINE
 
@@ -73,12 +73,12 @@ pub record IsFirstFault (text : List ℕ) (n : ℕ) (kind : Kind) : Type 0 where
 
 -- what is reported for a text within the bound is its first faulty line
 abbrev pub FaultIsTheFirst : Type 0
-FaultIsTheFirst = (text : List ℕ) (n : ℕ) (kind : Kind) → length text ≤ SCRIPT_MAX → outcome text ≡ Err (n, kind) → IsFirstFault text n kind
+FaultIsTheFirst = (text : List ℕ) (n : ℕ) (kind : Kind) → length text ≤ SCRIPT_MAX → parse_result text ≡ Err (n, kind) → IsFirstFault text n kind
 
 -- for a longer one it is line 1, and the kind depends on whether that is the first line of a
 -- version
 abbrev pub LongIsLine1 : Type 0
-LongIsLine1 = (text : List ℕ) (n : ℕ) (kind : Kind) → SCRIPT_MAX < length text → outcome text ≡ Err (n, kind) → (n ≡ 1) × (kind ≡ long_kind (first_or_empty (lines_of_text text)))
+LongIsLine1 = (text : List ℕ) (n : ℕ) (kind : Kind) → SCRIPT_MAX < length text → parse_result text ≡ Err (n, kind) → (n ≡ 1) × (kind ≡ long_kind (first_or_empty (lines_of_text text)))
 
 -- the bytes before the first LF of a longer text, or all of it, are the first line of a version,
 -- and the text has too many bytes; or they are not
@@ -96,5 +96,5 @@ abbrev pub IsFault : List ℕ → ℕ → Kind → Type 0
 IsFault text n kind = ((length text ≤ SCRIPT_MAX) × IsFirstFault text n kind) ⊎ ((SCRIPT_MAX < length text) × IsLongFault text n kind)
 
 -- a line and a kind are reported for a text exactly if they are its fault
-abbrev pub FaultsAreTold : Type 0
-FaultsAreTold = (text : List ℕ) (n : ℕ) (kind : Kind) → (outcome text ≡ Err (n, kind)) ↔ IsFault text n kind
+abbrev pub FaultsAreReported : Type 0
+FaultsAreReported = (text : List ℕ) (n : ℕ) (kind : Kind) → (parse_result text ≡ Err (n, kind)) ↔ IsFault text n kind

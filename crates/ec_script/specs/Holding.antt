@@ -22,7 +22,7 @@ use Rattle.ec_script.specs.declared.fault.Kind.{Kind}
 use Rattle.ec_script.specs.declared.fault.Kind.TheVariants as kinds
 use Rattle.ec_script.specs.declared.object.Object.{Object}
 use Rattle.ec_script.specs.declared.object.Object.TheVariants.{Worker, OfDatabase}
-use Rattle.ec_script.specs.declared.script.Block.{Block}
+use Rattle.ec_script.specs.declared.script.OpenBlock.{OpenBlock}
 use Rattle.ec_script.specs.declared.stage.Stage.{Stage}
 use Rattle.ec_script.specs.declared.stage.Stage.TheVariants.{Opening, Limiting, Naming, Reading}
 use Rattle.ec_script.specs.declared.verb.Tail.{Tail}
@@ -38,7 +38,7 @@ use Rattle.ec_script.specs.Placed.{IsLimitLine, IsWorkersLine, IsDeclaration, Is
 use Rattle.ec_script.specs.Reading.{step}
 use Rattle.ec_script.specs.ScriptModel.{ScriptModel}
 use Rattle.ec_script.specs.Spelling.{value_word}
-use Rattle.ec_script.specs.Verbs.{tail_of, is_giving, is_counted}
+use Rattle.ec_script.specs.Verbs.{tail_of, is_update, is_counted}
 
 -- an element is at two places of a list
 abbrev pub OccursTwice : {A : Type 0} → List A → Type 0
@@ -95,8 +95,8 @@ DeclarationHas h p _ = ⊥
 
 -- a block is open, and this holds of it; a declared object of the right kind is named, and this
 -- holds of it
-abbrev pub InBlock : ScriptModel → (Block → Type 0) → Type 0
-InBlock s T = (b : Block) × (s.block ≡ Some b) × T b
+abbrev pub InBlock : ScriptModel → (OpenBlock → Type 0) → Type 0
+InBlock s T = (b : OpenBlock) × (s.block ≡ Some b) × T b
 
 abbrev pub About : ScriptModel → Phrase → (Object → Type 0) → Type 0
 About s p T = (o : Object) × (object_in s.heading p ≡ Some o) × T o
@@ -125,7 +125,7 @@ IsTooLong s p =
     ⊎ InBlock s (λ b. (is_counted p.verb ≡ true) × (4096 < b.draft.commands + 1))
 
 -- a `worker` or `schedule` line; a fifth repeat in the others; an `end` of a repeat without a command
-abbrev pub IsMisplaced : Block → LineWord → Type 0
+abbrev pub IsMisplaced : OpenBlock → LineWord → Type 0
 IsMisplaced b verbs.Worker = Unit {0}
 IsMisplaced b verbs.Schedule = Unit {0}
 IsMisplaced b verbs.Repeat = 4 ≤ b.draft.depth
@@ -143,7 +143,7 @@ OtherHas s p kinds.BadNumber = IsBadNumber (tail_of p.verb) s.heading p
 OtherHas s p kinds.TooMany = IsTooLong s p
 OtherHas s p kinds.Hidden = About s p (λ o. Any (λ (g : Group). owns o g ≡ true) s.heading.groups)
 OtherHas s p kinds.TwoRoles = (p.verb ≡ verbs.DownBoth) × (p.rest ≡ p.object ∷ []) × (object_in s.heading p ≢ None)
-OtherHas s p kinds.NoRight = InBlock s (λ b. About s p (λ o. has_right s.heading.version s.heading.setup b.worker (is_giving p.verb) o ≡ false))
+OtherHas s p kinds.NoRight = InBlock s (λ b. About s p (λ o. has_right s.heading.version s.heading.setup b.worker (is_update p.verb) o ≡ false))
 OtherHas s p kinds.BadNesting = InBlock s (λ b. IsMisplaced b p.verb)
 OtherHas s p _ = ⊥
 
@@ -177,5 +177,5 @@ IsLeast stage line kind = HasKind stage line kind × ((less : Kind) → kind_num
 -- THEOREMS
 
 -- a kind is reported for a line exactly if it is the least that holds
-abbrev pub LeastKindIsTold : Type 0
-LeastKindIsTold = (before : List (List ℕ)) (stage : Stage) (line : List ℕ) (kind : Kind) → Leads Opening before stage → (step stage line ≡ Err kind) ↔ IsLeast stage line kind
+abbrev pub LeastKindWins : Type 0
+LeastKindWins = (before : List (List ℕ)) (stage : Stage) (line : List ℕ) (kind : Kind) → Leads Opening before stage → (step stage line ≡ Err kind) ↔ IsLeast stage line kind

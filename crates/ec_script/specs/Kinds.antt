@@ -20,7 +20,7 @@ use Rattle.ec_script.specs.declared.object.Object.{Object}
 use Rattle.ec_script.specs.declared.object.Object.TheVariants.{Nothing, Worker, Event, Sequencer, Cell, Handed, OfBuffer, OfDatabase, OfSemaphore, SemaphorePair}
 use Rattle.ec_script.specs.declared.kinds.BlockContext.{BlockContext}
 use Rattle.ec_script.specs.declared.kinds.LineContext.{LineContext}
-use Rattle.ec_script.specs.Verbs.{has_verb, tail_of, is_giving, is_counted}
+use Rattle.ec_script.specs.Verbs.{has_verb, tail_of, is_update, is_counted}
 use Rattle.ec_script.specs.Forms.{Phrase, only_in, value_of}
 use Rattle.ec_script.specs.Objects.{is_owned}
 
@@ -114,20 +114,20 @@ abbrev pub are_declared : Tables → ℕ → ℕ → Bool
 are_declared t e b = nat_lt e (length t.events) && nat_lt b t.workers
 
 abbrev pub has_right : Version → Tables → ℕ → Bool → Object → Bool
-has_right v t w giving (Event e) = if giving then may_signal v t e w else may_observe t e w
-has_right v t w giving (Sequencer q) = may_take t q w
-has_right v t w giving (Cell x) = if giving then may_write t x w else may_read t x w
-has_right v t w giving (Handed e b) = are_declared t e b
-has_right v t w giving (OfBuffer b) = may_take t (if giving then b.put_seq else b.take_seq) w
-has_right v t w giving (OfDatabase d) = if giving then may_take t d.turn w else may_observe t d.start w
-has_right v t w giving (OfSemaphore s) = may_take t s.line w
-has_right v t w giving (SemaphorePair common one other) = may_take t common.line w && may_take t one.line w && may_take t other.line w
-has_right v t w giving _ = true
+has_right v t w update (Event e) = if update then may_signal v t e w else may_observe t e w
+has_right v t w update (Sequencer q) = may_take t q w
+has_right v t w update (Cell x) = if update then may_write t x w else may_read t x w
+has_right v t w update (Handed e b) = are_declared t e b
+has_right v t w update (OfBuffer b) = may_take t (if update then b.put_seq else b.take_seq) w
+has_right v t w update (OfDatabase d) = if update then may_take t d.turn w else may_observe t d.start w
+has_right v t w update (OfSemaphore s) = may_take t s.line w
+has_right v t w update (SemaphorePair common one other) = may_take t common.line w && may_take t one.line w && may_take t other.line w
+has_right v t w update _ = true
 
 -- whether the worker of the block lacks the right to use the object as the verb does
 abbrev pub lacks_right : HeadingModel → Option BlockContext → LineWord → Object → Bool
 lacks_right h None v o = false
-lacks_right h (Some n) v o = not (has_right h.version h.setup n.worker (is_giving v) o)
+lacks_right h (Some n) v o = not (has_right h.version h.setup n.worker (is_update v) o)
 
 -- BAD NESTING
 

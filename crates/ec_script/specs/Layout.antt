@@ -15,7 +15,7 @@ use Rattle.ec_script.specs.declared.object.Object.{Object}
 use Rattle.ec_script.specs.declared.block_item.BlockItem.{BlockItem}
 use Rattle.ec_script.specs.declared.block_item.BlockItem.TheVariants.{Do, Write, Begin, End}
 use Rattle.ec_script.specs.declared.parsing.TheConstants.{SCRIPT_MAX}
-use Rattle.ec_script.specs.Verbs.{has_verb, tail_of, is_giving, is_outer}
+use Rattle.ec_script.specs.Verbs.{has_verb, tail_of, is_update, is_outer}
 use Rattle.ec_script.specs.Forms.{Phrase, phrase_in}
 use Rattle.ec_script.specs.Objects.{object_in, is_owned}
 use Rattle.ec_script.specs.Kinds.{is_bad_tail, has_two_roles, has_right}
@@ -26,16 +26,16 @@ use Rattle.ec_script.specs.Grammar.{IsScript}
 -- A LINE OF A BLOCK
 
 -- the item of a line with this verb and object, which these words follow
-abbrev pub order_by : LineWord → Object → List (List ℕ) → Option BlockItem
-order_by verbs.Repeat o ws = Some (Begin (size_in ws))
-order_by verbs.End o ws = Some End
-order_by v o ws = command_in v (is_giving v) o ws
+abbrev pub item_by : LineWord → Object → List (List ℕ) → Option BlockItem
+item_by verbs.Repeat o ws = Some (Begin (size_in ws))
+item_by verbs.End o ws = Some End
+item_by v o ws = command_in v (is_update v) o ws
 
 -- the line says this item to the worker: it has at most 8192 bytes and no empty word, it has the
 -- form of a command that the version of the header has, of `repeat` or of `end`, its object is
 -- declared, its numbers are in range and its values as many as the cells, a raw command names no
 -- object of a group, no semaphore occurs twice, and the worker has the right
-pub record IsLineOfItem (h : HeadingModel) (w : ℕ) (line : List ℕ) (order : BlockItem) : Type 0 where
+pub record IsLineOfItem (h : HeadingModel) (w : ℕ) (line : List ℕ) (item : BlockItem) : Type 0 where
   pub whole : is_no_line line ≡ false
   pub phrase : Phrase
   pub form : phrase_in (words_of line) ≡ Some phrase
@@ -46,8 +46,8 @@ pub record IsLineOfItem (h : HeadingModel) (w : ℕ) (line : List ℕ) (order : 
   pub range : is_bad_tail (tail_of phrase.verb) phrase.verb phrase.rest object ≡ false
   pub apart : is_owned h.groups object ≡ false
   pub differ : has_two_roles object ≡ false
-  pub right : has_right h.version h.setup w (is_giving phrase.verb) object ≡ true
-  pub says : order_by phrase.verb object phrase.rest ≡ Some order
+  pub right : has_right h.version h.setup w (is_update phrase.verb) object ≡ true
+  pub says : item_by phrase.verb object phrase.rest ≡ Some item
 
 -- BLOCKS
 
@@ -59,8 +59,8 @@ pub record Block : Type 0 where
 abbrev pub texts_of : List (List ℕ × BlockItem) → List (List ℕ)
 texts_of lines = map (λ (l : List ℕ × BlockItem). l.0) lines
 
-abbrev pub orders_of : List (List ℕ × BlockItem) → List BlockItem
-orders_of lines = map (λ (l : List ℕ × BlockItem). l.1) lines
+abbrev pub items_of : List (List ℕ × BlockItem) → List BlockItem
+items_of lines = map (λ (l : List ℕ × BlockItem). l.1) lines
 
 -- the items come where this many repeats are open, the innermost of which has no command yet or has
 -- one: each `end` closes a repeat with a command, at most four repeats are nested, and each has its
@@ -85,8 +85,8 @@ commands_in (End ∷ os) = commands_in os
 pub record IsBlock (h : HeadingModel) (b : Block) : Type 0 where
   pub worker : b.worker < h.setup.workers
   pub each : AllByRecursion (λ (l : List ℕ × BlockItem). IsLineOfItem h b.worker l.0 l.1) b.lines
-  pub nested : AreNested 0 true (orders_of b.lines)
-  pub few : commands_in (orders_of b.lines) ≤ 4096
+  pub nested : AreNested 0 true (items_of b.lines)
+  pub few : commands_in (items_of b.lines) ≤ 4096
 
 abbrev pub worker_line : List (List ℕ) → ℕ → List ℕ
 worker_line workers w = join_with_byte 32 (codes "worker" ∷ list_words workers (w ∷ []))
@@ -135,7 +135,7 @@ layout_lines l =
 -- the items of a worker's block, none if it has no block
 abbrev pub program_of : List Block → ℕ → List BlockItem
 program_of [] w = []
-program_of (b ∷ blocks) w = if b.worker == w then orders_of b.lines else program_of blocks w
+program_of (b ∷ blocks) w = if b.worker == w then items_of b.lines else program_of blocks w
 
 abbrev pub plan_of : Layout → PlanModel
 plan_of l = record {

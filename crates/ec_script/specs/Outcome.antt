@@ -12,7 +12,7 @@ use Rattle.ec_script.specs.declared.fault.StageFault.{StageFault}
 use Rattle.ec_script.specs.declared.fault.StageFault.TheVariants as stages
 use Rattle.ec_script.specs.declared.parsing.TheConstants.{SCRIPT_MAX}
 use Rattle.ec_script.specs.declared.plan.Plan.{Plan}
-use Rattle.ec_script.specs.declared.script.Block.{Block}
+use Rattle.ec_script.specs.declared.script.OpenBlock.{OpenBlock}
 use Rattle.ec_script.specs.declared.stage.Stage.{Stage}
 use Rattle.ec_script.specs.declared.stage.Stage.TheVariants.{Opening, Reading}
 use Rattle.ec_script.specs.Flat.{flat}
@@ -30,7 +30,7 @@ lines_of_text bytes = slice_split (λ b. b == 10) bytes
 -- THE END OF A TEXT
 
 -- there is a plan if no block is open
-abbrev pub plan_or : ScriptModel → Option Block → Option PlanModel
+abbrev pub plan_or : ScriptModel → Option OpenBlock → Option PlanModel
 plan_or s None = Some (record { heading = s.heading; programs = s.programs; schedule = s.schedule })
 plan_or s (Some b) = None
 
@@ -55,10 +55,11 @@ parse_end n s (b ∷ bs) = after_line n (step s (b ∷ bs)) (λ t. Err (n, kinds
 -- WHOLE TEXTS
 
 -- the lines one after another, from line n on in the stage s, up to the first fault
-unfoldable pub goes : ℕ → Stage → List (List ℕ) → ParseResult
-goes n s [] = parse_end n s []
-goes n s (rest ∷ []) = parse_end n s rest
-goes n s (line ∷ next ∷ others) = after_line n (step s line) (λ t. goes (n + 1) t (next ∷ others))
+unfoldable pub parse_from : ℕ → Stage → List (List ℕ) → ParseResult
+parse_from n s [] = parse_end n s []
+parse_from n s (rest ∷ []) = parse_end n s rest
+parse_from n s (line ∷ next ∷ others) =
+    after_line n (step s line) (λ t. parse_from (n + 1) t (next ∷ others))
 
 abbrev pub first_or_empty : List (List ℕ) → List ℕ
 first_or_empty [] = []
@@ -73,8 +74,8 @@ abbrev pub long_kind : List ℕ → Kind
 long_kind line = long_by (version_of script_header line)
 
 -- the result of a text
-unfoldable pub outcome : List ℕ → ParseResult
-outcome bytes = if nat_lt SCRIPT_MAX (length bytes) then Err (1, long_kind (first_or_empty (lines_of_text bytes))) else goes 1 Opening (lines_of_text bytes)
+unfoldable pub parse_result : List ℕ → ParseResult
+parse_result bytes = if nat_lt SCRIPT_MAX (length bytes) then Err (1, long_kind (first_or_empty (lines_of_text bytes))) else parse_from 1 Opening (lines_of_text bytes)
 
 -- a plan with its programs as lists of lines
 abbrev pub shown_plan : Plan → PlanModel

@@ -33,8 +33,8 @@ pub record NamesOneTwice (s : LineContextModel) (p : Phrase) : Type 0 where
   pub room : is_too_many p.verb p.rest s.block s.scheduled ≡ false
 
 -- `TwoRoles` is reported for a line after the declarations exactly if it is such a line
-abbrev pub TwoRolesAreTold : Type 0
-TwoRolesAreTold = (s : LineContextModel) (p : Phrase) → IsHeading s.heading → (phrase_fault s p (object_in s.heading p) ≡ Some kinds.TwoRoles) ↔ NamesOneTwice s p
+abbrev pub TwoRolesAreReported : Type 0
+TwoRolesAreReported = (s : LineContextModel) (p : Phrase) → IsHeading s.heading → (phrase_fault s p (object_in s.heading p) ≡ Some kinds.TwoRoles) ↔ NamesOneTwice s p
 
 -- IN A SCRIPT
 

@@ -9,7 +9,7 @@ use Rattle.ec_heading.specs.HeaderTree.{empty_heading}
 use Rattle.ec_heading.specs.Heading.{head_step, is_no_line}
 use Rattle.ec_heading.specs.Lists.{ids_in}
 use Rattle.ec_heading.specs.declared.heading.HeadFault.{HeadFault}
-use Rattle.ec_script.specs.Headers.{script_header, bound}
+use Rattle.ec_script.specs.Headers.{script_header, version_limit}
 use Rattle.ec_script.specs.declared.fault.Kind.{Kind}
 use Rattle.ec_script.specs.declared.fault.Kind.TheVariants as kinds
 use Rattle.ec_script.specs.declared.fault.StageFault.{StageFault}
@@ -21,11 +21,11 @@ use Rattle.ec_script.specs.declared.object.Object.TheVariants.{Worker}
 use Rattle.ec_script.specs.declared.block_item.BlockItem.{BlockItem}
 use Rattle.ec_script.specs.declared.block_item.BlockItem.TheVariants.{Begin, End}
 use Rattle.ec_script.specs.declared.kinds.BlockContext.{BlockContext}
-use Rattle.ec_script.specs.declared.script.Block.{Block}
+use Rattle.ec_script.specs.declared.script.OpenBlock.{OpenBlock}
 use Rattle.ec_script.specs.declared.stage.Stage.{Stage}
 use Rattle.ec_script.specs.declared.stage.Stage.TheVariants.{Opening, Limiting, Naming, Reading}
 use Rattle.ec_script.specs.Faults.{kind_of_head}
-use Rattle.ec_script.specs.Verbs.{parse_verb, is_giving, is_outer}
+use Rattle.ec_script.specs.Verbs.{parse_line_word, is_update, is_outer}
 use Rattle.ec_script.specs.Forms.{Phrase, phrase_in}
 use Rattle.ec_script.specs.Objects.{object_in}
 use Rattle.ec_script.specs.DraftModel.{empty_draft, draft_with_item}
@@ -35,7 +35,7 @@ use Rattle.ec_script.specs.ScriptModel.{ScriptModel}
 
 -- WHAT THE FAULTS OF A LINE DEPEND ON
 
-abbrev pub view_of_block : Block → BlockContext
+abbrev pub view_of_block : OpenBlock → BlockContext
 view_of_block b = record { worker = b.worker; depth = b.draft.depth; is_empty = b.draft.is_empty; commands = b.draft.commands }
 
 abbrev pub context_of_script : ScriptModel → LineContextModel
@@ -44,35 +44,35 @@ context_of_script s = record { heading = s.heading; named = s.named; block = opt
 -- THE SCRIPT AFTER A LINE
 
 -- the block of a worker begins
-abbrev pub began : ScriptModel → Object → ScriptModel
-began s (Worker w) = record s { named = s.named ++ w ∷ []; block = Some (record { worker = w; draft = empty_draft }) }
-began s _ = s
+abbrev pub with_worker_block : ScriptModel → Object → ScriptModel
+with_worker_block s (Worker w) = record s { named = s.named ++ w ∷ []; block = Some (record { worker = w; draft = empty_draft }) }
+with_worker_block s _ = s
 
 -- one more line in the block
-abbrev pub ordered_in : ScriptModel → Option Block → BlockItem → ScriptModel
-ordered_in s None o = s
-ordered_in s (Some b) o = record s { block = Some (record { worker = b.worker; draft = draft_with_item b.draft o }) }
+abbrev pub block_with_item : ScriptModel → Option OpenBlock → BlockItem → ScriptModel
+block_with_item s None o = s
+block_with_item s (Some b) o = record s { block = Some (record { worker = b.worker; draft = draft_with_item b.draft o }) }
 
 abbrev pub after_item : ScriptModel → BlockItem → ScriptModel
-after_item s o = ordered_in s s.block o
+after_item s o = block_with_item s s.block o
 
 abbrev pub after_command : ScriptModel → Option BlockItem → ScriptModel
 after_command s None = s
 after_command s (Some o) = after_item s o
 
 -- an `end` closes the innermost repeat, otherwise the block, which then is the worker's program
-abbrev pub ended_in : ScriptModel → Option Block → ScriptModel
-ended_in s None = s
-ended_in s (Some b) =
-    if b.draft.depth == 0 then record s { programs = slice_set s.programs b.worker b.draft.orders; block = None }
-    else ordered_in s (Some b) End
+abbrev pub with_block_end : ScriptModel → Option OpenBlock → ScriptModel
+with_block_end s None = s
+with_block_end s (Some b) =
+    if b.draft.depth == 0 then record s { programs = slice_set s.programs b.worker b.draft.block_items; block = None }
+    else block_with_item s (Some b) End
 
 abbrev pub after_verb : LineWord → ScriptModel → Object → List (List ℕ) → ScriptModel
-after_verb verbs.Worker s o ws = began s o
+after_verb verbs.Worker s o ws = with_worker_block s o
 after_verb verbs.Schedule s o ws = record s { schedule = s.schedule ++ ids_in s.heading.words ws }
 after_verb verbs.Repeat s o ws = after_item s (Begin (size_in ws))
-after_verb verbs.End s o ws = ended_in s s.block
-after_verb v s o ws = after_command s (command_in v (is_giving v) o ws)
+after_verb verbs.End s o ws = with_block_end s s.block
+after_verb v s o ws = after_command s (command_in v (is_update v) o ws)
 
 -- the script after a line of one of the forms
 abbrev pub after : ScriptModel → Phrase → ScriptModel
@@ -89,9 +89,9 @@ after_phrase s None = Err kinds.BadLine
 after_phrase s (Some p) =
     fault_or (phrase_fault (context_of_script s) p (object_in s.heading p)) (after s p)
 
-abbrev pub headed_on : ScriptModel → Result HeadingModel HeadFault → Result ScriptModel Kind
-headed_on s (Ok h) = Ok (record s { heading = h })
-headed_on s (Err fault) = Err (kind_of_head fault)
+abbrev pub map_heading : ScriptModel → Result HeadingModel HeadFault → Result ScriptModel Kind
+map_heading s (Ok h) = Ok (record s { heading = h })
+map_heading s (Err fault) = Err (kind_of_head fault)
 
 -- whether no `worker` and no `schedule` line came yet
 abbrev pub is_declaring : ScriptModel → Bool
@@ -100,23 +100,24 @@ is_declaring s = length s.named == 0 && length s.schedule == 0
 -- whether the words open with `worker` or `schedule`
 abbrev pub opens_outer : List (List ℕ) → Bool
 opens_outer [] = false
-opens_outer (w ∷ ws) = option_map_or is_outer (parse_verb w) false
+opens_outer (w ∷ ws) = option_map_or is_outer (parse_line_word w) false
 
 -- declarations come before the first `worker` and `schedule` line
 unfoldable pub script_step : ScriptModel → List ℕ → Result ScriptModel Kind
 script_step s line =
-    if is_declaring s && not (opens_outer (words_of line)) then headed_on s (head_step s.heading line)
+    if is_declaring s && not (opens_outer (words_of line)) then map_heading s (head_step s.heading line)
     else (if is_no_line line then Err kinds.BadLine else after_phrase s (phrase_in (words_of line)))
 
 -- THE FIRST LINES
 
-abbrev pub limiting : Option Version → Result Stage Kind
-limiting None = Err kinds.BadHeader
-limiting (Some v) = Ok (Limiting v)
+abbrev pub stage_of_version : Option Version → Result Stage Kind
+stage_of_version None = Err kinds.BadHeader
+stage_of_version (Some v) = Ok (Limiting v)
 
 abbrev pub after_limit : Version → Option ℕ → Result Stage Kind
 after_limit v None = Err kinds.BadNumber
-after_limit v (Some n) = if is_limit v n then Ok (Naming (bound v n)) else Err kinds.BadNumber
+after_limit v (Some n) =
+    if is_limit v n then Ok (Naming (version_limit v n)) else Err kinds.BadNumber
 
 -- the digits after the word `limit`, if nothing else follows it
 abbrev pub limit_digits : List (List ℕ) → Option (List ℕ)
@@ -129,7 +130,7 @@ limit_or v (Some n) = after_limit v (number_in_word n)
 
 -- the limit that was returned, or the kind
 abbrev pub LimitIs : Version → Result ℕ Kind → Result Stage Kind → Type 0
-LimitIs v (Ok n) stepped = stepped ≡ Ok (Naming (bound v n))
+LimitIs v (Ok n) stepped = stepped ≡ Ok (Naming (version_limit v n))
 LimitIs v (Err kind) stepped = stepped ≡ Err kind
 
 unfoldable pub limit_step : Version → List ℕ → Result Stage Kind
@@ -139,9 +140,9 @@ limit_step v line = if nat_lt 8192 (length line) then Err kinds.BadLine else lim
 abbrev pub script_of : HeadingModel → ScriptModel
 script_of h = record { heading = h; named = []; programs = replicate h.setup.workers []; block = None; schedule = [] }
 
-abbrev pub named_on : Result HeadingModel HeadFault → Result Stage Kind
-named_on (Ok h) = Ok (Reading (script_of h))
-named_on (Err fault) = Err (kind_of_head fault)
+abbrev pub stage_of_heading : Result HeadingModel HeadFault → Result Stage Kind
+stage_of_heading (Ok h) = Ok (Reading (script_of h))
+stage_of_heading (Err fault) = Err (kind_of_head fault)
 
 abbrev pub read_on : Result ScriptModel Kind → Result Stage Kind
 read_on (Ok s) = Ok (Reading s)
@@ -151,9 +152,9 @@ read_on (Err kind) = Err kind
 
 -- the stage after a line, or the least kind of fault of the line
 unfoldable pub step : Stage → List ℕ → Result Stage Kind
-step Opening line = limiting (version_of script_header line)
+step Opening line = stage_of_version (version_of script_header line)
 step (Limiting v) line = limit_step v line
-step (Naming b) line = named_on (head_step (empty_heading b.version b.limit []) line)
+step (Naming b) line = stage_of_heading (head_step (empty_heading b.version b.limit []) line)
 step (Reading s) line = read_on (script_step s line)
 
 -- what a function returned, and the state that it left, are those of the step; out of memory is

@@ -20,7 +20,7 @@ use Rattle.ec_script.specs.declared.object.Object.TheVariants.{Event, Sequencer}
 use Rattle.ec_script.specs.declared.block_item.BlockItem.{BlockItem}
 use Rattle.ec_script.specs.declared.block_item.BlockItem.TheVariants.{Do, Write, Begin, End}
 use Rattle.ec_script.specs.Objects.{owns}
-use Rattle.ec_script.specs.Layout.{IsLineOfItem, Block, orders_of, worker_line, schedule_line, Layout, IsLayout, layout_lines}
+use Rattle.ec_script.specs.Layout.{IsLineOfItem, Block, items_of, worker_line, schedule_line, Layout, IsLayout, layout_lines}
 
 -- VALUES
 
@@ -65,20 +65,20 @@ command_words h (layer.DownBoth common one other) = codes "pboth" ∷ group_word
 command_words h (layer.WriteAll d vs) = []
 command_words h (layer.Repeat n block) = []
 
-abbrev pub order_words : HeadingModel → BlockItem → List (List ℕ)
-order_words h (Do c) = command_words h (out-Command c)
-order_words h (Write d vs) = codes "write" ∷ group_word h (Event d.start) ∷ map value_word vs
-order_words h (Begin n) = codes "repeat" ∷ decimal n ∷ []
-order_words h End = codes "end" ∷ []
+abbrev pub item_words : HeadingModel → BlockItem → List (List ℕ)
+item_words h (Do c) = command_words h (out-Command c)
+item_words h (Write d vs) = codes "write" ∷ group_word h (Event d.start) ∷ map value_word vs
+item_words h (Begin n) = codes "repeat" ∷ decimal n ∷ []
+item_words h End = codes "end" ∷ []
 
-unfoldable pub order_line : HeadingModel → BlockItem → List ℕ
-order_line h o = join_with_byte 32 (order_words h o)
+unfoldable pub item_line : HeadingModel → BlockItem → List ℕ
+item_line h o = join_with_byte 32 (item_words h o)
 
 -- A SCRIPT
 
 -- the lines of the block of a worker with these items
 abbrev pub spelled_block : HeaderTree → ℕ × List BlockItem → List (List ℕ)
-spelled_block o b = worker_line o.workers b.0 ∷ map (order_line (heading_of_tree o)) b.1
+spelled_block o b = worker_line o.workers b.0 ∷ map (item_line (heading_of_tree o)) b.1
     ++ codes "end" ∷ []
 
 -- the lines of a header, of blocks, each given by its worker and its items, and of a schedule, each
@@ -90,16 +90,16 @@ script_lines o blocks rows = script_header o.version ∷ heading_lines o ++ (fla
 abbrev pub script_text : HeaderTree → List (ℕ × List BlockItem) → List (List ℕ) → List ℕ
 script_text o blocks rows = lines_text (script_lines o blocks rows)
 
-abbrev pub ordered_blocks : List Block → List (ℕ × List BlockItem)
-ordered_blocks blocks = map (λ (b : Block). (b.worker, orders_of b.lines)) blocks
+abbrev pub blocks_of_items : List Block → List (ℕ × List BlockItem)
+blocks_of_items blocks = map (λ (b : Block). (b.worker, items_of b.lines)) blocks
 
 -- THEOREMS
 
 -- a line that says an item is its canonical encoding
 abbrev pub LinesAreSpelled : Type 0
-LinesAreSpelled = (o : HeaderTree) (w : ℕ) (line : List ℕ) (order : BlockItem) → IsHeaderTree o → IsLineOfItem (heading_of_tree o) w line order → line ≡ order_line (heading_of_tree o) order
+LinesAreSpelled = (o : HeaderTree) (w : ℕ) (line : List ℕ) (item : BlockItem) → IsHeaderTree o → IsLineOfItem (heading_of_tree o) w line item → line ≡ item_line (heading_of_tree o) item
 
 -- so the text of a layout is the canonical encoding of its header, its blocks as workers and items,
 -- and its schedule
 abbrev pub LayoutsAreSpelled : Type 0
-LayoutsAreSpelled = (l : Layout) → IsLayout l → lines_text (layout_lines l) ≡ script_text l.outline (ordered_blocks l.blocks) l.rows
+LayoutsAreSpelled = (l : Layout) → IsLayout l → lines_text (layout_lines l) ≡ script_text l.outline (blocks_of_items l.blocks) l.rows

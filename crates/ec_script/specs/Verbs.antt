@@ -32,8 +32,8 @@ procedure_verb_of w =
     else (if bytes_eq w (codes "pboth") then Some verbs.DownBoth else None))))))
 
 -- the words that structure programs and scripts
-abbrev pub order_verb_of : List ℕ → Option LineWord
-order_verb_of w =
+abbrev pub item_verb_of : List ℕ → Option LineWord
+item_verb_of w =
     if bytes_eq w (codes "repeat") then Some verbs.Repeat
     else (if bytes_eq w (codes "end") then Some verbs.End
     else (if bytes_eq w (codes "worker") then Some verbs.Worker
@@ -44,8 +44,8 @@ or_else None other = other
 or_else (Some v) other = Some v
 
 -- the line word that a word is
-abbrev pub parse_verb : List ℕ → Option LineWord
-parse_verb w = or_else (raw_verb_of w) (or_else (procedure_verb_of w) (order_verb_of w))
+abbrev pub parse_line_word : List ℕ → Option LineWord
+parse_line_word w = or_else (raw_verb_of w) (or_else (procedure_verb_of w) (item_verb_of w))
 
 -- IN A VERSION
 
@@ -79,12 +79,12 @@ tail_of _ = tails.Nothing
 -- WHAT THEY DO
 
 -- whether it signals, writes or produces
-abbrev pub is_giving : LineWord → Bool
-is_giving verbs.Advance = true
-is_giving verbs.Put = true
-is_giving verbs.Produce = true
-is_giving verbs.Write = true
-is_giving _ = false
+abbrev pub is_update : LineWord → Bool
+is_update verbs.Advance = true
+is_update verbs.Put = true
+is_update verbs.Produce = true
+is_update verbs.Write = true
+is_update _ = false
 
 -- whether it opens a block or goes on with the schedule; otherwise it is inside a block
 abbrev pub is_outer : LineWord → Bool

@@ -18,18 +18,18 @@ has_command v _ = true
 
 -- BY THEIR LINES
 
-abbrev pub has_order : Version → BlockItem → Bool
-has_order v (Do c) = has_command v (out-Command c)
-has_order v (Write d vs) = true
-has_order v (Begin n) = true
-has_order v End = true
+abbrev pub has_item : Version → BlockItem → Bool
+has_item v (Do c) = has_command v (out-Command c)
+has_item v (Write d vs) = true
+has_item v (Begin n) = true
+has_item v End = true
 
-abbrev pub HasOrder : Version → BlockItem → Type 0
-HasOrder v o = has_order v o ≡ true
+abbrev pub HasItem : Version → BlockItem → Type 0
+HasItem v o = has_item v o ≡ true
 
 -- each line of each program
-abbrev pub HasOrders : Version → List (List BlockItem) → Type 0
-HasOrders v programs = AllByRecursion (AllByRecursion (HasOrder v)) programs
+abbrev pub HasItems : Version → List (List BlockItem) → Type 0
+HasItems v programs = AllByRecursion (AllByRecursion (HasItem v)) programs
 
 -- UNROLLED
 

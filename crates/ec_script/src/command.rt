@@ -4,10 +4,10 @@ ghost use Rattle.std.specs.List.{list_all};
 ghost use Rattle.std.specs.Option.{option_and_then};
 ghost use Rattle.ec_text.specs.Words.{number_in_word};
 ghost use Rattle.ec_machine.specs.Limits.{is_value};
-ghost use Rattle.ec_script.specs.Verbs.{tail_of, is_giving};
+ghost use Rattle.ec_script.specs.Verbs.{tail_of, is_update};
 ghost use Rattle.ec_script.specs.Forms.{only_in, rest_words};
 ghost use Rattle.ec_script.specs.Kinds.{is_bad_tail, is_count, has_two_roles};
-ghost use Rattle.ec_script.specs.BlockItems.{amount_of, amount_in, size_in, event_order, cell_order, buffer_order, database_order, semaphore_order, command_in, IsSound};
+ghost use Rattle.ec_script.specs.BlockItems.{amount_of, amount_in, size_in, event_item, cell_item, buffer_item, database_item, semaphore_item, command_in, IsSound};
 
 use crate::block_item::{BlockItem, Values};
 use crate::form::{Parts, only_word};
@@ -58,9 +58,9 @@ fn amounts_in(alloc: Global, rest: Option<&[u8]>) -> Result<Values, AllocError>
     Ok(Values { items })
 }
 
-fn event_order(verb: LineWord, event: EventId, value: Value) -> BlockItem
+fn event_item(verb: LineWord, event: EventId, value: Value) -> BlockItem
     requires { is_value value ≡ true }
-    ensures value { result ≡ event_order verb event value }
+    ensures value { result ≡ event_item verb event value }
     ensures sound { IsSound result }
 {
     match verb {
@@ -70,32 +70,32 @@ fn event_order(verb: LineWord, event: EventId, value: Value) -> BlockItem
     }
 }
 
-fn cell_order(giving: bool, cell: CellId, value: Value) -> BlockItem
+fn cell_item(update: bool, cell: CellId, value: Value) -> BlockItem
     requires { is_value value ≡ true }
-    ensures value { result ≡ cell_order giving cell value }
+    ensures value { result ≡ cell_item update cell value }
     ensures sound { IsSound result }
 {
-    if giving {
+    if update {
         BlockItem::Do(Command::Put(cell, value))
     } else {
         BlockItem::Do(Command::Get(cell))
     }
 }
 
-fn buffer_order(giving: bool, shape: BufferShape, value: Value) -> BlockItem
+fn buffer_item(update: bool, shape: BufferShape, value: Value) -> BlockItem
     requires { is_value value ≡ true }
-    ensures value { result ≡ buffer_order giving shape value }
+    ensures value { result ≡ buffer_item update shape value }
     ensures sound { IsSound result }
 {
-    if giving {
+    if update {
         BlockItem::Do(Command::Produce(shape, value))
     } else {
         BlockItem::Do(Command::Consume(shape))
     }
 }
 
-fn semaphore_order(verb: LineWord, shape: SemaphoreShape) -> BlockItem
-    ensures value { result ≡ semaphore_order verb shape }
+fn semaphore_item(verb: LineWord, shape: SemaphoreShape) -> BlockItem
+    ensures value { result ≡ semaphore_item verb shape }
     ensures sound { IsSound result }
 {
     match verb {
@@ -106,7 +106,7 @@ fn semaphore_order(verb: LineWord, shape: SemaphoreShape) -> BlockItem
 
 /// Returns the item that writes these values into a database.
 #[tactic(auto, using(crate::proofs::Sizes::as_many))]
-fn write_order(
+fn write_item(
     alloc: Global,
     shape: DatabaseShape,
     rest: Option<&[u8]>,
@@ -120,7 +120,7 @@ fn write_order(
 
 /// Returns the item that reads a database in at most this many tries.
 #[tactic(auto, using(crate::proofs::Sizes::size_sound))]
-fn snapshot_order(shape: DatabaseShape, rest: Option<&[u8]>) -> BlockItem
+fn snapshot_item(shape: DatabaseShape, rest: Option<&[u8]>) -> BlockItem
     requires { is_count 1000 (option_and_then number_in_word (only_in (rest_words rest))) ≡ true }
     ensures value { result
         ≡ BlockItem.Do (Command.Snapshot shape (size_in (rest_words rest.entry))) }
@@ -130,19 +130,19 @@ fn snapshot_order(shape: DatabaseShape, rest: Option<&[u8]>) -> BlockItem
 }
 
 /// Returns the item of a line about a database; `None` if the verb is none of a database.
-fn database_order(
+fn database_item(
     alloc: Global,
     verb: LineWord,
     shape: DatabaseShape,
     rest: Option<&[u8]>,
 ) -> Result<Option<BlockItem>, AllocError>
     requires { is_bad_tail (tail_of verb) verb (rest_words rest) (Object.OfDatabase shape) ≡ false }
-    ensures value { IfOk result (λ o. o ≡ database_order verb shape (rest_words rest.entry)) }
+    ensures value { IfOk result (λ o. o ≡ database_item verb shape (rest_words rest.entry)) }
     ensures sound { IfOk result (λ o. IfSome o IsSound) }
 {
     match verb {
-        LineWord::Write => Ok(Some(write_order(alloc, shape, rest)?)),
-        LineWord::Snapshot => Ok(Some(snapshot_order(shape, rest))),
+        LineWord::Write => Ok(Some(write_item(alloc, shape, rest)?)),
+        LineWord::Snapshot => Ok(Some(snapshot_item(shape, rest))),
         _ => Ok(None),
     }
 }
@@ -155,24 +155,24 @@ pub(crate) fn command_in(
 ) -> Result<Option<BlockItem>, AllocError>
     requires numbers { is_bad_tail (tail_of parts.now.verb) parts.now.verb (rest_words parts.now.rest) object.now ≡ false }
     requires roles { has_two_roles object.now ≡ false }
-    ensures value { IfOk result (λ o. o ≡ command_in parts.now.verb (is_giving parts.now.verb) object.now (rest_words parts.now.rest)) }
+    ensures value { IfOk result (λ o. o ≡ command_in parts.now.verb (is_update parts.now.verb) object.now (rest_words parts.now.rest)) }
     ensures sound { IfOk result (λ o. IfSome o IsSound) }
 {
     let verb = parts.verb;
-    let giving = verb.is_giving();
+    let update = verb.is_update();
     let value = amount_in(parts.rest);
-    let order = match *object {
-        Object::Event(event) => event_order(verb, event, value),
+    let item = match *object {
+        Object::Event(event) => event_item(verb, event, value),
         Object::Sequencer(sequencer) => BlockItem::Do(Command::Ticket(sequencer)),
-        Object::Cell(cell) => cell_order(giving, cell, value),
+        Object::Cell(cell) => cell_item(update, cell, value),
         Object::Handed(event, to) => BlockItem::Do(Command::Hand(event, to)),
-        Object::OfBuffer(shape) => buffer_order(giving, shape, value),
-        Object::OfDatabase(shape) => return database_order(alloc, verb, shape, parts.rest),
-        Object::OfSemaphore(shape) => semaphore_order(verb, shape),
+        Object::OfBuffer(shape) => buffer_item(update, shape, value),
+        Object::OfDatabase(shape) => return database_item(alloc, verb, shape, parts.rest),
+        Object::OfSemaphore(shape) => semaphore_item(verb, shape),
         Object::SemaphorePair(common, one, other) => BlockItem::Do(Command::DownBoth(
             common, one, other,
         )),
         Object::Nothing | Object::Worker(_) => return Ok(None),
     };
-    Ok(Some(order))
+    Ok(Some(item))
 }

@@ -33,16 +33,16 @@ impl Model for Draft {
     ghost use Rattle.std.specs.Prelude.{◌==◌, length, ◌++◌};
     ghost use Rattle.std.specs.Coded.{codes};
     ghost use Rattle.ec_machine.specs.contracts.command.Command as command;
-    ghost use Rattle.ec_script.specs.contracts.block_item.BlockItem as order;
+    ghost use Rattle.ec_script.specs.contracts.block_item.BlockItem as item;
     ghost use Rattle.ec_script.specs.DraftModel.{DraftModel};
     ghost use Rattle.ec_script.specs.Flat.{flat};
     ghost use Rattle.ec_script.specs.Inner.{begun, IsDraft};
 
     ghost Value = { DraftModel };
 
-    ghost coded = { Prim.hlevel (codes, command.the_row.coded, order.the_row.coded) };
+    ghost coded = { Prim.hlevel (codes, command.the_row.coded, item.the_row.coded) };
 
-    ghost view = { λ d. record { orders = begun d.outer.items ++ flat d.current.items; depth = length d.outer.items; is_empty = length d.current.items == 0; commands = d.commands } };
+    ghost view = { λ d. record { block_items = begun d.outer.items ++ flat d.current.items; depth = length d.outer.items; is_empty = length d.current.items == 0; commands = d.commands } };
 
     ghost invariant = { λ d. IsDraft d.outer.items d.current.items d.commands };
 }
@@ -115,11 +115,11 @@ impl Draft {
     }
 
     /// Adds one more line.
-    pub(crate) fn take(&mut self, order: BlockItem) -> Result<(), AllocError>
-        requires { MayFollow self.old order }
-        ensures { OnOk result (self.new ≡ draft_with_item self.old order) }
+    pub(crate) fn take(&mut self, item: BlockItem) -> Result<(), AllocError>
+        requires { MayFollow self.old item }
+        ensures { OnOk result (self.new ≡ draft_with_item self.old item) }
     {
-        match order {
+        match item {
             BlockItem::Do(command) => self.add(command),
             BlockItem::Write(shape, values) => self.add_write(shape, values),
             BlockItem::Begin(times) => self.open(times),
@@ -153,7 +153,7 @@ impl Draft {
     /// Returns the program.
     pub(crate) fn finish(self) -> Program
         requires { self.depth ≡ 0 }
-        ensures { flat result ≡ self.orders }
+        ensures { flat result ≡ self.block_items }
     {
         let Some(program) = Program::new(self.current) else {
             unreachable!();

@@ -5,7 +5,7 @@ ghost use Rattle.ec_text.specs.Words.{words_of};
 ghost use Rattle.ec_machine.specs.Limits.{is_value};
 ghost use Rattle.ec_script.specs.Forms.{more_in, is_value_form, value_of, only_in, is_tail, tailed_in, phrase_in, rest_words, phrase_of_parts};
 
-use crate::verb::{LineWord, Tail, parse_verb};
+use crate::verb::{LineWord, Tail, parse_line_word};
 use ec_machine::Value;
 use ec_text::{cut_word, is_number_form, number};
 
@@ -128,7 +128,7 @@ pub(crate) fn split_line(line: &[u8]) -> Option<Parts<'_>>
     ensures { option_map phrase_of_parts result ≡ phrase_in (words_of line.now) }
 {
     let (word, rest) = cut_word(line);
-    let verb = parse_verb(word)?;
+    let verb = parse_line_word(word)?;
     if !verb.has_object() {
         return parts_after_object(verb, b"".as_slice(), rest);
     }

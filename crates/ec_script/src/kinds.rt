@@ -206,14 +206,14 @@ fn has_right(
     version: Version,
     setup: &Setup,
     worker: WorkerId,
-    giving: bool,
+    update: bool,
     object: &Object,
 ) -> bool
-    ensures { result ≡ has_right version setup.now worker giving object.now }
+    ensures { result ≡ has_right version setup.now worker update object.now }
 {
     match *object {
         Object::Event(event) => {
-            if giving {
+            if update {
                 may_signal(version, setup, event, worker)
             } else {
                 setup.may_observe(event, worker)
@@ -221,7 +221,7 @@ fn has_right(
         }
         Object::Sequencer(sequencer) => setup.may_take(sequencer, worker),
         Object::Cell(cell) => {
-            if giving {
+            if update {
                 setup.may_write(cell, worker)
             } else {
                 setup.may_read(cell, worker)
@@ -229,7 +229,7 @@ fn has_right(
         }
         Object::Handed(event, to) => are_declared(setup, event, to),
         Object::OfBuffer(shape) => {
-            let line = if giving {
+            let line = if update {
                 shape.put_seq()
             } else {
                 shape.take_seq()
@@ -237,7 +237,7 @@ fn has_right(
             setup.may_take(line, worker)
         }
         Object::OfDatabase(shape) => {
-            if giving {
+            if update {
                 setup.may_take(shape.turn(), worker)
             } else {
                 setup.may_observe(shape.start(), worker)
@@ -268,7 +268,7 @@ fn lacks_right(
             heading.version(),
             heading.setup(),
             block.worker,
-            verb.is_giving(),
+            verb.is_update(),
             object,
         ),
     }

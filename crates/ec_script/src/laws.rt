@@ -3,11 +3,11 @@ ghost use Rattle.std.specs.Prelude.{◌≡◌};
 ghost use Rattle.ec_script.specs.declared.parsing.TheConstants.{SCRIPT_MAX};
 ghost use Rattle.ec_script.specs.Confined.{ConfinedLinesAreConfinedCommands, PlansAreConfined};
 ghost use Rattle.ec_script.specs.Counted.{BlocksAreCounted};
-ghost use Rattle.ec_script.specs.Endings.{FaultlessLinesAreTaken, UnfinishedIsTold};
+ghost use Rattle.ec_script.specs.Endings.{FaultlessLinesAreAccepted, UnfinishedIsReported};
 ghost use Rattle.ec_script.specs.Faults.{HeadFaultsKeepTheirNumbers};
-ghost use Rattle.ec_script.specs.Given.{LinesSayOrders};
-ghost use Rattle.ec_script.specs.Grammar.{FaultIsTheFirst, FaultsAreTold, LongIsLine1, ReadIsScript, ScriptIsRead};
-ghost use Rattle.ec_script.specs.Holding.{LeastKindIsTold};
+ghost use Rattle.ec_script.specs.Given.{LinesMeanItems};
+ghost use Rattle.ec_script.specs.Grammar.{FaultIsTheFirst, FaultsAreReported, LongIsLine1, ReadIsScript, ScriptIsRead};
+ghost use Rattle.ec_script.specs.Holding.{LeastKindWins};
 ghost use Rattle.ec_script.specs.Layout.{LayoutsAreScripts, ScriptsAreLaidOut};
 ghost use Rattle.ec_script.specs.ScriptTree.{ScriptsAreSpelled};
 ghost use Rattle.ec_script.specs.Spelling.{LayoutsAreSpelled, LinesAreSpelled};
@@ -40,19 +40,19 @@ pub fn long_is_line_1()
 
 /// States that a line and a kind are reported for a text exactly if they are its fault. For a text
 /// within the bound that is the fault of its first faulty line, for a longer one that of line 1.
-pub fn faults_are_told()
-    ensures { FaultsAreTold }
+pub fn faults_are_reported()
+    ensures { FaultsAreReported }
 {}
 
 /// States that a kind is reported for a line exactly if it is the least that holds of the line in
 /// its place. Each kind has a definition of its own.
-pub fn least_kind_is_told()
-    ensures { LeastKindIsTold }
+pub fn least_kind_wins()
+    ensures { LeastKindWins }
 {}
 
 /// States that a line is accepted exactly if no kind of fault holds of it.
-pub fn faultless_lines_are_taken()
-    ensures { FaultlessLinesAreTaken }
+pub fn faultless_lines_are_accepted()
+    ensures { FaultlessLinesAreAccepted }
 {}
 
 /// States that the counts of the open block are those of its lines: how many commands they are, and
@@ -64,8 +64,8 @@ pub fn blocks_are_counted()
 /// States that a text is reported as unfinished exactly if it is within the bound and ends too
 /// early: before the line of the workers, inside a block, or without the LF of a last line that has
 /// no other fault.
-pub fn unfinished_is_told()
-    ensures { UnfinishedIsTold }
+pub fn unfinished_is_reported()
+    ensures { UnfinishedIsReported }
 {}
 
 /// States that every plan has a program for each declared worker and a schedule of declared
@@ -105,8 +105,8 @@ pub fn layouts_are_spelled()
 
 /// States that a line says an item exactly if it is the canonical encoding of the item, and the
 /// item is allowed to the worker.
-pub fn lines_say_orders()
-    ensures { LinesSayOrders }
+pub fn lines_mean_items()
+    ensures { LinesMeanItems }
 {}
 
 /// States that a text is a script of a plan exactly if it is the canonical encoding of a syntax

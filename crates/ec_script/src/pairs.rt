@@ -1,5 +1,5 @@
 //! Theorems about P on two semaphores. Each is the contract of a function that does nothing.
-ghost use Rattle.ec_script.specs.Pairs.{LinesLeadToHeadings, LinesOfTwoRoles, TwoRolesAreOneName, TwoRolesAreTold};
+ghost use Rattle.ec_script.specs.Pairs.{LinesLeadToHeadings, LinesOfTwoRoles, TwoRolesAreOneName, TwoRolesAreReported};
 
 /// States that two of the three semaphores of a `pboth` line are equal exactly if its two words are
 /// equal: the common semaphore has no name, and two names have no object in common.
@@ -9,8 +9,8 @@ pub fn two_roles_are_one_name()
 
 /// States that `TwoRoles` is reported for a line after the declarations exactly if it is a `pboth`
 /// that names one declared semaphore twice, in a block that has room for it.
-pub fn two_roles_are_told()
-    ensures { TwoRolesAreTold }
+pub fn two_roles_are_reported()
+    ensures { TwoRolesAreReported }
 {}
 
 /// States that what the lines of a script have declared is a header.

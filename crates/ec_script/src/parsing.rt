@@ -1,7 +1,7 @@
 //! The parser of whole scripts.
 ghost use Rattle.std.specs.Prelude.{◌≡◌, ◌<◌, ◌^◌, Err, IfOk, length};
 ghost use Rattle.ec_script.specs.Confined.{AreConfinedPrograms, IsPlan};
-ghost use Rattle.ec_script.specs.Outcome.{Returns, parse_end, fault_at, plan_or_fault, first_or_empty, goes, long_kind, outcome, lines_of_text, plan_in, shown_plan, after_line};
+ghost use Rattle.ec_script.specs.Outcome.{Returns, parse_end, fault_at, plan_or_fault, first_or_empty, parse_from, long_kind, parse_result, lines_of_text, plan_in, shown_plan, after_line};
 ghost use Rattle.ec_script.specs.Reading.{step};
 ghost use Rattle.ec_script.specs.Versioned.{HasPrograms};
 
@@ -86,7 +86,7 @@ fn finish(alloc: Global, stage: Stage, line: u64, rest: &[u8]) -> Result<Plan, S
 /// Parses a text within the bound.
 fn parse_lines(alloc: Global, text: &[u8]) -> Result<Plan, ScriptFault>
     requires { length text.now < 2 ^ 32 }
-    ensures { Returns (goes 1 Stage.Opening (lines_of_text text.now)) result }
+    ensures { Returns (parse_from 1 Stage.Opening (lines_of_text text.now)) result }
 {
     let mut stage = Stage::Opening;
     let mut number = 1u64;
@@ -108,9 +108,9 @@ fn parse_lines(alloc: Global, text: &[u8]) -> Result<Plan, ScriptFault>
 /// ends before its line of workers or inside a block. Of a text of more than 1048576 bytes only
 /// line 1 is read: the kind is `TooMany` if it is the first line of a version, otherwise
 /// `BadHeader`.
-#[tactic(auto, unfolding(crate::specs::Outcome::outcome))]
+#[tactic(auto, unfolding(crate::specs::Outcome::parse_result))]
 pub fn parse(alloc: Global, text: &[u8]) -> Result<Plan, ScriptFault>
-    ensures tells { Returns (outcome text.now) result }
+    ensures tells { Returns (parse_result text.now) result }
     ensures plan { IfOk result (λ plan. IsPlan (shown_plan plan)) }
     ensures commands { IfOk result (λ plan. AreConfinedPrograms plan.heading.groups plan.programs.items) }
     ensures version { IfOk result (λ plan. HasPrograms plan.heading.version plan.programs.items) }

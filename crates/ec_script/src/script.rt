@@ -7,10 +7,10 @@ ghost use Rattle.ec_script.specs.Flat.{flat};
 ghost use Rattle.ec_script.specs.Forms.{rest_words, phrase_of_parts};
 ghost use Rattle.ec_script.specs.Kinds.{phrase_fault, or_nothing, is_bad_tail, has_two_roles};
 ghost use Rattle.ec_script.specs.BlockItems.{command_in};
-ghost use Rattle.ec_script.specs.Verbs.{is_giving, tail_of};
-ghost use Rattle.ec_script.specs.Reading.{view_of_block, context_of_script, began, after_item, after_command, ended_in, after_verb, after_phrase, headed_on, is_declaring, opens_outer, script_of, script_step, Steps};
+ghost use Rattle.ec_script.specs.Verbs.{is_update, tail_of};
+ghost use Rattle.ec_script.specs.Reading.{view_of_block, context_of_script, with_worker_block, after_item, after_command, with_block_end, after_verb, after_phrase, map_heading, is_declaring, opens_outer, script_of, script_step, Steps};
 ghost use Rattle.ec_script.specs.Outcome.{plan_or, shown_plan};
-ghost use Rattle.ec_script.specs.Rooms.{MayOrder, MayEnd, HasRoom};
+ghost use Rattle.ec_script.specs.Rooms.{MayTakeItem, MayEnd, HasRoom};
 
 use crate::block_item::BlockItem;
 use crate::command::{command_in, size_in};
@@ -21,7 +21,7 @@ use crate::kinds::{BlockContext, LineContext, or_nothing, phrase_fault};
 use crate::lists::push_ids;
 use crate::object::{Object, object_in};
 use crate::plan::Plan;
-use crate::verb::{LineWord, parse_verb};
+use crate::verb::{LineWord, parse_line_word};
 use ec_count::WorkerId;
 use ec_heading::{Heading, LINE_MAX};
 use ec_machine::Program;
@@ -31,12 +31,12 @@ use std::marker::Model;
 
 /// The open block of a worker.
 #[derive(Drop)]
-pub(crate) struct Block {
+pub(crate) struct OpenBlock {
     worker: WorkerId,
     draft: Draft,
 }
 
-impl Block {
+impl OpenBlock {
     /// Returns what the faults of a line depend on.
     fn view(&self) -> BlockContext
         ensures { result ≡ view_of_block self.now }
@@ -57,7 +57,7 @@ pub(crate) struct Script {
     heading: Heading,
     named: Vec<WorkerId>,
     programs: Vec<Program>,
-    block: Option<Block>,
+    block: Option<OpenBlock>,
     schedule: Vec<WorkerId>,
     alloc: Global,
 }
@@ -66,13 +66,13 @@ impl Model for Script {
     ghost use Rattle.std.specs.Prelude.{map};
     ghost use Rattle.std.specs.Coded.{codes};
     ghost use Rattle.ec_machine.specs.contracts.command.Command as command;
-    ghost use Rattle.ec_script.specs.contracts.block_item.BlockItem as order;
+    ghost use Rattle.ec_script.specs.contracts.block_item.BlockItem as item;
     ghost use Rattle.ec_script.specs.Flat.{flat};
     ghost use Rattle.ec_script.specs.ScriptModel.{ScriptModel};
 
     ghost Value = { ScriptModel };
 
-    ghost coded = { Prim.hlevel (codes, command.the_row.coded, order.the_row.coded) };
+    ghost coded = { Prim.hlevel (codes, command.the_row.coded, item.the_row.coded) };
 
     ghost view = { λ s. record { heading = s.heading; named = s.named.items; programs = map flat s.programs.items; block = s.block; schedule = s.schedule.items } };
 }
@@ -158,29 +158,29 @@ impl Script {
 
     /// Begins the block of a worker.
     fn begin(&mut self, object: &Object) -> Result<(), AllocError>
-        ensures { OnOk result (self.new ≡ began self.old object.now) }
+        ensures { OnOk result (self.new ≡ with_worker_block self.old object.now) }
     {
         let Object::Worker(worker) = *object else {
             return Ok(());
         };
         self.named.push(worker)?;
         let draft = Draft::new(self.alloc);
-        self.block = Some(Block { worker, draft });
+        self.block = Some(OpenBlock { worker, draft });
         Ok(())
     }
 
     /// Adds one more line to the block.
-    fn order(&mut self, order: BlockItem) -> Result<(), AllocError>
-        requires { MayOrder self.old.block order }
-        ensures { OnOk result (self.new ≡ after_item self.old order) }
+    fn add_item(&mut self, item: BlockItem) -> Result<(), AllocError>
+        requires { MayTakeItem self.old.block item }
+        ensures { OnOk result (self.new ≡ after_item self.old item) }
     {
         let Some(block) = self.block.take() else {
             return Ok(());
         };
-        let Block { worker, draft } = block;
+        let OpenBlock { worker, draft } = block;
         let mut draft = draft;
-        draft.take(order)?;
-        self.block = Some(Block { worker, draft });
+        draft.take(item)?;
+        self.block = Some(OpenBlock { worker, draft });
         Ok(())
     }
 
@@ -190,30 +190,30 @@ impl Script {
         requires numbers { is_bad_tail (tail_of parts.now.verb) parts.now.verb (rest_words parts.now.rest) object.now ≡ false }
         requires roles { has_two_roles object.now ≡ false }
         requires room { HasRoom self.old.block }
-        ensures { OnOk result (self.new ≡ after_command self.old (command_in parts.now.verb (is_giving parts.now.verb) object.now (rest_words parts.now.rest))) }
+        ensures { OnOk result (self.new ≡ after_command self.old (command_in parts.now.verb (is_update parts.now.verb) object.now (rest_words parts.now.rest))) }
     {
-        let Some(order) = command_in(self.alloc, parts, object)? else {
+        let Some(item) = command_in(self.alloc, parts, object)? else {
             return Ok(());
         };
-        self.order(order)
+        self.add_item(item)
     }
 
     /// Ends the innermost repeat, or the block, which then is the worker's program.
     fn end(&mut self) -> Result<(), AllocError>
         requires { MayEnd self.old.block }
-        ensures { OnOk result (self.new ≡ ended_in self.old self.old.block) }
+        ensures { OnOk result (self.new ≡ with_block_end self.old self.old.block) }
     {
         let Some(block) = self.block.take() else {
             return Ok(());
         };
-        let Block { worker, draft } = block;
+        let OpenBlock { worker, draft } = block;
         if draft.depth() == 0 {
             set_program(&mut self.programs, worker.get(), draft.finish());
             return Ok(());
         }
         let mut draft = draft;
         draft.take(BlockItem::End)?;
-        self.block = Some(Block { worker, draft });
+        self.block = Some(OpenBlock { worker, draft });
         Ok(())
     }
 
@@ -239,7 +239,7 @@ impl Script {
         match parts.verb {
             LineWord::Worker => self.begin(&object),
             LineWord::Schedule => self.extend(parts.rest),
-            LineWord::Repeat => self.order(BlockItem::Begin(size_in(parts.rest))),
+            LineWord::Repeat => self.add_item(BlockItem::Begin(size_in(parts.rest))),
             LineWord::End => self.end(),
             _ => self.command(parts, &object),
         }
@@ -262,7 +262,7 @@ impl Script {
     /// Reads a declaration.
     #[tactic(auto, using(crate::proofs::HeadFails::fails_on))]
     fn declare(&mut self, line: &[u8]) -> Result<(), StageFault>
-        ensures { Steps result (headed_on self.old (head_step self.old.heading line.now)) self.new }
+        ensures { Steps result (map_heading self.old (head_step self.old.heading line.now)) self.new }
     {
         match self.heading.line(line) {
             Ok(()) => Ok(()),
@@ -300,7 +300,7 @@ fn opens_outer(line: &[u8]) -> bool
     ensures { result ≡ opens_outer (words_of line.now) }
 {
     let (word, _) = cut_word(line);
-    match parse_verb(word) {
+    match parse_line_word(word) {
         Some(verb) => verb.is_outer(),
         None => false,
     }

@@ -6,10 +6,10 @@ ghost use Rattle.ec_script.specs.Reading.{Steps, limit_digits, limit_or, LimitIs
 ghost use Rattle.ec_script.specs.Outcome.{plan_in, shown_plan};
 ghost use Rattle.ec_text.specs.Words.{words_of};
 
-use crate::bound::Bound;
 use crate::fault::{Kind, StageFault, stage_fault};
 use crate::plan::Plan;
 use crate::script::Script;
+use crate::version_limit::VersionLimit;
 use ec_count::Limit;
 use ec_heading::{LINE_MAX, Version};
 use ec_text::{cut_word, is_number_form, number};
@@ -24,7 +24,7 @@ pub(crate) enum Stage {
     /// After the first line, of this version.
     Limiting(Version),
     /// After the line of the limit.
-    Naming(Bound),
+    Naming(VersionLimit),
     /// After the line of the workers.
     Reading(Script),
 }
@@ -104,19 +104,24 @@ impl Stage {
             Ok(limit) => limit,
             Err(kind) => return Err(StageFault::Of(kind)),
         };
-        let Ok(bound) = Bound::new(alloc, version, limit) else {
+        let Ok(version_limit) = VersionLimit::new(alloc, version, limit) else {
             return Err(StageFault::Memory);
         };
-        *self = Stage::Naming(bound);
+        *self = Stage::Naming(version_limit);
         Ok(())
     }
 
     /// Reads the line of the workers.
     #[tactic(auto, using(crate::proofs::HeadFails::fails_named), unfolding(crate::specs::Reading::step))]
-    fn name(&mut self, alloc: Global, bound: Bound, line: &[u8]) -> Result<(), StageFault>
-        ensures { Steps result (step (Stage.Naming bound) line.now) self.new }
+    fn name(
+        &mut self,
+        alloc: Global,
+        version_limit: VersionLimit,
+        line: &[u8],
+    ) -> Result<(), StageFault>
+        ensures { Steps result (step (Stage.Naming version_limit) line.now) self.new }
     {
-        let mut heading = bound.into_heading();
+        let mut heading = version_limit.into_heading();
         if let Err(fault) = heading.line(line) {
             return Err(stage_fault(fault));
         }
@@ -140,7 +145,7 @@ impl Stage {
                 self.limit(alloc, version, line)
             }
             Stage::Naming(_) => match mem::replace(self, Stage::Opening) {
-                Stage::Naming(bound) => self.name(alloc, bound, line),
+                Stage::Naming(version_limit) => self.name(alloc, version_limit, line),
                 _ => Err(StageFault::Of(Kind::BadHeader)),
             },
         }

@@ -1,6 +1,6 @@
 //! The words that open the lines of blocks and of the schedule.
 ghost use Rattle.std.specs.Prelude.{◌≡◌};
-ghost use Rattle.ec_script.specs.Verbs.{raw_verb_of, procedure_verb_of, order_verb_of, parse_verb, has_verb, has_object, tail_of, is_giving, is_outer, is_counted};
+ghost use Rattle.ec_script.specs.Verbs.{raw_verb_of, procedure_verb_of, item_verb_of, parse_line_word, has_verb, has_object, tail_of, is_update, is_outer, is_counted};
 
 use ec_heading::Version;
 
@@ -100,8 +100,8 @@ fn procedure_verb_of(word: &[u8]) -> Option<LineWord>
 }
 
 /// Returns the structure word that a word is: `repeat`, `end`, `worker` or `schedule`.
-fn order_verb_of(word: &[u8]) -> Option<LineWord>
-    ensures { result ≡ order_verb_of word.now }
+fn item_verb_of(word: &[u8]) -> Option<LineWord>
+    ensures { result ≡ item_verb_of word.now }
 {
     if word == b"repeat".as_slice() {
         return Some(LineWord::Repeat);
@@ -119,8 +119,8 @@ fn order_verb_of(word: &[u8]) -> Option<LineWord>
 }
 
 /// Returns the line word that a word is, of any of the three sorts.
-pub(crate) fn parse_verb(word: &[u8]) -> Option<LineWord>
-    ensures { result ≡ parse_verb word.now }
+pub(crate) fn parse_line_word(word: &[u8]) -> Option<LineWord>
+    ensures { result ≡ parse_line_word word.now }
 {
     if let Some(verb) = raw_verb_of(word) {
         return Some(verb);
@@ -128,7 +128,7 @@ pub(crate) fn parse_verb(word: &[u8]) -> Option<LineWord>
     if let Some(verb) = procedure_verb_of(word) {
         return Some(verb);
     }
-    order_verb_of(word)
+    item_verb_of(word)
 }
 
 impl LineWord {
@@ -168,8 +168,8 @@ impl LineWord {
 
     /// Returns whether it signals, writes or produces. The right that the worker needs depends on
     /// it.
-    pub(crate) fn is_giving(self) -> bool
-        ensures { result ≡ is_giving self }
+    pub(crate) fn is_update(self) -> bool
+        ensures { result ≡ is_update self }
     {
         match self {
             LineWord::Advance | LineWord::Put | LineWord::Produce | LineWord::Write => true,

@@ -12,7 +12,7 @@ use Rattle.ec_database.specs.Shapes.{Database}
 use Rattle.ec_database.specs.Following as databases
 use Rattle.ec_semaphore.specs.Shapes.{Semaphore}
 use Rattle.ec_semaphore.specs.Uses as semaphores
-use Rattle.ec_semaphore.specs.Both.{is_line}
+use Rattle.ec_semaphore.specs.Both.{is_semaphore_sequencer}
 use Rattle.ec_machine.specs.declared.command.Command.{Command}
 use Rattle.ec_machine.specs.declared.command.Command.TheViews.{out-Command}
 use Rattle.ec_machine.specs.Unrolled.{unroll}
@@ -62,7 +62,7 @@ uses_semaphore : (gs : List Group) (s : Semaphore) (c : Command) → UsesGroup g
 uses_semaphore gs s c (inl own) = inl own
 uses_semaphore gs s c (inr apart) = inr (same_apart (semaphores.is_on s) (acts_on (groups.Semaphore s)) (on_semaphore s) c apart)
 
-uses_both : (gs : List Group) (s : Semaphore) (c : Command) → UsesGroup gs (groups.Both s) c → UsesBoth s (is_line s (semaphores_of gs)) c
+uses_both : (gs : List Group) (s : Semaphore) (c : Command) → UsesGroup gs (groups.Both s) c → UsesBoth s (is_semaphore_sequencer s (semaphores_of gs)) c
 uses_both gs s c (inl own) = inl own
 uses_both gs s c (inr apart) = inr (same_apart (semaphores.is_on s) (acts_on (groups.Both s)) (on_both s) c apart)
 
@@ -80,8 +80,8 @@ group_follows t gs programs h are confined acc runs (groups.Semaphore s) has =
     semaphores_follow t s programs h acc
     (weaker t (UsesGroup gs (groups.Semaphore s)) (UsesSemaphore s) (uses_semaphore gs s) programs (each_uses t gs (groups.Semaphore s) programs are has confined)) runs
 group_follows t gs programs h are confined acc runs (groups.Both s) has =
-    both_follows t s (is_line s (semaphores_of gs)) programs h acc
-    (weaker t (UsesGroup gs (groups.Both s)) (UsesBoth s (is_line s (semaphores_of gs))) (uses_both gs s) programs (each_uses t gs (groups.Both s) programs are has confined)) runs
+    both_follows t s (is_semaphore_sequencer s (semaphores_of gs)) programs h acc
+    (weaker t (UsesGroup gs (groups.Both s)) (UsesBoth s (is_semaphore_sequencer s (semaphores_of gs))) (uses_both gs s) programs (each_uses t gs (groups.Both s) programs are has confined)) runs
 
 -- THE PROGRAM OF EACH WORKER
 

@@ -9,7 +9,7 @@ use Rattle.ec_core.proofs.shared.Following.{is_act-same}
 use Rattle.ec_core.proofs.shared.FittingCalls.{is_fitting}
 use Rattle.ec_semaphore.specs.Shapes.{Semaphore}
 use Rattle.ec_semaphore.specs.Uses.{threshold, is_on}
-use Rattle.ec_semaphore.specs.Both.{down_both_call, guarded_call, sequencer_number, is_choice, both_rule, both_rules}
+use Rattle.ec_semaphore.specs.Both.{down_both_call, critical_section_call, sequencer_number, is_choice, both_rule, both_rules}
 use Rattle.ec_machine.specs.declared.command.Command.{Command, DownBoth}
 use Rattle.ec_machine.specs.Runs.{command_call}
 use Rattle.ec_script_theorems.specs.Uses.{AreThree, IsOfBoth, UsesBoth}
@@ -27,11 +27,11 @@ both_place (t ∷ a ∷ r ∷ s ∷ []) = t ∷ a ∷ r ∷ s ∷ []
 both_place calls = []
 
 -- the act is the next one of the critical section, and its sequencer may be chosen
-fits_both : (c : Semaphore) (lines : ℕ → Bool) (b : List CompletedCall) (a op : Act) → Some a ≡ Some op → guarded_call c (sequencer_number a) (sequencer_number a) b ≡ Some a → is_choice lines b a ≡ true
+fits_both : (c : Semaphore) (lines : ℕ → Bool) (b : List CompletedCall) (a op : Act) → Some a ≡ Some op → critical_section_call c (sequencer_number a) (sequencer_number a) b ≡ Some a → is_choice lines b a ≡ true
     → is_fitting (both_rule c lines) b op ≡ true
 fits_both c lines b a op is there choice =
     fitting (both_rule c lines) b op (at_op (λ x. (both_rule c lines).fits b x ≡ true) a op is
-    (and_from (is_due (guarded_call c (sequencer_number a) (sequencer_number a) b) a) (is_choice lines b a) (ap (λ (o : Option Act). is_due o a) there ∙ is_act-same a) choice))
+    (and_from (is_due (critical_section_call c (sequencer_number a) (sequencer_number a) b) a) (is_choice lines b a) (ap (λ (o : Option Act). is_due o a) there ∙ is_act-same a) choice))
 
 fits_beside : (c : Semaphore) (lines : ℕ → Bool) (a op : Act) → Some a ≡ Some op → is_on c a ≡ false → is_fitting (both_rule c lines) [] op ≡ true
 fits_beside c lines a op is off = unconcerned (both_rule c lines) [] op (at_op (λ x. is_on c x ≡ false) a op is off)

@@ -13,7 +13,7 @@ use Rattle.ec_buffer.specs.Shapes.{Buffer}
 use Rattle.ec_database.specs.Snapshots.{trying}
 use Rattle.ec_semaphore.specs.Shapes.{Semaphore}
 use Rattle.ec_semaphore.specs.Uses.{threshold, down_call, up_call, is_on}
-use Rattle.ec_semaphore.specs.Both.{is_line, down_both_call}
+use Rattle.ec_semaphore.specs.Both.{is_semaphore_sequencer, down_both_call}
 use Rattle.ec_machine.specs.declared.command.Command.{Command, Produce, Consume, WriteAll, Snapshot, Down, Up, DownBoth}
 use Rattle.ec_machine.specs.declared.command.Command.TheOpen.{Command-F}
 use Rattle.ec_machine.specs.declared.command.Command.TheOpen as layer
@@ -41,7 +41,7 @@ abbrev pub IsOfGroup : List Group → Group → Command → Type 0
 IsOfGroup gs (groups.Buffer b) c = IsOfBuffer b c
 IsOfGroup gs (groups.Database d) c = IsOfDatabase d c
 IsOfGroup gs (groups.Semaphore s) c = IsOfSemaphore s c
-IsOfGroup gs (groups.Both s) c = IsOfBoth s (is_line s (semaphores_of gs)) c
+IsOfGroup gs (groups.Both s) c = IsOfBoth s (is_semaphore_sequencer s (semaphores_of gs)) c
 
 abbrev pub UsesGroup : List Group → Group → Command → Type 0
 UsesGroup gs g c = IsOfGroup gs g c ⊎ IsApart (acts_on g) c
@@ -137,7 +137,7 @@ are_three t gs c one other are has_c has_one has_other lines = record {
 }
 
 -- the sequencer of a semaphore is one that `both` may draw from
-may_choose : (gs : List Group) (c s : Semaphore) → AreApart gs → Contains gs (groups.Both c) → Contains gs (groups.Semaphore s) → is_line c (semaphores_of gs) s.line ≡ true
+may_choose : (gs : List Group) (c s : Semaphore) → AreApart gs → Contains gs (groups.Both c) → Contains gs (groups.Semaphore s) → is_semaphore_sequencer c (semaphores_of gs) s.line ≡ true
 may_choose gs c s apart has_c has_s =
     and_from (not (s.line == c.line)) (list_any (λ (u : Semaphore). u.line == s.line) (semaphores_of gs))
     (ap not (other_way c.line s.line (guard_separate gs c s apart has_c has_s).lines))

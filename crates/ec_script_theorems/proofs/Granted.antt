@@ -9,7 +9,7 @@ use Rattle.ec_core.specs.declared.act.Entry.{Entry}
 use Rattle.ec_core.specs.Acceptance.{has_right, IsAccepted}
 use Rattle.ec_core.specs.Calls.{CallSoFar, is_go, is_pending, call_with_act, under_way}
 use Rattle.ec_core.specs.Following.{opening_act}
-use Rattle.ec_core.specs.JoinedLists.{finished_by}
+use Rattle.ec_core.specs.JoinedLists.{completed_calls_of}
 use Rattle.ec_core.proofs.shared.Answering.{allowed}
 use Rattle.ec_core.proofs.shared.Handing.{as_declared}
 use Rattle.ec_script_theorems.proofs.Suiting.{AreAllowed, allowed_more}
@@ -59,22 +59,22 @@ granted_going t past w (Hand e b) o op = op
 
 -- w may begin each of its completed calls, and its pending one
 abbrev pub AreGranted : Tables → ℕ → List Entry → Type 0
-AreGranted t w past = AreAllowed (IsGranted t w) (finished_by w past) × IsGrantedCall t w (under_way w past)
+AreGranted t w past = AreAllowed (IsGranted t w) (completed_calls_of w past) × IsGrantedCall t w (under_way w past)
 
 granted_if : (pending : Bool) (t : Tables) (w : ℕ) (x : Entry) (past : List Entry) → is_pending x.reply ≡ pending → (x.worker == w) ≡ true → IsGranted t w (opening_act x.act (under_way w past))
     → AreGranted t w past → AreGranted t w (x ∷ past)
-unfolding finished_by under_way
+unfolding completed_calls_of under_way
 granted_if true t w x past is mine op before =
     rw (mine, is) (before.0, granted_going t past w x.act (under_way w past) op)
 granted_if false t w x past is mine op before =
-    rw (mine, is) (allowed_more (IsGranted t w) (finished_by w past) (record { op = opening_act x.act (under_way w past); reply = x.reply } ∷ []) before.0 (op, tt), tt)
+    rw (mine, is) (allowed_more (IsGranted t w) (completed_calls_of w past) (record { op = opening_act x.act (under_way w past); reply = x.reply } ∷ []) before.0 (op, tt), tt)
 
 granted_other : (t : Tables) (w : ℕ) (x : Entry) (past : List Entry) → (x.worker == w) ≡ false → AreGranted t w past → AreGranted t w (x ∷ past)
-unfolding finished_by under_way
+unfolding completed_calls_of under_way
 granted_other t w x past other before = rw other before
 
 pub granted : (t : Tables) (w : ℕ) (past : List Entry) → IsAccepted t past → AreGranted t w past
-unfolding finished_by under_way
+unfolding completed_calls_of under_way
 granted t w [] acc = (tt, tt)
 granted t w (x ∷ past) acc =
     elim (x.worker == w) as (λ b. (x.worker == w) ≡ b → AreGranted t w (x ∷ past)) [

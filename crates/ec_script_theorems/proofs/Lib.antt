@@ -13,7 +13,7 @@ pub mod Shaped
 pub mod AllGroups
 pub mod Apart
 pub mod Tests
-pub mod TurnedRound
+pub mod ReversedEntries
 pub mod Played
 pub mod Reported
 pub mod Passing

@@ -14,7 +14,7 @@ use Rattle.ec_machine.specs.Steps.{own}
 use Rattle.ec_heading.specs.HeadingModel.{HeadingModel}
 use Rattle.ec_heading.specs.HeadingInvariant.{IsHeading}
 use Rattle.ec_heading.specs.Rules.{group_rules, FollowsGroup}
-use Rattle.ec_trace.specs.Outcome.{outcome}
+use Rattle.ec_trace.specs.Outcome.{parse_result}
 use Rattle.ec_trace.specs.TraceModel.{TraceModel}
 use Rattle.ec_trace.specs.declared.read.TheConstants.{TRACE_MAX}
 use Rattle.ec_trace.proofs.shared.ReadTraces.{read_is_trace}
@@ -27,7 +27,7 @@ use Rattle.ec_runner.specs.Schedules.{entries_of}
 use Rattle.evc_engine.specs.declared.status.Status.{Status}
 use Rattle.evc_engine.specs.declared.status.Status.TheVariants.{Done, Refused, Usage, InputOutput, Memory, Stopped}
 use Rattle.evc_engine.specs.Audits.{IsNotFollowed, Audits}
-use Rattle.evc_engine.specs.Checks.{Outlets, Checks}
+use Rattle.evc_engine.specs.Checks.{Outputs, Checks}
 use Rattle.ec_text.specs.Inputs.{looked_at}
 use Rattle.evc_scripts.specs.Runs.{HaveRun, WroteReport, HasNoReport}
 use Rattle.evc_scripts.specs.Sims.{AreProgramsOf, IsTraceUnder, IsPlayed, SaysPlan}
@@ -40,10 +40,10 @@ use Rattle.ec_count.proofs.shared.Declared.{at_place as of_all}
 
 -- A FOLLOWED TRACE
 
-read_once : (text : List ℕ) (t u : TraceModel) → outcome TRACE_MAX text ≡ Ok t → outcome TRACE_MAX text ≡ Ok u → t ≡ u
+read_once : (text : List ℕ) (t u : TraceModel) → parse_result TRACE_MAX text ≡ Ok t → parse_result TRACE_MAX text ≡ Ok u → t ≡ u
 read_once text t u one other = (let same : Ok t ≡ Ok u = sym one ∙ other in cc)
 
-never_refused : (text : List ℕ) → IsFollowedTrace text → (left : Option (List ℕ)) (old new : Outlets) → Audits text left Refused old new → ⊥
+never_refused : (text : List ℕ) → IsFollowedTrace text → (left : Option (List ℕ)) (old new : Outputs) → Audits text left Refused old new → ⊥
 never_refused text is left old new (inl (t, reads, names)) =
     let r : TraceModel = is.recounted in
     let same : t ≡ r = read_once text t r reads.returned is.reads.returned in
@@ -53,7 +53,7 @@ never_refused text is left old new (inl (t, reads, names)) =
     (of_all (FollowsGroup r.heading.setup r.heading.groups (reverse r.entries)) r.heading.groups names.group breaks.group is.followed breaks.is)
 never_refused text is left old new (inr (fault, refused, keeps, notes)) = refused.none is.reads.trace.outline is.recounted.entries is.reads.trace.trace
 
-audit_ends : (text : List ℕ) → IsFollowedTrace text → (left : Option (List ℕ)) (status : Status) (old new : Outlets) → Audits text left status old new → IsNoRefusal status
+audit_ends : (text : List ℕ) → IsFollowedTrace text → (left : Option (List ℕ)) (status : Status) (old new : Outputs) → Audits text left status old new → IsNoRefusal status
 audit_ends text is left Done old new audits = inl refl
 audit_ends text is left Refused old new audits = absurd (never_refused text is left old new audits)
 audit_ends text is left Usage old new audits = absurd audits
@@ -61,7 +61,7 @@ audit_ends text is left InputOutput old new audits = inr (inl refl)
 audit_ends text is left Memory old new audits = inr (inr refl)
 audit_ends text is left Stopped old new audits = absurd audits
 
-check_ends : (text : List ℕ) → IsFollowedTrace text → (left : Option (List ℕ)) (status : Status) (old new : Outlets) → Checks text left status old new → IsNoRefusal status
+check_ends : (text : List ℕ) → IsFollowedTrace text → (left : Option (List ℕ)) (status : Status) (old new : Outputs) → Checks text left status old new → IsNoRefusal status
 check_ends text is left Done old new checks = inl refl
 check_ends text is left Refused old new (fault, refused, keeps, notes) = absurd (refused.none is.reads.trace.outline is.recounted.entries is.reads.trace.trace)
 check_ends text is left Usage old new checks = absurd checks
@@ -112,13 +112,13 @@ ran_follows bytes p turns status trace note says ran short =
 
 -- WHAT WAS WRITTEN
 
-text_is : (old new : Outlets) (text trace : List ℕ) → HasWritten old new text → Appends old.out new.out trace → trace ≡ text
+text_is : (old new : Outputs) (text trace : List ℕ) → HasWritten old new text → Appends old.out new.out trace → trace ≡ text
 text_is old new text trace w appends =
     let known : w.before ++ text ≡ w.before ++ trace =
     subst (λ o. Appends o (Some (w.before ++ text)) trace) w.had (subst (λ n. Appends old.out n trace) w.has appends) in
     sym (append_cancel_left w.before text trace known)
 
-nothing_is : (old new : Outlets) (text : List ℕ) → HasWritten old new text → Keeps old.out new.out → text ≡ []
+nothing_is : (old new : Outputs) (text : List ℕ) → HasWritten old new text → Keeps old.out new.out → text ≡ []
 nothing_is old new text w keeps =
     let known : w.before ++ text ≡ w.before = subst (λ o. Keeps o (Some (w.before ++ text))) w.had (subst (λ n. Keeps old.out n) w.has keeps) in
     append_cancel_left w.before text [] (known ∙ sym (append-nil w.before))
@@ -132,14 +132,14 @@ simulated_pass bytes text left old new (p, says, (trace, note, played, appends, 
     followed_passes text
     (subst IsFollowedTrace same (played_follows bytes p trace note says played (subst (λ l. length l ≤ TRACE_MAX) (sym same) short)))
 
-told_passes : (turns : ℕ) (bytes text : List ℕ) (p : PlanModel) (status : Status) (old new : Outlets) → SaysPlan bytes p → WroteReport p turns status old new → HasWritten old new text → length text ≤ TRACE_MAX
+told_passes : (turns : ℕ) (bytes text : List ℕ) (p : PlanModel) (status : Status) (old new : Outputs) → SaysPlan bytes p → WroteReport p turns status old new → HasWritten old new text → length text ≤ TRACE_MAX
     → IsFollowedTrace text × Passes text
 told_passes turns bytes text p status old new says (trace, note, ran, appends, notes) w short =
     let same : trace ≡ text = text_is old new text trace w appends in
     followed_passes text
     (subst IsFollowedTrace same (ran_follows bytes p turns status trace note says ran (subst (λ l. length l ≤ TRACE_MAX) (sym same) short)))
 
-not_nothing : (text : List ℕ) (p : PlanModel) (turns : ℕ) (status : Status) (old new : Outlets) → HasNoReport p turns status old new → HasWritten old new text → text ≢ [] → ⊥
+not_nothing : (text : List ℕ) (p : PlanModel) (turns : ℕ) (status : Status) (old new : Outputs) → HasNoReport p turns status old new → HasWritten old new text → text ≢ [] → ⊥
 not_nothing text p turns status old new none w some = some (nothing_is old new text w none.says.0)
 
 pub ran_pass : RanTracesPass

@@ -9,7 +9,7 @@ use Rattle.ec_runner.specs.declared.report.Report.{Report}
 use Rattle.ec_runner.specs.RunReports.{IsReportOf}
 use Rattle.ec_script_theorems.specs.Reports.{ReportedGroupsAreFollowed}
 use Rattle.ec_script_theorems.proofs.AllGroups.{groups_follow}
-use Rattle.ec_script_theorems.proofs.TurnedRound.{own_turned}
+use Rattle.ec_script_theorems.proofs.ReversedEntries.{own_turned}
 use Rattle.ec_runner.proofs.shared.Histories.{there_is}
 
 told_run : (t : Tables) (programs : List (List Command)) (turns w : ℕ) (report : Report) → IsReportOf t programs turns report → w < t.workers

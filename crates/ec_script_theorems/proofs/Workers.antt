@@ -10,7 +10,7 @@ use Rattle.ec_core.specs.declared.act.Entry.{Entry}
 use Rattle.ec_core.specs.Acceptance.{IsAccepted}
 use Rattle.ec_core.specs.Calls.{CallSoFar, under_way}
 use Rattle.ec_core.specs.Following.{CompletedCall, Rule, block, Follow}
-use Rattle.ec_core.specs.JoinedLists.{finished_by, op_of}
+use Rattle.ec_core.specs.JoinedLists.{completed_calls_of, op_of}
 use Rattle.ec_core.proofs.shared.FittingCalls.{is_fitting, list_after, AreFitting, after_more, fitting_more, block_is, IsFittingCall, FitsAlone, follow_alone}
 use Rattle.ec_machine.specs.declared.command.Command.{Command}
 use Rattle.ec_machine.specs.Values.{has_large}
@@ -18,7 +18,7 @@ use Rattle.ec_machine.specs.Unrolled.{unroll}
 use Rattle.ec_core.proofs.shared.Answering.{allowed}
 use Rattle.ec_machine.specs.Steps.{own, IsRun}
 use Rattle.ec_machine.specs.Runs.{command_call, last_number, next_in, program_call, IsRunOf}
-use Rattle.ec_machine.specs.Laws.{AreWhole, IsBegun, AreCallsOf}
+use Rattle.ec_machine.specs.Laws.{AreWhole, IsProgramPrefix, AreCallsOf}
 use Rattle.ec_machine.proofs.shared.WholeLists.{runs_of_lists}
 use Rattle.ec_machine.proofs.shared.OwnCalls.{own_cut}
 use Rattle.ec_script_theorems.specs.Uses.{EachCommand, AreRuns}
@@ -67,7 +67,7 @@ record IsGoing (may : Act → Type 0) (r : Rule) (calls : List CompletedCall) (n
   fits : AreFitting r [] calls
   goes : (op : Act) → next ≡ Some op → may op → is_fitting r (list_after r [] calls) op ≡ true
 
-begun_right : (may : Act → Type 0) (r : Rule) (last : ℕ) (left : List Command) (calls : List CompletedCall) → AllSuit may r left → IsBegun last left calls → AreAllowed may calls
+begun_right : (may : Act → Type 0) (r : Rule) (last : ℕ) (left : List Command) (calls : List CompletedCall) → AllSuit may r left → IsProgramPrefix last left calls → AreAllowed may calls
     → IsGoing may r calls (next_in left last calls)
 begun_right may r last [] calls suits begun allowed = record {
   fits = subst (AreFitting r []) (sym begun) tt;
@@ -111,12 +111,12 @@ worker_fits t r w cs past acc suits run =
     let cut = own_cut t w past acc in
     let of = runs_of_lists cs (own w past) run in
     let may = granted t w past acc in
-    let going = calls_right (IsGranted t w) r cs (finished_by w past) suits (subst (AreCallsOf cs) cut.0 of.0) may.0 in
-    let b : block r w past ≡ list_after r [] (finished_by w past) = block_is r w past in
+    let going = calls_right (IsGranted t w) r cs (completed_calls_of w past) suits (subst (AreCallsOf cs) cut.0 of.0) may.0 in
+    let b : block r w past ≡ list_after r [] (completed_calls_of w past) = block_is r w past in
     record {
       calls = going.fits;
       going = subst (λ z. IsFittingCall r z (under_way w past)) (sym b)
-          (going_call (IsGranted t w) r (list_after r [] (finished_by w past)) (program_call cs (finished_by w past)) (under_way w past)
+          (going_call (IsGranted t w) r (list_after r [] (completed_calls_of w past)) (program_call cs (completed_calls_of w past)) (under_way w past)
           (λ op is. (ap (program_call cs) (sym cut.0) ∙ of.1 op (cut.1 ∙ is), granted_call t w (under_way w past) may.1 op is))
           going.goes);
     }

@@ -39,5 +39,5 @@ BothIsFollowed = (t : Tables) (s : Semaphore) (lines : ℕ → Bool) (programs :
     → EachCommand t (UsesBoth s lines) programs → AreRuns t programs h → Follow (both_rules s lines) (reverse h)
 
 -- the reversed entries of a worker are its entries in the reversed history
-abbrev pub OwnEntriesTurnRound : Type 0
-OwnEntriesTurnRound = (w : ℕ) (h : List Entry) → own w (reverse h) ≡ reverse (own w h)
+abbrev pub OwnEntriesAreReversed : Type 0
+OwnEntriesAreReversed = (w : ℕ) (h : List Entry) → own w (reverse h) ≡ reverse (own w h)

@@ -7,7 +7,7 @@ use Rattle.ec_trace.specs.declared.read.TheConstants.{TRACE_MAX}
 use Rattle.evc_engine.specs.declared.status.Status.{Status}
 use Rattle.evc_engine.specs.declared.status.Status.TheVariants.{Done, InputOutput, Memory, Stopped}
 use Rattle.evc_engine.specs.Audits.{Audits}
-use Rattle.evc_engine.specs.Checks.{Outlets, ReadsAs, Checks}
+use Rattle.evc_engine.specs.Checks.{Outputs, ReadsAs, Checks}
 use Rattle.evc_scripts.specs.Runs.{Runs}
 use Rattle.evc_scripts.specs.Sims.{Sims}
 
@@ -24,22 +24,22 @@ IsNoRefusal status = (status ≡ Done) ⊎ (status ≡ InputOutput) ⊎ (status 
 
 -- however `check` and `audit` end on the text, they don't reject it
 pub record Passes (text : List ℕ) : Type 0 where
-  pub check : (left : Option (List ℕ)) (status : Status) (old new : Outlets) → Checks text left status old new → IsNoRefusal status
-  pub audit : (left : Option (List ℕ)) (status : Status) (old new : Outlets) → Audits text left status old new → IsNoRefusal status
+  pub check : (left : Option (List ℕ)) (status : Status) (old new : Outputs) → Checks text left status old new → IsNoRefusal status
+  pub audit : (left : Option (List ℕ)) (status : Status) (old new : Outputs) → Audits text left status old new → IsNoRefusal status
 
 -- a trace that follows each group of its header passes
 abbrev pub FollowedTracesPass : Type 0
 FollowedTracesPass = (text : List ℕ) → IsFollowedTrace text → Passes text
 
 -- the outlet for the text had some bytes before a command, and has this text after them
-pub record HasWritten (old new : Outlets) (text : List ℕ) : Type 0 where
+pub record HasWritten (old new : Outputs) (text : List ℕ) : Type 0 where
   pub before : List ℕ
   pub had : old.out ≡ Some before
   pub has : new.out ≡ Some (before ++ text)
 
 -- what `sim` wrote if it ended with status 0 is such a trace, if it is within the bound of traces; so it passes
 abbrev pub SimulatedTracesPass : Type 0
-SimulatedTracesPass = (bytes text : List ℕ) (left : Option (List ℕ)) (old new : Outlets) → Sims bytes left Done old new → HasWritten old new text → length text ≤ TRACE_MAX
+SimulatedTracesPass = (bytes text : List ℕ) (left : Option (List ℕ)) (old new : Outputs) → Sims bytes left Done old new → HasWritten old new text → length text ≤ TRACE_MAX
     → IsFollowedTrace text × Passes text
 
 -- `run` wrote its whole trace: with status 0, or with 4 or 5 if it wrote anything
@@ -51,5 +51,5 @@ IsWhole _ text = ⊥
 
 -- the same about a whole trace that `run` wrote
 abbrev pub RanTracesPass : Type 0
-RanTracesPass = (turns : ℕ) (bytes text : List ℕ) (left : Option (List ℕ)) (status : Status) (old new : Outlets) → Runs turns bytes left status old new → HasWritten old new text → IsWhole status text
+RanTracesPass = (turns : ℕ) (bytes text : List ℕ) (left : Option (List ℕ)) (status : Status) (old new : Outputs) → Runs turns bytes left status old new → HasWritten old new text → IsWhole status text
     → length text ≤ TRACE_MAX → IsFollowedTrace text × Passes text

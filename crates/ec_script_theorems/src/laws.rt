@@ -4,7 +4,7 @@ ghost use Rattle.ec_script_theorems.specs.Passing.{FollowedTracesPass, RanTraces
 ghost use Rattle.ec_script_theorems.specs.Passing.{SimulatedTracesPass};
 ghost use Rattle.ec_script_theorems.specs.Reports.{PlayedGroupsAreFollowed};
 ghost use Rattle.ec_script_theorems.specs.Reports.{ReportedGroupsAreFollowed};
-ghost use Rattle.ec_script_theorems.specs.Laws.{BuffersAreFollowed, DatabasesAreFollowed, SemaphoresAreFollowed, BothIsFollowed, OwnEntriesTurnRound};
+ghost use Rattle.ec_script_theorems.specs.Laws.{BuffersAreFollowed, DatabasesAreFollowed, SemaphoresAreFollowed, BothIsFollowed, OwnEntriesAreReversed};
 
 /// States that programs that use a declared buffer only by Produce and Consume follow it: in every
 /// accepted history in which each worker's entries are a run of its program.
@@ -36,8 +36,8 @@ pub fn groups_are_followed()
 
 /// States that the reversed entries of a worker are its entries in the reversed history. So what is
 /// said of the one list is said of the other.
-pub fn own_entries_turn_round()
-    ensures { OwnEntriesTurnRound }
+pub fn own_entries_are_reversed()
+    ensures { OwnEntriesAreReversed }
 {}
 
 /// States that if a schedule of such programs was played, the run that is reported follows every

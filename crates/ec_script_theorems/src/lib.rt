@@ -7,6 +7,6 @@ mod laws;
 
 pub use laws::{
     both_is_followed, buffers_are_followed, databases_are_followed, followed_traces_pass,
-    groups_are_followed, own_entries_turn_round, played_groups_are_followed, ran_traces_pass,
+    groups_are_followed, own_entries_are_reversed, played_groups_are_followed, ran_traces_pass,
     reported_groups_are_followed, semaphores_are_followed, simulated_traces_pass,
 };

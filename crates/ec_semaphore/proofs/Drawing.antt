@@ -19,8 +19,8 @@ use Rattle.ec_core.proofs.shared.Answering.{IsReading}
 use Rattle.ec_core.proofs.shared.Joining.{get_front as get_old, get_back}
 use Rattle.ec_core.proofs.shared.Breaks.{follow_of}
 use Rattle.ec_core.proofs.shared.Moments.{past_next, past_end, moment_before, beginnings}
-use Rattle.ec_core.proofs.shared.Queue.{Seat, turn_is}
-use Rattle.ec_core.proofs.shared.Following.{other_block, IsTold, op_at, step_told, step_opened, step_due, is_act-true, after_told, after_pending, off_block}
+use Rattle.ec_core.proofs.shared.Queue.{QueuePosition, turn_is}
+use Rattle.ec_core.proofs.shared.Following.{other_block, IsReplyTo, op_at, step_told, step_opened, step_due, is_act-true, after_told, after_pending, off_block}
 use Rattle.ec_semaphore.specs.declared.pair.Pair.{Pair}
 use Rattle.ec_semaphore.specs.Shapes.{Semaphore}
 use Rattle.ec_semaphore.specs.Uses.{is_on}
@@ -64,23 +64,23 @@ record DrawsSecond (c : Semaphore) (lines : ℕ → Bool) (x : Entry) (past : Li
 -- a worker that has three calls of its critical section after an entry of its own drew the first
 -- ticket by it
 first_of : (c : Semaphore) (lines : ℕ → Bool) (t : Tables) (x : Entry) (past : List Entry) (calls : List CompletedCall) (u a r : CompletedCall) → IsAccepted t (x ∷ past)
-    → block (both_rule c lines) x.worker past ≡ calls → (is_begun calls || is_on c (op_at x past)) ≡ true → (both_rule c lines).fits calls (op_at x past) ≡ true → IsTold t past (op_at x past) x.reply
+    → block (both_rule c lines) x.worker past ≡ calls → (is_begun calls || is_on c (op_at x past)) ≡ true → (both_rule c lines).fits calls (op_at x past) ≡ true → IsReplyTo t past (op_at x past) x.reply
     → block (both_rule c lines) x.worker (x ∷ past) ≡ u ∷ a ∷ r ∷ [] → DrawsFirst c lines x past u r
 first_of c lines t x past [] u a r acc at on due returned three =
-    let P : Act → Type 0 = λ z. IsTold t past z x.reply in
+    let P : Act → Type 0 = λ z. IsReplyTo t past z x.reply in
     let op : op_at x past ≡ Ticket c.line = sym (is_act-true (Ticket c.line) (op_at x past) (and_parts (is_act (Ticket c.line) (op_at x past)) true due).0) in
     let reply : x.reply ≡ Number (issued c.line past) = subst P op returned in
     let next = after_told (both_rule c lines) x past [] (op_at x past) at refl on (ap is_pending reply) in
     absurd (cc)
 first_of c lines t x past (v ∷ []) u a r acc at on due returned three =
-    let P : Act → Type 0 = λ z. IsTold t past z x.reply in
+    let P : Act → Type 0 = λ z. IsReplyTo t past z x.reply in
     let op : op_at x past ≡ Await c.count (reply_number v.reply) = sym (is_act-true (Await c.count (reply_number v.reply)) (op_at x past) (and_parts (is_act (Await c.count (reply_number v.reply)) (op_at x past)) true due).0) in
     elim (subst P op returned) [
       | inl pending ↦ (let same = after_pending (both_rule c lines) x past pending ∙ at in absurd (cc))
       | inr k ↦ (let next = after_told (both_rule c lines) x past (v ∷ []) (op_at x past) at refl on (ap is_pending k.3) in absurd (cc))
     ]
 first_of c lines t x past (v ∷ b ∷ []) u a r acc at on due returned three =
-    let P : Act → Type 0 = λ z. IsTold t past z x.reply in
+    let P : Act → Type 0 = λ z. IsReplyTo t past z x.reply in
     let q = sequencer_number (op_at x past) in
     let ok = and_parts (is_act (Ticket (sequencer_number (op_at x past))) (op_at x past)) (lines (sequencer_number (op_at x past))) due in
     let op : op_at x past ≡ Ticket (sequencer_number (op_at x past)) = sym (is_act-true (Ticket (sequencer_number (op_at x past))) (op_at x past) ok.0) in
@@ -100,7 +100,7 @@ first_of c lines t x past (v ∷ b ∷ []) u a r acc at on due returned three =
       is = ticket_is x (sequencer_number r.op) (reply_number r.reply) (act_is t x past (sequencer_number (op_at x past)) acc op ∙ ap Ticket line) (reply ∙ ap Number (sym (ap reply_number reply) ∙ number));
     }
 first_of c lines t x past (v ∷ b ∷ s ∷ []) u a r acc at on due returned three =
-    let P : Act → Type 0 = λ z. IsTold t past z x.reply in
+    let P : Act → Type 0 = λ z. IsReplyTo t past z x.reply in
     let ok = and_parts (is_act (Ticket (sequencer_number (op_at x past))) (op_at x past)) (lines (sequencer_number (op_at x past)) && not (sequencer_number s.op == sequencer_number (op_at x past))) due in
     let op : op_at x past ≡ Ticket (sequencer_number (op_at x past)) = sym (is_act-true (Ticket (sequencer_number (op_at x past))) (op_at x past) ok.0) in
     let reply : x.reply ≡ Number (issued (sequencer_number (op_at x past)) past) =
@@ -108,7 +108,7 @@ first_of c lines t x past (v ∷ b ∷ s ∷ []) u a r acc at on due returned th
     let next = after_told (both_rule c lines) x past (v ∷ b ∷ s ∷ []) (op_at x past) at refl on (ap is_pending reply) in
     absurd (cc)
 first_of c lines t x past (v ∷ b ∷ s ∷ y ∷ []) u a r acc at on due returned three =
-    let P : Act → Type 0 = λ z. IsTold t past z x.reply in
+    let P : Act → Type 0 = λ z. IsReplyTo t past z x.reply in
     let op : op_at x past ≡ Advance c.count = sym (is_act-true (Advance c.count) (op_at x past) (and_parts (is_act (Advance c.count) (op_at x past)) true due).0) in
     let reply : x.reply ≡ Done = subst P op returned in
     let next = after_told (both_rule c lines) x past (v ∷ b ∷ s ∷ y ∷ []) (op_at x past) at refl on (ap is_pending reply) in
@@ -117,13 +117,13 @@ first_of c lines t x past (v ∷ b ∷ s ∷ y ∷ z ∷ rest) u a r acc at on d
 
 -- an entry that completes a pair draws the second ticket
 second_of : (c : Semaphore) (lines : ℕ → Bool) (t : Tables) (x : Entry) (past : List Entry) (calls : List CompletedCall) → IsAccepted t (x ∷ past)
-    → block (both_rule c lines) x.worker past ≡ calls → (both_rule c lines).fits calls (op_at x past) ≡ true → IsTold t past (op_at x past) x.reply
+    → block (both_rule c lines) x.worker past ≡ calls → (both_rule c lines).fits calls (op_at x past) ≡ true → IsReplyTo t past (op_at x past) x.reply
     → (pair_with calls x ≡ None) ⊎ DrawsSecond c lines x past
 second_of c lines t x past [] acc at due returned = inl refl
 second_of c lines t x past (u ∷ []) acc at due returned = inl refl
 second_of c lines t x past (u ∷ a ∷ []) acc at due returned = inl refl
 second_of c lines t x past (u ∷ a ∷ r ∷ []) acc at due returned =
-    let P : Act → Type 0 = λ z. IsTold t past z x.reply in
+    let P : Act → Type 0 = λ z. IsReplyTo t past z x.reply in
     let ok = and_parts (is_act (Ticket (sequencer_number (op_at x past))) (op_at x past)) (lines (sequencer_number (op_at x past)) && not (sequencer_number r.op == sequencer_number (op_at x past))) due in
     let op : op_at x past ≡ Ticket (sequencer_number (op_at x past)) = sym (is_act-true (Ticket (sequencer_number (op_at x past))) (op_at x past) ok.0) in
     let reply : x.reply ≡ Number (issued (sequencer_number (op_at x past)) past) =
@@ -163,7 +163,7 @@ record IsHolding (c : Semaphore) (lines : ℕ → Bool) (h : List Entry) (n w : 
   count : length (drawn_at c lines h at) ≡ reply_number t.reply
 
 -- the pairs up to moment n are those that were drawn up to then
-record AreDrawn (c : Semaphore) (lines : ℕ → Bool) (h : List Entry) (n : ℕ) : Type 0 where
+record ArePairsDrawnUpTo (c : Semaphore) (lines : ℕ → Bool) (h : List Entry) (n : ℕ) : Type 0 where
   first_at : ℕ → ℕ
   second_at : ℕ → ℕ
   each : (i : ℕ) (p : Pair) → slice_get (drawn_at c lines h n) i ≡ Some p → DrawsPair c lines h p (first_at i) (second_at i)
@@ -277,8 +277,8 @@ turn_at : (c : Semaphore) (lines : ℕ → Bool) (t : Tables) (h : List Entry) (
 turn_at c lines t h n x w u a rest s at few =
     let b = paired c lines t (past_at n h) s.apart s.declared s.accepted.1 s.followed.1 in
     let seated = ap seat_of at in
-    let stage : (seat_of (calls_at c lines h n w)).stage ≡ 1 + length (a ∷ rest) = ap (λ (z : Seat). z.stage) seated in
-    let turn : (seat_of (calls_at c lines h n w)).turn ≡ reply_number u.reply = ap (λ (z : Seat). z.turn) seated in
+    let stage : (seat_of (calls_at c lines h n w)).stage ≡ 1 + length (a ∷ rest) = ap (λ (z : QueuePosition). z.stage) seated in
+    let turn : (seat_of (calls_at c lines h n w)).turn ≡ reply_number u.reply = ap (λ (z : QueuePosition). z.turn) seated in
     let k = turn_is _ _ _ _ w b.queue (omega arith) (omega arith) in
     sym k.0 ∙ turn
 
@@ -357,7 +357,7 @@ drawn_up c lines h m (suc n) le =
     ] refl
 
 -- an entry that completes no pair
-none_next : (c : Semaphore) (lines : ℕ → Bool) (t : Tables) (h : List Entry) (n : ℕ) (x : Entry) → IsStep c lines t h n x → pair_with (calls_at c lines h n x.worker) x ≡ None → AreDrawn c lines h n → AreDrawn c lines h (suc n)
+none_next : (c : Semaphore) (lines : ℕ → Bool) (t : Tables) (h : List Entry) (n : ℕ) (x : Entry) → IsStep c lines t h n x → pair_with (calls_at c lines h n x.worker) x ≡ None → ArePairsDrawnUpTo c lines h n → ArePairsDrawnUpTo c lines h (suc n)
 none_next c lines t h n x s none b =
     let same : drawn_at c lines h (suc n) ≡ drawn_at c lines h n = ap (pairs_in c lines) (past_next h n x s.entry) ∙ no_pair c lines x (past_at n h) (calls_at c lines h n x.worker) refl none in
     let long : length (drawn_at c lines h (suc n)) ≡ length (drawn_at c lines h n) = ap length same in
@@ -407,7 +407,7 @@ abbrev pair_from : Entry → CompletedCall → ℕ → ℕ → Pair
 pair_from x r q n = record { worker = x.worker; first = sequencer_number r.op; first_ticket = reply_number r.reply; second = q; second_ticket = n }
 
 -- an entry that completes one
-pair_next : (c : Semaphore) (lines : ℕ → Bool) (t : Tables) (h : List Entry) (n : ℕ) (x : Entry) → IsStep c lines t h n x → DrawsSecond c lines x (past_at n h) → AreDrawn c lines h n → AreDrawn c lines h (suc n)
+pair_next : (c : Semaphore) (lines : ℕ → Bool) (t : Tables) (h : List Entry) (n : ℕ) (x : Entry) → IsStep c lines t h n x → DrawsSecond c lines x (past_at n h) → ArePairsDrawnUpTo c lines h n → ArePairsDrawnUpTo c lines h (suc n)
 pair_next c lines t h n x s d b =
     let old = drawn_at c lines h n in
     let m = length (drawn_at c lines h n) in
@@ -500,7 +500,7 @@ pair_next c lines t h n x s d b =
 
 -- THE WHOLE HISTORY
 
-drawn_first : (c : Semaphore) (lines : ℕ → Bool) (h : List Entry) → AreDrawn c lines h 0
+drawn_first : (c : Semaphore) (lines : ℕ → Bool) (h : List Entry) → ArePairsDrawnUpTo c lines h 0
 unfolding pairs_in block
 drawn_first c lines h = record {
   first_at = λ i. 0;
@@ -512,7 +512,7 @@ drawn_first c lines h = record {
   holding = λ w t a r at. cc;
 }
 
-drawn_next : (c : Semaphore) (lines : ℕ → Bool) (t : Tables) (h : List Entry) (n : ℕ) (x : Entry) → IsStep c lines t h n x → AreDrawn c lines h n → AreDrawn c lines h (suc n)
+drawn_next : (c : Semaphore) (lines : ℕ → Bool) (t : Tables) (h : List Entry) (n : ℕ) (x : Entry) → IsStep c lines t h n x → ArePairsDrawnUpTo c lines h n → ArePairsDrawnUpTo c lines h (suc n)
 drawn_next c lines t h n x s b =
     let calls = calls_at c lines h n x.worker in
     elim (step_due t (both_rules c lines) x (past_at n h) s.declared s.accepted s.followed) [
@@ -527,7 +527,7 @@ drawn_next c lines t h n x s b =
     ]
 
 drawn_until : (c : Semaphore) (lines : ℕ → Bool) (t : Tables) (h : List Entry) (n : ℕ) → lines c.line ≡ false → IsDeclared t → IsAccepted t (reverse h) → Follow (both_rules c lines) (reverse h)
-    → n ≤ length h → AreDrawn c lines h n
+    → n ≤ length h → ArePairsDrawnUpTo c lines h n
 drawn_until c lines t h zero apart dec acc f le = drawn_first c lines h
 drawn_until c lines t h (suc n) apart dec acc f le =
     (let x = element h n (omega arith) in

@@ -17,7 +17,7 @@ use Rattle.ec_semaphore.specs.declared.pairing.LatestTicket.{LatestTicket}
 use Rattle.ec_semaphore.specs.Shapes.{Semaphore}
 use Rattle.ec_semaphore.specs.Both.{sequencer_number, both_rule, both_rules}
 use Rattle.ec_semaphore.specs.Auditing.{ArePaired}
-use Rattle.ec_semaphore.specs.Completing.{IsDrawn, AreDrawn, drawn_after}
+use Rattle.ec_semaphore.specs.Completing.{IsDrawn, AreLatestTickets, drawn_after}
 use Rattle.ec_semaphore.specs.Keeping.{list_progress_of_both}
 use Rattle.ec_semaphore.specs.Pairs.{pair_after, pair_with, pairs_in}
 use Rattle.ec_semaphore.proofs.Drawing.{draws_first}
@@ -40,7 +40,7 @@ completed_is (t ∷ a ∷ r ∷ []) kept d x q n is at drawn act number =
 completed_is (t ∷ a ∷ r ∷ s ∷ rest) kept d x q n is at drawn act number = (let k = ap (λ (z : ListProgress). z.at) is in absurd (omega arith))
 
 latest_none : (c : Semaphore) (lines : ℕ → Bool) (latest : List LatestTicket)
-    → AreDrawn c lines latest []
+    → AreLatestTickets c lines latest []
 unfolding block
 latest_none c lines latest w d at t a r e = cc
 
@@ -53,7 +53,7 @@ drawn_now c lines t x past d dec acc f u a r at =
     ap (drawn_after d x) act ∙ ap (λ n. (let z : LatestTicket = record { line = sequencer_number r.op; number = n } in z)) reply
 
 latest_next : (c : Semaphore) (lines : ℕ → Bool) (t : Tables) (x : Entry) (past : List Entry) (latest : List LatestTicket) (d : LatestTicket) → IsDeclared t → IsAccepted t (x ∷ past) → Follow (both_rules c lines) (x ∷ past)
-    → x.worker < length latest → AreDrawn c lines latest past → AreDrawn c lines (slice_set latest x.worker (drawn_after d x x.act)) (x ∷ past)
+    → x.worker < length latest → AreLatestTickets c lines latest past → AreLatestTickets c lines (slice_set latest x.worker (drawn_after d x x.act)) (x ∷ past)
 latest_next c lines t x past latest d dec acc f room before =
     λ w e at.
     (let set = get_set latest x.worker w (drawn_after d x x.act) room in
@@ -75,10 +75,10 @@ drawn_at latest place w d room at low = ap (slice_get latest) (sym at) ∙ slice
 -- ONE MORE ENTRY, IN THE WORDS OF THE CODE
 
 latest_more : (c : Semaphore) (lines : ℕ → Bool) (t : Tables) (x : Entry) (past : List Entry) (latest : List LatestTicket) (d e : LatestTicket) (place : ℕ) → IsDeclared t → IsAccepted t (x ∷ past)
-    → Follow (both_rules c lines) (x ∷ past) → length latest ≡ 16 → place ≡ x.worker → place < 16 → e ≡ drawn_after d x x.act → AreDrawn c lines latest past
-    → AreDrawn c lines (slice_set latest place e) (x ∷ past)
+    → Follow (both_rules c lines) (x ∷ past) → length latest ≡ 16 → place ≡ x.worker → place < 16 → e ≡ drawn_after d x x.act → AreLatestTickets c lines latest past
+    → AreLatestTickets c lines (slice_set latest place e) (x ∷ past)
 latest_more c lines t x past latest d e place dec acc f room at low is before =
-    let Q : List LatestTicket → Type 0 = λ l. AreDrawn c lines l (x ∷ past) in
+    let Q : List LatestTicket → Type 0 = λ l. AreLatestTickets c lines l (x ∷ past) in
     let same : slice_set latest x.worker (drawn_after d x x.act) ≡ slice_set latest place e = ap (λ k. slice_set latest k (drawn_after d x x.act)) (sym at) ∙ ap (slice_set latest place) (sym is) in
     subst Q same (latest_next c lines t x past latest d dec acc f (omega arith) before)
 
@@ -91,8 +91,8 @@ pairs_more c lines x past ps now o before is after =
 pub drawn_more : (c : Semaphore) (lines : ℕ → Bool) (t : Tables) (x : Entry) (past : List Entry) (latest : List LatestTicket) (d was_drawn e : LatestTicket) (place : ℕ) (o : Option Pair)
     → length latest ≡ 16 → place ≡ x.worker → place < 16 → e ≡ drawn_after was_drawn x x.act
     → (IsDrawn (get_or latest place d) (block (both_rule c lines) x.worker past) → o ≡ pair_with (block (both_rule c lines) x.worker past) x)
-    → IsDeclared t → IsAccepted t (x ∷ past) → Follow (both_rules c lines) (x ∷ past) → AreDrawn c lines latest past
-    → (o ≡ pair_with (block (both_rule c lines) x.worker past) x) × AreDrawn c lines (slice_set latest place e) (x ∷ past)
+    → IsDeclared t → IsAccepted t (x ∷ past) → Follow (both_rules c lines) (x ∷ past) → AreLatestTickets c lines latest past
+    → (o ≡ pair_with (block (both_rule c lines) x.worker past) x) × AreLatestTickets c lines (slice_set latest place e) (x ∷ past)
 drawn_more c lines t x past latest d was_drawn e place o room at low is pair dec acc f was = (
   pair (was x.worker (get_or latest place d) (drawn_at latest place x.worker d room at low)),
   latest_more c lines t x past latest was_drawn e place dec acc f room at low is was,

@@ -17,8 +17,8 @@ use Rattle.ec_core.specs.Calls.{is_pending}
 use Rattle.ec_core.specs.Acceptance.{IsAccepted}
 use Rattle.ec_core.specs.Following.{CompletedCall, block, Follow}
 use Rattle.ec_core.specs.CallLists.{is_act, reply_number}
-use Rattle.ec_core.proofs.shared.Queue.{Seat, IsQueue, IsElsewhereSame, still, draw, enter, make, leave, turn_is}
-use Rattle.ec_core.proofs.shared.Following.{other_block, same_test, IsTold, op_at, step_told, step_opened, total_step, issued_step, step_due, is_act-true, after_told, after_pending, off_block}
+use Rattle.ec_core.proofs.shared.Queue.{QueuePosition, IsQueue, IsElsewhereSame, still, draw, enter, make, leave, turn_is}
+use Rattle.ec_core.proofs.shared.Following.{other_block, same_test, IsReplyTo, op_at, step_told, step_opened, total_step, issued_step, step_due, is_act-true, after_told, after_pending, off_block}
 use Rattle.ec_semaphore.specs.declared.pair.Pair.{Pair}
 use Rattle.ec_semaphore.specs.Shapes.{Semaphore}
 use Rattle.ec_semaphore.specs.Uses.{is_on}
@@ -29,11 +29,11 @@ use Rattle.ec_semaphore.proofs.shared.Implying.{outside}
 abbrev pub lists : Semaphore → (ℕ → Bool) → List Entry → ℕ → List CompletedCall
 lists c lines past w = block (both_rule c lines) w past
 
-abbrev pub seat_of : List CompletedCall → Seat
+abbrev pub seat_of : List CompletedCall → QueuePosition
 seat_of [] = record { stage = 0; turn = 0 }
 seat_of (t ∷ rest) = record { stage = 1 + length rest; turn = reply_number t.reply }
 
-abbrev pub seat : Semaphore → (ℕ → Bool) → List Entry → ℕ → Seat
+abbrev pub seat : Semaphore → (ℕ → Bool) → List Entry → ℕ → QueuePosition
 seat c lines past w = seat_of (lists c lines past w)
 
 pub record IsPaired (c : Semaphore) (lines : ℕ → Bool) (past : List Entry) : Type 0 where
@@ -92,7 +92,7 @@ pub no_pair : (c : Semaphore) (lines : ℕ → Bool) (x : Entry) (past : List En
 no_pair c lines x past calls at none =
     pairs_at c lines x past calls at ∙ ap (λ o. pairs_in c lines past ++ option_to_list o) none ∙ append-nil (pairs_in c lines past)
 
-moved_queue : (s : ℕ → Seat) (drawn gone made drawn' gone' : ℕ) → drawn' ≡ drawn → gone' ≡ gone → IsQueue s drawn gone made → IsQueue s drawn' gone' made
+moved_queue : (s : ℕ → QueuePosition) (drawn gone made drawn' gone' : ℕ) → drawn' ≡ drawn → gone' ≡ gone → IsQueue s drawn gone made → IsQueue s drawn' gone' made
 moved_queue s drawn gone made drawn' gone' ed eg q =
     let P : ℕ → Type 0 = λ n. IsQueue s n gone' made in
     let Q : ℕ → Type 0 = λ n. IsQueue s drawn n made in
@@ -130,9 +130,9 @@ third : (u a r u' a' r' : CompletedCall) → u ∷ a ∷ r ∷ [] ≡ u' ∷ a' 
 third u a r u' a' r' e = cc
 
 on_step : (c : Semaphore) (lines : ℕ → Bool) (t : Tables) (x : Entry) (past : List Entry) (calls : List CompletedCall) → lines c.line ≡ false → IsAccepted t (x ∷ past) → lists c lines past x.worker ≡ calls
-    → (is_begun calls || is_on c (op_at x past)) ≡ true → (both_rule c lines).fits calls (op_at x past) ≡ true → IsTold t past (op_at x past) x.reply → IsPaired c lines past → IsPaired c lines (x ∷ past)
+    → (is_begun calls || is_on c (op_at x past)) ≡ true → (both_rule c lines).fits calls (op_at x past) ≡ true → IsReplyTo t past (op_at x past) x.reply → IsPaired c lines past → IsPaired c lines (x ∷ past)
 on_step c lines t x past [] apart acc at on due returned b =
-    let P : Act → Type 0 = λ a. IsTold t past a x.reply in
+    let P : Act → Type 0 = λ a. IsReplyTo t past a x.reply in
     let op : op_at x past ≡ Ticket c.line = sym (is_act-true (Ticket c.line) (op_at x past) (and_parts (is_act (Ticket c.line) (op_at x past)) true due).0) in
     let reply : x.reply ≡ Number (issued c.line past) = subst P op returned in
     let next : lists c lines (x ∷ past) x.worker ≡ record { op = op_at x past; reply = x.reply } ∷ [] = after_told (both_rule c lines) x past [] (op_at x past) at refl on (ap is_pending reply) in
@@ -140,10 +140,10 @@ on_step c lines t x past [] apart acc at on due returned b =
     kept c lines t x past acc b (no_pair c lines x past [] at refl)
     (moved_queue (seat c lines (x ∷ past)) (1 + issued c.line past) (total c.count past) (length (pairs_in c lines past)) (issued c.line (x ∷ past)) (total c.count (x ∷ past))
     (issued_is t c.line x past (Ticket c.line) true acc op (eq-eqb c.line c.line refl)) (total_is t c.count x past (Ticket c.line) false acc op refl ∙ zero-add (total c.count past))
-    (draw _ _ _ _ _ x.worker b.queue (elsewhere c lines x past) (ap (λ (s : Seat). s.stage) z ∙ refl) (ap (λ (s : Seat). s.turn) z ∙ ap reply_number reply)))
+    (draw _ _ _ _ _ x.worker b.queue (elsewhere c lines x past) (ap (λ (s : QueuePosition). s.stage) z ∙ refl) (ap (λ (s : QueuePosition). s.turn) z ∙ ap reply_number reply)))
     (λ u a r q. cc)
 on_step c lines t x past (u ∷ []) apart acc at on due returned b =
-    let P : Act → Type 0 = λ a. IsTold t past a x.reply in
+    let P : Act → Type 0 = λ a. IsReplyTo t past a x.reply in
     let op : op_at x past ≡ Await c.count (reply_number u.reply) = sym (is_act-true (Await c.count (reply_number u.reply)) (op_at x past) (and_parts (is_act (Await c.count (reply_number u.reply)) (op_at x past)) true due).0) in
     elim (subst P op returned) [
       | inl pending ↦ unmoved c lines t x past acc b (no_pair c lines x past (u ∷ []) at refl) (ap (is_ticket c.line) op) (ap (is_advance c.count) op) (after_pending (both_rule c lines) x past pending)
@@ -153,10 +153,12 @@ on_step c lines t x past (u ∷ []) apart acc at on due returned b =
           let next : lists c lines (x ∷ past) x.worker ≡ u ∷ record { op = op_at x past; reply = x.reply } ∷ [] = after_told (both_rule c lines) x past (u ∷ []) (op_at x past) at refl on (ap is_pending k.3) in
           let was = ap seat_of at in
           let z = ap seat_of next in
-          let st : (seat c lines past x.worker).stage ≡ 1 = ap (λ (s : Seat). s.stage) was in
-          let tu : (seat c lines past x.worker).turn ≡ reply_number u.reply = ap (λ (s : Seat). s.turn) was in
-          let st' : (seat c lines (x ∷ past) x.worker).stage ≡ 2 = ap (λ (s : Seat). s.stage) z in
-          let tu' : (seat c lines (x ∷ past) x.worker).turn ≡ reply_number u.reply = ap (λ (s : Seat). s.turn) z in
+          let st : (seat c lines past x.worker).stage ≡ 1 =
+          ap (λ (s : QueuePosition). s.stage) was in
+          let tu : (seat c lines past x.worker).turn ≡ reply_number u.reply = ap (λ (s : QueuePosition). s.turn) was in
+          let st' : (seat c lines (x ∷ past) x.worker).stage ≡ 2 =
+          ap (λ (s : QueuePosition). s.stage) z in
+          let tu' : (seat c lines (x ∷ past) x.worker).turn ≡ reply_number u.reply = ap (λ (s : QueuePosition). s.turn) z in
           kept c lines t x past acc b (no_pair c lines x past (u ∷ []) at refl)
           (moved_queue (seat c lines (x ∷ past)) (issued c.line past) (total c.count past) (length (pairs_in c lines past)) (issued c.line (x ∷ past)) (total c.count (x ∷ past))
           (issued_is t c.line x past (Await c.count (reply_number u.reply)) false acc op refl ∙ zero-add (issued c.line past)) (total_is t c.count x past (Await c.count (reply_number u.reply)) false acc op refl ∙ zero-add (total c.count past))
@@ -164,7 +166,7 @@ on_step c lines t x past (u ∷ []) apart acc at on due returned b =
           (λ u' a' r' q. cc))
     ]
 on_step c lines t x past (u ∷ a ∷ []) apart acc at on due returned b =
-    let P : Act → Type 0 = λ z. IsTold t past z x.reply in
+    let P : Act → Type 0 = λ z. IsReplyTo t past z x.reply in
     let ok = and_parts (is_act (Ticket (sequencer_number (op_at x past))) (op_at x past)) (lines (sequencer_number (op_at x past))) due in
     let op = ticket_is (op_at x past) ok.0 in
     let q = sequencer_number (op_at x past) in
@@ -175,10 +177,11 @@ on_step c lines t x past (u ∷ a ∷ []) apart acc at on due returned b =
     let next : lists c lines (x ∷ past) x.worker ≡ u ∷ a ∷ n ∷ [] = after_told (both_rule c lines) x past (u ∷ a ∷ []) (op_at x past) at refl on (ap is_pending reply) in
     let was = ap seat_of at in
     let z = ap seat_of next in
-    let st : (seat c lines past x.worker).stage ≡ 2 = ap (λ (s : Seat). s.stage) was in
-    let tu : (seat c lines past x.worker).turn ≡ reply_number u.reply = ap (λ (s : Seat). s.turn) was in
-    let st' : (seat c lines (x ∷ past) x.worker).stage ≡ 3 = ap (λ (s : Seat). s.stage) z in
-    let tu' : (seat c lines (x ∷ past) x.worker).turn ≡ reply_number u.reply = ap (λ (s : Seat). s.turn) z in
+    let st : (seat c lines past x.worker).stage ≡ 2 = ap (λ (s : QueuePosition). s.stage) was in
+    let tu : (seat c lines past x.worker).turn ≡ reply_number u.reply = ap (λ (s : QueuePosition). s.turn) was in
+    let st' : (seat c lines (x ∷ past) x.worker).stage ≡ 3 =
+    ap (λ (s : QueuePosition). s.stage) z in
+    let tu' : (seat c lines (x ∷ past) x.worker).turn ≡ reply_number u.reply = ap (λ (s : QueuePosition). s.turn) z in
     let inside : (seat c lines past x.worker).turn ≤ total c.count past = b.queue.inside x.worker (omega arith) in
     let more : issued (sequencer_number (op_at x past)) (x ∷ past) ≡ 1 + issued (sequencer_number (op_at x past)) past = issued_is t (sequencer_number (op_at x past)) x past (Ticket (sequencer_number (op_at x past))) true acc op (eq-eqb (sequencer_number (op_at x past)) (sequencer_number (op_at x past)) refl) in
     let num : reply_number x.reply ≡ issued (sequencer_number (op_at x past)) past =
@@ -194,7 +197,7 @@ on_step c lines t x past (u ∷ a ∷ []) apart acc at on due returned b =
     λ m. All (IsBelow (sequencer_number (op_at x past)) m) (pairs_in c lines past) in
     subst Q same (subst R (sym num) (b.below (sequencer_number (op_at x past))), (let lt : reply_number x.reply < issued (sequencer_number (op_at x past)) (x ∷ past) = omega arith in lt))))
 on_step c lines t x past (u ∷ a ∷ r ∷ []) apart acc at on due returned b =
-    let P : Act → Type 0 = λ z. IsTold t past z x.reply in
+    let P : Act → Type 0 = λ z. IsReplyTo t past z x.reply in
     let due_parts = and_parts (is_act (Ticket (sequencer_number (op_at x past))) (op_at x past)) (lines (sequencer_number (op_at x past)) && not (sequencer_number r.op == sequencer_number (op_at x past))) due in
     let ok = and_parts (lines (sequencer_number (op_at x past))) (not (sequencer_number r.op == sequencer_number (op_at x past))) due_parts.1 in
     let op = ticket_is (op_at x past) due_parts.0 in
@@ -205,10 +208,11 @@ on_step c lines t x past (u ∷ a ∷ r ∷ []) apart acc at on due returned b =
     let next : lists c lines (x ∷ past) x.worker ≡ u ∷ a ∷ r ∷ n ∷ [] = after_told (both_rule c lines) x past (u ∷ a ∷ r ∷ []) (op_at x past) at refl on (ap is_pending reply) in
     let was = ap seat_of at in
     let z = ap seat_of next in
-    let st : (seat c lines past x.worker).stage ≡ 3 = ap (λ (s : Seat). s.stage) was in
-    let tu : (seat c lines past x.worker).turn ≡ reply_number u.reply = ap (λ (s : Seat). s.turn) was in
-    let st' : (seat c lines (x ∷ past) x.worker).stage ≡ 4 = ap (λ (s : Seat). s.stage) z in
-    let tu' : (seat c lines (x ∷ past) x.worker).turn ≡ reply_number u.reply = ap (λ (s : Seat). s.turn) z in
+    let st : (seat c lines past x.worker).stage ≡ 3 = ap (λ (s : QueuePosition). s.stage) was in
+    let tu : (seat c lines past x.worker).turn ≡ reply_number u.reply = ap (λ (s : QueuePosition). s.turn) was in
+    let st' : (seat c lines (x ∷ past) x.worker).stage ≡ 4 =
+    ap (λ (s : QueuePosition). s.stage) z in
+    let tu' : (seat c lines (x ∷ past) x.worker).turn ≡ reply_number u.reply = ap (λ (s : QueuePosition). s.turn) z in
     let drawn : Pair = record { worker = x.worker; first = sequencer_number r.op; first_ticket = reply_number r.reply; second = sequencer_number (op_at x past); second_ticket = reply_number x.reply } in
     let same : pairs_in c lines (x ∷ past) ≡ pairs_in c lines past ++ drawn ∷ [] =
     pairs_at c lines x past (u ∷ a ∷ r ∷ []) at ∙ ap (λ o. pairs_in c lines past ++ option_to_list o) (pair_at t r x past (sequencer_number (op_at x past)) acc op) in
@@ -245,7 +249,7 @@ on_step c lines t x past (u ∷ a ∷ r ∷ []) apart acc at on due returned b =
                 absurd (omega arith))
             | false ↦ λ g.
                 (let theirs : lists c lines past v ≡ u' ∷ a' ∷ r' ∷ [] = sym (other_block (both_rule c lines) v x past g) ∙ e in
-                let st2 : (seat c lines past v).stage ≡ 3 = ap (λ (s : Seat). s.stage) (ap seat_of theirs) in
+                let st2 : (seat c lines past v).stage ≡ 3 = ap (λ (s : QueuePosition). s.stage) (ap seat_of theirs) in
                 let one = turn_is _ _ _ _ x.worker b.queue (omega arith) (omega arith) in
                 let two = turn_is _ _ _ _ v b.queue (omega arith) (omega arith) in
                 let same_worker : x.worker ≡ v = b.queue.apart x.worker v (omega arith) (omega arith) (one.1 ∙ sym two.1) in
@@ -258,14 +262,14 @@ on_step c lines t x past (u ∷ a ∷ r ∷ []) apart acc at on due returned b =
           subst O (sym same) (all_pairs_push IsEarlier (pairs_in c lines past) drawn b.ordered (λ i d lt. (w.0 i d lt, second i d lt))));
     }
 on_step c lines t x past (u ∷ a ∷ r ∷ s ∷ []) apart acc at on due returned b =
-    let P : Act → Type 0 = λ z. IsTold t past z x.reply in
+    let P : Act → Type 0 = λ z. IsReplyTo t past z x.reply in
     let op : op_at x past ≡ Advance c.count = sym (is_act-true (Advance c.count) (op_at x past) (and_parts (is_act (Advance c.count) (op_at x past)) true due).0) in
     let reply : x.reply ≡ Done = subst P op returned in
     let next : lists c lines (x ∷ past) x.worker ≡ [] = after_told (both_rule c lines) x past (u ∷ a ∷ r ∷ s ∷ []) (op_at x past) at refl on (ap is_pending reply) in
     kept c lines t x past acc b (no_pair c lines x past (u ∷ a ∷ r ∷ s ∷ []) at refl)
     (moved_queue (seat c lines (x ∷ past)) (issued c.line past) (1 + total c.count past) (length (pairs_in c lines past)) (issued c.line (x ∷ past)) (total c.count (x ∷ past))
     (issued_is t c.line x past (Advance c.count) false acc op refl ∙ zero-add (issued c.line past)) (total_is t c.count x past (Advance c.count) true acc op (eq-eqb c.count c.count refl))
-    (leave _ _ _ _ _ x.worker b.queue (elsewhere c lines x past) (ap (λ (y : Seat). y.stage) (ap seat_of at)) (ap (λ (y : Seat). y.stage) (ap seat_of next))))
+    (leave _ _ _ _ _ x.worker b.queue (elsewhere c lines x past) (ap (λ (y : QueuePosition). y.stage) (ap seat_of at)) (ap (λ (y : QueuePosition). y.stage) (ap seat_of next))))
     (λ u' a' r' q. cc)
 on_step c lines t x past (u ∷ a ∷ r ∷ s ∷ v ∷ rest) apart acc at on due returned b = cc
 

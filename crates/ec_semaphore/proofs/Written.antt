@@ -12,8 +12,8 @@ use Rattle.ec_core.proofs.shared.Following.{is_act-true}
 use Rattle.ec_core.proofs.shared.JoinedLists.{following_joins, following_stands}
 use Rattle.ec_semaphore.specs.Shapes.{Semaphore}
 use Rattle.ec_semaphore.specs.Uses.{threshold, is_on, use_rule, use_rules}
-use Rattle.ec_semaphore.specs.Both.{sequencer_number, is_line, down_both_call, both_rule, both_rules}
-use Rattle.ec_semaphore.specs.Joined.{IsDown, IsUp, IsGuarded, IsDownBoth, DownIsWritten, UpIsWritten, UsesAreDownsAndUps, FollowingMeansUses, WholePartsAreGuarded, FollowingBothMeansGuardedParts, DownBothIsWritten}
+use Rattle.ec_semaphore.specs.Both.{sequencer_number, is_semaphore_sequencer, down_both_call, both_rule, both_rules}
+use Rattle.ec_semaphore.specs.Joined.{IsDown, IsUp, IsCriticalSection, IsDownBoth, DownIsWritten, UpIsWritten, UsesAreDownsAndUps, FollowingMeansUses, WholeListsAreCriticalSections, BothMeansCriticalSections, DownBothIsWritten}
 use Rattle.ec_semaphore.proofs.shared.Implying.{fits_or as due_second}
 
 -- P AND V
@@ -94,7 +94,7 @@ following_uses s t h dec acc = following_joins t (use_rules s) (λ w. is_on s) h
 
 -- THE CRITICAL SECTION
 
-guarded_from : (c : Semaphore) (lines : ℕ → Bool) (calls : List CompletedCall) → IsWholeList (both_rule c lines) calls → IsGuarded c lines calls
+guarded_from : (c : Semaphore) (lines : ℕ → Bool) (calls : List CompletedCall) → IsWholeList (both_rule c lines) calls → IsCriticalSection c lines calls
 guarded_from c lines [] w = (let k = w.whole in cc)
 guarded_from c lines (t ∷ []) w = (let k = w.whole in cc)
 guarded_from c lines (t ∷ a ∷ []) w = (let k = w.whole in cc)
@@ -181,13 +181,13 @@ guarded_whole c lines t a r s v p q known_p known_q apart draws waits draws_one 
     each_next (suc (suc (suc (suc zero)))) d at = (let same : v ≡ d = cc in let P : CompletedCall → Type 0 = λ z. ComesNext (both_rule c lines) (t ∷ a ∷ r ∷ s ∷ []) z.op in subst P same (record { fits = five; goes_on = refl }))
     each_next (suc (suc (suc (suc (suc k))))) d at = cc
 
-guarded_back : (c : Semaphore) (lines : ℕ → Bool) (calls : List CompletedCall) → IsGuarded c lines calls → IsWholeList (both_rule c lines) calls
+guarded_back : (c : Semaphore) (lines : ℕ → Bool) (calls : List CompletedCall) → IsCriticalSection c lines calls → IsWholeList (both_rule c lines) calls
 guarded_back c lines calls g =
     let P : List CompletedCall → Type 0 = λ z. IsWholeList (both_rule c lines) z in
     subst P (sym g.are)
     (guarded_whole c lines g.ticket g.wait g.first g.second g.advance g.one g.other g.known_one g.known_other g.apart g.draws g.waits g.draws_one g.draws_other g.advances)
 
-pub guarded_are : WholePartsAreGuarded
+pub guarded_are : WholeListsAreCriticalSections
 guarded_are c lines calls = (guarded_from c lines calls, guarded_back c lines calls)
 
 first_on : (c : Semaphore) (lines : ℕ → Bool) (op : Act) → (both_rule c lines).fits [] op ≡ true → is_on c op ≡ true
@@ -195,10 +195,10 @@ first_on c lines op h =
     (let is : op ≡ Ticket c.line = sym (is_act-true (Ticket c.line) op (and_parts (is_act (Ticket c.line) op) true h).0) in
     ap (is_on c) is ∙ eq-eqb c.line c.line refl)
 
-pub following_both : FollowingBothMeansGuardedParts
+pub following_both : BothMeansCriticalSections
 following_both c shapes t h dec acc =
-    following_stands t (both_rules c (is_line c shapes)) (λ w. is_on c) h dec acc
-    (λ w. record { between = λ op. refl; within = λ d calls op. refl; first = λ op fits. first_on c (is_line c shapes) op fits })
+    following_stands t (both_rules c (is_semaphore_sequencer c shapes)) (λ w. is_on c) h dec acc
+    (λ w. record { between = λ op. refl; within = λ d calls op. refl; first = λ op fits. first_on c (is_semaphore_sequencer c shapes) op fits })
 
 -- WHAT PROCEDURES ASK FOR
 
@@ -233,7 +233,7 @@ seven c one other lines (t ∷ a ∷ r ∷ s ∷ v ∷ []) p q apart w n = absur
 seven c one other lines (t ∷ a ∷ r ∷ s ∷ v ∷ b ∷ []) p q apart w n = absurd (omega arith)
 seven c one other lines (t ∷ a ∷ r ∷ s ∷ v ∷ b ∷ d ∷ []) p q apart w n =
     record {
-      guarded = t ∷ a ∷ r ∷ s ∷ v ∷ [];
+      sections = t ∷ a ∷ r ∷ s ∷ v ∷ [];
       wait_one = b;
       wait_other = d;
       part = record {

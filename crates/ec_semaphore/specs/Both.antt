@@ -11,20 +11,20 @@ use Rattle.ec_semaphore.specs.Uses.{threshold, is_on}
 
 -- the critical section, if the tickets are drawn from p and then q: the call that comes after these completed calls, or
 -- none
-abbrev pub guarded_call : Semaphore → ℕ → ℕ → List CompletedCall → Option Act
-guarded_call c p q [] = Some (Ticket c.line)
-guarded_call c p q (t ∷ []) = Some (Await c.count (reply_number t.reply))
-guarded_call c p q (t ∷ a ∷ []) = Some (Ticket p)
-guarded_call c p q (t ∷ a ∷ r ∷ []) = Some (Ticket q)
-guarded_call c p q (t ∷ a ∷ r ∷ s ∷ []) = Some (Advance c.count)
-guarded_call c p q (t ∷ a ∷ r ∷ s ∷ v ∷ rest) = None
+abbrev pub critical_section_call : Semaphore → ℕ → ℕ → List CompletedCall → Option Act
+critical_section_call c p q [] = Some (Ticket c.line)
+critical_section_call c p q (t ∷ []) = Some (Await c.count (reply_number t.reply))
+critical_section_call c p q (t ∷ a ∷ []) = Some (Ticket p)
+critical_section_call c p q (t ∷ a ∷ r ∷ []) = Some (Ticket q)
+critical_section_call c p q (t ∷ a ∷ r ∷ s ∷ []) = Some (Advance c.count)
+critical_section_call c p q (t ∷ a ∷ r ∷ s ∷ v ∷ rest) = None
 
 -- the whole of it: the critical section, and then the waits for the one semaphore and for the other
 abbrev pub down_both_call : Semaphore → Semaphore → Semaphore → List CompletedCall → Option Act
 down_both_call c one other (t ∷ a ∷ r ∷ s ∷ v ∷ []) = Some (Await one.count (threshold one (reply_number r.reply)))
 down_both_call c one other (t ∷ a ∷ r ∷ s ∷ v ∷ b ∷ []) = Some (Await other.count (threshold other (reply_number s.reply)))
 down_both_call c one other (t ∷ a ∷ r ∷ s ∷ v ∷ b ∷ d ∷ rest) = None
-down_both_call c one other calls = guarded_call c one.line other.line calls
+down_both_call c one other calls = critical_section_call c one.line other.line calls
 
 -- the sequencer that an act draws from
 abbrev pub sequencer_number : Act → ℕ
@@ -33,8 +33,9 @@ sequencer_number _ = 0
 
 -- a semaphore is identified by its sequencer: whether q is that of one of these semaphores, and not
 -- that of the common one
-abbrev pub is_line : Semaphore → List Semaphore → ℕ → Bool
-is_line c shapes q = not (q == c.line) && list_any (λ (s : Semaphore). s.line == q) shapes
+abbrev pub is_semaphore_sequencer : Semaphore → List Semaphore → ℕ → Bool
+is_semaphore_sequencer c shapes q =
+    not (q == c.line) && list_any (λ (s : Semaphore). s.line == q) shapes
 
 -- whether the two tickets are drawn from different ones of these sequencers
 abbrev pub is_choice : (ℕ → Bool) → List CompletedCall → Act → Bool
@@ -52,8 +53,8 @@ is_begun (c ∷ calls) = true
 abbrev pub both_rule : Semaphore → (ℕ → Bool) → Rule
 both_rule c lines = record {
   concerns = λ b op. is_begun b || is_on c op;
-  fits = λ b op. is_due (guarded_call c (sequencer_number op) (sequencer_number op) b) op && is_choice lines b op;
-  ends = λ b. not (is_some (guarded_call c 0 0 b));
+  fits = λ b op. is_due (critical_section_call c (sequencer_number op) (sequencer_number op) b) op && is_choice lines b op;
+  ends = λ b. not (is_some (critical_section_call c 0 0 b));
 }
 
 abbrev pub both_rules : Semaphore → (ℕ → Bool) → ℕ → Rule

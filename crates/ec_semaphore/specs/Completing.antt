@@ -19,5 +19,5 @@ drawn_after d x (Ticket q) = record { line = q; number = reply_number x.reply }
 drawn_after d x _ = d
 
 -- the table has the first ticket of each worker that has drawn the first of two, and not the second
-abbrev pub AreDrawn : Semaphore → (ℕ → Bool) → List LatestTicket → List Entry → Type 0
-AreDrawn c lines latest past = (w : ℕ) (d : LatestTicket) → slice_get latest w ≡ Some d → IsDrawn d (block (both_rule c lines) w past)
+abbrev pub AreLatestTickets : Semaphore → (ℕ → Bool) → List LatestTicket → List Entry → Type 0
+AreLatestTickets c lines latest past = (w : ℕ) (d : LatestTicket) → slice_get latest w ≡ Some d → IsDrawn d (block (both_rule c lines) w past)

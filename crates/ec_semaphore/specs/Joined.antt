@@ -8,11 +8,11 @@ use Rattle.ec_core.specs.Acceptance.{IsAccepted}
 use Rattle.ec_core.specs.Calls.{under_way}
 use Rattle.ec_core.specs.CallLists.{reply_number}
 use Rattle.ec_core.specs.Following.{CompletedCall, Follow}
-use Rattle.ec_core.specs.JoinedLists.{finished_by, calls_on, going_on, op_of, IsWholeList, IsJoined, IsSideBySide}
+use Rattle.ec_core.specs.JoinedLists.{completed_calls_of, calls_on, going_on, op_of, IsWholeList, IsJoined, IsSideBySide}
 use Rattle.ec_core.specs.Procedures.{IsWritten}
 use Rattle.ec_semaphore.specs.Shapes.{Semaphore}
 use Rattle.ec_semaphore.specs.Uses.{threshold, down_call, up_call, is_on, use_rule, use_rules}
-use Rattle.ec_semaphore.specs.Both.{is_line, down_both_call, both_rule, both_rules}
+use Rattle.ec_semaphore.specs.Both.{is_semaphore_sequencer, down_both_call, both_rule, both_rules}
 
 -- the calls are a P: a ticket, and the wait for the total that the ticket says
 pub record IsDown (s : Semaphore) (calls : List CompletedCall) : Type 0 where
@@ -30,7 +30,8 @@ pub record IsUp (s : Semaphore) (calls : List CompletedCall) : Type 0 where
 
 -- the calls are a critical section: a ticket of the common semaphore, the wait for its turn,
 -- tickets of two different ones of these sequencers, and the advance that lets the next worker in
-pub record IsGuarded (c : Semaphore) (lines : ℕ → Bool) (calls : List CompletedCall) : Type 0 where
+pub record IsCriticalSection (c : Semaphore) (lines : ℕ
+    → Bool) (calls : List CompletedCall) : Type 0 where
   pub ticket : CompletedCall
   pub wait : CompletedCall
   pub first : CompletedCall
@@ -57,18 +58,18 @@ UsesAreDownsAndUps = (s : Semaphore) (calls : List CompletedCall) → IsWholeLis
 abbrev pub FollowingMeansUses : Type 0
 FollowingMeansUses = (s : Semaphore) (t : Tables) (h : List Entry) → IsDeclared t → IsAccepted t (reverse h)
     → Follow (use_rules s) (reverse h)
-    ↔ ((w : ℕ) → IsJoined (use_rule s) (calls_on (is_on s) (finished_by w (reverse h))) (going_on (is_on s) (under_way w (reverse h))))
+    ↔ ((w : ℕ) → IsJoined (use_rule s) (calls_on (is_on s) (completed_calls_of w (reverse h))) (going_on (is_on s) (under_way w (reverse h))))
 
 -- the whole lists of `both` are critical sections
-abbrev pub WholePartsAreGuarded : Type 0
-WholePartsAreGuarded = (c : Semaphore) (lines : ℕ → Bool) (calls : List CompletedCall) → IsWholeList (both_rule c lines) calls ↔ IsGuarded c lines calls
+abbrev pub WholeListsAreCriticalSections : Type 0
+WholeListsAreCriticalSections = (c : Semaphore) (lines : ℕ → Bool) (calls : List CompletedCall) → IsWholeList (both_rule c lines) calls ↔ IsCriticalSection c lines calls
 
 -- an accepted history follows `both` exactly if the calls of each worker are critical sections,
 -- with calls on other objects between them, and a prefix of one more
-abbrev pub FollowingBothMeansGuardedParts : Type 0
-FollowingBothMeansGuardedParts = (c : Semaphore) (shapes : List Semaphore) (t : Tables) (h : List Entry) → IsDeclared t → IsAccepted t (reverse h)
-    → Follow (both_rules c (is_line c shapes)) (reverse h)
-    ↔ ((w : ℕ) → IsSideBySide (both_rule c (is_line c shapes)) (is_on c) (finished_by w (reverse h)) (op_of (under_way w (reverse h))))
+abbrev pub BothMeansCriticalSections : Type 0
+BothMeansCriticalSections = (c : Semaphore) (shapes : List Semaphore) (t : Tables) (h : List Entry) → IsDeclared t → IsAccepted t (reverse h)
+    → Follow (both_rules c (is_semaphore_sequencer c shapes)) (reverse h)
+    ↔ ((w : ℕ) → IsSideBySide (both_rule c (is_semaphore_sequencer c shapes)) (is_on c) (completed_calls_of w (reverse h)) (op_of (under_way w (reverse h))))
 
 -- the calls that a procedure Down has made once it is over are a P, and those of an Up are a V
 abbrev pub DownIsWritten : Type 0
@@ -79,10 +80,10 @@ UpIsWritten = (s : Semaphore) (calls : List CompletedCall) → IsWritten (up_cal
 
 -- the calls of a P on two semaphores: a critical section, and on each of the two the calls of a P
 pub record IsDownBoth (c one other : Semaphore) (lines : ℕ → Bool) (calls : List CompletedCall) : Type 0 where
-  pub guarded : List CompletedCall
+  pub sections : List CompletedCall
   pub wait_one : CompletedCall
   pub wait_other : CompletedCall
-  pub part : IsGuarded c lines guarded
+  pub part : IsCriticalSection c lines sections
   pub are : calls ≡ part.ticket ∷ part.wait ∷ part.first ∷ part.second ∷ part.advance ∷ wait_one ∷ wait_other ∷ []
   pub down_one : IsDown one (part.first ∷ wait_one ∷ [])
   pub down_other : IsDown other (part.second ∷ wait_other ∷ [])

@@ -7,7 +7,7 @@ use Rattle.ec_core.specs.Following.{CompletedCall, block}
 use Rattle.ec_core.specs.CallLists.{reply_number}
 use Rattle.ec_semaphore.specs.declared.pair.Pair.{Pair}
 use Rattle.ec_semaphore.specs.Shapes.{Semaphore}
-use Rattle.ec_semaphore.specs.Both.{sequencer_number, is_line, both_rule}
+use Rattle.ec_semaphore.specs.Both.{sequencer_number, is_semaphore_sequencer, both_rule}
 
 -- the first ticket, and one more, if the act draws one
 abbrev pub pair_after : CompletedCall → Entry → Act → Option Pair
@@ -26,7 +26,7 @@ pairs_in c lines (x ∷ past) = pairs_in c lines past ++ option_to_list (pair_wi
 
 -- the pairs of a history
 abbrev pub pairs_of : Semaphore → List Semaphore → List Entry → List Pair
-pairs_of c shapes h = pairs_in c (is_line c shapes) (reverse h)
+pairs_of c shapes h = pairs_in c (is_semaphore_sequencer c shapes) (reverse h)
 
 -- each ticket of the pair on q is below n
 pub record IsBelow (q n : ℕ) (p : Pair) : Type 0 where

@@ -7,7 +7,7 @@ ghost use Rattle.ec_core.specs.Calls.{is_pending};
 ghost use Rattle.ec_core.specs.Counts.{past_at, is_advance};
 ghost use Rattle.ec_core.specs.Ending.{EndsAt};
 ghost use Rattle.ec_core.specs.Following.{Follow};
-ghost use Rattle.ec_semaphore.specs.Auditing.{IsCounted};
+ghost use Rattle.ec_semaphore.specs.Auditing.{RepresentsBalance};
 ghost use Rattle.ec_semaphore.specs.Balances.{is_await, balance_of, balance_parts};
 ghost use Rattle.ec_semaphore.specs.Uses.{use_rules};
 
@@ -83,7 +83,7 @@ impl BalanceAudit {
     /// Makes the audit before the first entry.
     pub fn new(shape: SemaphoreShape) -> Self
         ensures shape { result.shape ≡ shape }
-        ensures first { IsCounted result [] }
+        ensures first { RepresentsBalance result [] }
     {
         let uses = Uses::new(shape);
         BalanceAudit {
@@ -116,12 +116,12 @@ impl BalanceAudit {
     /// Returns the parts of the balance after the entries so far, if the workers follow the
     /// semaphore. The error is `NotFollowed`, with the first entry that breaks the call lists.
     pub fn finish(&self) -> Result<Balance, AuditFault>
-        ensures ok { (t : Tables) (h : List Entry) → EndsAt t (IsCounted self.now) h → IsOk result ↔ Follow (use_rules self.now.shape) (reverse h) }
-        ensures parts { (t : Tables) (h : List Entry) → EndsAt t (IsCounted self.now) h → IfOk result (λ b. b ≡ balance_parts self.now.shape (reverse h)) }
-        ensures never_negative { (t : Tables) (h : List Entry) → EndsAt t (IsCounted self.now) h → IsOk result → (k : ℕ) → pos 0 ≤ℤ balance_of self.now.shape (past_at k h) }
-        ensures few { (t : Tables) (h : List Entry) → EndsAt t (IsCounted self.now) h → IfOk result (λ b. b.downs ≤ b.initial + b.ups) }
-        ensures small { (t : Tables) (h : List Entry) → EndsAt t (IsCounted self.now) h → IfOk result (λ b. b.initial + b.ups < 2 ^ 64) }
-        ensures err { (t : Tables) (h : List Entry) → EndsAt t (IsCounted self.now) h → IfErr result (IsFirstBreak (use_rules self.now.shape) h) }
+        ensures ok { (t : Tables) (h : List Entry) → EndsAt t (RepresentsBalance self.now) h → IsOk result ↔ Follow (use_rules self.now.shape) (reverse h) }
+        ensures parts { (t : Tables) (h : List Entry) → EndsAt t (RepresentsBalance self.now) h → IfOk result (λ b. b ≡ balance_parts self.now.shape (reverse h)) }
+        ensures never_negative { (t : Tables) (h : List Entry) → EndsAt t (RepresentsBalance self.now) h → IsOk result → (k : ℕ) → pos 0 ≤ℤ balance_of self.now.shape (past_at k h) }
+        ensures few { (t : Tables) (h : List Entry) → EndsAt t (RepresentsBalance self.now) h → IfOk result (λ b. b.downs ≤ b.initial + b.ups) }
+        ensures small { (t : Tables) (h : List Entry) → EndsAt t (RepresentsBalance self.now) h → IfOk result (λ b. b.initial + b.ups < 2 ^ 64) }
+        ensures err { (t : Tables) (h : List Entry) → EndsAt t (RepresentsBalance self.now) h → IfErr result (IsFirstBreak (use_rules self.now.shape) h) }
     {
         if let Err(fault) = self.tracker.finding() {
             return Err(fault);
@@ -137,7 +137,7 @@ impl BalanceAudit {
     /// Returns the parts of the balance after all entries of a run whose workers follow the
     /// semaphore. The error is `NotFollowed`, with the first entry that breaks the call lists.
     pub fn balance(&self, run: &Run) -> Result<Balance, AuditFault>
-        requires { IsCounted self.now (reverse run.now.entries) }
+        requires { RepresentsBalance self.now (reverse run.now.entries) }
         ensures ok { IsOk result ↔ Follow (use_rules self.now.shape) (reverse run.now.entries) }
         ensures parts { IfOk result (λ b. b
             ≡ balance_parts self.now.shape (reverse run.now.entries)) }

@@ -2,7 +2,7 @@
 ghost use Rattle.std.specs.Prelude.{◌≡◌, ◌≤◌, false, List};
 ghost use Rattle.ec_core.specs.declared.act.TheConstants.{VALUE_MAX};
 ghost use Rattle.ec_core.specs.Following.{CompletedCall};
-ghost use Rattle.ec_semaphore.specs.DownPlaces.{ticket_of};
+ghost use Rattle.ec_semaphore.specs.DownPhases.{ticket_of};
 ghost use Rattle.ec_semaphore.specs.Uses.{threshold, down_call};
 
 use crate::SemaphoreShape;
@@ -20,9 +20,9 @@ enum DownPhase {
 #[derive(Clone, Copy, Debug, PartialEq, Eq)]
 pub struct Down {
     shape: SemaphoreShape,
-    place: DownPhase,
+    phase: DownPhase,
     going: bool,
-    ghost small: { ticket_of place ≤ VALUE_MAX },
+    ghost small: { ticket_of phase ≤ VALUE_MAX },
 }
 
 impl Down {
@@ -33,7 +33,7 @@ impl Down {
     {
         Down {
             shape,
-            place: DownPhase::Draw,
+            phase: DownPhase::Draw,
             going: false,
         }
     }
@@ -48,9 +48,9 @@ pub(crate) fn threshold(shape: &SemaphoreShape, ticket: u64) -> u64
 }
 
 impl Procedure for Down {
-    ghost use Rattle.ec_semaphore.specs.DownPlaces.{down_rest};
+    ghost use Rattle.ec_semaphore.specs.DownPhases.{down_rest};
 
-    ghost rest = { λ s calls. down_rest s.shape s.place calls };
+    ghost rest = { λ s calls. down_rest s.shape s.phase calls };
 
     ghost is_going = { λ s. s.going };
 
@@ -58,7 +58,7 @@ impl Procedure for Down {
         if self.going {
             return Some(Act::Go);
         }
-        match self.place {
+        match self.phase {
             DownPhase::Draw => Some(Act::Ticket(self.shape.line())),
             DownPhase::Wait { ticket } => Some(Act::Await(
                 self.shape.count(),
@@ -78,7 +78,7 @@ impl Procedure for Down {
             Reply::Number(number) => number,
         };
         self.going = false;
-        self.place = match self.place {
+        self.phase = match self.phase {
             DownPhase::Draw => DownPhase::Wait { ticket: number },
             DownPhase::Wait { .. } | DownPhase::Over => DownPhase::Over,
         };

@@ -2,7 +2,7 @@
 ghost use Rattle.std.specs.Prelude.{◌≡◌, ◌≢◌, ◌≤◌, false, List, []};
 ghost use Rattle.ec_core.specs.declared.act.TheConstants.{VALUE_MAX};
 ghost use Rattle.ec_core.specs.Following.{CompletedCall};
-ghost use Rattle.ec_semaphore.specs.BothPlaces.{first_ticket, second_of, next_place};
+ghost use Rattle.ec_semaphore.specs.BothPhases.{first_ticket, second_of, next_phase};
 ghost use Rattle.ec_semaphore.specs.Both.{down_both_call};
 
 use crate::SemaphoreShape;
@@ -29,10 +29,10 @@ pub struct DownBoth {
     common: SemaphoreShape,
     one: SemaphoreShape,
     other: SemaphoreShape,
-    place: BothPhase,
+    phase: BothPhase,
     going: bool,
-    ghost small_first: { first_ticket place ≤ VALUE_MAX },
-    ghost small_second: { second_of place ≤ VALUE_MAX },
+    ghost small_first: { first_ticket phase ≤ VALUE_MAX },
+    ghost small_second: { second_of phase ≤ VALUE_MAX },
 }
 
 impl DownBoth {
@@ -48,7 +48,7 @@ impl DownBoth {
             common,
             one,
             other,
-            place: BothPhase::Line,
+            phase: BothPhase::Line,
             going: false,
         }
     }
@@ -57,7 +57,7 @@ impl DownBoth {
     fn due(&self) -> Option<Act>
         ensures { result ≡ ⟦<DownBoth as Procedure>⟧.rest self.now [] }
     {
-        match self.place {
+        match self.phase {
             BothPhase::Line => Some(Act::Ticket(self.common.line())),
             BothPhase::Enter { turn } => Some(Act::Await(self.common.count(), turn)),
             BothPhase::DrawFirst => Some(Act::Ticket(self.one.line())),
@@ -76,10 +76,10 @@ impl DownBoth {
 }
 
 /// Returns the phase after this one if its call returned this number, 0 if it returned none.
-fn next_place(place: BothPhase, number: u64) -> BothPhase
-    ensures { result ≡ next_place place number }
+fn next_phase(phase: BothPhase, number: u64) -> BothPhase
+    ensures { result ≡ next_phase phase number }
 {
-    match place {
+    match phase {
         BothPhase::Line => BothPhase::Enter { turn: number },
         BothPhase::Enter { .. } => BothPhase::DrawFirst,
         BothPhase::DrawFirst => BothPhase::DrawSecond { first: number },
@@ -95,9 +95,9 @@ fn next_place(place: BothPhase, number: u64) -> BothPhase
 }
 
 impl Procedure for DownBoth {
-    ghost use Rattle.ec_semaphore.specs.BothPlaces.{both_rest};
+    ghost use Rattle.ec_semaphore.specs.BothPhases.{both_rest};
 
-    ghost rest = { λ s calls. both_rest s.common s.one s.other s.place calls };
+    ghost rest = { λ s calls. both_rest s.common s.one s.other s.phase calls };
 
     ghost is_going = { λ s. s.going };
 
@@ -119,6 +119,6 @@ impl Procedure for DownBoth {
             Reply::Number(number) => number,
         };
         self.going = false;
-        self.place = next_place(self.place, number);
+        self.phase = next_phase(self.phase, number);
     }
 }

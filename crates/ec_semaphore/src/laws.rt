@@ -2,8 +2,8 @@
 ghost use Rattle.std.specs.Prelude.{◌≡◌};
 ghost use Rattle.ec_semaphore.specs.declared.shape.TheConstants.{INITIAL_MAX};
 ghost use Rattle.ec_semaphore.specs.Auditing.{OthersMayBeLeftOut, GoesMayBeLeftOut, GoesMayBeLeftOutOfPairs};
-ghost use Rattle.ec_semaphore.specs.Joined.{FollowingMeansUses, UsesAreDownsAndUps, FollowingBothMeansGuardedParts, WholePartsAreGuarded, DownIsWritten, UpIsWritten, DownBothIsWritten};
-ghost use Rattle.ec_semaphore.specs.Laws.{SemaphoresStay, DownsCountFinishedWaits, BalancesAreNeverNegative, BothIsFollowedAsASemaphore, PairsAreDrawn, TicketsAgree};
+ghost use Rattle.ec_semaphore.specs.Joined.{FollowingMeansUses, UsesAreDownsAndUps, BothMeansCriticalSections, WholeListsAreCriticalSections, DownIsWritten, UpIsWritten, DownBothIsWritten};
+ghost use Rattle.ec_semaphore.specs.Laws.{SemaphoresStay, DownsCountCompletedAwaits, BalancesAreNeverNegative, BothIsFollowedAsASemaphore, PairsAreDrawn, TicketsAgree};
 
 /// States that a semaphore that fits declarations still fits them if more is declared.
 pub fn declared_semaphores_stay()
@@ -19,9 +19,9 @@ pub fn following_means_uses()
 
 /// States that an accepted history follows `both` exactly if each worker's calls are critical
 /// sections, with calls on other objects between them, and a prefix of one more.
-pub fn following_both_means_guarded_parts()
-    ensures joined { FollowingBothMeansGuardedParts }
-    ensures whole { WholePartsAreGuarded }
+pub fn both_means_critical_sections()
+    ensures joined { BothMeansCriticalSections }
+    ensures whole { WholeListsAreCriticalSections }
 {}
 
 /// States which calls `Down`, `Up` and `DownBoth` have made once they are over: a P, a V, and a
@@ -33,8 +33,8 @@ pub fn procedures_ask_for_whole_lists()
 {}
 
 /// States that the completed P are the entries that end an await of the semaphore's eventcount.
-pub fn downs_count_finished_waits()
-    ensures { DownsCountFinishedWaits }
+pub fn downs_count_completed_awaits()
+    ensures { DownsCountCompletedAwaits }
 {}
 
 /// States that if the workers follow a semaphore, its balance is at least 0 at every moment.

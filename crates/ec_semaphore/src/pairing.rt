@@ -7,15 +7,15 @@ ghost use Rattle.ec_core.specs.Acceptance.{IsAccepted};
 ghost use Rattle.ec_core.specs.Audits.{IsAuditFault};
 ghost use Rattle.ec_core.specs.Ending.{EndsAt};
 ghost use Rattle.ec_core.specs.Following.{CompletedCall, block, Follow};
-ghost use Rattle.ec_semaphore.specs.Auditing.{IsPairing};
-ghost use Rattle.ec_semaphore.specs.Both.{is_line, both_rule, both_rules};
-ghost use Rattle.ec_semaphore.specs.Completing.{IsDrawn, AreDrawn, drawn_after};
+ghost use Rattle.ec_semaphore.specs.Auditing.{RepresentsPairs};
+ghost use Rattle.ec_semaphore.specs.Both.{is_semaphore_sequencer, both_rule, both_rules};
+ghost use Rattle.ec_semaphore.specs.Completing.{IsDrawn, AreLatestTickets, drawn_after};
 ghost use Rattle.ec_semaphore.specs.InOrder.{ArePairs};
 ghost use Rattle.ec_semaphore.specs.Keeping.{list_progress_of_both};
 ghost use Rattle.ec_semaphore.specs.Pairs.{IsEarlier, pair_with, pairs_of};
 ghost use Rattle.ec_semaphore.specs.Shapes.{Semaphore};
 
-use crate::guarded::CriticalSections;
+use crate::critical_sections::CriticalSections;
 use crate::{Pair, SemaphoreShape};
 use ec_core::{Act, Audit, AuditFault, Entry, ListProgress, Run, Tracker, walk};
 use ec_count::SeqId;
@@ -63,8 +63,8 @@ fn note_ticket(kept: &ListProgress, entry: &Entry, latest: &mut [LatestTicket; 1
     ensures { (c : Semaphore) (lines : ℕ → Bool) (t : Tables) (past : List Entry)
         → kept.now ≡ list_progress_of_both (block (both_rule c lines) entry.now.worker past)
         → IsDeclared t
-        → IsAccepted t (entry.now ∷ past) → Follow (both_rules c lines) (entry.now ∷ past) → AreDrawn c lines latest.old past
-        → (result ≡ pair_with (block (both_rule c lines) entry.now.worker past) entry.now) × AreDrawn c lines latest.new (entry.now ∷ past) }
+        → IsAccepted t (entry.now ∷ past) → Follow (both_rules c lines) (entry.now ∷ past) → AreLatestTickets c lines latest.old past
+        → (result ≡ pair_with (block (both_rule c lines) entry.now.worker past) entry.now) × AreLatestTickets c lines latest.new (entry.now ∷ past) }
 {
     let worker = entry.worker.get();
     let pair = complete_pair(kept, latest[worker], entry);
@@ -84,22 +84,22 @@ fn add(pairs: &mut Vec<Pair>, pair: Option<Pair>) -> Result<(), AllocError>
 
 /// Adds a pair, if there is one, unless an allocation has failed before. Returns whether one has
 /// failed.
-fn lacks_after(lacks: bool, pairs: &mut Vec<Pair>, pair: Option<Pair>) -> bool
-    ensures before { result ≡ false → lacks ≡ false }
+fn add_fails(out_of_memory: bool, pairs: &mut Vec<Pair>, pair: Option<Pair>) -> bool
+    ensures before { result ≡ false → out_of_memory ≡ false }
     ensures pairs { result ≡ false → pairs.new.items ≡ pairs.old.items ++ option_to_list pair }
 {
-    lacks || add(pairs, pair).is_err()
+    out_of_memory || add(pairs, pair).is_err()
 }
 
 /// The audit of the critical sections of P on two of these semaphores, in a pass over a run. It
 /// needs the entries of all calls, since within a critical section a worker makes no other call.
 #[derive(Drop)]
 pub struct PairAudit<'a> {
-    guarded: CriticalSections<'a>,
+    sections: CriticalSections<'a>,
     tracker: Tracker,
     latest: [LatestTicket; 16],
     pairs: Vec<Pair>,
-    lacks: bool,
+    out_of_memory: bool,
 }
 
 impl<'a> Model for PairAudit<'a> {
@@ -107,7 +107,7 @@ impl<'a> Model for PairAudit<'a> {
 
     ghost Value = { PairAuditModel };
 
-    ghost view = { λ s. record { common = s.guarded.common; shapes = s.guarded.shapes.now; tracked = s.tracker; latest = s.latest; pairs = s.pairs.items; lacks = s.lacks } };
+    ghost view = { λ s. record { common = s.sections.common; shapes = s.sections.shapes.now; tracked = s.tracker; latest = s.latest; pairs = s.pairs.items; out_of_memory = s.out_of_memory } };
 }
 
 impl<'a> Audit for PairAudit<'a> {
@@ -119,8 +119,8 @@ impl<'a> Audit for PairAudit<'a> {
     fn take(&mut self, place: usize, op: &Act, entry: &Entry) {
         let kept = self.tracker.list_progress(entry.worker);
         let pair = note_ticket(&kept, entry, &mut self.latest);
-        self.lacks = lacks_after(self.lacks, &mut self.pairs, pair);
-        self.tracker.take(&self.guarded, place, op, entry);
+        self.out_of_memory = add_fails(self.out_of_memory, &mut self.pairs, pair);
+        self.tracker.take(&self.sections, place, op, entry);
     }
 }
 
@@ -129,37 +129,37 @@ impl<'a> PairAudit<'a> {
     pub fn new(alloc: Global, common: SemaphoreShape, shapes: &'a [SemaphoreShape]) -> Self
         ensures common { result.common ≡ common }
         ensures shapes { result.shapes ≡ shapes.now }
-        ensures first { IsPairing result [] }
+        ensures first { RepresentsPairs result [] }
     {
-        let guarded = CriticalSections::new(common, shapes);
-        let tracker = Tracker::new(&guarded);
+        let sections = CriticalSections::new(common, shapes);
+        let tracker = Tracker::new(&sections);
         let none = LatestTicket {
             line: SeqId::new(0).unwrap(),
             number: 0,
         };
         let pairs = Vec::new(alloc);
         PairAudit {
-            guarded,
+            sections,
             tracker,
             latest: [none; 16],
             pairs,
-            lacks: false,
+            out_of_memory: false,
         }
     }
 
     /// Returns the pairs after the entries so far, if the workers follow the critical sections. If
     /// they don't, the error has the first entry that breaks the call lists.
     pub fn finish(self) -> Result<Vec<Pair>, AuditFault>
-        ensures followed { (t : Tables) (h : List Entry) → EndsAt t (IsPairing self.entry) h → IsOk result → Follow (both_rules self.entry.common (is_line self.entry.common self.entry.shapes)) (reverse h) }
-        ensures pairs { (t : Tables) (h : List Entry) → EndsAt t (IsPairing self.entry) h → IfOk result (λ ps. ps.items ≡ pairs_of self.entry.common self.entry.shapes h) }
-        ensures drawn { (t : Tables) (h : List Entry) → EndsAt t (IsPairing self.entry) h → IfOk result (λ ps. ArePairs self.entry.common (is_line self.entry.common self.entry.shapes) h ps.items) }
-        ensures ordered { (t : Tables) (h : List Entry) → EndsAt t (IsPairing self.entry) h → IfOk result (λ ps. AllPairs IsEarlier ps.items) }
-        ensures err { (t : Tables) (h : List Entry) → EndsAt t (IsPairing self.entry) h → IfErr result (IsAuditFault (both_rules self.entry.common (is_line self.entry.common self.entry.shapes)) h) }
+        ensures followed { (t : Tables) (h : List Entry) → EndsAt t (RepresentsPairs self.entry) h → IsOk result → Follow (both_rules self.entry.common (is_semaphore_sequencer self.entry.common self.entry.shapes)) (reverse h) }
+        ensures pairs { (t : Tables) (h : List Entry) → EndsAt t (RepresentsPairs self.entry) h → IfOk result (λ ps. ps.items ≡ pairs_of self.entry.common self.entry.shapes h) }
+        ensures drawn { (t : Tables) (h : List Entry) → EndsAt t (RepresentsPairs self.entry) h → IfOk result (λ ps. ArePairs self.entry.common (is_semaphore_sequencer self.entry.common self.entry.shapes) h ps.items) }
+        ensures ordered { (t : Tables) (h : List Entry) → EndsAt t (RepresentsPairs self.entry) h → IfOk result (λ ps. AllPairs IsEarlier ps.items) }
+        ensures err { (t : Tables) (h : List Entry) → EndsAt t (RepresentsPairs self.entry) h → IfErr result (IsAuditFault (both_rules self.entry.common (is_semaphore_sequencer self.entry.common self.entry.shapes)) h) }
     {
         if let Err(fault) = self.tracker.finding() {
             return Err(fault);
         }
-        if self.lacks {
+        if self.out_of_memory {
             return Err(AuditFault::Memory);
         }
         Ok(self.pairs)
@@ -168,12 +168,12 @@ impl<'a> PairAudit<'a> {
     /// Returns the pairs after all entries of a run whose workers follow the critical sections. If
     /// they don't, the error has the first entry that breaks the call lists.
     pub fn pairs(self, run: &Run) -> Result<Vec<Pair>, AuditFault>
-        requires { IsPairing self (reverse run.now.entries) }
-        ensures followed { IsOk result → Follow (both_rules self.entry.common (is_line self.entry.common self.entry.shapes)) (reverse run.now.entries) }
+        requires { RepresentsPairs self (reverse run.now.entries) }
+        ensures followed { IsOk result → Follow (both_rules self.entry.common (is_semaphore_sequencer self.entry.common self.entry.shapes)) (reverse run.now.entries) }
         ensures pairs { IfOk result (λ ps. ps.items ≡ pairs_of self.entry.common self.entry.shapes run.now.entries) }
-        ensures drawn { IfOk result (λ ps. ArePairs self.entry.common (is_line self.entry.common self.entry.shapes) run.now.entries ps.items) }
+        ensures drawn { IfOk result (λ ps. ArePairs self.entry.common (is_semaphore_sequencer self.entry.common self.entry.shapes) run.now.entries ps.items) }
         ensures ordered { IfOk result (λ ps. AllPairs IsEarlier ps.items) }
-        ensures err { IfErr result (IsAuditFault (both_rules self.entry.common (is_line self.entry.common self.entry.shapes)) run.now.entries) }
+        ensures err { IfErr result (IsAuditFault (both_rules self.entry.common (is_semaphore_sequencer self.entry.common self.entry.shapes)) run.now.entries) }
     {
         run.invariant();
         self.finish()
@@ -195,11 +195,11 @@ pub fn pairs(
     common: &SemaphoreShape,
     shapes: &[SemaphoreShape],
 ) -> Result<Vec<Pair>, AuditFault>
-    ensures followed { IsOk result → Follow (both_rules common.now (is_line common.now shapes.now)) (reverse run.now.entries) }
+    ensures followed { IsOk result → Follow (both_rules common.now (is_semaphore_sequencer common.now shapes.now)) (reverse run.now.entries) }
     ensures pairs { IfOk result (λ ps. ps.items ≡ pairs_of common.now shapes.now run.now.entries) }
-    ensures drawn { IfOk result (λ ps. ArePairs common.now (is_line common.now shapes.now) run.now.entries ps.items) }
+    ensures drawn { IfOk result (λ ps. ArePairs common.now (is_semaphore_sequencer common.now shapes.now) run.now.entries ps.items) }
     ensures ordered { IfOk result (λ ps. AllPairs IsEarlier ps.items) }
-    ensures err { IfErr result (IsAuditFault (both_rules common.now (is_line common.now shapes.now)) run.now.entries) }
+    ensures err { IfErr result (IsAuditFault (both_rules common.now (is_semaphore_sequencer common.now shapes.now)) run.now.entries) }
 {
     let mut audit = PairAudit::new(alloc, *common, shapes);
     walk(run, &mut audit);

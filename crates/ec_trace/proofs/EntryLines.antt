@@ -31,7 +31,7 @@ use Rattle.ec_trace.specs.Stages.{Running, Ended}
 use Rattle.ec_trace.specs.Entries.{◌>>=◌, act_alone, act_on, act_with, parse_reply, entry_by, entry_in, entry_of}
 use Rattle.ec_trace.specs.EntryLines.{MayBeWritten, SpellsEntry, SpellsNoEntry, SpellsInVersion, SpellsNoneInVersion, IsEntryFault, EntriesAreSpelled, OtherLinesSpellNone, FaultsOfEntries}
 use Rattle.ec_trace.specs.TraceModel.{TraceModel}
-use Rattle.ec_trace.specs.Step.{step, entry_step, after_entry, after_answer, ran_on, same_reply}
+use Rattle.ec_trace.specs.Step.{step, entry_step, after_entry, after_answer, map_running, same_reply}
 use Rattle.ec_trace.proofs.LinesToTrees.{lines_lead}
 use Rattle.ec_trace.proofs.ReadCells.{IsCell, cell_is}
 use Rattle.ec_trace.proofs.ReadEntries.{IsSpellable, event_found, sequencer_found, worker_found, entry_again, entry_spelled}
@@ -227,20 +227,20 @@ entered_fault t line (Some e) fault s other read is =
       | false ↦ λ q g. subst (IsEntryFault t line) (same_fault Bad fault (after_entry t None) refl g) (not_the_end line other, no_other t.heading line e s read q)
     ] refl is
 
-ran_fault : (r : Result TraceModel LineFault) (fault : LineFault) → ran_on r ≡ Err fault → r ≡ Err fault
+ran_fault : (r : Result TraceModel LineFault) (fault : LineFault) → map_running r ≡ Err fault → r ≡ Err fault
 ran_fault (Ok t) fault is = cc
-ran_fault (Err f) fault is = ap Err (same_fault f fault (ran_on (Err f)) refl is)
+ran_fault (Err f) fault is = ap Err (same_fault f fault (map_running (Err f)) refl is)
 
 fault_told : (t : TraceModel) (line : List ℕ) (fault : LineFault) → IsSound t.heading → step (Running t) line ≡ Err fault → IsEntryFault t line fault
 unfolding step entry_step
 fault_told t line fault s is =
-    elim (bytes_eq line (codes "end")) as (λ b. bytes_eq line (codes "end") ≡ b → cond b (Ok (Ended t)) (ran_on (entry_step t line)) ≡ Err fault → IsEntryFault t line fault) [
+    elim (bytes_eq line (codes "end")) as (λ b. bytes_eq line (codes "end") ≡ b → cond b (Ok (Ended t)) (map_running (entry_step t line)) ≡ Err fault → IsEntryFault t line fault) [
       | true ↦ λ q g. cc
       | false ↦ λ q g. entered_fault t line (entry_of t.heading.words line) fault s q refl (ran_fault (entry_step t line) fault g)
     ] refl is
 
 -- the step at an entry that was read and that the version allows
-at_entry : (t : TraceModel) (line : List ℕ) (e : Entry) → IsSound t.heading → SpellsInVersion t.heading line e → step (Running t) line ≡ ran_on (after_answer t e (answer_of t.heading.setup (reverse t.entries) e.worker e.act))
+at_entry : (t : TraceModel) (line : List ℕ) (e : Entry) → IsSound t.heading → SpellsInVersion t.heading line e → step (Running t) line ≡ map_running (after_answer t e (answer_of t.heading.setup (reverse t.entries) e.worker e.act))
 unfolding step entry_step
 at_entry t line e s spells =
     let read : entry_of t.heading.words line ≡ Some e = spelled_reads t.heading line e s spells.0 in
@@ -260,10 +260,10 @@ fault_is : (t : TraceModel) (line : List ℕ) (fault : LineFault) → IsSound t.
 unfolding step entry_step
 fault_is t line Bad s (other, none) =
     let off : bytes_eq line (codes "end") ≡ false = false_from_ne_true _ (λ same. other ((bytes_eq-Decides line (codes "end")).0 same)) in
-    rw off (ap ran_on (bad_entry t line (entry_of t.heading.words line) s none refl))
-fault_is t line (Refused r) s (e, spells, answer) = at_entry t line e s spells ∙ ap (λ a. ran_on (after_answer t e a)) answer
+    rw off (ap map_running (bad_entry t line (entry_of t.heading.words line) s none refl))
+fault_is t line (Refused r) s (e, spells, answer) = at_entry t line e s spells ∙ ap (λ a. map_running (after_answer t e a)) answer
 fault_is t line (WrongReply right) s (e, spells, answer, other) =
-    at_entry t line e s spells ∙ ap (λ a. ran_on (after_answer t e a)) answer ∙ rw (off_reply right e.reply other) refl
+    at_entry t line e s spells ∙ ap (λ a. map_running (after_answer t e a)) answer ∙ rw (off_reply right e.reply other) refl
 
 pub faults_of_entries : FaultsOfEntries
 faults_of_entries before t line fault leads =

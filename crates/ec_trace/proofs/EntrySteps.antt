@@ -13,11 +13,11 @@ use Rattle.ec_heading.specs.Versions.{can_spell}
 use Rattle.ec_heading.specs.HeadingModel.{HeadingModel}
 use Rattle.ec_trace.specs.Entries.{entry_of}
 use Rattle.ec_trace.specs.EntrySinks.{history_of}
-use Rattle.ec_trace.specs.Outcome.{outcome, fault_at, Returns}
+use Rattle.ec_trace.specs.Outcome.{parse_result, fault_at, Returns}
 use Rattle.ec_trace.specs.Reading.{LinesModel, Reaches, HasLine, TakesEntry, Recounts}
 use Rattle.ec_trace.specs.TraceModel.{TraceModel}
 use Rattle.ec_trace.specs.Stages.{Running, Ended}
-use Rattle.ec_trace.specs.Step.{step, entry_step, after_entry, after_answer, same_reply, ran_on, IsAnswered}
+use Rattle.ec_trace.specs.Step.{step, entry_step, after_entry, after_answer, same_reply, map_running, IsAnswered}
 use Rattle.ec_trace.specs.declared.fault.LineFault.{LineFault}
 use Rattle.ec_trace.specs.declared.fault.StageFault.{StageFault}
 use Rattle.ec_trace.specs.declared.fault.StageFault.TheVariants as stage_faults
@@ -68,18 +68,18 @@ module _ (xs : List ℕ) (left : Option (List ℕ)) (r : LinesModel) (h : Headin
 
   pub entry_line_taken : (next : List Entry) → HasLine xs left r r.line (Running returned) → bytes_eq r.line (codes "end") ≡ false → entry_step returned r.line ≡ Ok (record { heading = h; entries = next }) → Reaches xs left r (Running (record { heading = h; entries = next }))
   unfolding step
-  entry_line_taken next b other e = line_taken xs left r r.line (Running returned) (Running (record { heading = h; entries = next })) b (cond-false _ _ _ other ∙ ap ran_on e)
+  entry_line_taken next b other e = line_taken xs left r r.line (Running returned) (Running (record { heading = h; entries = next })) b (cond-false _ _ _ other ∙ ap map_running e)
 
   pub entry_line_refused : (after : List Entry → Type 0) (fault : StageFault) → HasLine xs left r r.line (Running returned) → bytes_eq r.line (codes "end") ≡ false → r.taken ≤ TRACE_MAX → TakesEntry h after (entry_step returned r.line) (Err fault) → Returns TRACE_MAX xs left (Err (fault_at r.number fault))
   unfolding step
   entry_line_refused after stage_faults.Memory b other small e = tt
-  entry_line_refused after (stage_faults.Line f) b other small e = line_refused xs left r r.line (Running returned) f b (cond-false _ _ _ other ∙ ap ran_on e) small
+  entry_line_refused after (stage_faults.Line f) b other small e = line_refused xs left r r.line (Running returned) f b (cond-false _ _ _ other ∙ ap map_running e) small
 
   pub end_line_taken : HasLine xs left r r.line (Running returned) → bytes_eq r.line (codes "end") ≡ true → Reaches xs left r (Ended returned)
   unfolding step
   end_line_taken b is = line_taken xs left r r.line (Running returned) (Ended returned) b (cond-true _ _ _ is)
 
 -- the end of the text, after the last line
-pub recounts : (xs : List ℕ) (left : Option (List ℕ)) (h : HeadingModel) (entries : List Entry) (after : RunModel → Type 0) (r : Result (Unit {0}) TraceFault) → MatchResult r (λ _. outcome TRACE_MAX xs ≡ Ok (record { heading = h; entries = entries })) (λ f. Returns TRACE_MAX xs left (Err f)) → after (history_of h entries) → Recounts xs left h after r
+pub recounts : (xs : List ℕ) (left : Option (List ℕ)) (h : HeadingModel) (entries : List Entry) (after : RunModel → Type 0) (r : Result (Unit {0}) TraceFault) → MatchResult r (λ _. parse_result TRACE_MAX xs ≡ Ok (record { heading = h; entries = entries })) (λ f. Returns TRACE_MAX xs left (Err f)) → after (history_of h entries) → Recounts xs left h after r
 recounts xs left h entries after (Ok x) e represents = (entries, e, represents)
 recounts xs left h entries after (Err f) e represents = e

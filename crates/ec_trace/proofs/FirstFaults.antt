@@ -12,7 +12,7 @@ use Rattle.ec_trace.specs.Stages.{Stage, Opening, Limiting, Declaring, Running, 
 use Rattle.ec_trace.specs.declared.read.TheConstants.{TRACE_MAX}
 use Rattle.ec_heading.specs.Spelling.{lines_text, ended_line}
 use Rattle.ec_trace.specs.Step.{step, is_ended}
-use Rattle.ec_trace.specs.Outcome.{ReadState, lines_of_text, goes, goes_from, after_line, is_bad_rest, fault_of_line, start, outcome, trace_or_fault, ended_at, traced_in}
+use Rattle.ec_trace.specs.Outcome.{ReadState, lines_of_text, parse_from, goes_from, after_line, is_bad_rest, fault_of_line, start, parse_result, trace_or_fault, ended_at, traced_in}
 use Rattle.ec_trace.specs.FirstFault.{IsLine, Leads, IsTooLong, IsBehindTheEnd, IsRefusedThere, IsFirstFault, LineFaultIsTheFirst, FaultOfTheWhole}
 
 -- FAULTS WITH NUMBERS
@@ -89,8 +89,8 @@ rest_why s line f bad is = elim (or_cases (ltb 8192 (length line)) (is_ended s &
 ]
 
 step_faulty : (n m : ℕ) (s : Stage) (line next : List ℕ) (others : List (List ℕ)) (f : LineFault) → All (λ b. b ≢ 10) line → length line ≤ 8192
-    → (r : Result Stage LineFault) → step s line ≡ r → after_line n r (λ t. goes (n + 1) t (next ∷ others)) ≡ Err (fault_of_line m f)
-    → ((t : Stage) → goes (n + 1) t (next ∷ others) ≡ Err (fault_of_line m f) → FaultyAt t (next ∷ others) (n + 1) m f)
+    → (r : Result Stage LineFault) → step s line ≡ r → after_line n r (λ t. parse_from (n + 1) t (next ∷ others)) ≡ Err (fault_of_line m f)
+    → ((t : Stage) → parse_from (n + 1) t (next ∷ others) ≡ Err (fault_of_line m f) → FaultyAt t (next ∷ others) (n + 1) m f)
     → FaultyAt s (line ∷ next ∷ others) n m f
 step_faulty n m s line next others f clean short (Err h) is g later =
     let k = numbered_is n m h f (same_fault (fault_of_line n h) (fault_of_line m f) g) in
@@ -98,14 +98,14 @@ step_faulty n m s line next others f clean short (Err h) is g later =
 step_faulty n m s line next others f clean short (Ok t) is g later =
     along s t line (next ∷ others) n m f (record { no_lf = clean; short = short }) is (later t g)
 
-faulty : (n : ℕ) (s : Stage) (parts : List (List ℕ)) (m : ℕ) (f : LineFault) → AllByRecursion (λ part. All (λ c. c ≢ 10) part) parts → goes n s parts ≡ Err (fault_of_line m f) → FaultyAt s parts n m f
-unfolding goes
+faulty : (n : ℕ) (s : Stage) (parts : List (List ℕ)) (m : ℕ) (f : LineFault) → AllByRecursion (λ part. All (λ c. c ≢ 10) part) parts → parse_from n s parts ≡ Err (fault_of_line m f) → FaultyAt s parts n m f
+unfolding parse_from
 faulty n s [] m f clean e = cc
 faulty n s (line ∷ []) m f clean e =
     let r = rest_faulty (is_bad_rest s line) n m f (record { stage = s; number = n; part = line }) e in
     here s line [] n m f clean.0 r.1 (rest_why s line f r.0 r.2)
 faulty n s (line ∷ next ∷ others) m f clean e =
-    elim (ltb 8192 (length line)) as (λ b. ltb 8192 (length line) ≡ b → cond b (Err (fault_of_line n Bad)) (after_line n (step s line) (λ t. goes (n + 1) t (next ∷ others))) ≡ Err (fault_of_line m f) → FaultyAt s (line ∷ next ∷ others) n m f) [
+    elim (ltb 8192 (length line)) as (λ b. ltb 8192 (length line) ≡ b → cond b (Err (fault_of_line n Bad)) (after_line n (step s line) (λ t. parse_from (n + 1) t (next ∷ others))) ≡ Err (fault_of_line m f) → FaultyAt s (line ∷ next ∷ others) n m f) [
       | true ↦ λ q g. (let r = bad_here m n f g in here s line (next ∷ others) n m f clean.0 r.0 (inl (ltb-true _ _ q, sym r.1)))
       | false ↦ λ q g. step_faulty n m s line next others f clean.0 (ltb-false _ _ q) (step s line) refl g (λ t h. faulty (n + 1) t (next ∷ others) m f clean.1 h)
     ] refl e
@@ -185,7 +185,7 @@ bounded_fault max bytes (Ok p) n f e = elim (whole_fault (ltb max (length bytes)
 ]
 
 pub line_fault_is_the_first : LineFaultIsTheFirst
-unfolding outcome
+unfolding parse_result
 line_fault_is_the_first bytes n f e = text_faulty (take TRACE_MAX bytes) n f (bounded_fault TRACE_MAX bytes (goes_from start (take TRACE_MAX bytes)) n f e)
 
 -- every fault of a line has a number
@@ -200,12 +200,12 @@ step_numbered true n g r others later e = (n, Bad, sym (same_fault (faults.BadLi
 step_numbered false n g (Err f) others later e = (n, f, sym (same_fault (fault_of_line n f) g e))
 step_numbered false n g (Ok t) others later e = later t e
 
-always_numbered : (n : ℕ) (s : Stage) (parts : List (List ℕ)) (g : TraceFault) → goes n s parts ≡ Err g → (m : ℕ) × (f : LineFault) × (g ≡ fault_of_line m f)
-unfolding goes
+always_numbered : (n : ℕ) (s : Stage) (parts : List (List ℕ)) (g : TraceFault) → parse_from n s parts ≡ Err g → (m : ℕ) × (f : LineFault) × (g ≡ fault_of_line m f)
+unfolding parse_from
 always_numbered n s [] g e = cc
 always_numbered n s (line ∷ []) g e = rest_numbered (is_bad_rest s line) n g (record { stage = s; number = n; part = line }) e
 always_numbered n s (line ∷ next ∷ others) g e =
-    step_numbered (ltb 8192 (length line)) n g (step s line) (λ t. goes (n + 1) t (next ∷ others)) (λ t h. always_numbered (n + 1) t (next ∷ others) g h) e
+    step_numbered (ltb 8192 (length line)) n g (step s line) (λ t. parse_from (n + 1) t (next ∷ others)) (λ t h. always_numbered (n + 1) t (next ∷ others) g h) e
 
 not_numbered : (g h : TraceFault) → h ≡ faults.TooLarge ⊎ (h ≡ faults.Unfinished) → g ≡ h → (m : ℕ) × (f : LineFault) × (g ≡ fault_of_line m f) → ⊥
 not_numbered g h is same k = no_number k.0 k.1 h is (sym same ∙ k.2)
@@ -225,7 +225,7 @@ unfinished_fault max bytes (Ok p) all e = elim (whole_fault (ltb max (length byt
 ]
 
 pub fault_of_the_whole : FaultOfTheWhole
-unfolding outcome
+unfolding parse_result
 fault_of_the_whole bytes =
     let r : Result ReadState TraceFault = goes_from start (take TRACE_MAX bytes) in
     let all : (g : TraceFault) → r ≡ Err g → (m : ℕ) × (f : LineFault) × (g ≡ fault_of_line m f) = λ g e. always_numbered start.number start.stage (lines_of_text (start.part ++ take TRACE_MAX bytes)) g e in

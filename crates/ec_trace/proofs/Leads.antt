@@ -12,7 +12,7 @@ use Rattle.ec_trace.specs.FirstFault.{IsLine, Leads}
 use Rattle.ec_trace.specs.TraceModel.{TraceModel}
 use Rattle.ec_heading.specs.Spelling.{lines_text, ended_line}
 use Rattle.ec_trace.specs.Step.{step, is_ended}
-use Rattle.ec_trace.specs.Outcome.{ReadState, lines_of_text, goes, goes_from, after_line, is_bad_rest, start, outcome, trace_or_fault, ended_at, traced_in}
+use Rattle.ec_trace.specs.Outcome.{ReadState, lines_of_text, parse_from, goes_from, after_line, is_bad_rest, start, parse_result, trace_or_fault, ended_at, traced_in}
 use Rattle.ec_trace.proofs.Goes.{goes_line, goes_ended, HasFirst, has_first}
 use Rattle.ec_heading.proofs.shared.Declarable.{none_listed as no_rest}
 
@@ -21,21 +21,21 @@ leads_append s t u [] ys a b = subst (λ (k : Stage). Leads k ys u) (sym a) b
 leads_append s t u (x ∷ xs) ys a b = (a.0, a.1, leads_append a.0 t u xs ys a.2 b)
 
 -- lines that lead to t are read, whatever follows
-pub goes_lines : (n : ℕ) (s t : Stage) (lines : List (List ℕ)) (more : List ℕ) → AllByRecursion IsLine lines → Leads s lines t → goes n s (lines_of_text (lines_text lines ++ more)) ≡ goes (n + length lines) t (lines_of_text more)
-goes_lines n s t [] more each leads = ap (λ (k : ℕ). goes k s (lines_of_text more)) (omega arith) ∙ ap (λ (k : Stage). goes (n + 0) k (lines_of_text more)) leads
+pub goes_lines : (n : ℕ) (s t : Stage) (lines : List (List ℕ)) (more : List ℕ) → AllByRecursion IsLine lines → Leads s lines t → parse_from n s (lines_of_text (lines_text lines ++ more)) ≡ parse_from (n + length lines) t (lines_of_text more)
+goes_lines n s t [] more each leads = ap (λ (k : ℕ). parse_from k s (lines_of_text more)) (omega arith) ∙ ap (λ (k : Stage). parse_from (n + 0) k (lines_of_text more)) leads
 goes_lines n s t (line ∷ lines) more each leads =
     let grouped : (ended_line line ++ lines_text lines) ++ more ≡ line ++ 10 ∷ (lines_text lines ++ more) =
     append_assoc (ended_line line) (lines_text lines) more ∙ append_assoc line (10 ∷ []) (lines_text lines ++ more) in
     let short : ltb 8192 (length line) ≡ false = le-ltb _ _ each.0.short in
-    let now : goes n s (lines_of_text ((ended_line line ++ lines_text lines) ++ more)) ≡ cond (ltb 8192 (length line)) (Err (BadLine n)) (after_line n (step s line) (λ k. goes (n + 1) k (lines_of_text (lines_text lines ++ more)))) =
-    ap (λ (bytes : List ℕ). goes n s (lines_of_text bytes)) grouped ∙ goes_line n s line (lines_text lines ++ more) each.0.no_lf in
-    let next : goes (n + 1) leads.0 (lines_of_text (lines_text lines ++ more)) ≡ goes (n + (1 + length lines)) t (lines_of_text more) =
-    goes_lines (n + 1) leads.0 t lines more each.1 leads.2 ∙ ap (λ (k : ℕ). goes k t (lines_of_text more)) (omega arith) in
+    let now : parse_from n s (lines_of_text ((ended_line line ++ lines_text lines) ++ more)) ≡ cond (ltb 8192 (length line)) (Err (BadLine n)) (after_line n (step s line) (λ k. parse_from (n + 1) k (lines_of_text (lines_text lines ++ more)))) =
+    ap (λ (bytes : List ℕ). parse_from n s (lines_of_text bytes)) grouped ∙ goes_line n s line (lines_text lines ++ more) each.0.no_lf in
+    let next : parse_from (n + 1) leads.0 (lines_of_text (lines_text lines ++ more)) ≡ parse_from (n + (1 + length lines)) t (lines_of_text more) =
+    goes_lines (n + 1) leads.0 t lines more each.1 leads.2 ∙ ap (λ (k : ℕ). parse_from k t (lines_of_text more)) (omega arith) in
     let count : 1 + length lines ≡ length (line ∷ lines) = omega arith in
-    now ∙ rw (short, leads.1) next ∙ ap (λ (k : ℕ). goes (n + k) t (lines_of_text more)) count
+    now ∙ rw (short, leads.1) next ∙ ap (λ (k : ℕ). parse_from (n + k) t (lines_of_text more)) count
 
-goes_nothing : (n : ℕ) (s : Stage) → goes n s (lines_of_text []) ≡ Ok (record { stage = s; number = n; part = [] })
-unfolding goes
+goes_nothing : (n : ℕ) (s : Stage) → parse_from n s (lines_of_text []) ≡ Ok (record { stage = s; number = n; part = [] })
+unfolding parse_from
 goes_nothing n s = let e : (is_ended s && false) ≡ false = and_right (is_ended s) false refl in rw e refl
 
 -- the bytes are the text of these lines, the last of which ends it
@@ -47,13 +47,13 @@ pub record IsText (bytes : List ℕ) (lines : List (List ℕ)) (t : TraceModel) 
 reads_back : (bytes : List ℕ) (lines : List (List ℕ)) (t : TraceModel) → IsText bytes lines t → goes_from start bytes ≡ Ok (record { stage = Ended t; number = 1 + length lines; part = [] })
 unfolding start
 reads_back bytes lines t h =
-    ap (λ (b : List ℕ). goes 1 Opening (lines_of_text b)) (h.spelled
+    ap (λ (b : List ℕ). parse_from 1 Opening (lines_of_text b)) (h.spelled
     ∙ sym (append-nil (lines_text lines)))
     ∙ goes_lines 1 Opening (Ended t) lines [] h.each h.leads ∙ goes_nothing (1 + length lines) (Ended t)
 
 -- a text within the bound is read as what its lines lead to
-pub text_read : (max : ℕ) (bytes : List ℕ) (lines : List (List ℕ)) (t : TraceModel) → length bytes ≤ max → IsText bytes lines t → outcome max bytes ≡ Ok t
-unfolding outcome
+pub text_read : (max : ℕ) (bytes : List ℕ) (lines : List (List ℕ)) (t : TraceModel) → length bytes ≤ max → IsText bytes lines t → parse_result max bytes ≡ Ok t
+unfolding parse_result
 text_read max bytes lines t within h =
     let whole : take max bytes ≡ bytes = take_all max bytes within in
     let large : ltb max (length bytes) ≡ false = le-ltb _ _ within in
@@ -76,8 +76,9 @@ no_front a [] lines lines' t t' h k = refl
 no_front a (b ∷ x) lines lines' t t' h k =
     let whole = reads_back (a ++ b ∷ x) lines' t' k in
     let ended : is_ended (Ended t) ≡ true = ended_is t in
-    let fault : goes 1 Opening (lines_of_text (a ++ b ∷ x)) ≡ Err (BadLine (1 + length lines)) =
-    ap (λ (c : List ℕ). goes 1 Opening (lines_of_text (c ++ b ∷ x))) h.spelled
+    let fault : parse_from 1 Opening (lines_of_text (a ++ b ∷ x))
+    ≡ Err (BadLine (1 + length lines)) =
+    ap (λ (c : List ℕ). parse_from 1 Opening (lines_of_text (c ++ b ∷ x))) h.spelled
     ∙ goes_lines 1 Opening (Ended t) lines (b ∷ x) h.each h.leads
     ∙ goes_ended (1 + length lines) (Ended t) b x ended in
     absurd (apart _ _ (sym whole ∙ fault))
@@ -104,16 +105,16 @@ record Reads (s : Stage) (parts : List (List ℕ)) (p : ReadState) : Type 0 wher
   parts_are : parts ≡ lines ++ p.part ∷ []
   leads : Leads s lines p.stage
 
-reads : (n : ℕ) (s : Stage) (parts : List (List ℕ)) (p : ReadState) → goes n s parts ≡ Ok p → (parts ≡ [] → ⊥) → Reads s parts p
-unfolding goes
+reads : (n : ℕ) (s : Stage) (parts : List (List ℕ)) (p : ReadState) → parse_from n s parts ≡ Ok p → (parts ≡ [] → ⊥) → Reads s parts p
+unfolding parse_from
 reads n s [] p e some = absurd (some refl)
 reads n s (line ∷ []) p e some =
     let r = not_fault (is_bad_rest s line) (BadLine n) (Ok (record { stage = s; number = n; part = line })) p e in
     let is : record { stage = s; number = n; part = line } ≡ p = cc in
     record { lines = []; parts_are = ap (λ (q : ReadState). q.part ∷ []) is; leads = ap (λ (q : ReadState). q.stage) is }
 reads n s (line ∷ next ∷ others) p e some =
-    let r = not_fault (ltb 8192 (length line)) (BadLine n) (after_line n (step s line) (λ t. goes (n + 1) t (next ∷ others))) p e in
-    let t = was_taken n (step s line) (λ t. goes (n + 1) t (next ∷ others)) p r.1 in
+    let r = not_fault (ltb 8192 (length line)) (BadLine n) (after_line n (step s line) (λ t. parse_from (n + 1) t (next ∷ others))) p e in
+    let t = was_taken n (step s line) (λ t. parse_from (n + 1) t (next ∷ others)) p r.1 in
     let rest = reads (n + 1) t.0 (next ∷ others) p t.2 (λ none. (cc)) in record {
       lines = line ∷ rest.lines;
       parts_are = ap (λ (q : List (List ℕ)). line ∷ q) rest.parts_are;
@@ -164,8 +165,8 @@ bounded_back max bytes (Ok p) t e = (let k = not_fault (ltb max (length bytes)) 
 bounded_back max bytes (Err f) t e = cc
 
 -- what is read is the text of lines
-pub text_back : (max : ℕ) (bytes : List ℕ) (t : TraceModel) → outcome max bytes ≡ Ok t → IsRead bytes t × (length bytes ≤ max)
-unfolding outcome
+pub text_back : (max : ℕ) (bytes : List ℕ) (t : TraceModel) → parse_result max bytes ≡ Ok t → IsRead bytes t × (length bytes ≤ max)
+unfolding parse_result
 text_back max bytes t e =
     let b = bounded_back max bytes (goes_from start (take max bytes)) t e in
     let whole : take max bytes ≡ bytes = take_all max bytes b.2 in

@@ -16,7 +16,7 @@ use Rattle.ec_trace.specs.Entries.{entry_of}
 use Rattle.ec_trace.specs.EntryLines.{LinesLeadToOutlines}
 use Rattle.ec_trace.specs.FirstFault.{Leads}
 use Rattle.ec_trace.specs.TraceModel.{TraceModel}
-use Rattle.ec_trace.specs.Step.{step, limit_of, after_declaration, entry_step, ran_on}
+use Rattle.ec_trace.specs.Step.{step, limit_of, after_declaration, entry_step, map_running}
 use Rattle.ec_trace.proofs.ReadRuns.{ran_back, entered_back, answered_back}
 use Rattle.ec_trace.proofs.shared.ReadTraces.{limit_back, limited_back, declared_back, first_back}
 
@@ -63,7 +63,7 @@ step_heads (Declaring h) t line heads is =
           subst StageHeads (sym d.2) (inr (line_outlined h d.0 line heads d.1)))
     ] refl is
 step_heads (Running u) t line heads is =
-    elim (bytes_eq line (codes "end")) as (λ b. cond b (Ok (Ended u)) (ran_on (entry_step u line)) ≡ Ok t → StageHeads t) [
+    elim (bytes_eq line (codes "end")) as (λ b. cond b (Ok (Ended u)) (map_running (entry_step u line)) ≡ Ok t → StageHeads t) [
       | true ↦ λ g. (let same : Ended u ≡ t = cc in subst StageHeads same heads)
       | false ↦ λ g.
           (let r = ran_back (entry_step u line) t g in

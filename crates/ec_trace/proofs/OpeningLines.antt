@@ -11,7 +11,7 @@ use Rattle.ec_heading.specs.declared.version.Version.{Version}
 use Rattle.ec_trace.specs.Outcome.{Returns}
 use Rattle.ec_trace.specs.Reading.{LinesModel, HasLine, Declares, is_run}
 use Rattle.ec_trace.specs.Stages.{Opening, Limiting, Declaring, Running}
-use Rattle.ec_trace.specs.Step.{step, limit_of, limiting, after_limit, after_declaration}
+use Rattle.ec_trace.specs.Step.{step, limit_of, stage_of_version, after_limit, after_declaration}
 use Rattle.ec_trace.specs.declared.fault.LineFault.TheVariants.{Bad}
 use Rattle.ec_trace.specs.declared.fault.TraceFault.{TraceFault}
 use Rattle.ec_trace.specs.declared.fault.TraceFault.TheVariants.{Memory}
@@ -20,11 +20,11 @@ use Rattle.ec_trace.proofs.Readings.{line_refused}
 
 pub version_line : (line : List ℕ) (v : Version) → version_of trace_header line ≡ Some v → step Opening line ≡ Ok (Limiting v)
 unfolding step
-version_line line v e = ap limiting e
+version_line line v e = ap stage_of_version e
 
 pub no_version_line : (line : List ℕ) → version_of trace_header line ≡ None → step Opening line ≡ Err Bad
 unfolding step
-no_version_line line e = ap limiting e
+no_version_line line e = ap stage_of_version e
 
 pub limit_line : (v : Version) (line : List ℕ) (n : ℕ) → limit_of v line ≡ Some n → step (Limiting v) line ≡ Ok (Declaring (empty_heading v n []))
 unfolding step

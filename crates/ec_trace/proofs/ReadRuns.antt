@@ -27,7 +27,7 @@ use Rattle.ec_heading.specs.Spelling.{entry_line}
 use Rattle.ec_heading.specs.EntryWords.{NameTable}
 use Rattle.ec_heading.specs.Versions.{can_spell}
 use Rattle.ec_trace.specs.Entries.{entry_in, entry_of}
-use Rattle.ec_trace.specs.Step.{step, entry_step, after_entry, after_answer, ran_on, same_reply}
+use Rattle.ec_trace.specs.Step.{step, entry_step, after_entry, after_answer, map_running, same_reply}
 use Rattle.ec_trace.specs.FirstFault.{Leads, IsLine}
 use Rattle.ec_trace.proofs.TraceLines.{entry_line_is}
 use Rattle.ec_heading.proofs.shared.ReadHeadings.{IsSound, is_declared}
@@ -108,7 +108,7 @@ entered_so t line e is can right = rw is (rw can (rw right (rw (same_self e.repl
 steps_so : (t : TraceModel) (line : List ℕ) (e : Entry) → entry_of t.heading.words line ≡ Some e → can_spell t.heading.version e.act ≡ true
     → answer_of t.heading.setup (reverse t.entries) e.worker e.act ≡ Ok e.reply → step (Running t) line ≡ Ok (Running (with_entry t e))
 unfolding step
-steps_so t line e is can right = rw (not_end t.heading.words line e is) (ap ran_on (entered_so t line e is can right))
+steps_so t line e is can right = rw (not_end t.heading.words line e is) (ap map_running (entered_so t line e is can right))
 
 -- the version allows each of the entries
 abbrev pub EachInVersion : HeadingModel → List Entry → Type 0
@@ -165,7 +165,7 @@ entered_back t u (Some e) h =
     let k = if_can (can_spell t.heading.version e.act) (after_answer t e (answer_of t.heading.setup (reverse t.entries) e.worker e.act)) u h in
     (e, refl, k.0, k.1)
 
-pub ran_back : (r : Result TraceModel LineFault) (s : Stage) → ran_on r ≡ Ok s → (u : TraceModel) × (r ≡ Ok u) × (s ≡ Running u)
+pub ran_back : (r : Result TraceModel LineFault) (s : Stage) → map_running r ≡ Ok s → (u : TraceModel) × (r ≡ Ok u) × (s ≡ Running u)
 ran_back (Ok u) s h = (u, refl, cc)
 ran_back (Err f) s h = cc
 
@@ -177,7 +177,7 @@ record IsNext (t : TraceModel) (line : List ℕ) (s : Stage) : Type 0 where
   right : answer_of t.heading.setup (reverse t.entries) entry.worker entry.act ≡ Ok entry.reply
   stage : s ≡ Running (with_entry t entry)
 
-next_entry : (t : TraceModel) (line : List ℕ) (s : Stage) → IsSound t.heading → ran_on (entry_step t line) ≡ Ok s → IsNext t line s
+next_entry : (t : TraceModel) (line : List ℕ) (s : Stage) → IsSound t.heading → map_running (entry_step t line) ≡ Ok s → IsNext t line s
 unfolding entry_step
 next_entry t line s is h =
     let r = ran_back (entry_step t line) s h in
@@ -227,7 +227,7 @@ unfolding step
 run_back h pre [] t is acc leads = cc
 run_back h pre (line ∷ lines) t is acc (next, taken, leads) =
     let now : TraceModel = record { heading = h; entries = pre } in
-    elim (bytes_eq line (codes "end")) as (λ b. bytes_eq line (codes "end") ≡ b → cond b (Ok (Ended now)) (ran_on (entry_step now line)) ≡ Ok next → IsRunOf h pre (line ∷ lines) t) [
+    elim (bytes_eq line (codes "end")) as (λ b. bytes_eq line (codes "end") ≡ b → cond b (Ok (Ended now)) (map_running (entry_step now line)) ≡ Ok next → IsRunOf h pre (line ∷ lines) t) [
       | true ↦ λ q g. run_ends h pre line lines t acc ((bytes_eq-Decides line (codes "end")).0 q) (after_end now t lines (subst (λ (s : Stage). Leads s lines (Ended t)) (stage_is (Ended now) next g) leads))
       | false ↦ λ q g.
           (let n = next_entry now line next is g in

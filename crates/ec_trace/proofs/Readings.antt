@@ -11,7 +11,7 @@ use Rattle.ec_trace.proofs.Goes.{goes_line, goes_held, goes_rest, goes_ended}
 use Rattle.ec_trace.specs.TraceModel.{TraceModel}
 use Rattle.ec_trace.specs.Stages.{Stage, Opening, Limiting, Declaring, Running, Ended}
 use Rattle.ec_trace.specs.Step.{step, is_ended}
-use Rattle.ec_trace.specs.Outcome.{ReadState, goes, goes_from, lines_of_text, start, outcome, trace_or_fault, ended_at, fault_of_line, Returns}
+use Rattle.ec_trace.specs.Outcome.{ReadState, parse_from, goes_from, lines_of_text, start, parse_result, trace_or_fault, ended_at, fault_of_line, Returns}
 use Rattle.ec_trace.specs.Reading.{LinesModel, Refills, Begins, Reaches, HasLine}
 use Rattle.ec_trace.specs.declared.fault.LineFault.{LineFault}
 use Rattle.ec_trace.specs.declared.fault.LineFault.TheVariants as line_faults
@@ -22,8 +22,8 @@ use Rattle.ec_trace.specs.declared.read.TheConstants.{TRACE_MAX}
 -- THE TEXT
 
 -- a prefix of the text has a fault, whatever follows
-fault_at : (xs ys given : List ℕ) (f : TraceFault) → xs ≡ given ++ ys → length given ≤ TRACE_MAX → ((more : List ℕ) → goes_from start (given ++ more) ≡ Err f) → outcome TRACE_MAX xs ≡ Err f
-unfolding outcome
+fault_at : (xs ys given : List ℕ) (f : TraceFault) → xs ≡ given ++ ys → length given ≤ TRACE_MAX → ((more : List ℕ) → goes_from start (given ++ more) ≡ Err f) → parse_result TRACE_MAX xs ≡ Err f
+unfolding parse_result
 fault_at xs ys given f whole small fails =
     let m : length given + (TRACE_MAX - length given) ≡ TRACE_MAX = omega arith in
     let t : take TRACE_MAX xs ≡ given ++ take (TRACE_MAX - length given) ys =
@@ -32,8 +32,8 @@ fault_at xs ys given f whole small fails =
     ∙ fails (take (TRACE_MAX - length given) ys))
 
 -- a prefix that is as long as a text may be has no fault, and more follows
-large_at : (xs ys given : List ℕ) (p : ReadState) → xs ≡ given ++ ys → length given ≡ TRACE_MAX → 0 < length ys → goes_from start (given ++ []) ≡ Ok p → outcome TRACE_MAX xs ≡ Err TooLarge
-unfolding outcome
+large_at : (xs ys given : List ℕ) (p : ReadState) → xs ≡ given ++ ys → length given ≡ TRACE_MAX → 0 < length ys → goes_from start (given ++ []) ≡ Ok p → parse_result TRACE_MAX xs ≡ Err TooLarge
+unfolding parse_result
 large_at xs ys given p whole full some goes =
     let t : take TRACE_MAX xs ≡ given = ap (λ (k : ℕ). take k xs) (sym full) ∙ ap (take (length given)) whole ∙ take-append_seam given ys in
     let g : goes_from start (take TRACE_MAX xs) ≡ Ok p = ap (goes_from start) (t ∙ sym (append-nil given)) ∙ goes in
@@ -41,8 +41,8 @@ large_at xs ys given p whole full some goes =
     ap (trace_or_fault TRACE_MAX xs) g ∙ cond-true _ _ _ long
 
 -- all of the text was read, and this is what it is read as
-whole_at : (xs given : List ℕ) (p : ReadState) → xs ≡ given ++ [] → length given ≤ TRACE_MAX → goes_from start (given ++ []) ≡ Ok p → outcome TRACE_MAX xs ≡ ended_at p
-unfolding outcome
+whole_at : (xs given : List ℕ) (p : ReadState) → xs ≡ given ++ [] → length given ≤ TRACE_MAX → goes_from start (given ++ []) ≡ Ok p → parse_result TRACE_MAX xs ≡ ended_at p
+unfolding parse_result
 whole_at xs given p whole small goes =
     let e : xs ≡ given = whole ∙ append-nil given in
     let t : take TRACE_MAX xs ≡ given ++ [] = take_all TRACE_MAX xs (omega (arith, ap length e)) ∙ whole in
@@ -52,15 +52,15 @@ whole_at xs given p whole small goes =
 
 -- WHAT IS LEFT
 
-fault_of : (xs : List ℕ) (left : Option (List ℕ)) (given rest : List ℕ) (f : TraceFault) → Consumes (Some xs) left (given ++ rest) → length given ≤ TRACE_MAX → ((more : List ℕ) → goes_from start (given ++ more) ≡ Err f) → outcome TRACE_MAX xs ≡ Err f
+fault_of : (xs : List ℕ) (left : Option (List ℕ)) (given rest : List ℕ) (f : TraceFault) → Consumes (Some xs) left (given ++ rest) → length given ≤ TRACE_MAX → ((more : List ℕ) → goes_from start (given ++ more) ≡ Err f) → parse_result TRACE_MAX xs ≡ Err f
 fault_of xs None given rest f gave small fails = absurd gave
 fault_of xs (Some ys) given rest f gave small fails = fault_at xs (rest ++ ys) given f (gave ∙ append_assoc given rest ys) small fails
 
-large_of : (xs : List ℕ) (left : Option (List ℕ)) (given rest : List ℕ) (p : ReadState) → Consumes (Some xs) left (given ++ rest) → length given ≡ TRACE_MAX → 0 < length rest → goes_from start (given ++ []) ≡ Ok p → outcome TRACE_MAX xs ≡ Err TooLarge
+large_of : (xs : List ℕ) (left : Option (List ℕ)) (given rest : List ℕ) (p : ReadState) → Consumes (Some xs) left (given ++ rest) → length given ≡ TRACE_MAX → 0 < length rest → goes_from start (given ++ []) ≡ Ok p → parse_result TRACE_MAX xs ≡ Err TooLarge
 large_of xs None given rest p gave full some goes = absurd gave
 large_of xs (Some ys) given rest p gave full some goes = large_at xs (rest ++ ys) given p (gave ∙ append_assoc given rest ys) full (omega (arith, length-append rest ys)) goes
 
-whole_of : (xs : List ℕ) (left : Option (List ℕ)) (given : List ℕ) (p : ReadState) → Consumes (Some xs) left given → IsAtEnd left → length given ≤ TRACE_MAX → goes_from start (given ++ []) ≡ Ok p → outcome TRACE_MAX xs ≡ ended_at p
+whole_of : (xs : List ℕ) (left : Option (List ℕ)) (given : List ℕ) (p : ReadState) → Consumes (Some xs) left given → IsAtEnd left → length given ≤ TRACE_MAX → goes_from start (given ++ []) ≡ Ok p → parse_result TRACE_MAX xs ≡ ended_at p
 whole_of xs None given p gave end small goes = absurd gave
 whole_of xs (Some ys) given p gave end small goes = whole_at xs given p (gave ∙ ap (λ (zs : List ℕ). given ++ zs) end) small goes
 
@@ -105,7 +105,7 @@ line_ends xs left r q part line whole s b cut over number took same plain short 
       goes = λ more.
           let prefix : (b.given ++ (line ++ 10 ∷ [])) ++ more ≡ b.given ++ (line ++ 10 ∷ more) = append_assoc b.given (line ++ 10 ∷ []) more ∙ ap (λ (x : List ℕ). b.given ++ x) (append_assoc line (10 ∷ []) more) in
           let back : part ++ (line ++ 10 ∷ more) ≡ whole ++ 10 ∷ more = sym (append_assoc part line (10 ∷ more)) ∙ ap (λ (x : List ℕ). x ++ 10 ∷ more) (sym same) in
-          ap (goes_from start) prefix ∙ b.goes (line ++ 10 ∷ more) ∙ ap (λ (x : List ℕ). goes (r.number + 1) s (lines_of_text x)) back ∙ goes_line (r.number + 1) s whole more plain ∙ rw short (rw number refl);
+          ap (goes_from start) prefix ∙ b.goes (line ++ 10 ∷ more) ∙ ap (λ (x : List ℕ). parse_from (r.number + 1) s (lines_of_text x)) back ∙ goes_line (r.number + 1) s whole more plain ∙ rw short (rw number refl);
     }
 
 -- what was read is the next part of the line
@@ -114,7 +114,7 @@ line_grows xs left r q part whole s b none over number took same = record {
   given = b.given ++ r.behind;
   gave = rw (none, over) (gives_more xs left b.given r.behind r.over r.behind [] b.gave (sym (append-nil r.behind)));
   len = omega (arith, b.len, took, length-append b.given r.behind);
-  goes = λ more. ap (goes_from start) (append_assoc b.given r.behind more) ∙ b.goes (r.behind ++ more) ∙ ap (λ (x : List ℕ). goes (r.number + 1) s (lines_of_text x)) (sym (append_assoc part r.behind more) ∙ ap (λ (x : List ℕ). x ++ more) (sym same)) ∙ rw number refl;
+  goes = λ more. ap (goes_from start) (append_assoc b.given r.behind more) ∙ b.goes (r.behind ++ more) ∙ ap (λ (x : List ℕ). parse_from (r.number + 1) s (lines_of_text x)) (sym (append_assoc part r.behind more) ∙ ap (λ (x : List ℕ). x ++ more) (sym same)) ∙ rw number refl;
 }
 
 -- there is no room for the line
@@ -149,7 +149,7 @@ part_whole xs left r q s e b = subst (λ w. HasLine xs left w w.line s) (sym e) 
 pub line_taken : (xs : List ℕ) (left : Option (List ℕ)) (r : LinesModel) (line : List ℕ) (s t : Stage) → HasLine xs left r line s → step s line ≡ Ok t → Reaches xs left r t
 line_taken xs left r line s t b e = record { given = b.given; gave = b.gave; len = b.len; goes = λ more. b.goes more ∙ rw e refl }
 
-returned : (xs : List ℕ) (left : Option (List ℕ)) (n : ℕ) (f : LineFault) → outcome TRACE_MAX xs ≡ Err (fault_of_line n f) → Returns TRACE_MAX xs left (Err (fault_of_line n f))
+returned : (xs : List ℕ) (left : Option (List ℕ)) (n : ℕ) (f : LineFault) → parse_result TRACE_MAX xs ≡ Err (fault_of_line n f) → Returns TRACE_MAX xs left (Err (fault_of_line n f))
 returned xs left n line_faults.Bad e = e
 returned xs left n (line_faults.Refused r) e = e
 returned xs left n (line_faults.WrongReply r) e = e
@@ -161,7 +161,7 @@ line_refused xs left r line s f b e small =
 -- THE ENDS OF A TEXT
 
 -- the part of a line has no fault, before the last line
-rests : (n : ℕ) (s : Stage) (part : List ℕ) → is_ended s ≡ false → All (λ b. b ≢ 10) part → length part ≤ 8192 → goes n s (lines_of_text (part ++ [])) ≡ Ok (record { stage = s; number = n; part = part })
+rests : (n : ℕ) (s : Stage) (part : List ℕ) → is_ended s ≡ false → All (λ b. b ≢ 10) part → length part ≤ 8192 → parse_from n s (lines_of_text (part ++ [])) ≡ Ok (record { stage = s; number = n; part = part })
 rests n s part going plain short = goes_rest n s part plain short ∙ rw going refl
 
 -- and the text may not end there
@@ -178,13 +178,13 @@ not_whole s n (b ∷ part) going =
 
 module _ (xs : List ℕ) (r : LinesModel) (s : Stage) (part : List ℕ) where
   -- the text ends in a line
-  pub line_unfinished : (left : Option (List ℕ)) → Begins xs left r part s → is_ended s ≡ false → r.behind ≡ [] → r.over ≡ [] → IsAtEnd left → r.taken ≤ TRACE_MAX → All (λ b. b ≢ 10) part → length part ≤ 8192 → outcome TRACE_MAX xs ≡ Err Unfinished
+  pub line_unfinished : (left : Option (List ℕ)) → Begins xs left r part s → is_ended s ≡ false → r.behind ≡ [] → r.over ≡ [] → IsAtEnd left → r.taken ≤ TRACE_MAX → All (λ b. b ≢ 10) part → length part ≤ 8192 → parse_result TRACE_MAX xs ≡ Err Unfinished
   line_unfinished left b going none over end small plain short =
       let gave : Consumes (Some xs) left b.given = subst (Consumes (Some xs) left) (rw (none, over) (append-nil b.given)) b.gave in
       whole_of xs left b.given (record { stage = s; number = r.number + 1; part = part }) gave end (omega (arith, b.len)) (b.goes [] ∙ rests (r.number + 1) s part going plain short) ∙ not_whole s (r.number + 1) part going
 
   -- the bound of a text is in a line
-  pub line_large : (left : Option (List ℕ)) → Begins xs left r part s → is_ended s ≡ false → r.behind ≡ [] → 0 < length r.over → r.taken ≡ TRACE_MAX → All (λ b. b ≢ 10) part → length part ≤ 8192 → outcome TRACE_MAX xs ≡ Err TooLarge
+  pub line_large : (left : Option (List ℕ)) → Begins xs left r part s → is_ended s ≡ false → r.behind ≡ [] → 0 < length r.over → r.taken ≡ TRACE_MAX → All (λ b. b ≢ 10) part → length part ≤ 8192 → parse_result TRACE_MAX xs ≡ Err TooLarge
   line_large left b going none over full plain short =
       let gave : Consumes (Some xs) left (b.given ++ r.over) = subst (λ (w : List ℕ). Consumes (Some xs) left (b.given ++ (w ++ r.over))) none b.gave in
       large_of xs left b.given r.over (record { stage = s; number = r.number + 1; part = part }) gave (omega (arith, b.len)) over (b.goes [] ∙ rests (r.number + 1) s part going plain short)
@@ -197,16 +197,16 @@ module _ (xs : List ℕ) (r : LinesModel) (s : Stage) (part : List ℕ) where
 
 module _ (xs : List ℕ) (r : LinesModel) (t : TraceModel) where
   -- nothing follows the last line
-  rests_ended : goes (r.number + 1) (Ended t) (lines_of_text ([] ++ [])) ≡ Ok (record { stage = Ended t; number = r.number + 1; part = [] })
+  rests_ended : parse_from (r.number + 1) (Ended t) (lines_of_text ([] ++ [])) ≡ Ok (record { stage = Ended t; number = r.number + 1; part = [] })
   unfolding is_ended
   rests_ended = goes_rest (r.number + 1) (Ended t) [] (All-nil (λ b. b ≢ 10)) (omega arith)
 
-  pub text_whole : (left : Option (List ℕ)) → Reaches xs left r (Ended t) → r.behind ≡ [] → r.over ≡ [] → IsAtEnd left → r.taken ≤ TRACE_MAX → outcome TRACE_MAX xs ≡ Ok t
+  pub text_whole : (left : Option (List ℕ)) → Reaches xs left r (Ended t) → r.behind ≡ [] → r.over ≡ [] → IsAtEnd left → r.taken ≤ TRACE_MAX → parse_result TRACE_MAX xs ≡ Ok t
   text_whole left b none over end small =
       let gave : Consumes (Some xs) left b.given = subst (Consumes (Some xs) left) (rw (none, over) (append-nil b.given)) b.gave in
       whole_of xs left b.given (record { stage = Ended t; number = r.number + 1; part = [] }) gave end (omega (arith, b.len)) (b.goes [] ∙ rests_ended)
 
-  pub text_large : (left : Option (List ℕ)) → Reaches xs left r (Ended t) → r.behind ≡ [] → 0 < length r.over → r.taken ≡ TRACE_MAX → outcome TRACE_MAX xs ≡ Err TooLarge
+  pub text_large : (left : Option (List ℕ)) → Reaches xs left r (Ended t) → r.behind ≡ [] → 0 < length r.over → r.taken ≡ TRACE_MAX → parse_result TRACE_MAX xs ≡ Err TooLarge
   text_large left b none over full =
       let gave : Consumes (Some xs) left (b.given ++ r.over) = subst (λ (w : List ℕ). Consumes (Some xs) left (b.given ++ (w ++ r.over))) none b.gave in
       large_of xs left b.given r.over (record { stage = Ended t; number = r.number + 1; part = [] }) gave (omega (arith, b.len)) over (b.goes [] ∙ rests_ended)
@@ -217,16 +217,16 @@ module _ (xs : List ℕ) (r : LinesModel) (t : TraceModel) where
       failed_of xs left after b.given (record { stage = Ended t; number = r.number + 1; part = [] }) gave kept (omega (arith, b.len)) (b.goes [] ∙ rests_ended)
 
   -- something follows it
-  behind_last : (left : Option (List ℕ)) (c : ℕ) (behind : List ℕ) → Reaches xs left r (Ended t) → r.behind ≡ c ∷ behind → r.taken + length r.behind ≤ TRACE_MAX → outcome TRACE_MAX xs ≡ Err (BadLine (r.number + 1))
+  behind_last : (left : Option (List ℕ)) (c : ℕ) (behind : List ℕ) → Reaches xs left r (Ended t) → r.behind ≡ c ∷ behind → r.taken + length r.behind ≤ TRACE_MAX → parse_result TRACE_MAX xs ≡ Err (BadLine (r.number + 1))
   unfolding is_ended
   behind_last left c behind b e small =
       fault_of xs left (b.given ++ r.behind) ([] ++ r.over) (BadLine (r.number + 1)) (gives_more xs left b.given r.behind r.over r.behind [] b.gave (sym (append-nil r.behind)))
       (omega (arith, b.len, length-append b.given r.behind))
       (λ more. ap (goes_from start) (append_assoc b.given r.behind more ∙ ap (λ (w : List ℕ). b.given ++ (w ++ more)) e) ∙ b.goes (c ∷ (behind ++ more)) ∙ goes_ended (r.number + 1) (Ended t) c (behind ++ more) refl)
 
-  behind_is : (left : Option (List ℕ)) (behind : List ℕ) → Reaches xs left r (Ended t) → r.behind ≡ behind → 0 < length behind → r.taken + length r.behind ≤ TRACE_MAX → outcome TRACE_MAX xs ≡ Err (BadLine (r.number + 1))
+  behind_is : (left : Option (List ℕ)) (behind : List ℕ) → Reaches xs left r (Ended t) → r.behind ≡ behind → 0 < length behind → r.taken + length r.behind ≤ TRACE_MAX → parse_result TRACE_MAX xs ≡ Err (BadLine (r.number + 1))
   behind_is left [] b e some small = absurd (omega arith)
   behind_is left (c ∷ behind) b e some small = behind_last left c behind b e small
 
-  pub text_too_long : (left : Option (List ℕ)) → Reaches xs left r (Ended t) → 0 < length r.behind → r.taken + length r.behind ≤ TRACE_MAX → outcome TRACE_MAX xs ≡ Err (BadLine (r.number + 1))
+  pub text_too_long : (left : Option (List ℕ)) → Reaches xs left r (Ended t) → 0 < length r.behind → r.taken + length r.behind ≤ TRACE_MAX → parse_result TRACE_MAX xs ≡ Err (BadLine (r.number + 1))
   text_too_long left b some small = behind_is left r.behind b refl some small

@@ -8,7 +8,7 @@ use Rattle.ec_trace.specs.Stages.{Stage, Opening}
 use Rattle.ec_trace.specs.declared.read.TheConstants.{TRACE_MAX}
 use Rattle.ec_heading.specs.Spelling.{lines_text}
 use Rattle.ec_trace.specs.Step.{step, is_ended}
-use Rattle.ec_trace.specs.Outcome.{fault_of_line, outcome, HasNoFault}
+use Rattle.ec_trace.specs.Outcome.{fault_of_line, parse_result, HasNoFault}
 
 -- a line, without its LF
 pub record IsLine (line : List ℕ) : Type 0 where
@@ -47,16 +47,16 @@ pub record IsFirstFault (text : List ℕ) (n : ℕ) (fault : LineFault) : Type 0
 
 -- a reported fault of a line is that of the first faulty line of the text, up to the bound
 abbrev pub LineFaultIsTheFirst : Type 0
-LineFaultIsTheFirst = (bytes : List ℕ) (n : ℕ) (fault : LineFault) → outcome TRACE_MAX bytes ≡ Err (fault_of_line n fault) → IsFirstFault (take TRACE_MAX bytes) n fault
+LineFaultIsTheFirst = (bytes : List ℕ) (n : ℕ) (fault : LineFault) → parse_result TRACE_MAX bytes ≡ Err (fault_of_line n fault) → IsFirstFault (take TRACE_MAX bytes) n fault
 
 -- the fault of the first faulty line of the text, up to the bound, is reported
-abbrev pub FirstFaultIsTold : Type 0
-FirstFaultIsTold = (bytes : List ℕ) (n : ℕ) (fault : LineFault) → IsFirstFault (take TRACE_MAX bytes) n fault → outcome TRACE_MAX bytes ≡ Err (fault_of_line n fault)
+abbrev pub FirstFaultWins : Type 0
+FirstFaultWins = (bytes : List ℕ) (n : ℕ) (fault : LineFault) → IsFirstFault (take TRACE_MAX bytes) n fault → parse_result TRACE_MAX bytes ≡ Err (fault_of_line n fault)
 
 -- a text is too large only if it exceeds the bound, and unfinished only if it doesn't
 abbrev pub FaultOfTheWhole : Type 0
 FaultOfTheWhole = (bytes : List ℕ)
-    → (outcome TRACE_MAX bytes ≡ Err TooLarge → TRACE_MAX < length bytes) × (outcome TRACE_MAX bytes ≡ Err Unfinished → length bytes ≤ TRACE_MAX)
+    → (parse_result TRACE_MAX bytes ≡ Err TooLarge → TRACE_MAX < length bytes) × (parse_result TRACE_MAX bytes ≡ Err Unfinished → length bytes ≤ TRACE_MAX)
 
 -- if a failed read is reported, what was read before it has no faulty line
 abbrev pub FailedReadHasNoFault : Type 0

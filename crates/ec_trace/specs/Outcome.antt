@@ -44,14 +44,14 @@ after_line n (Ok s) others = others s
 after_line n (Err f) others = Err (fault_of_line n f)
 
 -- the lines in order, from line n on in the stage s, up to the first fault
-unfoldable pub goes : ℕ → Stage → List (List ℕ) → Result ReadState TraceFault
-goes n s [] = Ok (record { stage = s; number = n; part = [] })
-goes n s (line ∷ []) = if is_bad_rest s line then Err (BadLine n) else Ok (record { stage = s; number = n; part = line })
-goes n s (line ∷ next ∷ others) = if nat_lt 8192 (length line) then Err (BadLine n) else after_line n (step s line) (λ t. goes (n + 1) t (next ∷ others))
+unfoldable pub parse_from : ℕ → Stage → List (List ℕ) → Result ReadState TraceFault
+parse_from n s [] = Ok (record { stage = s; number = n; part = [] })
+parse_from n s (line ∷ []) = if is_bad_rest s line then Err (BadLine n) else Ok (record { stage = s; number = n; part = line })
+parse_from n s (line ∷ next ∷ others) = if nat_lt 8192 (length line) then Err (BadLine n) else after_line n (step s line) (λ t. parse_from (n + 1) t (next ∷ others))
 
 -- what more bytes are read as, from a state of reading
 abbrev pub goes_from : ReadState → List ℕ → Result ReadState TraceFault
-goes_from p more = goes p.number p.stage (lines_of_text (p.part ++ more))
+goes_from p more = parse_from p.number p.stage (lines_of_text (p.part ++ more))
 
 -- WHOLE TEXTS
 
@@ -71,8 +71,8 @@ trace_or_fault max xs (Err f) = Err f
 trace_or_fault max xs (Ok p) = if nat_lt max (length xs) then Err TooLarge else ended_at p
 
 -- what an input is read as up to its end, if a text has at most max bytes
-unfoldable pub outcome : ℕ → List ℕ → Result TraceModel TraceFault
-outcome max xs = trace_or_fault max xs (goes_from start (take max xs))
+unfoldable pub parse_result : ℕ → List ℕ → Result TraceModel TraceFault
+parse_result max xs = trace_or_fault max xs (goes_from start (take max xs))
 
 -- what is known if a failed read is reported, of a reader that had these bytes and has those left:
 -- in what it gave no line is faulty, and what follows the last LF is not faulty either
@@ -85,7 +85,7 @@ pub record HasNoFault (max : ℕ) (xs : List ℕ) (left : Option (List ℕ)) : T
 
 -- what is returned for an input that had these bytes, and has those left
 abbrev pub Returns : ℕ → List ℕ → Option (List ℕ) → Result TraceModel TraceFault → Type 0
-Returns max xs left (Ok t) = outcome max xs ≡ Ok t
+Returns max xs left (Ok t) = parse_result max xs ≡ Ok t
 Returns max xs left (Err Memory) = Unit {0}
 Returns max xs left (Err Read) = HasNoFault max xs left
-Returns max xs left (Err fault) = outcome max xs ≡ Err fault
+Returns max xs left (Err fault) = parse_result max xs ≡ Err fault

@@ -16,7 +16,7 @@ use Rattle.ec_trace.specs.EntrySinks.{history_of}
 use Rattle.ec_trace.specs.TraceModel.{TraceModel}
 use Rattle.ec_trace.specs.Stages.{Stage, Running}
 use Rattle.ec_trace.specs.Step.{step, entry_step, StepFails}
-use Rattle.ec_trace.specs.Outcome.{ReadState, goes, goes_from, lines_of_text, start, after_line, outcome, Returns}
+use Rattle.ec_trace.specs.Outcome.{ReadState, parse_from, goes_from, lines_of_text, start, after_line, parse_result, Returns}
 
 -- how far the reading of a text has come
 pub record LinesModel : Type 0 where
@@ -81,7 +81,7 @@ pub record Brings (xs : List ℕ) (left : Option (List ℕ)) (r : LinesModel) (c
 -- the lines so far led to this stage, and this is the beginning of the next line
 abbrev pub Begins : List ℕ → Option (List ℕ) → LinesModel → List ℕ → Stage → Type 0
 Begins xs left r part s =
-    Brings xs left r (λ more. goes (r.number + 1) s (lines_of_text (part ++ more)))
+    Brings xs left r (λ more. parse_from (r.number + 1) s (lines_of_text (part ++ more)))
 
 -- the lines so far led to this stage
 abbrev pub Reaches : List ℕ → Option (List ℕ) → LinesModel → Stage → Type 0
@@ -89,7 +89,7 @@ Reaches xs left r s = Begins xs left r [] s
 
 -- the lines before the current one led to this stage, and this is the current line
 abbrev pub HasLine : List ℕ → Option (List ℕ) → LinesModel → List ℕ → Stage → Type 0
-HasLine xs left r line s = Brings xs left r (λ more. after_line r.number (step s line) (λ t. goes (r.number + 1) t (lines_of_text more)))
+HasLine xs left r line s = Brings xs left r (λ more. after_line r.number (step s line) (λ t. parse_from (r.number + 1) t (lines_of_text more)))
 
 -- the part of the line is the whole line, or its beginning; or the fault of the text is returned
 abbrev pub ReadsPart : List ℕ → Option (List ℕ) → LinesModel → Stage → Result Bool TraceFault
@@ -140,5 +140,5 @@ TakesLine {S} represents h old new line r = (first : S) (entries : List Entry) �
 -- the input is the trace of a history under this header, and `after` holds of it; or its fault is
 -- returned
 abbrev pub Recounts : List ℕ → Option (List ℕ) → HeadingModel → (RunModel → Type 0) → Result (Unit {0}) TraceFault → Type 0
-Recounts xs left h after (Ok x) = (entries : List Entry) × (outcome TRACE_MAX xs ≡ Ok (record { heading = h; entries = entries })) × after (history_of h entries)
+Recounts xs left h after (Ok x) = (entries : List Entry) × (parse_result TRACE_MAX xs ≡ Ok (record { heading = h; entries = entries })) × after (history_of h entries)
 Recounts xs left h after (Err f) = Returns TRACE_MAX xs left (Err f)

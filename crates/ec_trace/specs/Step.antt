@@ -23,9 +23,9 @@ use Rattle.ec_trace.specs.Stages.{Stage, Opening, Limiting, Declaring, Running, 
 
 -- THE VERSION
 
-abbrev pub limiting : Option Version → Result Stage LineFault
-limiting None = Err Bad
-limiting (Some v) = Ok (Limiting v)
+abbrev pub stage_of_version : Option Version → Result Stage LineFault
+stage_of_version None = Err Bad
+stage_of_version (Some v) = Ok (Limiting v)
 
 -- THE LIMIT
 
@@ -69,19 +69,19 @@ after_entry t (Some e) = if can_spell t.heading.version e.act then after_answer 
 unfoldable pub entry_step : TraceModel → List ℕ → Result TraceModel LineFault
 entry_step t line = after_entry t (entry_of t.heading.words line)
 
-abbrev pub ran_on : Result TraceModel LineFault → Result Stage LineFault
-ran_on (Ok t) = Ok (Running t)
-ran_on (Err fault) = Err fault
+abbrev pub map_running : Result TraceModel LineFault → Result Stage LineFault
+map_running (Ok t) = Ok (Running t)
+map_running (Err fault) = Err fault
 
 -- ANY LINE
 
 -- the stage after a line, or why the line is rejected
 unfoldable pub step : Stage → List ℕ → Result Stage LineFault
-step Opening line = limiting (version_of trace_header line)
+step Opening line = stage_of_version (version_of trace_header line)
 step (Limiting v) line = after_limit v (limit_of v line)
 step (Declaring h) line =
     if bytes_eq line (codes "run") && nat_lt 0 h.setup.workers then Ok (Running (record { heading = h; entries = [] })) else after_declaration (head_step h line)
-step (Running t) line = if bytes_eq line (codes "end") then Ok (Ended t) else ran_on (entry_step t line)
+step (Running t) line = if bytes_eq line (codes "end") then Ok (Ended t) else map_running (entry_step t line)
 step (Ended t) line = Err Bad
 
 unfoldable pub is_ended : Stage → Bool

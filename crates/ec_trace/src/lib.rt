@@ -28,8 +28,8 @@ pub use opening::{TraceOpening, open_trace};
 pub use read::{TRACE_MAX, read_entries, read_trace};
 pub use reading_laws::{
     entries_are_spelled, failed_read_has_no_fault, fault_of_the_whole, faults_of_entries,
-    first_fault_is_told, line_fault_is_the_first, lines_lead_to_outlines, no_trace_begins_another,
-    other_lines_spell_none, read_is_trace, trace_has_one_meaning, trace_is_read,
+    first_fault_wins, line_fault_is_the_first, lines_lead_to_outlines, other_lines_spell_none,
+    read_is_trace, trace_has_one_meaning, trace_is_read, traces_are_prefix_free,
     traces_are_upgraded, traces_have_64_mebibytes_at_most, written_is_read_again,
 };
 pub use spell::Spellings;

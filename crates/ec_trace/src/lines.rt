@@ -3,7 +3,7 @@ ghost use Rattle.std.specs.Prelude.{◌≡◌, ◌≤◌, ◌<◌, ◌+◌, [], 
 ghost use Rattle.ec_trace.specs.TraceModel.{TraceModel};
 ghost use Rattle.ec_trace.specs.Stages.{Stage, Ended};
 ghost use Rattle.ec_trace.specs.Step.{is_ended};
-ghost use Rattle.ec_trace.specs.Outcome.{outcome, Returns};
+ghost use Rattle.ec_trace.specs.Outcome.{parse_result, Returns};
 ghost use Rattle.ec_trace.specs.Reading.{IsWithin, Refills, Stays, Begins, Reaches, HasLine, ReadsPart, ReadsMore, ReadsLine};
 
 use crate::fault::TraceFault;
@@ -233,7 +233,7 @@ impl Lines {
     #[inline(never)]
     pub(crate) fn end<R: Read>(&mut self, reader: &mut R) -> Result<(), TraceFault>
         ensures { (xs : List ℕ) (t : TraceModel) → Reaches xs (R.remaining reader.old) self.old (Ended t)
-            → MatchResult result (λ _. outcome TRACE_MAX xs ≡ Ok t) (λ fault. Returns TRACE_MAX xs (R.remaining reader.new) (Err fault)) }
+            → MatchResult result (λ _. parse_result TRACE_MAX xs ≡ Ok t) (λ fault. Returns TRACE_MAX xs (R.remaining reader.new) (Err fault)) }
     {
         if !self.is_taken() {
             return Err(self.behind_the_end());

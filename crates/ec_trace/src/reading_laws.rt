@@ -2,8 +2,8 @@
 ghost use Rattle.std.specs.Prelude.{◌≡◌};
 ghost use Rattle.ec_trace.specs.declared.read.TheConstants.{TRACE_MAX};
 ghost use Rattle.ec_trace.specs.EntryLines.{EntriesAreSpelled, OtherLinesSpellNone, LinesLeadToOutlines, FaultsOfEntries};
-ghost use Rattle.ec_trace.specs.FirstFault.{LineFaultIsTheFirst, FirstFaultIsTold, FaultOfTheWhole, FailedReadHasNoFault};
-ghost use Rattle.ec_trace.specs.ReadingLaws.{TraceIsRead, ReadIsTrace, TraceHasOneMeaning, NoTraceBeginsAnother, TracesAreUpgraded, WrittenIsReadAgain};
+ghost use Rattle.ec_trace.specs.FirstFault.{LineFaultIsTheFirst, FirstFaultWins, FaultOfTheWhole, FailedReadHasNoFault};
+ghost use Rattle.ec_trace.specs.ReadingLaws.{TraceIsRead, ReadIsTrace, TraceHasOneMeaning, TracesArePrefixFree, TracesAreUpgraded, WrittenIsReadAgain};
 
 /// States that a trace is read as its header and its history.
 #[tactic(auto, using(crate::proofs::shared::ReadTraces::trace_is_read))]
@@ -24,9 +24,9 @@ pub fn trace_has_one_meaning()
 {}
 
 /// States that no trace is a proper prefix of another.
-#[tactic(auto, using(crate::proofs::shared::ReadTraces::no_trace_begins_another))]
-pub fn no_trace_begins_another()
-    ensures { NoTraceBeginsAnother }
+#[tactic(auto, using(crate::proofs::shared::ReadTraces::traces_are_prefix_free))]
+pub fn traces_are_prefix_free()
+    ensures { TracesArePrefixFree }
 {}
 
 /// States that a reported fault of a line is that of the first faulty line within the bound.
@@ -36,9 +36,9 @@ pub fn line_fault_is_the_first()
 {}
 
 /// States that the fault of the first faulty line within the bound is reported.
-#[tactic(auto, using(crate::proofs::ReportedFault::first_fault_is_told))]
-pub fn first_fault_is_told()
-    ensures { FirstFaultIsTold }
+#[tactic(auto, using(crate::proofs::ReportedFault::first_fault_wins))]
+pub fn first_fault_wins()
+    ensures { FirstFaultWins }
 {}
 
 /// States that a text is too large only if it exceeds the bound, and unfinished only if it doesn't.

@@ -15,7 +15,7 @@ use Rattle.ec_core.proofs.shared.Places.{get_set}
 use Rattle.ec_heading.specs.declared.group.Group.{Group}
 use Rattle.ec_heading.specs.declared.group.Group.TheVariants as groups
 use Rattle.ec_walk.specs.declared.group_table.Span.{Span}
-use Rattle.ec_walk.specs.Walks.{names, sees_every_call, is_on, is_wide_at, is_on_at, is_asked_at, passes_at, CoversFirst, Covers, CoversAct, CoversAt, Dispatches, DispatchesWhere, DispatchesTo, DispatchesAt, DispatchesAmong, DispatchesOn, goes_to, IsHanded, AreHanded, AreWalked}
+use Rattle.ec_walk.specs.Walks.{names, sees_every_call, is_on, is_wide_at, is_on_at, is_asked_at, passes_at, CoversFirst, Covers, CoversAct, CoversAt, Dispatches, DispatchesWhere, DispatchesTo, DispatchesAt, DispatchesAmong, DispatchesOn, goes_to, IsDispatched, AreHanded, AreIndependent}
 
 -- THE TABLE
 
@@ -354,7 +354,7 @@ handed_nowhere {A} represents gs starts past none =
     (refl, λ i start at. (start, at, go i start past))
   where
     go : (i : ℕ) (start : A) (past : List Entry)
-        → IsHanded represents (goes_to gs i) start start past
+        → IsDispatched represents (goes_to gs i) start start past
     go i start [] = refl
     go i start (x ∷ past) = (start, go i start past, inr (goes_nowhere gs i x past none, refl))
 
@@ -371,8 +371,8 @@ pub each_stays : {A : Type 0} (group : A → Group) (represents : A → A → Li
     → represents start now past → represents start now (x ∷ past))
     (gs : List Group) (starts now : List A) (x : Entry) (past : List Entry)
     → is_intermediate x ≡ true
-    → AreWalked group represents gs starts now past
-    → AreWalked group represents gs starts now (x ∷ past)
+    → AreIndependent group represents gs starts now past
+    → AreIndependent group represents gs starts now (x ∷ past)
 each_stays group represents stays gs starts now x past on each = λ i g here. (let k = each i g here in (k.0, k.1, k.2, k.3, k.4, stays k.0 k.1 x past on k.5))
 
 -- such a go is passed to no audit
@@ -389,8 +389,8 @@ module _ {A : Type 0} (group : A → Group) (represents : A → A → List Entry
   -- each group's audit has processed the entry, or is as before and the entry's call is not on the
   -- group
   pub each_taken : (starts old new : List A) → DispatchesOn represents gs place op x old new
-      → AreWalked group represents gs starts old past
-      → AreWalked group represents gs starts new (x ∷ past)
+      → AreIndependent group represents gs starts old past
+      → AreIndependent group represents gs starts new (x ∷ past)
   each_taken starts old new hands each = λ i g here. (let was = each i g here in go i g here was.0 was.1 was.2 was.4 was.5 (hands.1 i was.1 was.3))
     where
       Stands : ℕ → Group → Type 0
@@ -437,9 +437,9 @@ module _ {A : Type 0} (group : A → Group) (represents : A → A → List Entry
           → Dispatches represents (length past) (op_at x past) x a b
       own a b h = subst (λ n. Dispatches represents n (op_at x past) x a b) at (subst (λ o. Dispatches represents place o x a b) is h)
 
-      go : (i : ℕ) (start now : A) → IsHanded represents (goes_to gs i) start now past
+      go : (i : ℕ) (start now : A) → IsDispatched represents (goes_to gs i) start now past
           → (b : A) × (slice_get new i ≡ Some b) × (((is_on_at gs op i ≡ true) × Dispatches represents place op x now b) ⊎ ((is_on_at gs op i ≡ true → ⊥) × (b ≡ now)))
           → (b : A) × (slice_get new i ≡ Some b)
-          × IsHanded represents (goes_to gs i) start b (x ∷ past)
+          × IsDispatched represents (goes_to gs i) start b (x ∷ past)
       go i start now was (b, got, inl p) = (b, got, (now, was, inl (goes i ∙ p.0, own now b p.1)))
       go i start now was (b, got, inr q) = (b, got, (now, was, inr (goes i ∙ none i (is_on_at gs op i) refl q.0, q.1)))

@@ -146,10 +146,11 @@ DispatchesNext represents x past old new =
     Dispatches represents (length past) (opening_act x.act (under_way x.worker past)) x old new
 
 -- an audit, which was start, is now after it was passed exactly the entries of past that are picked
-abbrev pub IsHanded : {A : Type 0} → (A → A → List Entry → Type 0) → (Entry → List Entry → Bool) → A
+abbrev pub IsDispatched : {A : Type 0} → (A → A → List Entry → Type 0) → (Entry → List Entry → Bool)
+    → A
     → A → List Entry → Type 0
-IsHanded represents picks start now [] = now ≡ start
-IsHanded {A} represents picks start now (x ∷ past) = (before : A) × IsHanded represents picks start before past
+IsDispatched represents picks start now [] = now ≡ start
+IsDispatched {A} represents picks start now (x ∷ past) = (before : A) × IsDispatched represents picks start before past
     × (((picks x past ≡ true) × DispatchesNext represents x past before now)
     ⊎ ((picks x past ≡ false) × (now ≡ before)))
 
@@ -159,12 +160,14 @@ abbrev pub AreHanded : {A : Type 0} → (A → A → List Entry → Type 0) → 
     → List Entry → Type 0
 AreHanded {A} represents gs starts list past = (length list ≡ length starts)
     × ((i : ℕ) (start : A) → slice_get starts i ≡ Some start
-    → (now : A) × (slice_get list i ≡ Some now) × IsHanded represents (goes_to gs i) start now past)
+    → (now : A) × (slice_get list i ≡ Some now)
+    × IsDispatched represents (goes_to gs i) start now past)
 
 -- each group had its audit, in order, and has it after past, as it would be after a pass of its own
-abbrev pub AreWalked : {A : Type 0} → (A → Group) → (A → A → List Entry → Type 0) → List Group → List A
+abbrev pub AreIndependent : {A : Type 0} → (A → Group) → (A → A → List Entry → Type 0) → List Group → List A
     → List A → List Entry → Type 0
-AreWalked {A} group represents gs starts list past = (i : ℕ) (g : Group) → slice_get gs i ≡ Some g
+AreIndependent {A} group represents gs starts list past = (i : ℕ) (g : Group)
+    → slice_get gs i ≡ Some g
     → (start : A) × (now : A) × (slice_get starts i ≡ Some start) × (slice_get list i ≡ Some now)
     × (group start ≡ g) × represents start now past
 
@@ -177,5 +180,5 @@ pub record GroupAuditsModel (A : Type 0) : Type 0 where
 abbrev pub WalksOn : {A : Type 0} → (A → Group) → (A → A → List Entry → Type 0) → GroupAuditsModel A → GroupAuditsModel A
     → List Entry → Type 0
 WalksOn group represents start now past = (now.groups ≡ start.groups)
-    × AreWalked group represents start.groups start.audits now.audits past
+    × AreIndependent group represents start.groups start.audits now.audits past
     × AreHanded represents start.groups start.audits now.audits past

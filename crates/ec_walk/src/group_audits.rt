@@ -4,7 +4,7 @@ ghost use Rattle.ec_core.specs.declared.act.Entry.{Entry};
 ghost use Rattle.ec_core.specs.Calls.{under_way, is_intermediate};
 ghost use Rattle.ec_core.specs.Following.{opening_act};
 ghost use Rattle.ec_heading.specs.declared.group.Group.{Group};
-ghost use Rattle.ec_walk.specs.Walks.{is_on, sees_every_call, is_wide_at, is_asked_at, Covers, CoversAct, DispatchesTo, DispatchesAt, DispatchesAmong, DispatchesOn, AreWalked, AreHanded, IsTable};
+ghost use Rattle.ec_walk.specs.Walks.{is_on, sees_every_call, is_wide_at, is_asked_at, Covers, CoversAct, DispatchesTo, DispatchesAt, DispatchesAmong, DispatchesOn, AreIndependent, AreHanded, IsTable};
 
 use crate::group_table::{GroupTable, Span, names, sees_every_call};
 use ec_core::{Act, Audit, Entry, Reply, Run, walk};
@@ -296,8 +296,8 @@ impl<'a, A: GroupAudit> Audit for GroupAudits<'a, A> {
 /// call. The audits are in the same order, and none is added or removed. Without groups there is no
 /// pass.
 pub fn walk_groups<A: GroupAudit>(run: &Run, groups: &[Group], audits: Vec<A>) -> Vec<A>
-    requires { AreWalked A.group A.represents groups.now audits.items audits.items [] }
-    ensures walked { AreWalked A.group A.represents groups.now audits.items result.items
+    requires { AreIndependent A.group A.represents groups.now audits.items audits.items [] }
+    ensures walked { AreIndependent A.group A.represents groups.now audits.items result.items
         (reverse run.now.entries) }
     ensures handed { AreHanded A.represents groups.now audits.items result.items
         (reverse run.now.entries) }

@@ -22,13 +22,13 @@ IsCode code given is_cut many room =
 -- for these bytes the command ended with this status, if it began with an empty writer for the text
 -- and one for the notes; this text was written, these notes are as much of what their writer has as
 -- fits, and the code is as above
-pub record AnswersBy {S O : Type 0} (code_of : S → ℕ) (outlets : List ℕ → OutputModel → O) (Does : ContractBy S O) (bytes : List ℕ) (code : ℕ)
+pub record AnswersBy {S O : Type 0} (code_of : S → ℕ) (outputs : List ℕ → OutputModel → O) (Does : ContractBy S O) (bytes : List ℕ) (code : ℕ)
     (text notes : List ℕ) (room : ℕ) : Type 0 where
   pub status : S
   pub left : Option (List ℕ)
   pub writer : ℕ
   pub last : OutputModel
-  pub ends : Does bytes left status (outlets [] (at_first writer (Some []))) (outlets text last)
+  pub ends : Does bytes left status (outputs [] (at_first writer (Some []))) (outputs text last)
   pub written : IsWrittenOut last
   pub noted : List ℕ
   pub holds : last.contents ≡ Some noted
@@ -38,19 +38,19 @@ pub record AnswersBy {S O : Type 0} (code_of : S → ℕ) (outlets : List ℕ �
 -- COMMANDS ON TRACES AND SCRIPTS
 
 -- outlets with these bytes of the text, and these notes
-abbrev pub outlets : List ℕ → OutputModel → evc_checks.Outlets
-outlets text notes = record { out = Some text; notes = notes }
+abbrev pub outputs : List ℕ → OutputModel → evc_checks.Outputs
+outputs text notes = record { out = Some text; notes = notes }
 
 abbrev pub Contract : Type 1
-Contract = ContractBy evc.Status evc_checks.Outlets
+Contract = ContractBy evc.Status evc_checks.Outputs
 
 abbrev pub Answers : Contract → List ℕ → ℕ → List ℕ → List ℕ → ℕ → Type 0
-Answers Does bytes code text notes room = AnswersBy evc_statuses.status_code outlets Does bytes code text notes room
+Answers Does bytes code text notes room = AnswersBy evc_statuses.status_code outputs Does bytes code text notes room
 
 -- HISTORIES OF CALLS
 
-abbrev pub calls_outlets : List ℕ → OutputModel → calls_checks.Outlets
-calls_outlets text notes = record { out = Some text; notes = notes }
+abbrev pub calls_outputs : List ℕ → OutputModel → calls_checks.Outputs
+calls_outputs text notes = record { out = Some text; notes = notes }
 
 abbrev pub CallsAnswers : List ℕ → ℕ → List ℕ → List ℕ → ℕ → Type 0
-CallsAnswers bytes code text notes room = AnswersBy calls_statuses.status_code calls_outlets calls_checks.Checks bytes code text notes room
+CallsAnswers bytes code text notes room = AnswersBy calls_statuses.status_code calls_outputs calls_checks.Checks bytes code text notes room

@@ -116,8 +116,8 @@ abbrev pub IsNoteOf : Monitor → ℕ → List ℕ → Type 0
 IsNoteOf m = IsNoteAt m.stage m.watcher
 
 -- the first n bytes of a buffer are the note, and the others are as before; the monitor stays
-abbrev pub TellsNote : Monitor → Monitor → ℕ → List ℕ → List ℕ → Type 0
-TellsNote old new n before after =
+abbrev pub ReportsNote : Monitor → Monitor → ℕ → List ℕ → List ℕ → Type 0
+ReportsNote old new n before after =
     (new ≡ old) × IsNoteOf old (length before) (take n after) × (n ≤ length after) ×
     (drop n after ≡ drop n before)
 
@@ -125,8 +125,8 @@ TellsNote old new n before after =
 
 -- how many histories have ended, how many calls were invoked, and how many others were pending
 -- then, added up; the monitor stays
-abbrev pub TellsLoad : Monitor → Monitor → EvcLoad → Type 0
-TellsLoad old new l =
+abbrev pub ReportsLoad : Monitor → Monitor → EvcLoad → Type 0
+ReportsLoad old new l =
     (new ≡ old) × (l.histories ≡ old.watcher.load.histories) × (l.calls ≡ old.watcher.load.calls)
     × (l.others ≡ old.watcher.load.others)
 

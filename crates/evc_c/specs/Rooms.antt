@@ -5,7 +5,7 @@ use Rattle.evc_engine.specs.declared.status.Status as evc
 use Rattle.calls_report.specs.declared.status.Status as calls
 use Rattle.calls_report.specs.Checks.{Checks}
 use Rattle.evc_c.specs.declared.room.Room.{Room}
-use Rattle.evc_c.specs.Answers.{ContractBy, Contract, outlets, calls_outlets}
+use Rattle.evc_c.specs.Answers.{ContractBy, Contract, outputs, calls_outputs}
 
 -- the contents of a buffer, as a writer
 abbrev pub room_holds : Room → List ℕ
@@ -14,15 +14,15 @@ room_holds r = r.bytes.ghost_name ∷ take r.len r.bytes.now
 -- what a command did to a buffer in which nothing had been written, and to the notes: it is the
 -- same buffer, and what is written in it is what the command writes; and the notes are written out,
 -- if they were at first
-pub record FillsBy {S O : Type 0} (outlets : List ℕ → OutputModel → O) (Does : ContractBy S O) (bytes : List ℕ) (status : S) (r new : Room)
+pub record FillsBy {S O : Type 0} (outputs : List ℕ → OutputModel → O) (Does : ContractBy S O) (bytes : List ℕ) (status : S) (r new : Room)
     (first last : OutputModel) : Type 0 where
   pub same : new.bytes.ghost_name ≡ r.bytes.ghost_name
   pub left : Option (List ℕ)
-  pub ends : Does bytes left status (outlets [] first) (outlets (take new.len new.bytes.now) last)
+  pub ends : Does bytes left status (outputs [] first) (outputs (take new.len new.bytes.now) last)
   pub written : IsWrittenOut first → IsWrittenOut last
 
 abbrev pub Fills : Contract → List ℕ → evc.Status → Room → Room → OutputModel → OutputModel → Type 0
-Fills Does bytes status r new first last = FillsBy outlets Does bytes status r new first last
+Fills Does bytes status r new first last = FillsBy outputs Does bytes status r new first last
 
 abbrev pub CallsFills : List ℕ → calls.Status → Room → Room → OutputModel → OutputModel → Type 0
-CallsFills bytes status r new first last = FillsBy calls_outlets Checks bytes status r new first last
+CallsFills bytes status r new first last = FillsBy calls_outputs Checks bytes status r new first last

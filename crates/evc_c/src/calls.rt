@@ -8,7 +8,7 @@ ghost use Rattle.evc_c.specs.Answers.{Answers, CallsAnswers, IsCode};
 ghost use Rattle.evc_c.specs.Rooms.{Fills, CallsFills};
 ghost use Rattle.evc_c.specs.Versions.{IsVersionOf};
 
-use crate::room::{NotesRoom, Room, put_front};
+use crate::room::{NotesRoom, Room, copy_prefix};
 use arrayvec::ArrayVec;
 use ec_text::Output;
 use evc_cli::VERSION;
@@ -32,15 +32,15 @@ pub struct EvcWritten {
 
 /// Copies into the caller's buffer as much of the notes as fits, and stores how many bytes of the
 /// text and of the notes were written.
-fn write_lengths(out: &Room<'_>, returned: &[u8], notes: &mut [u8], written: &mut EvcWritten)
+fn write_lengths(out: &Room<'_>, note_text: &[u8], notes: &mut [u8], written: &mut EvcWritten)
     ensures text { written.new.text ≡ out.now.len }
     ensures within { written.new.notes ≤ length notes.new }
     ensures long { length notes.new ≡ length notes.old }
-    ensures notes { take written.new.notes notes.new ≡ take (length notes.old) returned.now }
+    ensures notes { take written.new.notes notes.new ≡ take (length notes.old) note_text.now }
     ensures rest { drop written.new.notes notes.new ≡ drop written.new.notes notes.old }
 {
     written.text = out.len;
-    written.notes = put_front(notes, returned);
+    written.notes = copy_prefix(notes, note_text);
 }
 
 /// Returns the status that the caller gets. It is 4 if notes were cut off before the caller's
@@ -87,10 +87,10 @@ pub extern "C" fn evc_check(
 {
     let mut out = Room::new(text);
     let mut bytes = Noted::new();
-    let mut returned = Output::new(&mut bytes);
-    let status = check_bytes(alloc, trace, &mut out, &mut returned);
-    let is_cut = returned.has_failed();
-    let noted = returned.into_writer().as_slice();
+    let mut note_text = Output::new(&mut bytes);
+    let status = check_bytes(alloc, trace, &mut out, &mut note_text);
+    let is_cut = note_text.has_failed();
+    let noted = note_text.into_writer().as_slice();
     let code = code_for(status.code(), is_cut, noted.len(), notes.len());
     write_lengths(&out, noted, notes, written);
     code
@@ -129,10 +129,10 @@ pub extern "C" fn evc_audit(
 {
     let mut out = Room::new(text);
     let mut bytes = Noted::new();
-    let mut returned = Output::new(&mut bytes);
-    let status = audit_bytes(alloc, trace, &mut out, &mut returned);
-    let is_cut = returned.has_failed();
-    let noted = returned.into_writer().as_slice();
+    let mut note_text = Output::new(&mut bytes);
+    let status = audit_bytes(alloc, trace, &mut out, &mut note_text);
+    let is_cut = note_text.has_failed();
+    let noted = note_text.into_writer().as_slice();
     let code = code_for(status.code(), is_cut, noted.len(), notes.len());
     write_lengths(&out, noted, notes, written);
     code
@@ -171,10 +171,10 @@ pub extern "C" fn evc_upgrade(
 {
     let mut out = Room::new(text);
     let mut bytes = Noted::new();
-    let mut returned = Output::new(&mut bytes);
-    let status = upgrade_bytes(alloc, trace, &mut out, &mut returned);
-    let is_cut = returned.has_failed();
-    let noted = returned.into_writer().as_slice();
+    let mut note_text = Output::new(&mut bytes);
+    let status = upgrade_bytes(alloc, trace, &mut out, &mut note_text);
+    let is_cut = note_text.has_failed();
+    let noted = note_text.into_writer().as_slice();
     let code = code_for(status.code(), is_cut, noted.len(), notes.len());
     write_lengths(&out, noted, notes, written);
     code
@@ -213,10 +213,10 @@ pub extern "C" fn evc_sim(
 {
     let mut out = Room::new(text);
     let mut bytes = Noted::new();
-    let mut returned = Output::new(&mut bytes);
-    let status = sim_bytes(alloc, script, &mut out, &mut returned);
-    let is_cut = returned.has_failed();
-    let noted = returned.into_writer().as_slice();
+    let mut note_text = Output::new(&mut bytes);
+    let status = sim_bytes(alloc, script, &mut out, &mut note_text);
+    let is_cut = note_text.has_failed();
+    let noted = note_text.into_writer().as_slice();
     let code = code_for(status.code(), is_cut, noted.len(), notes.len());
     write_lengths(&out, noted, notes, written);
     code
@@ -261,10 +261,10 @@ fn answer_no_memory(calls: &[u8], text: &mut [u8], notes: &mut [u8], written: &m
 {
     let mut out = Room::new(text);
     let mut bytes = Noted::new();
-    let mut returned = Output::new(&mut bytes);
-    let status = report_no_memory(calls, &mut out, &mut returned);
-    let is_cut = returned.has_failed();
-    let noted = returned.into_writer().as_slice();
+    let mut note_text = Output::new(&mut bytes);
+    let status = report_no_memory(calls, &mut out, &mut note_text);
+    let is_cut = note_text.has_failed();
+    let noted = note_text.into_writer().as_slice();
     let code = code_for(status.code(), is_cut, noted.len(), notes.len());
     write_lengths(&out, noted, notes, written);
     code
@@ -293,10 +293,10 @@ pub extern "C" fn evc_calls_check(
         return answer_no_memory(calls, text, notes, written);
     };
     let mut out = Room::new(text);
-    let mut returned = Output::new(&mut bytes);
-    let status = calls_check_bytes(alloc, calls, &mut out, &mut returned);
-    let is_cut = returned.has_failed();
-    let noted = returned.into_writer().as_slice();
+    let mut note_text = Output::new(&mut bytes);
+    let status = calls_check_bytes(alloc, calls, &mut out, &mut note_text);
+    let is_cut = note_text.has_failed();
+    let noted = note_text.into_writer().as_slice();
     let code = code_for(status.code(), is_cut, noted.len(), notes.len());
     write_lengths(&out, noted, notes, written);
     code

@@ -4,9 +4,9 @@ ghost use Rattle.std.specs.Prelude.{◌≡◌};
 ghost use Rattle.evc_c.specs.declared.monitor.Stage.TheVariants.{Open, Stopped};
 ghost use Rattle.evc_c.specs.Monitors.{stop_status, status_at, IsOpen, GoesOnWith, TakesLine};
 ghost use Rattle.evc_c.specs.Monitors.{EndsWith, EndsText};
-ghost use Rattle.evc_c.specs.Monitors.{TellsNote, TellsLoad, IsClosed};
+ghost use Rattle.evc_c.specs.Monitors.{ReportsNote, ReportsLoad, IsClosed};
 
-use crate::room::put_front;
+use crate::room::copy_prefix;
 use arrayvec::ArrayVec;
 use calls_report::Status;
 use calls_text::TextFault;
@@ -151,20 +151,20 @@ impl Monitor {
     /// how many bytes. There is no note if it was not stopped.
     #[tactic(auto, using(crate::proofs::Taken::said))]
     pub(crate) fn note(&mut self, room: &mut [u8]) -> usize
-        ensures { TellsNote self.old self.new result room.old room.new }
+        ensures { ReportsNote self.old self.new result room.old room.new }
     {
         let Stage::Stopped(stop) = self.stage else {
             return 0;
         };
         let mut bytes = Noted::new();
-        let mut returned = Output::new(&mut bytes);
-        report_stop(&self.watcher, stop, &mut returned);
-        put_front(room, returned.into_writer().as_slice())
+        let mut note_text = Output::new(&mut bytes);
+        report_stop(&self.watcher, stop, &mut note_text);
+        copy_prefix(room, note_text.into_writer().as_slice())
     }
 
     /// Stores how many histories and calls there were, and how far the calls overlap.
     pub(crate) fn load(&mut self, load: &mut EvcLoad)
-        ensures { TellsLoad self.old self.new load.new }
+        ensures { ReportsLoad self.old self.new load.new }
     {
         let found = self.watcher.load();
         load.histories = found.histories;

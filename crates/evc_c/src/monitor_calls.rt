@@ -5,7 +5,7 @@
 ghost use Rattle.std.specs.Prelude.{◌≡◌, ◌≤◌};
 ghost use Rattle.std.specs.Borrow.{sem};
 ghost use Rattle.evc_c.specs.declared.monitor.Monitor.{Monitor};
-ghost use Rattle.evc_c.specs.Monitors.{IsOpen, TakesLine, EndsText, TellsNote, TellsLoad};
+ghost use Rattle.evc_c.specs.Monitors.{IsOpen, TakesLine, EndsText, ReportsNote, ReportsLoad};
 ghost use Rattle.evc_c.specs.Monitors.{IsClosed};
 ghost use Rattle.evc_c.specs.Places.{monitor_size, room_size, room_for_monitor, monitor_at};
 
@@ -61,7 +61,7 @@ pub unsafe extern "C" fn evc_monitor_note(at: *mut u8, note: &mut [u8]) -> usize
     ghost old: { Monitor }
     requires* { sem 𝓛 (monitor_at at old) }
     ensures* { ∃ₛ (λ (new : Monitor). sem 𝓛 (monitor_at at new)
-        ∗ ⌜ TellsNote old new result note.old note.new ⌝) }
+        ∗ ⌜ ReportsNote old new result note.old note.new ⌝) }
 {
     (&mut *(at as *mut Monitor)).note(note)
 }
@@ -72,7 +72,7 @@ pub unsafe extern "C" fn evc_monitor_load(at: *mut u8, load: &mut EvcLoad)
     ghost old: { Monitor }
     requires* { sem 𝓛 (monitor_at at old) }
     ensures* { ∃ₛ (λ (new : Monitor). sem 𝓛 (monitor_at at new)
-        ∗ ⌜ TellsLoad old new load.new ⌝) }
+        ∗ ⌜ ReportsLoad old new load.new ⌝) }
 {
     (&mut *(at as *mut Monitor)).load(load)
 }

@@ -41,7 +41,7 @@ pub(crate) fn put_after(room: &mut [u8], at: usize, bytes: &[u8]) -> usize
 }
 
 /// Copies as many bytes as fit into a buffer, from its beginning on, and returns how many.
-pub(crate) fn put_front(room: &mut [u8], bytes: &[u8]) -> usize
+pub(crate) fn copy_prefix(room: &mut [u8], bytes: &[u8]) -> usize
     ensures within { result ≤ length room.new }
     ensures len { length room.new ≡ length room.old }
     ensures prefix { take result room.new ≡ take (length room.old) bytes.now }

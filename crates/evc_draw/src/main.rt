@@ -1,7 +1,7 @@
 //! `evc-draw`: draws a trace, or histories of calls.
 #![tactic(auto)]
 
-use ec_draw::Choice;
+use ec_draw::NameFilter;
 use ec_text::Output;
 use evc_draw_cli::{Bound, Error, NoNumber, Task, status_of, task};
 use evc_draw_engine::{View, draw};
@@ -30,7 +30,7 @@ fn run_task<N: Write>(rt: &HostRuntime, task: &Task<'_>, notes: &mut Output<'_, 
         Ok(range) => range,
         Err(wrong) => return report_no_number(notes, &wrong),
     };
-    let choice = Choice {
+    let choice = NameFilter {
         workers: task.workers.as_slice(),
         objects: task.objects.as_slice(),
     };

@@ -5,7 +5,7 @@ use Rattle.ec_core.specs.declared.act.Reply.{Reply}
 use Rattle.ec_explain.specs.TextLines.{text_before_line, line_at, position_or_end}
 use Rattle.ec_heading.specs.Spelling.{reply_word}
 use Rattle.ec_trace.specs.TraceModel.{TraceModel}
-use Rattle.ec_trace.specs.Outcome.{outcome}
+use Rattle.ec_trace.specs.Outcome.{parse_result}
 use Rattle.ec_trace.specs.declared.fault.TraceFault.{TraceFault}
 use Rattle.ec_trace.specs.declared.fault.TraceFault.TheVariants.{BadLine, Refused, WrongReply}
 use Rattle.ec_trace.specs.declared.read.TheConstants.{TRACE_MAX}
@@ -32,7 +32,7 @@ read_back (Err e) = None
 -- the trace of that text; none if no run had begun before line n
 abbrev pub history : ℕ → Option Reply → List ℕ → Option TraceModel
 history n right xs =
-    read_back (outcome TRACE_MAX (mended (text_before_line n xs) (line_at n xs) right))
+    read_back (parse_result TRACE_MAX (mended (text_before_line n xs) (line_at n xs) right))
 
 -- THE FAULT
 

@@ -6,8 +6,9 @@ ghost use Rattle.evc_engine.specs.declared.status.Status.TheVariants.{InputOutpu
 ghost use Rattle.ec_draw.specs.Chosen.{chosen_targets};
 ghost use Rattle.ec_draw.specs.Pictures.{kept_shapes};
 ghost use Rattle.evc_draw_engine.specs.Draws.{CutOffFault, Drawn, Draws, DrawsCutOff, DrawsText};
-ghost use Rattle.evc_draw_engine.specs.Draws.{DrawsTrace, DrawsTraceSoFar, IsDrawable, TellsFault};
-ghost use Rattle.evc_draw_engine.specs.Draws.{columns_for, shapes_for, story};
+ghost use Rattle.evc_draw_engine.specs.Draws.{DrawsTrace, DrawsTraceSoFar, IsDrawable};
+ghost use Rattle.evc_draw_engine.specs.Draws.{ReportsFault};
+ghost use Rattle.evc_draw_engine.specs.Draws.{columns_for, shapes_for, trace_before_fault};
 ghost use Rattle.evc_draw_engine.specs.Faults.{position_in, right_of};
 ghost use Rattle.evc_draw_engine.specs.Windows.{cut_note, is_wide, window_on};
 
@@ -23,7 +24,7 @@ use crate::unknown::{has_unknown, report_unknown};
 use crate::view::View;
 use crate::window::{is_empty, is_wide, report_empty, window_for};
 use calls_draw::is_calls;
-use ec_draw::{Chosen, Picture, picture_of};
+use ec_draw::{Picture, Selection, picture_of};
 use ec_explain::line_at;
 use ec_text::{Input, Output, read_up_to, write_out};
 use ec_trace::{TRACE_MAX, TraceFault, Traced};
@@ -38,7 +39,7 @@ fn picture_text(
     view: &View<'_>,
     traced: &Traced,
     columns: usize,
-    chosen: &Chosen,
+    chosen: &Selection,
     picture: &Picture,
     note: Option<Note<'_>>,
 ) -> Result<String, AllocError>
@@ -76,7 +77,7 @@ fn document(
     requires { columns ≡ columns_for traced.now note }
 {
     let heading = traced.heading();
-    let chosen = Chosen::new(alloc, &view.choice, heading.words())?;
+    let chosen = Selection::new(alloc, &view.choice, heading.words())?;
     let window = window_for(view.range, columns);
     let picture = picture_of(alloc, traced.run(), heading.groups(), window)?;
     picture_text(alloc, view, traced, columns, &chosen, &picture, note)
@@ -170,7 +171,7 @@ fn write_drawn<W: Write, N: Write>(
 
 /// Writes the picture of a history up to a faulty line, and reports the fault.
 #[tactic(auto, using(crate::proofs::Whole::wrote))]
-fn write_story<W: Write, N: Write>(
+fn write_trace_before_fault<W: Write, N: Write>(
     alloc: Global,
     view: &View<'_>,
     traced: &Traced,
@@ -180,7 +181,7 @@ fn write_story<W: Write, N: Write>(
 ) -> Status
     requires { note.now.position ≡ position_in (right_of note.now.fault)
         (length traced.now.entries) }
-    ensures ends { TellsFault (Some traced.now) note.now.fault result
+    ensures ends { ReportsFault (Some traced.now) note.now.fault result
         (record { out = W.contents out.old; notes = notes.old })
         (record { out = W.contents out.new; notes = notes.new }) }
     ensures written { IsWrittenOut notes.old → IsWrittenOut notes.new }
@@ -211,7 +212,7 @@ fn draw_before_fault<W: Write, N: Write>(
     out: &mut W,
     notes: &mut Output<'_, N>,
 ) -> Status
-    ensures ends { TellsFault traced.now fault.now result
+    ensures ends { ReportsFault traced.now fault.now result
         (record { out = W.contents out.old; notes = notes.old })
         (record { out = W.contents out.new; notes = notes.new }) }
     ensures written { IsWrittenOut notes.old → IsWrittenOut notes.new }
@@ -226,7 +227,7 @@ fn draw_before_fault<W: Write, N: Write>(
         fault: *fault,
         position: position_in(&right_of(fault), traced.run().len()),
     };
-    write_story(alloc, view, traced, &note, out, notes)
+    write_trace_before_fault(alloc, view, traced, &note, out, notes)
 }
 
 /// Reports the fault of a text, and draws the history up to it.
@@ -238,7 +239,7 @@ fn draw_faulty_text<W: Write, N: Write>(
     out: &mut W,
     notes: &mut Output<'_, N>,
 ) -> Status
-    ensures ends { TellsFault (story text.now fault.now) fault.now result
+    ensures ends { ReportsFault (trace_before_fault text.now fault.now) fault.now result
         (record { out = W.contents out.old; notes = notes.old })
         (record { out = W.contents out.new; notes = notes.new }) }
     ensures written { IsWrittenOut notes.old → IsWrittenOut notes.new }

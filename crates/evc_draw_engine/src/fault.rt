@@ -50,7 +50,7 @@ fn add_with_right(text: &mut Vec<u8>, line: &[u8], right: &Option<Reply>) -> Res
 /// Returns a trace: the lines before a faulty one, that line with its right reply if there is one,
 /// and `end`.
 #[tactic(auto, unfolding(crate::specs::Faults::mended))]
-fn mend_line(
+fn correct_line(
     alloc: Global,
     before: &[u8],
     line: &[u8],
@@ -84,7 +84,7 @@ pub(crate) fn history(
 ) -> Result<Option<Traced>, AllocError>
     ensures { IfOk result (λ read. read ≡ history number right.now text.now) }
 {
-    let mended = mend_line(
+    let mended = correct_line(
         alloc,
         text_before_line(number, text),
         line_at(number, text),

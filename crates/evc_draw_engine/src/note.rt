@@ -217,12 +217,12 @@ fn put_column(out: &mut String, sheet: &Sheet<'_>, note: &Note<'_>) -> PutResult
 }
 
 /// Puts the note on a faulty line below the picture, and marks the line's column.
-pub(crate) fn put_note(out: &mut String, sheet: &Sheet<'_>, returned: &NoteLines) -> PutResult {
+pub(crate) fn put_note(out: &mut String, sheet: &Sheet<'_>, note_lines: &NoteLines) -> PutResult {
     if let Some(note) = &sheet.note {
         put_column(out, sheet, note)?;
     }
     let mut y = sheet.height();
-    for line in returned.lines.as_slice() {
+    for line in note_lines.lines.as_slice() {
         put_text_start(out, "fault", "", xy(16, y))?;
         write!(out, "{}", line.as_str())?;
         put_text_end(out)?;

@@ -6,7 +6,7 @@ use crate::elements::{
 };
 use crate::names::{Names, kind};
 use crate::sheet::Sheet;
-use crate::words::{put_call_words, put_open_words};
+use crate::words::{put_call_words, put_pending_words};
 use ec_core::{Act, Reply};
 use ec_draw::{Dot, PendingBar};
 use ec_order::{Call, Placed};
@@ -109,7 +109,7 @@ pub(crate) fn put_bar(out: &mut String, sheet: &Sheet<'_>, placed: &Placed) -> P
 /// Puts a pending call. Its bar extends to the right edge.
 pub(crate) fn put_open_bar(out: &mut String, sheet: &Sheet<'_>, begun: &PendingBar) -> PutResult {
     write!(out, "<g class='open {}'><title>", kind(&begun.op))?;
-    put_open_words(out, sheet.names, begun)?;
+    put_pending_words(out, sheet.names, begun)?;
     out.push_str("</title>\n")?;
     let y = sheet.row(begun.worker);
     let x = sheet.bar_from(begun.first);

@@ -4,7 +4,7 @@ ghost use Rattle.std.specs.Prelude.{◌≤◌};
 use crate::names::Names;
 use crate::note::Note;
 use ec_count::WorkerId;
-use ec_draw::{Chosen, Curve, Picture};
+use ec_draw::{Curve, Picture, Selection};
 
 /// The width of an entry's column.
 pub(crate) const COLUMN: u64 = 84;
@@ -19,7 +19,7 @@ pub(crate) const LEFT: u64 = 136;
 #[derive(Clone, Copy)]
 pub(crate) struct Sheet<'a> {
     pub(crate) names: &'a Names<'a>,
-    pub(crate) chosen: &'a Chosen,
+    pub(crate) chosen: &'a Selection,
     pub(crate) workers: usize,
     pub(crate) picture: &'a Picture,
     /// The faulty line, if there is one.

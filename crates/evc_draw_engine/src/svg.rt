@@ -126,7 +126,7 @@ fn put_bars(out: &mut String, sheet: &Sheet<'_>) -> PutResult {
 }
 
 /// Puts the dots of the entries, and the marks at the linearization points.
-fn put_front(out: &mut String, sheet: &Sheet<'_>) -> PutResult {
+fn put_dots_and_points(out: &mut String, sheet: &Sheet<'_>) -> PutResult {
     for dot in sheet.picture.dots.as_slice() {
         if sheet.chosen.draws(dot.worker, &dot.op) {
             put_dot(out, sheet, dot)?;
@@ -142,16 +142,16 @@ fn put_front(out: &mut String, sheet: &Sheet<'_>) -> PutResult {
 
 /// Puts a picture as SVG.
 pub(crate) fn put_svg(out: &mut String, alloc: Global, sheet: &Sheet<'_>) -> PutResult {
-    let returned = NoteLines::of(alloc, sheet)?;
+    let note_lines = NoteLines::of(alloc, sheet)?;
     put_header(
         out,
-        returned.width(sheet),
-        sheet.height() + returned.height(),
+        note_lines.width(sheet),
+        sheet.height() + note_lines.height(),
     )?;
     put_back(out, sheet)?;
     put_findings(out, sheet)?;
     put_bars(out, sheet)?;
-    put_front(out, sheet)?;
-    put_note(out, sheet, &returned)?;
+    put_dots_and_points(out, sheet)?;
+    put_note(out, sheet, &note_lines)?;
     out.push_str("</svg>\n")
 }

@@ -4,7 +4,7 @@ use crate::elements::PutResult;
 use crate::names::Name;
 use crate::note::NoteLines;
 use crate::sheet::Sheet;
-use crate::words::{put_call_words, put_delivery_words, put_open_words, put_version_words};
+use crate::words::{put_call_words, put_delivery_words, put_pending_words, put_version_words};
 use ec_count::WorkerId;
 use ec_draw::{Curve, Dot};
 use std::alloc::Global;
@@ -157,7 +157,7 @@ fn put_calls(out: &mut String, sheet: &Sheet<'_>) -> PutResult {
     }
     for begun in sheet.picture.begun.as_slice() {
         if sheet.chosen.draws(begun.worker, &begun.op) {
-            put_open_words(out, sheet.names, begun)?;
+            put_pending_words(out, sheet.names, begun)?;
             out.push_str("\n")?;
         }
     }

@@ -2,12 +2,13 @@
 ghost use Rattle.std.specs.Prelude.{◌≡◌};
 ghost use Rattle.std.specs.List.{flat_map, list_any};
 ghost use Rattle.ec_text.specs.Puts.{Puts, IsWrittenOut};
-ghost use Rattle.evc_draw_engine.specs.Unknown.{has_unknown, is_object, is_worker, lacks_object};
-ghost use Rattle.evc_draw_engine.specs.Unknown.{lacks_worker, object_note, unknown_note, unknown_notes};
+ghost use Rattle.evc_draw_engine.specs.Unknown.{has_unknown, is_object, is_worker};
+ghost use Rattle.evc_draw_engine.specs.Unknown.{is_unknown_object};
+ghost use Rattle.evc_draw_engine.specs.Unknown.{is_unknown_worker, object_note, unknown_note, unknown_notes};
 ghost use Rattle.evc_draw_engine.specs.Unknown.{worker_note};
 
 use ec_count::{SymbolTable, Target};
-use ec_draw::Choice;
+use ec_draw::NameFilter;
 use ec_text::Output;
 use std::io::Write;
 
@@ -26,38 +27,38 @@ fn is_object(target: Option<Target>) -> bool
 }
 
 /// Returns whether no worker has a name.
-fn lacks_worker(words: &SymbolTable, name: &str) -> bool
-    ensures { result ≡ lacks_worker words.now name.now }
+fn is_unknown_worker(words: &SymbolTable, name: &str) -> bool
+    ensures { result ≡ is_unknown_worker words.now name.now }
 {
     !is_worker(words.find(name.as_bytes()))
 }
 
 /// Returns whether no object has a name.
-fn lacks_object(words: &SymbolTable, name: &str) -> bool
-    ensures { result ≡ lacks_object words.now name.now }
+fn is_unknown_object(words: &SymbolTable, name: &str) -> bool
+    ensures { result ≡ is_unknown_object words.now name.now }
 {
     !is_object(words.find(name.as_bytes()))
 }
 
 /// Returns whether some of these names is that of no worker.
-fn any_lacks_worker(words: &SymbolTable, names: &[&str]) -> bool
-    ensures { result ≡ list_any (λ s. lacks_worker words.now s.now) names.now }
+fn any_unknown_worker(words: &SymbolTable, names: &[&str]) -> bool
+    ensures { result ≡ list_any (λ s. is_unknown_worker words.now s.now) names.now }
 {
-    names.iter().any(|name| lacks_worker(words, name))
+    names.iter().any(|name| is_unknown_worker(words, name))
 }
 
 /// Returns whether some of these names is that of no object.
-fn any_lacks_object(words: &SymbolTable, names: &[&str]) -> bool
-    ensures { result ≡ list_any (λ s. lacks_object words.now s.now) names.now }
+fn any_unknown_object(words: &SymbolTable, names: &[&str]) -> bool
+    ensures { result ≡ list_any (λ s. is_unknown_object words.now s.now) names.now }
 {
-    names.iter().any(|name| lacks_object(words, name))
+    names.iter().any(|name| is_unknown_object(words, name))
 }
 
 /// Returns whether some chosen name is not declared.
-pub(crate) fn has_unknown(words: &SymbolTable, choice: &Choice<'_>) -> bool
+pub(crate) fn has_unknown(words: &SymbolTable, choice: &NameFilter<'_>) -> bool
     ensures { result ≡ has_unknown choice.now words.now }
 {
-    any_lacks_worker(words, choice.workers) || any_lacks_object(words, choice.objects)
+    any_unknown_worker(words, choice.workers) || any_unknown_object(words, choice.objects)
 }
 
 /// Puts the note on a name that is not declared.
@@ -75,7 +76,7 @@ fn put_unknown<N: Write>(out: &mut Output<'_, N>, what: &[u8], name: &[u8])
 fn put_worker_note<N: Write>(out: &mut Output<'_, N>, words: &SymbolTable, name: &str)
     ensures { Puts out.old out.new (worker_note words.now name.now) }
 {
-    if lacks_worker(words, name) {
+    if is_unknown_worker(words, name) {
         put_unknown(out, b"no worker ", name.as_bytes());
     }
 }
@@ -85,7 +86,7 @@ fn put_worker_note<N: Write>(out: &mut Output<'_, N>, words: &SymbolTable, name:
 fn put_object_note<N: Write>(out: &mut Output<'_, N>, words: &SymbolTable, name: &str)
     ensures { Puts out.old out.new (object_note words.now name.now) }
 {
-    if lacks_object(words, name) {
+    if is_unknown_object(words, name) {
         put_unknown(out, b"no object ", name.as_bytes());
     }
 }
@@ -109,7 +110,11 @@ fn put_object_notes<N: Write>(out: &mut Output<'_, N>, words: &SymbolTable, name
 }
 
 /// Puts a note on each chosen name that is not declared.
-fn put_unknown_notes<N: Write>(out: &mut Output<'_, N>, words: &SymbolTable, choice: &Choice<'_>)
+fn put_unknown_notes<N: Write>(
+    out: &mut Output<'_, N>,
+    words: &SymbolTable,
+    choice: &NameFilter<'_>,
+)
     ensures { Puts out.old out.new (unknown_notes choice.now words.now) }
 {
     put_worker_notes(out, words, choice.workers);
@@ -119,7 +124,7 @@ fn put_unknown_notes<N: Write>(out: &mut Output<'_, N>, words: &SymbolTable, cho
 /// Writes a note on each chosen name that is not declared.
 pub(crate) fn report_unknown<N: Write>(
     words: &SymbolTable,
-    choice: &Choice<'_>,
+    choice: &NameFilter<'_>,
     notes: &mut Output<'_, N>,
 )
     ensures puts { Puts notes.old notes.new (unknown_notes choice.now words.now) }

@@ -1,6 +1,6 @@
 //! The view that a caller asks for.
 
-use ec_draw::Choice;
+use ec_draw::NameFilter;
 use evc_draw_cli::{Form, Range};
 
 /// What is drawn of a trace or of histories, and in which format.
@@ -8,5 +8,5 @@ use evc_draw_cli::{Form, Range};
 pub struct View<'a> {
     pub form: Form,
     pub range: Range,
-    pub choice: Choice<'a>,
+    pub choice: NameFilter<'a>,
 }

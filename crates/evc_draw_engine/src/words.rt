@@ -34,7 +34,11 @@ pub(crate) fn put_call_words(out: &mut String, names: &Names<'_>, placed: &Place
 }
 
 /// Puts a pending call, with its first entry.
-pub(crate) fn put_open_words(out: &mut String, names: &Names<'_>, begun: &PendingBar) -> PutResult {
+pub(crate) fn put_pending_words(
+    out: &mut String,
+    names: &Names<'_>,
+    begun: &PendingBar,
+) -> PutResult {
     put_call(out, names, begun.worker, begun.op, Reply::Pending)?;
     write!(out, ", under way from entry {}", begun.first)
 }

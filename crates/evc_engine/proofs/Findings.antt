@@ -7,11 +7,11 @@ use Rattle.ec_core.specs.Counts.{total}
 use Rattle.ec_core.specs.Ending.{EndsAt}
 use Rattle.ec_core.specs.Standing.{State, StandsFor as StandsAfter}
 use Rattle.ec_core.specs.declared.act.Entry.{Entry}
-use Rattle.ec_buffer.specs.Auditing.{DeliveryAuditModel, IsDelivering}
+use Rattle.ec_buffer.specs.Auditing.{DeliveryAuditModel, RepresentsDeliveries}
 use Rattle.ec_buffer.specs.Shapes.{Buffer}
-use Rattle.ec_database.specs.Auditing.{VersionAuditModel, IsVersioning}
+use Rattle.ec_database.specs.Auditing.{VersionAuditModel, RepresentsVersions}
 use Rattle.ec_database.specs.Shapes.{Database}
-use Rattle.ec_semaphore.specs.Auditing.{BalanceAuditModel, IsCounted, IsPairing}
+use Rattle.ec_semaphore.specs.Auditing.{BalanceAuditModel, RepresentsBalance, RepresentsPairs}
 use Rattle.ec_semaphore.specs.Balances.{balance_parts}
 use Rattle.ec_semaphore.specs.Shapes.{Semaphore}
 use Rattle.ec_semaphore.specs.declared.parts.Balance.{Balance}
@@ -24,7 +24,7 @@ use Rattle.std.specs.List.{All}
 use Rattle.ec_heading.specs.Groups.{FitsGroup}
 use Rattle.evc_engine.specs.Walks.{EndsFor, EachRepresents, EachEndsFor, group_of, AuditsOn}
 use Rattle.evc_engine.proofs.WalkLemmas.{walk_ends}
-use Rattle.ec_walk.specs.Walks.{AreWalked, GroupAuditsModel, WalksOn}
+use Rattle.ec_walk.specs.Walks.{AreIndependent, GroupAuditsModel, WalksOn}
 use Rattle.evc_engine.specs.declared.walked.Auditing.{Auditing}
 use Rattle.evc_engine.specs.declared.walked.Auditing.TheVariants as audits
 use Rattle.evc_engine.specs.declared.walked.BothAudit.{BothAudit}
@@ -39,41 +39,41 @@ module _ (h : HeadingModel) (entries : List Entry) where
   }
 
   -- of a buffer
-  pub of_buffer : (g : Group) (a : DeliveryAuditModel) (P : Tables → Buffer → Type 0) → EndsFor h entries g (audits.Deliveries a) → (EndsAt a.setup (IsDelivering a) entries → P a.setup a.shape)
+  pub of_buffer : (g : Group) (a : DeliveryAuditModel) (P : Tables → Buffer → Type 0) → EndsFor h entries g (audits.Deliveries a) → (EndsAt a.setup (RepresentsDeliveries a) entries → P a.setup a.shape)
       → (b : Buffer) × (g ≡ groups.Buffer b) × P h.setup b
   of_buffer (groups.Buffer b) a P e so =
-      (b, refl, subst (λ t. P t b) e.represents.1 (subst (λ s. P a.setup s) e.represents.0 (so (ends_at a.setup (IsDelivering a) e.represents.1 e.declared e.accepted e.represents.2))))
+      (b, refl, subst (λ t. P t b) e.represents.1 (subst (λ s. P a.setup s) e.represents.0 (so (ends_at a.setup (RepresentsDeliveries a) e.represents.1 e.declared e.accepted e.represents.2))))
   of_buffer (groups.Database d) a P e so = absurd e.represents
   of_buffer (groups.Semaphore s) a P e so = absurd e.represents
   of_buffer (groups.Both c) a P e so = absurd e.represents
 
   -- of a database
-  pub of_database : (g : Group) (a : VersionAuditModel) (P : Tables → Database → Type 0) → EndsFor h entries g (audits.Versions a) → (EndsAt a.setup (IsVersioning a) entries → P a.setup a.shape)
+  pub of_database : (g : Group) (a : VersionAuditModel) (P : Tables → Database → Type 0) → EndsFor h entries g (audits.Versions a) → (EndsAt a.setup (RepresentsVersions a) entries → P a.setup a.shape)
       → (d : Database) × (g ≡ groups.Database d) × P h.setup d
   of_database (groups.Database d) a P e so =
-      (d, refl, subst (λ t. P t d) e.represents.1 (subst (λ s. P a.setup s) e.represents.0 (so (ends_at a.setup (IsVersioning a) e.represents.1 e.declared e.accepted e.represents.2))))
+      (d, refl, subst (λ t. P t d) e.represents.1 (subst (λ s. P a.setup s) e.represents.0 (so (ends_at a.setup (RepresentsVersions a) e.represents.1 e.declared e.accepted e.represents.2))))
   of_database (groups.Buffer b) a P e so = absurd e.represents
   of_database (groups.Semaphore s) a P e so = absurd e.represents
   of_database (groups.Both c) a P e so = absurd e.represents
 
   -- of a semaphore
-  pub of_semaphore : (g : Group) (a : BalanceAuditModel) (P : Semaphore → Type 0) → EndsFor h entries g (audits.Balance a) → (EndsAt h.setup (IsCounted a) entries → P a.shape)
+  pub of_semaphore : (g : Group) (a : BalanceAuditModel) (P : Semaphore → Type 0) → EndsFor h entries g (audits.Balance a) → (EndsAt h.setup (RepresentsBalance a) entries → P a.shape)
       → (s : Semaphore) × (g ≡ groups.Semaphore s) × P s
   of_semaphore (groups.Semaphore s) a P e so =
-      (s, refl, subst P e.represents.0 (so (ends_at h.setup (IsCounted a) refl e.declared e.accepted e.represents.1)))
+      (s, refl, subst P e.represents.0 (so (ends_at h.setup (RepresentsBalance a) refl e.declared e.accepted e.represents.1)))
   of_semaphore (groups.Buffer b) a P e so = absurd e.represents
   of_semaphore (groups.Database d) a P e so = absurd e.represents
   of_semaphore (groups.Both c) a P e so = absurd e.represents
 
   -- of `both`
   pub of_both : (g : Group) (a : BothAudit) (P : Semaphore → List Semaphore → Semaphore → Type 0) → EndsFor h entries g (audits.Both a)
-      → (EndsAt h.setup (IsCounted a.balance) entries → EndsAt h.setup (IsPairing a.pairs) entries → P a.pairs.common a.pairs.shapes a.balance.shape)
+      → (EndsAt h.setup (RepresentsBalance a.balance) entries → EndsAt h.setup (RepresentsPairs a.pairs) entries → P a.pairs.common a.pairs.shapes a.balance.shape)
       → (c : Semaphore) × (g ≡ groups.Both c) × P c (semaphores_of h.groups) c
   of_both (groups.Both c) a P e so = (
     c,
     refl,
     subst (λ s. P c (semaphores_of h.groups) s) e.represents.0 (subst (λ all. P c all a.balance.shape) e.represents.3 (subst (λ s. P s a.pairs.shapes a.balance.shape) e.represents.2
-        (so (ends_at h.setup (IsCounted a.balance) refl e.declared e.accepted e.represents.1) (ends_at h.setup (IsPairing a.pairs) refl e.declared e.accepted e.represents.4)))),
+        (so (ends_at h.setup (RepresentsBalance a.balance) refl e.declared e.accepted e.represents.1) (ends_at h.setup (RepresentsPairs a.pairs) refl e.declared e.accepted e.represents.4)))),
   )
   of_both (groups.Buffer b) a P e so = absurd e.represents
   of_both (groups.Database d) a P e so = absurd e.represents
@@ -119,7 +119,7 @@ pub walk_finds : (h : HeadingModel) (entries : List Entry) (all : List Semaphore
     → StandsAfter world entries → world.setup ≡ h.setup → WalksOn group_of AuditsOn first now (reverse entries) → first.groups ≡ h.groups → first.audits ≡ starts → all ≡ semaphores_of h.groups
     → EachRepresents h.setup all h.groups starts [] → All (FitsGroup h.setup) h.groups → EachEndsFor h entries now.audits
 walk_finds h entries all starts first now world represents same walks groups audits every each fits =
-    (let walked : AreWalked group_of AuditsOn h.groups starts now.audits (reverse entries) =
-    subst (λ l. AreWalked group_of AuditsOn h.groups l now.audits (reverse entries)) audits (subst (λ gs. AreWalked group_of AuditsOn gs first.audits now.audits (reverse entries)) groups walks.1) in
+    (let walked : AreIndependent group_of AuditsOn h.groups starts now.audits (reverse entries) =
+    subst (λ l. AreIndependent group_of AuditsOn h.groups l now.audits (reverse entries)) audits (subst (λ gs. AreIndependent group_of AuditsOn gs first.audits now.audits (reverse entries)) groups walks.1) in
     each_ends h entries now.audits (subst IsDeclared same represents.declared) (subst (λ (t : Tables). IsAccepted t (reverse entries)) same represents.accepted) fits
     (subst (λ l. EachRepresents h.setup l h.groups now.audits (reverse entries)) every (walk_ends h.setup all h.groups starts now.audits (reverse entries) each walked)))

@@ -10,7 +10,7 @@ use Rattle.ec_trace.specs.declared.fault.TraceFault.{TraceFault}
 use Rattle.ec_trace.specs.declared.fault.TraceFault.TheVariants.{BadLine, Refused, WrongReply, Unfinished, TooLarge, Read, Memory}
 use Rattle.ec_trace.specs.declared.read.TheConstants.{TRACE_MAX}
 use Rattle.evc_engine.specs.Audits.{AreAudited, IsStop, AuditWrites, Audits, stop_status, stop_note}
-use Rattle.evc_engine.specs.Checks.{Outlets, Notes}
+use Rattle.evc_engine.specs.Checks.{Outputs, Notes}
 use Rattle.evc_engine.specs.Halts.{IsOf}
 use Rattle.evc_engine.specs.Notes.{fault_note, fault_status}
 use Rattle.evc_engine.specs.declared.audit_result.AuditResult.{AuditResult}
@@ -23,7 +23,7 @@ pub stays : (a : Option (List ℕ)) → Keeps a a
 stays None = tt
 stays (Some xs) = refl
 
-module _ (bytes : List ℕ) (left : Option (List ℕ)) (h : HeadingModel) (old new : Outlets) where
+module _ (bytes : List ℕ) (left : Option (List ℕ)) (h : HeadingModel) (old new : Outputs) where
   -- what was found was written, or a write failed
   pub all_written : (entries : List Entry) (found : List AuditResult) → IsOf bytes h entries → AreAudited h entries found → AuditWrites h found statuses.Done old new → Audits bytes left statuses.Done old new
   all_written entries found returned audited writes = (record { heading = h; entries = entries }, reads_as bytes h entries returned, record { found = found; audited = audited; writes = writes })
@@ -38,7 +38,7 @@ module _ (bytes : List ℕ) (left : Option (List ℕ)) (h : HeadingModel) (old n
   stop_told entries i faults.Memory returned breaks out note = (out, note)
 
 -- the trace was not read
-pub fault_told : (bytes : List ℕ) (left : Option (List ℕ)) (fault : TraceFault) (old new : Outlets) → Returns TRACE_MAX bytes left (Err fault) → Keeps old.out new.out → Notes old new (fault_note fault) → Audits bytes left (fault_status fault) old new
+pub fault_told : (bytes : List ℕ) (left : Option (List ℕ)) (fault : TraceFault) (old new : Outputs) → Returns TRACE_MAX bytes left (Err fault) → Keeps old.out new.out → Notes old new (fault_note fault) → Audits bytes left (fault_status fault) old new
 fault_told bytes left (BadLine n) old new returned out note = inr (BadLine n, record { none = trace_refuses bytes (BadLine n) returned; returned = returned }, out, note)
 fault_told bytes left (Refused n r) old new returned out note = inr (Refused n r, record { none = trace_refuses bytes (Refused n r) returned; returned = returned }, out, note)
 fault_told bytes left (WrongReply n r) old new returned out note = inr (WrongReply n r, record { none = trace_refuses bytes (WrongReply n r) returned; returned = returned }, out, note)

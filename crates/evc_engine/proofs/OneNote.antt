@@ -8,11 +8,11 @@ use Rattle.ec_core.proofs.shared.Breaks.{breaks_first, follow_or_break}
 use Rattle.ec_heading.specs.HeadingModel.{HeadingModel}
 use Rattle.ec_heading.specs.declared.group.Group.{Group}
 use Rattle.ec_heading.specs.Rules.{group_rules}
-use Rattle.ec_trace.specs.Outcome.{outcome}
+use Rattle.ec_trace.specs.Outcome.{parse_result}
 use Rattle.ec_trace.specs.TraceModel.{TraceModel}
 use Rattle.ec_trace.specs.declared.fault.TraceFault.{TraceFault}
 use Rattle.ec_trace.specs.declared.read.TheConstants.{TRACE_MAX}
-use Rattle.evc_engine.specs.Checks.{Outlets, Notes, ReadsAs, RefusedFor}
+use Rattle.evc_engine.specs.Checks.{Outputs, Notes, ReadsAs, RefusedFor}
 use Rattle.evc_engine.specs.Audits.{IsNotFollowed, NamesFirstBreak, not_followed_note}
 use Rattle.evc_engine.specs.NoteLaws.{BothSay, RefusedChecksHaveOneNote, RefusedAuditsHaveOneNote, RefusalsAreAlike}
 use Rattle.evc_engine.specs.Notes.{fault_note}
@@ -62,7 +62,7 @@ module _ (h : HeadingModel) (entries : List Entry) where
 
 -- ONE NOTE
 
-says : (old new before after : Outlets) (note remark : List ℕ) → remark ≡ note → Keeps old.out new.out × Notes old new note → Keeps before.out after.out × Notes before after remark
+says : (old new before after : Outputs) (note remark : List ℕ) → remark ≡ note → Keeps old.out new.out × Notes old new note → Keeps before.out after.out × Notes before after remark
     → (said : List ℕ) × BothSay old new before after said
 says old new before after note remark same one other = (note, (one, (other.0, subst (Notes before after) same other.1)))
 
@@ -70,7 +70,7 @@ one_told : (returned : Result TraceModel TraceFault) (fault other : TraceFault) 
 one_told returned fault other one two = cc
 
 one_fault : (bytes : List ℕ) (fault other : TraceFault) → RefusedFor bytes fault → RefusedFor bytes other → fault_note other ≡ fault_note fault
-one_fault bytes fault other one two = ap fault_note (sym (one_told (outcome TRACE_MAX bytes) fault other one.returned two.returned))
+one_fault bytes fault other one two = ap fault_note (sym (one_told (parse_result TRACE_MAX bytes) fault other one.returned two.returned))
 
 never_both : (bytes : List ℕ) (t : TraceModel) (fault : TraceFault) → ReadsAs bytes t → RefusedFor bytes fault → ⊥
 never_both bytes t fault reads refused = refused.none reads.trace.outline t.entries reads.trace.trace
@@ -79,7 +79,7 @@ pub checks_note : RefusedChecksHaveOneNote
 checks_note bytes left rest old new before after one other =
     says old new before after (fault_note one.0) (fault_note other.0) (one_fault bytes one.0 other.0 one.1 other.1) (one.2, one.3) (other.2, other.3)
 
-names_once : (t : TraceModel) (old new before after : Outlets) → NamesFirstBreak t old new → NamesFirstBreak t before after → (note : List ℕ) × BothSay old new before after note
+names_once : (t : TraceModel) (old new before after : Outputs) → NamesFirstBreak t old new → NamesFirstBreak t before after → (note : List ℕ) × BothSay old new before after note
 names_once t old new before after one other =
     says old new before after (not_followed_note t.heading one.group one.worker one.entry) (not_followed_note t.heading other.group other.worker other.entry)
     (one_break t.heading t.entries one.group other.group one.worker other.worker one.entry other.entry one.breaks other.breaks) (one.out, one.note) (other.out, other.note)

@@ -30,7 +30,7 @@ use Rattle.ec_heading.specs.declared.group.Group.{Group}
 use Rattle.ec_heading.specs.declared.group.Group.TheVariants as groups
 use Rattle.evc_engine.specs.declared.audit_result.AuditResult.{AuditResult}
 use Rattle.evc_engine.specs.declared.audit_result.AuditResult.TheVariants as audits
-use Rattle.evc_engine.specs.AuditTexts.{now_of, group_word, delivery_line, version_line, balance_line, pair_line, semaphore_word, audited_lines, groups_lines, audit_text}
+use Rattle.evc_engine.specs.AuditTexts.{balance_of, group_word, delivery_line, version_line, balance_line, pair_line, semaphore_word, audited_lines, groups_lines, audit_text}
 use Rattle.evc_engine.specs.AuditLaws.{AuditsHaveOneText, TextOrBreak}
 use Rattle.ec_heading.specs.Rules.{group_rules}
 use Rattle.evc_engine.specs.Audits.{IsAudited, AreAudited}
@@ -126,7 +126,7 @@ module _ (h : HeadingModel) (entries : List Entry) (read : IsRead h entries) whe
   one_balance name a c m n same now = ap (λ b. balance_line name b m) same ∙ ap (balance_line name c) now
 
   balanced : (s : Semaphore) (name : List ℕ) (a c : AuditResult) → IsAudited h entries (groups.Semaphore s) a → IsAudited h entries (groups.Semaphore s) c → audited_lines h name a ≡ audited_lines h name c
-  balanced s name (audits.Balances a m) (audits.Balances c n) p q = ap (λ l. l ∷ []) (one_balance name a c m n (p.1.0 ∙ sym q.1.0) (p.1.1 ∙ ap now_of (p.1.0 ∙ sym q.1.0) ∙ sym q.1.1))
+  balanced s name (audits.Balances a m) (audits.Balances c n) p q = ap (λ l. l ∷ []) (one_balance name a c m n (p.1.0 ∙ sym q.1.0) (p.1.1 ∙ ap balance_of (p.1.0 ∙ sym q.1.0) ∙ sym q.1.1))
   balanced s name (audits.Balances a m) (audits.Deliveries ys) p q = absurd q.1
   balanced s name (audits.Balances a m) (audits.Versions ys) p q = absurd q.1
   balanced s name (audits.Balances a m) (audits.Pairs c n ys) p q = absurd q.1
@@ -136,7 +136,7 @@ module _ (h : HeadingModel) (entries : List Entry) (read : IsRead h entries) whe
 
   paired : (s : Semaphore) (name : List ℕ) (a c : AuditResult) → IsAudited h entries (groups.Both s) a → IsAudited h entries (groups.Both s) c → audited_lines h name a ≡ audited_lines h name c
   paired s name (audits.Pairs a m xs) (audits.Pairs c n ys) p q =
-      ap (λ l. l ∷ map (pair_line h.words (semaphore_word h.names 0 h.groups)) xs.items) (one_balance name a c m n (p.1.0 ∙ sym q.1.0) (p.1.1 ∙ ap now_of (p.1.0 ∙ sym q.1.0) ∙ sym q.1.1))
+      ap (λ l. l ∷ map (pair_line h.words (semaphore_word h.names 0 h.groups)) xs.items) (one_balance name a c m n (p.1.0 ∙ sym q.1.0) (p.1.1 ∙ ap balance_of (p.1.0 ∙ sym q.1.0) ∙ sym q.1.1))
       ∙ ap (λ l. balance_line name c n ∷ map (pair_line h.words (semaphore_word h.names 0 h.groups)) l) (p.1.2 ∙ sym q.1.2)
   paired s name (audits.Pairs a m xs) (audits.Deliveries ys) p q = absurd q.1
   paired s name (audits.Pairs a m xs) (audits.Versions ys) p q = absurd q.1

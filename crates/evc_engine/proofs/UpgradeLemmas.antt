@@ -21,7 +21,7 @@ use Rattle.evc_engine.specs.declared.audit_result.AuditResult.TheVariants as aud
 use Rattle.evc_engine.specs.AuditTexts.{audit_text, groups_lines}
 use Rattle.evc_engine.specs.Audits.{IsFound}
 use Rattle.evc_engine.specs.Texts.{check_text}
-use Rattle.evc_engine.specs.Checks.{Outlets, ReadsAs}
+use Rattle.evc_engine.specs.Checks.{Outputs, ReadsAs}
 use Rattle.evc_engine.specs.Upgrades.{Rewrites, IsUpgraded, Upgrades, TextsHaveNoVersion}
 
 -- what the audit of a group finds does not depend on the version
@@ -81,7 +81,7 @@ is_upgraded bytes t reads =
     }
 
 -- a trace that was read, and written in version 2
-pub upgraded_so : (bytes : List ℕ) (left : Option (List ℕ)) (t : TraceModel) (status : Status) (old new : Outlets) → ReadsAs bytes t → Rewrites t status old new → Upgrades bytes left status old new
+pub upgraded_so : (bytes : List ℕ) (left : Option (List ℕ)) (t : TraceModel) (status : Status) (old new : Outputs) → ReadsAs bytes t → Rewrites t status old new → Upgrades bytes left status old new
 upgraded_so bytes left t Done old new reads ends =
     (t, text_in_two bytes t reads, is_upgraded bytes t reads, ends.0 reads.trace.outline reads.trace.trace.heading reads.trace.declares, ends.1)
 upgraded_so bytes left t InputOutput old new reads ends =

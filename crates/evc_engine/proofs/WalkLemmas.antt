@@ -11,11 +11,11 @@ use Rattle.ec_semaphore.specs.Auditing.{BalanceAuditModel, BalancesOn}
 use Rattle.ec_semaphore.specs.Shapes.{Semaphore}
 use Rattle.ec_heading.specs.declared.group.Group.{Group}
 use Rattle.ec_heading.specs.declared.group.Group.TheVariants as groups
-use Rattle.ec_walk.specs.Walks.{AreWalked}
+use Rattle.ec_walk.specs.Walks.{AreIndependent}
 use Rattle.evc_engine.specs.declared.walked.Auditing.{Auditing}
 use Rattle.evc_engine.specs.declared.walked.Auditing.TheVariants as audits
 use Rattle.evc_engine.specs.declared.walked.BothAudit.{BothAudit}
-use Rattle.evc_engine.specs.Walks.{StandsFor, EachRepresents, group_of, BothOn, AuditsOn}
+use Rattle.evc_engine.specs.Walks.{AuditRepresents, EachRepresents, group_of, BothOn, AuditsOn}
 
 -- ONE ENTRY
 
@@ -44,7 +44,7 @@ module _ (place : ℕ) (op : Act) (x : Entry) where
 -- THE WHOLE PASS
 
 -- before the first entry
-stands_first : (t : Tables) (all : List Semaphore) (g : Group) (a : Auditing) → StandsFor t all g a [] → (group_of a ≡ g) × AuditsOn a a []
+stands_first : (t : Tables) (all : List Semaphore) (g : Group) (a : Auditing) → AuditRepresents t all g a [] → (group_of a ≡ g) × AuditsOn a a []
 stands_first t all (groups.Buffer b) (audits.Deliveries a) represents = (ap groups.Buffer represents.0, (refl, refl, represents.2))
 stands_first t all (groups.Database d) (audits.Versions a) represents = (ap groups.Database represents.0, (refl, refl, represents.2))
 stands_first t all (groups.Semaphore s) (audits.Balance a) represents = (ap groups.Semaphore represents.0, (refl, represents.1))
@@ -54,11 +54,11 @@ stands_first t all (groups.Database d) a represents = absurd represents
 stands_first t all (groups.Semaphore s) a represents = absurd represents
 stands_first t all (groups.Both c) a represents = absurd represents
 
-pub walk_begins : (t : Tables) (all : List Semaphore) (gs : List Group) (list : List Auditing) → EachRepresents t all gs list [] → AreWalked group_of AuditsOn gs list list []
+pub walk_begins : (t : Tables) (all : List Semaphore) (gs : List Group) (list : List Auditing) → EachRepresents t all gs list [] → AreIndependent group_of AuditsOn gs list list []
 walk_begins t all gs list each = λ i g at. (let here = each i g at in let first = stands_first t all g here.0 here.2 in (here.0, here.0, here.1, here.1, first.0, first.1))
 
 -- after the last entry
-stands_last : (t : Tables) (all : List Semaphore) (g : Group) (a b : Auditing) (past : List Entry) → StandsFor t all g a [] → AuditsOn a b past → StandsFor t all g b past
+stands_last : (t : Tables) (all : List Semaphore) (g : Group) (a b : Auditing) (past : List Entry) → AuditRepresents t all g a [] → AuditsOn a b past → AuditRepresents t all g b past
 stands_last t all (groups.Buffer s) (audits.Deliveries a) (audits.Deliveries b) past represents on = (on.0 ∙ represents.0, on.1 ∙ represents.1, on.2)
 stands_last t all (groups.Database d) (audits.Versions a) (audits.Versions b) past represents on = (on.0 ∙ represents.0, on.1 ∙ represents.1, on.2)
 stands_last t all (groups.Semaphore s) (audits.Balance a) (audits.Balance b) past represents on = (on.0 ∙ represents.0, on.1)
@@ -74,7 +74,7 @@ stands_last t all (groups.Semaphore s) a b past represents on = absurd represent
 stands_last t all (groups.Both c) a b past represents on = absurd represents
 
 pub walk_ends : (t : Tables) (all : List Semaphore) (gs : List Group) (starts list : List Auditing) (past : List Entry)
-    → EachRepresents t all gs starts [] → AreWalked group_of AuditsOn gs starts list past → EachRepresents t all gs list past
+    → EachRepresents t all gs starts [] → AreIndependent group_of AuditsOn gs starts list past → EachRepresents t all gs list past
 walk_ends t all gs starts list past each walked = λ i g at.
     (let was = each i g at in
     let now = walked i g at in

@@ -43,8 +43,8 @@ abbrev pub version_line : NameTable → List ℕ → AcceptedTry → List ℕ
 version_line words name a = codes "version " ++ name ++ version_words words a
 
 -- the balance of its parts; it is never negative if the workers follow the semaphore's rules
-abbrev pub now_of : Balance → ℕ
-now_of b = b.initial + b.ups - b.downs
+abbrev pub balance_of : Balance → ℕ
+balance_of b = b.initial + b.ups - b.downs
 
 -- the parts of a balance, and the balance
 abbrev pub balance_words : Balance → ℕ → List ℕ

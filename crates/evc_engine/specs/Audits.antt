@@ -24,8 +24,8 @@ use Rattle.ec_core.specs.declared.audit.AuditFault.TheVariants.{NotFollowed}
 use Rattle.ec_core.specs.declared.audit.AuditFault.TheVariants as faults
 use Rattle.evc_engine.specs.declared.status.Status.{Status}
 use Rattle.evc_engine.specs.declared.status.Status.TheVariants.{Done, Refused, Usage, InputOutput, Memory, Stopped}
-use Rattle.evc_engine.specs.AuditTexts.{now_of, audit_text, group_word, worker_word}
-use Rattle.evc_engine.specs.Checks.{Outlets, Notes, KeepsNotes, ReadsAs, RefusedFor}
+use Rattle.evc_engine.specs.AuditTexts.{balance_of, audit_text, group_word, worker_word}
+use Rattle.evc_engine.specs.Checks.{Outputs, Notes, KeepsNotes, ReadsAs, RefusedFor}
 use Rattle.evc_engine.specs.Notes.{fault_note, break_note}
 
 -- FOLLOWING
@@ -43,14 +43,14 @@ pub record IsNotFollowed (h : HeadingModel) (entries : List Entry) (i w k : ℕ)
 -- what the audit of `both` finds, with these semaphores
 abbrev pub IsPairsOf : List Entry → Semaphore → List Semaphore → AuditResult → Type 0
 IsPairsOf entries c semaphores (audits.Pairs balance now list) =
-    (balance ≡ balance_parts c (reverse entries)) × (now ≡ now_of balance) × (list.items ≡ pairs_of c semaphores entries)
+    (balance ≡ balance_parts c (reverse entries)) × (now ≡ balance_of balance) × (list.items ≡ pairs_of c semaphores entries)
 IsPairsOf entries c semaphores a = ⊥
 
 -- what the audit of a group found is what the history says
 abbrev pub IsFound : HeadingModel → List Entry → Group → AuditResult → Type 0
 IsFound h entries (groups.Buffer b) (audits.Deliveries list) = AreDeliveries h.setup b entries list.items
 IsFound h entries (groups.Database d) (audits.Versions tries) = ListsTries h.setup d entries tries.list × AreUndisturbed h.setup d entries tries.list
-IsFound h entries (groups.Semaphore s) (audits.Balances balance now) = (balance ≡ balance_parts s (reverse entries)) × (now ≡ now_of balance)
+IsFound h entries (groups.Semaphore s) (audits.Balances balance now) = (balance ≡ balance_parts s (reverse entries)) × (now ≡ balance_of balance)
 IsFound h entries (groups.Both c) a = IsPairsOf entries c (semaphores_of h.groups) a
 IsFound h entries g a = ⊥
 
@@ -85,21 +85,21 @@ stop_note h i (NotFollowed w k) = not_followed_note h i w k
 stop_note h i faults.Memory = codes "no memory\n"
 
 -- how the writing of the text ended, for what the audits found
-abbrev pub AuditWrites : HeadingModel → List AuditResult → Status → Outlets → Outlets → Type 0
+abbrev pub AuditWrites : HeadingModel → List AuditResult → Status → Outputs → Outputs → Type 0
 AuditWrites h found Done old new = Appends old.out new.out (audit_text h found) × KeepsNotes old new
 AuditWrites h found InputOutput old new = AppendsPrefix old.out new.out (audit_text h found) × Notes old new (codes "write fault\n")
 AuditWrites h found status old new = ⊥
 
 -- the workers of a trace follow the rules of its groups, what the audits found was written, and the
 -- writing ended with this status
-pub record Reports (t : TraceModel) (status : Status) (old new : Outlets) : Type 0 where
+pub record Reports (t : TraceModel) (status : Status) (old new : Outputs) : Type 0 where
   pub found : List AuditResult
   pub audited : AreAudited t.heading t.entries found
   pub writes : AuditWrites t.heading found status old new
 
 -- the rules of some group of a trace are broken, nothing was written, and the note on the first
 -- such group was put
-pub record NamesFirstBreak (t : TraceModel) (old new : Outlets) : Type 0 where
+pub record NamesFirstBreak (t : TraceModel) (old new : Outputs) : Type 0 where
   pub group : ℕ
   pub worker : ℕ
   pub entry : ℕ
@@ -108,7 +108,7 @@ pub record NamesFirstBreak (t : TraceModel) (old new : Outlets) : Type 0 where
   pub note : Notes old new (not_followed_note t.heading group worker entry)
 
 -- how the audit of a trace ended
-abbrev pub AuditEnds : TraceModel → Status → Outlets → Outlets → Type 0
+abbrev pub AuditEnds : TraceModel → Status → Outputs → Outputs → Type 0
 AuditEnds t Done old new = Reports t Done old new
 AuditEnds t Refused old new = NamesFirstBreak t old new
 AuditEnds t InputOutput old new = Reports t InputOutput old new
@@ -121,7 +121,7 @@ AuditEnds t Stopped old new = ⊥
 -- trace, and nothing was written but the note on the first such group or the first fault; or a
 -- failed read is reported, and what the reader had returned until then has no fault; or a failed
 -- write is reported, or that memory ran out
-abbrev pub Audits : List ℕ → Option (List ℕ) → Status → Outlets → Outlets → Type 0
+abbrev pub Audits : List ℕ → Option (List ℕ) → Status → Outputs → Outputs → Type 0
 Audits bytes left Done old new = (t : TraceModel) × ReadsAs bytes t × AuditEnds t Done old new
 Audits bytes left Refused old new =
     ((t : TraceModel) × ReadsAs bytes t × AuditEnds t Refused old new)

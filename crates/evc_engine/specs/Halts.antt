@@ -5,7 +5,7 @@ use Rattle.ec_core.specs.Standing.{State, StandsFor}
 use Rattle.ec_core.specs.declared.act.Entry.{Entry}
 use Rattle.ec_heading.specs.HeadingModel.{HeadingModel}
 use Rattle.ec_order.specs.Linearizer.{LinearizerModel, IsLinearizer}
-use Rattle.ec_trace.specs.Outcome.{outcome, Returns}
+use Rattle.ec_trace.specs.Outcome.{parse_result, Returns}
 use Rattle.ec_trace.specs.declared.read.TheConstants.{TRACE_MAX}
 use Rattle.evc_engine.specs.Audits.{AreAudited, IsStop}
 use Rattle.evc_engine.specs.declared.audit_result.AuditResult.{AuditResult}
@@ -14,7 +14,7 @@ use Rattle.evc_engine.specs.declared.auditing.Halt.TheVariants.{Stopped, Unread,
 
 -- the bytes are the trace with this header and this history
 abbrev pub IsOf : List ℕ → HeadingModel → List Entry → Type 0
-IsOf bytes h entries = outcome TRACE_MAX bytes ≡ Ok (record { heading = h; entries = entries })
+IsOf bytes h entries = parse_result TRACE_MAX bytes ≡ Ok (record { heading = h; entries = entries })
 
 -- the bytes are a trace with this header, and this is what the audits of its groups found, or the
 -- fault of an audit; or this is the fault of the text; or memory ran out
@@ -26,8 +26,8 @@ FindsIn bytes left h (Err (Unread fault)) = Returns TRACE_MAX bytes left (Err fa
 FindsIn bytes left h (Err Memory) = ⊤
 
 -- this is the state after a history: the world, and the linearizer of its completed calls
-pub record IsReadInto (h : HeadingModel) (entries : List Entry) (world : State) (timeline : LinearizerModel) : Type 0 where
+pub record IsReadInto (h : HeadingModel) (entries : List Entry) (world : State) (linearizer : LinearizerModel) : Type 0 where
   pub world_stands : StandsFor world entries
   pub world_setup : world.setup ≡ h.setup
-  pub setup : timeline.setup ≡ h.setup
-  pub represents : IsLinearizer timeline (reverse entries)
+  pub setup : linearizer.setup ≡ h.setup
+  pub represents : IsLinearizer linearizer (reverse entries)

@@ -19,13 +19,13 @@ use Rattle.evc_engine.specs.declared.status.Status.TheVariants.{Done, Refused, U
 use Rattle.evc_engine.specs.AuditTexts.{audit_text}
 use Rattle.evc_engine.specs.Audits.{AreAudited, IsNotFollowed, not_followed_note}
 use Rattle.evc_engine.specs.Texts.{check_text}
-use Rattle.evc_engine.specs.Checks.{Outlets, Notes, KeepsNotes, ReadsAs, RefusedFor, text_for}
+use Rattle.evc_engine.specs.Checks.{Outputs, Notes, KeepsNotes, ReadsAs, RefusedFor, text_for}
 use Rattle.evc_engine.specs.Notes.{fault_note}
 
 -- THE WRITING
 
 -- how the writing of a trace in version 2 ended, for each syntax tree of its header
-abbrev pub Rewrites : TraceModel → Status → Outlets → Outlets → Type 0
+abbrev pub Rewrites : TraceModel → Status → Outputs → Outputs → Type 0
 Rewrites t Done old new = ((o : HeaderTree) → IsHeaderTree o → heading_of_tree o ≡ t.heading → Appends old.out new.out (trace_text (upgraded_outline o) t.entries)) × KeepsNotes old new
 Rewrites t InputOutput old new =
     ((o : HeaderTree) → IsHeaderTree o → heading_of_tree o ≡ t.heading → AppendsPrefix old.out new.out (trace_text (upgraded_outline o) t.entries)) × Notes old new (codes "write fault\n")
@@ -50,7 +50,7 @@ pub record IsUpgraded (bytes text : List ℕ) (t : TraceModel) : Type 0 where
 -- and it was written in version 2; or they are no trace, and nothing was written but the note on
 -- the first fault; or a failed read is reported, and what the reader had returned until then has no
 -- fault; or a failed write is reported, or that memory ran out
-abbrev pub Upgrades : List ℕ → Option (List ℕ) → Status → Outlets → Outlets → Type 0
+abbrev pub Upgrades : List ℕ → Option (List ℕ) → Status → Outputs → Outputs → Type 0
 Upgrades bytes left Done old new = (t : TraceModel) × (text : List ℕ) × IsUpgraded bytes text t × Appends old.out new.out text × KeepsNotes old new
 Upgrades bytes left Refused old new = (fault : TraceFault) × RefusedFor bytes fault × Keeps old.out new.out × Notes old new (fault_note fault)
 Upgrades bytes left InputOutput old new =

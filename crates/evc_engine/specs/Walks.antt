@@ -3,11 +3,11 @@ use Rattle.std.specs.Prelude.{◌≡◌, List, reverse}
 use Rattle.ec_count.specs.Tables.{Tables, IsDeclared}
 use Rattle.ec_core.specs.declared.act.Entry.{Entry}
 use Rattle.ec_core.specs.Acceptance.{IsAccepted}
-use Rattle.ec_buffer.specs.Auditing.{DeliversOn, IsDelivering}
+use Rattle.ec_buffer.specs.Auditing.{DeliversOn, RepresentsDeliveries}
 use Rattle.ec_buffer.specs.Shapes.{Buffer}
-use Rattle.ec_database.specs.Auditing.{VersionsOn, IsVersioning}
+use Rattle.ec_database.specs.Auditing.{VersionsOn, RepresentsVersions}
 use Rattle.ec_database.specs.Shapes.{Database}
-use Rattle.ec_semaphore.specs.Auditing.{BalancesOn, IsCounted, PairsOn, IsPairing}
+use Rattle.ec_semaphore.specs.Auditing.{BalancesOn, RepresentsBalance, PairsOn, RepresentsPairs}
 use Rattle.ec_semaphore.specs.Shapes.{Semaphore}
 use Rattle.ec_heading.specs.declared.group.Group.{Group}
 use Rattle.ec_heading.specs.declared.group.Group.TheVariants as groups
@@ -21,37 +21,38 @@ use Rattle.evc_engine.specs.declared.walked.Auditing.TheVariants as audits
 
 -- the audit is that of the buffer, under these declarations, after the history so far
 abbrev pub DeliversFor : Tables → Buffer → Auditing → List Entry → Type 0
-DeliversFor t b (audits.Deliveries a) past = (a.shape ≡ b) × (a.setup ≡ t) × IsDelivering a past
+DeliversFor t b (audits.Deliveries a) past = (a.shape ≡ b) × (a.setup ≡ t)
+    × RepresentsDeliveries a past
 DeliversFor t b a past = ⊥
 
 -- the audit is that of the database
 abbrev pub VersionsFor : Tables → Database → Auditing → List Entry → Type 0
-VersionsFor t d (audits.Versions a) past = (a.shape ≡ d) × (a.setup ≡ t) × IsVersioning a past
+VersionsFor t d (audits.Versions a) past = (a.shape ≡ d) × (a.setup ≡ t) × RepresentsVersions a past
 VersionsFor t d a past = ⊥
 
 -- the audit is that of the semaphore
 abbrev pub CountsFor : Semaphore → Auditing → List Entry → Type 0
-CountsFor s (audits.Balance a) past = (a.shape ≡ s) × IsCounted a past
+CountsFor s (audits.Balance a) past = (a.shape ≡ s) × RepresentsBalance a past
 CountsFor s a past = ⊥
 
 -- the audits are those of `both`, if these are all semaphores
 abbrev pub PairsFor : Semaphore → List Semaphore → Auditing → List Entry → Type 0
 PairsFor c all (audits.Both a) past =
-    (a.balance.shape ≡ c) × IsCounted a.balance past × (a.pairs.common ≡ c) × (a.pairs.shapes ≡ all) × IsPairing a.pairs past × (a.common ≡ c)
+    (a.balance.shape ≡ c) × RepresentsBalance a.balance past × (a.pairs.common ≡ c) × (a.pairs.shapes ≡ all) × RepresentsPairs a.pairs past × (a.common ≡ c)
 PairsFor c all a past = ⊥
 
 -- the audit is that of the group, under these declarations and with these semaphores, after the
 -- history so far
-abbrev pub StandsFor : Tables → List Semaphore → Group → Auditing → List Entry → Type 0
-StandsFor t all (groups.Buffer b) a past = DeliversFor t b a past
-StandsFor t all (groups.Database d) a past = VersionsFor t d a past
-StandsFor t all (groups.Semaphore s) a past = CountsFor s a past
-StandsFor t all (groups.Both c) a past = PairsFor c all a past
+abbrev pub AuditRepresents : Tables → List Semaphore → Group → Auditing → List Entry → Type 0
+AuditRepresents t all (groups.Buffer b) a past = DeliversFor t b a past
+AuditRepresents t all (groups.Database d) a past = VersionsFor t d a past
+AuditRepresents t all (groups.Semaphore s) a past = CountsFor s a past
+AuditRepresents t all (groups.Both c) a past = PairsFor c all a past
 
 -- each group has its audit, in order
 abbrev pub EachRepresents : Tables → List Semaphore → List Group → List Auditing → List Entry
     → Type 0
-EachRepresents t all gs list past = Each (λ g a. StandsFor t all g a past) gs list
+EachRepresents t all gs list past = Each (λ g a. AuditRepresents t all g a past) gs list
 
 -- AT THE END
 
@@ -60,7 +61,7 @@ pub record EndsFor (h : HeadingModel) (entries : List Entry) (g : Group) (a : Au
   pub declared : IsDeclared h.setup
   pub accepted : IsAccepted h.setup (reverse entries)
   pub fits : FitsGroup h.setup g
-  pub represents : StandsFor h.setup (semaphores_of h.groups) g a (reverse entries)
+  pub represents : AuditRepresents h.setup (semaphores_of h.groups) g a (reverse entries)
 
 -- the audits are those of all groups, in order
 abbrev pub EachEndsFor : HeadingModel → List Entry → List Auditing → Type 0

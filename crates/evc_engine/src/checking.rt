@@ -46,16 +46,16 @@ pub fn note_unread<N: Write>(fault: &TraceFault, notes: &mut Output<'_, N>) -> S
 fn write_order<W: Write, N: Write>(
     heading: &Heading,
     world: &World,
-    timeline: &Linearizer<'_>,
+    linearizer: &Linearizer<'_>,
     out: &mut W,
     notes: &mut Output<'_, N>,
 ) -> Status
-    ensures ends { (entries : List Entry) → IsReadInto heading.now entries world.now timeline.now → Writes (record { heading = heading.now; entries = entries }) result
+    ensures ends { (entries : List Entry) → IsReadInto heading.now entries world.now linearizer.now → Writes (record { heading = heading.now; entries = entries }) result
         (record { out = W.contents out.old; notes = notes.old })
         (record { out = W.contents out.new; notes = notes.new }) }
     ensures written { IsWrittenOut notes.old → IsWrittenOut notes.new }
 {
-    let Ok(calls) = timeline.calls() else {
+    let Ok(calls) = linearizer.calls() else {
         notes.say(b"no memory\n");
         return Status::Memory;
     };
@@ -82,8 +82,8 @@ fn write_linearization<W: Write, N: Write>(
         (record { out = W.contents out.new; notes = notes.new }) }
     ensures written { IsWrittenOut notes.old → IsWrittenOut notes.new }
 {
-    let (world, timeline) = watched.into_parts();
-    write_order(heading, &world, &timeline, out, notes)
+    let (world, linearizer) = watched.into_parts();
+    write_order(heading, &world, &linearizer, out, notes)
 }
 
 /// Reads the entries of a trace, and writes its text or reports why there is none. (It is not
@@ -102,10 +102,10 @@ fn check_entries<R: Read, W: Write, N: Write>(
         (record { out = W.contents out.new; notes = notes.new }) }
     ensures written { IsWrittenOut notes.old → IsWrittenOut notes.new }
 {
-    let Ok(timeline) = Linearizer::open(alloc, heading.setup()) else {
+    let Ok(linearizer) = Linearizer::open(alloc, heading.setup()) else {
         return note_unread(&TraceFault::Memory, notes);
     };
-    let mut watched = AuditedWorld::new(heading.setup().copy(), timeline);
+    let mut watched = AuditedWorld::new(heading.setup().copy(), linearizer);
     if let Err(fault) = read_entries(alloc, lines, reader, heading, &mut watched) {
         return note_unread(&fault, notes);
     }

@@ -1,6 +1,6 @@
 //! Theorems on what the contracts of the commands mean: each function states one and does nothing.
 ghost use Rattle.evc_engine.specs.AuditLaws.{AuditsHaveOneText, TextOrBreak};
-ghost use Rattle.evc_engine.specs.NoteLaws.{NotesLeaveTheTable, RefusalsAreAlike, RefusedAuditsHaveOneNote, RefusedChecksHaveOneNote};
+ghost use Rattle.evc_engine.specs.NoteLaws.{NotesAreWrittenOut, RefusalsAreAlike, RefusedAuditsHaveOneNote, RefusedChecksHaveOneNote};
 ghost use Rattle.evc_engine.specs.Upgrades.{TextsHaveNoVersion};
 
 /// States that the text that `audit` writes is determined by the bytes that it read.
@@ -16,8 +16,8 @@ pub fn audits_end_one_way()
 
 /// States that a note that was put into an empty buffer does not stay there: its writer has it, or
 /// a proper prefix of it if a write has failed.
-pub fn notes_leave_the_table()
-    ensures { NotesLeaveTheTable }
+pub fn notes_are_written_out()
+    ensures { NotesAreWrittenOut }
 {}
 
 /// States that whenever `check` ends with status 1 on the same bytes, it writes nothing but the

@@ -18,7 +18,7 @@ pub use auditing::audit;
 pub use checking::{check, note_unread};
 pub use laws::{
     audits_end_one_way, audits_have_one_text, checks_and_audits_refuse_alike,
-    notes_leave_the_table, refused_audits_have_one_note, refused_checks_have_one_note,
+    notes_are_written_out, refused_audits_have_one_note, refused_checks_have_one_note,
     texts_have_no_version,
 };
 pub use notes::{put_line, put_refused, report_fault};

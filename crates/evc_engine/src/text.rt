@@ -22,13 +22,13 @@ fn put_linearized<W: Write>(
     spellings: &Spellings<'_>,
     point: &mut CachedDecimal,
     last: &mut DecimalCache,
-    dated: &LinearizedEntry,
+    linearized: &LinearizedEntry,
 )
-    ensures { Puts out.old out.new (10 ∷ linearized_line spellings.now dated.now) }
+    ensures { Puts out.old out.new (10 ∷ linearized_line spellings.now linearized.now) }
 {
-    point.set(dated.point as u64);
+    point.set(linearized.point as u64);
     out.put_with_decimal(b"\n", point);
-    put_next_entry(out, b" ", spellings, last, &dated.entry);
+    put_next_entry(out, b" ", spellings, last, &linearized.entry);
 }
 
 /// Puts the lines of the calls, in order, each after LF.
@@ -38,8 +38,8 @@ fn put_order<W: Write>(out: &mut Output<'_, W>, spellings: &Spellings<'_>, calls
 {
     let mut point = CachedDecimal::new(0);
     let mut last = DecimalCache::new();
-    for dated in calls {
-        put_linearized(out, spellings, &mut point, &mut last, &dated);
+    for linearized in calls {
+        put_linearized(out, spellings, &mut point, &mut last, &linearized);
     }
 }
 

@@ -49,7 +49,7 @@ fn put_count<W: Write>(out: &mut Output<'_, W>, sort: &[u8], name: &[u8], count:
 }
 
 /// Puts the name of one cell of a block, as `C[1]`.
-fn put_spot<W: Write>(out: &mut Output<'_, W>, name: &[u8], place: u64)
+fn put_cell_name<W: Write>(out: &mut Output<'_, W>, name: &[u8], place: u64)
     ensures { Puts out.old out.new (name.now ++ codes "[" ++ decimal place ++ codes "]") }
 {
     out.put(name);
@@ -63,7 +63,7 @@ fn put_cell<W: Write>(out: &mut Output<'_, W>, name: &[u8], place: u64, value: u
     ensures { Puts out.old out.new (cell_line name.now place value ++ 10 ∷ []) }
 {
     out.put(b"cell ");
-    put_spot(out, name, place);
+    put_cell_name(out, name, place);
     out.put(b" ");
     out.put_number(value);
     out.put(b"\n");

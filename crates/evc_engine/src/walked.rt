@@ -8,9 +8,9 @@ ghost use Rattle.ec_semaphore.specs.Auditing.{BalanceAuditModel, BalancesOn};
 ghost use Rattle.ec_heading.specs.HeadingModel.{HeadingModel};
 ghost use Rattle.ec_heading.specs.Rules.{group_rules};
 ghost use Rattle.ec_heading.specs.declared.group.Group.{Group};
-ghost use Rattle.evc_engine.specs.AuditTexts.{now_of};
+ghost use Rattle.evc_engine.specs.AuditTexts.{balance_of};
 ghost use Rattle.evc_engine.specs.Audits.{IsAudited};
-ghost use Rattle.evc_engine.specs.Walks.{StandsFor, EachRepresents, EndsFor};
+ghost use Rattle.evc_engine.specs.Walks.{AuditRepresents, EachRepresents, EndsFor};
 
 use crate::audit_result::AuditResult;
 use ec_buffer::DeliveryAudit;
@@ -23,8 +23,8 @@ use ec_walk::GroupAudit;
 use std::alloc::{AllocError, Global};
 
 /// Returns the balance of its parts: the initial units and the ups, without the downs.
-fn now_of(parts: &Balance) -> u64
-    ensures { parts.now.initial + parts.now.ups < 2 ^ 64 → result ≡ now_of parts.now }
+fn balance_of(parts: &Balance) -> u64
+    ensures { parts.now.initial + parts.now.ups < 2 ^ 64 → result ≡ balance_of parts.now }
 {
     parts
         .initial
@@ -55,7 +55,7 @@ impl<'a> BothAudit<'a> {
         match pairs.finish() {
             Ok(list) => {
                 let parts = balance.so_far();
-                Ok(AuditResult::Pairs(parts, now_of(&parts), list))
+                Ok(AuditResult::Pairs(parts, balance_of(&parts), list))
             }
             Err(fault) => Err(fault),
         }
@@ -114,7 +114,7 @@ impl<'a> Auditing<'a> {
         setup: &'a Setup,
         semaphores: &'a [SemaphoreShape],
     ) -> Self
-        ensures { StandsFor setup.now semaphores.now group.now result [] }
+        ensures { AuditRepresents setup.now semaphores.now group.now result [] }
     {
         match group {
             Group::Buffer(shape) => Auditing::Deliveries(DeliveryAudit::new(alloc, shape, setup)),
@@ -147,7 +147,7 @@ impl<'a> Auditing<'a> {
                 Err(fault) => Err(fault),
             },
             Auditing::Balance(audit) => match audit.finish() {
-                Ok(parts) => Ok(AuditResult::Balances(parts, now_of(&parts))),
+                Ok(parts) => Ok(AuditResult::Balances(parts, balance_of(&parts))),
                 Err(fault) => Err(fault),
             },
             Auditing::Both(audit) => audit.finish(),

@@ -4,7 +4,7 @@ use Rattle.std.proofs.Common.{take, drop, cond, true, false, eqb, ltb, Option, S
 use Rattle.std.proofs.Common.{◌∙◌, ne_eqb, lt-ltb, arith, length-append, append_assoc, length-take}
 use Rattle.std.specs.Prelude.{unwrap_or}
 use Rattle.std.specs.List.{AllByRecursion, position_from, flat_map}
-use Rattle.ec_explain.specs.TextLines.{position_or_end, text_after_line, behind, first_line, line_at, text_before_line}
+use Rattle.ec_explain.specs.TextLines.{position_or_end, text_after_line, text_after_lines, first_line, line_at, text_before_line}
 use Rattle.ec_heading.specs.Spelling.{ended_line as ended}
 
 -- a line without an LF
@@ -60,15 +60,16 @@ behind_here line more plain =
     lt-ltb _ _ (omega (arith, length-append line (10 ∷ more))) in
     rw (here, within) (drop_here line more 10)
 
-behind_first : (n : ℕ) (xs : List ℕ) → behind (suc n) xs ≡ behind n (text_after_line xs)
-unfolding behind
+behind_first : (n : ℕ) (xs : List ℕ)
+    → text_after_lines (suc n) xs ≡ text_after_lines n (text_after_line xs)
+unfolding text_after_lines
 behind_first zero xs = refl
 behind_first (suc n) xs = ap text_after_line (behind_first n xs)
 
 -- behind some lines
 pub behind_lines : (before : List (List ℕ)) (rest : List ℕ) → AllByRecursion IsPlain before
-    → behind (length before) (flat_map ended before ++ rest) ≡ rest
-unfolding behind
+    → text_after_lines (length before) (flat_map ended before ++ rest) ≡ rest
+unfolding text_after_lines
 behind_lines [] rest plain = refl
 behind_lines (line ∷ before) rest plain =
     let grouped : (ended line ++ flat_map ended before) ++ rest
@@ -76,8 +77,9 @@ behind_lines (line ∷ before) rest plain =
     append_assoc (ended line) (flat_map ended before) rest
     ∙ append_assoc line (10 ∷ []) (flat_map ended before ++ rest) in
     behind_first (length before) ((ended line ++ flat_map ended before) ++ rest)
-    ∙ ap (λ xs. behind (length before) (text_after_line xs)) grouped
-    ∙ ap (behind (length before)) (behind_here line (flat_map ended before ++ rest) plain.0)
+    ∙ ap (λ xs. text_after_lines (length before) (text_after_line xs)) grouped
+    ∙ ap (text_after_lines (length before)) (behind_here line (flat_map ended before
+    ++ rest) plain.0)
     ∙ behind_lines before rest plain.1
 
 -- the lines before a line
@@ -87,9 +89,10 @@ pub before_here : (n : ℕ) (before : List (List ℕ)) (rest : List ℕ) → All
 before_here n before rest plain number =
     let text : List ℕ = flat_map ended before ++ rest in
     let count : n - 1 ≡ length before = omega (arith, number) in
-    let left : behind (n - 1) text ≡ rest =
-    ap (λ m. behind m text) count ∙ behind_lines before rest plain in
-    let size : length text - length (behind (n - 1) text) ≡ length (flat_map ended before) =
+    let left : text_after_lines (n - 1) text ≡ rest =
+    ap (λ m. text_after_lines m text) count ∙ behind_lines before rest plain in
+    let size : length text - length (text_after_lines (n - 1) text)
+    ≡ length (flat_map ended before) =
     omega (arith, ap length left, length-append (flat_map ended before) rest) in
     ap (λ m. take m text) size ∙ take_here (flat_map ended before) rest
 
@@ -98,7 +101,7 @@ pub line_here : (n : ℕ) (before : List (List ℕ)) (rest : List ℕ) → AllBy
     → length before + 1 ≡ n → line_at n (flat_map ended before ++ rest) ≡ first_line rest
 line_here n before rest plain number =
     let count : n - 1 ≡ length before = omega (arith, number) in
-    ap (λ m. first_line (behind m (flat_map ended before ++ rest))) count
+    ap (λ m. first_line (text_after_lines m (flat_map ended before ++ rest))) count
     ∙ ap first_line (behind_lines before rest plain)
 
 position_low : (k j : ℕ) (xs : List ℕ) → position_from (λ b. eqb b 10) k xs ≡ Some j → k ≤ j

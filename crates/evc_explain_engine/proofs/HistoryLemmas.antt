@@ -4,14 +4,14 @@ use Rattle.std.proofs.Common.{◌==◌, true, arith}
 use Rattle.std.proofs.lemmas.Bool.{eqb-true}
 use Rattle.calls_text.specs.declared.fault.TextFault.{TextFault}
 use Rattle.calls_text.specs.declared.fault.TextFault.TheVariants.{At, Memory}
-use Rattle.calls_text.specs.Outcomes.{goes, lines_of_text, ReturnsFault}
+use Rattle.calls_text.specs.Outcomes.{parse_from, lines_of_text, ReturnsFault}
 use Rattle.calls_text.specs.Reading.{Opening}
 use Rattle.evc_explain_engine.specs.declared.explanation.Explanation.{Explanation}
 use Rattle.evc_explain_engine.specs.Histories.{IsUnread, Judges, ExplainsFrom, ExplainsHistories, unread}
 use Rattle.calls_text.specs.Recordings.{RecordingModel}
 
 unread_from : (text before : List ℕ) (n : ℕ) (ps : List (List ℕ)) (fault : TextFault) (t : Explanation)
-    → ReturnsFault (goes n Opening ps) fault → IsUnread text fault t
+    → ReturnsFault (parse_from n Opening ps) fault → IsUnread text fault t
     → ExplainsFrom text t before n ps
 unread_from text before n ps (At m kind cause) t tells is =
     unread before n ps m kind tells.0 tells.1 is
@@ -19,7 +19,7 @@ unread_from text before n ps Memory t tells is = absurd is
 
 -- a history that has a fault ends them
 pub stops : {E : Type 0} (text before rest : List ℕ) (n : ℕ) (fault : TextFault) (r : Result Explanation E)
-    → ReturnsFault (goes n Opening (lines_of_text rest)) fault → IfOk r (IsUnread text fault)
+    → ReturnsFault (parse_from n Opening (lines_of_text rest)) fault → IfOk r (IsUnread text fault)
     → ((t : Explanation) → ExplainsFrom text t before n (lines_of_text rest)
     → ExplainsHistories text t)
     → IfOk r (ExplainsHistories text)

@@ -26,7 +26,7 @@ use Rattle.ec_trace.specs.declared.fault.TraceFault.{TraceFault}
 use Rattle.ec_trace.specs.declared.fault.TraceFault.TheVariants.{BadLine, TooLarge}
 use Rattle.ec_trace.specs.declared.read.TheConstants.{TRACE_MAX}
 use Rattle.ec_trace.specs.FirstFault.{IsFirstFault, IsLine, Leads}
-use Rattle.ec_trace.specs.Outcome.{ReadState, trace_or_fault, ended_at, goes, goes_from, is_bad_rest, outcome}
+use Rattle.ec_trace.specs.Outcome.{ReadState, trace_or_fault, ended_at, parse_from, goes_from, is_bad_rest, parse_result}
 use Rattle.ec_trace.specs.Outcome.{lines_of_text, start, after_line, traced_in}
 use Rattle.ec_trace.specs.Reading.{LinesModel, Brings}
 use Rattle.ec_trace.specs.TraceModel.{TraceModel}
@@ -58,7 +58,7 @@ record IsFaultyAt (text : List ℕ) (n : ℕ) : Type 0 where
       ⊎ ((is_ended stage ≡ true)
       ⊎ ((more : List ℕ) × (rest ≡ line ++ 10 ∷ more) × (step stage line ≡ Err Bad)))
 
-faulty : (text : List ℕ) (n : ℕ) → outcome TRACE_MAX text ≡ Err (BadLine n) → IsFaultyAt text n
+faulty : (text : List ℕ) (n : ℕ) → parse_result TRACE_MAX text ≡ Err (BadLine n) → IsFaultyAt text n
 faulty text n is =
     let f : IsFirstFault (take TRACE_MAX text) n Bad = line_fault_is_the_first text n Bad is in
     let far : List ℕ = drop TRACE_MAX text in
@@ -169,7 +169,7 @@ story_is text n f t at room =
 
 heading_is : (text : List ℕ) (n : ℕ) (f : IsFaultyAt text n) (h : HeadingModel)
     → f.stage ≡ Declaring h → HasHeaderTree h → length (up_to n text) ≤ TRACE_MAX
-    → outcome TRACE_MAX (up_to n text) ≡ Ok (record { heading = h; entries = [] })
+    → parse_result TRACE_MAX (up_to n text) ≡ Ok (record { heading = h; entries = [] })
 heading_is text n f h at has room =
     let t : TraceModel = record { heading = h; entries = [] } in
     let more : List (List ℕ) = codes "run" ∷ codes "end" ∷ [] in
@@ -327,8 +327,8 @@ was_taken n (Err f) others p e = cc
 
 goes_under : (g : HeadingModel) (n : ℕ) (s : Stage) (parts : List (List ℕ)) (p : ReadState)
     → IsUnder g s
-    → goes n s parts ≡ Ok p → IsUnder g p.stage
-unfolding goes
+    → parse_from n s parts ≡ Ok p → IsUnder g p.stage
+unfolding parse_from
 goes_under g n s [] p under e =
     let same : s ≡ p.stage = cc in subst (IsUnder g) same under
 goes_under g n s (line ∷ []) p under e =
@@ -338,8 +338,8 @@ goes_under g n s (line ∷ []) p under e =
     subst (IsUnder g) same under
 goes_under g n s (line ∷ next ∷ others) p under e =
     let later : Result ReadState TraceFault =
-    after_line n (step s line) (λ t. goes (n + 1) t (next ∷ others)) in
-    let t = was_taken n (step s line) (λ t. goes (n + 1) t (next ∷ others)) p
+    after_line n (step s line) (λ t. parse_from (n + 1) t (next ∷ others)) in
+    let t = was_taken n (step s line) (λ t. parse_from (n + 1) t (next ∷ others)) p
     (not_fault (ltb 8192 (length line)) (BadLine n) later p e) in
     goes_under g (n + 1) t.0 (next ∷ others) p (step_under g s t.0 line under t.1) t.2
 
@@ -357,7 +357,7 @@ chosen true r f x e = e
 chosen false r f x e = cc
 
 bounded_under : (g : HeadingModel) (max n : ℕ) (s : Stage) (xs : List ℕ) (parts : List (List ℕ))
-    (r : Result ReadState TraceFault) (t : TraceModel) → IsUnder g s → goes n s parts ≡ r
+    (r : Result ReadState TraceFault) (t : TraceModel) → IsUnder g s → parse_from n s parts ≡ r
     → trace_or_fault max xs r ≡ Ok t → t.heading ≡ g
 bounded_under g max n s xs parts (Ok p) t under is e =
     let ended = not_fault (ltb max (length xs)) TooLarge (ended_at p) t e in
@@ -366,7 +366,7 @@ bounded_under g max n s xs parts (Ok p) t under is e =
 bounded_under g max n s xs parts (Err f) t under is e = cc
 
 goes_from_given : (xs : List ℕ) (left : Option (List ℕ)) (r : LinesModel) (h : HeadingModel)
-    (b : Brings xs left r (λ more. goes (r.number + 1)
+    (b : Brings xs left r (λ more. parse_from (r.number + 1)
     (Running (record { heading = h; entries = [] })) (lines_of_text more)))
     → (more : List ℕ) × (xs ≡ b.given ++ more)
 goes_from_given xs (Some left) r h b =
@@ -374,16 +374,17 @@ goes_from_given xs (Some left) r h b =
 goes_from_given xs None r h b = absurd b.gave
 
 opens_one : (xs : List ℕ) (h : HeadingModel) (t : TraceModel) → length xs ≤ TRACE_MAX → Opens xs h
-    → outcome TRACE_MAX xs ≡ Ok t → t.heading ≡ h
-unfolding outcome
+    → parse_result TRACE_MAX xs ≡ Ok t → t.heading ≡ h
+unfolding parse_result
 opens_one xs h t room (left, r, empty_heading) is =
     let begun : Stage = Running (record { heading = h; entries = [] }) in
     let given = goes_from_given xs left r h empty_heading in
-    let goes_so : goes_from start xs ≡ goes (r.number + 1) begun (lines_of_text given.0) =
+    let goes_so : goes_from start xs ≡ parse_from (r.number + 1) begun (lines_of_text given.0) =
     ap (goes_from start) given.1 ∙ empty_heading.goes given.0 in
     let all : take TRACE_MAX xs ≡ xs = take_all TRACE_MAX xs room in
     let comes : goes_from start (take TRACE_MAX xs)
-    ≡ goes (r.number + 1) begun (lines_of_text given.0) = ap (goes_from start) all ∙ goes_so in
+    ≡ parse_from (r.number + 1) begun (lines_of_text given.0) = ap (goes_from start) all
+    ∙ goes_so in
     bounded_under h TRACE_MAX (r.number + 1) begun xs (lines_of_text given.0)
     (goes_from start (take TRACE_MAX xs)) t refl (sym comes) is
 
@@ -406,7 +407,7 @@ third_fits text k sought fits = lt_of_not-le (λ room.
 later_read : (text : List ℕ) (n : ℕ) → IsInHeading text n → 3 < n
     → length (up_to n text) ≤ TRACE_MAX → (h : HeadingModel) × (fault : HeadFault)
     × (head_step h (line_at n text) ≡ Err fault)
-    × (outcome TRACE_MAX (up_to n text) ≡ Ok (record { heading = h; entries = [] }))
+    × (parse_result TRACE_MAX (up_to n text) ≡ Ok (record { heading = h; entries = [] }))
 later_read text n sought high room =
     let f : IsFaultyAt text n = faulty text n sought.bad in
     let l : StandsIn text n f = located text n f sought.before sought.early (omega (arith, high)) room in

@@ -17,7 +17,7 @@ use Rattle.ec_trace.specs.Stages.{Stage, Opening, Limiting, Declaring, Running, 
 use Rattle.ec_trace.specs.Entries.{entry_of}
 use Rattle.ec_trace.specs.FirstFault.{Leads}
 use Rattle.ec_trace.specs.TraceModel.{TraceModel}
-use Rattle.ec_trace.specs.Step.{step, limit_of, after_declaration, entry_step, ran_on}
+use Rattle.ec_trace.specs.Step.{step, limit_of, after_declaration, entry_step, map_running}
 use Rattle.ec_trace.proofs.ReadRuns.{ran_back, entered_back, answered_back}
 use Rattle.ec_trace.proofs.shared.ReadTraces.{limit_back, limited_back, declared_back, first_back}
 use Rattle.ec_trace.proofs.LinesToTrees.{entry_heading}
@@ -78,7 +78,7 @@ step_counted n (Declaring h) t line c is =
     ] is
 step_counted n (Running u) t line c is =
     elim (bytes_eq line (codes "end"))
-    as (λ b. cond b (Ok (Ended u)) (ran_on (entry_step u line)) ≡ Ok t → Counted (n + 1) t) [
+    as (λ b. cond b (Ok (Ended u)) (map_running (entry_step u line)) ≡ Ok t → Counted (n + 1) t) [
       | true ↦ λ g. (let same : Ended u ≡ t = cc in subst (Counted (n + 1)) same tt)
       | false ↦ λ g.
           (let r = ran_back (entry_step u line) t g in subst (Counted (n + 1)) (sym r.2) tt)
@@ -112,7 +112,7 @@ ended_line_is (Declaring h) u line is =
     ] is
 ended_line_is (Running t) u line is =
     elim (bytes_eq line (codes "end")) as (λ b. bytes_eq line (codes "end") ≡ b
-    → cond b (Ok (Ended t)) (ran_on (entry_step t line)) ≡ Ok (Ended u) → line ≡ codes "end") [
+    → cond b (Ok (Ended t)) (map_running (entry_step t line)) ≡ Ok (Ended u) → line ≡ codes "end") [
       | true ↦ λ q g. same_word line (codes "end") q
       | false ↦ λ q g. (let other = (ran_back (entry_step t line) (Ended u) g).2 in cc)
     ] refl is
@@ -150,7 +150,7 @@ pub step_under : (g : HeadingModel) (s t : Stage) (line : List ℕ) → IsUnder 
 unfolding step
 step_under g (Running u) t line under is =
     elim (bytes_eq line (codes "end"))
-    as (λ b. cond b (Ok (Ended u)) (ran_on (entry_step u line)) ≡ Ok t → IsUnder g t) [
+    as (λ b. cond b (Ok (Ended u)) (map_running (entry_step u line)) ≡ Ok t → IsUnder g t) [
       | true ↦ λ e. (let same : Ended u ≡ t = cc in subst (IsUnder g) same under)
       | false ↦ λ e.
           (let r = ran_back (entry_step u line) t e in

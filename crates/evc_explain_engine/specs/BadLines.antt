@@ -5,7 +5,7 @@ use Rattle.ec_heading.specs.HeadingModel.{HeadingModel}
 use Rattle.ec_heading.specs.Heading.{head_step}
 use Rattle.ec_heading.specs.HeaderTree.{empty_heading}
 use Rattle.ec_heading.specs.declared.version.Version.TheVariants.{One}
-use Rattle.ec_trace.specs.Outcome.{outcome}
+use Rattle.ec_trace.specs.Outcome.{parse_result}
 use Rattle.ec_trace.specs.Reading.{LinesModel, IsOpened}
 use Rattle.ec_trace.specs.TraceModel.{TraceModel}
 use Rattle.ec_trace.specs.declared.read.TheConstants.{TRACE_MAX}
@@ -30,7 +30,7 @@ up_to n text = text_before_line n text ++ codes "run\nend\n"
 -- the header of a text, up to its line `run`; or None, and then the text is no trace
 abbrev pub Heads : List ℕ → Option HeadingModel → Type 0
 Heads text (Some h) = Opens text h
-Heads text None = (fault : TraceFault) × (outcome TRACE_MAX text ≡ Err fault)
+Heads text None = (fault : TraceFault) × (parse_result TRACE_MAX text ≡ Err fault)
 
 -- whether line n follows the line `end`
 abbrev pub follows_end : ℕ → List ℕ → Bool
@@ -39,7 +39,7 @@ follows_end n text = bytes_eq (line_at (n - 1) text) (codes "end")
 -- line n is the first faulty one of a text and bad, and is before `run`: it doesn't follow `end`,
 -- and the lines before it, with `end`, are no trace
 pub record IsInHeading (text : List ℕ) (n : ℕ) : Type 0 where
-  pub bad : outcome TRACE_MAX text ≡ Err (faults.BadLine n)
+  pub bad : parse_result TRACE_MAX text ≡ Err (faults.BadLine n)
   pub before : trace_before n text ≡ None
   pub early : follows_end n text ≡ false
 

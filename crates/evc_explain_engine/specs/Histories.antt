@@ -18,16 +18,16 @@ use Rattle.calls_verdict.specs.declared.verdict.Fault.TheVariants as faults
 use Rattle.calls_verdict.specs.declared.verdict.Refusal.{Refusal}
 use Rattle.calls_verdict.specs.declared.verdict.Undecided.{Undecided}
 use Rattle.calls_shapes.specs.Evidence.{faulty_calls}
-use Rattle.calls_text.specs.declared.fault.Kind.{Kind}
+use Rattle.calls_text.specs.declared.fault.FaultKind.{FaultKind}
 use Rattle.calls_text.specs.declared.fault.TextFault.{TextFault}
 use Rattle.calls_text.specs.declared.fault.TextFault.TheVariants.{At, Memory}
-use Rattle.calls_text.specs.Outcomes.{OneRead, goes, fault_in, lines_of_text}
+use Rattle.calls_text.specs.Outcomes.{OneRead, parse_from, fault_in, lines_of_text}
 use Rattle.calls_text.specs.Reading.{Opening}
 use Rattle.calls_text.specs.Recordings.{RecordingModel}
 use Rattle.calls_report.specs.declared.certificate.Certificate.{Certificate}
 use Rattle.calls_report.specs.Certificates.{IsCertificate}
-use Rattle.calls_report.specs.Checks.{HasOrder, IsOpen, IsRefused}
-use Rattle.calls_report.specs.Notes.{first_line, refusal_note, scene_of, undecided_note}
+use Rattle.calls_report.specs.Checks.{HasOrder, IsUndecided, IsRefused}
+use Rattle.calls_report.specs.Notes.{first_line, refusal_note, site_of, undecided_note}
 use Rattle.ec_explain.specs.declared.cause.Cause.TheVariants as causes
 use Rattle.ec_explain.specs.declared.finding.Finding.{Finding}
 use Rattle.ec_explain.specs.Findings.{finding_text, line_seen, finding_at}
@@ -110,7 +110,7 @@ pub record IsRefusalText (text : List ℕ) (n : ℕ) (r : RecordingModel) (x : R
   where
     pub shown : Certificate
     pub certificate : IsCertificate r x shown
-    pub is : more ≡ refusal_note (scene_of n r x.object x.at) shown
+    pub is : more ≡ refusal_note (site_of n r x.object x.at) shown
         ++ seen_lines text n r (few (named_positions x)) ++ reason_for x.fault
 
 -- the line of the first faulty event shows it
@@ -132,11 +132,11 @@ undecided_finding n r u = finding_at causes.NotDecided (event_line n r u.cause.s
 -- what is written: the value, as `evc-calls check` notes it, and the line of its first put
 abbrev pub undecided_text : List ℕ → ℕ → RecordingModel → Undecided → List ℕ
 undecided_text text n r u =
-    undecided_note (scene_of n r u.object 0) u.cause ++ seen_at text n r u.cause.first.first
+    undecided_note (site_of n r u.object 0) u.cause ++ seen_at text n r u.cause.first.first
 
 abbrev pub ExplainsUndecided : List ℕ → ℕ → RecordingModel → Explanation → Type 0
 ExplainsUndecided text n r t =
-    (u : Undecided) × IsOpen r u
+    (u : Undecided) × IsUndecided r u
     × HasTextAndStatus (finding_text (undecided_finding n r u) (undecided_text text n r u) text) Refused t
 
 -- HISTORIES, ONE AFTER ANOTHER
@@ -156,19 +156,19 @@ Judges text n r (Some t) = ExplainsRefused text n r t ⊎ ExplainsUndecided text
 -- first one has a fault, which is explained; or it has no linearization or is not decided, and that
 -- is explained; or it has one and is the last; or it has one, and others follow
 pub data ExplainsFrom (text : List ℕ) (t : Explanation) : List ℕ → ℕ → List (List ℕ) → Type 0 where
-  unread : (before : List ℕ) (n : ℕ) (ps : List (List ℕ)) (m : ℕ) (kind : Kind) (line : List ℕ)
-      → goes n Opening ps ≡ fault_in m kind line
+  unread : (before : List ℕ) (n : ℕ) (ps : List (List ℕ)) (m : ℕ) (kind : FaultKind) (line : List ℕ)
+      → parse_from n Opening ps ≡ fault_in m kind line
       → HasTextAndStatus (finding_text (calls_finding kind m text) [] text) Refused t
       → ExplainsFrom text t before n ps
   stopped : (before : List ℕ) (n : ℕ) (ps : List (List ℕ)) (r : OneRead)
-      → goes n Opening ps ≡ Ok r → Judges text r.number r.recorded (Some t)
+      → parse_from n Opening ps ≡ Ok r → Judges text r.number r.recorded (Some t)
       → ExplainsFrom text t before n ps
   last : (before : List ℕ) (n : ℕ) (ps : List (List ℕ)) (r : OneRead)
-      → goes n Opening ps ≡ Ok r → Judges text r.number r.recorded None → r.rest ≡ [] ∷ []
+      → parse_from n Opening ps ≡ Ok r → Judges text r.number r.recorded None → r.rest ≡ [] ∷ []
       → HasTextAndStatus (before ++ ordered_text r.recorded) Done t
       → ExplainsFrom text t before n ps
   later : (before : List ℕ) (n : ℕ) (ps : List (List ℕ)) (r : OneRead)
-      → goes n Opening ps ≡ Ok r → Judges text r.number r.recorded None
+      → parse_from n Opening ps ≡ Ok r → Judges text r.number r.recorded None
       → ExplainsFrom text t (before ++ ordered_text r.recorded) r.number r.rest
       → ExplainsFrom text t before n ps
 

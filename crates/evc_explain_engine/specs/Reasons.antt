@@ -16,7 +16,7 @@ use Rattle.ec_core.specs.Calls.{is_pending, under_way}
 use Rattle.ec_core.specs.Following.{opening_act}
 use Rattle.ec_core.specs.Rounds.{event_or, component_count}
 use Rattle.ec_heading.specs.Spelling.{NameTable, target_name, cell_word}
-use Rattle.ec_trace.specs.Outcome.{outcome}
+use Rattle.ec_trace.specs.Outcome.{parse_result}
 use Rattle.ec_trace.specs.TraceModel.{TraceModel}
 use Rattle.ec_trace.specs.declared.fault.TraceFault.{TraceFault}
 use Rattle.ec_trace.specs.declared.fault.TraceFault.TheVariants as faults
@@ -149,7 +149,7 @@ read_back (Err fault) = None
 
 -- the trace of the lines before line n and `end`
 abbrev pub trace_before : ℕ → List ℕ → Option TraceModel
-trace_before n text = read_back (outcome TRACE_MAX (ended_before n text))
+trace_before n text = read_back (parse_result TRACE_MAX (ended_before n text))
 
 -- who has, after a trace, the right that is needed
 abbrev pub holders_at : TraceModel → Asked → List ℕ

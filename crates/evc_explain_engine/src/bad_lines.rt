@@ -2,7 +2,7 @@
 ghost use Rattle.std.specs.Prelude.{◌≡◌, ◌<◌, ◌++◌, Some, None, Ok, Err, IfOk, IfSome, IfNone};
 ghost use Rattle.std.specs.Prelude.{false, codes, length};
 ghost use Rattle.ec_heading.specs.Heading.{head_step};
-ghost use Rattle.ec_trace.specs.Outcome.{outcome};
+ghost use Rattle.ec_trace.specs.Outcome.{parse_result};
 ghost use Rattle.ec_trace.specs.declared.fault.TraceFault.TheVariants.{BadLine};
 ghost use Rattle.ec_trace.specs.declared.read.TheConstants.{TRACE_MAX};
 ghost use Rattle.ec_explain.specs.TextLines.{line_at};
@@ -162,7 +162,7 @@ fn in_run(traced: &Traced, text: &[u8], number: u64) -> Finding
 
 /// Returns what is wrong with a bad line.
 fn bad_line(alloc: Global, text: &[u8], number: u64) -> Result<Finding, AllocError>
-    requires { outcome TRACE_MAX text.now ≡ Err (BadLine number) }
+    requires { parse_result TRACE_MAX text.now ≡ Err (BadLine number) }
     ensures { IfOk result (FindsBad text.now number) }
 {
     if follows_end(number, text) {

@@ -9,8 +9,8 @@ ghost use Rattle.evc_engine.specs.Checks.{RefusedFor};
 ghost use Rattle.evc_engine.specs.declared.status.Status.TheVariants.{Refused};
 ghost use Rattle.evc_explain_engine.specs.WorkerEnds.{turn_text};
 ghost use Rattle.evc_explain_engine.specs.TextAndStatus.{HasTextAndStatus};
-ghost use Rattle.evc_explain_engine.specs.Explanations.{IsExplanation, TellsCalls, TellsFault, TellsPlan, TellsScript};
-ghost use Rattle.evc_explain_engine.specs.Explanations.{IsUnplayed, TellsPlayed, TellsTrace};
+ghost use Rattle.evc_explain_engine.specs.Explanations.{IsExplanation, ExplainsCalls, ExplainsFault, ExplainsPlan, ExplainsScript};
+ghost use Rattle.evc_explain_engine.specs.Explanations.{IsUnplayed, ExplainsPlayed, ExplainsTrace};
 
 use crate::bad_lines::finding_of;
 use crate::continuation::continuation_bytes;
@@ -32,7 +32,7 @@ use std::alloc::{AllocError, Global};
 /// Returns the explanation of a text that has this fault as a trace.
 fn explain_fault(alloc: Global, text: &[u8], fault: &TraceFault) -> Result<Explanation, AllocError>
     requires { RefusedFor text.now fault.now }
-    ensures { IfOk result (TellsFault text.now fault.now) }
+    ensures { IfOk result (ExplainsFault text.now fault.now) }
 {
     let finding = finding_of(alloc, text, fault)?;
     let reason = reason_of(alloc, text, fault)?;
@@ -41,7 +41,7 @@ fn explain_fault(alloc: Global, text: &[u8], fault: &TraceFault) -> Result<Expla
 
 /// Returns the explanation of a trace.
 fn explain_trace(alloc: Global, text: &[u8]) -> Result<Explanation, AllocError>
-    ensures { IfOk result (TellsTrace text.now) }
+    ensures { IfOk result (ExplainsTrace text.now) }
 {
     match read_text(alloc, text) {
         Ok(traced) => Ok(Explanation {
@@ -63,7 +63,7 @@ fn explain_played(
     requires programs { length plan.old.programs.items ≡ plan.old.heading.setup.workers }
     requires few { plan.old.heading.setup.workers ≤ 16 }
     requires schedule { All (λ w. w < plan.old.heading.setup.workers) plan.old.schedule.items }
-    ensures { IfOk result (TellsPlayed plan.old report.now) }
+    ensures { IfOk result (ExplainsPlayed plan.old report.now) }
 {
     let left = run_ends_text(
         alloc,
@@ -119,7 +119,7 @@ fn explain_unplayed(
 /// Returns the explanation of a parsed script.
 fn explain_plan(alloc: Global, text: &[u8], plan: &mut Plan) -> Result<Explanation, AllocError>
     requires { IsPlan (shown_plan plan.old) }
-    ensures { IfOk result (TellsPlan text.now plan.old) }
+    ensures { IfOk result (ExplainsPlan text.now plan.old) }
 {
     plan.heading.setup().invariant();
     match simulate(alloc, plan) {
@@ -130,7 +130,7 @@ fn explain_plan(alloc: Global, text: &[u8], plan: &mut Plan) -> Result<Explanati
 
 /// Returns the explanation of a script.
 fn explain_script(alloc: Global, text: &[u8]) -> Result<Explanation, AllocError>
-    ensures { IfOk result (TellsScript text.now) }
+    ensures { IfOk result (ExplainsScript text.now) }
 {
     match parse(alloc, text) {
         Ok(mut plan) => explain_plan(alloc, text, &mut plan),
@@ -144,7 +144,7 @@ fn explain_script(alloc: Global, text: &[u8]) -> Result<Explanation, AllocError>
 
 /// Returns the explanation of histories of calls.
 fn explain_calls(alloc: Global, text: &[u8]) -> Result<Explanation, AllocError>
-    ensures { IfOk result (TellsCalls text.now) }
+    ensures { IfOk result (ExplainsCalls text.now) }
 {
     if text.len() > TRACE_MAX {
         return explain_finding(alloc, &finding_of_text(Cause::TooLarge), b"", text);

@@ -4,7 +4,7 @@ ghost use Rattle.std.specs.Prelude.{nat_lt};
 ghost use Rattle.std.specs.List.{flat_map};
 ghost use Rattle.ec_trace.specs.declared.read.TheConstants.{TRACE_MAX};
 ghost use Rattle.ec_text.specs.Puts.{Puts};
-ghost use Rattle.calls_report.specs.Checks.{IsOpen, IsRefused};
+ghost use Rattle.calls_report.specs.Checks.{IsUndecided, IsRefused};
 ghost use Rattle.evc_explain_engine.specs.Histories.{event_line};
 ghost use Rattle.evc_explain_engine.specs.Good.{ordered_text};
 ghost use Rattle.evc_explain_engine.specs.Histories.{if_before, ends_before, named_positions, few, seen_at};
@@ -234,7 +234,7 @@ fn explain_undecided(
     read: &Read<'_>,
     undecided: &Undecided,
 ) -> Result<Explanation, AllocError>
-    requires { IsOpen read.now.recording undecided.now }
+    requires { IsUndecided read.now.recording undecided.now }
     ensures { IfOk result (ExplainsUndecided text.now read.now.number read.now.recording) }
 {
     let more = undecided_text(alloc, text, read, undecided)?;

@@ -2,10 +2,10 @@
 use Rattle.std.proofs.Common.{◌≡◌, ℕ, List, Err, sym, ap, ap₂, subst, inl, inr}
 use Rattle.ec_script.specs.declared.fault.Kind.{Kind}
 use Rattle.ec_script.specs.declared.parsing.TheConstants.{SCRIPT_MAX}
-use Rattle.ec_script.specs.Outcome.{ParseResult, outcome}
+use Rattle.ec_script.specs.Outcome.{ParseResult, parse_result}
 use Rattle.ec_script.specs.ScriptModel.{PlanModel}
 use Rattle.evc_engine.specs.declared.status.Status.TheVariants.{Refused}
-use Rattle.evc_engine.specs.Checks.{Outlets}
+use Rattle.evc_engine.specs.Checks.{Outputs}
 use Rattle.ec_text.specs.Inputs.{looked_at}
 use Rattle.evc_scripts.specs.OutcomeNotes.{script_note, ended_note}
 use Rattle.evc_scripts.specs.Runs.{WritesOnlyNote}
@@ -19,7 +19,7 @@ told_once returned one other is too = cc
 
 pub one_fault : RefusedScriptsHaveOneFault
 one_fault bytes n m kind sort one other =
-    let same = told_once (outcome (looked_at SCRIPT_MAX bytes)) (n, kind) (m, sort) one.returned other.returned in
+    let same = told_once (parse_result (looked_at SCRIPT_MAX bytes)) (n, kind) (m, sort) one.returned other.returned in
     (ap (λ (x : ℕ × Kind). x.0) same, ap (λ (x : ℕ × Kind). x.1) same)
 
 -- if the line and the kind are equal, so is the note
@@ -28,12 +28,12 @@ same_note bytes n m kind sort one other =
     let same = one_fault bytes n m kind sort one other in
     ap₂ script_note (sym same.0) (sym same.1)
 
-both_say : (old new before after : Outlets) (note remark : List ℕ) → remark ≡ note → WritesOnlyNote old new note → WritesOnlyNote before after remark
+both_say : (old new before after : Outputs) (note remark : List ℕ) → remark ≡ note → WritesOnlyNote old new note → WritesOnlyNote before after remark
     → (said : List ℕ) × WritesOnlyNote old new said × WritesOnlyNote before after said
 both_say old new before after note remark same one other = (note, one, subst (WritesOnlyNote before after) same other)
 
 -- a plan whose schedule names a worker that has ended has one note
-plans_say : (p : PlanModel) (old new before after : Outlets) → PlanEnds p Refused old new → PlanEnds p Refused before after
+plans_say : (p : PlanModel) (old new before after : Outputs) → PlanEnds p Refused old new → PlanEnds p Refused before after
     → (note : List ℕ) × WritesOnlyNote old new note × WritesOnlyNote before after note
 plans_say p old new before after one other =
     let same = one_place p other.0 other.1 one.0 one.1 other.2 one.2 in

@@ -20,7 +20,7 @@ use Rattle.ec_runner.specs.Schedules.{Turn, IsTurn, AreTurns, Plays, EndsBeforeP
 use Rattle.ec_runner.proofs.shared.InOrder.{one_run, ended_not_played}
 use Rattle.ec_runner.proofs.shared.Histories.{no_history}
 use Rattle.evc_engine.specs.declared.status.Status.TheVariants.{Done, Refused}
-use Rattle.evc_engine.specs.Checks.{Outlets}
+use Rattle.evc_engine.specs.Checks.{Outputs}
 use Rattle.evc_scripts.specs.OutcomeNotes.{outcomes_note}
 use Rattle.evc_scripts.specs.SimLaws.{LinesPlayAlike, PlansHaveOneRun, SimsHaveOneText, EndedPlansAreNotPlayed, EndedPlansHaveNoHistory, PlansEndAtOnePlace, SimsEndOneWay}
 use Rattle.evc_scripts.specs.Sims.{IsTraceUnder, IsPlayed, PlanEnds, SaysPlan}
@@ -165,7 +165,7 @@ one_place p place w other v one two =
 pub one_plan : (bytes : List ℕ) (p q : PlanModel) → SaysPlan bytes p → SaysPlan bytes q → p ≡ q
 one_plan bytes p q one other = (let same : Ok p ≡ Ok q = sym one.returned ∙ other.returned in cc)
 
-not_both : (p : PlanModel) (old new before after : Outlets) → PlanEnds p Done old new → PlanEnds p Refused before after → ⊥
+not_both : (p : PlanModel) (old new before after : Outputs) → PlanEnds p Done old new → PlanEnds p Refused before after → ⊥
 not_both p old new before after played early =
     let is : IsPlayed p played.0 played.1 = played.2 in
     never_played p early.0 early.1 is.turns is.outcomes early.2 is.played

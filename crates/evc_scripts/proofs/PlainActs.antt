@@ -30,8 +30,8 @@ use Rattle.ec_machine.specs.declared.command.Command.TheOpen as layer
 use Rattle.ec_machine.specs.declared.command.Command.TheVariants.{rolls-Advance, rolls-Read, rolls-Await, rolls-Ticket, rolls-Put, rolls-Get, rolls-Hand, rolls-Produce, rolls-Consume, rolls-WriteAll, rolls-Snapshot, rolls-Down, rolls-Up, rolls-DownBoth, rolls-Repeat}
 use Rattle.ec_machine.specs.declared.command.Command.TheViews.{roll-Command, out-Command, roll-out-Command}
 use Rattle.ec_machine.specs.Follows.{program_at}
-use Rattle.ec_machine.specs.Runs.{ProgramState, start, one_call, command_call, last_number, next_place, after_call, next_in, place_after, next_act, IsRunOf}
-use Rattle.ec_machine.specs.Steps.{opening, finished, IsRun, own}
+use Rattle.ec_machine.specs.Runs.{ProgramState, start, one_call, command_call, last_number, next_state, after_call, next_in, state_after, next_act, IsRunOf}
+use Rattle.ec_machine.specs.Steps.{opening, completed_calls, IsRun, own}
 use Rattle.ec_machine.specs.Values.{eval, values_of, has_large}
 use Rattle.ec_heading.specs.declared.version.Version.{Version}
 use Rattle.ec_heading.specs.declared.version.Version.TheVariants.{One, Two}
@@ -142,15 +142,15 @@ chosen_left : (b : Bool) (p q : ProgramState) → AreOfOne p.left → AreOfOne q
 chosen_left true p q of_p of_q = of_p
 chosen_left false p q of_p of_q = of_q
 
-moved_left : (cs : List Command) (last : ℕ) (returned : List CompletedCall) → AreOfOne cs → AreOfOne (next_place cs last returned).left
+moved_left : (cs : List Command) (last : ℕ) (returned : List CompletedCall) → AreOfOne cs → AreOfOne (next_state cs last returned).left
 moved_left [] last returned have = have
 moved_left (c ∷ cs) last returned have =
     chosen_left (is_some (command_call last c returned)) (record { left = c ∷ cs; last = last; completed = returned }) (record { left = cs; last = last_number last returned; completed = [] }) have have.1
 
 -- the commands that are left are among the program's
 left_of : (p : ProgramState) (calls : List CompletedCall) → AreOfOne p.left
-    → AreOfOne (place_after p calls).left
-unfolding place_after
+    → AreOfOne (state_after p calls).left
+unfolding state_after
 left_of p [] have = have
 left_of p (c ∷ calls) have = left_of (after_call p c) calls (moved_left p.left p.last (p.returned ++ c ∷ []) have)
 
@@ -164,10 +164,10 @@ in_plain (c ∷ cs) last returned op have is =
 
 next_plain : (cs : List Command) (past : List Entry) (act : Act) → HasProgram One cs → next_act cs past ≡ Some act → can_spell One act ≡ true
 next_plain cs past act have is =
-    let p = place_after (start cs) (finished past) in
+    let p = state_after (start cs) (completed_calls past) in
     elim (is_some (opening past)) as (λ b. next_of b (next_in p.left p.last p.returned) ≡ Some act → can_spell One act ≡ true) [
       | true ↦ λ h. plain_op acts.Go act h refl
-      | false ↦ λ h. in_plain p.left p.last p.returned act (left_of (start cs) (finished past) have) h
+      | false ↦ λ h. in_plain p.left p.last p.returned act (left_of (start cs) (completed_calls past) have) h
     ] is
 
 run_plain : (cs : List Command) (past : List Entry) → HasProgram One cs → IsRunOf cs past → AllPlain past

@@ -13,8 +13,8 @@ use Rattle.ec_machine.specs.declared.command.Command.TheViews.{roll-Command}
 use Rattle.ec_machine.specs.declared.command.Command.TheFolds.{ind-Command, fold-roll-Command}
 use Rattle.ec_machine.specs.declared.command.Command.TheVariants as commands
 use Rattle.ec_machine.specs.declared.outcome.Outcome.TheVariants.{Running, ValueTooLarge}
-use Rattle.ec_machine.specs.Runs.{ProgramState, start, command_call, next_in, next_call, next_place, after_call, place_after, last_number, program_call, next_act, outcome_in, outcome_at, outcome_of}
-use Rattle.ec_machine.specs.Steps.{opening, finished}
+use Rattle.ec_machine.specs.Runs.{ProgramState, start, command_call, next_in, next_call, next_state, after_call, state_after, last_number, program_call, next_act, outcome_in, outcome_at, outcome_of}
+use Rattle.ec_machine.specs.Steps.{opening, completed_calls}
 use Rattle.ec_machine.specs.Values.{values_of, is_large, has_large}
 use Rattle.ec_machine.specs.Unrolled.{unroll, unroll_command, written_step, repeated}
 use Rattle.ec_script.specs.declared.block_item.BlockItem.{BlockItem}
@@ -152,7 +152,7 @@ record AlikePlaces (p q : ProgramState) : Type 0 where
 abbrev at_place : List Command → ℕ → List CompletedCall → ProgramState
 at_place cs last completed = record { left = cs; last = last; completed = completed }
 
-moved_alike : (cs ds : List Command) (last : ℕ) (completed : List CompletedCall) → Alike cs ds → AlikePlaces (next_place cs last completed) (next_place ds last completed)
+moved_alike : (cs ds : List Command) (last : ℕ) (completed : List CompletedCall) → Alike cs ds → AlikePlaces (next_state cs last completed) (next_state ds last completed)
 moved_alike [] [] last completed alike = record { left = tt; last = refl; completed = refl }
 moved_alike [] (d ∷ ds) last completed alike = absurd alike
 moved_alike (c ∷ cs) [] last completed alike = absurd alike
@@ -162,18 +162,18 @@ moved_alike (c ∷ cs) (d ∷ ds) last completed alike =
       | true ↦ record { left = alike; last = refl; completed = refl }
       | false ↦ record { left = alike.1; last = refl; completed = refl }
     ] in
-    subst (λ b. AlikePlaces (next_place (c ∷ cs) last completed) (if b then at_place (d ∷ ds) last completed else at_place ds (last_number last completed) []))
+    subst (λ b. AlikePlaces (next_state (c ∷ cs) last completed) (if b then at_place (d ∷ ds) last completed else at_place ds (last_number last completed) []))
     (ap (λ f. is_some (f completed)) (alike.0.calls last)) go
 
 after_alike : (p q : ProgramState) (x : CompletedCall) → AlikePlaces p q → AlikePlaces (after_call p x) (after_call q x)
 after_alike p q x alike =
     let more : p.completed ++ x ∷ [] ≡ q.completed ++ x ∷ [] =
     ap (λ l. l ++ x ∷ []) alike.completed in
-    subst (λ l. AlikePlaces (after_call p x) (next_place q.left q.last l)) more
-    (subst (λ n. AlikePlaces (after_call p x) (next_place q.left n (p.completed ++ x ∷ []))) alike.last (moved_alike p.left q.left p.last (p.completed ++ x ∷ []) alike.left))
+    subst (λ l. AlikePlaces (after_call p x) (next_state q.left q.last l)) more
+    (subst (λ n. AlikePlaces (after_call p x) (next_state q.left n (p.completed ++ x ∷ []))) alike.last (moved_alike p.left q.left p.last (p.completed ++ x ∷ []) alike.left))
 
-place_alike : (calls : List CompletedCall) (p q : ProgramState) → AlikePlaces p q → AlikePlaces (place_after p calls) (place_after q calls)
-unfolding place_after
+place_alike : (calls : List CompletedCall) (p q : ProgramState) → AlikePlaces p q → AlikePlaces (state_after p calls) (state_after q calls)
+unfolding state_after
 place_alike [] p q alike = alike
 place_alike (x ∷ calls) p q alike = place_alike calls (after_call p x) (after_call q x) (after_alike p q x alike)
 
@@ -202,13 +202,13 @@ start_alike : (cs ds : List Command) → flat cs ≡ flat ds → AlikePlaces (st
 start_alike cs ds same = record { left = written_alike cs ds same; last = refl; completed = refl }
 
 calls_alike : (cs ds : List Command) (calls : List CompletedCall) → flat cs ≡ flat ds → program_call cs calls ≡ program_call ds calls
-calls_alike cs ds calls same = next_alike (place_after (start cs) calls) (place_after (start ds) calls) (place_alike calls (start cs) (start ds) (start_alike cs ds same))
+calls_alike cs ds calls same = next_alike (state_after (start cs) calls) (state_after (start ds) calls) (place_alike calls (start cs) (start ds) (start_alike cs ds same))
 
 -- the act that comes next in programs of the same lines
 pub same_next : (cs ds : List Command) (past : List Entry) → flat cs ≡ flat ds → next_act cs past ≡ next_act ds past
-same_next cs ds past same = ap (next_of (is_some (opening past))) (calls_alike cs ds (finished past) same)
+same_next cs ds past same = ap (next_of (is_some (opening past))) (calls_alike cs ds (completed_calls past) same)
 
 -- the outcome of programs of the same lines
 pub same_outcome : (cs ds : List Command) (past : List Entry) → flat cs ≡ flat ds → outcome_of cs past ≡ outcome_of ds past
 same_outcome cs ds past same =
-    outcome_alike (place_after (start cs) (finished past)) (place_after (start ds) (finished past)) (place_alike (finished past) (start cs) (start ds) (start_alike cs ds same))
+    outcome_alike (state_after (start cs) (completed_calls past)) (state_after (start ds) (completed_calls past)) (place_alike (completed_calls past) (start cs) (start ds) (start_alike cs ds same))

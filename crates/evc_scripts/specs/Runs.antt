@@ -10,7 +10,7 @@ use Rattle.ec_machine.specs.declared.outcome.Outcome.{Outcome}
 use Rattle.ec_machine.specs.declared.outcome.Outcome.TheVariants as outcomes
 use Rattle.ec_script.specs.declared.fault.Kind.{Kind}
 use Rattle.ec_script.specs.declared.parsing.TheConstants.{SCRIPT_MAX}
-use Rattle.ec_script.specs.Outcome.{outcome}
+use Rattle.ec_script.specs.Outcome.{parse_result}
 use Rattle.ec_script.specs.ScriptModel.{PlanModel}
 use Rattle.ec_runner.specs.declared.report.Report.{Report}
 use Rattle.ec_runner.specs.declared.run_fault.RunFault.{RunFault}
@@ -22,7 +22,7 @@ use Rattle.ec_runner.specs.RunFaults.{IsRunFault}
 use Rattle.evc_engine.specs.declared.status.Status.{Status}
 use Rattle.evc_engine.specs.declared.status.Status.TheVariants.{Done, Refused, Usage, InputOutput, Memory, Stopped}
 use Rattle.evc_engine.specs.AuditTexts.{worker_word}
-use Rattle.evc_engine.specs.Checks.{Outlets, Notes}
+use Rattle.evc_engine.specs.Checks.{Outputs, Notes}
 use Rattle.ec_text.specs.Inputs.{IsReadUp, IsCutShort}
 use Rattle.evc_scripts.specs.OutcomeNotes.{outcomes_note, script_note}
 use Rattle.evc_scripts.specs.Sims.{AreProgramsOf, IsTraceUnder, SaysPlan, RefusedAt}
@@ -57,7 +57,7 @@ pub record HaveRun (p : PlanModel) (turns : ℕ) (status : Status) (trace note :
   pub ended : status ≡ status_for report.outcomes.items
 
 -- the trace and the note on the outcomes were written, and the command ended with this status
-abbrev pub WroteReport : PlanModel → ℕ → Status → Outlets → Outlets → Type 0
+abbrev pub WroteReport : PlanModel → ℕ → Status → Outputs → Outputs → Type 0
 WroteReport p turns status old new = (trace note : List ℕ) × HaveRun p turns status trace note × Appends old.out new.out trace × Notes old new note
 
 -- the status if there is no report, and the note
@@ -75,7 +75,7 @@ run_fault_note h Spawn = codes "no thread\n"
 run_fault_note h faults.Memory = codes "no memory\n"
 
 -- nothing was written but this note
-abbrev pub WritesOnlyNote : Outlets → Outlets → List ℕ → Type 0
+abbrev pub WritesOnlyNote : Outputs → Outputs → List ℕ → Type 0
 WritesOnlyNote old new note = Keeps old.out new.out × Notes old new note
 
 -- a mismatch names a declared worker
@@ -86,7 +86,7 @@ NamesWorker t faults.Memory = Unit {0}
 
 -- there is no report, for a fault with this status: a mismatch is of workers that ran the programs
 -- of the plan and ended, and names a declared one
-pub record HasNoReport (p : PlanModel) (turns : ℕ) (status : Status) (old new : Outlets) : Type 0 where
+pub record HasNoReport (p : PlanModel) (turns : ℕ) (status : Status) (old new : Outputs) : Type 0 where
   pub fault : RunFault
   pub programs : List (List Command)
   pub lines : AreProgramsOf p programs
@@ -96,7 +96,7 @@ pub record HasNoReport (p : PlanModel) (turns : ℕ) (status : Status) (old new 
   pub says : WritesOnlyNote old new (run_fault_note p.heading fault)
 
 -- how the command ended for a plan
-abbrev pub RunEnds : PlanModel → ℕ → Status → Outlets → Outlets → Type 0
+abbrev pub RunEnds : PlanModel → ℕ → Status → Outputs → Outputs → Type 0
 RunEnds p turns Done old new = WroteReport p turns Done old new
 RunEnds p turns Memory old new =
     WroteReport p turns Memory old new ⊎ HasNoReport p turns Memory old new
@@ -110,11 +110,11 @@ RunEnds p turns Usage old new = ⊥
 -- THE COMMAND
 
 -- how it ended for a text that was read
-abbrev pub TextRuns : List ℕ → ℕ → Status → Outlets → Outlets → Type 0
-TextRuns text turns Refused old new = (n : ℕ) × (kind : Kind) × (outcome text ≡ Err (n, kind)) × WritesOnlyNote old new (script_note n kind)
+abbrev pub TextRuns : List ℕ → ℕ → Status → Outputs → Outputs → Type 0
+TextRuns text turns Refused old new = (n : ℕ) × (kind : Kind) × (parse_result text ≡ Err (n, kind)) × WritesOnlyNote old new (script_note n kind)
 TextRuns text turns Memory old new =
-    ((p : PlanModel) × (outcome text ≡ Ok p) × RunEnds p turns Memory old new) ⊎ WritesOnlyNote old new (codes "no memory\n")
-TextRuns text turns status old new = (p : PlanModel) × (outcome text ≡ Ok p) × RunEnds p turns status old new
+    ((p : PlanModel) × (parse_result text ≡ Ok p) × RunEnds p turns Memory old new) ⊎ WritesOnlyNote old new (codes "no memory\n")
+TextRuns text turns status old new = (p : PlanModel) × (parse_result text ≡ Ok p) × RunEnds p turns status old new
 
 -- how `run` ended: the bytes are a script, its workers ran, and their trace was written, with no
 -- worker stopped, out of turns or out of memory (0); or the bytes are no script, and only the note
@@ -122,7 +122,7 @@ TextRuns text turns status old new = (p : PlanModel) × (outcome text ≡ Ok p) 
 -- memory (4), and the trace was written; or a worker's summary does not fit the run (5), and only a
 -- note was written; or a failed read, write or start of a thread is reported (3), or out of memory
 -- (4). It reads as `sim` does
-abbrev pub Runs : ℕ → List ℕ → Option (List ℕ) → Status → Outlets → Outlets → Type 0
+abbrev pub Runs : ℕ → List ℕ → Option (List ℕ) → Status → Outputs → Outputs → Type 0
 Runs turns bytes left Refused old new = (n : ℕ) × (kind : Kind) × RefusedAt bytes n kind × WritesOnlyNote old new (script_note n kind) × IsReadUp SCRIPT_MAX bytes left
 Runs turns bytes left InputOutput old new =
     ((p : PlanModel) × SaysPlan bytes p × RunEnds p turns InputOutput old new × IsReadUp SCRIPT_MAX bytes left)

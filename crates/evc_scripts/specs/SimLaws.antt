@@ -4,7 +4,7 @@ use Rattle.ec_count.specs.Tables.{Tables}
 use Rattle.ec_core.specs.declared.act.Entry.{Entry}
 use Rattle.ec_machine.specs.declared.command.Command.{Command}
 use Rattle.ec_machine.specs.declared.outcome.Outcome.{Outcome}
-use Rattle.ec_trace.specs.Outcome.{outcome}
+use Rattle.ec_trace.specs.Outcome.{parse_result}
 use Rattle.ec_trace.specs.declared.read.TheConstants.{TRACE_MAX}
 use Rattle.ec_script.specs.declared.fault.Kind.{Kind}
 use Rattle.ec_script.specs.Flat.{flat}
@@ -13,8 +13,8 @@ use Rattle.ec_runner.specs.Schedules.{Turn, Plays, entries_of, outcome_after}
 use Rattle.ec_runner.specs.ScheduleLaws.{IsHistoryOf}
 use Rattle.evc_engine.specs.declared.status.Status.{Status}
 use Rattle.evc_engine.specs.declared.status.Status.TheVariants.{Done, Refused}
-use Rattle.evc_engine.specs.Checks.{Outlets}
-use Rattle.evc_scripts.specs.Sims.{AreProgramsOf, PlaysPlan, EndsEarly, IsPlayed, RefusedAt, Sims}
+use Rattle.evc_engine.specs.Checks.{Outputs}
+use Rattle.evc_scripts.specs.Sims.{AreProgramsOf, PlaysPlan, NamesEndedWorker, IsPlayed, RefusedAt, Sims}
 use Rattle.evc_scripts.specs.Runs.{HaveRun, WritesOnlyNote, Runs}
 
 -- ONE TEXT FOR A SCRIPT
@@ -38,20 +38,20 @@ SimsHaveOneText = (p : PlanModel) (trace note other remark : List ℕ)
 
 -- a plan whose schedule names a worker that has ended is not played
 abbrev pub EndedPlansAreNotPlayed : Type 0
-EndedPlansAreNotPlayed = (p : PlanModel) (place w : ℕ) (turns : List Turn) (outcomes : List Outcome) → EndsEarly p place w → PlaysPlan p turns outcomes → ⊥
+EndedPlansAreNotPlayed = (p : PlanModel) (place w : ℕ) (turns : List Turn) (outcomes : List Outcome) → NamesEndedWorker p place w → PlaysPlan p turns outcomes → ⊥
 
 -- such a plan has no history, for any programs of its lines and any outcomes
 abbrev pub EndedPlansHaveNoHistory : Type 0
 EndedPlansHaveNoHistory = (p : PlanModel) (place w : ℕ) (programs : List (List Command)) (h : List Entry) (outcome : ℕ → Outcome)
-    → EndsEarly p place w → AreProgramsOf p programs → IsHistoryOf p.heading.setup programs p.schedule h outcome → ⊥
+    → NamesEndedWorker p place w → AreProgramsOf p programs → IsHistoryOf p.heading.setup programs p.schedule h outcome → ⊥
 
 -- the place and the worker are unique
 abbrev pub PlansEndAtOnePlace : Type 0
-PlansEndAtOnePlace = (p : PlanModel) (place w other v : ℕ) → EndsEarly p place w → EndsEarly p other v → (place ≡ other) × (w ≡ v)
+PlansEndAtOnePlace = (p : PlanModel) (place w other v : ℕ) → NamesEndedWorker p place w → NamesEndedWorker p other v → (place ≡ other) × (w ≡ v)
 
 -- no bytes may end with status 0 and with status 1
 abbrev pub SimsEndOneWay : Type 0
-SimsEndOneWay = (bytes : List ℕ) (left rest : Option (List ℕ)) (old new before after : Outlets) → Sims bytes left Done old new → Sims bytes rest Refused before after → ⊥
+SimsEndOneWay = (bytes : List ℕ) (left rest : Option (List ℕ)) (old new before after : Outputs) → Sims bytes left Done old new → Sims bytes rest Refused before after → ⊥
 
 -- ONE NOTE FOR A REJECTION
 
@@ -62,17 +62,17 @@ RefusedScriptsHaveOneFault = (bytes : List ℕ) (n m : ℕ) (kind sort : Kind) �
 -- whenever `sim` ends with status 1 on the same bytes, a script or not, it writes only the same
 -- note
 abbrev pub RefusedSimsHaveOneNote : Type 0
-RefusedSimsHaveOneNote = (bytes : List ℕ) (left rest : Option (List ℕ)) (old new before after : Outlets) → Sims bytes left Refused old new → Sims bytes rest Refused before after
+RefusedSimsHaveOneNote = (bytes : List ℕ) (left rest : Option (List ℕ)) (old new before after : Outputs) → Sims bytes left Refused old new → Sims bytes rest Refused before after
     → (note : List ℕ) × WritesOnlyNote old new note × WritesOnlyNote before after note
 
 -- the same about `run`, whatever the bounds of turns
 abbrev pub RefusedRunsHaveOneNote : Type 0
-RefusedRunsHaveOneNote = (bytes : List ℕ) (left rest : Option (List ℕ)) (turns most : ℕ) (old new before after : Outlets) → Runs turns bytes left Refused old new → Runs most bytes rest Refused before after
+RefusedRunsHaveOneNote = (bytes : List ℕ) (left rest : Option (List ℕ)) (turns most : ℕ) (old new before after : Outputs) → Runs turns bytes left Refused old new → Runs most bytes rest Refused before after
     → (note : List ℕ) × WritesOnlyNote old new note × WritesOnlyNote before after note
 
 -- if both end with status 1 on the same bytes, they write the same note
 abbrev pub RefusalsAreAlike : Type 0
-RefusalsAreAlike = (bytes : List ℕ) (left rest : Option (List ℕ)) (turns : ℕ) (old new before after : Outlets) → Sims bytes left Refused old new → Runs turns bytes rest Refused before after
+RefusalsAreAlike = (bytes : List ℕ) (left rest : Option (List ℕ)) (turns : ℕ) (old new before after : Outputs) → Sims bytes left Refused old new → Runs turns bytes rest Refused before after
     → (note : List ℕ) × WritesOnlyNote old new note × WritesOnlyNote before after note
 
 -- WHAT IS WRITTEN IS PARSED BACK
@@ -80,9 +80,9 @@ RefusalsAreAlike = (bytes : List ℕ) (left rest : Option (List ℕ)) (turns : �
 -- the trace that `sim` writes is parsed to the same run, if it is within the bound of traces
 abbrev pub SimulatedIsReadAgain : Type 0
 SimulatedIsReadAgain = (p : PlanModel) (trace note : List ℕ) (played : IsPlayed p trace note) → length trace ≤ TRACE_MAX
-    → outcome TRACE_MAX trace ≡ Ok (record { heading = p.heading; entries = reverse (entries_of played.turns) })
+    → parse_result TRACE_MAX trace ≡ Ok (record { heading = p.heading; entries = reverse (entries_of played.turns) })
 
 -- the same about the trace of workers on threads
 abbrev pub RanIsReadAgain : Type 0
 RanIsReadAgain = (p : PlanModel) (turns : ℕ) (status : Status) (trace note : List ℕ) (ran : HaveRun p turns status trace note) → length trace ≤ TRACE_MAX
-    → outcome TRACE_MAX trace ≡ Ok (record { heading = p.heading; entries = ran.report.run.entries })
+    → parse_result TRACE_MAX trace ≡ Ok (record { heading = p.heading; entries = ran.report.run.entries })

@@ -13,7 +13,7 @@ use Rattle.ec_script.specs.declared.fault.Kind.{Kind}
 use Rattle.ec_script.specs.declared.parsing.TheConstants.{SCRIPT_MAX}
 use Rattle.ec_script.specs.Flat.{flat}
 use Rattle.ec_script.specs.Grammar.{IsScript, IsNoScript}
-use Rattle.ec_script.specs.Outcome.{outcome}
+use Rattle.ec_script.specs.Outcome.{parse_result}
 use Rattle.ec_script.specs.ScriptModel.{PlanModel}
 use Rattle.ec_runner.specs.Reported.{AreOutcomes}
 use Rattle.ec_runner.specs.declared.report.SimFault.{SimFault}
@@ -22,7 +22,7 @@ use Rattle.ec_runner.specs.declared.report.SimFault.TheVariants as faults
 use Rattle.ec_runner.specs.Schedules.{Turn, Plays, EndsBeforePlace, entries_of}
 use Rattle.evc_engine.specs.declared.status.Status.{Status}
 use Rattle.evc_engine.specs.declared.status.Status.TheVariants.{Done, Refused, Usage, InputOutput, Memory, Stopped}
-use Rattle.evc_engine.specs.Checks.{Outlets, Notes}
+use Rattle.evc_engine.specs.Checks.{Outputs, Notes}
 use Rattle.ec_text.specs.Inputs.{looked_at, IsReadUp, IsCutShort}
 use Rattle.evc_scripts.specs.OutcomeNotes.{outcomes_note, script_note, ended_note}
 
@@ -40,7 +40,7 @@ pub record PlaysPlan (p : PlanModel) (turns : List Turn) (outcomes : List Outcom
   pub after : AreOutcomes programs p.heading.setup.workers turns outcomes
 
 -- worker w, whom the plan's schedule names at this place, has ended before it
-pub record EndsEarly (p : PlanModel) (place w : ℕ) : Type 0 where
+pub record NamesEndedWorker (p : PlanModel) (place w : ℕ) : Type 0 where
   pub programs : List (List Command)
   pub lines : AreProgramsOf p programs
   pub ended : EndsBeforePlace p.heading.setup programs p.schedule place w
@@ -71,9 +71,9 @@ sim_fault_note h (Ended place w) = ended_note h place w
 sim_fault_note h faults.Memory = codes "no memory\n"
 
 -- how the command ended for a plan
-abbrev pub PlanEnds : PlanModel → Status → Outlets → Outlets → Type 0
+abbrev pub PlanEnds : PlanModel → Status → Outputs → Outputs → Type 0
 PlanEnds p Done old new = (trace note : List ℕ) × IsPlayed p trace note × Appends old.out new.out trace × Notes old new note
-PlanEnds p Refused old new = (place w : ℕ) × EndsEarly p place w × Keeps old.out new.out × Notes old new (ended_note p.heading place w)
+PlanEnds p Refused old new = (place w : ℕ) × NamesEndedWorker p place w × Keeps old.out new.out × Notes old new (ended_note p.heading place w)
 PlanEnds p InputOutput old new = (trace note : List ℕ) × IsPlayed p trace note × AppendsPrefix old.out new.out trace × Notes old new (codes "write fault\n")
 PlanEnds p Memory old new = Keeps old.out new.out × Notes old new (codes "no memory\n")
 PlanEnds p Usage old new = ⊥
@@ -82,31 +82,32 @@ PlanEnds p Stopped old new = ⊥
 -- TEXTS
 
 -- how the command ended for a text that was read
-abbrev pub TextEnds : List ℕ → Status → Outlets → Outlets → Type 0
+abbrev pub TextEnds : List ℕ → Status → Outputs → Outputs → Type 0
 TextEnds text Refused old new =
-    ((p : PlanModel) × (outcome text ≡ Ok p) × PlanEnds p Refused old new)
-    ⊎ ((n : ℕ) × (kind : Kind) × (outcome text ≡ Err (n, kind)) × Keeps old.out new.out × Notes old new (script_note n kind))
+    ((p : PlanModel) × (parse_result text ≡ Ok p) × PlanEnds p Refused old new)
+    ⊎ ((n : ℕ) × (kind : Kind) × (parse_result text ≡ Err (n, kind)) × Keeps old.out new.out × Notes old new (script_note n kind))
 TextEnds text Memory old new = Keeps old.out new.out × Notes old new (codes "no memory\n")
-TextEnds text status old new = (p : PlanModel) × (outcome text ≡ Ok p) × PlanEnds p status old new
+TextEnds text status old new = (p : PlanModel) × (parse_result text ≡ Ok p)
+    × PlanEnds p status old new
 
 -- THE COMMAND
 
 -- the bytes are a script that says this plan, and they are parsed to it
 pub record SaysPlan (bytes : List ℕ) (p : PlanModel) : Type 0 where
   pub script : IsScript bytes p
-  pub returned : outcome (looked_at SCRIPT_MAX bytes) ≡ Ok p
+  pub returned : parse_result (looked_at SCRIPT_MAX bytes) ≡ Ok p
 
 -- the bytes are no script, and this is their first faulty line
 pub record RefusedAt (bytes : List ℕ) (n : ℕ) (kind : Kind) : Type 0 where
   pub none : IsNoScript bytes
-  pub returned : outcome (looked_at SCRIPT_MAX bytes) ≡ Err (n, kind)
+  pub returned : parse_result (looked_at SCRIPT_MAX bytes) ≡ Err (n, kind)
 
 -- how `sim` ended: the bytes are a script, its schedule was played, and the trace was written (0);
 -- or they are a script whose schedule names a worker that has ended, or no script, and only a note
 -- was written (1); or a failed read or write (3) or out of memory (4) is reported. It parses
 -- nothing before it has read all that it needs; a failed read is reported only if it comes before
 -- more bytes were read than a script may have
-abbrev pub Sims : List ℕ → Option (List ℕ) → Status → Outlets → Outlets → Type 0
+abbrev pub Sims : List ℕ → Option (List ℕ) → Status → Outputs → Outputs → Type 0
 Sims bytes left Done old new = (p : PlanModel) × SaysPlan bytes p × PlanEnds p Done old new × IsReadUp SCRIPT_MAX bytes left
 Sims bytes left Refused old new =
     ((p : PlanModel) × SaysPlan bytes p × PlanEnds p Refused old new

@@ -76,6 +76,6 @@ IsHandedTo w old new j x (Err (Refused r)) =
     (r.object ≡ j) × ((v : Watch) × JudgesOf w v x (Err r.refusal))
 IsHandedTo w old new j x (Err Full) = RoomFor w x.action → ⊥
 
-abbrev pub IsHanded : List Watch → List Watch → ℕ → Event → Result Unit Rejection → Type 0
-IsHanded old new j x result =
+abbrev pub IsPassed : List Watch → List Watch → ℕ → Event → Result Unit Rejection → Type 0
+IsPassed old new j x result =
     (w : Watch) → slice_get old j ≡ Some w → IsHandedTo w old new j x result

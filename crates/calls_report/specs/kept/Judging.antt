@@ -12,8 +12,8 @@ use Rattle.calls_report.specs.declared.checking.Stop.{Stop}
 use Rattle.calls_report.specs.declared.checking.Stop.TheVariants as stops
 use Rattle.calls_report.specs.declared.status.Status.{Status}
 use Rattle.calls_report.specs.declared.status.Status.TheVariants as statuses
-use Rattle.calls_report.specs.Notes.{scene_of, SaysRefusal, undecided_note}
-use Rattle.calls_report.specs.Checks.{JudgedHistory, HasOrder, IsRefused, IsOpen, history_text, texts_of}
+use Rattle.calls_report.specs.Notes.{site_of, SaysRefusal, undecided_note}
+use Rattle.calls_report.specs.Checks.{JudgedHistory, HasOrder, IsRefused, IsUndecided, history_text, texts_of}
 use Rattle.calls_report.specs.Checks.{remarks_on, AreJudged, IsJudged}
 
 -- the output for the history was put, with a linearization
@@ -24,7 +24,8 @@ PutsOrder r old new = (order : List Placed) × HasOrder r order × Puts old new 
 abbrev pub StopsBy : ℕ → RecordingModel → OutputModel → OutputModel → Stop → Type 0
 StopsBy n r old new stops.Refused = (x : Refusal) × IsRefused r x × SaysRefusal n r x old new
 StopsBy n r old new stops.NotDecided =
-    (u : Undecided) × IsOpen r u × Puts old new (undecided_note (scene_of n r u.object 0) u.cause)
+    (u : Undecided) × IsUndecided r u
+    × Puts old new (undecided_note (site_of n r u.object 0) u.cause)
 StopsBy n r old new stops.Memory = new ≡ old
 
 abbrev pub status_by : Stop → Status

@@ -8,12 +8,12 @@ use Rattle.calls_counts.specs.Faults.{is_advance, least}
 use Rattle.calls_report.specs.Counting.{is_advance_of}
 
 -- a pending advance of object k
-abbrev pub is_open : ℕ → PendingCall → Bool
-is_open k o = (o.object == k) && is_advance o.op
+abbrev pub is_pending_advance : ℕ → PendingCall → Bool
+is_pending_advance k o = (o.object == k) && is_advance o.op
 
 -- one that was invoked after position p
 abbrev pub is_open_after : ℕ → ℕ → PendingCall → Bool
-is_open_after k p o = nat_lt p o.first && is_open k o
+is_open_after k p o = nat_lt p o.first && is_pending_advance k o
 
 -- how many of the `left` advances of object k from an event on come after it
 abbrev pub left_after : ℕ → ℕ → Event → ℕ

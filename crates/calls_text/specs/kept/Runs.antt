@@ -6,11 +6,11 @@ use Rattle.calls_core.specs.declared.history.Event.{Event}
 use Rattle.calls_core.specs.declared.history.Action.{Action}
 use Rattle.calls_core.specs.Histories.{pending_calls, IsNext}
 use Rattle.calls_text.specs.Recordings.{RecordingModel, AreKinds}
-use Rattle.calls_text.specs.Tallies.{IsCounted}
+use Rattle.calls_text.specs.Tallies.{IsTallyOf}
 use Rattle.calls_text.specs.Reading.{pending_in}
 use Rattle.calls_text.specs.declared.running.Running.{Running}
-use Rattle.calls_text.specs.declared.verb.CallWord.{CallWord}
-use Rattle.calls_text.specs.declared.verb.CallWord.TheVariants as verbs
+use Rattle.calls_text.specs.declared.verb.OpWord.{OpWord}
+use Rattle.calls_text.specs.declared.verb.OpWord.TheVariants as verbs
 use Rattle.calls_text.specs.declared.object.Object.{Object}
 use Rattle.calls_text.specs.declared.object.Object.TheVariants as objects
 use Rattle.ec_heading.specs.HeadingModel.{HeadingModel}
@@ -19,7 +19,7 @@ use Rattle.ec_heading.specs.declared.group.Group.TheVariants as groups
 -- these were the events so far, whether they are stored or not
 pub record IsRunning (events : List Event) (r : Running) : Type 0 where
   pub pending : r.pending.items ≡ pending_calls (reverse events)
-  pub counted : IsCounted r.tally events
+  pub counted : IsTallyOf r.tally events
   pub count : r.count ≡ length events
   pub declared : IsDeclared r.recording.heading.setup
 
@@ -42,7 +42,7 @@ IsPlaced h (objects.Database i d) = i < length h.groups
 IsPlaced h _ = Unit {0}
 
 -- the object is of the sort that the call needs; its groups are those at its indices
-abbrev pub Fits : HeadingModel → CallWord → Object → Type 0
+abbrev pub Fits : HeadingModel → OpWord → Object → Type 0
 Fits h verbs.Advance (objects.Event e) = Unit {0}
 Fits h verbs.Read (objects.Event e) = Unit {0}
 Fits h verbs.Await (objects.Event e) = Unit {0}

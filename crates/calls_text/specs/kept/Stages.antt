@@ -2,7 +2,7 @@
 use Rattle.std.specs.Prelude.{ℕ, ◌≡◌, List, [], ◌∷◌, ◌++◌, Option, Some, None, Result, Ok, Err, Bool, true}
 use Rattle.std.specs.Prelude.{bytes_eq, codes}
 use Rattle.calls_core.specs.declared.history.Event.{Event}
-use Rattle.calls_text.specs.declared.fault.Kind.{Kind}
+use Rattle.calls_text.specs.declared.fault.FaultKind.{FaultKind}
 use Rattle.calls_text.specs.declared.fault.LineFault.{LineFault}
 use Rattle.calls_text.specs.declared.stage.Stage as held
 use Rattle.calls_text.specs.declared.stage.Stage.TheVariants as holds
@@ -24,7 +24,7 @@ IsSound (holds.Running r) = IsKeeping r
 IsSound _ = Unit {0}
 
 -- the step leads to the stage as it now is, or it fails
-abbrev pub Takes : Result (Unit {0}) LineFault → Result Stage Kind → held.Stage → Type 0
+abbrev pub Takes : Result (Unit {0}) LineFault → Result Stage FaultKind → held.Stage → Type 0
 Takes (Ok _) stepped new = (stepped ≡ Ok (stage_with_all new)) × IsSound new
 Takes (Err e) stepped _ = StepFails e stepped
 
@@ -61,14 +61,15 @@ IsFollowing events (holds.Ended r) = Unit {0}
 IsFollowing events _ = events ≡ []
 
 -- the step adds this event
-abbrev pub Adds : Event → Result Stage Kind → List Event → held.Stage → Type 0
+abbrev pub Adds : Event → Result Stage FaultKind → List Event → held.Stage → Type 0
 Adds e stepped events (holds.Running r) =
     (stepped ≡ Ok (Running (with_events r.recording (events ++ e ∷ []))))
     × IsNextOf (with_events r.recording events) e × IsRunning (events ++ e ∷ []) r
 Adds e stepped events _ = ⊥
 
 -- the step leads to the stage as it now is, or it fails; and this is the event that it adds
-abbrev pub Follows : Result (Option Event) LineFault → Result Stage Kind → List Event → held.Stage
+abbrev pub Follows : Result (Option Event) LineFault → Result Stage FaultKind → List Event
+    → held.Stage
     → Type 0
 Follows (Ok None) stepped events new =
     (stepped ≡ Ok (seen_with events new)) × IsFollowing events new
@@ -82,12 +83,12 @@ turns (holds.Running _) line = bytes_eq line (codes "end")
 turns _ _ = true
 
 -- the step leads to this stage, or it fails
-abbrev pub GoesTo : Result held.Stage LineFault → Result Stage Kind → List Event → Type 0
+abbrev pub GoesTo : Result held.Stage LineFault → Result Stage FaultKind → List Event → Type 0
 GoesTo (Ok s) stepped events = (stepped ≡ Ok (seen_with events s)) × IsFollowing events s
 GoesTo (Err e) stepped events = StepFails e stepped
 
 -- the step leads to the stage as it now is, or it fails
-abbrev pub TurnsTo : Result (Unit {0}) LineFault → Result Stage Kind → List Event → held.Stage
+abbrev pub TurnsTo : Result (Unit {0}) LineFault → Result Stage FaultKind → List Event → held.Stage
     → Type 0
 TurnsTo (Ok _) stepped events new =
     (stepped ≡ Ok (seen_with events new)) × IsFollowing events new

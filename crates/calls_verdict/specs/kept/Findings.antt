@@ -7,7 +7,7 @@ use Rattle.calls_core.specs.declared.history.Event.{Event}
 use Rattle.calls_core.specs.declared.history.Placed.{Placed}
 use Rattle.calls_core.specs.Lists.{Each}
 use Rattle.calls_core.specs.Histories.{clock, IsHistory, pending_calls, completed_calls, part}
-use Rattle.calls_core.specs.Linearizations.{IsSequentialRun, start, calls_on, pending_on}
+use Rattle.calls_core.specs.Linearizations.{IsLegalHistory, start, calls_on, pending_on}
 use Rattle.calls_core.specs.Points.{IsPlacedOrder, placed_on}
 use Rattle.calls_core.specs.Beginnings.{until}
 use Rattle.calls_verdict.specs.declared.verdict.Refusal.{Refusal}
@@ -39,7 +39,7 @@ pub record ArePlaced (kinds : List Kind) (past : List Event) (n : ℕ) (ps : Lis
   where
     pub below : Each (λ (p : Placed). p.call.object < n) ps
     pub orders : (k : ℕ) → k < n
-        → IsPlacedOrder (IsSequentialRun (start kinds k)) (calls_on k (completed_calls past))
+        → IsPlacedOrder (IsLegalHistory (start kinds k)) (calls_on k (completed_calls past))
         (pending_on k (pending_calls past)) (clock past) (placed_on k ps)
 
 -- the findings are those of the first n objects

@@ -8,7 +8,7 @@ use Rattle.calls_text.specs.Outcomes.{OneRead, lines_of_text}
 use Rattle.calls_report.specs.declared.status.Status.{Status}
 use Rattle.calls_report.specs.declared.status.Status.TheVariants.{Done, Refused}
 use Rattle.calls_report.specs.declared.status.Status.TheVariants.{InputOutput, Memory, NotDecided}
-use Rattle.calls_report.specs.Checks.{Outlets, SaysUnread}
+use Rattle.calls_report.specs.Checks.{Outputs, SaysUnread}
 use Rattle.calls_watch.specs.declared.feeder.Feeder.{Feeder}
 use Rattle.calls_watch.specs.declared.watching.EarlyEnd.{EarlyEnd}
 use Rattle.calls_watch.specs.declared.watching.EarlyEnd.TheVariants as cuts
@@ -30,7 +30,7 @@ ReadsOn old (Err cut) now f = ReadsAll old (Err cut) f
 
 -- WRITING
 
-abbrev pub WritesLoad : Status → List ℕ → Outlets → Outlets → Type 0
+abbrev pub WritesLoad : Status → List ℕ → Outputs → Outputs → Type 0
 WritesLoad Done text old new = Appends old.out new.out text × (new.notes ≡ old.notes)
 WritesLoad InputOutput text old new =
     AppendsPrefix old.out new.out text × Puts old.notes new.notes (codes "write fault\n")

@@ -14,7 +14,7 @@ use Rattle.calls_text.specs.declared.following.HistoryLine.{HistoryLine}
 use Rattle.calls_text.specs.declared.following.HistoryLine.TheVariants as lines
 use Rattle.calls_text.specs.Recordings.{RecordingModel, AreKinds}
 use Rattle.calls_text.specs.Reading.{Stage, Opening, Running, is_ended}
-use Rattle.calls_text.specs.Outcomes.{OneRead, goes, lines_of_text, ReturnsFault}
+use Rattle.calls_text.specs.Outcomes.{OneRead, parse_from, lines_of_text, ReturnsFault}
 use Rattle.calls_text.specs.Following.{stage_with_events, HasEvents, IsReached}
 use Rattle.calls_report.specs.Checks.{IsNoEnd}
 use Rattle.calls_watch.specs.declared.feeder.Feeder.{Feeder}
@@ -62,7 +62,7 @@ pub record IsWatching (ps qs : List (List ℕ)) (w : Watcher) : Type 0 where
 
 -- why the text is not watched further, from line n on, if the parts are these
 abbrev pub StopsAt : Stop → ℕ → List (List ℕ) → Watcher → Type 0
-StopsAt (stops.Unread fault) n ps w = ReturnsFault (goes n Opening ps) fault × IsNoEnd n ps
+StopsAt (stops.Unread fault) n ps w = ReturnsFault (parse_from n Opening ps) fault × IsNoEnd n ps
 StopsAt (stops.Refused x report) n ps w =
     (r : RecordingModel) × (events : List Event) × (stage_with_events events w.follower ≡ Running r)
     × IsStopped n ps w.number r x report
@@ -76,9 +76,10 @@ pub record Stops (stop : Stop) (ps : List (List ℕ)) (w : Watcher) : Type 0 whe
   pub good : AreGood 1 ps reads start begun
   pub stops : StopsAt stop start begun w
 
-abbrev pub GoesOn : Result (Unit {0}) Stop → List (List ℕ) → List (List ℕ) → Watcher → Type 0
-GoesOn (Ok u) ps qs w = IsWatching ps qs w
-GoesOn (Err stop) ps qs w = Stops stop ps w
+abbrev pub StateAfterLine : Result (Unit {0}) Stop → List (List ℕ) → List (List ℕ) → Watcher
+    → Type 0
+StateAfterLine (Ok u) ps qs w = IsWatching ps qs w
+StateAfterLine (Err stop) ps qs w = Stops stop ps w
 
 -- no byte is left, a history has ended, and the next has not begun
 pub record MayEnd (rest : List ℕ) (w : Watcher) : Type 0 where

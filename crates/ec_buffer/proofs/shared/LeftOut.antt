@@ -9,7 +9,7 @@ use Rattle.ec_core.specs.Following.{opening_act}
 use Rattle.ec_core.proofs.shared.Following.{op_at}
 use Rattle.ec_core.specs.JoinedLists.{SpeaksOf}
 use Rattle.ec_core.proofs.shared.Tracking.{tracked_off, tracked_going, going, by_going}
-use Rattle.ec_buffer.specs.Auditing.{IsDelivering, OthersMayBeLeftOut, GoesMayBeLeftOut}
+use Rattle.ec_buffer.specs.Auditing.{RepresentsDeliveries, OthersMayBeLeftOut, GoesMayBeLeftOut}
 use Rattle.ec_buffer.specs.Collecting.{cell_index, put_place, get_place, writers_after, list_after, writers_of, collected}
 use Rattle.ec_buffer.specs.Follows.{is_on, is_cell, produce_rule, consume_rule, buffer_rules}
 use Rattle.ec_buffer.specs.Keeping.{list_progress}
@@ -68,7 +68,7 @@ collected_going b w past = refl
 
 pub delivering_going : GoesMayBeLeftOut
 delivering_going a x past on s =
-    by_going (λ y. IsDelivering a (y ∷ past)) (λ w. record {
+    by_going (λ y. RepresentsDeliveries a (y ∷ past)) (λ w. record {
       tracked = tracked_going (buffer_rules a.setup a.shape) list_progress a.tracked w past s.tracked;
       writers = s.writers ∙ sym (writers_going a.shape w past);
       list = λ ok. s.list ok ∙ sym (collected_going a.shape w past);

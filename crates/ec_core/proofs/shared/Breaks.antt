@@ -6,7 +6,7 @@ use Rattle.ec_core.specs.declared.act.Entry.{Entry}
 use Rattle.ec_core.specs.Counts.{past_at}
 use Rattle.ec_core.specs.Rounds.{IsPastOf}
 use Rattle.ec_core.specs.Following.{Rule, block, is_right, Follow, BreaksAt}
-use Rattle.ec_core.specs.FollowingLaws.{FollowingHoldsOfBeginnings, FollowsOrBreaks, BreaksAreFirst}
+use Rattle.ec_core.specs.FollowingLaws.{FollowingHoldsOfPrefixes, FollowsOrBreaks, BreaksAreFirst}
 use Rattle.ec_core.proofs.shared.Joining.{get_back}
 use Rattle.ec_core.proofs.shared.Moments.{past_next, past_end, moment_before}
 
@@ -19,7 +19,7 @@ follow_before rules (x ∷ since) early h = follow_before rules since early h.1
 pub follow_of : (rules : ℕ → Rule) (h p : List Entry) → Follow rules (reverse h) → IsPastOf p (reverse h) → Follow rules p
 follow_of rules h p f is = follow_before rules is.since p (subst (Follow rules) is.is f)
 
-pub follow_beginnings : FollowingHoldsOfBeginnings
+pub follow_beginnings : FollowingHoldsOfPrefixes
 follow_beginnings rules k h f = follow_of rules h (past_at k h) f (moment_before h k)
 
 -- no history both conforms and has a first violation

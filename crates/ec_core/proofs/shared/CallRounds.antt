@@ -11,7 +11,7 @@ use Rattle.ec_core.specs.declared.act.Act.TheVariants.{Advance, Read, Await, Go,
 use Rattle.ec_core.specs.declared.act.Entry.{Entry}
 use Rattle.ec_core.specs.Counts.{past_at, total}
 use Rattle.ec_core.specs.Calls.{CallSoFar, under_way, call_with_act, is_pending}
-use Rattle.ec_core.specs.Rounds.{component_count, sum_read, round_sum, round_start, read_of, IsPastOf, IsPastOfEach, EachIsPastOf}
+use Rattle.ec_core.specs.Rounds.{component_count, sum_read, round_sum, round_start, read_event, IsPastOf, IsPastOfEach, EachIsPastOf}
 use Rattle.ec_core.specs.Acceptance.{IsAccepted, names_unknown_object}
 use Rattle.ec_core.specs.Laws.{RoundsOfCallsLieBetween}
 use Rattle.ec_core.proofs.shared.Answering.{width_some, mod_next, allowed, call_reads, IsReading, IsReadingCall}
@@ -114,7 +114,7 @@ round_of t e late (p ∷ ps) h acc is each stacked some more whole =
     let sum : sum_read t e n (take n (p ∷ ps)) ≡ round_sum t e (p ∷ ps) = sum_taken t e n (p ∷ ps) in
     (rw (at, ← sum) between.0, rw (← sum) between.1)
 
-reading_is : (t : Tables) (op : Act) (e : ℕ) → IsReading t op → read_of op ≡ Some e → e < length t.events
+reading_is : (t : Tables) (op : Act) (e : ℕ) → IsReading t op → read_event op ≡ Some e → e < length t.events
 reading_is t (Read f) e h is = (let same : f ≡ e = cc in omega arith)
 reading_is t (Await f v) e h is = (let same : f ≡ e = cc in omega arith)
 reading_is t (Advance f) e h is = absurd h
@@ -126,9 +126,9 @@ reading_is t (Hand f g) e h is = absurd h
 
 -- what an accepted entry's call reads is declared
 gone_reads : (t : Tables) (past : List Entry) (act : Act) (o : Option CallSoFar) (call : CallSoFar) (e : ℕ) → names_unknown_object t act ≡ false → IsReadingCall t o
-    → call_with_act act past o ≡ Some call → read_of call.op ≡ Some e → e < length t.events
+    → call_with_act act past o ≡ Some call → read_event call.op ≡ Some e → e < length t.events
 gone_reads t past Go None call e known reading is reads = cc
-gone_reads t past Go (Some c) call e known reading is reads = (let same : c.op ≡ call.op = cc in reading_is t c.op e reading (ap read_of same ∙ reads))
+gone_reads t past Go (Some c) call e known reading is reads = (let same : c.op ≡ call.op = cc in reading_is t c.op e reading (ap read_event same ∙ reads))
 gone_reads t past (Read f) o call e known reading is reads =
     (let op : Read f ≡ call.op = cc in let same : f ≡ e = cc in let lt : f < length t.events = leb-false (length t.events) f known in omega arith)
 gone_reads t past (Await f v) o call e known reading is reads =

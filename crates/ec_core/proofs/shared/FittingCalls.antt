@@ -11,7 +11,7 @@ use Rattle.ec_core.specs.declared.act.Entry.{Entry}
 use Rattle.ec_core.specs.Calls.{CallSoFar, under_way, call_with_act, is_pending, is_go}
 use Rattle.ec_core.specs.Acceptance.{IsAccepted}
 use Rattle.ec_core.specs.Following.{CompletedCall, Rule, opening_act, extend_list, block_after, block, is_right, Follow}
-use Rattle.ec_core.specs.JoinedLists.{finished_by}
+use Rattle.ec_core.specs.JoinedLists.{completed_calls_of}
 use Rattle.ec_core.proofs.shared.Answering.{allowed, call_reads, IsReading, IsReadingCall}
 use Rattle.ec_core.proofs.shared.Following.{step_due, pending_after, op_at, other_block, own_block, right_call, IsRightCall}
 use Rattle.ec_core.proofs.shared.Scans.{call_own, call_other}
@@ -59,18 +59,18 @@ abbrev pub told_at : Entry → List Entry → CompletedCall
 told_at x past = record { op = op_at x past; reply = x.reply }
 
 -- an entry leaves the completed calls of other workers as they are
-pub finished_other : (w : ℕ) (x : Entry) (past : List Entry) → (x.worker == w) ≡ false → finished_by w (x ∷ past) ≡ finished_by w past
-unfolding finished_by
+pub finished_other : (w : ℕ) (x : Entry) (past : List Entry) → (x.worker == w) ≡ false → completed_calls_of w (x ∷ past) ≡ completed_calls_of w past
+unfolding completed_calls_of
 finished_other w x past h = rw h refl
 
 -- an entry with the reply Pending leaves its worker's completed calls as they are
-pub finished_same : (x : Entry) (past : List Entry) → is_pending x.reply ≡ true → finished_by x.worker (x ∷ past) ≡ finished_by x.worker past
-unfolding finished_by
+pub finished_same : (x : Entry) (past : List Entry) → is_pending x.reply ≡ true → completed_calls_of x.worker (x ∷ past) ≡ completed_calls_of x.worker past
+unfolding completed_calls_of
 finished_same x past h = rw (eq-eqb x.worker x.worker refl, h) refl
 
 -- an entry with another reply adds its call to its worker's completed calls
-pub finished_more : (x : Entry) (past : List Entry) → is_pending x.reply ≡ false → finished_by x.worker (x ∷ past) ≡ finished_by x.worker past ++ told_at x past ∷ []
-unfolding finished_by
+pub finished_more : (x : Entry) (past : List Entry) → is_pending x.reply ≡ false → completed_calls_of x.worker (x ∷ past) ≡ completed_calls_of x.worker past ++ told_at x past ∷ []
+unfolding completed_calls_of
 finished_more x past h = rw (eq-eqb x.worker x.worker refl, h) refl
 
 after_end : (r : Rule) (b : List CompletedCall) (op : Act) (reply : Reply) → is_pending reply ≡ false → block_after r b op reply ≡ extend_list r b (record { op = op; reply = reply })
@@ -79,7 +79,7 @@ after_end r b op Done h = refl
 after_end r b op (Number n) h = refl
 
 abbrev IsBlock : Rule → ℕ → List Entry → Type 0
-IsBlock r w past = block r w past ≡ list_after r [] (finished_by w past)
+IsBlock r w past = block r w past ≡ list_after r [] (completed_calls_of w past)
 
 own_is : (r : Rule) (x : Entry) (past : List Entry) → IsBlock r x.worker past → IsBlock r x.worker (x ∷ past)
 own_is r x past h =
@@ -87,12 +87,12 @@ own_is r x past h =
     elim (is_pending x.reply) as (λ p. is_pending x.reply ≡ p → IsBlock r x.worker (x ∷ past)) [
       | true ↦ λ e. own_block r x past ∙ pending_after r (block r w past) (op_at x past) x.reply e ∙ h ∙ ap (list_after r []) (sym (finished_same x past e))
       | false ↦ λ e. own_block r x past ∙ after_end r (block r w past) (op_at x past) x.reply e ∙ ap (λ b. extend_list r b (told_at x past)) h
-          ∙ sym (after_more r [] (finished_by w past) (told_at x past ∷ [])) ∙ ap (list_after r []) (sym (finished_more x past e))
+          ∙ sym (after_more r [] (completed_calls_of w past) (told_at x past ∷ [])) ∙ ap (list_after r []) (sym (finished_more x past e))
     ] refl
 
 -- a worker's current list is that after its completed calls
-pub block_is : (r : Rule) (w : ℕ) (past : List Entry) → block r w past ≡ list_after r [] (finished_by w past)
-unfolding block finished_by
+pub block_is : (r : Rule) (w : ℕ) (past : List Entry) → block r w past ≡ list_after r [] (completed_calls_of w past)
+unfolding block completed_calls_of
 block_is r w [] = refl
 block_is r w (x ∷ past) =
     elim (x.worker == w) as (λ b. (x.worker == w) ≡ b → IsBlock r w (x ∷ past)) [
@@ -111,7 +111,7 @@ IsFittingCall r b (Some call) = is_fitting r b call.op ≡ true
 
 -- a worker's completed calls fit, and so does its pending call
 pub record FitsAlone (r : Rule) (w : ℕ) (past : List Entry) : Type 0 where
-  pub calls : AreFitting r [] (finished_by w past)
+  pub calls : AreFitting r [] (completed_calls_of w past)
   pub going : IsFittingCall r (block r w past) (under_way w past)
 
 -- FROM CONFORMANCE
@@ -122,27 +122,27 @@ due_fits true f (inr h) = h.1
 due_fits false f h = refl
 
 own_fits : (rules : ℕ → Rule) (t : Tables) (x : Entry) (past : List Entry) → IsDeclared t → IsAccepted t (x ∷ past) → Follow rules (x ∷ past)
-    → AreFitting (rules x.worker) [] (finished_by x.worker past) → AreFitting (rules x.worker) [] (finished_by x.worker (x ∷ past))
+    → AreFitting (rules x.worker) [] (completed_calls_of x.worker past) → AreFitting (rules x.worker) [] (completed_calls_of x.worker (x ∷ past))
 own_fits rules t x past d acc f h =
     let r = rules x.worker in
     let w = x.worker in
     let P : List CompletedCall → Type 0 = λ cs. AreFitting (rules x.worker) [] cs in
-    elim (is_pending x.reply) as (λ p. is_pending x.reply ≡ p → AreFitting (rules x.worker) [] (finished_by x.worker (x ∷ past))) [
+    elim (is_pending x.reply) as (λ p. is_pending x.reply ≡ p → AreFitting (rules x.worker) [] (completed_calls_of x.worker (x ∷ past))) [
       | true ↦ λ e. subst P (sym (finished_same x past e)) h
       | false ↦ λ e.
           (let fits : is_fitting r (block r w past) (op_at x past) ≡ true = due_fits _ _ (step_due t rules x past d acc f) in
           let Q : List CompletedCall → Type 0 =
           λ b. is_fitting (rules x.worker) b (op_at x past) ≡ true in
-          subst P (sym (finished_more x past e)) (fitting_more r [] (finished_by w past) (told_at x past ∷ []) h (subst Q (block_is r w past) fits, tt)))
+          subst P (sym (finished_more x past e)) (fitting_more r [] (completed_calls_of w past) (told_at x past ∷ []) h (subst Q (block_is r w past) fits, tt)))
     ] refl
 
-calls_fit : (rules : ℕ → Rule) (t : Tables) (past : List Entry) (w : ℕ) → IsDeclared t → IsAccepted t past → Follow rules past → AreFitting (rules w) [] (finished_by w past)
-unfolding finished_by
+calls_fit : (rules : ℕ → Rule) (t : Tables) (past : List Entry) (w : ℕ) → IsDeclared t → IsAccepted t past → Follow rules past → AreFitting (rules w) [] (completed_calls_of w past)
+unfolding completed_calls_of
 calls_fit rules t [] w d acc f = tt
 calls_fit rules t (x ∷ past) w d acc f =
-    elim (x.worker == w) as (λ b. (x.worker == w) ≡ b → AreFitting (rules w) [] (finished_by w (x ∷ past))) [
+    elim (x.worker == w) as (λ b. (x.worker == w) ≡ b → AreFitting (rules w) [] (completed_calls_of w (x ∷ past))) [
       | true ↦ λ e.
-          (let P : ℕ → Type 0 = λ v. AreFitting (rules v) [] (finished_by v past) → AreFitting (rules v) [] (finished_by v (x ∷ past)) in
+          (let P : ℕ → Type 0 = λ v. AreFitting (rules v) [] (completed_calls_of v past) → AreFitting (rules v) [] (completed_calls_of v (x ∷ past)) in
           subst P (eqb-true x.worker w e) (own_fits rules t x past d acc f) (calls_fit rules t past w d acc.1 f.1))
       | false ↦ λ e. subst (AreFitting (rules w) []) (sym (finished_other w x past e)) (calls_fit rules t past w d acc.1 f.1)
     ] refl
@@ -204,7 +204,7 @@ right_act r b (Hand e f) o h = h
 
 -- what fits after an entry of the worker: its calls before, and the call of the entry
 pub record FitsWith (r : Rule) (x : Entry) (past : List Entry) : Type 0 where
-  pub calls : AreFitting r [] (finished_by x.worker past)
+  pub calls : AreFitting r [] (completed_calls_of x.worker past)
   pub op : is_fitting r (block r x.worker past) (op_at x past) ≡ true
 
 fits_with : (r : Rule) (t : Tables) (x : Entry) (past : List Entry) → IsAccepted t (x ∷ past) → FitsAlone r x.worker (x ∷ past) → FitsWith r x past
@@ -224,10 +224,10 @@ fits_with r t x past acc f =
             op = subst Q here (gone_fits r (block r w (x ∷ past)) x.act past o going (subst R call f.going));
           })
       | false ↦ λ e.
-          (let all : AreFitting r [] (finished_by w past ++ told_at x past ∷ []) = subst P (finished_more x past e) f.calls in
+          (let all : AreFitting r [] (completed_calls_of w past ++ told_at x past ∷ []) = subst P (finished_more x past e) f.calls in
           record {
-            calls = fitting_front r [] (finished_by w past) (told_at x past ∷ []) all;
-            op = subst Q (sym (block_is r w past)) (fitting_back r [] (finished_by w past) (told_at x past ∷ []) all).0;
+            calls = fitting_front r [] (completed_calls_of w past) (told_at x past ∷ []) all;
+            op = subst Q (sym (block_is r w past)) (fitting_back r [] (completed_calls_of w past) (told_at x past ∷ []) all).0;
           })
     ] refl
 

@@ -125,18 +125,18 @@ reply_read t past w (Get y) o e r = absurd r
 reply_read t past w (Hand f g) o e r = absurd r
 
 -- what the reply to an entry says, by the act that began its call
-abbrev pub IsTold : Tables → List Entry → Act → Reply → Type 0
-IsTold t past (Advance e) reply = reply ≡ Done
-IsTold t past (Read e) reply = (reply ≡ Pending) ⊎ ((s : ℕ) × (s ≤ total e past) × (reply ≡ Number s))
-IsTold t past (Await e v) reply = (reply ≡ Pending) ⊎ ((s : ℕ) × (v ≤ s) × (s ≤ total e past) × (reply ≡ Number s))
-IsTold t past Go reply = ⊥
-IsTold t past (Ticket q) reply = reply ≡ Number (issued q past)
-IsTold t past (Put x v) reply = reply ≡ Done
-IsTold t past (Get x) reply = reply ≡ Number (cell_value x past)
-IsTold t past (Hand e b) reply = reply ≡ Done
+abbrev pub IsReplyTo : Tables → List Entry → Act → Reply → Type 0
+IsReplyTo t past (Advance e) reply = reply ≡ Done
+IsReplyTo t past (Read e) reply = (reply ≡ Pending) ⊎ ((s : ℕ) × (s ≤ total e past) × (reply ≡ Number s))
+IsReplyTo t past (Await e v) reply = (reply ≡ Pending) ⊎ ((s : ℕ) × (v ≤ s) × (s ≤ total e past) × (reply ≡ Number s))
+IsReplyTo t past Go reply = ⊥
+IsReplyTo t past (Ticket q) reply = reply ≡ Number (issued q past)
+IsReplyTo t past (Put x v) reply = reply ≡ Done
+IsReplyTo t past (Get x) reply = reply ≡ Number (cell_value x past)
+IsReplyTo t past (Hand e b) reply = reply ≡ Done
 
 told_read : (t : Tables) (past : List Entry) (op : Act) (reply : Reply) → IsReading t op
-    → (reply ≡ Pending) ⊎ ((s : ℕ) × (s ≤ total (event_or op) past) × (reply ≡ round_reply op s)) → IsTold t past op reply
+    → (reply ≡ Pending) ⊎ ((s : ℕ) × (s ≤ total (event_or op) past) × (reply ≡ round_reply op s)) → IsReplyTo t past op reply
 told_read t past (Read e) reply r h = h
 told_read t past (Await e v) reply r (inl h) = inl h
 told_read t past (Await e v) reply r (inr k) =
@@ -152,7 +152,7 @@ told_read t past (Get x) reply r h = absurd r
 told_read t past (Hand e b) reply r h = absurd r
 
 pub reading_told : (t : Tables) (past : List Entry) (w : ℕ) (act : Act) (o : Option CallSoFar) (reply : Reply) → IsDeclared t → IsAccepted t past → IsCallBefore o past → under_way w past ≡ o
-    → reply_of t past w act ≡ reply → IsReading t (opening_act act o) → IsTold t past (opening_act act o) reply
+    → reply_of t past w act ≡ reply → IsReading t (opening_act act o) → IsReplyTo t past (opening_act act o) reply
 reading_told t past w act o reply d acc before e h r =
     let known : event_or (opening_act act o) < length t.events =
     reading_event t (opening_act act o) r in
@@ -162,7 +162,7 @@ reading_told t past w act o reply d acc before e h r =
     (subst P (sym is) (read_ends t (opening_act act o) past (moments_of act o) acc (width_some t (event_or (opening_act act o)) d known) (moments_before act o past before)))
 
 told_any : (t : Tables) (past : List Entry) (w : ℕ) (act : Act) (o : Option CallSoFar) (reply : Reply) → IsDeclared t → IsAccepted t past → IsCallBefore o past → under_way w past ≡ o
-    → reply_of t past w act ≡ reply → names_unknown_object t act ≡ false → (not (is_some o) && is_go act) ≡ false → IsReadingCall t o → IsTold t past (opening_act act o) reply
+    → reply_of t past w act ≡ reply → names_unknown_object t act ≡ false → (not (is_some o) && is_go act) ≡ false → IsReadingCall t o → IsReplyTo t past (opening_act act o) reply
 told_any t past w Go None reply d acc b e h known going r = cc
 told_any t past w Go (Some call) reply d acc b e h known going r = reading_told t past w Go (Some call) reply d acc b e h r
 told_any t past w (Read f) o reply d acc b e h known going r = reading_told t past w (Read f) o reply d acc b e h (leb-false (length t.events) f known)
@@ -178,7 +178,7 @@ abbrev pub op_at : Entry → List Entry → Act
 op_at x past = opening_act x.act (under_way x.worker past)
 
 -- the reply of each entry of an accepted history is one that the act that began its call may get
-pub step_told : (t : Tables) (x : Entry) (past : List Entry) → IsDeclared t → IsAccepted t (x ∷ past) → IsTold t past (op_at x past) x.reply
+pub step_told : (t : Tables) (x : Entry) (past : List Entry) → IsDeclared t → IsAccepted t (x ∷ past) → IsReplyTo t past (op_at x past) x.reply
 step_told t x past d acc =
     let k = allowed t past x.worker x.act x.reply acc.0 in
     told_any t past x.worker x.act (under_way x.worker past) x.reply d acc.1 (call_before x.worker past) refl k.1 k.0.known k.0.going (call_reads t past x.worker acc.1)
@@ -265,7 +265,7 @@ due_act r b (Put x v) h n = due_of _ _ h
 due_act r b (Get x) h n = due_of _ _ h
 due_act r b (Hand e c) h n = due_of _ _ h
 
-no_go : (t : Tables) (past : List Entry) (op : Act) (reply : Reply) → IsTold t past op reply → op ≡ Go → ⊥
+no_go : (t : Tables) (past : List Entry) (op : Act) (reply : Reply) → IsReplyTo t past op reply → op ≡ Go → ⊥
 no_go t past Go reply h e = h
 no_go t past (Advance f) reply h e = cc
 no_go t past (Read f) reply h e = cc

@@ -9,7 +9,7 @@ use Rattle.ec_core.specs.declared.act.Act.{Act}
 use Rattle.ec_core.specs.declared.act.Entry.{Entry}
 use Rattle.ec_core.specs.Calls.{CallSoFar, under_way}
 use Rattle.ec_core.specs.Following.{CompletedCall, Rule, extend_list, block}
-use Rattle.ec_core.specs.JoinedLists.{finished_by, is_whole, ComesNext, IsBeginning, IsWholeList, IsJoined, SpeaksOf, calls_on, going_on, op_of, IsOther, MayComeNext, IsSideBySide, IsUnbroken}
+use Rattle.ec_core.specs.JoinedLists.{completed_calls_of, is_whole, ComesNext, IsListPrefix, IsWholeList, IsJoined, SpeaksOf, calls_on, going_on, op_of, IsOther, MayComeNext, IsSideBySide, IsUnbroken}
 use Rattle.ec_core.specs.FollowingLaws.{FollowingMeansJoinedLists, FollowingMeansUnbrokenLists}
 use Rattle.ec_core.proofs.shared.Joining.{get_back, last_get}
 use Rattle.std.proofs.lemmas.List.Elements.{All-head, All-tail}
@@ -17,10 +17,10 @@ use Rattle.ec_core.proofs.shared.FittingCalls.{is_fitting, list_after, AreFittin
 
 -- PREFIXES
 
-nothing_begun : (r : Rule) → IsBeginning r []
+nothing_begun : (r : Rule) → IsListPrefix r []
 nothing_begun r k c at = cc
 
-begun_more : (r : Rule) (b : List CompletedCall) (c : CompletedCall) → IsBeginning r b → ComesNext r b c.op → IsBeginning r (b ++ c ∷ [])
+begun_more : (r : Rule) (b : List CompletedCall) (c : CompletedCall) → IsListPrefix r b → ComesNext r b c.op → IsListPrefix r (b ++ c ∷ [])
 begun_more r b c h next k d at =
     elim (last_get b c d k at) [
       | inl p ↦
@@ -35,7 +35,7 @@ begun_more r b c h next k d at =
     ]
 
 -- the call after b is next there
-begun_next : (r : Rule) (b : List CompletedCall) (c : CompletedCall) (cs : List CompletedCall) → IsBeginning r (b ++ c ∷ cs) → ComesNext r b c.op
+begun_next : (r : Rule) (b : List CompletedCall) (c : CompletedCall) (cs : List CompletedCall) → IsListPrefix r (b ++ c ∷ cs) → ComesNext r b c.op
 begun_next r b c cs h =
     let at : slice_get (b ++ c ∷ cs) (length b) ≡ Some c = get_back b (c ∷ cs) (length b) 0 (omega arith) in
     let P : List CompletedCall → Type 0 = λ z. ComesNext r z c.op in
@@ -76,11 +76,11 @@ record IsCut (P : List CompletedCall → Type 0) (r : Rule) (b cs : List Complet
   last : List CompletedCall
   order : b ++ cs ≡ flat_map (λ p. p) pieces ++ last
   each : All P pieces
-  begun : IsBeginning r last
+  begun : IsListPrefix r last
   after : list_after r b cs ≡ last
   goes_on : is_whole r last ≡ false
 
-cut_end : (P : List CompletedCall → Type 0) (r : Rule) (b : List CompletedCall) → IsBeginning r b → is_whole r b ≡ false → IsCut P r b []
+cut_end : (P : List CompletedCall → Type 0) (r : Rule) (b : List CompletedCall) → IsListPrefix r b → is_whole r b ≡ false → IsCut P r b []
 cut_end P r b begun goes = record { pieces = []; last = b; order = append-nil b; each = All-nil P; begun = begun; after = refl; goes_on = goes }
 
 -- the first piece is cut off
@@ -109,12 +109,13 @@ cut_on P r b c cs goes rest = record {
 
 -- a call that concerns the list and fits ends it or continues it
 cut_call : (P : List CompletedCall → Type 0) (r : Rule) (b : List CompletedCall) (c : CompletedCall) (cs : List CompletedCall) → ((l : List CompletedCall) → IsWholeList r l → P l)
-    → IsBeginning r b → is_whole r b ≡ false → r.concerns b c.op ≡ true → is_fitting r b c.op ≡ true
-    → (IsBeginning r (extend_list r b c) → is_whole r (extend_list r b c) ≡ false → IsCut P r (extend_list r b c) cs) → IsCut P r b (c ∷ cs)
+    → IsListPrefix r b → is_whole r b ≡ false → r.concerns b c.op ≡ true
+    → is_fitting r b c.op ≡ true
+    → (IsListPrefix r (extend_list r b c) → is_whole r (extend_list r b c) ≡ false → IsCut P r (extend_list r b c) cs) → IsCut P r b (c ∷ cs)
 cut_call P r b c cs whole begun goes on fits rest =
     let next : ComesNext r b c.op = record { fits = fits_of _ _ fits on; goes_on = goes } in
-    let more : IsBeginning r (b ++ c ∷ []) = begun_more r b c begun next in
-    let B : List CompletedCall → Type 0 = λ z. IsBeginning r z in
+    let more : IsListPrefix r (b ++ c ∷ []) = begun_more r b c begun next in
+    let B : List CompletedCall → Type 0 = λ z. IsListPrefix r z in
     let C : List CompletedCall → Type 0 = λ z. IsCut P r z cs in
     elim (r.ends (b ++ c ∷ [])) as (λ v. r.ends (b ++ c ∷ []) ≡ v → IsCut P r b (c ∷ cs)) [
       | true ↦ λ e.
@@ -145,7 +146,7 @@ run_call : (r : Rule) (b : List CompletedCall) (c : CompletedCall) → r.concern
 run_call r b c on = extended_on r b c on ∙ ap (λ v. cond v [] (b ++ c ∷ [])) (sym (whole_more r b c))
 
 -- the calls of a list, or of a prefix of one, fit
-run : (r : Rule) (b cs : List CompletedCall) → AllConcern r b cs → IsBeginning r (b ++ cs) → is_whole r b ≡ false → IsRun r b cs (settled r (b ++ cs))
+run : (r : Rule) (b cs : List CompletedCall) → AllConcern r b cs → IsListPrefix r (b ++ cs) → is_whole r b ≡ false → IsRun r b cs (settled r (b ++ cs))
 run r b [] on begun goes = record {
   fits = tt;
   after_is = sym (ap (settled r) (append-nil b) ∙ ap (λ v. cond v [] b) goes);
@@ -155,8 +156,8 @@ run r b (c ∷ []) on begun goes =
     record { fits = (fitting_of _ _ next.fits, tt); after_is = run_call r b c on.0 }
 run r b (c ∷ d ∷ cs) on begun goes =
     let next = begun_next r b c (d ∷ cs) begun in
-    let B : List CompletedCall → Type 0 = λ z. IsBeginning r z in
-    let begun' : IsBeginning r ((b ++ c ∷ []) ++ d ∷ cs) = subst B (cons_after b c (d ∷ cs)) begun in
+    let B : List CompletedCall → Type 0 = λ z. IsListPrefix r z in
+    let begun' : IsListPrefix r ((b ++ c ∷ []) ++ d ∷ cs) = subst B (cons_after b c (d ∷ cs)) begun in
     let goes' : is_whole r (b ++ c ∷ []) ≡ false = (begun_next r (b ++ c ∷ []) d cs begun').goes_on in
     let now : extend_list r b c ≡ b ++ c ∷ [] = run_call r b c on.0 ∙ ap (λ v. cond v [] (b ++ c ∷ [])) goes' in
     let rest : IsRun r (b ++ c ∷ []) (d ∷ cs) (settled r ((b ++ c ∷ []) ++ d ∷ cs)) = run r (b ++ c ∷ []) (d ∷ cs) on.1 begun' goes' in
@@ -242,7 +243,7 @@ fitting_all r is_on b (c ∷ cs) speaks f =
           (fitting_off _ _ off, subst F (sym (extended_off r b c off)) (fitting_all r is_on b cs speaks g)))
     ] refl f
 
-cut_lists : (r : Rule) (is_on : Act → Bool) (b cs : List CompletedCall) → SpeaksOf r is_on → AllOn is_on cs → AreFitting r b cs → IsBeginning r b → is_whole r b ≡ false
+cut_lists : (r : Rule) (is_on : Act → Bool) (b cs : List CompletedCall) → SpeaksOf r is_on → AllOn is_on cs → AreFitting r b cs → IsListPrefix r b → is_whole r b ≡ false
     → IsCut (IsWholeList r) r b cs
 cut_lists r is_on b [] speaks on f begun goes = cut_end (IsWholeList r) r b begun goes
 cut_lists r is_on b (c ∷ cs) speaks on f begun goes =
@@ -273,10 +274,10 @@ fits_next r is_on b last (Some call) speaks same h =
     ] refl h
 
 joined_from : (r : Rule) (is_on : Act → Bool) (w : ℕ) (past : List Entry) → SpeaksOf r is_on → FitsAlone r w past
-    → IsJoined r (calls_on is_on (finished_by w past)) (going_on is_on (under_way w past))
+    → IsJoined r (calls_on is_on (completed_calls_of w past)) (going_on is_on (under_way w past))
 joined_from r is_on w past speaks f =
-    let cs = finished_by w past in
-    let cut : IsCut (IsWholeList r) r [] (calls_on is_on (finished_by w past)) =
+    let cs = completed_calls_of w past in
+    let cut : IsCut (IsWholeList r) r [] (calls_on is_on (completed_calls_of w past)) =
     cut_lists r is_on [] (calls_on is_on cs) speaks (all_on is_on cs) (fitting_on r is_on [] cs speaks f.calls) (nothing_begun r) refl in
     record {
       lists = cut.pieces;
@@ -305,9 +306,9 @@ lists_on r is_on (l ∷ ls) last whole on =
     record { lists = All-cons (IsListOn r is_on) l ls (record { whole = All-head (IsWholeList r) l ls whole; on = k.0 }) rest.lists; end = rest.end }
 
 joined_fits : (r : Rule) (is_on : Act → Bool) (w : ℕ) (past : List Entry) → SpeaksOf r is_on
-    → IsJoined r (calls_on is_on (finished_by w past)) (going_on is_on (under_way w past)) → FitsAlone r w past
+    → IsJoined r (calls_on is_on (completed_calls_of w past)) (going_on is_on (under_way w past)) → FitsAlone r w past
 joined_fits r is_on w past speaks j =
-    let cs = finished_by w past in
+    let cs = completed_calls_of w past in
     let O : List CompletedCall → Type 0 = λ z. AllOn is_on z in
     let on = lists_on r is_on j.lists j.last j.whole (subst O j.order (all_on is_on cs)) in
     let end = run r [] j.last (on_concern r is_on [] j.last speaks on.end) j.begun refl in
@@ -341,10 +342,10 @@ cut_other r is_on [] c cs u e rest =
     cut_first (IsPiece r is_on) r [] c cs (c ∷ []) refl (inl (record { call = c; is = refl; off = sym (u.between c.op) ∙ e })) none (subst C none rest)
 cut_other r is_on (d ∷ b) c cs u e rest = (let on : r.concerns (d ∷ b) c.op ≡ true = u.within d b c.op in cc)
 
-off_same : (r : Rule) (b : List CompletedCall) (c : CompletedCall) → r.concerns b c.op ≡ false → IsBeginning r b → IsBeginning r (extend_list r b c)
-off_same r b c e begun = (let B : List CompletedCall → Type 0 = λ z. IsBeginning r z in subst B (sym (extended_off r b c e)) begun)
+off_same : (r : Rule) (b : List CompletedCall) (c : CompletedCall) → r.concerns b c.op ≡ false → IsListPrefix r b → IsListPrefix r (extend_list r b c)
+off_same r b c e begun = (let B : List CompletedCall → Type 0 = λ z. IsListPrefix r z in subst B (sym (extended_off r b c e)) begun)
 
-cut_pieces : (r : Rule) (is_on : Act → Bool) (b cs : List CompletedCall) → IsUnbroken r is_on → AreFitting r b cs → IsBeginning r b → is_whole r b ≡ false → IsCut (IsPiece r is_on) r b cs
+cut_pieces : (r : Rule) (is_on : Act → Bool) (b cs : List CompletedCall) → IsUnbroken r is_on → AreFitting r b cs → IsListPrefix r b → is_whole r b ≡ false → IsCut (IsPiece r is_on) r b cs
 cut_pieces r is_on b [] u f begun goes = cut_end (IsPiece r is_on) r b begun goes
 cut_pieces r is_on b (c ∷ cs) u f begun goes =
     elim (r.concerns b c.op) as (λ v. r.concerns b c.op ≡ v → IsCut (IsPiece r is_on) r b (c ∷ cs)) [
@@ -373,10 +374,10 @@ first_concerns : (r : Rule) (is_on : Act → Bool) (b : List CompletedCall) (op 
 first_concerns r is_on [] op u fits = u.between op ∙ u.first op fits
 first_concerns r is_on (c ∷ b) op u fits = u.within c b op
 
-begun_concern : (r : Rule) (is_on : Act → Bool) (b cs : List CompletedCall) → IsUnbroken r is_on → IsBeginning r (b ++ cs) → AllConcern r b cs
+begun_concern : (r : Rule) (is_on : Act → Bool) (b cs : List CompletedCall) → IsUnbroken r is_on → IsListPrefix r (b ++ cs) → AllConcern r b cs
 begun_concern r is_on b [] u begun = tt
 begun_concern r is_on b (c ∷ cs) u begun =
-    let B : List CompletedCall → Type 0 = λ z. IsBeginning r z in
+    let B : List CompletedCall → Type 0 = λ z. IsListPrefix r z in
     (first_concerns r is_on b c.op u (begun_next r b c cs begun).fits, begun_concern r is_on (b ++ c ∷ []) cs u (subst B (cons_after b c cs) begun))
 
 run_other : (r : Rule) (is_on : Act → Bool) (c : CompletedCall) → IsUnbroken r is_on → is_on c.op ≡ false → IsRun r [] (c ∷ []) []
@@ -401,9 +402,9 @@ next_some r is_on b last (Some call) u same h =
     (let F : List CompletedCall → Type 0 = λ z. is_fitting r z call.op ≡ true in subst F (sym same) (next_may r is_on last call.op u h))
 
 side_from : (r : Rule) (is_on : Act → Bool) (w : ℕ) (past : List Entry) → IsUnbroken r is_on → FitsAlone r w past
-    → IsSideBySide r is_on (finished_by w past) (op_of (under_way w past))
+    → IsSideBySide r is_on (completed_calls_of w past) (op_of (under_way w past))
 side_from r is_on w past u f =
-    let cut : IsCut (IsPiece r is_on) r [] (finished_by w past) = cut_pieces r is_on [] (finished_by w past) u f.calls (nothing_begun r) refl in
+    let cut : IsCut (IsPiece r is_on) r [] (completed_calls_of w past) = cut_pieces r is_on [] (completed_calls_of w past) u f.calls (nothing_begun r) refl in
     record {
       pieces = cut.pieces;
       last = cut.last;
@@ -414,7 +415,8 @@ side_from r is_on w past u f =
     }
 
 side_fits : (r : Rule) (is_on : Act → Bool) (w : ℕ) (past : List Entry) → IsUnbroken r is_on
-    → IsSideBySide r is_on (finished_by w past) (op_of (under_way w past)) → FitsAlone r w past
+    → IsSideBySide r is_on (completed_calls_of w past) (op_of (under_way w past))
+    → FitsAlone r w past
 side_fits r is_on w past u j =
     let end = run r [] j.last (begun_concern r is_on [] j.last u j.begun) j.begun refl in
     let all = run_pieces (IsPiece r is_on) r j.pieces j.last (λ p h. run_piece r is_on p u h) j.each end in

@@ -7,7 +7,7 @@ use Rattle.ec_core.specs.declared.act.Entry.{Entry}
 use Rattle.ec_core.specs.Counts.{past_at}
 use Rattle.ec_core.specs.Rounds.{IsPastOf}
 use Rattle.ec_core.specs.Acceptance.{answer_of, IsAccepted}
-use Rattle.ec_core.specs.Laws.{BeginningsAreAccepted, AcceptedMeansAnswered}
+use Rattle.ec_core.specs.Laws.{PrefixesAreAccepted, AcceptedMeansAnswered}
 
 -- the history before position k, the entry there, and the rest
 pub split_at : (h : List Entry) (k : ℕ) (x : Entry) → slice_get h k ≡ Some x → (rest : List Entry) × (h ≡ take k h ++ x ∷ rest)
@@ -74,7 +74,7 @@ pub accepted_of : (t : Tables) (h p : List Entry) → IsAccepted t (reverse h) �
 accepted_of t h p acc is = accepted_before t is.since p (subst (IsAccepted t) is.is acc)
 
 -- every prefix of an accepted history is accepted
-pub beginnings : BeginningsAreAccepted
+pub beginnings : PrefixesAreAccepted
 beginnings t k h acc = accepted_of t h (past_at k h) acc (moment_before h k)
 
 -- if each entry has the answer to its act at its own moment, each prefix is accepted

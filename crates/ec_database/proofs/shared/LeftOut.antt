@@ -7,10 +7,10 @@ use Rattle.ec_core.specs.declared.act.Entry.{Entry}
 use Rattle.ec_core.specs.JoinedLists.{SpeaksOf}
 use Rattle.ec_core.proofs.shared.Following.{op_at, block_pending}
 use Rattle.ec_core.proofs.shared.Tracking.{tracked_off, tracked_going, going, by_going}
-use Rattle.ec_database.specs.Auditing.{IsVersioning, HasRow, HoldsGot, got_so_far, OthersMayBeLeftOut, GoesMayBeLeftOut}
+use Rattle.ec_database.specs.Auditing.{RepresentsVersions, HasRow, HoldsGot, got_so_far, OthersMayBeLeftOut, GoesMayBeLeftOut}
 use Rattle.ec_database.specs.Tries.{ended_at, ended_by, accepted_tries}
 use Rattle.ec_database.specs.Following.{is_on, write_rule, try_rule, writes, database_rules}
-use Rattle.ec_database.specs.Places.{list_progress}
+use Rattle.ec_database.specs.SnapshotPhases.{list_progress}
 use Rattle.ec_database.specs.Shapes.{Database}
 use Rattle.ec_database.proofs.Getting.{held_off}
 use Rattle.ec_database.proofs.Listing.{tries_off}
@@ -46,7 +46,7 @@ tries_going d writers w past = ap (λ o. accepted_tries d writers past ++ option
 pub versioning_going : GoesMayBeLeftOut
 versioning_going a x past on s =
     let writers = writes a.setup a.shape in
-    by_going (λ y. IsVersioning a (y ∷ past)) (λ w. record {
+    by_going (λ y. RepresentsVersions a (y ∷ past)) (λ w. record {
       tracked = tracked_going (database_rules a.setup a.shape) list_progress a.tracked w past s.tracked;
       held = λ ok. held_going a.shape writers a.rows w past (s.held ok);
       list = λ ok. s.list ok ∙ sym (tries_going a.shape writers w past);

@@ -8,9 +8,9 @@ use Rattle.ec_core.specs.declared.act.Reply.{Reply}
 use Rattle.ec_core.specs.Acceptance.{IsAccepted}
 use Rattle.ec_core.specs.Calls.{CallSoFar, is_go, is_pending, call_with_act, under_way}
 use Rattle.ec_core.specs.Following.{CompletedCall, opening_act}
-use Rattle.ec_core.specs.JoinedLists.{finished_by, op_of}
+use Rattle.ec_core.specs.JoinedLists.{completed_calls_of, op_of}
 use Rattle.ec_core.proofs.shared.Answering.{allowed}
-use Rattle.ec_machine.specs.Steps.{begun_by, opening, finished, own}
+use Rattle.ec_machine.specs.Steps.{begun_by, opening, completed_calls, own}
 use Rattle.ec_machine.specs.Laws.{OwnStepsAreCut}
 
 begun_opened : (act : Act) (o : Option CallSoFar) → begun_by act (op_of o) ≡ opening_act act o
@@ -46,28 +46,28 @@ cut_opening true op other o same is = ap (λ a. Some a) same ∙ sym is
 cut_opening false op other o same is = refl
 
 abbrev IsCut : ℕ → List Entry → Type 0
-IsCut w past = (finished (own w past) ≡ finished_by w past) × (opening (own w past) ≡ op_of (under_way w past))
+IsCut w past = (completed_calls (own w past) ≡ completed_calls_of w past) × (opening (own w past) ≡ op_of (under_way w past))
 
 cut_own : (t : Tables) (w : ℕ) (x : Entry) (past : List Entry) → x.worker ≡ w → IsAccepted t (x ∷ past) → IsCut w past → IsCut w (x ∷ past)
-unfolding finished opening finished_by under_way
+unfolding completed_calls opening completed_calls_of under_way
 cut_own t w x past is acc cut =
     let mine : (x.worker == w) ≡ true = eq-eqb x.worker w is in
     let going = subst (λ v. (not (is_some (under_way v past)) && is_go x.act) ≡ false) is (allowed t past x.worker x.act x.reply acc.0).0.going in
     let same : begun_by x.act (opening (own w past)) ≡ opening_act x.act (under_way w past) = ap (begun_by x.act) cut.1 ∙ begun_opened x.act (under_way w past) in (
-      ap (λ b. finished (cond b (x ∷ own w past) (own w past))) mine
-          ∙ cut_finished (is_pending x.reply) (finished (own w past)) (finished_by w past) (begun_by x.act (opening (own w past))) (opening_act x.act (under_way w past)) x.reply cut.0 same
-          ∙ ap (λ b. if b && not (is_pending x.reply) then finished_by w past ++ record { op = opening_act x.act (under_way w past); reply = x.reply } ∷ [] else finished_by w past) (sym mine),
+      ap (λ b. completed_calls (cond b (x ∷ own w past) (own w past))) mine
+          ∙ cut_finished (is_pending x.reply) (completed_calls (own w past)) (completed_calls_of w past) (begun_by x.act (opening (own w past))) (opening_act x.act (under_way w past)) x.reply cut.0 same
+          ∙ ap (λ b. if b && not (is_pending x.reply) then completed_calls_of w past ++ record { op = opening_act x.act (under_way w past); reply = x.reply } ∷ [] else completed_calls_of w past) (sym mine),
       ap (λ b. opening (cond b (x ∷ own w past) (own w past))) mine
           ∙ cut_opening (is_pending x.reply) (begun_by x.act (opening (own w past))) (opening_act x.act (under_way w past)) (call_with_act x.act past (under_way w past)) same (gone_opened x.act past (under_way w past) going)
           ∙ ap (λ b. op_of (if b then (if is_pending x.reply then call_with_act x.act past (under_way w past) else None) else under_way w past)) (sym mine),
     )
 
 cut_other : (w : ℕ) (x : Entry) (past : List Entry) → (x.worker == w) ≡ false → IsCut w past → IsCut w (x ∷ past)
-unfolding finished opening finished_by under_way
+unfolding completed_calls opening completed_calls_of under_way
 cut_other w x past other cut = (
-  ap (λ b. finished (cond b (x ∷ own w past) (own w past))) other
+  ap (λ b. completed_calls (cond b (x ∷ own w past) (own w past))) other
       ∙ cut.0
-      ∙ ap (λ b. if b && not (is_pending x.reply) then finished_by w past ++ record { op = opening_act x.act (under_way w past); reply = x.reply } ∷ [] else finished_by w past) (sym other),
+      ∙ ap (λ b. if b && not (is_pending x.reply) then completed_calls_of w past ++ record { op = opening_act x.act (under_way w past); reply = x.reply } ∷ [] else completed_calls_of w past) (sym other),
   ap (λ b. opening (cond b (x ∷ own w past) (own w past))) other
       ∙ cut.1
       ∙ ap (λ b. op_of (if b then (if is_pending x.reply then call_with_act x.act past (under_way w past) else None) else under_way w past)) (sym other),
@@ -79,6 +79,6 @@ cut_if false t w x past is acc cut = cut_other w x past is cut
 
 -- in an accepted history the calls of a worker's own steps are its calls
 pub own_cut : OwnStepsAreCut
-unfolding finished opening finished_by under_way
+unfolding completed_calls opening completed_calls_of under_way
 own_cut t w [] acc = (refl, refl)
 own_cut t w (x ∷ past) acc = cut_if (x.worker == w) t w x past refl acc (own_cut t w past acc.1)

@@ -10,9 +10,9 @@ use Rattle.ec_core.proofs.shared.WrittenLists.{written_more}
 use Rattle.ec_machine.specs.declared.command.Command.{Command}
 use Rattle.ec_machine.specs.Unrolled.{unroll}
 use Rattle.ec_machine.specs.Values.{has_large}
-use Rattle.ec_machine.specs.Steps.{begun_by, opening, finished, IsRun}
-use Rattle.ec_machine.specs.Runs.{ProgramState, command_call, next_call, number_after, last_number, after_call, place_after, program_call, outcome_at}
-use Rattle.ec_machine.specs.Laws.{AreWhole, IsBegun, AreCallsOf, RunsAreOfWholeLists}
+use Rattle.ec_machine.specs.Steps.{begun_by, opening, completed_calls, IsRun}
+use Rattle.ec_machine.specs.Runs.{ProgramState, command_call, next_call, number_after, last_number, after_call, state_after, program_call, outcome_at}
+use Rattle.ec_machine.specs.Laws.{AreWhole, IsProgramPrefix, AreCallsOf, RunsAreOfWholeLists}
 use Rattle.ec_machine.proofs.Going.{begun_is_due, opening_is_due}
 
 -- WRITTEN LISTS
@@ -26,11 +26,11 @@ written_if true list done c asked due = asked
 written_if false list done c asked due = written_more list done c asked due
 
 -- the completed calls of a run are a prefix of its list
-pub finished_written : (list : List CompletedCall → Option Act) (past : List Entry) → IsRun list past → IsWritten list (finished past)
-unfolding IsRun finished
+pub finished_written : (list : List CompletedCall → Option Act) (past : List Entry) → IsRun list past → IsWritten list (completed_calls past)
+unfolding IsRun completed_calls
 finished_written list [] run = written_none list
 finished_written list (x ∷ past) run =
-    written_if (is_pending x.reply) list (finished past) (record { op = begun_by x.act (opening past); reply = x.reply })
+    written_if (is_pending x.reply) list (completed_calls past) (record { op = begun_by x.act (opening past); reply = x.reply })
     (finished_written list past run.1) (begun_is_due list past x.act run.1 run.0)
 
 -- THE CALLS FROM A STATE ON
@@ -47,14 +47,14 @@ pub record IsSplit (left : List Command) (last : ℕ) (completed calls : List Co
   pub commands : left ≡ done ++ rest
   pub order : completed ++ calls ≡ flat_map (λ b. b) lists ++ part
   pub whole : AreWhole last done lists
-  pub begun : IsBegun (last_number last (flat_map (λ b. b) lists)) rest part
-  pub place : place_after (record { left = left; last = last; completed = completed }) calls ≡ record { left = rest; last = last_number last (flat_map (λ b. b) lists); completed = part }
+  pub begun : IsProgramPrefix (last_number last (flat_map (λ b. b) lists)) rest part
+  pub place : state_after (record { left = left; last = last; completed = completed }) calls ≡ record { left = rest; last = last_number last (flat_map (λ b. b) lists); completed = part }
 
 -- each call is the one that is next after those before it
 abbrev pub IsAsked : ProgramState → List CompletedCall → Type 0
-IsAsked p calls = (k : ℕ) (c : CompletedCall) → slice_get calls k ≡ Some c → next_call (place_after p (take k calls)) ≡ Some c.op
+IsAsked p calls = (k : ℕ) (c : CompletedCall) → slice_get calls k ≡ Some c → next_call (state_after p (take k calls)) ≡ Some c.op
 
-begun_first : (last : ℕ) (left : List Command) → IsBegun last left []
+begun_first : (last : ℕ) (left : List Command) → IsProgramPrefix last left []
 begun_first last [] = refl
 begun_first last (d ∷ ds) = record { asked = written_none (command_call last d); fits = λ large. refl; unfinished = inl refl }
 
@@ -67,18 +67,18 @@ none_is None is = refl
 none_is (Some act) is = cc
 
 asked_after : (p q : ProgramState) (c : CompletedCall) (calls : List CompletedCall) → after_call p c ≡ q → IsAsked p (c ∷ calls) → IsAsked q calls
-unfolding place_after
-asked_after p q c calls is asked k d at = ap (λ r. next_call (place_after r (take k calls))) (sym is) ∙ asked (suc k) d at
+unfolding state_after
+asked_after p q c calls is asked k d at = ap (λ r. next_call (state_after r (take k calls))) (sym is) ∙ asked (suc k) d at
 
-pub place_next : (p q : ProgramState) (c : CompletedCall) (calls : List CompletedCall) → after_call p c ≡ q → place_after p (c ∷ calls) ≡ place_after q calls
-unfolding place_after
-place_next p q c calls is = ap (λ r. place_after r calls) is
+pub place_next : (p q : ProgramState) (c : CompletedCall) (calls : List CompletedCall) → after_call p c ≡ q → state_after p (c ∷ calls) ≡ state_after q calls
+unfolding state_after
+place_next p q c calls is = ap (λ r. state_after r calls) is
 
 -- one more call of the first command
 split_if : (b : Bool) (d : Command) (ds : List Command) (last : ℕ) (completed : List CompletedCall) (c : CompletedCall) (calls : List CompletedCall)
     → is_some (command_call last d (completed ++ c ∷ [])) ≡ b → (has_large last d ≡ false) × (command_call last d completed ≡ Some c.op)
     → IsWritten (command_call last d) completed → IsAsked (record { left = d ∷ ds; last = last; completed = completed }) (c ∷ calls)
-    → ((left : List Command) (n : ℕ) (part : List CompletedCall) → IsBegun n left part → IsAsked (record { left = left; last = n; completed = part }) calls → IsSplit left n part calls)
+    → ((left : List Command) (n : ℕ) (part : List CompletedCall) → IsProgramPrefix n left part → IsAsked (record { left = left; last = n; completed = part }) calls → IsSplit left n part calls)
     → IsSplit (d ∷ ds) last completed (c ∷ calls)
 split_if true d ds last completed c calls is due unroll asked more =
     let now = completed ++ c ∷ [] in
@@ -116,13 +116,13 @@ split_if false d ds last completed c calls is due unroll asked more =
       commands = ap (λ cs. d ∷ cs) s.commands;
       order = sym (append_assoc completed (c ∷ []) calls) ∙ ap (λ l. now ++ l) s.order ∙ sym (append_assoc now all s.part);
       whole = (record { fits = due.0; asked = written_more (command_call last d) completed c unroll due.1; whole = none_is _ is }, s.whole);
-      begun = subst (λ m. IsBegun m s.rest s.part) number s.begun;
+      begun = subst (λ m. IsProgramPrefix m s.rest s.part) number s.begun;
       place = place_next here p c calls e ∙ s.place ∙ ap (λ m. record { left = s.rest; last = m; completed = s.part }) number;
     }
 
-split : (calls : List CompletedCall) (left : List Command) (last : ℕ) (completed : List CompletedCall) → IsBegun last left completed
+split : (calls : List CompletedCall) (left : List Command) (last : ℕ) (completed : List CompletedCall) → IsProgramPrefix last left completed
     → IsAsked (record { left = left; last = last; completed = completed }) calls → IsSplit left last completed calls
-unfolding place_after
+unfolding state_after
 split [] left last completed begun asked = record {
   done = [];
   rest = left;
@@ -160,4 +160,4 @@ calls_of cs calls asked =
 -- the completed calls of a run are whole lists and a prefix of one more, in which its pending call
 -- is next
 pub runs_of_lists : RunsAreOfWholeLists
-runs_of_lists cs past run = (calls_of cs (finished past) (finished_written (program_call cs) past run), opening_is_due (program_call cs) past run)
+runs_of_lists cs past run = (calls_of cs (completed_calls past) (finished_written (program_call cs) past run), opening_is_due (program_call cs) past run)

@@ -12,7 +12,7 @@ use Rattle.ec_script.specs.declared.stage.Stage.{Stage}
 use Rattle.ec_script.specs.declared.stage.Stage.TheVariants.{Opening}
 use Rattle.ec_script.specs.ScriptModel.{PlanModel}
 use Rattle.ec_script.specs.Reading.{step}
-use Rattle.ec_script.specs.Outcome.{ParseResult, lines_of_text, plan_in, plan_or_fault, after_line, goes, outcome, first_or_empty, long_kind}
+use Rattle.ec_script.specs.Outcome.{ParseResult, lines_of_text, plan_in, plan_or_fault, after_line, parse_from, parse_result, first_or_empty, long_kind}
 use Rattle.ec_script.specs.Grammar.{IsLine, Leads, IsScript, IsRefused, IsCutOff, IsFirstFault}
 use Rattle.ec_heading.specs.Spelling.{lines_text}
 use Rattle.ec_script.proofs.Lines.{has_first, goes_line, goes_rest}
@@ -20,29 +20,29 @@ use Rattle.ec_script.proofs.Lines.{has_first, goes_line, goes_rest}
 -- A SCRIPT IS PARSED
 
 lines_go : (n : ℕ) (s t : Stage) (lines : List (List ℕ)) (p : PlanModel) → AllByRecursion IsLine lines → Leads s lines t → plan_in t ≡ Some p
-    → goes n s (lines_of_text (lines_text lines)) ≡ Ok p
+    → parse_from n s (lines_of_text (lines_text lines)) ≡ Ok p
 lines_go n s t [] p each leads plan =
     goes_rest n s [] (All-nil (λ b. eqb b 10 ≡ false))
     ∙ ap (plan_or_fault n) (ap plan_in leads ∙ plan)
 lines_go n s t (line ∷ lines) p each leads plan =
     let e : lines_text (line ∷ lines) ≡ line ++ 10 ∷ lines_text lines = append_assoc line (10 ∷ []) (lines_text lines) in
-    ap (λ (bs : List ℕ). goes n s (lines_of_text bs)) e
+    ap (λ (bs : List ℕ). parse_from n s (lines_of_text bs)) e
     ∙ goes_line n s line (lines_text lines) each.0
-    ∙ ap (λ r. after_line n r (λ u. goes (n + 1) u (lines_of_text (lines_text lines)))) leads.1
+    ∙ ap (λ r. after_line n r (λ u. parse_from (n + 1) u (lines_of_text (lines_text lines)))) leads.1
     ∙ lines_go (n + 1) leads.0 t lines p each.1 leads.2 plan
 
-pub within_goes : (bytes : List ℕ) → length bytes ≤ SCRIPT_MAX → outcome bytes ≡ goes 1 Opening (lines_of_text bytes)
-unfolding outcome
+pub within_goes : (bytes : List ℕ) → length bytes ≤ SCRIPT_MAX → parse_result bytes ≡ parse_from 1 Opening (lines_of_text bytes)
+unfolding parse_result
 within_goes bytes within = let e : nat_lt SCRIPT_MAX (length bytes) ≡ false = le-ltb _ _ within in rw e refl
 
-pub long_goes : (bytes : List ℕ) → SCRIPT_MAX < length bytes → outcome bytes ≡ Err (1, long_kind (first_or_empty (lines_of_text bytes)))
-unfolding outcome
+pub long_goes : (bytes : List ℕ) → SCRIPT_MAX < length bytes → parse_result bytes ≡ Err (1, long_kind (first_or_empty (lines_of_text bytes)))
+unfolding parse_result
 long_goes bytes long = let e : nat_lt SCRIPT_MAX (length bytes) ≡ true = lt-ltb _ _ long in rw e refl
 
 -- a script of a plan is parsed to that plan
-pub script_is_read : (bytes : List ℕ) (p : PlanModel) → IsScript bytes p → outcome bytes ≡ Ok p
+pub script_is_read : (bytes : List ℕ) (p : PlanModel) → IsScript bytes p → parse_result bytes ≡ Ok p
 script_is_read bytes p is =
-    within_goes bytes is.within ∙ ap (λ (bs : List ℕ). goes 1 Opening (lines_of_text bs)) is.text ∙ lines_go 1 Opening is.stage is.lines p is.each is.leads is.plan
+    within_goes bytes is.within ∙ ap (λ (bs : List ℕ). parse_from 1 Opening (lines_of_text bs)) is.text ∙ lines_go 1 Opening is.stage is.lines p is.each is.leads is.plan
 
 -- THE PARTS OF A TEXT
 
@@ -106,32 +106,32 @@ cut_plan : (n : ℕ) (r : Result Stage Kind) (p : PlanModel) → after_line n r 
 cut_plan n (Ok t) p is = cc
 cut_plan n (Err k) p is = cc
 
-read_parts : (n : ℕ) (s : Stage) (first : List ℕ) (others : List (List ℕ)) (p : PlanModel) → goes n s (first ∷ others) ≡ Ok p → Reads s (first ∷ others) p
-unfolding goes
+read_parts : (n : ℕ) (s : Stage) (first : List ℕ) (others : List (List ℕ)) (p : PlanModel) → parse_from n s (first ∷ others) ≡ Ok p → Reads s (first ∷ others) p
+unfolding parse_from
 read_parts n s [] [] p is = record { lines = []; stage = s; is = refl; leads = refl; plan = finished_plan n (plan_in s) p is }
 read_parts n s (b ∷ bs) [] p is = absurd (cut_plan n (step s (b ∷ bs)) p is)
 read_parts n s first (next ∷ others) p is =
-    (elim (step s first) as (λ r. step s first ≡ r → after_line n r (λ t. goes (n + 1) t (next ∷ others)) ≡ Ok p → Reads s (first ∷ next ∷ others) p) [
+    (elim (step s first) as (λ r. step s first ≡ r → after_line n r (λ t. parse_from (n + 1) t (next ∷ others)) ≡ Ok p → Reads s (first ∷ next ∷ others) p) [
       | Ok t ↦ λ e h. let m = read_parts (n + 1) t next others p h in
           record { lines = first ∷ m.lines; stage = m.stage; is = ap (λ (ps : List (List ℕ)). first ∷ ps) m.is; leads = (t, e, m.leads); plan = m.plan }
       | Err k ↦ λ e h. cc
     ]) refl is
 
 -- what is parsed is within the bound
-within_of : (bytes : List ℕ) (p : PlanModel) → outcome bytes ≡ Ok p → length bytes ≤ SCRIPT_MAX
-unfolding outcome
+within_of : (bytes : List ℕ) (p : PlanModel) → parse_result bytes ≡ Ok p → length bytes ≤ SCRIPT_MAX
+unfolding parse_result
 within_of bytes p is =
-    (elim (nat_lt SCRIPT_MAX (length bytes)) as (λ t. nat_lt SCRIPT_MAX (length bytes) ≡ t → cond t (Err (1, long_kind (first_or_empty (lines_of_text bytes)))) (goes 1 Opening (lines_of_text bytes)) ≡ Ok p → length bytes ≤ SCRIPT_MAX) [
+    (elim (nat_lt SCRIPT_MAX (length bytes)) as (λ t. nat_lt SCRIPT_MAX (length bytes) ≡ t → cond t (Err (1, long_kind (first_or_empty (lines_of_text bytes)))) (parse_from 1 Opening (lines_of_text bytes)) ≡ Ok p → length bytes ≤ SCRIPT_MAX) [
       | true ↦ λ e h. cc
       | false ↦ λ e h. ltb-false SCRIPT_MAX (length bytes) e
     ]) refl is
 
 -- a text that is parsed to a plan is a script of it
-pub read_is_script : (bytes : List ℕ) (p : PlanModel) → outcome bytes ≡ Ok p → IsScript bytes p
+pub read_is_script : (bytes : List ℕ) (p : PlanModel) → parse_result bytes ≡ Ok p → IsScript bytes p
 read_is_script bytes p is =
     let within = within_of bytes p is in
     let f = has_first bytes in
-    let r = read_parts 1 Opening f.first f.others p (ap (goes 1 Opening) (sym f.is) ∙ sym (within_goes bytes within) ∙ is) in
+    let r = read_parts 1 Opening f.first f.others p (ap (parse_from 1 Opening) (sym f.is) ∙ sym (within_goes bytes within) ∙ is) in
     let e = f.is ∙ r.is in
     record {
       lines = r.lines;
@@ -168,8 +168,8 @@ no_plan n None m kind is =
     let q = same_fault n m kinds.Unfinished kind is in (q.0, q.1, refl)
 no_plan n (Some q) m kind is = cc
 
-fault_parts : (n : ℕ) (s : Stage) (first : List ℕ) (others : List (List ℕ)) (m : ℕ) (kind : Kind) → goes n s (first ∷ others) ≡ Err (m, kind) → Faulty n s (first ∷ others) m kind
-unfolding goes
+fault_parts : (n : ℕ) (s : Stage) (first : List ℕ) (others : List (List ℕ)) (m : ℕ) (kind : Kind) → parse_from n s (first ∷ others) ≡ Err (m, kind) → Faulty n s (first ∷ others) m kind
+unfolding parse_from
 fault_parts n s [] [] m kind is =
     let q = no_plan n (plan_in s) m kind is in
     here n s [] [] m kind q.0 (inr (refl, q.1, inr (refl, q.2)))
@@ -179,16 +179,16 @@ fault_parts n s (b ∷ bs) [] m kind is =
       | Err k ↦ λ e h. let q = same_fault n m k kind h in here n s (b ∷ bs) [] m kind q.0 (inl (inr (refl, omega arith), e ∙ ap Err (sym q.1)))
     ]) refl is
 fault_parts n s first (next ∷ others) m kind is =
-    (elim (step s first) as (λ r. step s first ≡ r → after_line n r (λ t. goes (n + 1) t (next ∷ others)) ≡ Err (m, kind) → Faulty n s (first ∷ next ∷ others) m kind) [
+    (elim (step s first) as (λ r. step s first ≡ r → after_line n r (λ t. parse_from (n + 1) t (next ∷ others)) ≡ Err (m, kind) → Faulty n s (first ∷ next ∷ others) m kind) [
       | Ok t ↦ λ e h. let f = fault_parts (n + 1) t next others m kind h in
           record { before = first ∷ f.before; stage = f.stage; line = f.line; after = f.after; is = ap (λ (ps : List (List ℕ)). first ∷ ps) f.is; number = omega (arith, f.number); leads = (t, e, f.leads); why = f.why }
       | Err k ↦ λ e h. let q = same_fault n m k kind h in here n s first (next ∷ others) m kind q.0 (inl (inl (join_with_byte 10 (next ∷ others), refl), e ∙ ap Err (sym q.1)))
     ]) refl is
 
-pub fault_is_first : (text : List ℕ) (n : ℕ) (kind : Kind) → length text ≤ SCRIPT_MAX → outcome text ≡ Err (n, kind) → IsFirstFault text n kind
+pub fault_is_first : (text : List ℕ) (n : ℕ) (kind : Kind) → length text ≤ SCRIPT_MAX → parse_result text ≡ Err (n, kind) → IsFirstFault text n kind
 fault_is_first text n kind within is =
     let f = has_first text in
-    let r = fault_parts 1 Opening f.first f.others n kind (ap (goes 1 Opening) (sym f.is) ∙ sym (within_goes text within) ∙ is) in
+    let r = fault_parts 1 Opening f.first f.others n kind (ap (parse_from 1 Opening) (sym f.is) ∙ sym (within_goes text within) ∙ is) in
     let e = f.is ∙ r.is in
     let all = subst (AllByRecursion IsLine) e (are_lines text) in
     record {
@@ -204,7 +204,7 @@ fault_is_first text n kind within is =
       why = r.why;
     }
 
-pub long_is_line_1 : (text : List ℕ) (n : ℕ) (kind : Kind) → SCRIPT_MAX < length text → outcome text ≡ Err (n, kind) → (n ≡ 1) × (kind ≡ long_kind (first_or_empty (lines_of_text text)))
+pub long_is_line_1 : (text : List ℕ) (n : ℕ) (kind : Kind) → SCRIPT_MAX < length text → parse_result text ≡ Err (n, kind) → (n ≡ 1) × (kind ≡ long_kind (first_or_empty (lines_of_text text)))
 long_is_line_1 text n kind long is =
     let e = long_goes text long in
     let q : (1, long_kind (first_or_empty (lines_of_text text))) ≡ (n, kind) = cc in

@@ -17,7 +17,7 @@ use Rattle.ec_heading.specs.declared.version.Version.{Version}
 use Rattle.ec_script.specs.declared.block_item.BlockItem.{BlockItem}
 use Rattle.ec_script.specs.declared.block_item.BlockItem.TheVariants.{Do, Write, Begin, End}
 use Rattle.ec_script.specs.Flat.{flat, flat_one, flat_step, all_of}
-use Rattle.ec_script.specs.Versioned.{has_command, HasOrder, HasOrders, HasPrograms}
+use Rattle.ec_script.specs.Versioned.{has_command, HasItem, HasItems, HasPrograms}
 use Rattle.ec_script.specs.Confined.{UsesGroups, IsConfined, AreConfined, AreConfinedPrograms}
 use Rattle.ec_heading.proofs.shared.Each.{each_append as every_append}
 
@@ -120,5 +120,5 @@ pub confined_lines : (gs : List Group) (programs : List (List Command)) → AreC
 confined_lines gs programs all = programs_come (UsesGroups gs) (IsConfined gs) (record { line = λ c h. h; write = λ d vs h. h }) programs all
 
 -- programs whose lines a version has have only commands that it has
-pub had_lines : (v : Version) (programs : List (List Command)) → HasOrders v (map flat programs) → HasPrograms v programs
-had_lines v programs all = programs_come (λ d. has_command v d ≡ true) (HasOrder v) (record { line = λ c h. h; write = λ d vs h. refl }) programs all
+pub had_lines : (v : Version) (programs : List (List Command)) → HasItems v (map flat programs) → HasPrograms v programs
+had_lines v programs all = programs_come (λ d. has_command v d ≡ true) (HasItem v) (record { line = λ c h. h; write = λ d vs h. refl }) programs all

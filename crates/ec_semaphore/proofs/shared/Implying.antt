@@ -12,7 +12,7 @@ use Rattle.ec_core.specs.Acceptance.{IsAccepted}
 use Rattle.ec_core.specs.Following.{CompletedCall, Rule, block, is_right, Follow}
 use Rattle.ec_core.specs.CallLists.{is_act, reply_number}
 use Rattle.ec_core.proofs.shared.Answering.{IsReading}
-use Rattle.ec_core.proofs.shared.Following.{other_block, IsTold, op_at, step_told, step_opened, step_due, is_act-true, after_told, after_pending, off_block}
+use Rattle.ec_core.proofs.shared.Following.{other_block, IsReplyTo, op_at, step_told, step_opened, step_due, is_act-true, after_told, after_pending, off_block}
 use Rattle.ec_semaphore.specs.Shapes.{Semaphore}
 use Rattle.ec_semaphore.specs.Uses.{threshold, is_on, use_rule, use_rules}
 use Rattle.ec_semaphore.specs.Both.{sequencer_number, is_begun, both_rule, both_rules}
@@ -78,9 +78,9 @@ off_line c q op is h = ap (is_on c) is ∙ h
 
 on_step : (c : Semaphore) (lines : ℕ → Bool) (t : Tables) (x : Entry) (past : List Entry) (calls : List CompletedCall) → c.initial ≡ 1 → lines c.line ≡ false → IsAccepted t (x ∷ past)
     → block (both_rule c lines) x.worker past ≡ calls → block (use_rule c) x.worker past ≡ used calls
-    → (is_begun calls || is_on c (op_at x past)) ≡ true → (both_rule c lines).fits calls (op_at x past) ≡ true → IsTold t past (op_at x past) x.reply → IsSame c lines x past
+    → (is_begun calls || is_on c (op_at x past)) ≡ true → (both_rule c lines).fits calls (op_at x past) ≡ true → IsReplyTo t past (op_at x past) x.reply → IsSame c lines x past
 on_step c lines t x past [] one apart acc at held on due returned =
-    let P : Act → Type 0 = λ a. IsTold t past a x.reply in
+    let P : Act → Type 0 = λ a. IsReplyTo t past a x.reply in
     let due_op = (and_parts (is_act (Ticket c.line) (op_at x past)) true due).0 in
     let op : op_at x past ≡ Ticket c.line = sym (is_act-true (Ticket c.line) (op_at x past) due_op) in
     let reply : x.reply ≡ Number (issued c.line past) = subst P op returned in
@@ -95,7 +95,7 @@ on_step c lines t x past [] one apart acc at held on due returned =
       own = mine ∙ sym (ap used both);
     }
 on_step c lines t x past (u ∷ []) one apart acc at held on due returned =
-    let P : Act → Type 0 = λ a. IsTold t past a x.reply in
+    let P : Act → Type 0 = λ a. IsReplyTo t past a x.reply in
     let due_op = (and_parts (is_act (Await c.count (reply_number u.reply)) (op_at x past)) true due).0 in
     let op : op_at x past ≡ Await c.count (reply_number u.reply) = sym (is_act-true (Await c.count (reply_number u.reply)) (op_at x past) due_op) in
     let level : threshold c (reply_number u.reply) ≡ reply_number u.reply = omega arith in
@@ -115,7 +115,7 @@ on_step c lines t x past (u ∷ []) one apart acc at held on due returned =
           record { right = right; own = mine ∙ sym (ap used both) })
     ]
 on_step c lines t x past (u ∷ a ∷ []) one apart acc at held on due returned =
-    let P : Act → Type 0 = λ z. IsTold t past z x.reply in
+    let P : Act → Type 0 = λ z. IsReplyTo t past z x.reply in
     let q = sequencer_number (op_at x past) in
     let ok = and_parts (is_act (Ticket (sequencer_number (op_at x past))) (op_at x past)) (lines (sequencer_number (op_at x past))) due in
     let op : op_at x past ≡ Ticket (sequencer_number (op_at x past)) = sym (is_act-true (Ticket (sequencer_number (op_at x past))) (op_at x past) ok.0) in
@@ -125,7 +125,7 @@ on_step c lines t x past (u ∷ a ∷ []) one apart acc at held on due returned 
     let both = after_told (both_rule c lines) x past (u ∷ a ∷ []) (op_at x past) at refl refl (ap is_pending reply) in
     aside c lines t x past acc (off_line c (sequencer_number (op_at x past)) (op_at x past) op other) (held ∙ sym (ap used both))
 on_step c lines t x past (u ∷ a ∷ r ∷ []) one apart acc at held on due returned =
-    let P : Act → Type 0 = λ z. IsTold t past z x.reply in
+    let P : Act → Type 0 = λ z. IsReplyTo t past z x.reply in
     let due_parts = and_parts (is_act (Ticket (sequencer_number (op_at x past))) (op_at x past)) (lines (sequencer_number (op_at x past)) && not (sequencer_number r.op == sequencer_number (op_at x past))) due in
     let ok = and_parts (lines (sequencer_number (op_at x past))) (not (sequencer_number r.op == sequencer_number (op_at x past))) due_parts.1 in
     let op : op_at x past ≡ Ticket (sequencer_number (op_at x past)) = sym (is_act-true (Ticket (sequencer_number (op_at x past))) (op_at x past) due_parts.0) in
@@ -135,7 +135,7 @@ on_step c lines t x past (u ∷ a ∷ r ∷ []) one apart acc at held on due ret
     let both = after_told (both_rule c lines) x past (u ∷ a ∷ r ∷ []) (op_at x past) at refl refl (ap is_pending reply) in
     aside c lines t x past acc (off_line c (sequencer_number (op_at x past)) (op_at x past) op other) (held ∙ sym (ap used both))
 on_step c lines t x past (u ∷ a ∷ r ∷ s ∷ []) one apart acc at held on due returned =
-    let P : Act → Type 0 = λ a. IsTold t past a x.reply in
+    let P : Act → Type 0 = λ a. IsReplyTo t past a x.reply in
     let due_op = (and_parts (is_act (Advance c.count) (op_at x past)) true due).0 in
     let op : op_at x past ≡ Advance c.count = sym (is_act-true (Advance c.count) (op_at x past) due_op) in
     let reply : x.reply ≡ Done = subst P op returned in

@@ -10,10 +10,10 @@ use Rattle.ec_core.specs.Following.{CompletedCall, opening_act, block}
 use Rattle.ec_core.proofs.shared.Following.{op_at, block_pending}
 use Rattle.ec_core.proofs.shared.Tracking.{tracked_off, tracked_going, going, by_going}
 use Rattle.ec_semaphore.specs.Shapes.{Semaphore}
-use Rattle.ec_semaphore.specs.Auditing.{IsCounted, ArePaired, IsPairing, OthersMayBeLeftOut, GoesMayBeLeftOut, GoesMayBeLeftOutOfPairs}
+use Rattle.ec_semaphore.specs.Auditing.{RepresentsBalance, ArePaired, RepresentsPairs, OthersMayBeLeftOut, GoesMayBeLeftOut, GoesMayBeLeftOutOfPairs}
 use Rattle.ec_semaphore.specs.declared.pair.Pair.{Pair}
 use Rattle.ec_semaphore.specs.declared.pairing.LatestTicket.{LatestTicket}
-use Rattle.ec_semaphore.specs.Both.{is_line, both_rule, both_rules}
+use Rattle.ec_semaphore.specs.Both.{is_semaphore_sequencer, both_rule, both_rules}
 use Rattle.ec_semaphore.specs.Completing.{IsDrawn}
 use Rattle.ec_semaphore.specs.Pairs.{pair_with, pairs_in}
 use Rattle.ec_semaphore.specs.Keeping.{list_progress_of_use, list_progress_of_both}
@@ -76,7 +76,7 @@ ups_going s w past = none (total s.count past)
 
 pub counted_going : GoesMayBeLeftOut
 counted_going a x past on s =
-    by_going (λ y. IsCounted a (y ∷ past)) (λ w. record {
+    by_going (λ y. RepresentsBalance a (y ∷ past)) (λ w. record {
       tracked = tracked_going (use_rules a.shape) list_progress_of_use a.tracked w past s.tracked;
       downs = s.downs ∙ sym (downs_going a.shape w past);
       ups = s.ups ∙ sym (ups_going a.shape w past);
@@ -101,8 +101,8 @@ paired_going c lines latest list w past p = record {
 
 pub pairing_going : GoesMayBeLeftOutOfPairs
 pairing_going a x past on s =
-    let lines = is_line a.common a.shapes in
-    by_going (λ y. IsPairing a (y ∷ past)) (λ w. record {
+    let lines = is_semaphore_sequencer a.common a.shapes in
+    by_going (λ y. RepresentsPairs a (y ∷ past)) (λ w. record {
       tracked = tracked_going (both_rules a.common lines) list_progress_of_both a.tracked w past s.tracked;
       paired = λ ok t declared accepted follow. paired_going a.common lines a.latest a.pairs w past (s.paired ok t declared accepted.1 follow.1);
     }) x on

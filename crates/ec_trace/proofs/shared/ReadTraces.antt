@@ -27,12 +27,12 @@ use Rattle.ec_trace.specs.Stages.{Stage, Opening, Limiting, Declaring, Running, 
 use Rattle.ec_trace.specs.declared.fault.TraceFault.{TraceFault}
 use Rattle.ec_trace.specs.declared.fault.TraceFault.TheVariants.{Read, Memory}
 use Rattle.ec_trace.specs.TraceModel.{TraceModel}
-use Rattle.ec_trace.specs.Outcome.{outcome, Returns}
+use Rattle.ec_trace.specs.Outcome.{parse_result, Returns}
 use Rattle.ec_heading.specs.Spelling.{limit_line, trace_header, entry_line, trace_lines, trace_text, lines_text}
 use Rattle.ec_trace.specs.Grammar.{IsTrace}
 use Rattle.ec_heading.proofs.shared.VersionFacts.{limit_low, limit_from, limit_parts, version_back}
-use Rattle.ec_trace.specs.Step.{step, limit_of, limit_in, limiting, after_limit, after_declaration}
-use Rattle.ec_trace.specs.ReadingLaws.{TraceIsRead, IsTraceOf, IsNoTrace, Refuses, ReadIsTrace, TraceHasOneMeaning, NoTraceBeginsAnother}
+use Rattle.ec_trace.specs.Step.{step, limit_of, limit_in, stage_of_version, after_limit, after_declaration}
+use Rattle.ec_trace.specs.ReadingLaws.{TraceIsRead, IsTraceOf, IsNoTrace, Refuses, ReadIsTrace, TraceHasOneMeaning, TracesArePrefixFree}
 use Rattle.ec_trace.specs.declared.read.TheConstants.{TRACE_MAX}
 use Rattle.ec_heading.proofs.shared.Declarable.{Heads, heads_opened, heads_all}
 use Rattle.ec_heading.specs.Recalled.{outline_of}
@@ -227,8 +227,8 @@ is_text bytes o es h = record { spelled = h.text; each = all_lines o es h.headin
 pub trace_is_read : TraceIsRead
 trace_is_read bytes o es h = text_read TRACE_MAX bytes (trace_lines o es) (recount o es) h.within (is_text bytes o es h)
 
-pub no_trace_begins_another : NoTraceBeginsAnother
-no_trace_begins_another bytes more o p es fs h k = no_front bytes more (trace_lines o es) (trace_lines p fs) (recount o es) (recount p fs) (is_text bytes o es h) (is_text (bytes ++ more) p fs k)
+pub traces_are_prefix_free : TracesArePrefixFree
+traces_are_prefix_free bytes more o p es fs h k = no_front bytes more (trace_lines o es) (trace_lines p fs) (recount o es) (recount p fs) (is_text bytes o es h) (is_text (bytes ++ more) p fs k)
 
 pub trace_has_one_meaning : TraceHasOneMeaning
 trace_has_one_meaning bytes o p es fs h k =
@@ -292,7 +292,7 @@ behind_first v (line ∷ lines) t (next, taken, leads) =
     let is : line ≡ limit_line l.0 = sym (split_join line) ∙ ap (join_with_byte 32) k.are in
     subst (λ (x : List ℕ). AreOf (trace_header v ∷ x ∷ lines) t) (sym is) (declaring_back v l.0 lines t k.low k.high (subst (λ (s : Stage). Leads s lines (Ended t)) l.2 leads))
 
-limiting_back : (o : Option Version) (s : Stage) → limiting o ≡ Ok s → (v : Version) × (o ≡ Some v) × (s ≡ Limiting v)
+limiting_back : (o : Option Version) (s : Stage) → stage_of_version o ≡ Ok s → (v : Version) × (o ≡ Some v) × (s ≡ Limiting v)
 limiting_back None s e = cc
 limiting_back (Some v) s e = (v, refl, cc)
 
@@ -324,7 +324,7 @@ told_trace None left r h = tt
 told_trace (Some bytes) left (Ok t) h = read_is_trace bytes t h
 told_trace (Some bytes) left (Err f) h = tt
 
-pub trace_refuses : (bytes : List ℕ) (f : TraceFault) → outcome TRACE_MAX bytes ≡ Err f → IsNoTrace bytes
+pub trace_refuses : (bytes : List ℕ) (f : TraceFault) → parse_result TRACE_MAX bytes ≡ Err f → IsNoTrace bytes
 trace_refuses bytes f e o es h = (let k : Ok (recount o es) ≡ Err f = sym (trace_is_read bytes o es h) ∙ e in cc)
 
 fault_refuses : (bytes : List ℕ) (left : Option (List ℕ)) (f : TraceFault) → Returns TRACE_MAX bytes left (Err f) → Refuses f bytes
@@ -339,6 +339,6 @@ told_fault (Some bytes) left (Err f) h = fault_refuses bytes left f h
 
 -- what is written is read as what was written
 pub written_is_read : (o : HeaderTree) (entries : List Entry) → IsHeaderTree o → IsAccepted (heading_of_tree o).setup (reverse entries) → CanSpellAll o.version entries → length (trace_text o entries) ≤ TRACE_MAX
-    → outcome TRACE_MAX (trace_text o entries) ≡ Ok (record { heading = heading_of_tree o; entries = entries })
+    → parse_result TRACE_MAX (trace_text o entries) ≡ Ok (record { heading = heading_of_tree o; entries = entries })
 written_is_read o entries outline accepted can within =
     trace_is_read (trace_text o entries) o entries (record { heading = outline; accepted = accepted; spelled = can; text = refl; within = within })

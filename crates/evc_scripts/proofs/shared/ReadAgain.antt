@@ -12,7 +12,7 @@ use Rattle.ec_heading.specs.HeadingModel.{HeadingModel}
 use Rattle.ec_heading.specs.declared.version.Version.{Version}
 use Rattle.ec_heading.specs.Versions.{CanSpellAll}
 use Rattle.ec_heading.proofs.shared.TreeFound.{version_found}
-use Rattle.ec_trace.specs.Outcome.{outcome}
+use Rattle.ec_trace.specs.Outcome.{parse_result}
 use Rattle.ec_heading.specs.HeaderTree.{heading_of_tree}
 use Rattle.ec_trace.specs.TraceModel.{TraceModel}
 use Rattle.ec_trace.specs.declared.read.TheConstants.{TRACE_MAX}
@@ -31,11 +31,11 @@ accepted_turns t programs (x ∷ turns) each = answered t (entries_of turns) x.w
 
 -- the trace of an accepted history with a header, within the bound, is parsed to these two
 pub read_under : (h : HeadingModel) (entries : List Entry) (trace : List ℕ) → IsAccepted h.setup (reverse entries) → IsTraceUnder h entries trace → length trace ≤ TRACE_MAX
-    → outcome TRACE_MAX trace ≡ Ok (record { heading = h; entries = entries })
+    → parse_result TRACE_MAX trace ≡ Ok (record { heading = h; entries = entries })
 read_under h entries trace accepted under short =
     let o = under.outline in
     let version : h.version ≡ o.version = sym (ap (λ (k : HeadingModel). k.version) under.declares) ∙ version_found o in
-    subst (λ (k : HeadingModel). outcome TRACE_MAX trace ≡ Ok (record { heading = k; entries = entries })) under.declares
+    subst (λ (k : HeadingModel). parse_result TRACE_MAX trace ≡ Ok (record { heading = k; entries = entries })) under.declares
     (rw under.text (written_is_read o entries under.is (subst (λ (k : HeadingModel). IsAccepted k.setup (reverse entries)) (sym under.declares) accepted)
     (subst (λ (v : Version). CanSpellAll v entries) version under.spelled) (rw under.text at short)))
 

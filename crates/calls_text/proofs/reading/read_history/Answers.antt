@@ -1,5 +1,5 @@
 use Rattle.std.proofs.Common.{◌≡◌, ◌+◌, length, arith, subst, sym, ◌∙◌, refl}
-use Rattle.calls_text.specs.Outcomes.{ReturnsFault, goes, lines_of_text}
+use Rattle.calls_text.specs.Outcomes.{ReturnsFault, parse_from, lines_of_text}
 use Rattle.calls_text.specs.Reading.{is_ended}
 use Rattle.calls_text.specs.Reading as reading
 use Rattle.calls_text.specs.kept.Stages.{stage_with_all}
@@ -28,7 +28,7 @@ returns-in_default-clause-numbers c =
 
 pub returns-in-Err-clause-tells : goal.returns-in-Err-clause-tells
 returns-in-Err-clause-tells c =
-    subst (ReturnsFault (goes c.args.number reading.Opening (lines_of_text c.args.text.now)))
+    subst (ReturnsFault (parse_from c.args.number reading.Opening (lines_of_text c.args.text.now)))
     (sym c.fault_at.ensures)
     (fails_line c.loop-rest.at (stage_with_all c.loop-rest.stage) c.in-Some.line.now c.in-Some.behind.now
     c.loop-rest.rest.now _ c.in-Err.fault (sym c.is_ended.ensures ∙ c.loop-rest-test.true)

@@ -2,7 +2,7 @@ use Rattle.std.proofs.Common.{[], refl, arith}
 use Rattle.std.proofs.lemmas.Option.{slice_get_read}
 use Rattle.ec_heading.specs.declared.group.Group.{Group}
 use Rattle.ec_walk.proofs.shared.Each.{each_more, each_all, one_longer}
-use Rattle.ec_draw.specs.declared.finding.Finding.{Finding}
+use Rattle.ec_draw.specs.declared.finding.GroupState.{GroupState}
 use Rattle.ec_draw.specs.Findings.{FindsFor}
 use Rattle.ec_draw.proofs.finding.open_findings.Goals as goal
 
@@ -11,7 +11,7 @@ loop-number-preserved c =
     let was = c.loop-number.invariant in
     let items = c.loop-number.list.items in
     let n = c.loop-number.number in
-    let R : Group → Finding
+    let R : Group → GroupState
     → Type 0 = λ g f. FindsFor c.args.asked.now.setup.now c.args.asked.now.semaphores.now
     c.args.asked.now.window g f [] in
     record {
@@ -25,7 +25,7 @@ loop-number-preserved c =
 
 pub returns : goal.returns
 returns c =
-    let R : Group → Finding
+    let R : Group → GroupState
     → Type 0 = λ g f. FindsFor c.args.asked.now.setup.now c.args.asked.now.semaphores.now
     c.args.asked.now.window g f [] in
     each_all R c.args.groups.now c.loop-number.list.items c.loop-number.number (omega arith)

@@ -4,7 +4,7 @@ use Rattle.ec_core.specs.Audits.{IsAuditFault}
 use Rattle.ec_count.specs.Tables.{Tables}
 use Rattle.ec_database.specs.Shapes.{Database}
 use Rattle.ec_database.specs.Following.{FollowsDatabase, database_rules}
-use Rattle.ec_draw.specs.Shades.{ShadeModel, TriesModel, IsTrying, shade_model, shades_shown}
+use Rattle.ec_draw.specs.Shades.{ShadeModel, TriesModel, RepresentsTries, shade_model, shades_shown}
 use Rattle.ec_draw.proofs.Balancing.{broken_no}
 use Rattle.ec_draw.proofs.Shading.{group_yes, group_no}
 use Rattle.ec_draw.proofs.shade.add_database.Goals as goal
@@ -18,14 +18,14 @@ returns-in-Ok c =
     let w = c.args.tries.window in
     let inside = c.tries.inside in
     let represents =
-    subst (λ (z : TriesModel). IsTrying z past) (sym c.tries.view_is) c.requires.represents in
+    subst (λ (z : TriesModel). RepresentsTries z past) (sym c.tries.view_is) c.requires.represents in
     let shape : inside.shape.now ≡ d = ap (λ (z : TriesModel). z.shape) c.tries.view_is
     ∙ c.requires.shape in
     let of : inside.audit.shape ≡ d = represents.shape ∙ shape in
     let on : inside.audit.setup ≡ t = ap (λ (z : TriesModel). z.audit.setup) c.tries.view_is
     ∙ c.requires.setup in
     let list : map shade_model inside.shades.items ≡ shades_shown t d w past =
-    represents.shades c.if-lacks.false
+    represents.shades c.if-out_of_memory.false
     ∙ ap (λ (u : Tables). shades_shown u inside.shape.now inside.window past) on
     ∙ ap (λ (z : Database). shades_shown t z inside.window past) shape
     ∙ ap (λ (z : TriesModel). shades_shown t d z.window past) c.tries.view_is in
@@ -39,7 +39,7 @@ returns-in-Err-NotFollowed c =
     let t = c.args.run.now.setup in
     let d = c.args.shape.now in
     let h = c.args.run.now.entries in
-    let represents = subst (λ (z : TriesModel). IsTrying z (reverse h)) (sym c.tries.view_is)
+    let represents = subst (λ (z : TriesModel). RepresentsTries z (reverse h)) (sym c.tries.view_is)
     c.requires.represents in
     let of : c.tries.inside.audit.shape ≡ d = represents.shape
     ∙ ap (λ (z : TriesModel). z.shape) c.tries.view_is ∙ c.requires.shape in

@@ -11,5 +11,5 @@ returns-then-not-is_deadlocked-clause-woken c = λ b was same v small.
 
 pub returns-clause-woken : goal.returns-clause-woken
 returns-clause-woken c = λ b was same v small.
-    c.waiting.ensures v small
+    c.waiting_workers.ensures v small
     ∙ ap (λ t. Some t) (sym (all_released b c.args.board.now c.args.worker (was ∙ c.if-was_stuck.false) (sym c.is_deadlocked.ensures ∙ c.if-not-is_deadlocked.false) same v))

@@ -3,8 +3,8 @@ use Rattle.ec_count.specs.Tables.{Tables}
 use Rattle.ec_runner.proofs.Walking.{then_match}
 use Rattle.ec_runner.proofs.mismatch.find_mismatch.Goals as goal
 
-pub first_unlike-requires-clause-each : goal.first_unlike-requires-clause-each
-first_unlike-requires-clause-each c = c.requires.each ∙ ap (λ (t : Tables). t.workers) (sym (c.are_same.ensures.0 c.if-not-are_same.false) ∙ c.setup.ensures)
+pub first_log_mismatch-requires-clause-each : goal.first_log_mismatch-requires-clause-each
+first_log_mismatch-requires-clause-each c = c.requires.each ∙ ap (λ (t : Tables). t.workers) (sym (c.are_same.ensures.0 c.if-not-are_same.false) ∙ c.setup.ensures)
 
 pub returns-then-not-are_same : goal.returns-then-not-are_same
 returns-then-not-are_same c = inl (

@@ -1,6 +1,6 @@
 use Rattle.std.proofs.Common.{sym, ◌∙◌, ap, subst}
 use Rattle.ec_order.specs.Linearizer.{LinearizerModel}
-use Rattle.evc_engine.specs.Checks.{Checks, Outlets}
+use Rattle.evc_engine.specs.Checks.{Checks, Outputs}
 use Rattle.evc_engine.specs.Halts.{IsReadInto}
 use Rattle.evc_engine.proofs.CheckLemmas.{fault_checked, written_checked}
 use Rattle.evc_engine.proofs.FoundWritten.{stays}
@@ -9,8 +9,8 @@ use Rattle.evc_engine.proofs.checking.check_entries.Goals as goal
 pub returns-in-Err-clause-ends : goal.returns-in-Err-clause-ends
 returns-in-Err-clause-ends g c = λ bytes begun.
     let left = g.R.Read.remaining c.read_entries.new.reader in
-    let old : Outlets = record { out = g.W.Write.contents c.args.out.now; notes = c.args.notes.now } in
-    let new : Outlets = record { out = g.W.Write.contents c.args.out.now; notes = c.note_unread-in-Err.new.notes } in
+    let old : Outputs = record { out = g.W.Write.contents c.args.out.now; notes = c.args.notes.now } in
+    let new : Outputs = record { out = g.W.Write.contents c.args.out.now; notes = c.note_unread-in-Err.new.notes } in
     let first = c.new-watched.ensures.first in
     let returned = c.in-Err.ensures.recounts bytes c.new-watched.result begun (first.0, first.1 ∙ c.copy.ensures ∙ c.setup-2.ensures, first.2, first.3) in
     subst (λ s. Checks bytes left s old new) (sym c.note_unread-in-Err.ensures.status)

@@ -5,7 +5,7 @@ use Rattle.ec_core.specs.Following.{Rule}
 use Rattle.ec_core.specs.CallLists.{is_due, without_value}
 use Rattle.ec_database.specs.Following.{write_rule, try_rule}
 use Rattle.ec_database.specs.Calls.{write_call}
-use Rattle.ec_database.specs.Places.{write_at}
+use Rattle.ec_database.specs.SnapshotPhases.{write_at}
 use Rattle.ec_database.proofs.Placed.{write_call_at}
 use Rattle.ec_database.proofs.lists.Lists.is_next.Goals as goal
 

@@ -2,13 +2,13 @@ use Rattle.std.proofs.Common.{◌<◌, ◌∷◌, ℕ, List, length, refl, ap, s
 use Rattle.ec_count.specs.Tables.{Tables}
 use Rattle.ec_core.specs.Following.{block}
 use Rattle.ec_database.specs.Following.{database_rules}
-use Rattle.ec_draw.specs.Shades.{TriesModel, IsTrying, AreStarts}
+use Rattle.ec_draw.specs.Shades.{TriesModel, RepresentsTries, AreStarts}
 use Rattle.ec_draw.proofs.Shading.{starts_next, tries_next}
 use Rattle.ec_draw.proofs.shade.TriesAudit.take.Goals as goal
 
 pub returns : goal.returns
 returns c = λ start past at op was.
-    (let P : TriesModel → Type 0 = λ z. IsTrying z past in
+    (let P : TriesModel → Type 0 = λ z. RepresentsTries z past in
     let inside = subst P (sym c.self.view_is) was.3 in
     let old = c.self.inside.audit in
     let new = c.take.new.self in
@@ -20,7 +20,7 @@ returns c = λ start past at op was.
     let small = subst (λ (n : ℕ). n < 16) c.get.ensures.value c.get.ensures.small in
     let starts = starts_next old.setup d x past c.completed_count-finished.result c.args.place
     c.self.inside.starts small at finished inside.starts in
-    let added = c.lacks_after.ensures in (
+    let added = c.add_fails.ensures in (
       ap (λ (z : TriesModel). z.shape) c.self.view_is ∙ was.0,
       audited.1 ∙ ap (λ (z : TriesModel). z.audit.setup) c.self.view_is ∙ was.1,
       ap (λ (z : TriesModel). z.window) c.self.view_is ∙ was.2,

@@ -7,6 +7,6 @@ use Rattle.ec_machine.proofs.machine.Machine.at_start.Goals as goal
 
 pub returns-clause-represents : goal.returns-clause-represents
 returns-clause-represents c = λ cs is. stands_at_start cs _ refl
-    (c.settle-outcome.ensures.outcome ∙ ap (λ left. outcome_in left 0) is)
-    c.settle-outcome.ensures.fresh
-    (subst (λ left. IsAt (task_rest c.settle-outcome.new.task) c.settle-outcome.new.rest (record { left = left; last = 0; completed = [] })) is c.settle-outcome.ensures.at)
+    (c.begin_next-outcome.ensures.outcome ∙ ap (λ left. outcome_in left 0) is)
+    c.begin_next-outcome.ensures.fresh
+    (subst (λ left. IsAt (task_rest c.begin_next-outcome.new.task) c.begin_next-outcome.new.rest (record { left = left; last = 0; completed = [] })) is c.begin_next-outcome.ensures.at)

@@ -9,7 +9,7 @@ returns-then-is_none-clause-represents c = λ cs past worker act represents asks
     (c.args.self.now.running ∙ ap is_some asks) asks c.number_after-self.ensures.value c.take.ensures.going
     (record { pending = c.take.ensures.pending; completed = c.take.ensures.returned })
     (ap is_some (sym c.next.ensures) ∙ c.is_none.ensures ∙ ap not c.if-is_none.true)
-    c.settle-self.ensures.at c.settle-self.ensures.outcome c.settle-self.ensures.fresh
+    c.begin_next-self.ensures.at c.begin_next-self.ensures.outcome c.begin_next-self.ensures.fresh
 
 pub returns-else-is_none-clause-represents : goal.returns-else-is_none-clause-represents
 returns-else-is_none-clause-represents c = λ cs past worker act represents asks.

@@ -6,7 +6,7 @@ use Rattle.ec_order.proofs.Timing.{kept, timed_start}
 use Rattle.ec_order.proofs.linearizer.Linearizer.open.Goals as goal
 
 pub returns-clause-first : goal.returns-clause-first
-returns-clause-first c = λ lacks acc.
+returns-clause-first c = λ out_of_memory acc.
     let t = c.args.setup.now in
     let ks = c.in_ok-none.field-0 in
     let with_marks = λ (ms : List Bool) (xs : List Entry) (ds : List LinearizedEntry). IsLinearizerModel (kept t c.new.result ks ms xs ds false) [] in

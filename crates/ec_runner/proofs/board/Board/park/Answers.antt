@@ -18,12 +18,12 @@ invariant_of-self c =
     let s : WorkerState = Waiting a.event a.threshold in
     let b : BoardModel = record { run = i.run; states = i.states; deadlocked = i.deadlocked } in
     let states : c.wait.new.self ≡ slice_set i.states w s =
-    c.wait.ensures ∙ ap (λ xs. slice_set xs w s) c.settle.ensures.states ∙ set_again i.states w Running s in
+    c.wait.ensures ∙ ap (λ xs. slice_set xs w s) c.stop_waiting.ensures.states ∙ set_again i.states w Running s in
     let flag : c.are_deadlocked-self-inside.result ≡ is_deadlocked c.wait.new.self = c.are_deadlocked-self-inside.ensures in
     let has : wait_of b w ≡ Some a = ap (λ (d : BoardModel). wait_of d w) c.self.view_is ∙ sym c.in-Some.ensures in
     let P : List WorkerState → Bool → Type 0 = λ xs v. AreWaiters (record { run = i.run; states = xs; deadlocked = v }) in
     subst (λ (v : Bool). P c.wait.new.self v) (sym flag)
-    (subst (λ (xs : List WorkerState). P xs (is_deadlocked xs)) (sym states) (parked b w a c.self.invariant c.settle.ensures.within (is_wait b w a has)))
+    (subst (λ (xs : List WorkerState). P xs (is_deadlocked xs)) (sym states) (parked b w a c.self.invariant c.stop_waiting.ensures.within (is_wait b w a has)))
 
 pub returns-clause-waits : goal.returns-clause-waits
 returns-clause-waits c = λ a free has.
@@ -33,7 +33,7 @@ returns-clause-waits c = λ a free has.
     let same : Some c.in-Some.wait ≡ Some a = c.in-Some.ensures ∙ has in
     let is : c.in-Some.wait ≡ a = cc in
     let states : c.wait.new.self ≡ slice_set i.states w s =
-    c.wait.ensures ∙ ap (λ xs. slice_set xs w (Waiting c.in-Some.wait.event c.in-Some.wait.threshold)) c.settle.ensures.states ∙ set_again i.states w Running (Waiting c.in-Some.wait.event c.in-Some.wait.threshold)
+    c.wait.ensures ∙ ap (λ xs. slice_set xs w (Waiting c.in-Some.wait.event c.in-Some.wait.threshold)) c.stop_waiting.ensures.states ∙ set_again i.states w Running (Waiting c.in-Some.wait.event c.in-Some.wait.threshold)
     ∙ ap (λ (d : Wait). slice_set i.states w (Waiting d.event d.threshold)) is in
     let made : List WorkerState → Bool → BoardModel =
     λ xs v. record { run = i.run; states = xs; deadlocked = v } in

@@ -7,19 +7,19 @@ use Rattle.ec_runner.proofs.worker_states.WorkerStates.release_first.Goals as go
 pub invariant_of-self : goal.invariant_of-self
 invariant_of-self c =
     let i = c.self.inside in
-    let k = let_go i.table i.lines c.args.event c.args.total c.in-Some.waiter c.self.invariant c.pop_ready.ensures.event c.in-Some.ensures.first in
+    let k = let_go i.table i.queues c.args.event c.args.total c.in-Some.waiter c.self.invariant c.pop_ready.ensures.event c.in-Some.ensures.first in
     rw (c.get.ensures.value, c.in-Some.ensures.rest) k.keeps
 
 pub invariant_of-self-in-None : goal.invariant_of-self-in-None
 invariant_of-self-in-None c =
     let i = c.self.inside in
-    rw c.in-None.ensures.rest (lines_again i.table i.lines c.args.event c.self.invariant c.pop_ready.ensures.event)
+    rw c.in-None.ensures.rest (lines_again i.table i.queues c.args.event c.self.invariant c.pop_ready.ensures.event)
 
 pub returns-in-Some-clause-yes : goal.returns-in-Some-clause-yes
 returns-in-Some-clause-yes c = λ _.
     (let i = c.self.inside in
     let x = c.in-Some.waiter in
-    let k = let_go i.table i.lines c.args.event c.args.total x c.self.invariant c.pop_ready.ensures.event c.in-Some.ensures.first in
+    let k = let_go i.table i.queues c.args.event c.args.total x c.self.invariant c.pop_ready.ensures.event c.in-Some.ensures.first in
     record {
       worker = x.worker;
       threshold = x.threshold;
@@ -31,5 +31,5 @@ returns-in-Some-clause-yes c = λ _.
 pub returns-in-None-clause-no : goal.returns-in-None-clause-no
 returns-in-None-clause-no c = λ _.
     (let i = c.self.inside in
-    let none : map (state_at_total c.args.event c.args.total) i.table ≡ i.table = none_let_go i.table i.lines c.args.event c.args.total c.self.invariant c.pop_ready.ensures.event c.in-None.ensures.first in
+    let none : map (state_at_total c.args.event c.args.total) i.table ≡ i.table = none_let_go i.table i.queues c.args.event c.args.total c.self.invariant c.pop_ready.ensures.event c.in-None.ensures.first in
     (c.self.view_is, ap (map (state_at_total c.args.event c.args.total)) (sym c.self.view_is) ∙ none ∙ c.self.view_is))

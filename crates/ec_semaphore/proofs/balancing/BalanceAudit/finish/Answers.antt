@@ -2,7 +2,7 @@ use Rattle.std.proofs.Common.{◌≡◌, reverse, refl, ap, ◌∙◌, arith, su
 use Rattle.ec_core.specs.Audits.{IsFirstBreak}
 use Rattle.ec_core.specs.Ending.{EndsAt}
 use Rattle.ec_core.specs.Following.{Follow}
-use Rattle.ec_semaphore.specs.Auditing.{BalanceAuditModel, IsCounted}
+use Rattle.ec_semaphore.specs.Auditing.{BalanceAuditModel, RepresentsBalance}
 use Rattle.ec_semaphore.specs.Keeping.{list_progress_of_use}
 use Rattle.ec_semaphore.specs.Shapes.{Semaphore}
 use Rattle.ec_semaphore.specs.Uses.{use_rules}
@@ -13,7 +13,7 @@ use Rattle.ec_semaphore.proofs.balancing.BalanceAudit.finish.Goals as goal
 
 pub returns-in-Err-clause-ok : goal.returns-in-Err-clause-ok
 returns-in-Err-clause-ok c t h ended =
-    let E : BalanceAuditModel → Type 0 = λ z. EndsAt t (IsCounted z) h in
+    let E : BalanceAuditModel → Type 0 = λ z. EndsAt t (RepresentsBalance z) h in
     let inside = subst E (sym c.self.view_is) ended in
     let Q : BalanceAuditModel → Type 0 = λ z. Follow (use_rules z.shape) (reverse h) → ⊥ in
     let broken : Follow (use_rules c.self.inside.uses.shape) (reverse h) → ⊥ = λ f. cc ((c.in-Err.ensures (use_rules c.self.inside.uses.shape) list_progress_of_use h inside.represents.tracked).0.1 f) in
@@ -21,14 +21,14 @@ returns-in-Err-clause-ok c t h ended =
 
 pub returns-in-Err-clause-err : goal.returns-in-Err-clause-err
 returns-in-Err-clause-err c t h ended =
-    let E : BalanceAuditModel → Type 0 = λ z. EndsAt t (IsCounted z) h in
+    let E : BalanceAuditModel → Type 0 = λ z. EndsAt t (RepresentsBalance z) h in
     let inside = subst E (sym c.self.view_is) ended in
     let Q : BalanceAuditModel → Type 0 = λ z. IsFirstBreak (use_rules z.shape) h c.in-Err.fault in
     subst Q c.self.view_is (c.in-Err.ensures (use_rules c.self.inside.uses.shape) list_progress_of_use h inside.represents.tracked).1
 
 pub returns-clause-ok : goal.returns-clause-ok
 returns-clause-ok c t h ended =
-    let E : BalanceAuditModel → Type 0 = λ z. EndsAt t (IsCounted z) h in
+    let E : BalanceAuditModel → Type 0 = λ z. EndsAt t (RepresentsBalance z) h in
     let inside = subst E (sym c.self.view_is) ended in
     let F : BalanceAuditModel → Type 0 = λ z. Follow (use_rules z.shape) (reverse h) in
     let follows = subst F c.self.view_is ((c.in_default.ensures (use_rules c.self.inside.uses.shape) list_progress_of_use h inside.represents.tracked).0.0 refl) in
@@ -36,7 +36,7 @@ returns-clause-ok c t h ended =
 
 pub returns-clause-never_negative : goal.returns-clause-never_negative
 returns-clause-never_negative c t h ended =
-    let E : BalanceAuditModel → Type 0 = λ z. EndsAt t (IsCounted z) h in
+    let E : BalanceAuditModel → Type 0 = λ z. EndsAt t (RepresentsBalance z) h in
     let inside = subst E (sym c.self.view_is) ended in
     let F : BalanceAuditModel → Type 0 = λ z. Follow (use_rules z.shape) (reverse h) in
     let follows = subst F c.self.view_is ((c.in_default.ensures (use_rules c.self.inside.uses.shape) list_progress_of_use h inside.represents.tracked).0.0 refl) in
@@ -44,7 +44,7 @@ returns-clause-never_negative c t h ended =
 
 pub returns-clause-few : goal.returns-clause-few
 returns-clause-few c t h ended =
-    let E : BalanceAuditModel → Type 0 = λ z. EndsAt t (IsCounted z) h in
+    let E : BalanceAuditModel → Type 0 = λ z. EndsAt t (RepresentsBalance z) h in
     let inside = subst E (sym c.self.view_is) ended in
     let F : BalanceAuditModel → Type 0 = λ z. Follow (use_rules z.shape) (reverse h) in
     let follows = subst F c.self.view_is ((c.in_default.ensures (use_rules c.self.inside.uses.shape) list_progress_of_use h inside.represents.tracked).0.0 refl) in
