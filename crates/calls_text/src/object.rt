@@ -35,7 +35,7 @@ fn group_in(heading: &Heading, word: &[u8]) -> Option<(usize, Group)>
     Some((place, group))
 }
 
-/// Returns the semaphore of a name, with its place.
+/// Returns the semaphore of this name, with its index among the groups.
 fn semaphore_in(heading: &Heading, word: &[u8]) -> Option<(usize, SemaphoreShape)>
     ensures { result ≡ semaphore_in heading.now word.now }
 {
@@ -53,7 +53,7 @@ fn database_in(heading: &Heading, word: &[u8]) -> Option<(usize, DatabaseShape)>
     Some((place, shape))
 }
 
-/// Returns the two semaphores that a call names, and the common one.
+/// Returns the two semaphores that a `pboth` names, and the semaphore `both`.
 fn pair_in(heading: &Heading, word: &[u8], other: Option<&[u8]>) -> Option<Object>
     ensures { result ≡ semaphore_pair (both_of heading.now.groups)
         (semaphore_in heading.now word.now)

@@ -47,7 +47,7 @@ fn get_place(shape: &BufferShape, act: Act) -> Option<usize>
     }
 }
 
-/// Notes who put what now stands in a cell.
+/// Records the worker of a put as the last writer of its cell.
 fn note_put(shape: &BufferShape, entry: &Entry, writers: &mut [WorkerId; 256])
     ensures { writers.new ≡ writers_after (put_place shape.now entry.now.act) entry.now.worker writers.old }
 {

@@ -103,7 +103,7 @@ pub(crate) fn component_sum(counts: &[[Count; 16]; 32], event: usize, width: usi
     sum
 }
 
-/// Returns the same array again.
+/// Returns a copy of the array.
 pub(crate) fn same_again<T: Copy, const N: usize>(xs: &[T; N]) -> [T; N]
     ensures { result ≡ xs.now }
 {

@@ -77,7 +77,7 @@ impl Tracker {
     }
 }
 
-/// Finds whether one more entry is the first that breaks the lists.
+/// Records one more entry as the first violation, if it is that.
 #[inline(always)]
 fn find<P: Protocol>(
     protocol: &P,

@@ -50,7 +50,7 @@ fn completed_call(lists: &Lists, kept: &ListProgress, op: &Act, entry: &Entry) -
     })
 }
 
-/// What the readers got in the tries that they are in, by reader and place of the cell.
+/// The values that the readers got in the tries that they are in, by reader and index of the cell.
 #[derive(Drop)]
 struct Got {
     rows: [[u64; 256]; 16],

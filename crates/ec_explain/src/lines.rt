@@ -14,7 +14,7 @@ fn position_of(sign: u8, bytes: &[u8]) -> Option<usize>
     bytes.iter().position(|b| *b == sign)
 }
 
-/// Returns where a byte stands first; behind the last byte if it doesn't.
+/// Returns the index of the first such byte; the length if there is none.
 pub fn position_or_end(sign: u8, bytes: &[u8]) -> usize
     ensures value { result ≡ position_or_end sign bytes.now }
     ensures within { result ≤ length bytes.now }

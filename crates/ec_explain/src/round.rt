@@ -28,7 +28,7 @@ pub struct Look {
     pub total: u64,
 }
 
-/// Returns what an entry finds in a world that reads a component.
+/// Returns what an entry that reads a component finds in a world.
 fn look_at(world: &World, event: EventId, component: usize, position: usize) -> Look
     ensures { (h : List Entry) → StandsFor world.now h → position ≡ length (reverse h)
         → result ≡ look_at world.now.setup event component (reverse h) }

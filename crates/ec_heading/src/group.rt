@@ -102,7 +102,7 @@ pub fn both_of(groups: &[Group]) -> Option<SemaphoreShape>
     }
 }
 
-/// Adds the semaphores among groups, the one named `both` not among them.
+/// Adds the semaphores among groups, except the common one of `both`.
 fn push_semaphores(list: &mut Vec<SemaphoreShape>, groups: &[Group]) -> Result<(), AllocError>
     ensures { OnOk result (list.new.items ≡ list.old.items ++ semaphores_of groups.now) }
 {

@@ -19,7 +19,8 @@ fn is_same_act(act: &Act, other: &Act) -> bool
     act == other
 }
 
-/// Takes a step, if it is what is asked for.
+/// Passes the reply of a step to the interpreter, if its act is the one that is due. Returns
+/// whether it is.
 fn goes_with(machine: &mut Machine<'_>, entry: &Entry) -> bool
     requires { IsReply entry.now.act entry.now.reply }
     ensures yes { (cs : List Command) (past : List Entry) → StandsFor cs machine.old past → is_refused machine.old ≡ false → result ≡ true

@@ -168,7 +168,7 @@ fn is_one_entry_act(act: Act) -> bool
     }
 }
 
-/// Returns whether the next entry is a read or an await that is told at once.
+/// Returns whether the next entry is a read or an await that returns at once.
 #[inline(always)]
 fn read_comes(marks: &BitIter<'_>, one_entry_calls: &Entries<'_>) -> bool
     ensures { result ≡ read_comes marks.now one_entry_calls.now }

@@ -77,7 +77,7 @@ fn waiting_workers(board: &Board, worker: WorkerId) -> [bool; 16]
     table
 }
 
-/// Has the worker wait for what it has to wait for.
+/// Makes the worker a waiter, if it has something to wait for.
 fn park(board: &mut Board, worker: WorkerId)
     requires { board.old.deadlocked ≡ false }
     ensures { board.new ≡ park board.old worker }

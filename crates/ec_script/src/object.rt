@@ -106,8 +106,8 @@ pub(crate) fn object_in(heading: &Heading, parts: &Parts<'_>) -> Option<Object>
     }
 }
 
-/// Returns whether an eventcount, a sequencer or a cell belongs to the group; of a hand, its
-/// eventcount.
+/// Returns whether an eventcount, a sequencer or a cell belongs to the group; for a `hand`, whether
+/// its eventcount does.
 fn owns(object: &Object, group: &Group) -> bool
     ensures { result ≡ owns object.now group.now }
 {

@@ -8,8 +8,8 @@ use crate::numbers::has_form;
 /// Returns the place of the last space of a text and the number that its last word, after that
 /// space, spells. Of the text `w = 17` these are 3 and 17.
 ///
-/// It is found and read from the end of the text, in one pass. More than 18 digits spell no number;
-/// so up to 19 bytes are looked at, of which a u64 holds the number.
+/// It is found and read from the end of the text, in one pass. More than 18 digits spell no number,
+/// so at most the last 19 bytes are read. Even 19 digits fit in a u64.
 #[tactic(auto, using(crate::proofs::EndLemmas::by_digit))]
 pub fn number_at_end(text: &[u8]) -> Option<(usize, u64)>
     ensures within { IfSome result (λ p. p.0 < length text.now) }

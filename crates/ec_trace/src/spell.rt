@@ -204,7 +204,7 @@ fn put_long<W: Write>(out: &mut Output<'_, W>, before: &[u8], word: &[u8])
     out.put(word);
 }
 
-/// Returns the word at a place.
+/// Returns the word at an index.
 fn word_in<'a>(words: &[&'a [u8]], place: usize) -> &'a [u8]
     requires { place < length words.now }
     ensures { result.now ≡ word_at words.now place }

@@ -1,4 +1,4 @@
-//! What is drawn of a text that is refused for one of its lines.
+//! The history that is drawn of a text with a faulty line.
 ghost use Rattle.std.specs.Prelude.{◌≡◌, ◌++◌, IfOk, IfErr, OnOk};
 ghost use Rattle.ec_heading.specs.Spelling.{reply_word};
 ghost use Rattle.evc_engine.specs.Checks.{ReadsAs};
