@@ -1,4 +1,5 @@
 //! The objects of a history, its events, and the calls that the events make up.
+ghost use Rattle.std.specs.Prelude.{◌≡◌};
 
 /// The most calls that may be pending at once in a monitor.
 pub const WORKERS: usize = 64;
@@ -89,6 +90,24 @@ pub struct PendingCall {
     pub op: Op,
     /// The position of its invocation.
     pub first: usize,
+}
+
+impl PendingCall {
+    ghost use Rattle.calls_core.specs.Histories.{completion};
+
+    /// Returns the call with this reply, and with its response at position `last`.
+    pub fn complete(self, reply: Reply, last: usize) -> Call
+        ensures { result ≡ completion last reply self }
+    {
+        Call {
+            worker: self.worker,
+            object: self.object,
+            op: self.op,
+            reply,
+            first: self.first,
+            last,
+        }
+    }
 }
 
 /// A completed call, or a pending one that took effect.

@@ -22,20 +22,6 @@ fn take_pending(pending: &mut Vec<PendingCall>, worker: usize) -> Option<Pending
     None
 }
 
-/// Returns a pending call completed by a response.
-fn completion(pending: &PendingCall, reply: Reply, last: usize) -> Call
-    ensures { result ≡ Rattle.calls_core.specs.Histories.completion last reply pending.now }
-{
-    Call {
-        worker: pending.worker,
-        object: pending.object,
-        op: pending.op,
-        reply,
-        first: pending.first,
-        last,
-    }
-}
-
 /// Adds one event: it makes a call pending, or completes it.
 fn note(calls: &mut Vec<Call>, pending: &mut Vec<PendingCall>, x: &Event) -> Result<(), AllocError>
     ensures calls { OnOk result (calls.new.items ≡ calls.old.items ++ ended_call x.now x.now.action
@@ -54,7 +40,7 @@ fn note(calls: &mut Vec<Call>, pending: &mut Vec<PendingCall>, x: &Event) -> Res
         }
         Action::Respond(reply) => {
             if let Some(o) = take_pending(pending, x.worker) {
-                calls.push(completion(&o, reply, x.at))?;
+                calls.push(o.complete(reply, x.at))?;
             }
         }
     }
@@ -68,7 +54,7 @@ fn add_puts(calls: &mut Vec<Call>, pending: &[PendingCall], end: usize) -> Resul
 {
     for o in pending {
         if is_put(o.op) {
-            calls.push(completion(o, Reply::Done, end))?;
+            calls.push(o.complete(Reply::Done, end))?;
         }
     }
     Ok(())

@@ -5,7 +5,7 @@ ghost use Rattle.calls_core.specs.declared.history.PendingCall.{PendingCall};
 ghost use Rattle.arrayvec.specs.ArrayVec.{array_vec_len};
 ghost use Rattle.calls_semaphores.specs.Monitors.{HasRoom, Judges, Grows, Starts};
 
-use crate::scan::{completion, invoked_by};
+use crate::scan::invoked_by;
 use crate::{Bank, Fault};
 use arrayvec::ArrayVec;
 use calls_core::{Action, Event, PendingCall, WORKERS};
@@ -58,7 +58,7 @@ impl Monitor {
                 let Some(k) = find(self.pending.as_slice(), event.worker) else {
                     return Ok(());
                 };
-                let call = completion(event.at, reply, self.pending.remove(k));
+                let call = self.pending.remove(k).complete(reply, event.at);
                 match self.bank.take(call.op, reply) {
                     None => Ok(()),
                     Some(index) => Err(Fault { call, index }),

@@ -3,7 +3,7 @@ ghost use Rattle.std.specs.Prelude.{◌≡◌, ◌-◌, ◌<◌, ◌≤◌, ◌=
 ghost use Rattle.std.specs.List.{position};
 ghost use Rattle.calls_core.specs.declared.history.Kind.TheVariants.{Semaphores};
 ghost use Rattle.calls_core.specs.declared.history.Action.TheVariants.{Invoke, Respond};
-ghost use Rattle.calls_core.specs.Histories.{IsHistoryOf, clock, completion, invoked_by};
+ghost use Rattle.calls_core.specs.Histories.{IsHistoryOf, clock, invoked_by};
 ghost use Rattle.calls_semaphores.specs.declared.scan.PendingUnits.{PendingUnits};
 ghost use Rattle.calls_semaphores.specs.Monitors.{UpTo, GrowsByOne};
 ghost use Rattle.calls_semaphores.specs.Keeping.{is_v, IsOpened, Steps};
@@ -54,20 +54,6 @@ pub(crate) fn invoked_by(event: Event, object: usize, op: Op) -> PendingCall
     }
 }
 
-/// Returns the call that a response ends.
-pub(crate) fn completion(last: usize, reply: Reply, pending: PendingCall) -> Call
-    ensures { result ≡ completion last reply pending }
-{
-    Call {
-        worker: pending.worker,
-        object: pending.object,
-        op: pending.op,
-        reply,
-        first: pending.first,
-        last,
-    }
-}
-
 /// Returns the index of the pending call of a worker.
 fn find(pending: &[PendingUnits], worker: usize) -> Option<usize>
     ensures { result ≡ position (λ (o : PendingUnits). o.call.worker == worker) pending.now }
@@ -104,7 +90,7 @@ impl Scan {
         if !is_v(op) {
             return Ok(());
         }
-        self.order.push(completion(self.end, Reply::Done, call))?;
+        self.order.push(call.complete(Reply::Done, self.end))?;
         Ok(())
     }
 
@@ -119,7 +105,7 @@ impl Scan {
             return Ok(None);
         };
         let open = self.pending.remove(k);
-        let call = completion(event.at, reply, open.call);
+        let call = open.call.complete(reply, event.at);
         if let Some(index) = self.bank.take(call.op, reply) {
             return Ok(Some(Fault { call, index }));
         }

@@ -5,7 +5,7 @@ ghost use Rattle.calls_core.specs.Histories.{completion, invoked_by};
 ghost use Rattle.calls_tickets.specs.Monitors.{Watches, HasRoom, Judges};
 ghost use Rattle.calls_tickets.specs.kept.Watching.{places, IsTaken};
 
-use crate::pending::{PendingTicket, are_paired, complete_call, hole_index, number, pending_index};
+use crate::pending::{PendingTicket, are_paired, hole_index, number, pending_index};
 use arrayvec::ArrayVec;
 use calls_core::{Action, Call, Event, PendingCall, Reply, WORKERS};
 
@@ -79,7 +79,7 @@ impl Monitor {
                     return Ok(());
                 };
                 let ticket = self.pending.remove(i);
-                let call = complete_call(ticket.call, reply, event.at);
+                let call = ticket.call.complete(reply, event.at);
                 if !self.take(number(reply), ticket.noted) {
                     return Err(Refused { call });
                 }

@@ -1,11 +1,11 @@
 //! Pending tickets, and searches among them and among the missing numbers.
 ghost use Rattle.std.specs.Prelude.{◌≡◌, None, MatchOption};
-ghost use Rattle.calls_core.specs.Histories.{completion, pending_of};
+ghost use Rattle.calls_core.specs.Histories.{pending_of};
 ghost use Rattle.calls_tickets.specs.Faults.{ticket_number};
 ghost use Rattle.calls_tickets.specs.kept.Watching.{calls_in, IsPendingAt, IsHoleAt, NoHole};
 ghost use Rattle.calls_tickets.specs.kept.Watching.{IsPaired};
 
-use calls_core::{Call, PendingCall, Reply};
+use calls_core::{PendingCall, Reply};
 
 /// A pending ticket.
 #[derive(Clone, Copy, Debug, Default, PartialEq, Eq)]
@@ -24,20 +24,6 @@ pub fn number(reply: Reply) -> usize
         Reply::Done => 0,
         Reply::Number(n) => n,
         Reply::Timeout => 0,
-    }
-}
-
-/// Completes a pending call with a reply at a position.
-pub fn complete_call(pending: PendingCall, reply: Reply, at: usize) -> Call
-    ensures { result ≡ completion at reply pending }
-{
-    Call {
-        worker: pending.worker,
-        object: pending.object,
-        op: pending.op,
-        reply,
-        first: pending.first,
-        last: at,
     }
 }
 

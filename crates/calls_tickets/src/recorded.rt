@@ -5,7 +5,7 @@ ghost use Rattle.calls_tickets.specs.kept.Tables.{AreTickets, IsDecided};
 ghost use Rattle.calls_tickets.specs.kept.Watching.{calls_in, places, IsTaken};
 ghost use Rattle.calls_tickets.specs.kept.Recording.{Records, TakesIn};
 
-use crate::pending::{PendingTicket, are_paired, complete_call, hole_index, number, pending_index};
+use crate::pending::{PendingTicket, are_paired, hole_index, number, pending_index};
 use crate::table::{Decision, Tickets};
 use calls_core::{Action, Call, Event, PendingCall, Reply};
 use std::alloc::{AllocError, Global};
@@ -67,7 +67,7 @@ impl RecordedTickets {
                     return Ok(true);
                 };
                 let ticket = self.pending.remove(i);
-                self.done.push(complete_call(ticket.call, reply, event.at))?;
+                self.done.push(ticket.call.complete(reply, event.at))?;
                 if !self.take(number(reply), ticket.noted)? {
                     return Ok(false);
                 }

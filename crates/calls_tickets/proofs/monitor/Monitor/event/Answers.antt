@@ -29,7 +29,7 @@ returns-then-not-take c = λ past history w.
     refusal past c.args.event c.in-Respond.reply s.top s.holes.items s.pending.items rest
     c.in-Some.i u c.in-Respond.is k c.remove-ticket.ensures.value c.remove-ticket.ensures.items
     history w
-    c.complete_call-call.result c.complete_call-call.ensures
+    c.complete-call.result c.complete-call.ensures
     (cannot past c.args.event c.in-Respond.reply s.top s.holes.items s.pending.items rest
     c.in-Some.i u c.in-Respond.is k c.remove-ticket.ensures.value c.remove-ticket.ensures.items
     history w
@@ -71,7 +71,7 @@ returns-else-are_paired c = λ past history w.
     refusal past c.args.event c.in-Respond.reply s.top s.holes.items s.pending.items rest
     c.in-Some.i u c.in-Respond.is k c.remove-ticket.ensures.value c.remove-ticket.ensures.items
     history w
-    c.complete_call-call.result c.complete_call-call.ensures
+    c.complete-call.result c.complete-call.ensures
     (lacks past c.args.event c.in-Respond.reply s.top s.holes.items s.pending.items rest c.in-Some.i
     u c.in-Respond.is k c.remove-ticket.ensures.value c.remove-ticket.ensures.items history w
     new.top new.holes.items (omega arith)

@@ -28,8 +28,8 @@ returns-then-not-branch c = λ past history r.
     let t = c.in_ok-take-in-Respond.ensures in
     faulty past c.args.event c.in-Respond.reply s new rest c.in-Some.i u c.in-Respond.is k
     c.remove-ticket.ensures.value c.remove-ticket.ensures.items history r
-    (done_more new.done.items _ s.done.items c.complete_call.result (completion c.args.event.at
-    c.in-Respond.reply u.call) t.done c.in_ok-push-in-Respond.ensures.items c.complete_call.ensures)
+    (done_more new.done.items _ s.done.items c.complete.result (completion c.args.event.at
+    c.in-Respond.reply u.call) t.done c.in_ok-push-in-Respond.ensures.items c.complete.ensures)
     t.pending
     (taken_is s.top new.top s.holes.items new.holes.items (length rest) u.noted c.number.result
     (ticket_number c.in-Respond.reply) c.in_ok-take-in-Respond.field-0 false c.number.ensures
@@ -46,8 +46,8 @@ returns-else-not-branch c = λ past history r.
     let t = c.in_ok-take-in-Respond.ensures in
     followed past c.args.event c.in-Respond.reply s new rest c.in-Some.i u c.in-Respond.is k
     c.remove-ticket.ensures.value c.remove-ticket.ensures.items history r
-    (done_more new.done.items _ s.done.items c.complete_call.result (completion c.args.event.at
-    c.in-Respond.reply u.call) t.done c.in_ok-push-in-Respond.ensures.items c.complete_call.ensures)
+    (done_more new.done.items _ s.done.items c.complete.result (completion c.args.event.at
+    c.in-Respond.reply u.call) t.done c.in_ok-push-in-Respond.ensures.items c.complete.ensures)
     t.pending
     c.are_paired.result (omega arith)
     (taken_is s.top new.top s.holes.items new.holes.items (length rest) u.noted c.number.result
