@@ -127,7 +127,7 @@ fn begin(task: &mut Task, last: u64, command: &Command)
 /// command is left, and `ValueTooLarge` if a value of the command is too large.
 pub(crate) fn begin_next(rest: &mut Remaining<'_>, last: u64, task: &mut Task) -> Outcome
     requires last { last ≤ VALUE_MAX }
-    ensures at { IsAt (task_rest task.new) rest.new (record { left = rest.old; last = last; returned = [] }) }
+    ensures at { IsAt (task_rest task.new) rest.new (record { left = rest.old; last = last; completed = [] }) }
     ensures outcome { result ≡ outcome_in rest.old last }
     ensures running { is_running result ≡ is_some (task_rest task.new []) }
     ensures fresh { task_going task.new ≡ false }
