@@ -15,6 +15,14 @@ take_no_words() {
     exit 2
 }
 
+# has_rt [TEXT]: whether the toolchain's command `rt` is on PATH. If not, says after the text how to get it.
+has_rt() {
+    command -v rt >/dev/null && return
+    say "$1the toolchain's command 'rt' is not on PATH." \
+        "Install the Rattle kit, line $kit, and put its folder bin on PATH."
+    return 1
+}
+
 # crates_of NAME: the crate and all crates of this repository that it depends on, a line each.
 crates_of() {
     awk -v top="$1" '
@@ -119,64 +127,156 @@ whole_library() {
     "$folder/toolchain/bin/llvm-ar" qcLD "$1" "$top/crates/evc_c/out/libevc_c.a" "$folder/c/liblibc_c.a"
 }
 
+# How long a first build takes. A command that sets it also says on a terminal that it took the release, and how far a
+# build is.
+minutes=
+
 # start NAME WORD..: runs the program of this name. If nothing that it is made from is newer than the program, it is
 # started at once. Otherwise it is taken from release/, if that is of these sources and this machine can run it.
-# Otherwise it is proved and built first, which needs the toolchain's command `rt`: standard error says so, and the log
-# is out/NAME.log. The arguments, the three standard streams and the exit status are the program's own, except for these:
+# Otherwise, or with EVC_BUILD=1, it is proved and built first, which needs the toolchain's command `rt`: standard error
+# says so, and the log is out/NAME.log. The arguments, the three standard streams and the exit status are the program's
+# own, except for these:
 # 127  the program has to be built, and `rt` is not on PATH
+# 130  the build was stopped by a signal
 # 70   the program was not proved or not built
 start() {
     started=$1
     shift
+    released=$top/out/$started
+    if [ -z "${EVC_BUILD:-}" ] && is_newest "$released" release; then
+        exec "$released" "$@"
+    fi
     crate=$(crate_released "$started")
     built=$top/crates/$crate/out/$crate
-    unpacked=$top/out/$started
-    log=$top/out/$started.log
+    log=$released.log
+    lock=$released.lock
     program=$built
-    if ! is_newest "$built" && { is_newest "$unpacked" || take_release "$started" "$unpacked"; }; then
-        program=$unpacked
-    elif ! is_newest "$built"; then
-        build_program "$started" "$crate" "$log"
+    if ! is_newest "$built"; then
+        if [ -z "${EVC_BUILD:-}" ] && take_release; then
+            program=$released
+        else
+            build
+            exec 9>&-
+        fi
     fi
     exec "$program" "$@"
 }
 
-# is_newest PROGRAM: whether the program exists, and nothing that it is made from is newer.
+# is_newest PROGRAM [FOLDER]: whether the program exists, and nothing in the folder and nothing that it is made from is
+# newer. A folder is newer if a file was moved into it or out of it. No quicker test is needed: this takes milliseconds.
 is_newest() {
     [ -x "$1" ] || return 1
     newer=$(
-        cd "$top" && find crates.txt crates \( -name out -o -name must-fail \) -prune -o \
-            \( -name crates.txt -o -name '*.rt' -o -name '*.antt' \) -type f -newer "$1" -print | head -n 1
+        cd "$top" && find crates.txt crates ${2:+"$2"} \
+            \( -name out -o -name must-fail \) -prune -o \
+            \( -type f \! -path 'crates/*' -o -name '*.rt' -o -name '*.antt' -o -type d -path 'crates/*/*' \) \
+            -newer "$1" -print 2>/dev/null | head -n 1
     )
     [ -z "$newer" ]
 }
 
-# take_release NAME FILE: unpacks the program of the release to the file, if it is of these sources and runs here.
-take_release() {
-    [ "$(uname -s -m)" = 'Linux x86_64' ] && is_release_of "$1" || return 1
-    if ! mkdir -p "$top/out" || ! (: >>"$2.$$"); then
+# begin: makes the folder for what is unpacked or built, and a file with the current date. The program gets that date, so
+# that a file which is edited in the meantime counts as newer.
+begin() {
+    if ! mkdir -p "$top/out" || ! (: >>"$lock"); then
         say "cannot write to $top/out"
         exit 70
     fi
-    unpack_release "$1" "$2.$$" && chmod +x "$2.$$" && "$2.$$" --help >/dev/null 2>&1 &&
-        mv -f "$2.$$" "$2" && return
-    rm -f "$2.$$"
+    touch "$lock"
+}
+
+# take_release: takes the program of the release, if it is that of these sources and this machine can run it.
+take_release() {
+    [ "$(uname -s -m)" = 'Linux x86_64' ] && is_release_of "$started" || return 1
+    begin
+    fresh=$released.$$
+    if unpack_release "$started" "$fresh" && chmod +x "$fresh" && "$fresh" --help >/dev/null 2>&1 &&
+        touch -r "$lock" "$fresh" && mv -f "$fresh" "$released"; then
+        [ ! -t 2 ] || remark "this is the program of release/, built from exactly these sources" \
+            "(EVC_BUILD=1 proves and builds it here)"
+        return 0
+    fi
+    rm -f "$fresh"
     say "the program of release/ is damaged, or this machine can't run it"
     return 1
 }
 
-# build_program NAME CRATE LOG: proves and builds the program.
-build_program() {
-    if ! command -v rt >/dev/null; then
-        say "the program has to be built, and the toolchain's command 'rt' is not on PATH." \
-            "Install the Rattle kit, line $kit, and put its folder bin on PATH."
-        exit 127
+# remark TEXT..: says what only a command says that has set `minutes`.
+remark() {
+    [ -z "$minutes" ] || say "$@"
+}
+
+# progress SECONDS: says how far the build is, by its log: the crates that are done, and their functions.
+progress() {
+    # (after the last crate comes a summary)
+    done_so_far=$(grep '^== [a-z]' "$log" | grep -vc '^== summary')
+    functions=$(grep -c '^fn .*: proved$' "$log")
+    say "$done_so_far of $(cd "$top" && crates_of "$crate" | wc -l) crates done, $functions functions proved," \
+        "$(($1 / 60)) min $(($1 % 60)) s gone"
+}
+
+# watch_build PROCESS: says how far the build is until the process ends: every few seconds on a terminal, otherwise every
+# minute.
+watch_build() {
+    pause=60
+    [ -t 2 ] && pause=5
+    began=$(date +%s)
+    last=$began
+    while kill -0 "$1" 2>/dev/null; do
+        sleep 1
+        now=$(date +%s)
+        if [ $((now - last)) -ge $pause ]; then
+            last=$now
+            progress $((now - began))
+        fi
+    done
+}
+
+# lanes: how many crates may be proved in parallel: one for each processor, if each has some 4 GB of free memory.
+lanes() {
+    processors=$(nproc 2>/dev/null || echo 2)
+    room=$(awk '/^MemAvailable/ { print int($2 / 4000000) }' /proc/meminfo 2>/dev/null)
+    [ "${room:-1}" -ge "$processors" ] || processors=${room:-1}
+    [ "$processors" -ge 1 ] || processors=1
+    echo "$processors"
+}
+
+# prove_and_link: proves all crates that the program depends on, in parallel as far as their order allows, and links it.
+# What is proved is kept, so a build that was stopped continues where it was.
+prove_and_link() {
+    trap 'kill "$step"; exit 1' TERM
+    cd "$top/crates/$crate" || exit 1
+    rt all check --jobs "$(lanes)" &
+    step=$!
+    wait "$step" || exit 1
+    rt run -- --help &
+    step=$!
+    wait "$step"
+}
+
+# build: proves and builds the program, one build at a time. (Without `flock`, rt itself lets a second run wait.)
+build() {
+    has_rt 'the program has to be built, and ' || exit 127
+    begin
+    exec 9>>"$lock"
+    if command -v flock >/dev/null && ! flock -n 9; then
+        remark 'waiting for the build that is under way'
+        flock 9
     fi
-    mkdir -p "$top/out" || exit 70
-    say "proving and building the program first; its log is $3"
-    if ! (cd "$top/crates/$2" && rt all check && rt run -- --help && touch "out/$2") </dev/null >"$3" 2>&1; then
-        tail -n 40 "$3" >&2
-        say "the program was not built; above is the end of $3"
-        exit 70
+    is_newest "$built" && return
+
+    say "proving and building the program first${minutes:+ ($minutes from nothing on 4 cores)}; its log is $log"
+    touch "$lock"
+    prove_and_link </dev/null >"$log" 2>&1 9>&- &
+    builder=$!
+    trap 'kill "$builder"; remark "stopped; the next call goes on from here"; exit 130' INT TERM HUP
+    [ -z "$minutes" ] || watch_build "$builder"
+    if wait "$builder" && touch -r "$lock" "$built"; then
+        trap - INT TERM HUP
+        return
     fi
+    tail -n 40 "$log" >&2
+    say "the program was not built (line $kit is needed, and this is '$(rt version 2>/dev/null)');" \
+        "above is the end of $log"
+    exit 70
 }

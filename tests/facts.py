@@ -10,7 +10,8 @@ import re
 import subprocess
 import sys
 
-TOP = os.path.dirname(os.path.dirname(os.path.realpath(__file__)))
+from trying.files import TOP, read
+
 sys.path.insert(0, os.path.join(TOP, "bench"))
 import page as figures
 
@@ -76,11 +77,6 @@ STATUSES = {
 }
 # The programs with completions, each with the crate of its help.
 COMPLETED = {"evc": "evc_cli", "evc-calls": "evc_calls_cli"}
-
-
-def read(*path):
-    with open(os.path.join(TOP, *path), encoding="utf-8") as text:
-        return text.read()
 
 
 def numbers_of(file, pattern):

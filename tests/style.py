@@ -6,7 +6,7 @@ Each check yields what is wrong. CONTRIBUTING.md has the rules."""
 import os
 import re
 
-TOP = os.path.dirname(os.path.dirname(os.path.realpath(__file__)))
+from trying.files import TOP, read
 
 # Words that pages don't use, and those that they use in their place.
 WORDS = {
@@ -87,11 +87,6 @@ SIZES = {
     "package/": 14,
 }
 ALL = 130
-
-
-def read(path):
-    with open(os.path.join(TOP, path), encoding="utf-8") as text:
-        return text.read()
 
 
 def files():

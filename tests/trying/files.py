@@ -1,9 +1,14 @@
-"""The files of the repository, as tests read them."""
+"""The files of the repository, as tests and commands read them."""
 
 from pathlib import Path
 
 TOP = Path(__file__).resolve().parent.parent.parent
 EXAMPLES = TOP / "examples"
+
+
+def read(*path):
+    """Returns the text of a file of the repository."""
+    return TOP.joinpath(*path).read_text(encoding="utf-8")
 
 
 def example(name):

@@ -3,7 +3,7 @@
 import os
 import re
 
-from trying.files import TOP
+from trying.files import examples
 
 ODD = [b"\t", b"\r", b" ", b"\n", *b"# = 0 9 a _".split(), b"\xef\xbb\xbf", b"\xc3\xb6", b"\x00", b"[", b"]", b"-"]
 WORDS = """advance await both buffer cells consume database done end eventcount get go hand last limit observe p pboth
@@ -13,13 +13,9 @@ WORDS = """advance await both buffer cells consume database done end eventcount 
 
 
 def good_texts():
-    found = []
-    for folder, _, names in sorted(os.walk(os.path.join(TOP, "examples"))):
-        for name in sorted(names):
-            if name.endswith((".trace", ".script", ".calls")):
-                with open(os.path.join(folder, name), "rb") as file:
-                    found.append(file.read())
-    return [it for it in found if len(it) < 5000]
+    """Returns the texts that are not long, folder by folder."""
+    found = [it for kind in ("trace", "script", "calls") for it in examples(f"**/*.{kind}")]
+    return [text for _, text in sorted(found, key=lambda it: os.path.split(it[0])) if len(text) < 5000]
 
 
 def changed_bytes(draw, text):
