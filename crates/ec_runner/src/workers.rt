@@ -72,7 +72,7 @@ fn join_worker<R: Threads>(
     ensures { IsJoinResult handle.entry result }
 {
     match handle {
-        Some(handle) => Some(handle.insert(rt)),
+        Some(handle) => Some(handle.join(rt)),
         None => None,
     }
 }
