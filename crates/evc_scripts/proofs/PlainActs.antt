@@ -152,7 +152,7 @@ left_of : (p : ProgramState) (calls : List CompletedCall) → AreOfOne p.left
     → AreOfOne (state_after p calls).left
 unfolding state_after
 left_of p [] have = have
-left_of p (c ∷ calls) have = left_of (after_call p c) calls (moved_left p.left p.last (p.returned ++ c ∷ []) have)
+left_of p (c ∷ calls) have = left_of (after_call p c) calls (moved_left p.left p.last (p.completed ++ c ∷ []) have)
 
 in_plain : (cs : List Command) (last : ℕ) (returned : List CompletedCall) (op : Act) → AreOfOne cs → next_in cs last returned ≡ Some op → can_spell One op ≡ true
 in_plain [] last returned op have is = cc
@@ -165,9 +165,9 @@ in_plain (c ∷ cs) last returned op have is =
 next_plain : (cs : List Command) (past : List Entry) (act : Act) → HasProgram One cs → next_act cs past ≡ Some act → can_spell One act ≡ true
 next_plain cs past act have is =
     let p = state_after (start cs) (completed_calls past) in
-    elim (is_some (opening past)) as (λ b. next_of b (next_in p.left p.last p.returned) ≡ Some act → can_spell One act ≡ true) [
+    elim (is_some (opening past)) as (λ b. next_of b (next_in p.left p.last p.completed) ≡ Some act → can_spell One act ≡ true) [
       | true ↦ λ h. plain_op acts.Go act h refl
-      | false ↦ λ h. in_plain p.left p.last p.returned act (left_of (start cs) (completed_calls past) have) h
+      | false ↦ λ h. in_plain p.left p.last p.completed act (left_of (start cs) (completed_calls past) have) h
     ] is
 
 run_plain : (cs : List Command) (past : List Entry) → HasProgram One cs → IsRunOf cs past → AllPlain past
