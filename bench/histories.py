@@ -10,7 +10,7 @@ WORKERS = "alice bob carol dave erin frank grace heidi".split()
 ALL = " ".join(WORKERS)
 OTHERS = " ".join(WORKERS[1:])
 
-# What a text declares, by the object of its calls. One writes to `C` and `D`: their puts don't overlap.
+# What a text declares, by the object of its calls. Only one worker writes to `C` and `D`: their puts don't overlap.
 DECLARED = {
     "E": f"eventcount E signal {ALL} observe {ALL}",
     "T": f"sequencer T take {ALL}",
@@ -20,7 +20,7 @@ DECLARED = {
     "D": f"database D 4 write {WORKERS[0]} read {OTHERS}",
 }
 
-# Headings have their declarations in this order, whatever the calls: eventcounts, sequencers, cells, groups.
+# The objects of each kind of history. A header declares them in the order of DECLARED.
 KINDS = {
     "eventcount": "E",
     "sequencer": "T",
@@ -39,7 +39,7 @@ ROOM = 1000
 
 
 class Objects:
-    """The objects, and how a call acts on them: it returns its reply, or None where it has to wait."""
+    """The objects, and the effect of a call on them: it returns its reply, or None if it has to wait."""
 
     def __init__(self):
         self.count = self.tickets = self.puts = self.value = self.cell = 0
@@ -91,7 +91,7 @@ class Objects:
         return self.numbers
 
     def new_call(self, draw, worker, kind):
-        """The text of a new call, and its act. (A p is called only while there are units.)"""
+        """Returns the text of a new call, and its act. (A P is called only while there are units.)"""
         chance = draw()
         writes = worker == WORKERS[0]
         if kind == "E":
@@ -121,13 +121,13 @@ class Objects:
         return "snapshot D", self.snapshot
 
 
-def heading(kinds):
+def header(kinds):
     lines = [DECLARED[kind] for kind in DECLARED if kind in kinds]
     return "\n".join(["evc-calls 1", "limit 1000000000", f"workers {ALL}", *lines, "run"]) + "\n"
 
 
 def events(kinds, draw, calls, size):
-    """The lines of so many calls, fewer if they have more bytes than this."""
+    """Yields the lines of so many calls, or fewer if they have more than `size` bytes."""
     objects, pending, left = Objects(), {}, calls
     while left or pending:
         worker = WORKERS[int(draw() * 8)]
@@ -142,7 +142,7 @@ def events(kinds, draw, calls, size):
         act, reply = pending[worker]
         reply = reply or act()
         if reply is None:
-            # (a p waits for the v of a call to come or of one that is pending, and else gives up)
+            # (a P waits for a V that is pending or may still be called, and otherwise times out)
             if (left and len(pending) < len(WORKERS)) or any(it[0] != objects.p for it in pending.values()):
                 continue
             reply = "timeout"
@@ -152,10 +152,10 @@ def events(kinds, draw, calls, size):
 
 
 def write_history(path, kind, calls=10**9, size=10**9):
-    """Writes a history of so many calls, or of about so many bytes and no more."""
+    """Writes a history of so many calls, or of about `size` bytes and no more."""
     draw = random.Random(1).random
     with open(path, "w", encoding="ascii", newline="\n") as file:
-        room = size - file.write(heading(KINDS[kind])) - ROOM
+        room = size - file.write(header(KINDS[kind])) - ROOM
         file.writelines(events(KINDS[kind], draw, calls, room))
         file.write("end\n")
 
@@ -165,6 +165,6 @@ def write_tiny(path, histories):
     draw = random.Random(1).random
     with open(path, "w", encoding="ascii", newline="\n") as file:
         for _ in range(histories):
-            file.write(heading(KINDS["mixed"]))
+            file.write(header(KINDS["mixed"]))
             file.writelines(events(KINDS["mixed"], draw, TINY, 10**9))
             file.write("end\n")

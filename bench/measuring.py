@@ -1,7 +1,7 @@
 """What the parts of bench/run share: it builds programs, measures them in turn, and prints tables.
 
-What is measured is a `Target`, with the name that docs/PERFORMANCE.md has for it and its bound. A `Figure` is one of its
-measures, on one row of a table.
+A `Target` is what is measured, with its name in docs/PERFORMANCE.md and its bound. A `Figure` is one of its measures, in
+one row of a table.
 """
 
 import os
@@ -17,7 +17,7 @@ TIMES = 8
 
 
 class Target(typing.NamedTuple):
-    """What is measured, and how far it may go: at most to its bound, or at least; without one it may be what it is."""
+    """What is measured, and its bound: a greatest number, a least one (`least`), or none."""
 
     name: str
     bound: float | None = None
@@ -25,7 +25,7 @@ class Target(typing.NamedTuple):
     digits: int = 2
 
     def named(self):
-        """The name, with the bound in brackets."""
+        """Returns the name, with the bound in brackets."""
         return self.name if self.bound is None else f"{self.name} ({self.bound:g})"
 
     def is_met(self, number):
@@ -33,7 +33,7 @@ class Target(typing.NamedTuple):
 
 
 class Figure(typing.NamedTuple):
-    """A measure of a target, on a row of a table."""
+    """A measure of a target, in a row of a table."""
 
     target: Target
     row: str
@@ -43,14 +43,14 @@ class Figure(typing.NamedTuple):
         return f"{self.number:.{self.target.digits}f}"
 
     def line(self):
-        """The row of the last table: the figure beside its target."""
+        """Returns the row of the last table: the figure and its target."""
         target = self.target
         bound = f"at {'least' if target.least else 'most'} {target.bound:g}"
         met = "ok" if target.is_met(self.number) else "over"
         return [f"{target.name}, {self.row}".replace("`", ""), self.text(), bound, met]
 
 
-# The program that starts those that are measured (started.rs), where there is a rustc.
+# The program that starts those that are measured (started.rs), if there is a rustc.
 starter = None
 
 
@@ -63,7 +63,7 @@ def say(text):
 
 
 def machine():
-    """On what it is measured: the cores, and their clock as the system has it."""
+    """Returns what the machine is: the cores, and their clock as the system reports it."""
     with open("/proc/cpuinfo", encoding="utf-8") as text:
         clocks = [float(it.split(":")[1]) for it in text if it.startswith("cpu MHz")]
     return f"{os.cpu_count()} cores at {max(clocks, default=0):.0f} MHz."
@@ -73,7 +73,7 @@ def machine():
 
 
 def build_evc():
-    """Builds `evc` of these sources, where that is not done yet."""
+    """Builds `evc` of these sources, if that is not done yet, and returns its path."""
     words, ours = [os.path.join(TOP, "bin/evc"), "--help"], {**os.environ, "EVC_BUILD": "1"}
     if subprocess.run(words, stdout=subprocess.DEVNULL, env=ours).returncode != 0:
         fail("evc was not built")
@@ -81,7 +81,7 @@ def build_evc():
 
 
 def build_evc_calls():
-    """Gives `evc-calls` of these sources: the released one, if it is of them, else it is proved and built."""
+    """Returns `evc-calls` of these sources: the released one if it is of them, otherwise it is proved and built."""
     if subprocess.run([os.path.join(TOP, "bin/evc-calls"), "--help"], stdout=subprocess.DEVNULL).returncode != 0:
         fail("evc-calls was not built")
     paths = [os.path.join(TOP, it) for it in ("crates/evc_calls/out/evc_calls", "out/evc-calls")]
@@ -89,7 +89,7 @@ def build_evc_calls():
 
 
 def build(crate):
-    """Proves and builds a program crate, which `rt run` does before it runs the program; gives None where there is no such crate."""
+    """Proves and builds a program crate, as `rt run` does before it runs it. Returns None if there is no such crate."""
     folder = os.path.join(TOP, "crates", crate)
     if not os.path.isdir(os.path.join(folder, "src")):
         return None
@@ -106,7 +106,7 @@ def build(crate):
 
 
 def build_rust(folder, name, *more):
-    """Compiles a baseline in plain Rust; gives None where there is no rustc."""
+    """Compiles a baseline in plain Rust. Returns None if there is no rustc."""
     if shutil.which("rustc") is None:
         return None
     program = os.path.join(folder, name)
@@ -126,7 +126,7 @@ def build_starter(folder):
 
 
 def measure(words, source=os.devnull, target=os.devnull):
-    """Runs a program once; gives the seconds of processor time, in user code and in the system, and the peak memory."""
+    """Runs a program once. Returns the seconds of CPU time, in user code and in the system, and the peak memory."""
     streams = [
         (os.POSIX_SPAWN_OPEN, 0, source, os.O_RDONLY, 0),
         (os.POSIX_SPAWN_OPEN, 1, target, os.O_WRONLY | os.O_CREAT | os.O_TRUNC, 0o600),
@@ -141,8 +141,8 @@ def measure(words, source=os.devnull, target=os.devnull):
 
 
 def figures_of(words, source):
-    """As `measure`, but the program is started by a small one: a process counts what it was started from, and the bench
-    takes more memory than what it measures."""
+    """Does the same as `measure`, but a small program starts the one that is measured: a process counts the memory of
+    what it was started from, and the bench takes more memory than what it measures."""
     if not starter:
         return measure(words, source)
     with open(source, "rb") as text:
@@ -154,7 +154,7 @@ def figures_of(words, source):
 
 
 def best_of(programs, source=os.devnull):
-    """Runs each program on a file, all of them in turn and that several times; gives the least of each measure."""
+    """Runs each program on a file, all of them in turn, TIMES times. Returns the least of each measure."""
     rounds = [[figures_of(words, source) for words in programs] for _ in range(TIMES)]
     return [(min(seconds), min(peaks)) for seconds, peaks in (zip(*runs) for runs in zip(*rounds))]
 
@@ -163,7 +163,7 @@ def best_of(programs, source=os.devnull):
 
 
 def table(title, head, rows):
-    """Prints a table of texts: the first column to the left, the others to the right."""
+    """Prints a table of texts: the first column aligned to the left, the others to the right."""
     lines = [head, *rows]
     widths = [max(map(len, column)) for column in zip(*lines)]
     print(f"\n{title}\n")
@@ -171,8 +171,8 @@ def table(title, head, rows):
         print("  ".join([first.ljust(widths[0]), *map(str.rjust, rest, widths[1:])]))
 
 
-def wanted(figures):
-    """Prints the figures that have a bound, each beside it."""
+def print_targets(figures):
+    """Prints the figures that have a bound, each with its bound."""
     table("Targets", ["figure", "is", "target", ""], [it.line() for it in figures if it.target.bound is not None])
 
 

@@ -1,6 +1,6 @@
 """The tables of bench/run on histories of calls: `decide` and `Monitor`, `evc-calls check` and `evc-calls watch`.
 
-Each function measures a table, prints it, and gives its figures.
+Each function measures a table, prints it, and returns its figures.
 """
 
 import filecmp
@@ -24,19 +24,19 @@ PENDING = 8
 MODES = {"decide": ("decide", tuple(CALLS)), "monitor": ("Monitor", ("counts", "tickets", "units"))}
 
 JUDGED = {mode: Target(f"`{name}`: million events/s", digits=1) for mode, (name, _) in MODES.items()}
-JUDGED_BESIDE = {mode: Target(f"`{name}` / baseline", digits=1) for mode, (name, _) in MODES.items()}
+JUDGED_RATIO = {mode: Target(f"`{name}` / baseline", digits=1) for mode, (name, _) in MODES.items()}
 JUDGED_GROWTH = {mode: Target(f"`{name}`: time / that of a tenth", 11, digits=1) for mode, (name, _) in MODES.items()}
 JUDGED_MEMORY = {"decide": Target("`decide`: MiB", digits=0), "monitor": Target("`Monitor`: MiB", digits=1)}
 
 # Histories of calls as text: how many calls of each kind, and how many tiny histories.
 TEXT_CALLS = 1_000_000
 TINY_HISTORIES = 20_000
-# The kinds that `evc-calls watch` judges, and how many MB it gets through a pipe.
+# The kinds that `evc-calls watch` judges, and how many MB it is given through a pipe.
 WATCHED_KINDS = ("eventcount", "sequencer", "semaphore")
 PIPED = 1000
 PIPE = f"{PIPED} MB by a pipe"
 
-TEXT_BESIDE = Target("`evc-calls check` / baseline", 1.5)
+TEXT_RATIO = Target("`evc-calls check` / baseline", 1.5)
 TEXT_SPEED = Target("`evc-calls check`: MB/s", 100, least=True, digits=0)
 TEXT_MEMORY = Target("`evc-calls check`: memory without text / text", 0.5, digits=1)
 TEXT_GROWTH = Target(f"`evc-calls check`: {SIZES[-1]} MiB / {SIZES[0]} MiB", 8.5, digits=1)
@@ -50,12 +50,12 @@ TEXTS = [*histories.KINDS, TINY, *MIXED.values()]
 
 
 def judging_times(programs, mode, sort, count):
-    """Gives what each program takes to judge a history of so many calls, without what making it takes, and the memory that
-    the first one holds for that."""
+    """Returns the time that each program takes to judge a history of so many calls, without the time for making it, and
+    the memory that the first program needs for that."""
     words = [[program, it, sort, str(count)] for program in programs for it in (mode, "make")]
     answers = [int(subprocess.check_output(it)) for it in words]
     judged, made = answers[::2], answers[1::2]
-    # (which pending puts are in an order is open, so the orders may differ in these)
+    # (an order may or may not have a pending put, so the orders may differ in these)
     if max(judged) - min(judged) > PENDING or len(set(made)) != 1:
         fail(f"{mode} of {count} {sort} comes to {answers}")
     figures = best_of(words)
@@ -64,19 +64,19 @@ def judging_times(programs, mode, sort, count):
 
 
 def measure_judging(calls, rust):
-    """Measures the judging of histories beside the same scans in plain Rust."""
+    """Measures the judging of histories, compared with the same scans in plain Rust."""
     rows, figures = [], []
     programs = [program for program in (calls, rust) if program]
     small, count = CALL_COUNTS
     for mode, sort in [(mode, it) for mode, (_, sorts) in MODES.items() for it in sorts]:
         (tenth, *_), _ = judging_times(programs, mode, sort, small)
-        (seconds, *beside), held = judging_times(programs, mode, sort, count)
+        (seconds, *others), held = judging_times(programs, mode, sort, count)
         kind = CALLS[sort]
         found = [Figure(JUDGED[mode], kind, 2 * count / seconds / 1e6)]
-        found += [Figure(JUDGED_BESIDE[mode], kind, seconds / it) for it in beside]
+        found += [Figure(JUDGED_RATIO[mode], kind, seconds / it) for it in others]
         found += [Figure(JUDGED_GROWTH[mode], kind, seconds / tenth), Figure(JUDGED_MEMORY[mode], kind, held / MIB)]
         speed, *by_rust, growth, memory = (it.text() for it in found)
-        rows.append([f"{mode}, {kind}", *millis(seconds), *(millis(*beside) or "-"), *(by_rust or "-"), speed, growth, memory])
+        rows.append([f"{mode}, {kind}", *millis(seconds), *(millis(*others) or "-"), *(by_rust or "-"), speed, growth, memory])
         figures += found
     head = ["judging", "ms", "Rust ms", "by Rust", "million events/s", "by a tenth", "MiB in addition to the events"]
     table(f"Histories of {count} calls", head, rows)
@@ -84,7 +84,7 @@ def measure_judging(calls, rust):
 
 
 def history_texts(folder):
-    """Makes the histories, one after another, and gives the name and the path of each."""
+    """Makes the histories, one after another, and yields the name and the path of each."""
     path = os.path.join(folder, "history.calls")
     for name in TEXTS:
         say(f"making the history '{name}'")
@@ -98,7 +98,7 @@ def history_texts(folder):
 
 
 def measure_check(check, rust, folder):
-    """Measures `evc-calls check` beside plain Rust that reads, decides and writes the same."""
+    """Measures `evc-calls check`, compared with plain Rust that reads, decides and writes the same."""
     rows, figures, taken = [], [], {}
     for name, path in history_texts(folder):
         programs = [[check, "check"], *([[rust]] if rust else [])]
@@ -108,13 +108,13 @@ def measure_check(check, rust, folder):
         if not filecmp.cmp(outs[0], outs[-1], shallow=False):
             fail(f"evc-calls check writes of '{name}' not what plain Rust writes")
         text = os.path.getsize(path)
-        (seconds, peak), *beside = best_of(programs, path)
+        (seconds, peak), *baselines = best_of(programs, path)
         taken[name] = seconds
-        found = [Figure(TEXT_BESIDE, name, seconds / it) for it, _ in beside]
+        found = [Figure(TEXT_RATIO, name, seconds / it) for it, _ in baselines]
         found += [Figure(TEXT_SPEED, name, text / 1e6 / seconds), Figure(TEXT_MEMORY, name, peak / text - 1)]
         *by_rust, speed, memory = (it.text() for it in found)
-        plain = [*millis(*(it for it, _ in beside))] or "-"
-        held = [f"{it / text - 1:.1f}" for _, it in beside] or "-"
+        plain = [*millis(*(it for it, _ in baselines))] or "-"
+        held = [f"{it / text - 1:.1f}" for _, it in baselines] or "-"
         rows.append([name, f"{text / 1e6:.1f}", *millis(seconds), *plain, *(by_rust or "-"), speed, memory, *held])
         figures += found
     head = ["history", "MB", "ms", "Rust ms", "by Rust", "MB/s", "memory by text", "Rust's by text"]

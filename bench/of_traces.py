@@ -1,6 +1,6 @@
-"""The tables of bench/run on traces: `evc check`, `audit` and `upgrade`, and `read_trace` and `write_trace` alone.
+"""The tables of bench/run on traces: `evc check`, `audit` and `upgrade`, and `read_trace` and `write_trace`.
 
-Each function measures a table, prints it, and gives its figures.
+Each function measures a table, prints it, and returns its figures.
 """
 
 import filecmp
@@ -12,16 +12,16 @@ from measuring import MIB, SIZES, Figure, Target, best_of, fail, measure, millis
 # How many entries each trace of semaphores has.
 ENTRIES = 400_000
 
-# Of each of the two commands: its time over that of plain Rust (texts.rs), that on the longest trace over that on the
-# shortest, what it reads, and what it holds.
-BESIDE = {it: Target(f"`{it}` / baseline", 1.5) for it in ("check", "audit")}
-GROWTH = {it: Target(f"`{it}`: {SIZES[-1]} MiB / {SIZES[0]} MiB", 8.2, digits=1) for it in BESIDE}
+# For each of the two commands: its time divided by that of plain Rust (texts.rs), its time on the longest trace divided
+# by that on the shortest, its speed, and its memory.
+RATIO = {it: Target(f"`{it}` / baseline", 1.5) for it in ("check", "audit")}
+GROWTH = {it: Target(f"`{it}`: {SIZES[-1]} MiB / {SIZES[0]} MiB", 8.2, digits=1) for it in RATIO}
 SPEED = {it: Target(f"`{it}`: MB/s", bound, least=True, digits=0) for it, bound in (("check", 200), ("audit", 150))}
 MEMORY = {"check": Target("`check`: memory / input", 10), "audit": Target("`audit`: MiB", 8, digits=1)}
 
 UPGRADE_SPEED = Target("`upgrade`: MB/s", 150, least=True, digits=0)
 UPGRADE_MEMORY = Target("`upgrade`: memory / that of `check`", 1)
-# How much longer `audit` takes over the most semaphores than over one.
+# How much longer `audit` takes with the most semaphores than with one.
 GROUPS = Target("`audit`: 32 semaphores / 1", 1.3)
 ALONE = {it: Target(f"`{it}_trace`: MB/s", 200, least=True, digits=0) for it in ("read", "write")}
 
@@ -31,27 +31,27 @@ UPGRADED = ("ordinary", "interleaved reads")
 
 
 def make_trace(folder, kind, size):
-    """Makes a trace, and gives its path and the kernel at its end."""
+    """Makes a trace, and returns its path and the kernel at its end."""
     say(f"making the trace '{kind}' of {size} MiB")
     path = os.path.join(folder, f"{kind.replace(' ', '-')}-{size}.trace")
     return path, traces.write_trace(path, kind, size * MIB)
 
 
 def compare_checked(evc, path, kernel):
-    """Sees to it that `check` writes a line for each finished call, and the right totals at the end."""
+    """Checks that `check` writes a line for each completed call, and the right totals at the end."""
     out = path + ".out"
     measure([evc, "check"], path, out)
     totals = kernel.totals().encode()
     with open(out, "rb") as file:
         calls = sum(1 for _ in file) - 1 - totals.count(b"\n")
         file.seek(-len(totals), os.SEEK_END)
-        if calls != kernel.finished or file.read() != totals:
+        if calls != kernel.completed or file.read() != totals:
             fail(f"check does not write of {path} what it has to")
     os.remove(out)
 
 
 def compare_audited(evc, path, kernel):
-    """Sees to it that `audit` writes just the lines that the simulator gives."""
+    """Checks that `audit` writes exactly the lines of the simulator."""
     out = path + ".out"
     measure([evc, "audit"], path, out)
     right = "".join(line + "\n" for line in ["evc-audit 1", *kernel.audits(), "end"])
@@ -61,8 +61,8 @@ def compare_audited(evc, path, kernel):
     os.remove(out)
 
 
-def compare_beside(evc, baseline, command, path):
-    """Sees to it that both programs write the same."""
+def compare_with_baseline(evc, baseline, command, path):
+    """Checks that both programs write the same."""
     outs = [path + ".evc", path + ".rust"]
     for program, out in zip((evc, baseline), outs):
         measure([program, command], path, out)
@@ -73,12 +73,13 @@ def compare_beside(evc, baseline, command, path):
 
 
 def trace_row(evc, baseline, command, path):
-    """Measures a command on a trace, beside `cat`, `wc -l` and plain Rust; gives the cells, and what they are of."""
+    """Measures a command on a trace, compared with `cat`, `wc -l` and plain Rust. Returns the cells of the row, and the
+    seconds, those of plain Rust, the speed and the memory."""
     text = os.path.getsize(path)
     programs = [["cat"], ["wc", "-l"], [evc, command], *([[baseline, command]] if baseline else [])]
-    (cat, _), (wc, _), (seconds, peak), *beside = best_of(programs, path)
-    rust, rust_peak = beside[0] if beside else (None, None)
-    plain = [*millis(rust), f"{seconds / rust:.2f}", f"{rust_peak / MIB:.1f}"] if beside else ["-"] * 3
+    (cat, _), (wc, _), (seconds, peak), *baselines = best_of(programs, path)
+    rust, rust_peak = baselines[0] if baselines else (None, None)
+    plain = [*millis(rust), f"{seconds / rust:.2f}", f"{rust_peak / MIB:.1f}"] if baselines else ["-"] * 3
     ratios = [f"{seconds / cat:.1f}", f"{seconds / wc:.1f}", plain[1]]
     memory = [f"{peak / MIB:.1f}", plain[2], f"{peak / text:.2f}"]
     cells = [*millis(cat, wc, seconds), plain[0], *ratios, f"{text / 1e6 / seconds:.0f}", *memory]
@@ -86,11 +87,11 @@ def trace_row(evc, baseline, command, path):
 
 
 def trace_figures(command, kind, took):
-    """Gives the figures of a kind of traces, by what its sizes took."""
+    """Returns the figures of a kind of traces, from the measures of each size."""
     found = []
     for size, (seconds, rust, speed, memory) in took.items():
         row = kind if size == SIZES[-1] else f"{kind} ({size} MiB)"
-        found += [Figure(BESIDE[command], row, seconds / rust)] if rust else []
+        found += [Figure(RATIO[command], row, seconds / rust)] if rust else []
         found.append(Figure(MEMORY[command], row, memory))
     found.append(Figure(SPEED[command], kind, speed))
     return [*found, Figure(GROWTH[command], kind, seconds / took[SIZES[0]][0])]
@@ -102,8 +103,8 @@ def make_traces(folder):
 
 
 def measure_commands(evc, baseline, folder, inputs):
-    """Measures `check` and `audit` on all kinds of traces. Their output is compared with the simulator's, if that knows it,
-    and with plain Rust's."""
+    """Measures `check` and `audit` on all kinds of traces. Compares their output with the simulator's, if that has it, and
+    with plain Rust's."""
     rows, figures = {"check": [], "audit": []}, []
     for kind in KINDS:
         took = {"check": {}, "audit": {}}
@@ -115,7 +116,7 @@ def measure_commands(evc, baseline, folder, inputs):
                 compare_audited(evc, path, kernel)
             for command in rows:
                 if baseline:
-                    compare_beside(evc, baseline, command, path)
+                    compare_with_baseline(evc, baseline, command, path)
                 cells, *took[command][size] = trace_row(evc, baseline, command, path)
                 rows[command].append([kind, str(size), *cells])
             if (kind, size) not in inputs:
@@ -129,7 +130,7 @@ def measure_commands(evc, baseline, folder, inputs):
 
 
 def compare_upgraded(evc, path):
-    """Sees to it that `upgrade` writes the same lines, the first of them that of version 2."""
+    """Checks that `upgrade` writes the same lines, except that the first is that of version 2."""
     out = path + ".out"
     measure([evc, "upgrade"], path, out)
     with open(path, "rb") as old, open(out, "rb") as new:
@@ -142,7 +143,7 @@ def compare_upgraded(evc, path):
 
 
 def measure_upgrade(evc, inputs):
-    """Measures `upgrade` beside `check` on long traces of version 1."""
+    """Measures `upgrade`, compared with `check`, on long traces of version 1."""
     rows, figures = [], []
     for kind in UPGRADED:
         path, _ = inputs[kind, SIZES[-1]]
@@ -159,7 +160,7 @@ def measure_upgrade(evc, inputs):
 
 
 def measure_groups(evc, folder):
-    """Measures `audit` beside `check` on traces of the same number of entries with more and more semaphores."""
+    """Measures `audit`, compared with `check`, on traces with the same number of entries and more and more semaphores."""
     rows, times = [], {}
     for kind in traces.SEMAPHORES:
         path = os.path.join(folder, kind.replace(" ", "-") + ".trace")
@@ -174,7 +175,7 @@ def measure_groups(evc, folder):
 
 
 def measure_texts(texts, inputs):
-    """Measures `read_trace` and `write_trace` alone on long traces."""
+    """Measures `read_trace` and `write_trace` by themselves on long traces."""
     rows, figures = [], []
     for kind in traces.KINDS:
         path, _ = inputs[kind, SIZES[-1]]

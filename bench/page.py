@@ -1,8 +1,8 @@
 """What bench/run writes into docs/PERFORMANCE.md between its two marks: tables and lines, with figures that miss their
 targets in bold.
 
-`written` gives the page with the figures of a run. `faults` says without a measure where a page has another form than a run
-gives it, or where what is bold doesn't fit the targets; tests/pages asks it.
+`written` returns the page with the figures of a run. `faults` says, without measuring, where a page has another form than
+a run gives it, or where what is bold doesn't fit the targets; tests/pages calls it.
 """
 
 import re
@@ -14,15 +14,15 @@ from measuring import SIZES
 
 MARK = "<!-- bench/run -->\n"
 MACHINE = r"\d+ cores at \d+ MHz\."
-# What stands in place of a figure in the form that a run gives the page, and what a page has there (`-` is not measured yet).
+# What replaces a figure in the form that a run gives the page, and what a page may have there (`-` is not measured yet).
 OPEN = "\0"
 FIGURE = r"(-|(?:\*\*)?\d+(?:\.\d+)?(?:\*\*)?)"
 
 # The columns of the tables. Those of the second are in groups, each with its rows: a row has the groups up to its last.
-COMMANDS = [of_traces.BESIDE["check"], of_traces.BESIDE["audit"], of_traces.MEMORY["check"]]
-CHECKED = [of_calls.TEXT_BESIDE, of_calls.TEXT_SPEED, of_calls.TEXT_MEMORY]
-DECIDED = [it["decide"] for it in (of_calls.JUDGED, of_calls.JUDGED_BESIDE, of_calls.JUDGED_MEMORY)]
-MONITORED = [it["monitor"] for it in (of_calls.JUDGED, of_calls.JUDGED_BESIDE)]
+COMMANDS = [of_traces.RATIO["check"], of_traces.RATIO["audit"], of_traces.MEMORY["check"]]
+CHECKED = [of_calls.TEXT_RATIO, of_calls.TEXT_SPEED, of_calls.TEXT_MEMORY]
+DECIDED = [it["decide"] for it in (of_calls.JUDGED, of_calls.JUDGED_RATIO, of_calls.JUDGED_MEMORY)]
+MONITORED = [it["monitor"] for it in (of_calls.JUDGED, of_calls.JUDGED_RATIO)]
 WATCHED = [of_calls.WATCH_SPEED, of_calls.WATCH_MEMORY]
 GROUPS = {
     tuple(CHECKED): of_calls.TEXTS,
@@ -32,7 +32,7 @@ GROUPS = {
 
 
 def heads(targets):
-    """Gives the names of columns, with their bounds. What is measured of one command names it once."""
+    """Returns the names of columns, with their bounds. Columns of one command name it once."""
     found, last = [], "``"
     for it in targets:
         found.append(it.named().removeprefix(f"{last}: ").removeprefix(f"{last} "))
@@ -41,14 +41,14 @@ def heads(targets):
 
 
 def tables():
-    """Gives the tables: the names of the columns, and for each row its name and the targets of its figures."""
+    """Yields the tables: the names of the columns, and for each row its name and the targets of its figures."""
     yield [f"{SIZES[-1]} MiB of a trace", *heads(COMMANDS)], {kind: COMMANDS for kind in of_traces.KINDS}
     rows = {kind: [it for of in GROUPS if kind in GROUPS[of] for it in of] for kind in of_calls.TEXTS}
     yield ["A million calls", *heads(it for of in GROUPS for it in of)], rows
 
 
 def summary(text_of):
-    """Gives the lines under the tables, which have the worst of all rows if they name none. `text_of` is as in `lines`."""
+    """Yields the lines under the tables, which have the worst of all rows if they name none. `text_of` is as in `lines`."""
 
     def worst(target, unit="", row=None):
         return f"{text_of(target, row)}{unit} ({target.bound:g})"
@@ -70,15 +70,15 @@ def summary(text_of):
     ratios = "; ".join(f"{it}: {text_of(of_scripts.THREADED, it)}" for it in of_scripts.ROWS)
     yield f"{of_scripts.THREADED.named()}: {ratios}."
     world, run = (
-        f"{worst(of_scripts.STEP[it], ' ns')}, {text_of(of_scripts.STEP_BESIDE[it], None)}" for it in of_scripts.STEP
+        f"{worst(of_scripts.STEP[it], ' ns')}, {text_of(of_scripts.STEP_RATIO[it], None)}" for it in of_scripts.STEP
     )
     sim = text_of(of_scripts.SIM, None)
     yield f"A step of a `World` takes {world} of the baseline; of a `Run` {run}; of `sim` {sim} µs."
 
 
 def lines(text_of):
-    """Gives the lines between the marks, without the one on the machine. `text_of` gives the text of a figure by its target
-    and its row; of the worst, if the row is None."""
+    """Yields the lines between the marks, without the one on the machine. `text_of` returns the text of a figure by its
+    target and its row, or that of the worst if the row is None."""
     for head, rows in tables():
         yield from [f"|{'|'.join(head)}|", "|-" * len(head) + "|"]
         yield from (f"|{'|'.join([row, *(text_of(it, row) for it in targets)])}|" for row, targets in rows.items())
@@ -87,7 +87,7 @@ def lines(text_of):
 
 
 def written(page, machine, figures):
-    """Gives a page with the figures of a run between its marks, or None if it doesn't have two of them."""
+    """Returns a page with the figures of a run between its marks, or None if it doesn't have two of them."""
     parts = page.split(MARK)
     if len(parts) != 3:
         return None
@@ -102,16 +102,16 @@ def written(page, machine, figures):
 
 
 def is_right(target, text):
-    """Whether a figure of a page is bold if it misses its target, and only then."""
+    """Returns whether a figure of a page is bold exactly if it misses its target."""
     number = text.strip("*")
     if number == "-":
         return text == number
-    # (what is over may be printed as the bound)
+    # (a figure that misses its bound may be rounded to it)
     return float(number) == target.bound or text == (number if target.is_met(float(number)) else f"**{number}**")
 
 
 def faults(page):
-    """Yields what a page has between its marks otherwise than a run writes it."""
+    """Yields where what a page has between its marks differs from what a run writes."""
     parts = page.split(MARK)
     if len(parts) != 3:
         yield f"it has {len(parts) - 1} marks, and not 2"

@@ -1,17 +1,17 @@
-/* recorder.c: what it costs to record a call: of an atomic counter, beside the bare call.
+/* recorder.c: what it costs to record a call of an atomic counter, compared with the bare call.
  *
  *     cc -std=c11 -O2 -pthread -I recorder bench/recorder.c -o recorder-bench
  *     recorder-bench
  *
- * Each row is a way to record, each pair of columns a loop: the call alone, and the call with 200
- * ns of other work. A figure is nanoseconds of a processor's time for each call, the least of 31
- * turns in which all rows take part, and how many times the bare call that is.
+ * Each row is a way to record, each pair of columns a loop: only the call, and the call with 200 ns
+ * of other work. A figure is the CPU time for each call in nanoseconds, the least of 31 turns in
+ * which all rows take part, and how many times that of the bare call it is.
  *
  * Then the same for 1, 2, 4 and 8 threads that begin at once: first each with a counter of its own,
- * so that they share the recorder's clock alone, and then all with one. It is the time of all
- * threads together, by their calls, the median of 9 turns: a thread that waits for a cache line
- * costs, and one that waits for a processor doesn't. So it says little of a machine whose
- * processors are busy: there the threads hardly run at once. */
+ * so that they share only the recorder's clock, and then all with one. A figure is the CPU time of
+ * all threads together, divided by their calls, the median of 9 turns: waiting for a cache line
+ * counts, and waiting for a processor doesn't. So it says little on a machine whose processors are
+ * busy: there the threads hardly run at once. */
 #include "evc_calls.h"
 #include "evc_record.h"
 

@@ -1,4 +1,4 @@
-"""Scripts for the bench, and the trace that each has to come to."""
+"""Scripts for the bench, and the trace of each."""
 
 import random
 
@@ -19,8 +19,8 @@ def block(worker, commands):
 
 
 def many_names():
-    """16 workers, each with as many commands as it may have, of one step each, in an order of turns drawn at random.
-    (`p` is a word of scripts, and no name.)"""
+    """Returns the script and the trace of 16 workers, each with as many commands as it may have, of one step each, in a
+    random order of turns. (`p` is a word of scripts, and no name.)"""
     workers = list("abcdefghijklmnoq")
     draw = random.Random(1)
     all_of_them = " ".join(workers)
@@ -54,7 +54,7 @@ def many_names():
 
 
 def nested_repeats():
-    """One worker with four repeats in one another, of one command, and a turn for each time that it is done."""
+    """Returns the script and the trace of one worker with four nested repeats of one command, and a turn for each."""
     declared = ["limit 4294967295", "workers a", "eventcount Events signal a"]
     commands = ["repeat 16"] * 4 + ["advance Events"] + ["end"] * 4
     script = ["evc-script 1", *declared, *block("a", commands), *schedule_lines(["a"] * NAMES)]
@@ -70,7 +70,7 @@ def text_of(lines):
 
 
 def write_script(path, kind):
-    """Writes a script, and gives the text of the trace that it comes to."""
+    """Writes a script, and returns the text of its trace."""
     script, trace = KINDS[kind]()
     with open(path, "w", encoding="ascii", newline="\n") as file:
         file.write(text_of(script))
@@ -78,33 +78,33 @@ def write_script(path, kind):
 
 
 def advances(everybody):
-    """Workers that advance one eventcount, and nothing else."""
+    """Returns declarations and commands of workers that only advance one eventcount."""
     return [f"eventcount E signal {everybody}"], ["advance E"]
 
 
 def queue(everybody):
-    """Workers that pass a turn round: each draws a ticket, awaits its turn, and hands the turn on."""
+    """Returns those of workers in a queue: each draws a ticket, awaits its turn, and advances."""
     declared = [f"eventcount E signal {everybody} observe {everybody}", f"sequencer T take {everybody}"]
     return declared, ["ticket T", "await E last", "advance E"]
 
 
 def semaphore(everybody):
-    """Workers of which one at a time is between its P and its V."""
+    """Returns those of workers of which one at a time is between its P and its V."""
     return [f"semaphore S 1 use {everybody}"], ["p S", "v S"]
 
 
-# What workers on threads do: of each kind the declarations, and the commands that each worker repeats.
+# What workers on threads do: for each kind the declarations, and the commands that each worker repeats.
 THREADED = {"advances": advances, "queue": queue, "semaphore": semaphore}
 
 
 def write_threaded(path, kind, workers, times):
-    """Writes a script whose workers all do so often what their kind says, and nothing else. Gives the front of each trace that it
-    may come to, up to its entries, and the end of what `check` writes of it."""
+    """Writes a script whose workers only repeat the commands of their kind, `times` times. Returns the header of its traces,
+    and the end of what `check` writes of them."""
     names = [f"w{it}" for it in range(workers)]
     everybody = " ".join(names)
     declared, commands = THREADED[kind](everybody)
-    heading = ["limit 4294967295", f"workers {everybody}", *declared]
-    script = ["evc-script 1", *heading]
+    header = ["limit 4294967295", f"workers {everybody}", *declared]
+    script = ["evc-script 1", *header]
     for name in names:
         script += block(name, [f"repeat {times}", *commands, "end"])
     with open(path, "w", encoding="ascii", newline="\n") as file:
@@ -113,4 +113,4 @@ def write_threaded(path, kind, workers, times):
     totals = ["totals", f"eventcount {event} {workers * times}"]
     if kind != "advances":
         totals.append(f"sequencer {sequencer} {workers * times}")
-    return text_of(["evc-trace 1", *heading, "run"]), text_of([*totals, "end"])
+    return text_of(["evc-trace 1", *header, "run"]), text_of([*totals, "end"])

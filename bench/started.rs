@@ -1,5 +1,5 @@
-//! Starts a program, waits for its end, and says what it took: its status, the microseconds of processor time in user code and in the
-//! system, and the KiB of its peak memory, in a line on standard error. The program's own standard error is thrown away.
+//! Starts a program, waits for its end, and prints a line on standard error: its status, the microseconds of CPU time in user
+//! code and in the system, and its peak memory in KiB. The program's own standard error is discarded.
 //!
 //!     started PROGRAM [WORD ..]
 //!
@@ -35,7 +35,7 @@ fn main() {
     let mut status = 0;
     // Safety: all of these fields are numbers.
     let mut usage: Usage = unsafe { mem::zeroed() };
-    // Safety: both places are there until the call is over, and have the forms that the C library wants.
+    // Safety: both variables live until the call returns, and have the layouts that the C library expects.
     let ended = unsafe { wait4(child.id() as i32, &mut status, 0, &mut usage) };
     assert_eq!(ended, child.id() as i32);
     let micros = |time: &Time| time.seconds * 1_000_000 + time.micros;

@@ -15,7 +15,7 @@ fn number_of(reply: Reply) -> u64 {
     }
 }
 
-/// One round: an advance, a read of four components, and a ticket.
+/// Makes one round: an advance, a read of four components, and a ticket. Returns the sum of their numbers.
 fn round(steps: &mut impl Steps, worker: u8) -> Result<u64, Refusal> {
     steps.step(worker, Act::Advance(0))?;
     steps.step(worker, Act::Read(0))?;
@@ -26,7 +26,7 @@ fn round(steps: &mut impl Steps, worker: u8) -> Result<u64, Refusal> {
     Ok(number_of(total).wrapping_add(number_of(ticket)))
 }
 
-/// At least so many steps, in whole rounds by each of four workers in turn, and a line on what they came to.
+/// Makes at least so many steps, in whole rounds by each of four workers in turn, and returns a line of sums.
 fn line(mut steps: impl Steps, count: u64) -> Result<String, Refusal> {
     let mut told = 0u64;
     for i in 0..count.div_ceil(ROUND) {
@@ -36,7 +36,7 @@ fn line(mut steps: impl Steps, count: u64) -> Result<String, Refusal> {
     Ok(format!("{} {} {told}", world.total(0), world.issued(0)))
 }
 
-/// Four workers that all signal and observe one eventcount and draw from one sequencer, at the greatest limit.
+/// Returns four workers that signal and observe one eventcount and draw from one sequencer, at the greatest limit.
 fn setup() -> Setup {
     let all = Members::new(&[0, 1, 2, 3]);
     Setup {

@@ -1,9 +1,9 @@
 //! A baseline for `evc check`, `evc audit` and `evc upgrade`: the same texts, notes and statuses in plain Rust, by one pass
-//! over the trace. It is written for speed, and from the formats alone (docs/REFERENCE.md), so that it is a second opinion too.
+//! over the trace. It is written for speed, and from the formats only (docs/REFERENCE.md), so that it is a second opinion too.
 //!
-//! A trace goes past once. Words are found in small tables by their bytes, eight at a time, and each entry is judged by a world
+//! A trace is streamed once. Words are found in small tables by their bytes, eight at a time, and each entry is judged by a world
 //! of small tables. A `Watcher` keeps what its text needs: `check` two bytes for each entry, and a number for each put and
-//! await; `audit` the lines of its groups in numbers; `upgrade` the text. Nothing is written before the trace was read to its end.
+//! await; `audit` the lines of its groups in numbers; `upgrade` the text. Nothing is written before the whole trace was read.
 
 use std::collections::HashSet;
 use std::fs::File;
@@ -20,7 +20,7 @@ const LIMITS: [u64; 2] = [4_294_967_295, 281_474_976_710_655];
 const LINE: usize = 8192;
 const TEXT: usize = 67_108_864;
 const PIECE: usize = 1 << 16;
-/// Bytes behind the text in a table, so that eight may be looked at from any place of a line.
+/// Bytes after the text in a table, so that eight can be read from any position of a line.
 const ROOM: usize = 64;
 
 const RESERVED: &str = "advance await both buffer cells consume database done end eventcount get go hand last limit observe p \
@@ -71,7 +71,7 @@ const fn repeated(byte: u8) -> u64 {
     0x0101_0101_0101_0101 * byte as u64
 }
 
-/// How many bits stand before the first space among eight bytes; 64 where there is none.
+/// Returns how many bits are before the first space among eight bytes, or 64 if there is none.
 #[inline(always)]
 fn bits_to_space(bytes: u64) -> u32 {
     let other = bytes ^ repeated(b' ');
@@ -79,13 +79,13 @@ fn bits_to_space(bytes: u64) -> u32 {
     found.trailing_zeros() & !7
 }
 
-/// The bytes up to and with the one that begins at this bit.
+/// Returns the bytes up to and including the one that begins at this bit.
 #[inline(always)]
 fn front(bytes: u64, bits: u32) -> u64 {
     bytes & (u64::MAX >> (56 - bits))
 }
 
-/// A number that begins here, and the place behind it; no place (0) where there is none of at most 18 digits.
+/// Returns the number that begins here, and the position after it, or 0 if there is no number of at most 18 digits.
 #[inline(always)]
 fn number(text: &[u8], at: usize) -> (u64, usize) {
     let digits = load(text, at) ^ repeated(b'0');
@@ -115,8 +115,8 @@ fn long_number(text: &[u8], at: usize) -> (u64, usize) {
 
 // Tables of words
 
-/// A table of words, each with the space behind it, and what each stands for. Words of at most seven bytes are found by
-/// eight bytes at once, the others by twenty-four.
+/// A table of words, each with the space after it, and what each names. Words of at most seven bytes are found by eight
+/// bytes at once, the others by twenty-four.
 struct Words {
     factor: u64,
     short: Vec<(u64, u16)>,
@@ -125,7 +125,7 @@ struct Words {
 
 const UNKNOWN: u16 = u16::MAX;
 
-/// More places than any table of words fills.
+/// More slots than any table of words fills.
 const LONG_PLACES: usize = 1024;
 
 impl Words {
@@ -166,7 +166,7 @@ impl Words {
         at
     }
 
-    /// What the word that begins here stands for, and the place behind its space.
+    /// Returns what the word that begins here names, and the position after its space.
     #[inline(always)]
     fn find(&self, text: &[u8], at: usize) -> (u16, usize) {
         let bytes = load(text, at);
@@ -193,7 +193,7 @@ fn spread(key: u64, factor: u64) -> usize {
     (key.wrapping_mul(factor) >> 48) as usize
 }
 
-/// The bytes of a word with the space behind it.
+/// Returns the bytes of a word with the space after it.
 fn key_of(word: &[u8]) -> [u64; 3] {
     let mut bytes = [0; 24];
     bytes[..word.len()].copy_from_slice(word);
@@ -201,7 +201,7 @@ fn key_of(word: &[u8]) -> [u64; 3] {
     [load(&bytes, 0), load(&bytes, 8), load(&bytes, 16)]
 }
 
-/// A factor by which few words, or none, fall on places of others.
+/// Returns a factor with which few words, or none, collide.
 fn best_factor(short: &[(u64, u16)], places: usize) -> u64 {
     let (mut best, mut least) = (1, usize::MAX);
     for factor in (1..32u64).map(|it| it.wrapping_mul(0x9e37_79b9_7f4a_7c15) | 1) {
@@ -216,7 +216,7 @@ fn best_factor(short: &[(u64, u16)], places: usize) -> u64 {
     best
 }
 
-/// How many words of a table fall on places of others.
+/// Returns how many words of a table collide.
 fn crowding(short: &[(u64, u16)], factor: u64, places: usize) -> usize {
     let mut taken = vec![false; places];
     short.iter().filter(|(key, _)| std::mem::replace(&mut taken[spread(*key, factor) & (places - 1)], true)).count()
@@ -304,7 +304,7 @@ impl Heading {
         }
     }
 
-    /// Takes the next line; tells whether it was the last of the heading, and nothing where it is a bad line.
+    /// Reads the next line. Returns whether it was the last of the header, or `None` if it is a bad line.
     fn line(&mut self, line: &[u8]) -> Option<bool> {
         self.lines += 1;
         let line = std::str::from_utf8(line).ok()?;
@@ -333,7 +333,7 @@ impl Heading {
         (is_name(name) && self.taken.insert(name.to_string())).then_some(())
     }
 
-    /// A list of declared workers, each once, and at least one.
+    /// Reads a list of declared workers, each once, and at least one.
     fn list(&self, words: &[&str]) -> Option<Vec<usize>> {
         let mut list = Vec::new();
         for word in words {
@@ -346,7 +346,7 @@ impl Heading {
         (!list.is_empty()).then_some(list)
     }
 
-    /// Two lists, the second behind the word that opens it.
+    /// Reads two lists, the second after the word that begins it.
     fn lists(&self, words: &[&str], opening: &str) -> Option<(Vec<usize>, Option<Vec<usize>>)> {
         match words.iter().position(|it| *it == opening) {
             Some(at) => Some((self.list(&words[..at])?, Some(self.list(&words[at + 1..])?))),
@@ -407,7 +407,7 @@ impl Heading {
         Some(())
     }
 
-    /// The two lists of a group, which share no worker.
+    /// Reads the two lists of a group, which share no worker.
     fn roles(&self, lists: &[&str], opening: &str) -> Option<(Vec<usize>, Vec<usize>)> {
         let (first, second) = self.lists(lists, opening)?;
         let second = second?;
@@ -467,7 +467,7 @@ impl Heading {
     }
 }
 
-// What the word of an object stands for: its sort, and its number in the low byte.
+// What the word of an object names: its sort, and its number in the low byte.
 const EVENT_WORD: u16 = 0;
 const SEQUENCER_WORD: u16 = 0x100;
 const CELL_WORD: u16 = 0x200;
@@ -505,7 +505,7 @@ impl Reader {
         }
     }
 
-    /// The entry that begins here: its worker, what it asked for, its reply, and the place behind its line.
+    /// Reads the entry that begins here: its worker, its call, its reply, and the position after its line.
     #[inline(always)]
     fn entry(&self, text: &[u8], at: usize) -> Option<(usize, Call, u64, usize)> {
         let (worker, at) = self.workers.find(text, at);
@@ -526,7 +526,7 @@ impl Reader {
         Some((worker as usize, call, reply, at))
     }
 
-    /// The object and the value of an act, and the place behind them and a space.
+    /// Reads the object and the value of an act, and returns the position after them and a space.
     #[inline(always)]
     fn call(&self, text: &[u8], at: usize, act: u8) -> Option<(Call, usize)> {
         if act == GO {
@@ -553,7 +553,7 @@ impl Reader {
 const SORTS: [u16; 8] =
     [CELL_WORD, EVENT_WORD, UNKNOWN, CELL_WORD, SEQUENCER_WORD, EVENT_WORD, EVENT_WORD, EVENT_WORD];
 
-/// The act whose first two letters these may be.
+/// Returns the act whose first two letters these may be.
 #[inline(always)]
 fn verb_of(bytes: u64) -> u8 {
     ((((bytes as u32 & 0xffff) * 149) >> 11) & 7) as u8
@@ -562,7 +562,7 @@ fn verb_of(bytes: u64) -> u8 {
 const DONE_LINE: u64 = u64::from_le_bytes(*b"done\n\0\0\0");
 const PENDING_LINE: u64 = u64::from_le_bytes(*b"pending\n");
 
-/// The reply that ends a line here, and the place behind the line.
+/// Reads the reply that ends a line here, and returns the position after the line.
 #[inline(always)]
 fn reply_of(text: &[u8], at: usize) -> Option<(u64, usize)> {
     let bytes = load(text, at);
@@ -578,8 +578,8 @@ fn reply_of(text: &[u8], at: usize) -> Option<(u64, usize)> {
 
 // The world
 
-/// A read or an await under way: its call, the component that the next go reads, the sum of the round, the position at which
-/// the round began and the total of that moment. The act is GO where none is under way.
+/// A pending read or await: its call, the component that the next go reads, the sum of the round, the position at which
+/// the round began and the total of that moment. The act is GO if none is pending.
 #[derive(Clone, Copy)]
 struct Going {
     call: Call,
@@ -605,7 +605,7 @@ struct World {
     going: [Going; WORKERS],
 }
 
-/// Why an entry is no right one.
+/// Why an entry is wrong.
 enum Wrong {
     Refused(&'static str),
     Reply(u64),
@@ -644,7 +644,7 @@ impl World {
         world
     }
 
-    /// Takes an entry, where it is the right one, and shows it to the watcher.
+    /// Makes the step of an entry if it is right, and shows it to the watcher.
     #[inline(always)]
     fn step<W: Watcher>(&mut self, at: u32, worker: usize, call: Call, reply: u64, watcher: &mut W) -> Result<(), Wrong> {
         let worker = worker & 15;
@@ -784,20 +784,20 @@ fn judge(reply: u64, right: u64) -> Result<(), Wrong> {
     if reply == right { Ok(()) } else { Err(Wrong::Reply(right)) }
 }
 
-/// Who sees the entries of a trace go past, and keeps what a text needs.
+/// What is shown the entries of a trace as they are streamed, and keeps what a text needs.
 trait Watcher {
     fn new(heading: &Heading) -> Self;
     /// Bytes of the trace, before their lines are judged.
     fn text(&mut self, _lines: &[u8]) {}
     /// A call of one entry.
     fn whole(&mut self, at: u32, worker: usize, call: Call, reply: u64);
-    /// A call that is under way behind its first entry.
+    /// The first entry of a call of several.
     fn begun(&mut self, worker: usize, call: Call, going: &Going, at: u32);
     /// An entry in the middle of a call.
     fn went_on(&mut self);
     /// The last entry of a call of several.
     fn ended(&mut self, at: u32, worker: usize, going: &Going);
-    /// Writes the text; gives the note where there is one instead.
+    /// Writes the text, or returns the note if there is one instead.
     fn write(self, heading: &Heading, world: &World, out: &mut Out) -> Result<(), String>;
 }
 
@@ -814,7 +814,7 @@ struct Input {
 }
 
 impl Input {
-    /// Reads more behind what is left; tells whether there was more, and keeps why there was not.
+    /// Reads more after what is left. Returns whether there was more, and keeps why there was not.
     fn fill(&mut self) -> bool {
         self.bytes.copy_within(self.begin..self.end, 0);
         (self.end, self.begin) = (self.end - self.begin, 0);
@@ -831,7 +831,7 @@ impl Input {
         false
     }
 
-    /// The place behind the last line that is here as a whole.
+    /// Returns the position after the last complete line.
     fn lines_end(&self) -> usize {
         let lines = self.bytes[self.begin..self.end].iter().rposition(|it| *it == b'\n');
         lines.map_or(self.begin, |last| self.begin + last + 1)
@@ -869,7 +869,7 @@ impl<W: Watcher> Pass<W> {
         }
     }
 
-    /// Takes whole lines.
+    /// Reads complete lines.
     fn lines(&mut self, text: &[u8], mut at: usize, stop: usize) -> Result<(), Fault> {
         while at < stop && self.body.is_none() {
             let end = line_end(text, at);
@@ -916,7 +916,7 @@ impl<W: Watcher> Pass<W> {
         Ok(())
     }
 
-    /// A line that is no entry: the last line, or a bad one.
+    /// Reads a line that is no entry: the last line, or a bad one.
     #[cold]
     fn odd_line(&mut self, text: &[u8], at: usize, stop: usize) -> Result<(), Fault> {
         let end = line_end(text, at);
@@ -941,7 +941,7 @@ fn fault_of(wrong: Wrong, line: usize) -> Fault {
 
 // Writing the output
 
-/// A table before standard output.
+/// A buffer before standard output.
 struct Out {
     file: File,
     bytes: Vec<u8>,
@@ -949,7 +949,7 @@ struct Out {
 }
 
 impl Out {
-    /// Sees to it that `ROOM` bytes and more may be put.
+    /// Makes room for at least `ROOM` bytes.
     #[inline(always)]
     fn make_room(&mut self) {
         if self.at >= PIECE {
@@ -965,7 +965,7 @@ impl Out {
         self.at = 0;
     }
 
-    /// Puts the first bytes of a table of a fixed size.
+    /// Writes the first bytes of a table of a fixed size.
     #[inline(always)]
     fn put_of<const N: usize>(&mut self, bytes: &[u8; N], length: usize) {
         self.bytes[self.at..self.at + N].copy_from_slice(bytes);
@@ -1022,7 +1022,7 @@ impl Digits {
     }
 }
 
-/// The eight digits of a number, each in a byte, the first in the lowest.
+/// Returns the eight digits of a number, each in a byte, the first in the lowest.
 #[inline(always)]
 fn eight_digits(number: u64) -> u64 {
     let fours = number / 10_000 | (number % 10_000) << 32;
@@ -1063,7 +1063,7 @@ impl Counter {
 
 // check
 
-/// A call in sixteen bits: its act, worker and object. That of a go stands for an entry that ends no call.
+/// Returns a call in sixteen bits: its act, worker and object. That of a go represents an entry that ends no call.
 #[inline(always)]
 fn code_of(worker: usize, call: Call) -> u16 {
     (call.act as u16) << 13 | (worker as u16) << 9 | call.object
@@ -1083,7 +1083,7 @@ struct Early {
 }
 
 /// What the order needs: for each entry the call that it ends, if its point is there; the values of those calls that have one;
-/// and the calls with earlier points. While calls on an eventcount are under way, the moments after its advances are kept.
+/// and the calls with earlier points. While calls on an eventcount are pending, the moments after its advances are kept.
 struct Order {
     codes: Vec<u16>,
     values: Vec<u64>,
@@ -1148,7 +1148,7 @@ impl Watcher for Order {
 
     fn write(mut self, heading: &Heading, world: &World, out: &mut Out) -> Result<(), String> {
         out.put_text("evc-order 1\n");
-        // (a stable sort: at one point they stay in the order of their ends)
+        // (a stable sort: calls with one point stay in the order of their last entries)
         self.early.sort_by_key(|it| it.point);
         self.early.push(Early { point: u32::MAX, code: NO_CALL, value: 0 });
         let mut writer = OrderWriter::new(heading);
@@ -1158,14 +1158,14 @@ impl Watcher for Order {
     }
 }
 
-/// The words of a call up to its value or reply. A call that is told done and has no value has its line end here.
+/// The words of a call up to its value or reply. If it returns done and has no value, its line ends here.
 #[derive(Clone, Copy)]
 struct Words64 {
     bytes: [u8; 64],
     length: usize,
 }
 
-/// The counts as they are written while the order goes past, and the words of each call that came up.
+/// The counts as they are written while the order is streamed, and the words of each call so far.
 struct OrderWriter<'a> {
     heading: &'a Heading,
     places: Vec<u16>,
@@ -1305,8 +1305,8 @@ fn write_totals(heading: &Heading, world: &World, out: &mut Out) {
 
 // audit
 
-/// What an audit keeps of a group: the place of each worker in its list of calls and what it was told, the first entry that
-/// breaks the lists, and the numbers of the group's lines.
+/// What an audit keeps of a group: the position of each worker in its list of calls and the number that it was returned, the
+/// first entry that breaks the lists, and the numbers of the group's lines.
 struct Audit {
     group: Group,
     places: [u16; WORKERS],
@@ -1317,7 +1317,7 @@ struct Audit {
     /// Deliveries as producer, consumer and item; or accepting tries as reader, version and values.
     workers: Vec<u8>,
     numbers: Vec<u64>,
-    /// What the reader's try of a database has got so far.
+    /// What each reader's try of a database has read so far.
     got: Vec<Vec<u64>>,
     downs: u64,
     ups: u64,
@@ -1343,7 +1343,7 @@ impl Audit {
         self.group.first >> worker & 1 == 1
     }
 
-    /// A call of the worker on the group begins.
+    /// Begins a call of the worker on the group.
     #[inline(always)]
     fn begin(&mut self, at: u32, worker: usize, call: Call) {
         if self.fault.is_some() {
@@ -1362,7 +1362,7 @@ impl Audit {
         }
     }
 
-    /// Whether the call is the one on this object of the group, with this value.
+    /// Returns whether the call is this act on this eventcount of the group, with this value.
     fn is_event(&self, call: Call, act: u8, which: usize, value: u64) -> bool {
         call.act == act && call.object as usize == self.group.event + which && call.value == value
     }
@@ -1375,7 +1375,7 @@ impl Audit {
         call.act == act && call.object as usize == self.group.cell + which
     }
 
-    /// The cell of a buffer that has the item of a number.
+    /// Returns the cell of a buffer that has the item of a number.
     fn cell_of(&self, number: u64) -> usize {
         (number as u32 % self.group.cells as u32) as usize
     }
@@ -1442,7 +1442,7 @@ impl Audit {
         }
     }
 
-    /// A call of the worker on the group has ended.
+    /// Ends a call of the worker on the group.
     #[inline(always)]
     fn end(&mut self, worker: usize, call: Call, reply: u64) {
         if self.fault.is_some() {
@@ -1464,7 +1464,7 @@ impl Audit {
             TICKET => self.told[worker] = reply,
             PUT => self.makers[call.object as usize - self.group.cell] = worker as u8,
             GET => {
-                // (consumers get one after another, by number: a delivery's number is its place)
+                // (consumers get one after another, by number: a delivery's number is its position)
                 let maker = self.makers[call.object as usize - self.group.cell];
                 self.workers.push(maker << 4 | worker as u8);
                 self.numbers.push(reply);
@@ -1540,8 +1540,8 @@ fn put_behind_space(number: u64, out: &mut Out) {
     out.make_room();
 }
 
-/// The guarded parts of the P on two semaphores: how far each worker is in its part, the ticket of `both` and the first of the
-/// two tickets, with its semaphore.
+/// The critical sections of the P on two semaphores: how far each worker is in its section, the ticket of `both` and the first
+/// of the two tickets, with its semaphore.
 struct Guards {
     group: usize,
     places: [u8; WORKERS],
@@ -1594,7 +1594,7 @@ impl Audits {
         }
     }
 
-    /// A call begins: is it one that the worker's guarded part allows?
+    /// Begins a call, and notes a fault if the worker's critical section doesn't allow it.
     fn guard(&mut self, at: u32, worker: usize, call: Call, group: u8) {
         let Some(guards) = &mut self.guards else { return };
         if guards.fault.is_some() {
@@ -1617,14 +1617,14 @@ impl Audits {
         }
     }
 
-    /// A ticket was drawn.
+    /// Notes a ticket that was drawn.
     fn guard_ticket(&mut self, worker: usize, group: u8, reply: u64) {
         let Some(guards) = &mut self.guards else { return };
         match guards.places[worker] {
             1 => guards.told[worker] = reply,
             3 => guards.first[worker] = (group as usize, reply),
             4 => {
-                // (one part excludes another, so pairs come in the order of their first tickets)
+                // (critical sections exclude each other, so pairs come in the order of their first tickets)
                 let (first, ticket) = guards.first[worker];
                 guards.pairs.push(Pair { worker: worker as u8, groups: [first as u8, group], tickets: [ticket, reply] });
             }
@@ -1632,7 +1632,7 @@ impl Audits {
         }
     }
 
-    /// The note on the first group that is not followed.
+    /// Returns the note on the first group that is not followed.
     fn fault(&self, heading: &Heading) -> Option<String> {
         for (place, audit) in self.audits.iter().enumerate() {
             let fault = match &self.guards {
@@ -1728,7 +1728,7 @@ impl Watcher for Audits {
 
 // upgrade
 
-/// The lines behind the heading. A trace has one spelling, so these are the ones to write.
+/// The lines after the header. A trace has one encoding, so these are written as they are.
 struct Lines(Vec<u8>);
 
 impl Watcher for Lines {
@@ -1766,7 +1766,7 @@ fn write_heading(heading: &Heading, out: &mut Out) {
 /// Writes a note, and ends with this status.
 fn finish(note: &str, status: i32) -> ! {
     if !note.is_empty() {
-        // (a fault in writing the note is not told)
+        // (a fault in writing the note is not reported)
         let _ = writeln!(io::stderr(), "{note}");
     }
     exit(status)

@@ -1,13 +1,13 @@
-//! What `evc run` does with workers that advance one eventcount or pass a turn round, in plain Rust under std's Mutex, with a
-//! Condvar of std's for each worker, as a baseline.
+//! What `evc run` does with workers that advance one eventcount or take turns, in plain Rust under std's Mutex, with a Condvar of
+//! std's for each worker, as a baseline.
 //!
-//! `threads KIND WORKERS TIMES` gives each of so many workers a program that does so often what its kind says (`Kind`), and runs
-//! each on a thread of its own. In one hold of the lock a worker makes the step that its program asks for, with all checks of a
-//! step (`world.rs`); the run keeps its entry, an advance lets the waiters go whose threshold the total has come to, and a worker
-//! whose await fell short sleeps. Woken are just those who were let go, once the lock is free. Each worker keeps a log. When all
-//! have ended the run is compared with the logs, and each worker has to have finished. Then the trace is written, and on standard
-//! error how each worker has ended. What it leaves out are the commands on buffers and databases, P on two semaphores, and the
-//! script's text.
+//! `threads KIND WORKERS TIMES` gives each of so many workers a program that repeats the commands of its kind (`Kind`) so often,
+//! and runs each on a thread of its own. In one critical section a worker makes the step that its program asks for, with all
+//! checks of a step (`world.rs`). The run keeps its entry, an advance releases the waiters whose threshold the total has reached,
+//! and a worker whose await is not satisfied sleeps. Only those that were released are woken, when the lock is free. Each worker
+//! keeps a log. When all have ended, the run is compared with the logs, and each worker has to have finished. Then the trace is
+//! written, and on standard error how each worker has ended. It leaves out the commands on buffers and databases, P on two
+//! semaphores, and the script's text.
 
 mod world;
 
@@ -25,7 +25,7 @@ use world::{Act, Entry, LIMIT, Members, Refusal, Reply, Rights, Run, Setup, Step
 
 const TURNS: u64 = 1_000_000;
 
-/// A number that a command names: it, the last number told, or that and so many more.
+/// A number that a command names: itself, the last number returned, or that plus so many.
 #[allow(dead_code)] // the programs here use some of these
 enum Value {
     Number(u64),
@@ -65,7 +65,7 @@ enum Outcome {
     OutOfTurns,
 }
 
-/// A block that is being gone through, and how many times it is still to be done after that.
+/// A block that is being run, and how many times it has to be repeated after that.
 struct Frame<'a> {
     rest: slice::Iter<'a, Command>,
     block: &'a [Command],
@@ -82,7 +82,7 @@ impl<'a> Frame<'a> {
     }
 }
 
-/// What a worker asks for next, of its program. A P whose ticket is due has its await still before it.
+/// The interpreter of a worker's program. A P whose ticket is due still has its await to make.
 struct Machine<'a> {
     frames: Vec<Frame<'a>>,
     due: Option<Act>,
@@ -128,7 +128,7 @@ impl<'a> Machine<'a> {
         }
     }
 
-    /// The await of a P whose ticket was drawn.
+    /// Returns the await of a P whose ticket was drawn.
     fn await_of(&self, semaphore: Semaphore) -> Act {
         let threshold = (self.last + 1).saturating_sub(semaphore.initial);
         Act::Await(semaphore.event, threshold)
@@ -142,7 +142,7 @@ impl<'a> Machine<'a> {
         }
     }
 
-    /// The next command that is no repeat.
+    /// Returns the next command that is no repeat.
     fn command(&mut self) -> Option<&'a Command> {
         loop {
             let frame = self.frames.last_mut()?;
@@ -199,7 +199,7 @@ impl<'a> Machine<'a> {
     }
 }
 
-/// How a worker stands.
+/// The state of a worker.
 #[derive(Clone, Copy, PartialEq, Eq)]
 enum Seat {
     Gone,
@@ -214,14 +214,14 @@ enum Parked {
     Asleep,
 }
 
-/// Why a worker got no reply. A refusal comes with how many entries the run had.
+/// Why a worker got no reply. A refusal comes with the number of entries of the run.
 enum Halt {
     Stopped,
     Refused(Refusal, usize),
 }
 
-/// The run so far, how each worker stands, and for each eventcount its waiters by threshold. Beside them stand those who were let
-/// go in this hold, a bit for each.
+/// The run so far, the state of each worker, for each eventcount its waiters by threshold, and the workers that were released in
+/// this critical section, a bit for each.
 struct Board {
     run: Run,
     seats: [Seat; 16],
@@ -254,7 +254,7 @@ impl Board {
         self.seats[worker as usize] = seat;
     }
 
-    /// Lets those go that wait for no more than the total.
+    /// Releases those that wait for no more than the total.
     fn release(&mut self, event: u8) {
         let total = self.run.world.total(event);
         while let Some(&(threshold, worker)) = self.lines[event as usize].first() {
@@ -282,7 +282,7 @@ impl Board {
         Ok(reply)
     }
 
-    /// Some worker is live, and every live worker waits.
+    /// Returns whether some worker is active, and every active worker waits.
     fn are_stuck(&self) -> bool {
         self.seats.iter().any(|seat| *seat != Seat::Gone) && !self.seats.contains(&Seat::Running)
     }
@@ -317,7 +317,7 @@ impl Board {
         self.look_if_stuck();
     }
 
-    /// Where the board comes to be stuck, nobody waits any more for what does not come.
+    /// Releases all waiters if the board is deadlocked, since no worker can advance.
     fn look_if_stuck(&mut self) {
         if self.is_stuck || !self.are_stuck() {
             return;
@@ -335,7 +335,7 @@ impl Board {
     }
 }
 
-/// What a worker tells: its log, how its program ended, and the moment of a refusal.
+/// What a worker reports: its log, how its program ended, and the moment of a refusal.
 struct Told {
     log: Vec<Entry>,
     outcome: Outcome,
@@ -349,7 +349,7 @@ struct Shared {
 }
 
 impl Shared {
-    /// Gives the lock back, and wakes those who were let go.
+    /// Releases the lock, and wakes those that were released.
     fn give_back(&self, mut guard: MutexGuard<'_, Board>) {
         let mut let_go = mem::take(&mut guard.let_go);
         drop(guard);
@@ -359,7 +359,7 @@ impl Shared {
         }
     }
 
-    /// One hold of the lock: one step and, where an await fell short and the worker may wait, the sleep.
+    /// Runs one critical section: one step and, if an await is not satisfied and the worker may wait, the sleep.
     fn hold(&self, worker: u8, act: Act, may_park: bool) -> Result<Reply, Halt> {
         let mut guard = self.board.lock().unwrap();
         let reply = guard.step(worker, act)?;
@@ -379,7 +379,7 @@ impl Shared {
     }
 }
 
-/// A worker, up to its end.
+/// Runs a worker up to its end.
 fn work(shared: &Shared, worker: u8, program: &[Command]) -> Told {
     let mut machine = Machine::new(program);
     let mut log = Vec::new();
@@ -408,7 +408,7 @@ fn work(shared: &Shared, worker: u8, program: &[Command]) -> Told {
     }
 }
 
-/// Whether each worker's entries are its log.
+/// Returns whether each worker's entries are its log.
 fn agree(run: &Run, tolds: &[Told]) -> bool {
     let mut cursors = [0; 16];
     for entry in run.entries() {
@@ -427,7 +427,7 @@ fn agree(run: &Run, tolds: &[Told]) -> bool {
         .all(|(told, cursor)| told.log.len() == cursor)
 }
 
-/// Whether a worker has finished. (In no run of these programs is a worker refused or stopped, so no moment is asked about.)
+/// Returns whether a worker has finished. (These programs are never refused or stopped, so there is no moment.)
 fn is_told(told: &Told) -> bool {
     let steps = told.log.len() as u64;
     told.outcome == Outcome::Finished && steps <= TURNS && told.moment == 0
@@ -505,7 +505,7 @@ enum Kind {
     Advances,
     /// It draws a ticket, awaits its turn, and advances.
     Queue,
-    /// It does P and V on a semaphore of initial value 1.
+    /// It makes P and V on a semaphore of initial value 1.
     Semaphore,
 }
 
@@ -536,7 +536,7 @@ impl Kind {
         }
     }
 
-    /// What the eventcount and the sequencer are called.
+    /// Returns the names of the eventcount and the sequencer.
     fn names(self) -> (&'static str, &'static str) {
         match self {
             Kind::Advances | Kind::Queue => ("E", "T"),
@@ -554,7 +554,7 @@ impl Kind {
         }
     }
 
-    /// One eventcount that all workers signal, and, but for the advances, that all observe beside a sequencer of all.
+    /// Returns one eventcount that all workers signal. Except for the advances, all observe it, and share a sequencer.
     fn setup(self, workers: usize) -> Setup {
         let everybody: Vec<u8> = (0..workers as u8).collect();
         let (observe, takers) = match self {
@@ -577,7 +577,7 @@ impl Kind {
     }
 }
 
-/// The kind, how many workers there are, and how often each does what it does.
+/// Reads the kind, how many workers there are, and how often each repeats its commands.
 fn read_words() -> Option<(Kind, usize, u64)> {
     let words: Vec<String> = std::env::args().skip(1).collect();
     let [kind, workers, times] = &words[..] else {

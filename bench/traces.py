@@ -1,524 +1,254 @@
-"""Traces for the bench. A small simulator of the kernel makes each reply, so that every trace is a right one."""
+"""Traces for bench/run. A small simulator (generate/) makes each reply, so that every trace is right.
+
+A kind of traces has a function that declares its objects, and one that yields the entries of its workers. Its `choose`
+returns one of several things by chance.
+"""
 
 import itertools
 import random
 
-# The greatest limit of a component or a sequencer that a trace may declare.
-LIMIT = 4294967295
+from generate.recording import Recording
 
 # Room for the longest entry that is written here, and for the last line.
 LONGEST = 64
 
-
-class Kernel:
-    """Counts, tickets and calls under way, and the lines that steps on them write."""
-
-    def __init__(self, workers, events, sequencers, groups=()):
-        """`events` has for each eventcount its signallers and its observers, `sequencers` the takers of each.
-        Where they are the objects of groups, `groups` has their lines."""
-        self.version = 1
-        self.workers = workers
-        self.events = events
-        self.sequencers = sequencers
-        self.components = {event: [0] * len(signal) for event, (signal, _) in events.items()}
-        self.places = {
-            (event, worker): place
-            for event, (signal, _) in events.items()
-            for place, worker in enumerate(signal)
-        }
-        self.issued = dict.fromkeys(sequencers, 0)
-        self.groups = list(groups)
-        self.cells = {}
-        self.told = {}
-        self.ended = {}
-        self.going = {}
-        self.audited = []
-        self.downs = {}
-        self.pairs = []
-        self.calls = {}
-        self.finished = 0
-
-    def heading(self):
-        """The lines before the first entry."""
-        lines = [f"evc-trace {self.version}", f"limit {LIMIT}", "workers " + " ".join(self.workers)]
-        if self.groups:
-            return "".join(line + "\n" for line in [*lines, *self.groups, "run"])
-        for event, (signal, observe) in self.events.items():
-            lines.append(f"eventcount {event} signal {' '.join(signal)} observe {' '.join(observe)}")
-        for sequencer, take in self.sequencers.items():
-            lines.append(f"sequencer {sequencer} take {' '.join(take)}")
-        return "".join(line + "\n" for line in lines + ["run"])
-
-    def totals(self):
-        """The lines at the end of what `check` writes."""
-        lines = ["totals"]
-        lines += [f"eventcount {event} {sum(counts)}" for event, counts in self.components.items()]
-        lines += [f"sequencer {sequencer} {n}" for sequencer, n in self.issued.items()]
-        return "".join(line + "\n" for line in lines + ["end"])
-
-    def audits(self):
-        """The lines of the groups in what `audit` writes."""
-        lines = [line for _, line in sorted(self.audited)]
-        for name, downs in self.downs.items():
-            ups = self.total(f"{name}.v")
-            initial = 1 if name == "both" else INITIAL
-            lines.append(f"balance {name} {initial} {downs} {ups} {initial + ups - downs}")
-        return lines + self.pairs
-
-    def total(self, event):
-        return sum(self.components[event])
-
-    def advance(self, worker, event):
-        self.components[event][self.places[event, worker]] += 1
-        self.finished += 1
-        return f"{worker} advance {event} = done\n"
-
-    def hand(self, worker, event, receiver):
-        self.places[event, receiver] = self.places.pop((event, worker))
-        self.finished += 1
-        return f"{worker} hand {event} {receiver} = done\n"
-
-    def put(self, worker, cell, value):
-        self.cells[cell] = value
-        self.finished += 1
-        return f"{worker} put {cell} {value} = done\n"
-
-    def get(self, worker, cell):
-        self.told[worker] = self.cells.get(cell, 0)
-        self.finished += 1
-        return f"{worker} get {cell} = {self.told[worker]}\n"
-
-    def ticket(self, worker, sequencer):
-        number = self.issued[sequencer]
-        self.issued[sequencer] = number + 1
-        self.told[worker] = number
-        self.finished += 1
-        return f"{worker} ticket {sequencer} = {number}\n"
-
-    def read(self, worker, event):
-        return f"{worker} read {event} = {self.read_on(worker, event, 0, 0, 0)}\n"
-
-    def wait(self, worker, event, threshold):
-        return f"{worker} await {event} {threshold} = {self.read_on(worker, event, threshold, 0, 0)}\n"
-
-    def go(self, worker):
-        return f"{worker} go = {self.read_on(worker, *self.calls[worker])}\n"
-
-    def read_on(self, worker, event, threshold, component, before):
-        """Reads one component. A read is an await of 0: any sum ends it."""
-        counts = self.components[event]
-        so_far = before + counts[component]
-        if component + 1 < len(counts):
-            self.calls[worker] = (event, threshold, component + 1, so_far)
-            return "pending"
-        if so_far < threshold:
-            self.calls[worker] = (event, threshold, 0, 0)
-            return "pending"
-        self.calls.pop(worker, None)
-        self.told[worker] = so_far
-        self.finished += 1
-        self.ended[worker] = self.finished
-        return so_far
+# The cells of a buffer and of a database, the initial value of a semaphore, and what is put into other cells.
+CELLS = 8
+INITIAL = 3
+VALUES = (0, 7, 10, 365, 1979, 65536, 1000000, 123456789)
 
 
-def ordinary(kernel, draw):
-    """Entries of a few workers: mostly advances and tickets, some reads, and some awaits of what comes next."""
+def by_chance(kernel, choose, act_of):
+    """Yields entries of workers whose turns come by chance."""
+    return kernel.entries(lambda: choose(kernel.workers), act_of)
+
+
+def ordinary_kernel(version=1):
+    kernel = Recording(4, version)
+    alice, bob, carol, dave = kernel.workers
+    kernel.declare_eventcount("Events", [alice, bob], [carol, dave])
+    kernel.declare_eventcount("Ready", [carol], [alice, dave])
+    kernel.declare_sequencer("Turns", [alice, bob, dave])
+    return kernel
+
+
+def ordinary(kernel, choose):
+    """Yields entries of a few workers: usually advances and tickets, some reads, and some awaits of the next advance."""
     alice, bob, carol, dave = kernel.workers
     acts = {
-        alice: [lambda: kernel.advance(alice, "Events")] * 6 + [lambda: kernel.ticket(alice, "Turns")],
-        bob: [lambda: kernel.advance(bob, "Events")] * 5 + [lambda: kernel.ticket(bob, "Turns")] * 2,
-        carol: [lambda: kernel.read(carol, "Events"), lambda: kernel.advance(carol, "Ready")],
-        dave: [
-            lambda: kernel.read(dave, "Events"),
-            lambda: kernel.wait(dave, "Events", kernel.total("Events") + 1),
-            lambda: kernel.ticket(dave, "Turns"),
-            lambda: kernel.read(dave, "Ready"),
-        ],
+        alice: [("advance", "Events")] * 6 + [("ticket", "Turns")],
+        bob: [("advance", "Events")] * 5 + [("ticket", "Turns")] * 2,
+        carol: [("read", "Events"), ("advance", "Ready")],
+        dave: [("read", "Events"), ("await", "Events"), ("ticket", "Turns"), ("read", "Ready")],
     }
     turns = [alice] * 4 + [bob] * 3 + [carol] * 2 + [dave]
-    while True:
-        worker = draw(turns)
-        yield kernel.go(worker) if worker in kernel.calls else draw(acts[worker])()
+
+    def act_of(worker):
+        act = choose(acts[worker])
+        return (*act, kernel.total("Events") + 1) if act[0] == "await" else act
+
+    return kernel.entries(lambda: choose(turns), act_of)
 
 
-def interleaved(kernel, draw):
-    """Entries of reads that overlap: some 13 of the 16 workers are in one, and advances overtake them."""
-    acts = [kernel.advance, kernel.advance, kernel.advance, kernel.read]
-    while True:
-        worker = draw(kernel.workers)
-        yield kernel.go(worker) if worker in kernel.calls else draw(acts)(worker, "Events")
-
-
-def hands(kernel, draw):
-    """Entries of advances and reads of two components that are handed round: every eighth advance is a hand in its place."""
-    while True:
-        worker = draw(kernel.workers)
-        if worker in kernel.calls:
-            yield kernel.go(worker)
-        elif ("Events", worker) not in kernel.places:
-            yield kernel.read(worker, "Events")
-        elif draw(range(8)):
-            yield kernel.advance(worker, "Events")
-        else:
-            others = [it for it in kernel.workers if ("Events", it) not in kernel.places]
-            yield kernel.hand(worker, "Events", draw(others))
-
-
-def hands_kernel():
-    workers = ["alice", "bob", "carol", "dave"]
-    kernel = Kernel(workers, {"Events": (workers[:2], workers)}, {})
-    kernel.version = 2
+def many_components_kernel():
+    kernel = Recording(16)
+    kernel.declare_eventcount("Events", kernel.workers, kernel.workers)
     return kernel
 
 
-def version_2_kernel():
-    kernel = ordinary_kernel()
-    kernel.version = 2
+def interleaved(kernel, choose):
+    """Yields entries of reads that overlap: some 13 of the 16 workers have one pending, and advances overtake them."""
+    acts = ["advance", "advance", "advance", "read"]
+    return by_chance(kernel, choose, lambda _: (choose(acts), "Events"))
+
+
+def reads(kernel, choose):
+    """Yields entries of reads of 16 components, one after another: one call in sixteen is an advance."""
+    acts = ["advance"] + ["read"] * 15
+
+    def turn():
+        return next(iter(kernel.pending), None) or choose(kernel.workers)
+
+    return kernel.entries(turn, lambda _: (choose(acts), "Events"))
+
+
+def two_components_kernel(version=1):
+    kernel = Recording(4, version)
+    kernel.declare_eventcount("Events", kernel.workers[:2], kernel.workers)
     return kernel
 
 
-def ordinary_kernel():
-    workers = ["alice", "bob", "carol", "dave"]
-    alice, bob, carol, dave = workers
-    events = {"Events": ([alice, bob], [carol, dave]), "Ready": ([carol], [alice, dave])}
-    return Kernel(workers, events, {"Turns": [alice, bob, dave]})
+def transfers(kernel, choose):
+    """Yields entries of advances and reads of two components that are transferred: one advance in eight is a `hand`."""
+    signallers = kernel.eventcounts["Events"].components
+
+    def act_of(worker):
+        if worker not in signallers:
+            return "read", "Events"
+        if choose(range(8)):
+            return "advance", "Events"
+        return "hand", "Events", choose([it for it in kernel.workers if it not in signallers])
+
+    return by_chance(kernel, choose, act_of)
 
 
-def interleaved_kernel():
-    names = "alice bob carol dave erin frank grace heidi ivan judy kevin laura mike nina oscar peggy"
-    workers = names.split()
-    return Kernel(workers, {"Events": (workers, workers)}, {})
+def awaits(kernel, choose):
+    """Yields entries of four workers on two components: two advance them, and all await, often one more advance."""
+    signallers = kernel.eventcounts["Events"].components
+
+    def act_of(worker):
+        if worker in signallers and choose(range(2)):
+            return "advance", "Events"
+        # (a worker that advances awaits no more than the total, so that some worker can go on)
+        more = 0 if worker in signallers else choose(range(2))
+        return "await", "Events", kernel.total("Events") + more
+
+    return by_chance(kernel, choose, act_of)
 
 
-# Workers of groups. Each is a generator of what it asks for next: a function that makes the entry. What it was told
-# stands in `kernel.told` when it goes on. `kernel.audited` gets the lines that `audit` has to write,
-# each behind its place: those of a buffer come first, and then those of a database.
-
-CELLS = 8
-
-
-def producer(kernel, worker, makers):
-    for item in range(10**9):
-        yield lambda: kernel.ticket(worker, "B.put")
-        turn = kernel.told[worker]
-        yield lambda: kernel.wait(worker, "B.in", turn)
-        yield lambda: kernel.wait(worker, "B.out", max(0, turn + 1 - CELLS))
-        makers[turn] = worker
-        yield lambda: kernel.put(worker, f"B[{turn % CELLS}]", item)
-        yield lambda: kernel.advance(worker, "B.in")
-
-
-def consumer(kernel, worker, makers):
-    while True:
-        yield lambda: kernel.ticket(worker, "B.take")
-        turn = kernel.told[worker]
-        yield lambda: kernel.wait(worker, "B.out", turn)
-        yield lambda: kernel.wait(worker, "B.in", turn + 1)
-        yield lambda: kernel.get(worker, f"B[{turn % CELLS}]")
-        kernel.audited.append(((0, turn), f"delivery B {turn} {makers.pop(turn)} {worker} {kernel.told[worker]}"))
-        yield lambda: kernel.advance(worker, "B.out")
-
-
-def writer(kernel, worker):
-    for value in range(10**9):
-        yield lambda: kernel.advance(worker, "D.start")
-        yield lambda: kernel.ticket(worker, "D.turn")
-        turn = kernel.told[worker]
-        yield lambda: kernel.wait(worker, "D.done", turn)
-        for cell in range(CELLS):
-            yield lambda: kernel.put(worker, f"D[{cell}]", value)
-        yield lambda: kernel.advance(worker, "D.done")
-
-
-def reader(kernel, worker):
-    while True:
-        yield lambda: kernel.read(worker, "D.start")
-        version = kernel.told[worker]
-        yield lambda: kernel.wait(worker, "D.done", version)
-        values = []
-        for cell in range(CELLS):
-            yield lambda: kernel.get(worker, f"D[{cell}]")
-            values.append(kernel.told[worker])
-        yield lambda: kernel.read(worker, "D.start")
-        if kernel.told[worker] == version:
-            kernel.audited.append(((1, kernel.ended[worker]), f"version D {version} {worker} {' '.join(map(str, values))}"))
-
-
-def user(kernel, worker):
-    while True:
-        for name in kernel.downs:
-            yield lambda: kernel.ticket(worker, f"{name}.p")
-            turn = kernel.told[worker]
-            yield lambda: kernel.wait(worker, f"{name}.v", max(0, turn + 1 - INITIAL))
-            kernel.downs[name] += 1
-            yield lambda: kernel.advance(worker, f"{name}.v")
-
-
-def entry_of(kernel, workers, worker):
-    """The next entry of a worker, which goes on with what it is at."""
-    return kernel.go(worker) if worker in kernel.calls else next(workers[worker])()
-
-
-def user_of_both(kernel, worker):
-    """P and then V on two semaphores at once, whose tickets are drawn under the guard of `both`."""
-    first, second = [name for name in kernel.downs if name != "both"][:2]
-    while True:
-        yield lambda: kernel.ticket(worker, "both.p")
-        turn = kernel.told[worker]
-        yield lambda: kernel.wait(worker, "both.v", turn)
-        kernel.downs["both"] += 1
-        tickets = []
-        for name in (first, second):
-            yield lambda: kernel.ticket(worker, f"{name}.p")
-            tickets.append(kernel.told[worker])
-        kernel.pairs.append(f"pair {worker} {first} {tickets[0]} {second} {tickets[1]}")
-        yield lambda: kernel.advance(worker, "both.v")
-        for name, ticket in zip((first, second), tickets):
-            yield lambda: kernel.wait(worker, f"{name}.v", max(0, ticket + 1 - INITIAL))
-            kernel.downs[name] += 1
-        for name in (first, second):
-            yield lambda: kernel.advance(worker, f"{name}.v")
-
-
-def buffer(kernel, draw):
-    alice, bob, carol, dave = kernel.workers
-    makers = {}
-    workers = {it: producer(kernel, it, makers) for it in (alice, bob)}
-    workers.update({it: consumer(kernel, it, makers) for it in (carol, dave)})
-    kernel.going = workers
-    while True:
-        yield entry_of(kernel, workers, draw(kernel.workers))
-
-
-def snapshots(kernel, draw):
-    alice, *readers = kernel.workers
-    workers = {it: reader(kernel, it) for it in readers}
-    workers[alice] = writer(kernel, alice)
-    kernel.going = workers
-    while True:
-        # (the writer seldom begins, and then hastens, so that many tries are accepted)
-        writes = kernel.total("D.start") > kernel.total("D.done")
-        yield entry_of(kernel, workers, draw([alice] * 3 + readers if writes else [alice] + readers * 20))
-
-
-def semaphores(kernel, draw):
-    workers = {it: user(kernel, it) for it in kernel.workers}
-    kernel.going = workers
-    while True:
-        yield entry_of(kernel, workers, draw(kernel.workers))
-
-
-def all_groups(kernel, draw):
-    put, take, write, read, one, other = kernel.workers
-    makers = {}
-    workers = {
-        put: producer(kernel, put, makers),
-        take: consumer(kernel, take, makers),
-        write: writer(kernel, write),
-        read: reader(kernel, read),
-        one: user_of_both(kernel, one),
-        other: user_of_both(kernel, other),
-    }
-    kernel.going = workers
-    while True:
-        yield entry_of(kernel, workers, draw(kernel.workers))
-
-
-def buffer_kernel():
-    workers = ["alice", "bob", "carol", "dave"]
-    makers, takers = workers[:2], workers[2:]
-    events = {"B.in": (makers, workers), "B.out": (takers, workers)}
-    group = f"buffer B {CELLS} produce {' '.join(makers)} consume {' '.join(takers)}"
-    return Kernel(workers, events, {"B.put": makers, "B.take": takers}, [group])
-
-
-def snapshots_kernel():
-    workers = ["alice", "bob", "carol", "dave"]
-    alice, *readers = workers
-    events = {"D.start": ([alice], readers), "D.done": ([alice], workers)}
-    return Kernel(workers, events, {"D.turn": [alice]}, [f"database D {CELLS} write {alice} read {' '.join(readers)}"])
-
-
-def semaphores_kernel(many):
-    workers = ["alice", "bob", "carol", "dave"]
-    names = [f"S{number:02}" for number in range(many)]
-    kernel = Kernel(
-        workers,
-        {f"{name}.v": (workers, workers) for name in names},
-        {f"{name}.p": workers for name in names},
-        [f"semaphore {name} {INITIAL} use {' '.join(workers)}" for name in names],
-    )
-    kernel.downs = dict.fromkeys(names, 0)
+def eventcounts_kernel():
+    kernel = Recording(16)
+    for number in range(32):
+        kernel.declare_eventcount(f"E{number:02}", kernel.workers, kernel.workers)
     return kernel
 
 
-def all_groups_kernel():
-    workers = ["alice", "bob", "carol", "dave", "erin", "frank"]
-    put, take, write, read, *users = workers
-    events = {
-        "B.in": ([put], [put, take]),
-        "B.out": ([take], [put, take]),
-        "D.start": ([write], [read]),
-        "D.done": ([write], [write, read]),
-        **{f"{name}.v": (users, users) for name in ("S00", "S01", "both")},
-    }
-    sequencers = {"B.put": [put], "B.take": [take], "D.turn": [write], **{f"{it}.p": users for it in ("S00", "S01", "both")}}
-    groups = [
-        f"buffer B {CELLS} produce {put} consume {take}",
-        f"database D {CELLS} write {write} read {read}",
-        *(f"semaphore {name} {INITIAL} use {' '.join(users)}" for name in ("S00", "S01")),
-        f"both use {' '.join(users)}",
-    ]
-    kernel = Kernel(workers, events, sequencers, groups)
-    kernel.downs = {"S00": 0, "S01": 0, "both": 0}
-    return kernel
-
-
-# Traces for the baseline in plain Rust (texts.rs): each with much of one sort of line, and one with all sorts.
-
-
-def sixteen():
-    return "alice bob carol dave erin frank grace heidi ivan judy kevin laura mike nina oscar peggy".split()
-
-
-def advances(kernel, draw):
-    events = list(kernel.events)
-    while True:
-        yield kernel.advance(draw(kernel.workers), draw(events))
-
-
-def advances_kernel():
-    workers = sixteen()
-    return Kernel(workers, {f"E{number:02}": (workers, workers) for number in range(32)}, {})
-
-
-def cells(kernel, draw):
-    names = [f"X[{number}]" for number in range(256)]
-    while True:
-        worker, cell = draw(kernel.workers), draw(names)
-        yield draw((kernel.get, lambda worker, cell: kernel.put(worker, cell, draw(VALUES))))(worker, cell)
+def advances(kernel, choose):
+    names = list(kernel.eventcounts)
+    return by_chance(kernel, choose, lambda _: ("advance", choose(names)))
 
 
 def cells_kernel():
-    workers = sixteen()
-    return Kernel(workers, {}, {}, [f"cells X 256 write {' '.join(workers)} read {' '.join(workers)}"])
-
-
-def reads(kernel, draw):
-    """Entries of reads of 16 components, one after another: each sixteenth call is an advance."""
-    while True:
-        worker = draw(kernel.workers)
-        yield draw([kernel.advance] + [kernel.read] * 15)(worker, "Events")
-        while worker in kernel.calls:
-            yield kernel.go(worker)
-
-
-def awaits(kernel, draw):
-    """Entries of four workers on two components, which two of them advance and two await, often one advance ahead."""
-    while True:
-        worker = draw(kernel.workers)
-        if worker in kernel.calls:
-            yield kernel.go(worker)
-        elif ("Events", worker) in kernel.places and draw(range(2)):
-            yield kernel.advance(worker, "Events")
-        else:
-            # (who advances awaits no more than there is, so that somebody goes on)
-            more = 0 if ("Events", worker) in kernel.places else draw(range(2))
-            yield kernel.wait(worker, "Events", kernel.total("Events") + more)
-
-
-def awaits_kernel():
-    workers = ["alice", "bob", "carol", "dave"]
-    return Kernel(workers, {"Events": (workers[:2], workers)}, {})
-
-
-def any_act(kernel, worker, draw):
-    while True:
-        yield draw((
-            lambda: kernel.advance(worker, "Events"),
-            lambda: kernel.read(worker, "Events"),
-            lambda: kernel.wait(worker, "Events", kernel.total("Events")),
-            lambda: kernel.ticket(worker, "Turns"),
-            lambda: kernel.put(worker, "X[3]", draw(VALUES)),
-            lambda: kernel.get(worker, "X[3]"),
-        ))
-
-
-def mixed(kernel, draw):
-    names, makers = kernel.workers, {}
-    workers = {it: producer(kernel, it, makers) for it in names[:2]}
-    workers.update({it: consumer(kernel, it, makers) for it in names[2:4]})
-    workers.update({names[4]: writer(kernel, names[4])}, **{it: reader(kernel, it) for it in names[5:7]})
-    workers.update({it: user(kernel, it) for it in names[7:11]}, **{it: any_act(kernel, it, draw) for it in names[11:]})
-    while True:
-        yield entry_of(kernel, workers, draw(names))
-
-
-def mixed_kernel():
-    workers = sixteen()
-    makers, takers, writers, readers, users, others = (
-        workers[begin:end] for begin, end in ((0, 2), (2, 4), (4, 5), (5, 7), (7, 11), (11, 16))
-    )
-    events = {"B.in": (makers, ()), "B.out": (takers, ()), "D.start": (writers, ()), "D.done": (writers, ())}
-    lines = [
-        f"buffer B {CELLS} produce {' '.join(makers)} consume {' '.join(takers)}",
-        f"database D {CELLS} write {' '.join(writers)} read {' '.join(readers)}",
-        f"semaphore S {INITIAL} use {' '.join(users)}",
-        f"eventcount Events signal {' '.join(others)} observe {' '.join(others)}",
-        f"sequencer Turns take {' '.join(others)}",
-        f"cells X 4 write {' '.join(others)} read {' '.join(others)}",
-    ]
-    sequencers = {"B.put": makers, "B.take": takers, "D.turn": writers, "S.p": users, "Turns": others}
-    kernel = Kernel(workers, {**events, "S.v": (users, ()), "Events": (others, ())}, sequencers, lines)
-    kernel.downs = {"S": 0}
+    kernel = Recording(16)
+    kernel.declare_cells("X", 256, kernel.workers, kernel.workers)
     return kernel
 
 
-# What is put into cells.
-VALUES = (0, 7, 10, 365, 1979, 65536, 1000000, 123456789)
+def puts_and_gets(kernel, choose):
+    names = list(kernel.cells)
 
-# The initial value of each semaphore, and how many of them a trace of semaphores has.
-INITIAL = 3
-MANY = (1, 8, 32)
+    def act_of(_):
+        cell = choose(names)
+        return ("get", cell) if choose((True, False)) else ("put", cell, choose(VALUES))
 
-# The traces of so many semaphores, and the kinds of traces for `audit`, in the same form as those below.
-SEMAPHORES = {f"{many} semaphores": (lambda many=many: semaphores_kernel(many), semaphores) for many in MANY}
-AUDITED = {
-    "buffer": (buffer_kernel, buffer),
-    "snapshots": (snapshots_kernel, snapshots),
-    "all groups": (all_groups_kernel, all_groups),
-}
+    return by_chance(kernel, choose, act_of)
 
-SORTS = {
-    "32 eventcounts": (advances_kernel, advances),
-    "256 cells": (cells_kernel, cells),
-    "reads of 16 components": (interleaved_kernel, reads),
-    "awaits": (awaits_kernel, awaits),
-    "mixed lines": (mixed_kernel, mixed),
-}
 
-# The kinds of traces: the kernel of each, and what its workers do.
+# Groups
+
+
+def buffer_kernel():
+    kernel = Recording(4)
+    kernel.declare_buffer("B", CELLS, kernel.workers[:2], kernel.workers[2:])
+    return kernel.begin()
+
+
+def snapshots_kernel():
+    kernel = Recording(4)
+    kernel.declare_database("D", CELLS, kernel.workers[:1], kernel.workers[1:])
+    return kernel.begin()
+
+
+def semaphores_kernel(many):
+    kernel = Recording(4)
+    for number in range(many):
+        kernel.declare_semaphore(f"S{number:02}", INITIAL, kernel.workers)
+    return kernel.begin()
+
+
+def all_groups_kernel():
+    kernel = Recording(6)
+    put, take, write, read, *users = kernel.workers
+    kernel.declare_buffer("B", CELLS, [put], [take])
+    kernel.declare_database("D", CELLS, [write], [read])
+    for name in ("S00", "S01"):
+        kernel.declare_semaphore(name, INITIAL, users)
+    kernel.declare_both(users)
+    return kernel.begin()
+
+
+def mixed_kernel():
+    kernel = Recording(16)
+    makers, takers, writers, readers, users, others = (
+        kernel.workers[begin:end] for begin, end in ((0, 2), (2, 4), (4, 5), (5, 7), (7, 11), (11, 16))
+    )
+    kernel.declare_buffer("B", CELLS, makers, takers)
+    kernel.declare_database("D", CELLS, writers, readers)
+    kernel.declare_semaphore("S", INITIAL, users)
+    kernel.declare_eventcount("Events", others, others)
+    kernel.declare_sequencer("Turns", others)
+    kernel.declare_cells("X", 4, others, others)
+    return kernel.begin()
+
+
+def in_groups(kernel, choose):
+    """Yields entries of workers on groups."""
+    return by_chance(kernel, choose, kernel.next_act)
+
+
+def snapshots(kernel, choose):
+    """Yields entries of a writer that seldom begins, and is fast then, so that many tries are accepted."""
+    alice, *readers = kernel.workers
+    seldom, often = [alice] + readers * 20, [alice] * 3 + readers
+
+    def turn():
+        return choose(often if kernel.total("D.start") > kernel.total("D.done") else seldom)
+
+    return kernel.entries(turn, kernel.next_act)
+
+
+def mixed(kernel, choose):
+    """Yields entries of workers on groups, and of others that do everything on objects of no group."""
+    acts = (
+        lambda: ("advance", "Events"),
+        lambda: ("read", "Events"),
+        lambda: ("await", "Events", kernel.total("Events")),
+        lambda: ("ticket", "Turns"),
+        lambda: ("put", "X[3]", choose(VALUES)),
+        lambda: ("get", "X[3]"),
+    )
+    return by_chance(kernel, choose, lambda it: kernel.next_act(it) if it in kernel.acts else choose(acts)())
+
+
+# The kinds of traces.
 KINDS = {
     "ordinary": (ordinary_kernel, ordinary),
-    "interleaved reads": (interleaved_kernel, interleaved),
-    "version 2": (version_2_kernel, ordinary),
-    "transfers": (hands_kernel, hands),
+    "interleaved reads": (many_components_kernel, interleaved),
+    "version 2": (lambda: ordinary_kernel(2), ordinary),
+    "transfers": (lambda: two_components_kernel(2), transfers),
+}
+
+# Those for `audit`, and those of so many semaphores.
+AUDITED = {
+    "buffer": (buffer_kernel, in_groups),
+    "snapshots": (snapshots_kernel, snapshots),
+    "all groups": (all_groups_kernel, in_groups),
+}
+SEMAPHORES = {f"{many} semaphores": (lambda many=many: semaphores_kernel(many), in_groups) for many in (1, 8, 32)}
+
+# Those for the baseline in plain Rust (texts.rs): each has many lines of one sort, and one has all sorts.
+SORTS = {
+    "32 eventcounts": (eventcounts_kernel, advances),
+    "256 cells": (cells_kernel, puts_and_gets),
+    "reads of 16 components": (many_components_kernel, reads),
+    "awaits": (two_components_kernel, awaits),
+    "mixed lines": (mixed_kernel, mixed),
 }
 
 
 def write_trace(path, kind, size, most=None):
-    """Writes a trace of at most `size` bytes, as many entries as fit or `most`, and gives the kernel at its end."""
+    """Writes a trace of at most `size` bytes, with as many entries as fit or `most`, and returns the kernel at its end."""
     make_kernel, entries = {**KINDS, **AUDITED, **SEMAPHORES, **SORTS}[kind]
     kernel = make_kernel()
     with open(path, "w", encoding="ascii", newline="\n") as file:
-        written = file.write(kernel.heading())
+        written = file.write(kernel.header())
         for line in itertools.islice(entries(kernel, random.Random(1).choice), most):
             written += file.write(line)
             if written + LONGEST > size:
                 break
         file.write("end\n")
-    # (each worker takes in what its last call was told)
-    for worker, acts in kernel.going.items():
-        if worker not in kernel.calls:
-            next(acts)
+    # (each worker processes the reply of its last call)
+    for worker in kernel.acts:
+        if worker not in kernel.pending:
+            kernel.next_act(worker)
     return kernel

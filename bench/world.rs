@@ -1,5 +1,5 @@
 //! A kernel's steps in plain Rust, over the same tables and with the same checks as those of `World` and `Run` in
-//! `crates/ec_core`, for the baselines beside it.
+//! `crates/ec_core`, for the other baselines.
 
 #![allow(dead_code)] // each baseline uses a part
 
@@ -43,7 +43,7 @@ impl Members {
 pub struct Rights {
     pub signal: Members,
     pub observe: Members,
-    /// Whether its components can't be handed over.
+    /// Whether its components can't be transferred.
     pub fixed: bool,
 }
 
@@ -102,7 +102,7 @@ pub struct Entry {
     pub reply: Reply,
 }
 
-/// A count and how far it may go.
+/// A count and its limit.
 #[derive(Clone, Copy)]
 struct Count {
     value: u64,
@@ -117,7 +117,7 @@ impl Count {
     }
 }
 
-/// A call under way: the act that began it, the component that comes next, and the sum so far.
+/// A pending call: the act that began it, the component that comes next, and the sum so far.
 #[derive(Clone, Copy)]
 pub struct UnderWay {
     pub op: Act,
@@ -242,7 +242,7 @@ impl World {
         None
     }
 
-    /// The sum with the component that comes next, and whether that is the last one.
+    /// Returns the sum with the component that comes next, and whether that is the last one.
     fn read_on(&self, call: &UnderWay) -> (u64, bool) {
         let event = event_of(call.op);
         let sum = call.sum + self.counts[event][call.index as usize].value;
@@ -309,24 +309,24 @@ impl World {
         }
     }
 
-    /// The total of an eventcount.
+    /// Returns the total of an eventcount.
     pub fn total(&self, event: u8) -> u64 {
         let width = self.setup.events[event as usize].signal.len;
         let counts = &self.counts[event as usize][..width];
         counts.iter().map(|count| count.value).sum()
     }
 
-    /// How many tickets of a sequencer were drawn.
+    /// Returns how many tickets of a sequencer were drawn.
     pub fn issued(&self, sequencer: u8) -> u64 {
         self.issued[sequencer as usize].value
     }
 
-    /// The worker's call that has not ended.
+    /// Returns the worker's pending call.
     pub fn under_way(&self, worker: u8) -> Option<UnderWay> {
         self.calls[worker as usize]
     }
 
-    /// What a step would answer, and no change.
+    /// Returns what a step would answer, and changes nothing.
     pub fn answer(&self, worker: u8, act: &Act) -> Result<Reply, Refusal> {
         match self.refusal(worker, act) {
             Some(refusal) => Err(refusal),

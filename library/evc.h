@@ -32,7 +32,7 @@ enum evc_status {
      * Of evc_calls_check: the input is no history of calls, or one is not linearizable; then the texts of those before it
      * were written. The notes say what is wrong, and in which line; of the other calls no text was written. */
     EVC_STATUS_REFUSED = 1,
-    /* Of the calls on a monitor alone: its text has ended, or it was closed. Nothing was done. */
+    /* Only of the calls on a monitor: its text has ended, or it was closed. Nothing was done. */
     EVC_STATUS_USAGE = 2,
     /* The text had too little room. A prefix of it was written, and the notes end in `write fault`. */
     EVC_STATUS_NO_ROOM = 3,
@@ -55,7 +55,7 @@ struct evc_written {
 /* Room enough for the text of evc_sim, for a script of so many bytes. */
 #define EVC_SIM_ROOM(script_length) (44 * (script_length) + 64)
 
-/* Room enough for the notes of any call but evc_calls_check. Where there is less, they are cut off. */
+/* Room enough for the notes of any call except evc_calls_check. With less room they are cut off. */
 #define EVC_NOTES_ROOM 1024
 
 /* Room enough for the text and for the notes of evc_calls_check, for so many bytes with so many histories. Notes of one
@@ -63,7 +63,7 @@ struct evc_written {
 #define EVC_CALLS_ROOM(calls_length, histories) (2 * (calls_length) + 16384 * (histories))
 #define EVC_CALLS_NOTES_ROOM(calls_length, histories) ((calls_length) + 4096 * (histories))
 
-/* Whether a trace is right, and the order of its finished calls and the totals. */
+/* Whether a trace is right, and the order of its completed calls and the totals. */
 uint8_t evc_check(const uint8_t *trace, size_t trace_length, uint8_t *text, size_t text_room, uint8_t *notes,
                   size_t notes_room, struct evc_written *written);
 
@@ -81,7 +81,7 @@ uint8_t evc_sim(const uint8_t *script, size_t script_length, uint8_t *text, size
 
 /* Whether each history of calls is linearizable, and an order of the calls of each (docs/REFERENCE.md, "Histories
  * of calls"). The notes have a remark on each await that is pending although the count had surely reached its threshold; with
- * status 0 nothing else. Those on all histories that were accepted stand first, and then what ended the check. */
+ * status 0 nothing else. Those on all histories that were accepted come first, and then what ended the check. */
 uint8_t evc_calls_check(const uint8_t *calls, size_t calls_length, uint8_t *text, size_t text_room, uint8_t *notes,
                         size_t notes_room, struct evc_written *written);
 
@@ -97,16 +97,16 @@ uint8_t evc_calls_check(const uint8_t *calls, size_t calls_length, uint8_t *text
  *         fprintf(stderr, "%.*s", (int)evc_monitor_note(&monitor, note, sizeof note), (const char *)note);
  *     evc_monitor_close(&monitor);
  *
- * A status that is not EVC_STATUS_DONE stays: later lines and the end return it again, and nothing is judged any more. By
- * malloc a monitor takes memory for what a history declares and for its pending calls, again for each history; the close
- * frees all of it. Open a place only once before its close, don't move a monitor, and call of one only a single call at a
- * time. Any thread may. */
+ * A status that is not EVC_STATUS_DONE stays: later lines and the end return it again, and nothing is judged any more. A
+ * monitor allocates, by malloc, for what a history declares and for its pending calls, again for each history; the close
+ * frees all of it. Open a monitor only once before its close, don't move it, and make only one call on it at a time. Any
+ * thread may. */
 #define EVC_MONITOR_WORDS 1024
 struct evc_monitor {
     uint64_t kept[EVC_MONITOR_WORDS];
 };
 
-/* Opens a monitor, to which no line came yet. It takes no memory. */
+/* Opens a monitor, to which no line came yet. It allocates nothing. */
 void evc_monitor_open(struct evc_monitor *monitor);
 
 /* Judges the next line of the text, which is given without its line feed. */
@@ -115,7 +115,7 @@ uint8_t evc_monitor_line(struct evc_monitor *monitor, const uint8_t *line, size_
 /* Ends the text. EVC_STATUS_DONE: it was one of histories, and each is linearizable. */
 uint8_t evc_monitor_end(struct evc_monitor *monitor);
 
-/* Writes why a monitor goes no further, as far as there is room (EVC_NOTES_ROOM), and returns how many bytes that are. It
+/* Writes why a monitor judges no more, as far as there is room (EVC_NOTES_ROOM), and returns how many bytes that are. It
  * writes none for as long as the status is EVC_STATUS_DONE. */
 size_t evc_monitor_note(struct evc_monitor *monitor, uint8_t *note, size_t room);
 
@@ -130,7 +130,7 @@ struct evc_load {
 /* Says what came so far. */
 void evc_monitor_load(struct evc_monitor *monitor, struct evc_load *load);
 
-/* Frees what a monitor has taken. */
+/* Frees what a monitor has allocated. */
 void evc_monitor_close(struct evc_monitor *monitor);
 
 /* How many bytes a monitor takes: at most sizeof(struct evc_monitor). */

@@ -49,7 +49,7 @@ pub struct Ordered {
     pub remarks: String,
 }
 
-/// Checks a trace: the order of its finished calls, and the totals.
+/// Checks a trace: returns the order of its completed calls, and the totals.
 pub fn check(trace: &[u8]) -> Result<String, Fault> {
     answer(evc_check, trace, trace_room(trace), NOTES_ROOM).map(|(text, _)| text)
 }
@@ -62,12 +62,12 @@ pub fn check_calls(calls: &[u8]) -> Result<Ordered, Fault> {
     answer(evc_calls_check, calls, room, notes_room).map(|(orders, remarks)| Ordered { orders, remarks })
 }
 
-/// Audits the buffers, databases and semaphores of a trace: what came of them.
+/// Audits the buffers, databases and semaphores of a trace: returns what was done with them.
 pub fn audit(trace: &[u8]) -> Result<String, Fault> {
     answer(evc_audit, trace, trace_room(trace), NOTES_ROOM).map(|(text, _)| text)
 }
 
-/// The same trace in version 2 of the format.
+/// Returns the same trace in version 2 of the format.
 pub fn upgrade(trace: &[u8]) -> Result<String, Fault> {
     answer(evc_upgrade, trace, trace.len(), NOTES_ROOM).map(|(text, _)| text)
 }
@@ -100,7 +100,7 @@ pub struct Load {
 ///
 /// A fault stays: each later call returns it again.
 pub struct Monitor {
-    // (zeros, in which the monitor lies)
+    // (zeros, in which the monitor is)
     place: Box<Place>,
     ended: bool,
 }
@@ -111,7 +111,7 @@ const MONITOR_WORDS: usize = 1024;
 struct Place([u64; MONITOR_WORDS]);
 
 impl Monitor {
-    /// A monitor to which no line came yet.
+    /// Opens a monitor, to which no line came yet.
     pub fn new() -> Result<Monitor, Fault> {
         // SAFETY: it takes nothing and touches nothing.
         if unsafe { evc_monitor_size() } > std::mem::size_of::<Place>() {
@@ -141,7 +141,7 @@ impl Monitor {
         Ok(self.load())
     }
 
-    /// What came so far.
+    /// Returns what came so far.
     pub fn load(&mut self) -> Load {
         let mut load = Load { histories: 0, calls: 0, others: 0 };
         // SAFETY: the monitor is open, or has ended.
@@ -172,7 +172,7 @@ impl Drop for Monitor {
     }
 }
 
-/// The version: 1000 for each first number and 1 for each second.
+/// Returns the version: 1000 for each first number and 1 for each second.
 pub fn version() -> u32 {
     // SAFETY: it takes nothing and touches nothing.
     unsafe { evc_version() }
@@ -204,7 +204,7 @@ extern "C" {
     fn evc_version() -> u32;
 }
 
-/// Room enough for what is written of a trace.
+/// Returns room enough for what is written of a trace.
 fn trace_room(trace: &[u8]) -> usize {
     trace.len().saturating_mul(2).saturating_add(16384)
 }

@@ -34,7 +34,7 @@ static void read_sheets(void) {
     evc_number(&record, watcher, sum, "go");
 }
 
-/* Checks the record in memory. Gives 0 where it is right, else 1, and tells the note. */
+/* Checks the record in memory. Returns 0 if it is right, otherwise 1, and prints the note. */
 static int fails(void) {
     const char *trace;
     size_t length;

@@ -11,7 +11,7 @@ use evc_record::{Record, Reply};
 use std::sync::atomic::{AtomicU64, Ordering::SeqCst};
 use std::thread;
 
-/// Runs the two threads, and gives the trace. The thread of `press2` counts so many of its 1000 sheets.
+/// Runs the two threads, and returns the trace. The thread of `press2` counts so many of its 1000 sheets.
 fn trace_of(counted: u64) -> Vec<u8> {
     let objects = ["eventcount Sheets signal press1 press2 observe watcher"];
     let record = Record::new(10_000, &["press1", "press2", "watcher"], &objects);

@@ -1,4 +1,4 @@
-# Makes a man page of its source. These lines of a source stand for what another file has:
+# Makes a man page of its source. These lines of a source are replaced by parts of other files:
 #
 #     .\" TABLE PAGE [COLUMNS] | HEAD | HEAD ..
 #
@@ -38,7 +38,7 @@ function fail(what) {
     exit 1
 }
 
-# Writes a cell as text of a man page: code and what is bold in bold, of a link its text.
+# Writes a cell as text of a man page: code and bold text in bold, and a link as its text.
 function cell(text,    out, bold, link) {
     gsub(/\\/, "\\e", text)
     while (match(text, /\[[^]]*\]\([^)]*\)/)) {
@@ -56,7 +56,7 @@ function cell(text,    out, bold, link) {
     return out text
 }
 
-# Writes a text where a line begins.
+# Writes a text at the beginning of a line.
 function line(text) {
     print (text ~ /^[.']/ ? "\\&" : "") text
 }
@@ -158,7 +158,7 @@ function calls(header,    text, whole, number, name) {
     if (!number) fail(header " has no functions")
 }
 
-# Writes a line of code, which stands between .nf and .fi.
+# Writes a line of code, which has to be between .nf and .fi.
 function code(text) {
     gsub(/\\/, "\\e", text)
     gsub(/-/, "\\-", text)

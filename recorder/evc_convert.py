@@ -22,16 +22,16 @@ wrote is judged by `evc-calls check`. An event has a list as its value, first th
     write       [:D v1 .. vn]
     snapshot    [:D]                   [:D v1 .. vn]
 
-With --register X an event has its value alone, as in Jepsen's tests of a register: `write` is then
+With --register X an event has only its value, as in Jepsen's tests of a register: `write` is then
 a put into X[0] and `read` a get. Values are whole numbers from 0, nil at the start is 0.
 
-:fail strikes the call out, as it had no effect; of an await, a p and a pboth it is a timeout. :info
+:fail removes the call, as it had no effect; for an await, a p and a pboth it is a timeout. :info
 leaves the call pending, and its process goes on as another worker: p0, then p0_1. Processes that
 are no numbers, as :nemesis, are left out. All workers may use all objects; those that write a
 database write it, and the others read it. --initial S=2 says how many units a semaphore has at
-first (1 without it), --from E=3 where an eventcount starts (0).
+first (1 without it), --from E=3 at which count an eventcount starts (0).
 
-On the way back the process of a worker is its place in the header, and a timeout is :fail.
+On the way back the process of a worker is its position in the header, and a timeout is :fail.
 
 The status is 0; 1 and a note if this is no such history; 2 if the words are wrong.
 """
@@ -90,7 +90,7 @@ def tokens(text):
 
 
 def edn_item(token, rest):
-    """Returns what begins with a token."""
+    """Returns the item that begins with a token."""
     if token in CLOSE:
         items = []
         for it in rest:
@@ -134,7 +134,7 @@ def events_of_json(text):
 
 
 class Call:
-    """A call of a worker: what is called, the object, and the numbers of both."""
+    """A call of a worker: the operation, and the object with the numbers of the call."""
 
     def __init__(self, worker, f, value):
         self.worker, self.f, self.value = worker, f, value
@@ -157,7 +157,7 @@ def numbers(items, what):
 
 
 def with_object(event, register):
-    """Returns what is called and the value with its object first."""
+    """Returns the operation, and the value with its object first."""
     f, value = word(event.get("f")), event.get("value")
     if register:
         need(f in ("read", "write", "get", "put"), f"a register has no {f}")

@@ -1,6 +1,6 @@
 /* evc_monitor.h: judges the calls of a program that does not end, while it runs.
  *
- * C11 or C++17, gcc or clang, POSIX threads, with evc_calls.h. Nothing of it is proved: it hands
+ * C11 or C++17, gcc or clang, POSIX threads, with evc_calls.h. Nothing of it is proved: it passes
  * the history to a judge, line by line.
  *
  *     evc_calls c;                                        declared as usual, without a file
@@ -8,22 +8,22 @@
  *     evc_monitor_thread m;
  *     evc_monitor_start(&m, &c, evc_monitor_by_program, evc_monitor_program_start(&judge));
  *     ..                                                  the threads record their calls
- *     int status = evc_monitor_stop(&m);                  0: each line was taken, and the end
+ *     int status = evc_monitor_stop(&m);                  0: each line was accepted, and the end
  *
  * Each worker's buffer is then a ring. A thread of the monitor empties the rings in the order of
  * the stamps, makes lines of the events, and gives them to the judge, one after another, with `end`
  * at the stop. Its memory does not grow. A worker whose ring is full waits, between two of its
  * calls: so give each room for what it calls within some milliseconds, 4096 calls or more.
  *
- * THE ORDER. A batch has all events with stamps before a cut, which lies some milliseconds back. An
- * event that a stopped thread has noted down too late for its batch comes in a later one: an
- * invocation then did not take effect before, and a response that comes later says less. So a right
- * program is never refused by it.
+ * THE ORDER. A batch has all events with stamps before a cut some milliseconds ago. An event that a
+ * stopped thread has noted down too late for its batch comes in a later one: an invocation then did
+ * not take effect before, and a response that comes later says less. So it never rejects a right
+ * program.
  *
  * THE JUDGE is a function. It is given a line with its LF, and returns 0 to go on; anything else
  * ends the judging, and is what evc_monitor_stop returns, and evc_monitor_status at once. Your
- * calls go on, unrecorded. Where evc.h of the library is included first, its monitor judges each
- * line as it comes, in this process and in constant memory:
+ * calls go on, unrecorded. If evc.h of the library is included first, its monitor judges each line
+ * as it comes, in this process and in constant memory:
  *
  *     evc_monitor_library judge;
  *     evc_monitor_start(&m, &c, evc_monitor_by_library, evc_monitor_library_open(&judge));
@@ -37,7 +37,7 @@
 #include <signal.h>
 #include <sys/wait.h>
 
-/* Takes a line of a history. Returns 0, or else why no more are wanted: 1 if it is refused. */
+/* Judges a line of a history. Returns 0, or why it takes no more lines: 1 if the line is wrong. */
 typedef int (*evc_monitor_judge)(void *state, const char *line, size_t length);
 
 /* The statuses that are not the judge's. */
@@ -63,7 +63,7 @@ static inline int evc_monitor_line_(evc_monitor_thread *m, const char *line, siz
     return status == 0;
 }
 
-/* Gives the lines up to `run`. */
+/* Judges the lines up to `run`. */
 static inline void evc_monitor_heading_(evc_monitor_thread *m) {
     evc_sink_ sink = {NULL, 0, 0, 0, -1, 0};
     m->pass.line = evc_put_heading_(&sink, m->calls->head) + 1;
@@ -102,7 +102,7 @@ static inline void evc_monitor_find_(evc_monitor_thread *m, int worker) {
     evc_find_(&m->pass, worker);
 }
 
-/* Gives the line of a worker's event, and moves on. */
+/* Judges the line of a worker's event, and moves its cursor on. */
 static inline void evc_monitor_event_(evc_monitor_thread *m, int worker) {
     char line[8192];
     evc_pass_ *p = &m->pass;
@@ -126,7 +126,7 @@ static inline void evc_monitor_event_(evc_monitor_thread *m, int worker) {
     evc_monitor_find_(m, worker);
 }
 
-/* Gives all events before a cut. */
+/* Judges all events before a cut. */
 static inline void evc_monitor_batch_(evc_monitor_thread *m, uint64_t cut) {
     evc_pass_ *p = &m->pass;
     enum evc_calls_fault fault = EVC_CALLS_OK;
@@ -164,7 +164,7 @@ static inline void *evc_monitor_main_(void *given) {
 }
 
 /* Begins to judge a record, after all is declared and before the first call. Returns whether it
- * does: not for a record that is kept in a file, or has a fault. */
+ * does: not if the record is kept in a file, or has a fault. */
 static inline int evc_monitor_start(evc_monitor_thread *m, evc_calls *c, evc_monitor_judge judge,
                                     void *state) {
     memset(m, 0, sizeof *m);
@@ -185,8 +185,8 @@ static inline int evc_monitor_start(evc_monitor_thread *m, evc_calls *c, evc_mon
     return m->is_running;
 }
 
-/* Judges what is left, ends the history and the monitor, and returns its status. A call that is
- * under way stays pending. */
+/* Judges what is left, ends the history and the monitor, and returns its status. A call that has
+ * not returned stays pending. */
 static inline int evc_monitor_stop(evc_monitor_thread *m) {
     if (!m->is_running)
         return EVC_MONITOR_NO_RECORD;
@@ -219,7 +219,7 @@ static inline void evc_monitor_pending(const evc_monitor_thread *m, char *note, 
 }
 
 /* A judge: `evc-calls check`, a process of its own, the program in EVC_CALLS or on PATH. It answers
- * at the end alone, and takes texts of at most 67108864 bytes: what comes after is not judged. */
+ * only at the end, and takes texts of at most 67108864 bytes: what comes after is not judged. */
 typedef struct evc_monitor_program {
     const char *program;
     int in, notes, has_ended;
@@ -280,7 +280,7 @@ static inline int evc_monitor_verdict_(evc_monitor_program *p) {
     return status == 0 || status == 1 ? status : EVC_MONITOR_NO_VERDICT;
 }
 
-/* Hands a line on. */
+/* Passes a line to the program. */
 static inline int evc_monitor_by_program(void *state, const char *line, size_t length) {
     evc_monitor_program *p = (evc_monitor_program *)state;
     if (p->child < 0)
@@ -299,11 +299,11 @@ static inline int evc_monitor_by_program(void *state, const char *line, size_t l
 }
 
 #ifdef EVC_H
-/* A judge: the library's monitor. It refuses a line when it comes, and takes histories of any
+/* A judge: the library's monitor. It rejects a line when it comes, and takes histories of any
  * length, but no calls of cells and databases. */
 typedef struct evc_monitor_library {
     struct evc_monitor monitor;
-    char note[EVC_NOTES_ROOM + 1]; /* why it goes no further */
+    char note[EVC_NOTES_ROOM + 1]; /* why it judges no more */
 } evc_monitor_library;
 
 /* Opens the library's monitor. Returns what evc_monitor_by_library takes. */
@@ -313,7 +313,7 @@ static inline evc_monitor_library *evc_monitor_library_open(evc_monitor_library 
     return l;
 }
 
-/* Hands a line to it. */
+/* Passes a line to the library's monitor. */
 static inline int evc_monitor_by_library(void *state, const char *line, size_t length) {
     evc_monitor_library *l = (evc_monitor_library *)state;
     int status = evc_monitor_line(&l->monitor, (const uint8_t *)line, length - 1);
@@ -325,7 +325,7 @@ static inline int evc_monitor_by_library(void *state, const char *line, size_t l
     return status == EVC_STATUS_REFUSED ? 1 : EVC_MONITOR_NO_VERDICT;
 }
 
-/* Frees what it has taken, after the stop. */
+/* Frees what the library's monitor has allocated, after the stop. */
 static inline void evc_monitor_library_close(evc_monitor_library *l) {
     evc_monitor_close(&l->monitor);
 }

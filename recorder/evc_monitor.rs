@@ -1,13 +1,13 @@
 //! Judges the calls of a program that does not end, while it runs.
 //!
-//! Plain Rust, this module beside evc_calls.rs, no dependency. Nothing of it is proved: it hands
-//! the history to a judge, line by line.
+//! Plain Rust, this module and evc_calls.rs, no dependency. Nothing of it is proved: it passes the
+//! history to a judge, line by line.
 //!
 //!     let mut record = Record::new(Clock::Counter)?; // declared as usual, without a file
 //!     let mut a = record.worker("a", 4096)?;
 //!     let monitor = Monitor::start(record, by_program())?;
 //!     // .. the threads record their calls
-//!     monitor.stop()?; // each line was taken, and the end
+//!     monitor.stop()?; // each line was accepted, and the end
 //!
 //! Each worker's buffer is then a ring. A thread of the monitor empties the rings in the order of
 //! the stamps, makes lines of the events, and gives them to the judge, one after another, with
@@ -26,7 +26,7 @@ use std::sync::atomic::{AtomicBool, Ordering::*};
 use std::sync::Arc;
 use std::thread::{self, JoinHandle};
 
-/// What a judge takes when a line comes.
+/// A judge, which is called with each line.
 pub type Judged = Result<(), Wrong>;
 
 /// Why the judging ended before the stop, or with it.
@@ -74,7 +74,7 @@ pub struct Monitor {
 
 impl Monitor {
     /// Begins to judge a record, after all is declared and before the first call: an error if
-    /// there was one, or if a file keeps the record.
+    /// there is no worker, if there was a call, or if the record is kept in a file.
     pub fn start(
         record: Record,
         judge: impl FnMut(&str) -> Judged + Send + 'static,
@@ -97,8 +97,8 @@ impl Monitor {
         self.thread.is_finished()
     }
 
-    /// Judges what is left, and ends the history and the monitor. A call that is under way stays
-    /// pending.
+    /// Judges what is left, and ends the history and the monitor. A call that has not returned
+    /// stays pending.
     pub fn stop(self) -> Result<Right, Wrong> {
         self.ends.store(true, Release);
         let panicked = |_| Err(Wrong::NoVerdict("the judge panicked".into()));
@@ -106,7 +106,7 @@ impl Monitor {
     }
 }
 
-/// Gives all lines to a judge, until it wants no more or the monitor is to end.
+/// Gives all lines to a judge, until it returns an error or the monitor has to end.
 fn judged(
     shared: &Shared,
     ends: &AtomicBool,
@@ -145,7 +145,7 @@ fn batch(
 }
 
 /// Judges by `evc-calls check`, a process of its own: the program in EVC_CALLS, or on PATH. It
-/// answers at the end alone, and takes texts of at most 67108864 bytes: what comes after is not
+/// answers only at the end, and takes texts of at most 67108864 bytes: what comes after is not
 /// judged.
 pub fn by_program() -> impl FnMut(&str) -> Judged + Send {
     let mut program = Program::start();

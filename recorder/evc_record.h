@@ -11,7 +11,7 @@
  *
  *     evc_lock(&r);                       on the thread of worker a, around each atomic step
  *     atomic_fetch_add(&count, 1);
- *     evc_done(&r, a, "advance E");       writes the line, and gives the lock back
+ *     evc_done(&r, a, "advance E");       writes the line, and releases the lock
  *
  *     enum evc_fault fault = evc_finish(&r, "my.trace");
  *     evc_close(&r);
@@ -19,8 +19,8 @@
  * The first fault is kept; evc_first_fault returns it at any time. After it your steps go on,
  * unrecorded. If it came before the end, the text stays without its last line, so that `evc check`
  * calls it `unfinished`. The record is in memory until evc_finish: a program that crashes leaves
- * none. One that hangs leaves its trace so far by evc_watch or evc_write_so_far. Every call but
- * evc_open and evc_close may be made by any thread.
+ * none. One that hangs leaves its trace so far by evc_watch or evc_write_so_far. Any thread may
+ * make every call except evc_open and evc_close.
  */
 #ifndef EVC_RECORD_H
 #define EVC_RECORD_H
@@ -75,7 +75,7 @@ typedef struct evc_record {
     unsigned long long limit;
     char names[EVC_WORKERS_MAX][32];
     struct evc_text objects, steps, whole;
-    size_t heading; /* the bytes of the heading and of the last line, but for the objects */
+    size_t heading; /* the bytes of the header and of the last line, without the objects */
     int at_gate;
     unsigned long long chance[EVC_WORKERS_MAX]; /* what the pauses of each worker come from */
     pthread_t watchdog;
@@ -110,7 +110,7 @@ static inline int evc_put_(evc_record *r, struct evc_text *text, const char *byt
     return 1;
 }
 
-/* Puts a line, with its line feed, where the trace has room for it. */
+/* Adds a line, with its line feed, if the trace has room for it. */
 static inline void evc_line_(evc_record *r, struct evc_text *text, char *line, int length) {
     if (length < 0 || (unsigned)length > EVC_LINE_MAX || memchr(line, '\n', (size_t)length)) {
         evc_fail_(r, EVC_BAD_LINE);
@@ -165,8 +165,8 @@ static inline enum evc_fault evc_name_fault_(const char *name, size_t length) {
     return strstr(reserved, word) ? EVC_RESERVED_WORD : EVC_OK;
 }
 
-/* Returns the name of what a line declares, and its length: of `both` the line itself. Returns NULL
- * where it declares nothing. */
+/* Returns the name of what a line declares, and its length: for `both` the line itself. Returns
+ * NULL if it declares nothing. */
 static inline const char *evc_declared_(const char *line, size_t *length) {
     static const char *const kinds[] = {"eventcount ", "sequencer ", "cells ",
                                         "buffer ",     "database ",  "semaphore "};
@@ -199,7 +199,7 @@ static inline int evc_is_taken_(const evc_record *r, const char *name, size_t le
     return 0;
 }
 
-/* Declares a worker, and returns the number by which its steps name it, or -1 where there was a
+/* Declares a worker, and returns the number by which its steps name it, or -1 if there was a
  * fault. */
 static inline int evc_worker(evc_record *r, const char *name) {
     int worker = -1;
@@ -223,7 +223,7 @@ static inline int evc_worker(evc_record *r, const char *name) {
 }
 
 /* Declares objects, by a line of docs/REFERENCE.md, as "sequencer T take a b". Returns what is wrong
- * with it; the workers and numbers in it are not looked at. */
+ * with it. The workers and numbers in it are not checked. */
 static inline enum evc_fault evc_declare(evc_record *r, const char *declaration) {
     char line[EVC_LINE_MAX + 2];
     size_t length = 0;
@@ -254,8 +254,8 @@ static inline enum evc_fault evc_first_fault(evc_record *r) {
     return fault;
 }
 
-/* Waits until so many threads are here: before the first step, that they start at once. It can be
- * used again. */
+/* Waits until so many threads are here, so that they begin their first steps at once. It can be used
+ * again. */
 static inline void evc_gate(evc_record *r, int threads) {
     pthread_mutex_lock(&r->lock);
     int all = (r->at_gate / threads + 1) * threads, here = ++r->at_gate;
@@ -284,7 +284,7 @@ static inline void evc_pause_between(evc_record *r, int worker) {
         sched_yield();
 }
 
-/* Takes the lock for one atomic step. One of the three calls below gives it back. */
+/* Takes the lock for one atomic step. One of the three calls below releases it. */
 static inline void evc_lock(evc_record *r) { pthread_mutex_lock(&r->lock); }
 
 static inline void evc_step_(evc_record *r, int worker, const char *reply, const char *act,
@@ -345,7 +345,7 @@ static inline void evc_number(evc_record *r, int worker, unsigned long long numb
     va_end(more);
 }
 
-/* Makes the trace of the steps so far, with its last line where there was no fault. */
+/* Makes the trace of the steps so far, with its last line if there was no fault. */
 static inline void evc_make_whole_(evc_record *r) {
     char line[64];
     r->whole.length = 0;
@@ -362,9 +362,9 @@ static inline void evc_make_whole_(evc_record *r) {
         evc_put_(r, &r->whole, "end\n", 4);
 }
 
-/* Ends the record, and returns the bytes of the trace. They stay until evc_close. Where there was a
- * fault it is returned: the bytes are those up to it, without the last line, or the whole trace
- * where the fault came after the end. The pointer may be NULL where the fault is EVC_NO_MEMORY. */
+/* Ends the record, and returns the bytes of the trace, which stay until evc_close. If there was a
+ * fault, it is returned: the bytes are those up to it, without the last line, or the whole trace if
+ * the fault came after the end. The pointer may be NULL if the fault is EVC_NO_MEMORY. */
 static inline enum evc_fault evc_finish_bytes(evc_record *r, const char **bytes, size_t *length) {
     pthread_mutex_lock(&r->lock);
     if (!r->finished) {
@@ -387,8 +387,8 @@ static inline int evc_file_(const char *path, const char *bytes, size_t length) 
     return written;
 }
 
-/* Ends the record, and writes the trace into a file. Returns the first fault, or EVC_NOT_WRITTEN
- * where there was none but this file was not written: then it may be tried again. */
+/* Ends the record, and writes the trace into a file. Returns the first fault, or EVC_NOT_WRITTEN if
+ * there was none but this file was not written: then it may be tried again. */
 static inline enum evc_fault evc_finish(evc_record *r, const char *path) {
     const char *bytes;
     size_t length;
@@ -429,7 +429,7 @@ static inline int evc_watch(evc_record *r, int seconds, const char *path) {
     return r->is_watched;
 }
 
-/* Returns how many bytes the steps have, or 0 where the lock is held. */
+/* Returns how many bytes the steps have, or 0 if the lock is held. */
 static inline size_t evc_steps_(evc_record *r) {
     size_t length = 0;
     if (pthread_mutex_trylock(&r->lock) == 0) {
@@ -465,7 +465,7 @@ static inline void *evc_record_watch_(void *given) {
     return NULL;
 }
 
-/* Lets go of the record's memory. No other call is under way then. */
+/* Frees the record's memory. No other call may be running then. */
 static inline void evc_close(evc_record *r) {
     if (r->is_watched) {
         pthread_mutex_lock(&r->watch_lock);

@@ -87,7 +87,7 @@ const RESERVED: &str = " advance await both buffer cells consume database done e
     get go hand last limit observe p pboth pending produce put read repeat run schedule semaphore \
     sequencer signal snapshot take ticket use v worker workers write ";
 
-/// Returns what is wrong with a name, after others.
+/// Returns what is wrong with a name, if these others were declared before it.
 fn fault_of_name(name: &str, others: &[&str]) -> Option<Fault> {
     let is_name = (1..=16).contains(&name.len())
         && name.starts_with(|it: char| it.is_ascii_alphabetic())
@@ -100,7 +100,7 @@ fn fault_of_name(name: &str, others: &[&str]) -> Option<Fault> {
     }
 }
 
-/// Returns what is wrong with the first declaration that can't be.
+/// Returns what is wrong with the first name that is wrong.
 fn fault_of_names(workers: &[&str], objects: &[&str]) -> Option<Fault> {
     const KINDS: &str = " eventcount sequencer cells buffer database semaphore ";
     let (mut names, mut has_both): (Vec<&str>, bool) = (vec![], false);
@@ -134,7 +134,7 @@ struct Text {
 }
 
 impl Text {
-    /// Puts a line, with its line feed, where the trace has room for it and for its last line.
+    /// Adds a line, with its line feed, if the trace has room for it and for its last line.
     fn line(&mut self, line: &str) {
         if self.fault.is_some() {
             return;
@@ -195,7 +195,7 @@ impl Record {
         self.lock().fault
     }
 
-    /// Ends the record, and gives the bytes of the trace.
+    /// Ends the record, and returns the bytes of the trace.
     pub fn bytes(self) -> Result<Vec<u8>, Fault> {
         let (bytes, fault) = self.ended();
         fault.map_or(Ok(bytes), Err)

@@ -16,19 +16,19 @@
  *
  * (In C++ set its fields one after another, as their order counts there.)
  *
- * JUDGES. Without evc.h before it the judge is the program `evc-calls`, found on PATH or by the
- * variable EVC_CALLS. Or set `judge`: evc_stress_by_library, evc_stress_by_program, or a function
- * of yours.
+ * JUDGES. If evc.h is not included before it, the judge is the program `evc-calls`, found on PATH
+ * or by the variable EVC_CALLS. Or set `judge`: evc_stress_by_library, evc_stress_by_program, or a
+ * function of yours.
  *
  * SHAPES. EVC_STRESS_MIXED: half of the threads (`producers`) advance and read, the others read and
  * await. EVC_STRESS_RING: each thread awaits its turn and advances, so every wake-up is needed. For
  * other objects give `declare` and `work` in place of advance, read and await.
  *
  * All threads spin at a gate and start at once, and pause by chance between calls. The same seed
- * gives the same pauses; how the threads meet is up to the machine. It stops at the first history
- * that is refused or hung, and keeps it as the file `keep`, with its note in `keep`.note. A pass
- * counts only as far as calls met: `overlap` is how many calls of others were pending when one was
- * called, on average. Below 0.3 a pass is called weak. */
+ * gives the same pauses; how the threads interleave is up to the machine. It stops at the first
+ * history that is wrong or hung, and keeps it as the file `keep`, with its note in `keep`.note. A
+ * pass says little if few calls overlapped: `overlap` is how many calls of others were pending when
+ * one was called, on average. Below 0.3 a pass is called weak. */
 #ifndef EVC_STRESS_H
 #define EVC_STRESS_H
 
@@ -38,10 +38,10 @@
 #include <sys/wait.h>
 
 /* Judges a history, or several, one after another. Returns 0 if each is linearizable, 1 if one is
- * refused, and else that there is no verdict. The note is lines, ended by 0: why, or remarks. */
+ * not, and otherwise a status without a verdict. The note is lines, ended by 0: why, or remarks. */
 typedef int (*evc_judge)(const char *text, size_t length, char *note, size_t room);
 
-/* Hands a text to the judge's input, and reads its notes. */
+/* Writes a text to the judge's input, and reads its notes. */
 static inline void evc_judge_talk_(int in, int notes, const char *text, size_t length, char *note,
                                    size_t room) {
     void (*before)(int) = signal(SIGPIPE, SIG_IGN); /* (it may have seen enough) */
@@ -101,7 +101,7 @@ static inline int evc_stress_by_library(const char *text, size_t length, char *n
 }
 #endif
 
-/* The judge where none is given. */
+/* The judge if none is given. */
 #ifndef EVC_STRESS_JUDGE
 #ifdef EVC_H
 #define EVC_STRESS_JUDGE evc_stress_by_library
@@ -163,12 +163,12 @@ typedef struct evc_hand_ {
 } evc_hand_;
 
 typedef struct evc_stress {
-    /* To be set. For 0 or NULL stands what is in brackets. */
+    /* To be set. 0 or NULL means what is in brackets. */
     int threads;   /* at most 16 [4] */
     int rounds;    /* [1000] */
     int room;      /* for the calls of a thread in a round [64] */
-    int batch;     /* so many rounds are judged together [20 by the program, else 1] */
-    int producers; /* so many threads advance, where the shape is mixed [half, rounded up] */
+    int batch;     /* so many rounds are judged together [20 by the program, otherwise 1] */
+    int producers; /* so many threads advance, if the shape is mixed [half, rounded up] */
     uint64_t seed;
     double hang_seconds; /* without an invocation or a response [10]; it waits longer for threads
                             that the machine has not given their turn */
@@ -184,7 +184,7 @@ typedef struct evc_stress {
     uint64_t (*await)(void *mine, uint64_t threshold);
     void (*declare)(void *mine, evc_calls *record);
     void (*work)(void *mine, evc_caller *worker, int number, evc_chance *chance);
-    /* What came out. */
+    /* The results. */
     int round; /* the last one, from 1 */
     uint64_t calls;
     double overlap, seconds;
@@ -219,7 +219,7 @@ static inline uint64_t evc_stress_read_(evc_stress *s, evc_caller *w) {
     return count;
 }
 
-/* Awaits a count, and returns the one that it then has at least. */
+/* Awaits a count, and returns what the count then is at least. */
 static inline uint64_t evc_stress_await_(evc_stress *s, evc_caller *w, uint64_t threshold) {
     evc_call_await(w, s->E, threshold);
     uint64_t count = s->await(s->mine, threshold);
@@ -262,9 +262,9 @@ static inline void evc_stress_ring_(evc_stress *s, evc_hand_ *h) {
 
 /* The threads. */
 
-/* Waits for a round, and then for the other threads, spinning. The last one that comes opens for
- * all. If each thread can have a processor it spins for long, so that all start at once on a
- * machine with other work too. Returns 0 at the end. */
+/* Waits for a round, and then for the other threads, spinning. The last one that comes lets all go.
+ * If each thread can have a processor, it spins for long, so that all start at once even on a
+ * machine with other work. Returns 0 at the end. */
 static inline int evc_stress_gate_(evc_stress *s, uint64_t round) {
     int spins = 0;
     while (__atomic_load_n(&s->begun, __ATOMIC_ACQUIRE) != round) {
@@ -282,8 +282,8 @@ static inline int evc_stress_gate_(evc_stress *s, uint64_t round) {
     return 1;
 }
 
-/* Moves a thread to the processor of its turn, from which it may go on to others: threads that were
- * started on one would stay there for long. */
+/* Moves a thread to the next processor in turn, from which it may be moved to others: threads that
+ * were started on one would stay there for long. */
 static inline void evc_stress_spread_(int number) {
     unsigned long mask[EVC_MASK_WORDS_];
     uint64_t count = 0, turn;
@@ -381,7 +381,7 @@ static inline int evc_starved_(evc_look_ *look) {
     return starved;
 }
 
-/* How often a round is given more time for threads that have not had their turn. */
+/* How often a round is given more time for threads that have not run. */
 #define EVC_STRESS_PATIENCE_ 40
 
 /* Lets the threads do one round. Returns whether it hung. */
@@ -444,7 +444,7 @@ static inline void evc_stress_keep_(evc_stress *s, const char *text, size_t leng
     }
 }
 
-/* Finds the first wrong one of the histories that wait, and keeps it. */
+/* Finds the first wrong one of the histories that wait for a verdict, and keeps it. */
 static inline enum evc_stress_result evc_stress_find_(evc_stress *s) {
     for (int i = 0; i < s->waiting; i++) {
         size_t end = i + 1 < s->waiting ? s->starts[i + 1] : s->texts.length;
@@ -459,7 +459,8 @@ static inline enum evc_stress_result evc_stress_find_(evc_stress *s) {
     return evc_stress_no_(s, EVC_STRESS_NO_VERDICT, "the judge refuses them together only");
 }
 
-/* Judges the histories that wait. If none is refused, the note has the judge's remarks. */
+/* Judges the histories that wait for a verdict. If none is wrong, the note has the judge's remarks.
+ */
 static inline enum evc_stress_result evc_stress_judge_(evc_stress *s) {
     enum evc_stress_result result = EVC_STRESS_PASSED;
     s->note[0] = 0;
@@ -500,7 +501,8 @@ static inline void evc_stress_pending_(evc_stress *s, const evc_pass_ *pass) {
     s->note[have + (more < room ? more : room)] = 0;
 }
 
-/* Judges a round that hung, with those that wait. If none is refused, it is kept as hung. */
+/* Judges a round that hung, with those that wait for a verdict. If none is wrong, it is kept as
+ * hung. */
 static inline enum evc_stress_result evc_stress_hung_(evc_stress *s) {
     evc_pass_ pass;
     s->round--;
@@ -602,7 +604,7 @@ static inline enum evc_stress_result evc_stress_run(evc_stress *s) {
     return result;
 }
 
-/* Says what came out, and returns the status for it. */
+/* Prints the result, and returns the status for it. */
 static inline int evc_stress_says(const evc_stress *s, enum evc_stress_result result) {
     static const char *const words[] = {"passed", "REFUSED", "no record", "no verdict", "", "HUNG"};
     fprintf(stderr, "%s: round %d, %llu calls, overlap %.2f, %.2f s\n%s", words[result], s->round,

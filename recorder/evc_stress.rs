@@ -1,7 +1,7 @@
 //! Many short rounds of threads on fresh objects, each judged.
 //!
-//! Plain Rust, this module beside evc_calls.rs, no dependency. Nothing of it is proved: a history
-//! is right or wrong because the judge says so.
+//! Plain Rust, this module and evc_calls.rs, no dependency. Nothing of it is proved: a history is
+//! right or wrong because the judge says so.
 //!
 //!     mod evc; // library/evc.rs: with --cfg libevc the library judges, in this process
 //!     mod evc_calls;
@@ -93,7 +93,7 @@ impl Chance {
     }
 }
 
-/// How many rounds there were, and how much the calls met.
+/// How many rounds there were, and how much the calls overlapped.
 #[derive(Clone, Debug, PartialEq)]
 pub struct Passed {
     pub rounds: usize,
@@ -151,11 +151,11 @@ pub struct Stress {
     pub room: u32,
     /// So many rounds are judged together: 1 by the library, 20 by the program.
     pub batch: usize,
-    /// So many threads advance, where the shape is mixed; 0 stands for half of them, rounded up.
+    /// So many threads advance, if the shape is mixed; 0 means half of them, rounded up.
     pub producers: usize,
     pub seed: u64,
-    /// So long without an invocation or a response. It waits longer for threads that the machine
-    /// has not given their turn.
+    /// A round hangs after so long without an invocation or a response. It waits longer for threads
+    /// that the machine has not run.
     pub hang: Duration,
     /// The file for a wrong history.
     pub keep: PathBuf,
@@ -221,7 +221,7 @@ pub fn by_program(text: &str) -> Verdict {
     }
 }
 
-/// The histories that wait for their verdict, and what was counted.
+/// The histories that wait for a verdict, and the counts of all.
 #[derive(Default)]
 struct Waiting {
     texts: Vec<String>,
@@ -259,7 +259,7 @@ impl Stress {
         self.run_with(|record| record.eventcount("E", 0), T::fresh, work)
     }
 
-    /// Runs rounds: what `declare` gives is handed to each thread's `work`, with a fresh object.
+    /// Runs rounds: what `declare` returns is passed to each thread's `work`, with a fresh object.
     pub fn run_with<O: Copy + Send + 'static, T: Send + Sync + 'static>(
         &self,
         declare: impl Fn(&mut Record) -> Result<O, Fault>,
@@ -335,8 +335,8 @@ impl Stress {
         !stage.panicked.load(SeqCst)
     }
 
-    /// Judges a round that hung, or in which a thread panicked, with those that wait. If none is
-    /// refused, it is kept as that.
+    /// Judges a round that hung, or in which a thread panicked, with those that wait for a verdict.
+    /// If none is wrong, it is kept as hung or panicked.
     fn stopped<T, O>(
         &self,
         round: usize,
@@ -359,8 +359,8 @@ impl Stress {
         Err(kind(round, note, path))
     }
 
-    /// Judges the histories that wait, of which the last is of this round. Returns the judge's
-    /// remarks.
+    /// Judges the histories that wait for a verdict, the last of which is of this round. Returns
+    /// the judge's remarks.
     fn judged(&self, round: usize, texts: &mut Vec<String>) -> Result<String, Wrong> {
         let waiting = std::mem::take(texts);
         if waiting.is_empty() {
@@ -394,7 +394,7 @@ impl Stress {
     }
 }
 
-/// How often a round is given more time for threads that have not had their turn.
+/// How often a round is given more time for threads that have not run.
 const PATIENCE: usize = 40;
 
 /// For how many ticks of 10 ms a thread has run, and how often it was given a processor.
@@ -537,9 +537,9 @@ impl<T, O: Copy> Stage<T, O> {
         }
     }
 
-    /// Waits for the others, spinning. The last one that comes opens for all. If each thread can
-    /// have a processor it spins for long, so that all start at once on a machine with other work
-    /// too.
+    /// Waits for the others, spinning. The last one that comes lets all go. If each thread can have
+    /// a processor, it spins for long, so that all start at once even on a machine with other
+    /// work.
     fn pass_gate(&self, round: usize) {
         let all = round * self.given.len();
         let processors = thread::available_parallelism().map_or(1, |it| it.get());

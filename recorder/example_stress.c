@@ -1,4 +1,4 @@
-/* A whole test of one's own eventcount: it passes. With the word `bug` it is refused, or hangs.
+/* A complete test of one's own eventcount: it passes. With the word `bug` it is refused, or hangs.
  *
  *     cc -std=c11 example_stress.c $(pkg-config --cflags --libs evc) -o example_stress
  *

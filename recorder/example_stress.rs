@@ -1,4 +1,4 @@
-//! A whole test of one's own eventcount. With `--cfg bug` it is refused, or hangs. To build it:
+//! A complete test of one's own eventcount. With `--cfg bug` it is refused, or hangs. To build it:
 //! rustc --edition 2021 --test --cfg libevc example_stress.rs -L FOLDER_OF_LIBEVC -l static=evc
 #[path = "../library/evc.rs"]
 mod evc;

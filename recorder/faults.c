@@ -1,10 +1,10 @@
-/* Each fault of a record, by its name: what the recorder is asked for in vain, and what it says. The record that has
- * no room stays as cut.trace. */
+/* Makes each fault of a record, by its name, and shows what the recorder says. The record that is too large stays as
+ * cut.trace. */
 #include <stdint.h>
 #include <stdio.h>
 #include <stdlib.h>
 
-/* The memory of a record, which gives out where it is asked for more than this. */
+/* The memory of a record: an allocation of more than this fails. */
 static size_t memory = SIZE_MAX;
 
 static void *refusing_realloc(void *old, size_t size) { return size > memory ? NULL : realloc(old, size); }

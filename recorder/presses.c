@@ -51,7 +51,7 @@ static void *run_press(void *which) {
     return NULL;
 }
 
-/* One step of the watcher's read: a component, and what is told. */
+/* One step of the watcher's read: a component, and the reply. */
 static void watch(const char *act, int component, unsigned *sum, int is_last) {
     evc_lock(&record);
     *sum += atomic_load(&sheets[component]);

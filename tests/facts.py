@@ -1,6 +1,6 @@
-"""What pages say that the sources fix, for tests/pages: limits, reserved words, refusals, kinds of errors, their causes,
-statuses, outcomes, summaries of commands, the map of the crates, the form of the figures of bench/run and which of them
-are missed, and that each man page can be made.
+"""Facts on pages that the sources define, for tests/pages: limits, reserved words, refusals, kinds of errors, their
+causes, statuses, outcomes, summaries of commands, the map of the crates, the form of the figures of bench/run and which
+of them are missed, and that each man page can be made.
 
 Each check yields what is wrong. The sources are right."""
 
@@ -10,12 +10,13 @@ import re
 import subprocess
 import sys
 
-TOP = os.path.dirname(os.path.dirname(os.path.realpath(__file__)))
+from trying.files import TOP, read
+
 sys.path.insert(0, os.path.join(TOP, "bench"))
 import page as figures
 
-# The rows of docs/REFERENCE.md, "Limits", by their first cells. Of each part of the second cell the greatest number is what
-# these sources have.
+# The rows of docs/REFERENCE.md, "Limits", by their first cells. The last number of each part of the second cell is the one
+# that these sources have.
 LIMITS = {
     "`limit`, the maximum of each component and sequencer": [
         ("ec_heading/src/version.rt", r"Version::Two => ([\d_]+)"),
@@ -39,7 +40,7 @@ LIMITS = {
     ],
     "commands of a worker; its steps in `run`; names in a schedule": [
         ("ec_machine/src/limits.rt", r"COMMANDS_MAX: usize = ([\d_]+)"),
-        ("evc_task/src/line.rt", r"range\(1\.\.=([\d_]+)\)"),
+        ("evc_cli/src/line.rt", r"range\(1\.\.=([\d_]+)\)"),
         ("ec_script/src/kinds.rt", r"SCHEDULE_MAX: usize = ([\d_]+)"),
     ],
     "bytes of a name; of a line without LF; of a script": [
@@ -74,13 +75,8 @@ STATUSES = {
     "NO_MEMORY": "Memory",
     "NOT_DECIDED": "NotDecided",
 }
-# The completions of a program, beside the source of its help.
-COMPLETED = {"evc": "evc_task", "evc-calls": "evc_calls_task"}
-
-
-def read(*path):
-    with open(os.path.join(TOP, *path), encoding="utf-8") as text:
-        return text.read()
+# The programs with completions, each with the crate of its help.
+COMPLETED = {"evc": "evc_cli", "evc-calls": "evc_calls_cli"}
 
 
 def numbers_of(file, pattern):
@@ -116,7 +112,7 @@ def arms(file, kind, pattern):
 
 
 def differing(what, said, right):
-    """Yields what a page says beside what is right, both ways."""
+    """Yields what a page says that is not right, and what is right that it doesn't say."""
     for it in sorted(said - right):
         yield f"{what}: the sources don't have {it}"
     for it in sorted(right - said):
@@ -192,7 +188,7 @@ def faults_of_outcomes():
 
 
 def note_pattern(note):
-    """Returns a pattern for a note of a page, in which numbers, lines and names are any."""
+    """Returns a pattern for a note of a page, in which numbers, lines and names are free."""
     found = []
     lines = r"\blines? (?:[KLN]|\d+)(?: \d+| and \d+)*"
     for it in re.split(rf"(\.\.|{lines}|\d+th|\d+(?:\.\d+)?|X\[0\]|\b[ESTb]\b|advances?|tickets?)", note):
@@ -235,7 +231,7 @@ def faults_of_summaries():
 
 def faults_of_options():
     """Looks for the options of evc-draw, by its help, in REFERENCE and in its completions."""
-    options = re.findall(r'"([a-z]+)", help::', read("crates/evc_draw_task/src/line.rt"))
+    options = re.findall(r'"([a-z]+)", help::', read("crates/evc_draw_cli/src/line.rt"))
     page = section("REFERENCE.md", "## Pictures")
     for name in options:
         if f"`--{name}" not in page and name not in ("help", "version"):
@@ -254,7 +250,7 @@ def faults_of_map():
 
 
 def faults_of_performance():
-    """Compares the tables and lines of figures with what bench/run makes, and the figures with those it has as missed."""
+    """Compares the form of tables and lines with what bench/run makes, and which figures are bold with the targets."""
     yield from (f"docs/PERFORMANCE.md: {it}" for it in figures.faults(read("docs", "PERFORMANCE.md")))
 
 

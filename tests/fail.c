@@ -1,12 +1,12 @@
-/* Has one read or one write of the program that it is preloaded into fail, and others move few bytes.
+/* Makes one read or one write of the program that it is preloaded into fail, and others move few bytes.
 
-   FAILED_READ=N    read N of standard input fails, counted from 0, with the error of number FAILED_ERROR, or else as a
-                    connection that was reset.
-   FAILED_WRITE=N   write N to standard output fails, or takes nothing where FAILED_TAKES is set.
+   FAILED_READ=N    read N of standard input fails, counted from 0, with the error of number FAILED_ERROR, by default
+                    as a connection that was reset.
+   FAILED_WRITE=N   write N to standard output fails, or takes nothing if FAILED_TAKES is set.
    FAILED_NOTE=N    write N to standard error fails.
    FAILED_PIECE=N   each other read and write of these moves N bytes at most.
 
-   tests/run-failures builds it. No header is included, so that it takes the toolchain's compiler alone. */
+   tests/trying/running.py builds it. No header is included, so that it needs only the toolchain's compiler. */
 
 typedef unsigned long size_t;
 typedef long ssize_t;

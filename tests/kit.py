@@ -1,4 +1,4 @@
-"""The kit's command `rt` as a Python module, for the tests that listen to its checks."""
+"""The kit's command `rt` as a Python module, for the tests that read what its checks say."""
 
 import importlib.machinery
 import importlib.util
@@ -11,7 +11,7 @@ import tempfile
 
 
 def load():
-    """Returns the command `rt` that is on PATH as a module, or ends where there is none."""
+    """Returns the command `rt` that is on PATH as a module, or ends if there is none."""
     found = shutil.which("rt")
     if found is None:
         sys.exit("the toolchain's command 'rt' is not on PATH")
@@ -23,9 +23,9 @@ def load():
 
 
 def check_functions(rt, crate, texts, ends, kept):
-    """Checks the functions whose names have these ends, in a crate with these texts, and returns what the check says. It goes
-    over a copy of the kept work, so that the next check finds that as it was: each check keeps what it read in the place of
-    what was there."""
+    """Checks the functions whose names have these ends, in a crate with these texts, and returns what the check says. It
+    uses a copy of the kept work, so that the next check finds that unchanged: each check replaces what was there by what it
+    read."""
     flags = ["--jobs", "1", *(word for end in ends for word in ("--only", end))]
     with tempfile.TemporaryDirectory(prefix="rt-kept-") as room, tempfile.TemporaryDirectory(prefix="rt-edit-") as folder:
         if os.path.isdir(kept):
@@ -43,8 +43,8 @@ def check_functions(rt, crate, texts, ends, kept):
 
 
 def linked(old, new):
-    """Gives a file of kept work a second name, or copies it where that can't be. A check never writes into such a file:
-    it puts a new one in its place."""
+    """Gives a file of kept work a second name, or copies it if that isn't possible. A check never writes into such a file:
+    it replaces it by a new one."""
     try:
         os.link(old, new)
     except OSError:
@@ -52,9 +52,9 @@ def linked(old, new):
 
 
 def keep_proof(crate, kept):
-    """Puts what the proof of a library has left in its rlib where a check looks for work that is kept, so that a check
-    of the crate with a few changes proves these alone. Such a module counts only while all that it was proved from is
-    the same; where there is none, as of a program, the check proves all."""
+    """Copies what the proof of a library has left in its rlib to where a check looks for kept work. So a check of the crate
+    with a few changes proves only these. Such a module counts only while all that it was proved from is the same. If
+    there is none, as of a program, the check proves all."""
     modules, archive = (f"{crate.rlib}/toolchain/checked.{it}" for it in ("json", "a"))
     if not os.path.isfile(modules):
         return
@@ -69,6 +69,6 @@ def keep_proof(crate, kept):
 
 
 def made_by(crate):
-    """Returns what made a crate's rlib, as kept work names it."""
+    """Returns what built a crate's rlib, as kept work names it."""
     with open(f"{crate.rlib}/format", encoding="utf-8") as lines:
         return next(it.split(" ", 1)[1].strip() for it in lines if it.startswith("rattle-build "))

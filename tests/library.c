@@ -1,12 +1,15 @@
 /* Makes calls of library/evc.h, one for each request on standard input, and answers on standard output.
    tests/run-library builds it, and says what is asked and what has to come.
 
-   A request: 8 bytes, the first of which names the call (c, a, u, s, or h for histories of calls, or m for a monitor of them); three numbers of 8 bytes, lowest first: the length
-   of the input, the room for the text and that for the notes; and the input (v asks for the version, which comes as the status). An answer: 8 bytes, the status, one that is 1
-   where a byte was changed that had to stay, or a monitor answered otherwise than evc.h says, and six more; the two lengths that the call told; the text and the notes. It
-   takes nothing from malloc, so that every request for memory is the library's.
+   A request: 8 bytes, the first of which names the call (c, a, u, s, or h for histories of calls, or m for a monitor of
+   them, or v for the version, which is returned as the status); three numbers of 8 bytes, lowest first: the length of the
+   input, the room for the text and that for the notes; and the input. An answer: 8 bytes, namely the status, one that is
+   1 if a byte was changed that had to stay, or if a monitor answered otherwise than evc.h says, and six more; the two
+   lengths that the call returned; the text and the notes. The driver uses no malloc, so that every allocation is the
+   library's.
 
-   To a monitor the lines of the input are given one by one, and then to a second one, whose answer comes. Its text is the load, three numbers of 8 bytes, and a fourth: the number of the line with the first status that was not
+   The lines of the input are given to a monitor one by one, and then to a second one, whose answer is returned. Its text
+   is the load, three numbers of 8 bytes, and a fourth: the number of the line with the first status that was not
    EVC_STATUS_DONE, or 0. */
 #include "../library/evc.h"
 
@@ -44,7 +47,7 @@ static void give(const void *from, size_t length) {
     }
 }
 
-/* Whether the bytes from one place up to another are still the mark. */
+/* Returns whether the bytes from one address up to another are still the mark. */
 static int is_marked(const uint8_t *bytes, size_t from, size_t end) {
     for (size_t i = from; i < end; i++)
         if (bytes[i] != MARK)
@@ -52,7 +55,7 @@ static int is_marked(const uint8_t *bytes, size_t from, size_t end) {
     return 1;
 }
 
-/* (of the C library that the tests run on: how many bytes of malloc's are in use) */
+/* (from the C library that the tests run on: how many bytes of malloc's are in use) */
 struct mallinfo2 {
     size_t arena, ordblks, smblks, hblks, hblkhd, usmblks, fsmblks, uordblks, fordblks, keepcost;
 };
@@ -64,7 +67,7 @@ static struct {
     uint8_t behind[64];
 } place;
 
-/* Gives a monitor the lines of the input, and its end. Says whether a later status was another. */
+/* Gives a monitor the lines of the input, and its end. Returns whether a later status differed from the first. */
 static int feed(size_t length, uint8_t *status, uint64_t *line_of_first) {
     uint64_t number = 0;
     int is_other = 0;
@@ -87,15 +90,15 @@ static int feed(size_t length, uint8_t *status, uint64_t *line_of_first) {
     return 0;
 }
 
-/* Whether a monitor whose text has ended, or that was closed, says so, and takes nothing. */
+/* Returns whether a monitor whose text has ended, or that was closed, says so, and accepts nothing. */
 static int has_no_use(void) {
     uint8_t note[1];
     return evc_monitor_line(&place.monitor, input, 0) == EVC_STATUS_USAGE && evc_monitor_end(&place.monitor) == EVC_STATUS_USAGE &&
            evc_monitor_note(&place.monitor, note, sizeof note) == 0;
 }
 
-/* Judges the input by a monitor. Returns whether it answered otherwise than evc.h says, or did not free all that it took. (The
-   first request of a process takes some memory for malloc's own use.) */
+/* Judges the input by a monitor. Returns whether it answered otherwise than evc.h says, or did not free all that it
+   allocated. (The first request of a process takes some memory for malloc's own use.) */
 static int judge(size_t length, size_t room, uint8_t *status, size_t *noted) {
     struct evc_load load[2];
     uint64_t line;

@@ -5,7 +5,7 @@ mod evc;
 const HISTORY: &str = "evc-calls 1\nlimit 100\nworkers a b\neventcount E signal a b observe a b\nrun\n\
     a calls advance E\na returns done\nb calls read E\nb returns 1\nend\n";
 
-/// Gives a monitor each line, up to the first that it refuses.
+/// Gives a monitor each line, up to the first that it rejects.
 fn lines(monitor: &mut evc::Monitor, text: &str) -> Result<(), evc::Fault> {
     text.lines().try_for_each(|line| monitor.line(line.as_bytes()))
 }

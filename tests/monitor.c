@@ -4,12 +4,12 @@
  *
  * Four threads make so many calls each, of an eventcount, a sequencer and, as one in eight calls, a
  * database, in rings that are small. KIND is right; or with a bug: lost (one advance in 100 is
- * lost), twice (so are tickets drawn twice); or misused, or pending (a call is under way at the
- * stop). The judge is `evc-calls`; or with the word file, which comes after the kind as in
- * right-file, the lines are written into OUT; or with the word stop, it takes no more than 1000
- * lines; or with the word library, where evc.h is included before all else, it is the library's
- * monitor, and no call is of the database. It says the status, and the notes. Last it says whether its memory grew by more than 8 MB
- * after the first tenth. */
+ * lost), twice (one ticket in 100 is drawn twice); or misused, or pending (a call has not returned
+ * at the stop). The judge is `evc-calls`; or with the word file, which comes after the kind as in
+ * right-file, the lines are written into OUT; or with the word stop, it takes at most 1000 lines; or
+ * with the word library, if evc.h is included before all else, it is the library's monitor, and no
+ * call is of the database. The program prints the status and the notes, and last whether its memory
+ * grew by more than 8 MB after the first tenth. */
 #ifdef EVC_H
 #define HAS_LIBRARY
 #endif
@@ -40,7 +40,7 @@ static int until_stop(void *state, const char *line, size_t length) {
     return ++lines > 1000 ? 7 : 0;
 }
 
-/* Adds one, or seldom doesn't. */
+/* Adds one. With a bug one call in 100 doesn't. */
 static uint64_t add(uint64_t *number, int has_bug, uint64_t chance) {
     return has_bug && chance % 100 == 0 ? __atomic_load_n(number, __ATOMIC_SEQ_CST)
                                          : __atomic_fetch_add(number, 1, __ATOMIC_SEQ_CST);
@@ -64,7 +64,7 @@ static void call(evc_caller *w, uint64_t chance) {
     }
 }
 
-/* Returns the greatest memory so far, in KB. */
+/* Returns the peak memory so far, in KB. */
 static long memory(void) {
     struct rusage usage;
     getrusage(RUSAGE_SELF, &usage);

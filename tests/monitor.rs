@@ -28,7 +28,7 @@ impl Objects {
     }
 }
 
-/// Adds one, or seldom doesn't.
+/// Adds one. With a bug one call in 100 doesn't.
 fn add(number: &AtomicU64, has_bug: bool, chance: u64) -> u64 {
     match has_bug && chance % 100 == 0 {
         true => number.load(SeqCst),
@@ -96,7 +96,7 @@ fn judge(kind: &str, out: &str) -> Box<dyn FnMut(&str) -> Judged + Send> {
     Box::new(evc_monitor::by_program())
 }
 
-/// Returns the greatest memory so far, in KB.
+/// Returns the peak memory so far, in KB.
 fn memory() -> u64 {
     let status = std::fs::read_to_string("/proc/self/status").unwrap_or_default();
     let line = status.lines().find(|it| it.starts_with("VmHWM"));

@@ -204,7 +204,7 @@ static void hang(void) {
         pause();
 }
 
-/* Does what the kind has in store for this worker. */
+/* Does what the kind of run provides for this worker. */
 static void meet_fate(evc_caller *w) {
     if (is_kind("abort")) {
         evc_call_advance(w, E);

@@ -1,11 +1,11 @@
-/* Refuses one request for memory, or one start of a thread, of the program that it is preloaded into.
+/* Makes one allocation, or one start of a thread, fail in the program that it is preloaded into.
 
-   REFUSED_REQUEST=N   the N-th call of malloc and realloc, counted over all threads, gives nothing.
+   REFUSED_REQUEST=N   the N-th call of malloc and realloc, counted over all threads, returns NULL.
    REFUSED_START=N     the N-th call of pthread_create fails.
-   REFUSED_TELL=FD     where this file descriptor is told so, at that moment: a program may end by _exit,
-                       and then nothing that would run at its end can tell.
+   REFUSED_TELL=FD     the failure is written to this file descriptor at once: a program may end by _exit,
+                       and then nothing that would run at its end can report it.
 
-   tests/run-refusals builds it. No header is included, so that it takes the toolchain's compiler alone. */
+   tests/trying/running.py builds it. No header is included, so that it needs only the toolchain's compiler. */
 
 typedef unsigned long size_t;
 
@@ -24,7 +24,7 @@ static long number_of(const char *name) {
     return value ? atol(value) : -1;
 }
 
-/* Counts a call, and says whether it is the one to be refused. */
+/* Counts a call, and returns whether it is the one that fails. */
 static int is_refused(long *calls, const char *name) {
     if (__atomic_add_fetch(calls, 1, __ATOMIC_SEQ_CST) != number_of(name)) return 0;
     long tell = number_of("REFUSED_TELL");

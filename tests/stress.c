@@ -7,7 +7,7 @@
  * aborts in an advance of the third round, and the file x.record has that round); unkept (lost, and
  * its history can't be written); or ticket and lock, other objects with bugs; or full, misused,
  * misnamed, silent, outside, faults of the test itself: outside hangs between its calls. SHAPE is
- * mixed or ring. The judge is the library if the compiler was given evc.h before this. */
+ * mixed or ring. The judge is the library if evc.h was included before this. */
 #include "../recorder/evc_record.h"
 #include "../recorder/evc_stress.h"
 
@@ -24,7 +24,7 @@ static void store(uint64_t *number, uint64_t value) {
     __atomic_store_n(number, value, __ATOMIC_SEQ_CST);
 }
 
-/* Returns a number and adds one. With a bug others come in between. */
+/* Returns a number and adds one. With a bug, others may change it in between. */
 static uint64_t add(uint64_t *number, int has_bug) {
     if (!has_bug)
         return __atomic_fetch_add(number, 1, __ATOMIC_SEQ_CST);

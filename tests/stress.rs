@@ -28,7 +28,7 @@ fn has_bug() -> bool {
     is("lost") || is("unkept")
 }
 
-/// Returns a number and adds one. With a bug others come in between.
+/// Returns a number and adds one. With a bug, others may change it in between.
 fn add(number: &AtomicU64, has_bug: bool) -> u64 {
     if !has_bug {
         return number.fetch_add(1, SeqCst);

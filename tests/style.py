@@ -1,12 +1,12 @@
 """How pages are written, for tests/pages: the words of the field, short sentences, no history of the code, figures only
-where they are kept, names that name something, and pages of at most their size.
+on the pages for them, names that name something, and pages of at most their size.
 
 Each check yields what is wrong. CONTRIBUTING.md has the rules."""
 
 import os
 import re
 
-TOP = os.path.dirname(os.path.dirname(os.path.realpath(__file__)))
+from trying.files import TOP, read
 
 # Words that pages don't use, and those that they use in their place.
 WORDS = {
@@ -54,7 +54,7 @@ OPENERS = {
     r"Else|, else": "Otherwise",
     r"Nor": "turn the sentence round",
 }
-# What says how something was before. A change log has that by its nature.
+# Phrases that say how something was before. Only a change log has them.
 HISTORY = [
     r"(an|the) (earlier|older|previous|former) (version|form)",
     r"in the past",
@@ -89,13 +89,8 @@ SIZES = {
 ALL = 130
 
 
-def read(path):
-    with open(os.path.join(TOP, path), encoding="utf-8") as text:
-        return text.read()
-
-
 def files():
-    """Returns the files of the repository, as paths from its top."""
+    """Yields the files of the repository, as paths from its top."""
     for folder, folders, names in os.walk(TOP):
         folders[:] = sorted(it for it in folders if it not in (".git", "out", "release", "__pycache__"))
         yield from (os.path.relpath(os.path.join(folder, it), TOP) for it in sorted(names))
@@ -107,7 +102,7 @@ def pages():
 
 
 def plain(text):
-    """Returns a page in Markdown without blocks of code; what is set as code becomes a word."""
+    """Returns a page in Markdown without blocks of code. Code within a line becomes a word."""
     text = re.sub(r"^```.*?^```$|<!--.*?-->", "", text, flags=re.M | re.S)
     text = re.sub(r"(?<=\n\n)(?:    .*\n+)+", "", text)
     text = re.sub(r"!\[([^]]*)\]\([^)]*\)|\[([^]]*)\]\([^)]*\)", r"\1\2", text)
@@ -127,7 +122,7 @@ def prose(page):
 
 
 def sentences(text):
-    """Returns the sentences of plain text. A table, a heading and each item of a list end one."""
+    """Yields the sentences of plain text. A table, a heading and each item of a list end one."""
     text = re.sub(r"^(\|.*|#.*)$", "\n", text, flags=re.M)
     text = re.sub(r"^ *([-*]|\d+\.) ", "\n\n", text, flags=re.M)
     for part in re.split(r"\n\s*\n", text):
@@ -173,7 +168,7 @@ def words_of_sources():
 
 
 def faults_of_names(page, known):
-    """Looks for what is set as code and names nothing: words, paths of Rust, and paths of files."""
+    """Looks for code within lines that names nothing: words, paths of Rust, and paths of files."""
     if page.startswith("package/"):
         return
     text = re.sub(r"^```.*?^```$", "", read(page), flags=re.M | re.S)

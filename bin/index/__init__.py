@@ -1,1 +1,1 @@
-"""What bin/theorem and bin/contracts read: definitions, sources, and where the names in them lead."""
+"""What bin/theorem and bin/contracts read: definitions, sources, and what the names in them refer to."""

@@ -1,8 +1,8 @@
 """The language of definitions and clauses: its tokens, what a text has in scope, and what a term cites.
 
-It reads the part of antt that this repository writes, with its scopes: a name that a binder, a pattern or a field brings
-in cites nothing, and each other name has to be brought in by a `use` line, or be antt's own. If it can't read a text,
-it raises `Unread`: it passes over nothing.
+It reads the part of antt that this repository writes, with its scopes: a name that a binder, a pattern or a field binds
+cites nothing, and each other name has to be brought in by a `use` line, or be antt's own. If it can't read a text,
+it raises `Unread`: it skips nothing.
 """
 
 import os
@@ -10,10 +10,10 @@ import re
 from dataclasses import dataclass, field
 
 TOP = os.path.realpath(os.path.join(os.path.dirname(os.path.realpath(__file__)), "..", ".."))
-# What antt has without a `use` line: its own words, and what its prelude brings in.
+# What antt has without a `use` line: its own words, and the names of its prelude.
 WORDS = set("→ × ↦ = | : ] ⊔ Type record elim as unfold in ? _ « »".split())
 PRELUDE = set("Unit tt ⊥ absurd ¬ refl cc omega grind search simp rw".split())
-# What of the library a pattern matches, and does not bind; besides all that begins with a capital.
+# The names of the library that a pattern matches and does not bind, besides all that begin with a capital.
 MATCHED = set("zero suc [] true false inl inr tt refl pos negsuc ◌∷◌".split())
 NAME = r"«?[^\s(){}.;,@\"«»]+»?"
 TOKEN = re.compile(
@@ -24,7 +24,7 @@ TOKEN = re.compile(
 
 
 class Unread(Exception):
-    """A text that can't be read, or a name that leads nowhere, and its place."""
+    """A text that can't be read, or a name that refers to nothing, and its place."""
 
 
 @dataclass(frozen=True)
@@ -78,7 +78,7 @@ def outside(item, word):
 
 
 def uses_of(tokens):
-    """Returns what a `use` line brings in: each name with its whole path, and whether that is a module's."""
+    """Returns what a `use` line brings in: each name with its full path, and whether that is a module's."""
     words = [it.text for it in tokens if it.text not in ("pub", "use", "unfoldable", "ghost")]
     base, found, rest = words[0].split("."), [], words[1:]
     if rest[:1] != ["."]:
@@ -93,13 +93,13 @@ def uses_of(tokens):
 
 @dataclass
 class Scope:
-    """What a text may cite: names and modules, each with its whole path, and what stands in its own file."""
+    """What a text may cite: names and modules, each with its full path, and what its own file defines."""
 
     file: str
     items: dict = field(default_factory=dict)
     modules: dict = field(default_factory=dict)
     own: dict = field(default_factory=dict)
-    # What else leads a name to a path: of a clause, what Rust has in scope there.
+    # A function that resolves other names to paths: for a clause, those that Rust has in scope there.
     others: object = None
 
     def bring(self, tokens):
@@ -115,7 +115,7 @@ class Scope:
         return found
 
     def path_of(self, name):
-        """Returns the path that a name leads to, or None if nothing brings it in."""
+        """Returns the path that a name refers to, or None if nothing brings it in."""
         head, *rest = name.split(".")
         if head in self.own:
             return (self.file, self.own[head])
@@ -133,14 +133,14 @@ def texts(tokens):
 
 
 class Reader:
-    """Reads terms, and notes the paths that they cite. `matches` says if a pattern matches what a path leads to."""
+    """Reads terms, and notes the paths that they cite. `matches` says if a pattern matches what a path refers to."""
 
     def __init__(self, scope, matches):
         self.scope, self.matches, self.parts = scope, matches, scope.with_operators()
         self.found = {}
 
     def cite(self, token, bound):
-        """Notes what a token cites, if it is no word of antt's and names nothing that is bound."""
+        """Notes what a token cites, unless it is one of antt's own words or names something that is bound."""
         name = token.text
         head = name.split(".")[0]
         if token.kind != "name" or head in bound or name in WORDS or re.match(r"\d|\?", name):
@@ -157,7 +157,7 @@ class Reader:
         self.found[path] = None
 
     def term(self, tokens, at, bound, stops=()):
-        """Reads a term up to one of these tokens, and returns the place of that. Names that it binds are added to `bound`."""
+        """Reads a term up to one of these tokens, and returns the place of that. Adds names that it binds to `bound`."""
         while at < len(tokens) and tokens[at].text not in stops:
             word = tokens[at].text
             if word == "λ":
@@ -176,7 +176,7 @@ class Reader:
         return at
 
     def group(self, tokens, at, bound):
-        """Reads what stands in brackets: a binder of names, whose scope goes on after it, or terms and fields."""
+        """Reads what is in brackets: a binder of names, whose scope continues after it, or terms and fields."""
         close, names = ")}"[tokens[at].text == "{"], at + 1
         while tokens[names].kind == "name" and tokens[names].text not in WORDS | {"let", "λ"}:
             names += 1

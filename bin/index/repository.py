@@ -1,4 +1,4 @@
-"""The repository: where a path leads, what can be called from outside of a crate, and what definitions and clauses cite."""
+"""The repository: what a path refers to, what can be called from outside a crate, and what definitions and clauses cite."""
 
 import glob
 import os
@@ -9,9 +9,9 @@ from .antt import MATCHED, TOP, Reader, Unread, closing, texts, tokens_of
 from .sources import Source
 from .specs import File
 
-# What a clause names of the library without a `ghost use` line.
+# The names of the library that a clause uses without a `ghost use` line.
 STD = {it: ("Rust", it) for it in ("Some", "None", "Ok", "Err", "Option", "Result", "usize", "u64", "u32", "u8")}
-# What a type has of a trait, as a clause names it: `⟦<Consume as Procedure>⟧.rest`.
+# An impl of a trait, as a clause names it: `⟦<Consume as Procedure>⟧.rest`.
 OF_TRAIT = re.compile(r"⟦<(\w+)[^⟧]* as (\w+)[^⟧]*⟧")
 
 
@@ -45,10 +45,10 @@ class Repository:
         paths = (os.path.relpath(it, top) for it in sorted(glob.glob(os.path.join(top, "**", "*.rt"), recursive=True)))
         return [self.source(crate, () if it in ("lib.rt", "main.rt") else tuple(it[:-3].split(os.sep))) for it in paths]
 
-    # Where a path of antt leads
+    # What a path of antt refers to
 
     def locate(self, path):
-        """Returns the file and the name that a path leads to, or None if that is the toolchain's."""
+        """Returns the file and the name that a path refers to, or None if that is the toolchain's."""
         if len(path) == 2 and "/" in path[0]:
             return path
         if path[0] != "Rattle" or path[1] not in self.crates:
@@ -61,7 +61,7 @@ class Repository:
         return found
 
     def definition_of(self, crate, part, rest):
-        """Returns the definition under this path, also if another file passes it on, or None."""
+        """Returns the definition under this path, even if another file re-exports it, or None."""
         parent, at = self.file(f"crates/{crate}/{part}/Lib.antt"), 0
         while at < len(rest) and (file := self.file(f"crates/{crate}/{part}/{'/'.join(rest[: at + 1])}.antt")):
             parent, at = file, at + 1
@@ -74,7 +74,7 @@ class Repository:
         return self.locate(parent.passed.items[rest[at]]) if rest[at] in parent.passed.items else None
 
     def item_of(self, crate, rest):
-        """Returns the item that antt is given under this path: a type, a constant, or what a type has of a trait."""
+        """Returns the item that antt has under this path: a type, a constant, or an impl of a trait."""
         module = ()
         while rest and self.source(crate, (*module, rest[0])):
             module, rest = (*module, rest[0]), rest[1:]
@@ -82,16 +82,16 @@ class Repository:
         name = rest[-1 if rest[0] == "TheConstants" else 0] if rest else ""
         return (source.path, name) if source and (name in source.items or source.impl(name)) else None
 
-    # Where a path of Rust leads
+    # What a path of Rust refers to
 
     def resolved(self, source, name):
         """Returns the file and the name of the item that a name means in a source file, or None."""
         if name in source.items:
             return (source.path, name)
-        return self.walked(source, source.uses[name][0]) if name in source.uses else None
+        return self.item_at(source, source.uses[name][0]) if name in source.uses else None
 
-    def walked(self, source, words):
-        """Returns the item that a path leads to, as it is written in a source file, or None."""
+    def item_at(self, source, words):
+        """Returns the item that a path refers to, as it is written in a source file, or None."""
         crate, module, rest = source.crate, source.module, list(words)
         if words[0] in ("crate", "self", "super"):
             module = {"crate": (), "self": module, "super": module[:-1]}[rest.pop(0)]
@@ -103,7 +103,7 @@ class Repository:
         return self.resolved(there, rest[0]) if there and rest and there is not source else None
 
     def exported(self, crate):
-        """Returns what can be named from outside of a crate."""
+        """Returns what can be named from outside a crate."""
         found, left = {}, [self.source(crate)]
         for source in left:
             public = [name for name, (_, is_public) in source.uses.items() if is_public]
@@ -116,7 +116,7 @@ class Repository:
         return found
 
     def public(self, crate):
-        """Returns the functions and methods that can be called from outside of a crate, by file and line."""
+        """Yields the functions and methods that can be called from outside a crate, by file and line."""
         exported = self.exported(crate)
         for source in self.sources_of(crate):
             for it in source.functions():
@@ -141,7 +141,7 @@ class Repository:
         return self.file(file).definitions[name].line
 
     def cited_by(self, key):
-        """Returns what a definition or an item cites, in order: of the library the path, else the file and the name."""
+        """Returns what a definition or an item cites, in order: the path if it is the library's, else the file and name."""
         file, name = key
         try:
             if file.endswith(".antt"):
@@ -153,11 +153,11 @@ class Repository:
             raise Unread(f"{name} of {file}: {why}") from None
 
     def placed(self, paths):
-        """Returns what paths lead to, in order and each once: of the library the path, else the file and the name."""
+        """Returns what paths refer to, in order and each once: the path if it is the library's, else the file and name."""
         return list(dict.fromkeys(self.locate(it) or it for it in paths))
 
     def cited_by_item(self, source, name):
-        """Returns what the fields of a type name, or what its values in contracts name, if it has a Model."""
+        """Returns what the fields of a type name, or, if it has a Model, what its values in contracts name."""
         item = source.items.get(name) or source.impl(name)
         model = source.impl(f"{name}Model") if item.kind in ("struct", "enum") else None
         if model:
@@ -175,7 +175,7 @@ class Repository:
         for path in re.findall(r"\b(?:\w+::)*[A-Z]\w*\b", text):
             first, *rest = path.split("::")
             words = [*source.uses[first][0], *rest] if rest and first in source.uses else [first, *rest]
-            found[self.walked(source, words) if rest else self.resolved(source, first)] = None
+            found[self.item_at(source, words) if rest else self.resolved(source, first)] = None
         return [it for it in found if it]
 
     def is_constant(self, key):
@@ -224,7 +224,7 @@ class Repository:
         return self.placed(self.cited_in(source, clause, names))
 
     def is_matched(self, path):
-        """Whether a pattern that names what stands at a path matches it, and binds nothing."""
+        """Returns whether a pattern that names what is at a path matches it, and binds nothing."""
         found = self.locate(path)
         if found is None:
             return path[-1] in MATCHED or path[-1][:1].isupper()
@@ -232,7 +232,7 @@ class Repository:
 
 
 def joined(tokens):
-    """Returns the tokens with each name of what a type has of a trait as one of them."""
+    """Returns the tokens, with each name of an impl of a trait joined into one."""
     found, inside = [], []
     for it in tokens:
         if inside or it.text.startswith("⟦<"):

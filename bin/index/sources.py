@@ -11,7 +11,8 @@ from dataclasses import dataclass, field
 from .antt import TOP, Scope, closing, texts, tokens_of
 
 sys.path.insert(0, os.path.join(TOP, "tests"))
-import bodies
+from trying.mutants.files import read
+from trying.mutants.functions import block_name, functions_of
 
 HEAD = re.compile(
     r"(?P<pub>pub )?(?:pub\([^)]*\) )?(?:const (?=fn)|unsafe |extern \"C\" )*"
@@ -23,7 +24,7 @@ GHOST_USE = re.compile(r"^( *)ghost (use [^;]*);", re.M)
 
 @dataclass
 class Item:
-    """An item of a module: a type, a constant, a function, or an impl, which has the name of its methods' block."""
+    """An item of a module: a type, a constant, a function, or an impl, which is named as `block_name` says."""
 
     kind: str
     name: str
@@ -95,7 +96,7 @@ class Source:
         self.path = path
         _, self.crate, _, inside = path.split("/", 3)
         self.module = tuple(it for it in inside[: -len(".rt")].split("/") if it not in ("lib", "main"))
-        self.text = bodies.read(TOP, path)
+        self.text = read(TOP, path)
         self.lines = self.text.split("\n")
         self.blocks = [self.item(head, at) for at, it in enumerate(self.lines, 1) if (head := HEAD.match(it))]
         self.items = {it.name: it for it in self.blocks if it.kind != "impl"}
@@ -103,7 +104,7 @@ class Source:
 
     def item(self, head, at):
         name = head["name"].strip()
-        name = bodies.block_name(name) if head["kind"] == "impl" else re.match(r"\w*", name)[0]
+        name = block_name(name) if head["kind"] == "impl" else re.match(r"\w*", name)[0]
         return Item(head["kind"], name, bool(head["pub"]), at, last_of(self.lines, at, head["kind"]))
 
     def impl(self, name):
@@ -113,7 +114,7 @@ class Source:
         return "\n".join(self.lines[item.first - 1 : item.last])
 
     def shown(self, name):
-        """Returns an item with its comment; of a type with a Model, its values in contracts in place of its fields."""
+        """Returns an item with its comment. If a type has a Model, its values in contracts replace its fields."""
         item = self.items.get(name) or self.impl(name)
         model = self.impl(f"{name}Model") if item.kind in ("struct", "enum") else None
         comment = re.findall(r"^ *///.*$", "\n".join(self.lines[self.above(item.first) - 1 : item.first - 1]), re.M)
@@ -154,9 +155,9 @@ class Source:
         return scope
 
     def functions(self):
-        """Returns the functions that are public in their module or block, and those of traits."""
+        """Yields the functions that are public in their module or block, and those of traits."""
         inside = os.path.join("src", *self.path.split("/")[3:])
-        for it in bodies.functions_of(inside, self.text):
+        for it in functions_of(inside, self.text):
             block = self.block_at(it.first)
             is_of_trait = block is not None and block.kind == "trait"
             if is_of_trait or not it.is_of_trait and self.lines[it.first - 1].strip().startswith("pub "):

@@ -22,7 +22,7 @@ class Definition:
 
 
 def signed(item):
-    """Returns the name that an item of a file declares and what kind it is, or None if it goes on with another."""
+    """Returns the name and the kind that an item of a file declares, or None if it continues another item."""
     words = [it.text for it in item]
     at = next(at for at, it in enumerate(words) if it not in MARKS)
     if words[at] in ("data", "record"):

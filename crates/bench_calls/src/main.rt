@@ -12,7 +12,7 @@ use std::alloc::{AllocError, Global};
 use std::process::ExitCode;
 use std::{env, io};
 
-/// Decides a history, and returns how many calls were put in order.
+/// Decides a history, and returns how many calls its order has, or `None` if it has no order.
 fn ordered(alloc: Global, kinds: &[Kind], events: &[Event]) -> Result<Option<usize>, AllocError> {
     if first_misuse(alloc, kinds, events)?.is_some() || !has_room(events) {
         return Ok(None);
@@ -24,7 +24,7 @@ fn ordered(alloc: Global, kinds: &[Kind], events: &[Event]) -> Result<Option<usi
     }
 }
 
-/// Hands a history to a monitor, and returns how many events it accepts.
+/// Passes a history to a monitor, and returns how many events it accepts.
 fn watched(alloc: Global, kinds: &[Kind], events: &[Event]) -> Result<Option<usize>, AllocError> {
     let mut monitor = Monitor::open(alloc, kinds)?;
     for (index, event) in events.iter().enumerate() {
@@ -35,7 +35,7 @@ fn watched(alloc: Global, kinds: &[Kind], events: &[Event]) -> Result<Option<usi
     Ok(Some(events.len()))
 }
 
-/// Does what the words ask for, and returns what that comes to.
+/// Does what the words ask for, and returns the number that results.
 fn judged(alloc: Global, words: &[String]) -> Result<Option<usize>, AllocError> {
     let [_, mode, sort, calls] = words else {
         return Ok(None);

@@ -1,4 +1,4 @@
-//! Histories to be judged.
+//! Makes histories that are judged.
 use calls_core::{Action, Event, Kind, Op, Reply};
 use std::alloc::{AllocError, Global};
 
@@ -21,7 +21,7 @@ pub enum Sort {
 }
 
 impl Sort {
-    /// Reads it of a word.
+    /// Returns the sort that a word names.
     pub fn of(word: &str) -> Option<Self> {
         match word {
             "counts" => Some(Sort::Counts),
@@ -33,7 +33,7 @@ impl Sort {
         }
     }
 
-    /// Returns the one object.
+    /// Returns the kind of the one object, in a list.
     pub fn kinds(self, alloc: Global) -> Result<Vec<Kind>, AllocError> {
         let kind = match self {
             Sort::Counts => Kind::Eventcount(0),
@@ -48,13 +48,13 @@ impl Sort {
     }
 }
 
-/// Returns the next of some numbers that look like chance.
+/// Returns the next of a sequence of pseudorandom numbers.
 fn next(seed: u64) -> u64 {
     seed.wrapping_mul(6364136223846793005)
         .wrapping_add(1442695040888963407)
 }
 
-/// One object that takes calls, each of which takes effect as it is invoked.
+/// One object, on which each call takes effect as it is invoked.
 #[derive(Drop)]
 struct Object {
     sort: Sort,
@@ -63,7 +63,7 @@ struct Object {
 }
 
 impl Object {
-    /// Makes a call; `chance` says which.
+    /// Makes a call, which depends on a random number `chance`.
     fn call(&mut self, worker: usize, chance: u64) -> (Op, Reply) {
         match self.sort {
             Sort::Counts => self.count(chance),
@@ -114,7 +114,7 @@ impl Object {
     }
 }
 
-/// Makes the history of so many calls.
+/// Makes a history of so many calls.
 pub fn history(alloc: Global, sort: Sort, calls: usize) -> Result<Vec<Event>, AllocError> {
     let mut object = Object {
         sort,

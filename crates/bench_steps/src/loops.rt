@@ -1,22 +1,22 @@
-//! The loop.
+//! The loop of steps.
 use crate::objects::Objects;
 use ec_core::{Act, Reply, Run, World};
 use ec_count::WorkerId;
 
-/// The steps of one round of the loop.
+/// How many steps one round of the loop has.
 const ROUND: u64 = 6;
 
-/// What the steps came to.
+/// The results of the steps.
 #[derive(Clone, Copy)]
 pub(crate) struct Sums {
     pub(crate) total: u64,
     pub(crate) issued: u64,
-    pub(crate) told: u64,
+    pub(crate) returned: u64,
 }
 
-/// What steps are made on.
+/// A world or a run, on which steps are made.
 pub(crate) trait Steps {
-    /// Makes a step, and gives the number that is told, 0 if none is.
+    /// Makes a step, and returns the number of its reply, 0 if it has none, or `None` if it fails.
     fn make(&mut self, worker: WorkerId, act: Act) -> Option<u64>;
 }
 
@@ -40,7 +40,8 @@ impl Steps for Run {
     }
 }
 
-/// Returns one round: an advance, a read of four components, and a ticket.
+/// Makes one round: an advance, a read of four components, and a ticket. Returns the sum of the
+/// numbers of the last two.
 fn round<S: Steps>(steps: &mut S, objects: &Objects, worker: WorkerId) -> Option<u64> {
     steps.make(worker, Act::Advance(objects.event))?;
     steps.make(worker, Act::Read(objects.event))?;
@@ -54,10 +55,10 @@ fn round<S: Steps>(steps: &mut S, objects: &Objects, worker: WorkerId) -> Option
 /// Makes at least so many steps, in whole rounds by each worker in turn, and returns the sum of the
 /// numbers that they return.
 pub(crate) fn many<S: Steps>(steps: &mut S, objects: &Objects, count: u64) -> Option<u64> {
-    let mut told = 0u64;
+    let mut returned = 0u64;
     for i in 0..count.div_ceil(ROUND) {
         let worker = objects.workers[(i % 4) as usize];
-        told = told.wrapping_add(round(steps, objects, worker)?);
+        returned = returned.wrapping_add(round(steps, objects, worker)?);
     }
-    Some(told)
+    Some(returned)
 }

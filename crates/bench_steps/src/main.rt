@@ -1,5 +1,6 @@
-//! The loop of steps that `bench/run` times: `bench_steps world N` makes N steps of a world, and `bench_steps run N`
-//! N steps of a run, which records them. Both print the total, the tickets drawn, and the sum of all that was told.
+//! The loop of steps that `bench/run` times: `bench_steps world N` makes at least N steps of a
+//! world, and `bench_steps run N` of a run, which records them. Both print the total, the tickets
+//! drawn, and the sum of the numbers that reads and tickets returned.
 #![tactic(auto)]
 
 mod loops;
@@ -12,26 +13,26 @@ use std::alloc::{AllocError, Global};
 use std::process::ExitCode;
 use std::{env, io};
 
-/// Returns the steps of a world.
+/// Makes the steps on a world.
 fn on_world(objects: Objects, steps: u64) -> Option<Sums> {
     let mut world = World::open(objects.setup.copy());
-    let told = many(&mut world, &objects, steps)?;
+    let returned = many(&mut world, &objects, steps)?;
     Some(Sums {
         total: world.total(objects.event)?,
         issued: world.issued(objects.sequencer)?,
-        told,
+        returned,
     })
 }
 
-/// Returns the steps of a recorded run.
+/// Makes the steps on a run, which records them.
 fn on_run(alloc: Global, objects: Objects, steps: u64) -> Option<Sums> {
     let mut run = Run::open(alloc, objects.setup.copy()).ok()?;
-    let told = many(&mut run, &objects, steps)?;
+    let returned = many(&mut run, &objects, steps)?;
     let world = run.world();
     Some(Sums {
         total: world.total(objects.event)?,
         issued: world.issued(objects.sequencer)?,
-        told,
+        returned,
     })
 }
 
@@ -55,12 +56,12 @@ fn main(rt: HostRuntime) -> io::Result<ExitCode> {
         Sums {
             total,
             issued,
-            told,
+            returned,
         },
     ) = sums(rt.alloc(), words?.as_slice())
     else {
         return Ok(ExitCode::from(2));
     };
-    println!(rt; "{total} {issued} {told}")?;
+    println!(rt; "{total} {issued} {returned}")?;
     Ok(ExitCode::from(0))
 }

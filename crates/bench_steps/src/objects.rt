@@ -1,4 +1,4 @@
-//! What the steps are made on.
+//! The objects of the steps.
 use ec_count::{EventId, Limit, SeqId, Setup, WorkerId};
 
 /// Four workers that all signal and observe one eventcount and draw from one sequencer.
@@ -10,7 +10,7 @@ pub(crate) struct Objects {
     pub(crate) sequencer: SeqId,
 }
 
-/// Declares them, under the greatest limit of version 1.
+/// Declares the objects, under the greatest limit of version 1.
 pub(crate) fn declared() -> Option<Objects> {
     let mut setup = Setup::new(Limit::new(4_294_967_295)?);
     let workers = [

@@ -1,6 +1,6 @@
-//! Reads a text from standard input, as `bench/run` times it: `bench_texts read` reads a trace and no more,
-//! `bench_texts write` writes it again to standard output, `bench_texts upgrade` upgrades it and writes nothing, and
-//! `bench_texts parse` parses a script 64 times.
+//! Reads a text from standard input, as `bench/run` times it: `bench_texts read` only reads a
+//! trace, `bench_texts write` also writes it to standard output, `bench_texts upgrade` upgrades it
+//! and writes nothing, and `bench_texts parse` parses a script 64 times.
 #![tactic(auto)]
 
 use ec_script::parse;
@@ -13,7 +13,7 @@ use std::{env, io};
 /// How often a script is parsed.
 const TIMES: u64 = 64;
 
-/// Returns whether a text is a script, as often as that.
+/// Parses a text so often, and returns whether it is a script each time.
 fn parses(alloc: Global, text: &[u8]) -> bool {
     for _ in 0..TIMES {
         if parse(alloc, text).is_err() {

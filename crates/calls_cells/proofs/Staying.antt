@@ -16,23 +16,9 @@ use Rattle.calls_core.proofs.Counting.{one, count_cons, count_append}
 use Rattle.calls_distinct.specs.Cells.{put_call, put_pending, times, gets}
 use Rattle.calls_cells.specs.declared.outcome.Undecided.{Undecided}
 use Rattle.calls_cells.specs.Faults.{ShowsUndecided}
+use Rattle.calls_distinct.proofs.Earlier.{count_without}
 
-count_without : (q : PendingCall → Bool) (w : ℕ) (os : List PendingCall) (o : PendingCall)
-    → pending_of w os ≡ Some o → count_by q os ≡ one (q o) + count_by q (without w os)
-count_without q w [] o e = absurd (none-some o e)
-count_without q w (y ∷ os) o e =
-    elim (y.worker == w) as (λ b. cond b (Some y) (pending_of w os) ≡ Some o
-    → count_by q (y ∷ os) ≡ one (q o) + count_by q (cond b os (y ∷ without w os))) [
-      | true ↦ λ is. count_cons q y os ∙ ap (λ z. one (q z) + count_by q os) (same_Some y o is)
-      | false ↦ λ is. omega (
-        arith,
-        count_cons q y os,
-        count_cons q y (without w os),
-        count_without q w os o is,
-      )
-    ] e
-
--- no event makes a value less often put
+-- no event makes the number of puts of a value smaller
 times_more : (v : ℕ) (x : Event) (past : List Event) (a : Action) (o : Option PendingCall)
     → pending_of x.worker (pending_calls past) ≡ o → IsNextOf Cell a o
     → times (completed_calls past) (pending_calls past) v

@@ -1,4 +1,4 @@
--- What is found of a beginning, and what it says of all events.
+-- What is found of a prefix, and what it says of all events.
 use Rattle.std.proofs.Common.{◌≡◌, ℕ, zero, suc, ◌+◌, ◌<◌, ◌≤◌, List, [], ◌∷◌, ◌++◌, length, take}
 use Rattle.std.proofs.Common.{drop, reverse}
 use Rattle.std.proofs.Common.{None, refl, ap, sym, arith, subst}
@@ -15,8 +15,9 @@ use Rattle.calls_core.proofs.Beginnings.{past_split}
 use Rattle.calls_core.proofs.Lists.{all_pairs_from_each}
 use Rattle.calls_serial.specs.Outcomes.{AreOverlapping}
 use Rattle.calls_cells.specs.Faults.{DoOverlap}
+use Rattle.calls_distinct.proofs.Earlier.{clock_earlier}
 
--- two puts that overlap at a moment of the events do so in their past
+-- two puts that overlap at a moment of the events do so in the reversed history
 pub overlap_shown : (events : List Event) (o p : PendingCall) → AreOverlapping events o p
     → DoOverlap (reverse events) o p
 overlap_shown events o p h = record {
@@ -25,15 +26,6 @@ overlap_shown events o p h = record {
   is = past_split h.moment events;
   both = h.both;
 }
-
--- a history ends no earlier than any beginning of it
-clock_earlier : (kind : Kind) (late past : List Event) → IsHistoryOf kind (late ++ past)
-    → clock past ≤ clock (late ++ past)
-clock_earlier kind [] past h = omega arith
-clock_earlier kind (x ∷ late) past h =
-    (let before : clock past ≤ clock (late ++ past) = clock_earlier kind late past h.2 in
-    let next : clock (late ++ past) ≤ x.at = h.0 in
-    omega arith)
 
 clock_at : (kind : Kind) (i : ℕ) (events : List Event) → IsHistoryOf kind (reverse events)
     → clock (past_at i events) ≤ clock (reverse events)
@@ -48,18 +40,6 @@ pub before_end : (kind : Kind) (i end : ℕ) (events : List Event) → IsHistory
 before_end kind i end events h late =
     (let le = clock_at kind i events h in
     omega arith)
-
--- no call is in order
-pub nothing_ordered : (kind : Kind) → HasOrderOf kind []
-nothing_ordered kind = (
-  [],
-  record {
-    answer = λ o. None;
-    each_once = IsPermutation-refl [];
-    in_order = all_pairs_from_each KeepsOrder [] tt;
-    run = tt;
-  },
-)
 
 taken_less : {X : Type 0} (n i : ℕ) (xs : List X) → i < length (take n xs) → i < length xs
 taken_less zero i xs lt = absurd (omega arith)
@@ -76,7 +56,7 @@ taken_same (suc n) (suc j) [] le = refl
 taken_same (suc n) (suc j) (x ∷ xs) le =
     ap (λ zs. x ∷ zs) (taken_same n j xs (omega arith))
 
--- what is faulty in a beginning is so in all events
+-- what is a first fault of a prefix is one of all events
 pub fault_longer : (Shows : List Event → Type 0) (kind : Kind) (n i : ℕ) (events : List Event)
     → IsFirstFault Shows kind (take n events) i → IsFirstFault Shows kind events i
 fault_longer Shows kind n i events f =
@@ -89,7 +69,7 @@ fault_longer Shows kind n i events f =
           (f.before j le);
     }
 
--- puts that overlap are in some events
+-- if puts overlap, there are events
 pub some_events : (events : List Event) (o p : PendingCall) → DoOverlap (reverse events) o p
     → 0 < length events
 some_events [] o p h = absurd (none h.late h.earlier h.is h.both.one)

@@ -1,4 +1,4 @@
--- What is shown of the calls of a cell.
+-- What the events of a cell show: a fault, or why nothing is decided.
 use Rattle.std.specs.Prelude.{◌≡◌, ◌⊎◌, ℕ, true, List, ◌++◌}
 use Rattle.calls_core.specs.declared.history.Event.{Event}
 use Rattle.calls_core.specs.declared.history.PendingCall.{PendingCall}

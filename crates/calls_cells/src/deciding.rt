@@ -1,4 +1,4 @@
-//! The decision.
+//! Decides histories of a cell by two classes: distinct values and serial puts.
 ghost use Rattle.std.specs.Prelude.{◌≡◌, ◌+◌, ◌<◌, ◌≤◌, length, reverse, take, IfOk};
 ghost use Rattle.calls_core.specs.declared.history.Kind.TheVariants.{Cell};
 ghost use Rattle.calls_core.specs.Histories.{IsHistoryOf, clock};
@@ -11,18 +11,18 @@ use crate::outcome::{Fault, Outcome, Undecided};
 use calls_core::{Part, PlacedCalls};
 use std::alloc::{AllocError, Global};
 
-/// What is found of a beginning.
+/// What is found of a prefix of the events.
 #[derive(Debug, Drop)]
 enum Try {
     /// It has this linearization.
     Ordered(PlacedCalls),
     /// It has none, since the event at this index shows this fault.
     Refused(usize, Fault),
-    /// Nothing is decided of it.
+    /// It is not decided.
     Open(Undecided),
 }
 
-/// Tries both classes on a beginning.
+/// Tries both classes on a prefix: distinct values, then serial puts.
 fn try_both(alloc: Global, events: &Part<'_, '_>, end: usize) -> Result<Try, AllocError>
     requires history { IsHistoryOf Cell (reverse events.now) }
     requires late { clock (reverse events.now) ≤ end }
@@ -55,7 +55,9 @@ fn middle(low: usize, high: usize) -> usize
     low + (high - low) / 2
 }
 
-/// Decides the longest beginning that can be decided, if all events cannot: by halving.
+/// Finds, by bisection, the first event with which nothing is decided, or a fault before it.
+///
+/// Nothing is decided of all events.
 fn decide_beginning(
     alloc: Global,
     events: &Part<'_, '_>,
@@ -85,8 +87,10 @@ fn decide_beginning(
     Ok(Outcome::Undecided(low, undecided))
 }
 
-/// Decides whether the calls of a cell have a linearization, if no value that was got was put
-/// twice, or no two puts overlap. A database is decided in the same way.
+/// Decides whether the calls of a cell have a linearization.
+///
+/// This is decided if each value that was got was put at most once (0 never), or if no two puts
+/// overlap. A database is decided in the same way.
 pub fn decide(alloc: Global, events: &Part<'_, '_>, end: usize) -> Result<Outcome, AllocError>
     requires history { IsHistoryOf Cell (reverse events.now) }
     requires late { clock (reverse events.now) ≤ end }

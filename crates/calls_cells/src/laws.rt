@@ -23,8 +23,9 @@ pub fn it_stays_undecided()
     ensures { ItStaysUndecided }
 {}
 
-/// States that a history of a database is one of a cell, and that what is found of the cell holds
-/// of the database.
+/// States that what is found of the history of a cell holds of a database with the same history.
+///
+/// A history of a database is one of a cell.
 pub fn a_database_is_a_cell()
     ensures { ADatabaseIsACell }
 {}

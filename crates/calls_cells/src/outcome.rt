@@ -10,8 +10,9 @@ pub enum Fault {
     Serial(calls_serial::Fault),
 }
 
-/// Why nothing is decided: a get returned a value that was put twice, or that is 0 and was put; and
-/// two puts overlap.
+/// Why nothing is decided: a get returned a value that is not distinct, and two puts overlap.
+///
+/// The value was put twice, or it is 0 and was put.
 #[derive(Clone, Copy, Debug, PartialEq, Eq)]
 pub struct Undecided {
     /// The value that a get returned.

@@ -1,4 +1,4 @@
--- A beginning of a history that has a linearization has one.
+-- A prefix of a history that has a linearization has one.
 use Rattle.std.proofs.Common.{◌≡◌, ℕ, zero, suc, ◌+◌, ◌<◌, ◌≤◌, ◌⊎◌, inl, inr, true, false, ◌==◌}
 use Rattle.std.proofs.Common.{cond, Bool}
 use Rattle.std.proofs.Common.{List, [], ◌∷◌, ◌++◌, map, Option, Some, None, refl, ap, sym}
@@ -25,10 +25,10 @@ use Rattle.calls_core.specs.Histories.{clock, pending_of, without, invoked_by, p
 use Rattle.calls_core.specs.Histories.{pending_calls, completion, ended_call, completed_calls}
 use Rattle.calls_core.specs.Histories.{IsNext}
 use Rattle.calls_core.specs.Histories.{IsHistory, IsNextOf, IsHistoryOf}
-use Rattle.calls_core.specs.Linearizations.{after, IsSequentialRun, initial, set_at, IsRun, start}
+use Rattle.calls_core.specs.Linearizations.{after, IsLegalHistory, initial, set_at, IsRun, start}
 use Rattle.calls_core.specs.Linearizations.{KeepsOrder, answered_one, answered_calls, IsLinearOrder}
 use Rattle.calls_core.specs.Linearizations.{IsAnsweredLinearization}
-use Rattle.calls_core.specs.Completions.{settled}
+use Rattle.calls_core.specs.Completions.{settle_call}
 use Rattle.calls_core.specs.Calls.{Early, Earlier}
 use Rattle.calls_core.specs.Beginnings.{past_at, until}
 use Rattle.calls_core.specs.Outcomes.{HasOrderOf}
@@ -47,7 +47,7 @@ use Rattle.calls_core.proofs.Settling.{all_begun, order_settled}
 -- ANOTHER ANSWER
 
 module _ (o : PendingCall) (z : Option Reply) (a : PendingCall → Option Reply) where
-  -- the answers, but z for the call that was invoked with o
+  -- the answers, except that the pending call o has the answer z
   abbrev pub changed : PendingCall → Option Reply
   changed p = cond (p.first == o.first) z (a p)
 
@@ -77,7 +77,7 @@ answered_append t a (x ∷ xs) ys = ap (λ zs. answered_one t x (a x) ++ zs)
     (answered_append t a xs ys) ∙ sym (append_assoc (answered_one t x (a x)) (answered_calls t a xs)
     (answered_calls t a ys))
 
--- THE ANSWERS THAT ARE IN FRONT
+-- THE ANSWERS IN A PREFIX
 
 abbrev pub Returned : ℕ → Call → Type 0
 Returned m c = m ≤ c.last
@@ -85,25 +85,26 @@ Returned m c = m ≤ c.last
 module _ (u m : ℕ) (answer : PendingCall → Option Reply) (done : List Call)
     (spans : Each (Spans m) done) where
   abbrev Answers : List PendingCall → List Call → Type 0
-  Answers os front = (a : PendingCall → Option Reply) × IsPermutation
-      (answered_calls u a os ++ done) front
+  Answers os prefix = (a : PendingCall → Option Reply) × IsPermutation
+      (answered_calls u a os ++ done) prefix
 
-  none_left : (front back : List Call) → Each (Returned m) back → IsPermutation done (front ++ back)
-      → IsPermutation done front
-  none_left front [] late h = subst (IsPermutation done) (append-nil front) h
-  none_left front (b ∷ back) late h =
-      (let each : Each (Spans m) (front ++ b ∷ back) = each_from_all (Spans m) (front ++ b ∷ back)
-      (All-permutation (Spans m) done (front ++ b ∷ back) h
+  none_left : (prefix back : List Call) → Each (Returned m) back
+      → IsPermutation done (prefix ++ back)
+      → IsPermutation done prefix
+  none_left prefix [] late h = subst (IsPermutation done) (append-nil prefix) h
+  none_left prefix (b ∷ back) late h =
+      (let each : Each (Spans m) (prefix ++ b ∷ back) = each_from_all (Spans m) (prefix ++ b ∷ back)
+      (All-permutation (Spans m) done (prefix ++ b ∷ back) h
       (all_from_each (Spans m) done spans)) in
-      let early : b.last < m = (each_right (Spans m) front (b ∷ back) each).0.1 in
+      let early : b.last < m = (each_right (Spans m) prefix (b ∷ back) each).0.1 in
       let no : m ≤ b.last = late.0 in
       absurd (omega arith))
 
-  no_answer : (o : PendingCall) (os : List PendingCall) (front : List Call) → Each (Earlier o) os
-      → Answers os front → Answers (o ∷ os) front
-  no_answer o os front lt r = (
+  no_answer : (o : PendingCall) (os : List PendingCall) (prefix : List Call) → Each (Earlier o) os
+      → Answers os prefix → Answers (o ∷ os) prefix
+  no_answer o os prefix lt r = (
     changed o None r.0,
-    subst (λ zs. IsPermutation (zs ++ done) front)
+    subst (λ zs. IsPermutation (zs ++ done) prefix)
         (sym (changed_head o None r.0 u os lt)) r.1,
   )
 
@@ -122,21 +123,21 @@ module _ (u m : ℕ) (answer : PendingCall → Option Reply) (done : List Call)
         (IsPermutation-sym _ _ (IsPermutation-middle f (completion u r o) w))),
   )
 
-  -- of a list of all answered and completed calls a beginning that has all completed ones: of the
-  -- answers it has some
-  pub answers_in_front : (os : List PendingCall) (front back : List Call) → EachPair Earlier os
-      → Each (Returned m) back → IsPermutation (answered_calls u answer os ++ done) (front ++ back)
-      → Answers os front
-  answers_in_front [] front back rises late h = (answer, none_left front back late h)
-  answers_in_front (o ∷ os) front back rises late h = by_answer (λ f b l k.
+  -- if the calls after a prefix of all answered and completed calls return at m or later, the
+  -- prefix has all completed calls and some of the answered ones
+  pub answers_in_front : (os : List PendingCall) (prefix back : List Call) → EachPair Earlier os
+      → Each (Returned m) back → IsPermutation (answered_calls u answer os ++ done) (prefix ++ back)
+      → Answers os prefix
+  answers_in_front [] prefix back rises late h = (answer, none_left prefix back late h)
+  answers_in_front (o ∷ os) prefix back rises late h = by_answer (λ f b l k.
       answers_in_front os f b rises.1 l k) (answer o) refl
     where
       by_place : ((f b : List Call) → Each (Returned m) b
           → IsPermutation (answered_calls u answer os ++ done) (f ++ b) → Answers os f)
           → (r : Reply) (x y : List Call) → IsPermutation (answered_calls u answer os ++ done)
           (x ++ y)
-          → InFirst x (completion u r o) y front back ⊎ InSecond x (completion u r o) y front back
-          → Answers (o ∷ os) front
+          → InFirst x (completion u r o) y prefix back ⊎ InSecond x (completion u r o) y prefix back
+          → Answers (o ∷ os) prefix
       by_place ih r x y moved (inl i) =
           (let here = ih (x ++ i.between) back late (subst (IsPermutation
           (answered_calls u answer os ++ done)) (ap (λ zs. x ++ zs) i.rest ∙ sym
@@ -145,25 +146,25 @@ module _ (u m : ℕ) (answer : PendingCall → Option Reply) (done : List Call)
       by_place ih r x y moved (inr i) =
           (let rest : Each (Returned m) (i.between ++ y) = late_rest (completion u r o) i.between y
           (subst (Each (Returned m)) i.second late) in
-          no_answer o os front rises.0
-          (ih front (i.between ++ y) rest (subst (IsPermutation
-          (answered_calls u answer os ++ done)) (ap (λ zs. zs ++ y) i.rest ∙ append_assoc front
+          no_answer o os prefix rises.0
+          (ih prefix (i.between ++ y) rest (subst (IsPermutation
+          (answered_calls u answer os ++ done)) (ap (λ zs. zs ++ y) i.rest ∙ append_assoc prefix
           i.between y) moved)))
 
       by_answer : ((f b : List Call) → Each (Returned m) b
           → IsPermutation (answered_calls u answer os ++ done) (f ++ b) → Answers os f)
-          → (z : Option Reply) → answer o ≡ z → Answers (o ∷ os) front
+          → (z : Option Reply) → answer o ≡ z → Answers (o ∷ os) prefix
       by_answer ih None e =
-          no_answer o os front rises.0 (ih front back late
+          no_answer o os prefix rises.0 (ih prefix back late
           (subst (λ y. IsPermutation ((answered_one u o y ++ answered_calls u answer os)
-          ++ done) (front ++ back)) e h))
+          ++ done) (prefix ++ back)) e h))
       by_answer ih (Some r) e =
           (let all : IsPermutation (completion u r o ∷ (answered_calls u answer os ++ done))
-          (front ++ back) = subst (λ y. IsPermutation
-          ((answered_one u o y ++ answered_calls u answer os) ++ done) (front ++ back)) e h in
+          (prefix ++ back) = subst (λ y. IsPermutation
+          ((answered_one u o y ++ answered_calls u answer os) ++ done) (prefix ++ back)) e h in
           let d = drawn (completion u r o) (answered_calls u answer os ++ done)
-          (front ++ back) all in
-          by_place ih r d.front d.back d.rest (in_one front back d.front (completion u r o) d.back
+          (prefix ++ back) all in
+          by_place ih r d.prefix d.back d.rest (in_one prefix back d.prefix (completion u r o) d.back
           d.is))
 
 -- ONE MORE ANSWER
@@ -209,26 +210,26 @@ module _ (t w : ℕ) (o : PendingCall) (r : Reply) (a : PendingCall → Option R
 
 -- ONE EVENT LESS
 
--- who responds has a pending call
+-- a worker that responds has a pending call
 abbrev pub HasCall : Action → Option PendingCall → Type 0
 HasCall (Invoke k op) o = Unit {0}
 HasCall (Respond r) None = ⊥
 HasCall (Respond r) (Some o) = Unit {0}
 
 module _ (Run : List Call → Type 0) (still : (m t : ℕ) (cs : List Call) → Run cs
-    → Run (map (settled m t) cs)) (left : (xs ys : List Call) → Run (xs ++ ys) → Run xs) where
+    → Run (map (settle_call m t) cs)) (left : (xs ys : List Call) → Run (xs ++ ys) → Run xs) where
   abbrev pub HasOrder : List Call → List PendingCall → ℕ → Type 0
   HasOrder done pending t = (cs : List Call) × IsLinearOrder Run done pending t cs
 
   settle : (m u : ℕ) (done : List Call) (pending : List PendingCall) → m ≤ u
       → AreBefore m done pending → HasOrder done pending u → HasOrder done pending m
   settle m u done pending le b l = (
-    map (settled m m) l.0,
+    map (settle_call m m) l.0,
     order_settled Run m u m done pending l.0
         le (omega arith) b (still m m l.0) l.1,
   )
 
-  -- without the call that was invoked last
+  -- an order without the call that was invoked last
   invoked : (m u : ℕ) (o : PendingCall) (done : List Call) (pending : List PendingCall)
       (cs : List Call) → m ≤ o.first → m ≤ u → AreBefore m done pending
       → IsLinearOrder Run done (pending ++ o ∷ []) u cs → HasOrder done pending u
@@ -283,15 +284,15 @@ module _ (Run : List Call → Type 0) (still : (m t : ℕ) (cs : List Call) → 
       )
       by_answer (Some r) h =
           (let c = completion u r o in
-          let front : IsPermutation (c ∷ (answered_calls u l.answer pending ++ done)) cs =
+          let prefix : IsPermutation (c ∷ (answered_calls u l.answer pending ++ done)) cs =
           IsPermutation-trans _ _ _ (IsPermutation-sym _ _
           (IsPermutation-middle (answered_calls u l.answer pending) c done))
           (subst (λ zs. IsPermutation zs cs) (append_assoc (answered_calls u l.answer pending)
           (c ∷ []) done) h) in
-          let d = drawn c (answered_calls u l.answer pending ++ done) cs front in
-          in_front_of c d.front d.back refl d.is d.rest)
+          let d = drawn c (answered_calls u l.answer pending ++ done) cs prefix in
+          in_front_of c d.prefix d.back refl d.is d.rest)
 
-  -- if the call that responded last has none yet
+  -- an order in which the call that responded last is still pending
   responded : (m u n w : ℕ) (o : PendingCall) (r : Reply) (done : List Call)
       (pending : List PendingCall) (cs : List Call) → m ≤ n → m ≤ u → pending_of w pending ≡ Some o
       → AreBefore m done pending
@@ -304,23 +305,23 @@ module _ (Run : List Call → Type 0) (still : (m t : ℕ) (cs : List Call) → 
       (without w pending) cs (each_without (Early m) w pending b.early)
       (early, done_begun m done b.spans) l.each_once in
       let rest = answered_calls m l.answer (without w pending) in
-      let same : map (settled m m) (answered_calls u l.answer (without w pending)
+      let same : map (settle_call m m) (answered_calls u l.answer (without w pending)
       ++ completion n r o ∷ done) ≡ rest ++ c ∷ done =
       settled_answers m m u l.answer (without w pending) (completion n r o ∷ done) later ∙ ap (λ k.
-      rest ++ completion k r o ∷ map (settled m m) done) (late_last m m n le) ∙ ap (λ zs.
+      rest ++ completion k r o ∷ map (settle_call m m) done) (late_last m m n le) ∙ ap (λ zs.
       rest ++ c ∷ zs) (settled_done m m done b.spans) in
-      let moved : IsPermutation (rest ++ c ∷ done) (map (settled m m) cs) =
-      subst (λ zs. IsPermutation zs (map (settled m m) cs)) same
-      (IsPermutation-map (settled m m) _ cs l.each_once) in
+      let moved : IsPermutation (rest ++ c ∷ done) (map (settle_call m m) cs) =
+      subst (λ zs. IsPermutation zs (map (settle_call m m) cs)) same
+      (IsPermutation-map (settle_call m m) _ cs l.each_once) in
       let more : IsPermutation (answered_calls m (changed o (Some r) l.answer) pending ++ done)
       (c ∷ (rest ++ done)) = IsPermutation-append_left done _ _
       (answered_more m w o r l.answer pending b.rises e) in (
-        map (settled m m) cs,
+        map (settle_call m m) cs,
         record {
           answer = changed o (Some r) l.answer;
           each_once = IsPermutation-trans _ _ _ more (IsPermutation-trans _ _ _
               (IsPermutation-sym _ _ (IsPermutation-middle rest c done)) moved);
-          in_order = all_pairs_from_each KeepsOrder (map (settled m m) cs)
+          in_order = all_pairs_from_each KeepsOrder (map (settle_call m m) cs)
               (settled_keeps m m cs (omega arith) begun
               (each_pair_from_all KeepsOrder cs l.in_order));
           run = still m m cs l.run;
@@ -339,7 +340,7 @@ module _ (Run : List Call → Type 0) (still : (m t : ℕ) (cs : List Call) → 
   order_before x (Respond r) m (Some o) done pending le e f b l =
       responded m (x.at + 1) x.at x.worker o r done pending l.0 le (omega arith) e b l.1
 
--- RUNS
+-- PREFIXES OF LEGAL SEQUENTIAL HISTORIES
 
 pub run_left : (s : ℕ → ℕ → ℕ) (xs ys : List Call) → IsRun s (xs ++ ys) → IsRun s xs
 run_left s [] ys h = tt
@@ -349,8 +350,8 @@ run_left s (c ∷ xs) ys h = (
       ys h.1,
 )
 
-pub one_run_left : (n : ℕ → ℕ) (xs ys : List Call) → IsSequentialRun n (xs ++ ys)
-    → IsSequentialRun n xs
+pub one_run_left : (n : ℕ → ℕ) (xs ys : List Call) → IsLegalHistory n (xs ++ ys)
+    → IsLegalHistory n xs
 one_run_left n [] ys h = tt
 one_run_left n (c ∷ xs) ys h = (h.0, one_run_left (after n c.op c.reply) xs ys h.1)
 
@@ -365,7 +366,7 @@ next_answers kind x (Respond r) (Some o) h = tt
 pub order_of_beginning : (kind : Kind) (x : Event) (past : List Event) → IsHistoryOf kind (x ∷ past)
     → HasOrderOf kind (x ∷ past) → HasOrderOf kind past
 order_of_beginning kind x past h l =
-    order_before (IsSequentialRun (initial (Some kind))) (λ m t cs.
+    order_before (IsLegalHistory (initial (Some kind))) (λ m t cs.
     settled_one_run m t (initial (Some kind)) cs) (λ xs ys.
     one_run_left (initial (Some kind)) xs ys) x x.action (clock past)
     (pending_of x.worker (pending_calls past)) (completed_calls past)
@@ -425,7 +426,7 @@ take_shorter (suc j) zero xs le = absurd (omega arith)
 take_shorter (suc j) (suc i) [] le = refl
 take_shorter (suc j) (suc i) (x ∷ xs) le = ap (λ zs. x ∷ zs) (take_shorter j i xs (omega arith))
 
--- the events after the first i, the newest first
+-- the reversed history, split into the events after the first i and these
 pub past_split : (i : ℕ) (events : List Event) → reverse events ≡ reverse (drop i events)
     ++ past_at i events
 past_split i events = ap reverse (sym (take-append-drop i events)) ∙ reverse-append (take i events)
@@ -444,7 +445,7 @@ order_at_beginning kind i events h l =
     (subst (IsHistoryOf kind) (past_split i events) h)
     (subst (HasOrderOf kind) (past_split i events) l)
 
--- each beginning of the first i events
+-- each prefix of the first i events has an order
 pub orders_before : (kind : Kind) (i j : ℕ) (events : List Event) → j ≤ i
     → IsHistoryOf kind (past_at i events) → HasOrderOf kind (past_at i events)
     → HasOrderOf kind (past_at j events)

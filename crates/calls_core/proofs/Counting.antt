@@ -1,4 +1,4 @@
--- Counts, splits and pairs of lists.
+-- Counts of elements, lists split at an element, and pairs of elements.
 use Rattle.std.proofs.Common.{◌≡◌, ℕ, zero, suc, ◌+◌, ◌<◌, ◌≤◌, ◌⊎◌, inl, inr, Bool, true, false}
 use Rattle.std.proofs.Common.{List, [], ◌∷◌, ◌++◌, length, refl, ap, arith, cond, subst, count_by}
 use Rattle.std.proofs.Common.{get_or, length-append}
@@ -74,16 +74,16 @@ count_every p (x ∷ xs) h =
 
 -- an element of a list, and what is before and after it
 pub record Split {X : Type 0} (ys : List X) (x : X) : Type 0 where
-  pub front : List X
+  pub prefix : List X
   pub back : List X
-  pub is : ys ≡ front ++ x ∷ back
+  pub is : ys ≡ prefix ++ x ∷ back
 
 pub split_at : {X : Type 0} (ys : List X) (x : X) → Contains ys x → Split ys x
 split_at [] x (k, lt, e) = absurd (omega arith)
-split_at (y ∷ ys) x (zero, lt, e) = record { front = []; back = ys; is = ap (λ z. z ∷ ys) e }
+split_at (y ∷ ys) x (zero, lt, e) = record { prefix = []; back = ys; is = ap (λ z. z ∷ ys) e }
 split_at (y ∷ ys) x (suc k, lt, e) =
     let r = split_at ys x (k, (let l : k < length ys = omega arith in l), e) in
-    record { front = y ∷ r.front; back = r.back; is = ap (λ z. y ∷ z) r.is }
+    record { prefix = y ∷ r.prefix; back = r.back; is = ap (λ z. y ∷ z) r.is }
 
 pub in_either : {X : Type 0} (xs : List X) (y : X) (ys : List X) (x : X) → Contains (xs ++ y ∷ ys) x
     → Split xs x
@@ -96,18 +96,18 @@ in_either [] y ys x (suc k, lt, e) = inr (inr (split_at ys x (
   e,
 )))
 in_either (z ∷ xs) y ys x (zero, lt, e) = inl (record {
-  front = [];
+  prefix = [];
   back = xs;
   is =
       ap (λ w. w ∷ xs) e;
 })
 in_either {X} (z ∷ xs) y ys x (suc k, lt, e) =
     elim (in_either xs y ys x (k, (let l : k < length (xs ++ y ∷ ys) = omega arith in l), e)) [
-      | inl r ↦ inl (record { front = z ∷ r.front; back = r.back; is = ap (λ w. z ∷ w) r.is })
+      | inl r ↦ inl (record { prefix = z ∷ r.prefix; back = r.back; is = ap (λ w. z ∷ w) r.is })
       | inr r ↦ inr r
     ]
 
--- pairs with one element
+-- the pairs of one element with those before and after it
 length_middle : {X : Type 0} (xs : List X) (x : X) (ys : List X)
     → length (xs ++ x ∷ ys) ≡ length xs + suc (length ys)
 length_middle xs x ys = length-append xs (x ∷ ys)

@@ -1,16 +1,16 @@
--- An element drawn out of a list that has the elements of another.
+-- An element removed from a list that is a permutation of another.
 use Rattle.std.proofs.Common.{◌≡◌, ◌⊎◌, inl, inr, List, [], ◌∷◌, ◌++◌, refl, ap, sym, ◌∙◌, subst}
 use Rattle.std.specs.List.Sorted.{IsPermutation}
 use Rattle.std.proofs.lemmas.List.Sorted.{IsPermutation-refl, IsPermutation-cons}
 use Rattle.std.proofs.lemmas.List.Sorted.{IsPermutation-trans}
 use Rattle.calls_core.proofs.Filters.{along_permutation, permutation_turn}
 
--- ys has x, and but for it the elements of xs
+-- ys has x, and without it the elements of xs
 pub record Drawn {X : Type 0} (x : X) (xs ys : List X) : Type 0 where
-  pub front : List X
+  pub prefix : List X
   pub back : List X
-  pub is : ys ≡ front ++ x ∷ back
-  pub rest : IsPermutation xs (front ++ back)
+  pub is : ys ≡ prefix ++ x ∷ back
+  pub rest : IsPermutation xs (prefix ++ back)
 
 module _ {X : Type 0} (x : X) where
   abbrev Draws : List X → List X → Type 0
@@ -20,7 +20,7 @@ module _ {X : Type 0} (x : X) where
   same ls = (
     IsPermutation-refl ls,
     λ u v e. record {
-      front = u;
+      prefix = u;
       back = v;
       is = e;
       rest =
@@ -34,7 +34,7 @@ module _ {X : Type 0} (x : X) where
       (let head : a ≡ x = cc in
       let tail : ls ≡ v = cc in
       record {
-        front = [];
+        prefix = [];
         back = bs;
         is = ap (λ z. z ∷ bs) head;
         rest =
@@ -45,11 +45,11 @@ module _ {X : Type 0} (x : X) where
       let tail : ls ≡ u ++ x ∷ v = cc in
       let r = h.1 u v tail in
       record {
-        front = a ∷ r.front;
+        prefix = a ∷ r.prefix;
         back = r.back;
         is = ap (λ zs. a ∷ zs) r.is;
         rest =
-            subst (λ z. IsPermutation (z ∷ (u ++ v)) (a ∷ (r.front ++ r.back))) head
+            subst (λ z. IsPermutation (z ∷ (u ++ v)) (a ∷ (r.prefix ++ r.back))) head
             (IsPermutation-cons a _ _ r.rest);
       })
 
@@ -59,7 +59,7 @@ module _ {X : Type 0} (x : X) where
       (let head : a ≡ x = cc in
       let tail : b ∷ ls ≡ v = cc in
       record {
-        front = b ∷ [];
+        prefix = b ∷ [];
         back = ls;
         is = ap (λ z. b ∷ z ∷ ls) head;
         rest =
@@ -70,7 +70,7 @@ module _ {X : Type 0} (x : X) where
       let second : b ≡ x = cc in
       let tail : ls ≡ v = cc in
       record {
-        front = [];
+        prefix = [];
         back = a ∷ ls;
         is = ap (λ z. z ∷ a ∷ ls) second;
         rest =
@@ -82,7 +82,7 @@ module _ {X : Type 0} (x : X) where
       let second : b ≡ d = cc in
       let tail : ls ≡ u ++ x ∷ v = cc in
       record {
-        front = b ∷ a ∷ u;
+        prefix = b ∷ a ∷ u;
         back = v;
         is = ap (λ zs. b ∷ a ∷ zs) tail;
         rest = subst (λ z. IsPermutation (z ∷ d ∷ (u ++ v)) (b ∷ a ∷ (u ++ v))) first
@@ -94,9 +94,9 @@ module _ {X : Type 0} (x : X) where
       → Drawn x (u ++ v) cs
   chain_from ls bs cs h k u v e =
       (let r = h.1 u v e in
-      let s = k.1 r.front r.back r.is in
+      let s = k.1 r.prefix r.back r.is in
       record {
-        front = s.front;
+        prefix = s.prefix;
         back = s.back;
         is = s.is;
         rest =

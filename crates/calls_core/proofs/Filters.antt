@@ -100,7 +100,7 @@ permutation_filter {X} p = along_permutation (λ xs ys. IsPermutation (filter p 
     turned x y xs false true = IsPermutation-refl _
     turned x y xs false false = IsPermutation-refl _
 
--- BY PARTS: every element has a key, and for each key there are the elements with that key
+-- BY PARTS: every element has a key, and the elements with the same key are one part
 
 module _ {X : Type 0} (key : X → ℕ) where
   abbrev pub with_key : ℕ → List X → List X
@@ -109,7 +109,7 @@ module _ {X : Type 0} (key : X → ℕ) where
   abbrev pub others : ℕ → List X → List X
   others k xs = filter (λ x. not (key x == k)) xs
 
-  -- the others have the same parts, but for k
+  -- the elements with other keys than k have the same parts, except that of k
   others_part : (k j : ℕ) (xs : List X) → (k == j) ≡ false
       → with_key j (others k xs) ≡ with_key j xs
   others_part k j [] e = refl
@@ -147,7 +147,7 @@ module _ {X : Type 0} (key : X → ℕ) where
   own_part : (x : X) (xs : List X) → with_key (key x) (x ∷ xs) ≡ x ∷ with_key (key x) xs
   own_part x xs = filter_yes (λ y. key y == key x) x xs (eq-eqb (key x) (key x) refl)
 
-  -- without parts there is nothing
+  -- if every part is empty, so is the list
   no_parts : (ys : List X) → ((k : ℕ) → IsPermutation [] (with_key k ys)) → [] ≡ ys
   no_parts [] h = refl
   no_parts (y ∷ ys) h =

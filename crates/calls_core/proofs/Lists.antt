@@ -1,4 +1,4 @@
--- Facts of each element of a list, by recursion.
+-- What holds of each element of a list, by recursion.
 use Rattle.std.proofs.Common.{◌≡◌, ℕ, zero, suc, ◌+◌, ◌<◌, ◌≤◌, Bool, true, false, cond, List, []}
 use Rattle.std.proofs.Common.{◌∷◌, ◌++◌, length, refl, arith, subst, Some, slice_get, map}
 use Rattle.std.specs.List.{All, AllPairs, filter}
@@ -24,7 +24,8 @@ pub each_right : {X : Type 0} (P : X → Type 0) (xs ys : List X) → Each P (xs
 each_right P [] ys h = h
 each_right P (x ∷ xs) ys h = each_right P xs ys h.1
 
--- at the place i + length xs
+-- EACH ELEMENT AND ITS INDEX
+
 pub each_from_weaker : {X : Type 0} (P Q : ℕ → X → Type 0) → ((i : ℕ) (x : X) → P i x → Q i x)
     → (i : ℕ) (xs : List X) → EachFrom P i xs → EachFrom Q i xs
 each_from_weaker P Q f i [] h = tt
@@ -51,7 +52,7 @@ each_from_append P i n (x ∷ xs) ys e h k = (
       (omega arith) h.1 k,
 )
 
--- what holds at each place from n on
+-- what holds of each element holds at each index from n on
 pub each_from_past : {X : Type 0} (P : ℕ → X → Type 0) (Q : X → Type 0) (n : ℕ)
     → ((i : ℕ) (x : X) → n ≤ i → Q x → P i x) → (i : ℕ) (xs : List X) → n ≤ i → Each Q xs
     → EachFrom P i xs
@@ -67,11 +68,6 @@ pub each_from_both : {X : Type 0} (P Q R : ℕ → X → Type 0) → ((i : ℕ) 
 each_from_both P Q R f i [] h k = tt
 each_from_both P Q R f i (x ∷ xs) h k = (f i x h.0 k.0, each_from_both P Q R f (i + 1) xs h.1 k.1)
 
-pub each_from_map : {X Y : Type 0} (f : X → Y) (P : ℕ → Y → Type 0) (i : ℕ) (xs : List X)
-    → EachFrom P i (map f xs) → EachFrom (λ j x. P j (f x)) i xs
-each_from_map f P i [] h = tt
-each_from_map f P i (x ∷ xs) h = (h.0, each_from_map f P (i + 1) xs h.1)
-
 pub each_from_none : {X : Type 0} (P : ℕ → X → Type 0) (Q : X → Type 0)
     → ((i : ℕ) (x : X) → P i x → Q x) → (i : ℕ) (xs : List X) → EachFrom P i xs → Each Q xs
 each_from_none P Q f i [] h = tt
@@ -86,7 +82,8 @@ each_from_get P i (x ∷ xs) h = (
       subst (λ j. P j y) same (h (suc k) y e))),
 )
 
--- pairs
+-- PAIRS
+
 pub each_pair_append : {X : Type 0} (R : X → X → Type 0) (xs ys : List X) → EachPair R xs
     → EachPair R ys → Each (λ x. Each (R x) ys) xs → EachPair R (xs ++ ys)
 each_pair_append R [] ys h k l = k
@@ -116,7 +113,7 @@ pub each_map : {X Y : Type 0} (f : X → Y) (P : Y → Type 0) (xs : List X) →
 each_map f P [] h = tt
 each_map f P (x ∷ xs) h = (h.0, each_map f P xs h.1)
 
--- what holds at each place below n
+-- what holds of each element holds at each index below n
 pub each_from_short : {X : Type 0} (P : ℕ → X → Type 0) (Q : X → Type 0) (n : ℕ)
     → ((i : ℕ) (x : X) → i < n → Q x → P i x) → (i : ℕ) (xs : List X) → i + length xs ≡ n
     → Each Q xs → EachFrom P i xs
@@ -132,7 +129,7 @@ pub each_both : {X : Type 0} (P Q R : X → Type 0) → ((x : X) → P x → Q x
 each_both P Q R f [] h k = tt
 each_both P Q R f (x ∷ xs) h k = (f x h.0 k.0, each_both P Q R f xs h.1 k.1)
 
--- what holds at each place from low to below n
+-- what holds of each element holds at each index from low to below n
 pub each_from_range : {X : Type 0} (P : ℕ → X → Type 0) (Q : X → Type 0) (low n : ℕ)
     → ((i : ℕ) (x : X) → low ≤ i → i < n → Q x → P i x) → (i : ℕ) (xs : List X) → low ≤ i
     → i + length xs ≡ n → Each Q xs → EachFrom P i xs

@@ -1,4 +1,4 @@
--- What every history keeps: the order of its positions, and which calls its objects take.
+-- Invariants of every history: its positions ascend, and its calls are ones of their objects.
 use Rattle.std.proofs.Common.{◌≡◌, ℕ, ◌+◌, ◌<◌, ◌≤◌, true, false, ◌==◌, cond, List, [], ◌∷◌, ◌++◌}
 use Rattle.std.proofs.Common.{Option, Some, None, refl, arith, subst, slice_get}
 use Rattle.std.proofs.lemmas.Option.{same_Some, none-some}
@@ -18,7 +18,7 @@ use Rattle.calls_core.specs.Calls.{Early, Earlier, Later, IsCompletedCall, Apart
 use Rattle.calls_core.specs.Calls.{IsCallOf, AreCallsOf}
 use Rattle.calls_core.proofs.Lists.{each_weaker, each_append, each_both, each_pair_append}
 
--- A WORKER'S CALL
+-- THE PENDING CALL OF A WORKER
 
 pub each_without : (Q : PendingCall → Type 0) (w : ℕ) (os : List PendingCall) → Each Q os
     → Each Q (without w os)
@@ -45,7 +45,7 @@ each_call_by Q w (y ∷ os) o h e =
       | false ↦ λ is. each_call_by Q w os o h.1 is
     ] e
 
--- HISTORIES, if Fits says what an object takes
+-- HISTORIES, if Fits says which operations an object has
 
 abbrev pub IsNextBy : (ℕ → Op → Type 0) → Action → Option PendingCall → Type 0
 IsNextBy Fits (Invoke k op) None = Fits k op
@@ -263,21 +263,6 @@ histories_have_calls kinds past h =
         pending_apart = c.pending_apart;
       };
     }
-
--- the same at a later position
-pub calls_of_later : (kind : Kind) (done : List Call) (pending : List PendingCall) (t u : ℕ) → t ≤ u
-    → AreCallsOf kind done pending t → AreCallsOf kind done pending u
-calls_of_later kind done pending t u le h = record {
-  completed = each_weaker (IsCallOf kind t) (IsCallOf kind u) (λ d k.
-      record { lasts = k.lasts; early = omega (arith, k.early); fits = k.fits; suits = k.suits })
-      done h.completed;
-  falls = h.falls;
-  apart = h.apart;
-  early = each_weaker (Early t) (Early u) (λ o e. omega arith) pending h.early;
-  rises = h.rises;
-  fits = h.fits;
-  pending_apart = h.pending_apart;
-}
 
 pub calls_later : (kinds : List Kind) (done : List Call) (pending : List PendingCall) (t u : ℕ)
     → t ≤ u → AreCalls kinds done pending t → AreCalls kinds done pending u

@@ -14,16 +14,16 @@ use Rattle.calls_core.specs.declared.history.Call.{Call}
 use Rattle.calls_core.specs.Lists.{Each, EachPair}
 use Rattle.calls_core.specs.Histories.{clock, pending_calls, completion, completed_calls, IsHistory}
 use Rattle.calls_core.specs.Histories.{IsHistoryOf}
-use Rattle.calls_core.specs.Linearizations.{after, IsSequentialRun, initial, set_at, IsRun, start}
+use Rattle.calls_core.specs.Linearizations.{after, IsLegalHistory, initial, set_at, IsRun, start}
 use Rattle.calls_core.specs.Linearizations.{KeepsOrder, answered_one, answered_calls, IsLinearOrder}
-use Rattle.calls_core.specs.Completions.{with_last, settled_last, settled}
+use Rattle.calls_core.specs.Completions.{with_last, settled_last, settle_call}
 use Rattle.calls_core.specs.Calls.{Early, Earlier, IsCallOf, AreCallsOf, IsCompletedCall, AreCalls}
 use Rattle.calls_core.specs.Outcomes.{IsOrderOf, HasOrderOf}
 use Rattle.calls_core.proofs.Lists.{each_weaker, each_append, all_from_each, all_pairs_from_each}
 use Rattle.calls_core.proofs.Filters.{each_from_all}
 use Rattle.calls_core.proofs.Positions.{are_calls_of, histories_have_calls}
 
--- WHAT IS KNOWN OF THE POSITIONS
+-- POSITIONS
 
 abbrev pub Spans : ℕ → Call → Type 0
 Spans m c = (c.first < c.last) × (c.last < m)
@@ -75,32 +75,33 @@ pub late_last : (m t n : ℕ) → m ≤ n → settled_last m t n ≡ t
 late_last m t n le = ap (λ b. cond b n t) (le-ltb n m le)
 
 module _ (m t : ℕ) where
-  pub settled_done : (cs : List Call) → Each (Spans m) cs → map (settled m t) cs ≡ cs
+  pub settled_done : (cs : List Call) → Each (Spans m) cs → map (settle_call m t) cs ≡ cs
   settled_done [] h = refl
-  settled_done (c ∷ cs) h = ap (λ n. with_last c n ∷ map (settled m t) cs)
+  settled_done (c ∷ cs) h = ap (λ n. with_last c n ∷ map (settle_call m t) cs)
       (early_last m t c.last h.0.1) ∙ ap (λ zs. c ∷ zs) (settled_done cs h.1)
 
   settled_one : (u : ℕ) (o : PendingCall) (z : Option Reply) (xs ys : List Call) → m ≤ u
-      → map (settled m t) xs ≡ ys → map (settled m t) (answered_one u o z ++ xs)
+      → map (settle_call m t) xs ≡ ys → map (settle_call m t) (answered_one u o z ++ xs)
       ≡ answered_one t o z ++ ys
   settled_one u o None xs ys le e = e
-  settled_one u o (Some r) xs ys le e = ap (λ n. completion n r o ∷ map (settled m t) xs)
+  settled_one u o (Some r) xs ys le e = ap (λ n. completion n r o ∷ map (settle_call m t) xs)
       (late_last m t u le) ∙ ap (λ zs. completion t r o ∷ zs) e
 
   pub settled_answers : (u : ℕ) (answer : PendingCall → Option Reply) (os : List PendingCall)
-      (cs : List Call) → m ≤ u → map (settled m t) (answered_calls u answer os ++ cs)
-      ≡ answered_calls t answer os ++ map (settled m t) cs
+      (cs : List Call) → m ≤ u → map (settle_call m t) (answered_calls u answer os ++ cs)
+      ≡ answered_calls t answer os ++ map (settle_call m t) cs
   settled_answers u answer [] cs le = refl
   settled_answers u answer (o ∷ os) cs le =
-      ap (map (settled m t)) (append_assoc (answered_one u o (answer o))
+      ap (map (settle_call m t)) (append_assoc (answered_one u o (answer o))
       (answered_calls u answer os) cs)
       ∙ settled_one u o (answer o) (answered_calls u answer os ++ cs)
-      (answered_calls t answer os ++ map (settled m t) cs) le
+      (answered_calls t answer os ++ map (settle_call m t) cs) le
       (settled_answers u answer os cs le)
       ∙ sym (append_assoc (answered_one t o (answer o)) (answered_calls t answer os)
-      (map (settled m t) cs))
+      (map (settle_call m t) cs))
 
-  pub settled_run : (s : ℕ → ℕ → ℕ) (cs : List Call) → IsRun s cs → IsRun s (map (settled m t) cs)
+  pub settled_run : (s : ℕ → ℕ → ℕ) (cs : List Call) → IsRun s cs
+      → IsRun s (map (settle_call m t) cs)
   settled_run s [] h = tt
   settled_run s (c ∷ cs) h = (
     h.0,
@@ -108,13 +109,13 @@ module _ (m t : ℕ) where
         cs h.1,
   )
 
-  pub settled_one_run : (n : ℕ → ℕ) (cs : List Call) → IsSequentialRun n cs
-      → IsSequentialRun n (map (settled m t) cs)
+  pub settled_one_run : (n : ℕ → ℕ) (cs : List Call) → IsLegalHistory n cs
+      → IsLegalHistory n (map (settle_call m t) cs)
   settled_one_run n [] h = tt
   settled_one_run n (c ∷ cs) h = (h.0, settled_one_run (after n c.op c.reply) cs h.1)
 
   pub settled_keeps : (cs : List Call) → m ≤ t → Each (Begun m) cs → EachPair KeepsOrder cs
-      → EachPair KeepsOrder (map (settled m t) cs)
+      → EachPair KeepsOrder (map (settle_call m t) cs)
   settled_keeps [] le f h = tt
   settled_keeps (c ∷ cs) le f h = (one cs h.0, settled_keeps cs le f.1 h.1)
     where
@@ -126,8 +127,8 @@ module _ (m t : ℕ) where
             | inr late ↦ absurd (omega (arith, late_last m t n late))
           ])
 
-      one : (ds : List Call) → Each (KeepsOrder c) ds → Each (KeepsOrder (settled m t c))
-          (map (settled m t) ds)
+      one : (ds : List Call) → Each (KeepsOrder c) ds → Each (KeepsOrder (settle_call m t c))
+          (map (settle_call m t) ds)
       one [] k = tt
       one (d ∷ ds) k = (not_before d.last k.0, one ds k.1)
 
@@ -156,14 +157,14 @@ all_begun m u answer done pending cs early begun moved =
     (each_append (Begun m) (answered_calls u answer pending) done
     (answered_begun m u answer pending early) begun)))
 
--- an order in which the pending calls that took effect have their responses at u, as one in which
--- they have them at t
+-- an order in which the pending calls that took effect respond at u, as one in which they respond
+-- at t
 pub order_settled : (Run : List Call → Type 0) (m u t : ℕ) (done : List Call)
     (pending : List PendingCall) (cs : List Call) → m ≤ u → m ≤ t → AreBefore m done pending
-    → (Run cs → Run (map (settled m t) cs)) → IsLinearOrder Run done pending u cs
-    → IsLinearOrder Run done pending t (map (settled m t) cs)
+    → (Run cs → Run (map (settle_call m t) cs)) → IsLinearOrder Run done pending u cs
+    → IsLinearOrder Run done pending t (map (settle_call m t) cs)
 order_settled Run m u t done pending cs le later b still l =
-    let same : map (settled m t) (answered_calls u l.answer pending ++ done)
+    let same : map (settle_call m t) (answered_calls u l.answer pending ++ done)
     ≡ answered_calls t l.answer pending ++ done =
     settled_answers m t u l.answer pending done le ∙ ap (λ zs.
     answered_calls t l.answer pending ++ zs) (settled_done m t done b.spans) in
@@ -171,19 +172,19 @@ order_settled Run m u t done pending cs le later b still l =
     l.each_once in
     record {
       answer = l.answer;
-      each_once = subst (λ zs. IsPermutation zs (map (settled m t) cs)) same
-          (IsPermutation-map (settled m t) _ cs l.each_once);
-      in_order = all_pairs_from_each KeepsOrder (map (settled m t) cs)
+      each_once = subst (λ zs. IsPermutation zs (map (settle_call m t) cs)) same
+          (IsPermutation-map (settle_call m t) _ cs l.each_once);
+      in_order = all_pairs_from_each KeepsOrder (map (settle_call m t) cs)
           (settled_keeps m t cs later begun (each_pair_from_all KeepsOrder cs l.in_order));
       run = still l.run;
     }
 
--- of one object
+-- the same for one object
 pub order_at : (kind : Kind) (past : List Event) (u t : ℕ) (cs : List Call) → IsHistoryOf kind past
     → clock past ≤ u → clock past ≤ t → IsOrderOf kind past u cs
-    → IsOrderOf kind past t (map (settled (clock past) t) cs)
+    → IsOrderOf kind past t (map (settle_call (clock past) t) cs)
 order_at kind past u t cs h le later l =
-    order_settled (IsSequentialRun (initial (Some kind))) (clock past) u t (completed_calls past)
+    order_settled (IsLegalHistory (initial (Some kind))) (clock past) u t (completed_calls past)
     (pending_calls past) cs le later (before_of kind (completed_calls past) (pending_calls past)
     (clock past) (are_calls_of kind past h))
     (settled_one_run (clock past) t (initial (Some kind)) cs) l
@@ -191,7 +192,7 @@ order_at kind past u t cs h le later l =
 pub has_order_from : (kind : Kind) (past : List Event) (u : ℕ) (cs : List Call)
     → IsHistoryOf kind past → clock past ≤ u → IsOrderOf kind past u cs → HasOrderOf kind past
 has_order_from kind past u cs h le l = (
-  map (settled (clock past) (clock past)) cs,
+  map (settle_call (clock past) (clock past)) cs,
   order_at kind
       past u (clock past) cs h le (omega arith) l,
 )
@@ -199,19 +200,7 @@ has_order_from kind past u cs h le l = (
 pub order_later : (kind : Kind) (past : List Event) (t : ℕ) → IsHistoryOf kind past → clock past ≤ t
     → HasOrderOf kind past → (cs : List Call) × IsOrderOf kind past t cs
 order_later kind past t h le l = (
-  map (settled (clock past) t) l.0,
+  map (settle_call (clock past) t) l.0,
   order_at kind past
       (clock past) t l.0 h (omega arith) le l.1,
 )
-
--- of many objects
-pub order_whole_at : (kinds : List Kind) (past : List Event) (u t : ℕ) (cs : List Call)
-    → IsHistory kinds past → clock past ≤ u → clock past ≤ t
-    → IsLinearOrder (IsRun (start kinds)) (completed_calls past) (pending_calls past) u cs
-    → IsLinearOrder (IsRun (start kinds)) (completed_calls past) (pending_calls past) t
-    (map (settled (clock past) t) cs)
-order_whole_at kinds past u t cs h le later l =
-    order_settled (IsRun (start kinds)) (clock past) u t (completed_calls past) (pending_calls past)
-    cs le later (before kinds (completed_calls past) (pending_calls past) (clock past)
-    (histories_have_calls kinds past h))
-    (settled_run (clock past) t (start kinds) cs) l

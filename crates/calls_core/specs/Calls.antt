@@ -1,4 +1,4 @@
--- What every history keeps of its calls.
+-- What holds of the calls of every history.
 use Rattle.std.specs.Prelude.{◌≡◌, ℕ, ◌<◌, List, Some, slice_get}
 use Rattle.calls_core.specs.declared.history.Kind.{Kind}
 use Rattle.calls_core.specs.declared.history.PendingCall.{PendingCall}
@@ -42,7 +42,7 @@ pub record AreCompleted (kinds : List Kind) (t : ℕ) (os : List PendingCall) (c
   pub apart : Each (λ (c : Call). Apart cs c.first) cs
   pub pending_apart : Each (λ (o : PendingCall). Apart cs o.first) os
 
--- completed and pending calls as a history has them, which ends before position t
+-- the completed and pending calls of a history that ends before position t
 pub record AreCalls (kinds : List Kind) (done : List Call) (pending : List PendingCall)
     (t : ℕ) : Type 0 where
   pub pending_calls : ArePending kinds t pending
@@ -58,8 +58,8 @@ pub record IsCallOf (kind : Kind) (t : ℕ) (c : Call) : Type 0 where
   pub suits : Suits c.op c.reply
 
 -- the completed and pending calls of one object of this kind, whose history ends before position t:
--- the completed ones
--- with the latest response first, the pending ones in the order of their invocations
+-- the completed ones with the latest response first, the pending ones in the order of their
+-- invocations
 pub record AreCallsOf (kind : Kind) (done : List Call) (pending : List PendingCall)
     (t : ℕ) : Type 0 where
   pub completed : Each (IsCallOf kind t) done

@@ -1,7 +1,6 @@
 -- Linearizations as Herlihy and Wing define them: some pending calls are completed by later
--- responses
--- (M. Herlihy and J. Wing, "Linearizability: A Correctness Condition for Concurrent Objects",
--- 1990).
+-- responses (M. Herlihy and J. Wing, "Linearizability: A Correctness Condition for Concurrent
+-- Objects", 1990).
 use Rattle.std.specs.Prelude.{◌≡◌, ℕ, min, nat_lt, Bool, true, false, if◌then◌else◌, List, ◌++◌}
 use Rattle.std.specs.List.{AllPairs}
 use Rattle.std.specs.List.Sorted.{IsPermutation}
@@ -12,10 +11,10 @@ use Rattle.calls_core.specs.declared.history.Event.{Event}
 use Rattle.calls_core.specs.declared.history.Call.{Call}
 use Rattle.calls_core.specs.Lists.{Each}
 use Rattle.calls_core.specs.Histories.{IsHistory, completed_calls, part}
-use Rattle.calls_core.specs.Linearizations.{KeepsOrder, IsSequentialRun, IsRun, start}
+use Rattle.calls_core.specs.Linearizations.{KeepsOrder, IsLegalHistory, IsRun, start}
 
 -- the completed calls, each once and no others, in an order that keeps the real-time order and is a
--- run
+-- legal sequential history
 pub record IsLegal (Run : List Call → Type 0) (past : List Event) (cs : List Call) : Type 0 where
   pub each_once : IsPermutation (completed_calls past) cs
   pub in_order : AllPairs KeepsOrder cs
@@ -25,8 +24,8 @@ abbrev pub is_response : Action → Bool
 is_response (Invoke k op) = false
 is_response (Respond r) = true
 
--- some of the pending calls have responses after the history; then the completed calls are in a
--- legal sequential order
+-- some pending calls get responses after the history; the calls then completed are in a legal
+-- sequential order
 pub record IsLinearizationIn (Run : List Call → Type 0) (kinds : List Kind) (past : List Event)
     (cs : List Call)
     : Type 0 where
@@ -41,10 +40,10 @@ IsLinearization kinds past cs = IsLinearizationIn (IsRun (start kinds)) kinds pa
 
 -- a linearization of the events of the calls of object k
 abbrev pub IsLinearizationOn : List Kind → ℕ → List Event → List Call → Type 0
-IsLinearizationOn kinds k past cs = IsLinearizationIn (IsSequentialRun (start kinds k)) kinds
+IsLinearizationOn kinds k past cs = IsLinearizationIn (IsLegalHistory (start kinds k)) kinds
     (part k past) cs
 
--- a history that has one
+-- whether a history has a linearization
 abbrev pub IsLinearizable : List Kind → List Event → Type 0
 IsLinearizable kinds past = (cs : List Call) × IsLinearization kinds past cs
 
@@ -69,6 +68,6 @@ known_at t c = with_last c (min c.last t)
 abbrev pub settled_last : ℕ → ℕ → ℕ → ℕ
 settled_last m t n = if nat_lt n m then n else t
 
--- the call; if its response is at position m or later, that counts as one at t
-abbrev pub settled : ℕ → ℕ → Call → Call
-settled m t c = with_last c (settled_last m t c.last)
+-- the call; a response at position m or later counts as one at t
+abbrev pub settle_call : ℕ → ℕ → Call → Call
+settle_call m t c = with_last c (settled_last m t c.last)

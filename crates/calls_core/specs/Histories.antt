@@ -1,5 +1,5 @@
--- Histories of the calls of many objects. A past is the list of the events before a moment, the
--- newest first.
+-- Histories of the calls of many objects. A past is the history so far, reversed: the newest event
+-- is first.
 use Rattle.std.specs.Prelude.{◌≡◌, ℕ, ◌+◌, ◌<◌, ◌≤◌, ◌==◌, Bool, false, List, [], ◌∷◌, ◌++◌, length}
 use Rattle.std.specs.Prelude.{Option, Some, None, if◌then◌else◌, slice_get}
 use Rattle.calls_core.specs.declared.history.Kind.{Kind}
@@ -16,7 +16,7 @@ use Rattle.calls_core.specs.declared.history.Event.{Event}
 use Rattle.calls_core.specs.declared.history.PendingCall.{PendingCall}
 use Rattle.calls_core.specs.declared.history.Call.{Call}
 
--- the first position after a past
+-- the first position after the history so far
 abbrev pub clock : List Event → ℕ
 clock [] = 0
 clock (x ∷ past) = x.at + 1
@@ -28,7 +28,7 @@ abbrev pub pending_of : ℕ → List PendingCall → Option PendingCall
 pending_of w [] = None
 pending_of w (o ∷ os) = if o.worker == w then Some o else pending_of w os
 
--- the pending calls but that of a worker
+-- the pending calls without that of a worker
 abbrev pub without : ℕ → List PendingCall → List PendingCall
 without w [] = []
 without w (o ∷ os) = if o.worker == w then os else o ∷ without w os
@@ -74,7 +74,7 @@ completed_calls (x ∷ past) = ended_call x x.action (pending_of x.worker (pendi
 
 -- HISTORIES
 
--- what may be asked of an object
+-- whether an operation may be called on an object
 abbrev pub Takes : Option Kind → Op → Type 0
 Takes (Some (Eventcount n)) Advance = Unit {0}
 Takes (Some (Eventcount n)) Read = Unit {0}
@@ -90,7 +90,7 @@ Takes (Some (Database n)) (Put v) = Unit {0}
 Takes (Some (Database n)) Get = Unit {0}
 Takes _ _ = ⊥
 
--- the replies that suit what was asked
+-- whether a reply is of the form that the operation returns
 abbrev pub Suits : Op → Reply → Type 0
 Suits Advance Done = Unit {0}
 Suits Read (Number n) = Unit {0}
@@ -105,8 +105,8 @@ Suits (Put v) Done = Unit {0}
 Suits Get (Number n) = Unit {0}
 Suits _ _ = ⊥
 
--- who invokes has no pending call, and its object takes what is asked; who responds has one, and
--- the reply suits it
+-- a worker that invokes has no pending call, and the object has the operation; a worker that
+-- responds has one, and the reply suits its operation
 abbrev pub IsNext : List Kind → Action → Option PendingCall → Type 0
 IsNext kinds (Invoke k op) None = Takes (slice_get kinds k) op
 IsNext kinds (Invoke k op) (Some o) = ⊥
@@ -120,7 +120,7 @@ IsHistory kinds (x ∷ past) =
     (clock past ≤ x.at) × IsNext kinds x.action (pending_of x.worker (pending_calls past))
     × IsHistory kinds past
 
--- THE PART ON ONE OBJECT
+-- THE PART OF ONE OBJECT (its subhistory)
 
 -- whether an event is one of a call of object k, if its worker has this pending call
 abbrev pub is_on : ℕ → Action → Option PendingCall → Bool

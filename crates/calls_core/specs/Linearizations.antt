@@ -1,4 +1,4 @@
--- Linearizations, by answers: of the pending calls some have an answer and took effect.
+-- Linearizations by answers: a pending call that took effect has an answer, its reply to come.
 use Rattle.std.specs.Prelude.{◌≡◌, ℕ, ◌+◌, ◌-◌, ◌<◌, ◌≤◌, ◌==◌, List, [], ◌∷◌, ◌++◌}
 use Rattle.std.specs.Prelude.{Option, Some, None, if◌then◌else◌, slice_get, slice_index}
 use Rattle.std.specs.List.{AllPairs, filter}
@@ -16,7 +16,7 @@ use Rattle.calls_core.specs.declared.history.Call.{Call}
 use Rattle.calls_core.specs.Histories.{clock, completion, pending_calls, completed_calls}
 
 -- THE SEQUENTIAL SPECIFICATION: each object has numbers m, and each call is one step. An
--- eventcount, a sequencer and a cell use only m 0; semaphores have one each.
+-- eventcount, a sequencer, a cell and a database use only m 0; semaphores have one each.
 
 -- whether an object with the numbers m may give this reply
 abbrev pub Gives : (ℕ → ℕ) → Op → Reply → Type 0
@@ -50,11 +50,11 @@ after m (PBoth i j) Done = set_at i (m i - 1) (set_at j (m j - 1) m)
 after m (Put v) r = set_at 0 v m
 after m _ _ = m
 
--- the calls of one object, one after another from the numbers m on, are possible and return what
--- they return
-abbrev pub IsSequentialRun : (ℕ → ℕ) → List Call → Type 0
-IsSequentialRun m [] = Unit {0}
-IsSequentialRun m (c ∷ cs) = Gives m c.op c.reply × IsSequentialRun (after m c.op c.reply) cs
+-- whether the calls of one object, one after another from the numbers m on, are a legal sequential
+-- history
+abbrev pub IsLegalHistory : (ℕ → ℕ) → List Call → Type 0
+IsLegalHistory m [] = Unit {0}
+IsLegalHistory m (c ∷ cs) = Gives m c.op c.reply × IsLegalHistory (after m c.op c.reply) cs
 
 -- the numbers of an object at first
 abbrev pub initial : Option Kind → ℕ → ℕ
@@ -85,14 +85,13 @@ abbrev pub answered_one : ℕ → PendingCall → Option Reply → List Call
 answered_one t o None = []
 answered_one t o (Some r) = completion t r o ∷ []
 
--- the pending calls that have an answer, as if it were their response at t
+-- the pending calls that have an answer, completed with it at position t
 abbrev pub answered_calls : ℕ → (PendingCall → Option Reply) → List PendingCall → List Call
 answered_calls t answer [] = []
 answered_calls t answer (o ∷ os) = answered_one t o (answer o) ++ answered_calls t answer os
 
--- all completed calls, and of the pending ones some, each with some answer; each once, and no
--- others; the order keeps
--- the real-time order; and they are a run
+-- all completed calls and some pending ones with their answers, each once and no others, in an
+-- order that keeps the real-time order and is a legal sequential history
 pub record IsLinearOrder (Run : List Call → Type 0) (done : List Call) (pending : List PendingCall)
     (t : ℕ)
     (cs : List Call) : Type 0 where
@@ -117,5 +116,5 @@ pending_on k os = filter (λ (o : PendingCall). o.object == k) os
 -- a linearization of the calls of object k, by answers
 abbrev pub IsAnsweredLinearizationOn : List Kind → ℕ → List Event → List Call → Type 0
 IsAnsweredLinearizationOn kinds k past cs =
-    IsLinearOrder (IsSequentialRun (start kinds k)) (calls_on k (completed_calls past))
+    IsLinearOrder (IsLegalHistory (start kinds k)) (calls_on k (completed_calls past))
     (pending_on k (pending_calls past)) (clock past) cs

@@ -1,4 +1,4 @@
--- Points: when each call takes effect.
+-- Linearization points: when each call takes effect.
 use Rattle.std.specs.Prelude.{◌≡◌, ℕ, ◌+◌, ◌<◌, ◌≤◌, ◌==◌, nat_le, max, List, [], ◌∷◌, map}
 use Rattle.std.specs.Prelude.{if◌then◌else◌}
 use Rattle.std.specs.List.{filter}
@@ -10,31 +10,31 @@ use Rattle.calls_core.specs.Linearizations.{set_at, IsLinearOrder}
 
 -- the point of a call is right after the latest invocation among those of its object's calls up to
 -- it. s has the point of the last call of each object
-abbrev pub placed : (ℕ → ℕ) → List Call → List Placed
-placed s [] = []
-placed s (c ∷ cs) =
+abbrev pub with_points : (ℕ → ℕ) → List Call → List Placed
+with_points s [] = []
+with_points s (c ∷ cs) =
     record { point = max (s c.object) (c.first + 1); call = c } ∷
-    placed (set_at c.object (max (s c.object) (c.first + 1)) s) cs
+    with_points (set_at c.object (max (s c.object) (c.first + 1)) s) cs
 
--- the same of the calls of one object, if n is the point of the last one
+-- the same for the calls of one object, if n is the point of the call before them
 abbrev pub placed_one : ℕ → List Call → List Placed
 placed_one n [] = []
 placed_one n (c ∷ cs) =
     record { point = max n (c.first + 1); call = c } ∷ placed_one (max n (c.first + 1)) cs
 
--- the point lies after the invocation, and no later than the response
+-- the point is after the invocation, and no later than the response
 abbrev pub Within : Placed → Type 0
 Within p = (p.call.first < p.point) × (p.point ≤ p.call.last)
 
 abbrev pub NoLater : Placed → Placed → Type 0
 NoLater p q = p.point ≤ q.point
 
--- before the first that has its point no earlier
+-- p inserted before the first call whose point is no earlier
 abbrev pub put_in : Placed → List Placed → List Placed
 put_in p [] = p ∷ []
 put_in p (q ∷ qs) = if nat_le p.point q.point then p ∷ q ∷ qs else q ∷ put_in p qs
 
--- in the order of points, and those of one point in the order in which they were
+-- sorted by points; calls with the same point keep their order
 abbrev pub by_points : List Placed → List Placed
 by_points [] = []
 by_points (p ∷ ps) = put_in p (by_points ps)
@@ -52,11 +52,12 @@ pub record ArePlacedOne (latest : ℕ) (ps : List Placed) : Type 0 where
   pub points : ps ≡ placed_one 0 (calls_of ps)
   pub last : latest ≡ last_point 0 (calls_of ps)
 
--- a list of the calls of many objects that is in order for each, in an order for all
-abbrev pub merged : List Call → List Call
-merged cs = calls_of (by_points (placed (λ k. 0) cs))
+-- calls of many objects, in order for each object, merged into an order for all
+abbrev pub merge_calls : List Call → List Call
+merge_calls cs = calls_of (by_points (with_points (λ k. 0) cs))
 
--- a linear order in which each call has a point of its own time, and the points ascend
+-- a linear order in which the point of each call is between its invocation and its response, and
+-- the points never fall
 pub record IsPlacedOrder (Run : List Call → Type 0) (done : List Call) (pending : List PendingCall)
     (t : ℕ)
     (order : List Placed) : Type 0 where

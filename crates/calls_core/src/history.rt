@@ -1,21 +1,22 @@
-//! What is recorded of a program's calls, and the calls of it.
+//! The objects of a history, its events, and the calls that the events make up.
+ghost use Rattle.std.specs.Prelude.{◌≡◌};
 
-/// How many calls may be pending at once in a monitor.
+/// The most calls that may be pending at once in a monitor.
 pub const WORKERS: usize = 64;
 
 /// What an object is.
 #[derive(Debug, Drop)]
 pub enum Kind {
-    /// A count that goes up by ones, from this number on. It is read and waited for.
+    /// A count that starts at this number and rises by ones. It is read and awaited.
     Eventcount(usize),
-    /// It hands out the numbers from 0 on, each once and in order.
+    /// It draws the numbers from 0 on, each once and in order.
     Sequencer,
     /// Semaphores from which one call may take together, with the units that each has at first.
     Semaphores(Vec<usize>),
     /// It holds the number that was put last, 0 at first.
     Cell,
-    /// As many cells as this, written and read together. Its value is a list of numbers, which
-    /// goes by a number of its own: equal lists have one number, and the list of zeros has 0.
+    /// This many cells, written and read at once. Its value is a list of numbers, and one number
+    /// encodes the list: equal lists have the same code, and the list of zeros has the code 0.
     Database(usize),
 }
 
@@ -52,17 +53,17 @@ pub enum Reply {
     Done,
     /// The number.
     Number(usize),
-    /// Nothing, since the call gave up: of an await, the count was below its threshold at some
-    /// moment of the call; of a p, it says nothing.
+    /// Nothing, since the call gave up. For an await, the count was below its threshold at some
+    /// moment of the call. For a p, it says nothing about the units.
     Timeout,
 }
 
-/// The two ends of a call.
+/// What an event does: it invokes a call or responds to one.
 #[derive(Clone, Copy, Debug, PartialEq, Eq)]
 pub enum Action {
     /// The invocation: a call of the object with this index begins.
     Invoke(usize, Op),
-    /// The response: the worker's call ends.
+    /// The response: the worker's pending call returns this reply.
     Respond(Reply),
 }
 
@@ -74,7 +75,7 @@ pub struct Event {
     pub at: usize,
     /// Whose call begins or ends.
     pub worker: usize,
-    /// Which of the two.
+    /// Whether the call begins or ends, with what it asks or returns.
     pub action: Action,
 }
 
@@ -91,6 +92,24 @@ pub struct PendingCall {
     pub first: usize,
 }
 
+impl PendingCall {
+    ghost use Rattle.calls_core.specs.Histories.{completion};
+
+    /// Returns the call with this reply, and with its response at position `last`.
+    pub fn complete(self, reply: Reply, last: usize) -> Call
+        ensures { result ≡ completion last reply self }
+    {
+        Call {
+            worker: self.worker,
+            object: self.object,
+            op: self.op,
+            reply,
+            first: self.first,
+            last,
+        }
+    }
+}
+
 /// A completed call, or a pending one that took effect.
 #[derive(Clone, Copy, Debug, Default, PartialEq, Eq)]
 pub struct Call {
@@ -104,7 +123,7 @@ pub struct Call {
     pub reply: Reply,
     /// The position of its invocation.
     pub first: usize,
-    /// The position of its response. Of a pending call the first position after the history.
+    /// The position of its response. For a pending call, the first position after the history.
     pub last: usize,
 }
 

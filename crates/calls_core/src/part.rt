@@ -64,7 +64,7 @@ impl<'p, 'h> Part<'p, 'h> {
     }
 }
 
-/// Events of one object, in order, while they are gathered from a history.
+/// Events of one object, in order, while they are collected from a history.
 #[derive(Drop)]
 pub struct PartList<'h> {
     events: Vec<&'h Event>,
@@ -80,7 +80,7 @@ impl<'h> Model for PartList<'h> {
 }
 
 impl<'h> PartList<'h> {
-    /// Returns no events.
+    /// Returns an empty list.
     pub fn new(alloc: Global) -> PartList<'h>
         ensures { result ≡ [] }
     {

@@ -1,4 +1,4 @@
-//! The calls of one object in order, each with its point.
+//! The calls of one object in order, each with its linearization point.
 ghost use Rattle.std.specs.Prelude.{◌≡◌, ◌+◌, ◌++◌, ◌∷◌, [], max, IfOk, OnOk};
 ghost use Rattle.calls_core.specs.Points.{placed_one};
 
@@ -6,8 +6,9 @@ use crate::{Call, Placed};
 use std::alloc::{AllocError, Global};
 use std::marker::Model;
 
-/// The calls of one object in an order. Each has its point: right after the latest invocation among
-/// the calls that stand up to it.
+/// The calls of one object in order, each with its linearization point.
+///
+/// The point of a call is right after the latest invocation of the calls up to it.
 #[derive(Debug, Drop)]
 pub struct PlacedCalls {
     list: Vec<Placed>,
@@ -30,7 +31,7 @@ impl Model for PlacedCalls {
 fn next_point(latest: usize, call: &Call) -> Result<usize, AllocError>
     ensures { IfOk result (λ point. point ≡ max latest (call.now.first + 1)) }
 {
-    // (the position of a response is greater, so there is one)
+    // (the position of the response is greater, so the sum exists)
     match call.first.checked_add(1) {
         Some(next) => Ok(latest.max(next)),
         None => Err(AllocError),
@@ -38,7 +39,7 @@ fn next_point(latest: usize, call: &Call) -> Result<usize, AllocError>
 }
 
 impl PlacedCalls {
-    /// Returns no calls.
+    /// Returns an empty list.
     pub fn new(alloc: Global) -> PlacedCalls
         ensures { result ≡ [] }
     {
@@ -58,7 +59,7 @@ impl PlacedCalls {
         Ok(())
     }
 
-    /// Adds the calls with their points at the end of others.
+    /// Appends the calls with their points to `list`.
     pub fn append_to(self, list: &mut Vec<Placed>) -> Result<(), AllocError>
         ensures { OnOk result (list.new.items ≡ list.old.items ++ placed_one 0 self) }
     {

@@ -27,7 +27,7 @@ shows_more start [] past f h s = s
 shows_more start (x ∷ late) past f h s = shows_next start x (late ++ past) f h
     (shows_more start late past f h.2 s)
 
--- each beginning of a history with an order has one
+-- each prefix of a history with an order has one
 beginning_ordered : (start : ℕ) (events : List Event) (end : ℕ) (cs : List Call) (j : ℕ)
     → IsHistoryOf (Eventcount start) (reverse events) → IsOrderOf (Eventcount start)
     (reverse events) end cs → HasOrderOf (Eventcount start) (past_at j events)

@@ -13,7 +13,7 @@ use Rattle.calls_core.specs.declared.history.Reply.TheVariants.{Done}
 use Rattle.calls_core.specs.declared.history.PendingCall.{PendingCall}
 use Rattle.calls_core.specs.declared.history.Call.{Call}
 use Rattle.calls_counts.specs.declared.state.Slot.{Slot}
-use Rattle.calls_counts.specs.declared.state.Noted.{Noted}
+use Rattle.calls_counts.specs.declared.state.NotedCall.{NotedCall}
 use Rattle.calls_counts.specs.declared.state.PlacedRead.{PlacedRead}
 use Rattle.calls_core.specs.Histories.{completion}
 use Rattle.calls_core.specs.Linearizations.{answered_one, answered_calls}
@@ -22,7 +22,7 @@ use Rattle.calls_counts.specs.Faults.{is_advance}
 use Rattle.calls_core.specs.Lists.{Each, EachFrom, EachPair}
 use Rattle.calls_counts.specs.ScanStates.{free, noted_calls, moments, may_take, takers, Enough}
 use Rattle.calls_counts.specs.ScanStates.{IsSlotAt, IsNotedCall, IsReadAt, IsState}
-use Rattle.calls_counts.specs.Scanning.{FreeBelow, NoneFree, filled, IsFilled, IsIdle, IsCompleting}
+use Rattle.calls_counts.specs.Scanning.{FreeBelow, NoneFree, slot_of_call, IsFilled, IsIdle, IsCompleting}
 use Rattle.calls_counts.specs.Scanning.{Skips}
 use Rattle.calls_core.proofs.Counting.{one_no, count_cons}
 use Rattle.calls_core.proofs.Lists.{each_weaker, each_append, each_right, each_from_weaker}
@@ -68,40 +68,41 @@ answered_next t answer r os o early =
     (append-nil (answered_one t o (with_answer o r answer o)) ∙ ap (λ b.
     answered_one t o (cond b r (answer o))) (eq-eqb o.first o.first refl))
 
-noted_next : (front : List Noted) (u : Noted) → noted_calls (front ++ u ∷ []) ≡ noted_calls front
+noted_next : (prefix : List NotedCall) (u : NotedCall)
+    → noted_calls (prefix ++ u ∷ []) ≡ noted_calls prefix
     ++ u.call ∷ []
-noted_next front u = map-append (λ (z : Noted). z.call) front (u ∷ [])
+noted_next prefix u = map-append (λ (z : NotedCall). z.call) prefix (u ∷ [])
 
--- the calls before a pending call were invoked earlier
-pub ahead_early : (front : List Noted) (u : Noted) (back : List Noted)
-    → EachPair Earlier (noted_calls (front ++ u ∷ back))
-    → Each (λ p. Earlier p u.call) (noted_calls front)
-ahead_early front u back h =
+-- the pending calls before u were invoked before it
+pub ahead_early : (prefix : List NotedCall) (u : NotedCall) (back : List NotedCall)
+    → EachPair Earlier (noted_calls (prefix ++ u ∷ back))
+    → Each (λ p. Earlier p u.call) (noted_calls prefix)
+ahead_early prefix u back h =
     each_weaker (λ p. Each (Earlier p) (u.call ∷ noted_calls back)) (λ p. Earlier p u.call) (λ p k.
-    k.0) (noted_calls front)
-    (each_pair_across Earlier (noted_calls front) (u.call ∷ noted_calls back)
-    (subst (EachPair Earlier) (map-append (λ (z : Noted). z.call) front (u ∷ back)) h))
+    k.0) (noted_calls prefix)
+    (each_pair_across Earlier (noted_calls prefix) (u.call ∷ noted_calls back)
+    (subst (EachPair Earlier) (map-append (λ (z : NotedCall). z.call) prefix (u ∷ back)) h))
 
 -- SO FAR
 
-none_free_still : (n m : ℕ) (c : Call) (front : List Slot) (s : Slot) (back : List Slot)
-    → NoneFree (front ++ s ∷ back) n → NoneFree (front ++ filled m c ∷ back) n
-none_free_still n m c front s back h =
-    each_from_append (FreeBelow n) 0 (length front) front (filled m c ∷ back) (omega arith)
-    (each_from_left (FreeBelow n) 0 front (s ∷ back) h) (
+none_free_still : (n m : ℕ) (c : Call) (prefix : List Slot) (s : Slot) (back : List Slot)
+    → NoneFree (prefix ++ s ∷ back) n → NoneFree (prefix ++ slot_of_call m c ∷ back) n
+none_free_still n m c prefix s back h =
+    each_from_append (FreeBelow n) 0 (length prefix) prefix (slot_of_call m c ∷ back) (omega arith)
+    (each_from_left (FreeBelow n) 0 prefix (s ∷ back) h) (
       (λ e. absurd (cc)),
-      (each_from_right (FreeBelow n) 0 (length front) front (s ∷ back)
+      (each_from_right (FreeBelow n) 0 (length prefix) prefix (s ∷ back)
           (omega arith) h).1,
     )
 
-idle_still : (old new : List Slot) (n : ℕ) (c : Call) → IsFilled old new n c → (u : Noted)
+idle_still : (old new : List Slot) (n : ℕ) (c : Call) → IsFilled old new n c → (u : NotedCall)
     → IsIdle old u → IsIdle new u
 idle_still old new n c f u h e =
-    subst (λ zs. NoneFree zs u.noted) (sym f.is) (none_free_still u.noted f.slot.moment c f.front
+    subst (λ zs. NoneFree zs u.noted) (sym f.is) (none_free_still u.noted f.slot.moment c f.prefix
     f.slot f.back (subst (λ zs. NoneFree zs u.noted) f.was (h e)))
 
 pub completing_none : (start end : ℕ) (calls : List Call) (t begun : ℕ) (slots : List Slot)
-    (reads : List PlacedRead) (pending : List Noted) → t ≤ end
+    (reads : List PlacedRead) (pending : List NotedCall) → t ≤ end
     → IsState start calls t begun slots pending reads
     → IsCompleting start end calls begun slots reads [] pending
 completing_none start end calls t begun slots reads pending le h =
@@ -131,20 +132,20 @@ completing_none start end calls t begun slots reads pending le h =
     }
 
 module _ (start end : ℕ) (calls : List Call) (begun : ℕ) (now later : List Slot)
-    (reads : List PlacedRead) (front : List Noted) (u : Noted) (back : List Noted)
-    (ahead : Each (λ p. Earlier p u.call) (noted_calls front))
-    (k : IsCompleting start end calls begun now reads front (u ∷ back)) where
+    (reads : List PlacedRead) (prefix : List NotedCall) (u : NotedCall) (back : List NotedCall)
+    (ahead : Each (λ p. Earlier p u.call) (noted_calls prefix))
+    (k : IsCompleting start end calls begun now reads prefix (u ∷ back)) where
   pub completing_filled : is_advance u.call.op ≡ true → IsFilled now later u.noted
       (completion end Done u.call) → IsCompleting start end calls begun later reads
-      (front ++ u ∷ []) back
+      (prefix ++ u ∷ []) back
   completing_filled adds f =
       (let c = completion end Done u.call in
-      let before = answered_calls end k.answer (noted_calls front) in
+      let before = answered_calls end k.answer (noted_calls prefix) in
       let moment : f.slot.moment ≤ end =
-      (each_right (λ m. m ≤ end) (moments f.front) (f.slot.moment ∷ moments f.back)
-      (subst (Each (λ m. m ≤ end)) (ap moments f.was ∙ map-append (λ (z : Slot). z.moment) f.front
+      (each_right (λ m. m ≤ end) (moments f.prefix) (f.slot.moment ∷ moments f.back)
+      (subst (Each (λ m. m ≤ end)) (ap moments f.was ∙ map-append (λ (z : Slot). z.moment) f.prefix
       (f.slot ∷ f.back)) k.early)).0 in
-      let state : IsState start (k.answered ++ calls) (end + 1) begun (f.front ++ f.slot ∷ f.back)
+      let state : IsState start (k.answered ++ calls) (end + 1) begun (f.prefix ++ f.slot ∷ f.back)
       (k.kept ++ u ∷ back) reads =
       subst (λ zs. IsState start (k.answered ++ calls) (end + 1) begun zs (k.kept ++ u ∷ back)
       reads) f.was k.state in
@@ -154,34 +155,34 @@ module _ (start end : ℕ) (calls : List Call) (begun : ℕ) (now later : List S
         kept = k.kept;
         moved = subst (λ zs. IsPermutation zs (c ∷ k.answered))
             (sym (ap (answered_calls end (with_answer u.call (Some Done) k.answer))
-            (noted_next front u) ∙ answered_next end k.answer (Some Done)
-            (noted_calls front) u.call ahead))
+            (noted_next prefix u) ∙ answered_next end k.answer (Some Done)
+            (noted_calls prefix) u.call ahead))
             (IsPermutation-trans (before ++ c ∷ []) (c ∷ before) (c ∷ k.answered)
             (IsPermutation-append_comm before (c ∷ []))
             (IsPermutation-cons c before k.answered k.moved));
         state = subst (λ zs. IsState start (c ∷ (k.answered ++ calls)) (end + 1) begun zs
             (k.kept ++ back) reads) (sym f.is)
-            (state_filled_by start (k.answered ++ calls) (end + 1) (end + 1) begun f.front f.slot
+            (state_filled_by start (k.answered ++ calls) (end + 1) (end + 1) begun f.prefix f.slot
             f.back k.kept u back reads c (omega arith) (omega arith) moment
             (advance_is u.call.op adds) refl refl adds f.none f.low f.below state);
         early = subst (Each (λ m. m ≤ end)) (ap moments f.was ∙ sym
-            (moments_same f.front f.slot c f.back) ∙ ap moments (sym f.is)) k.early;
+            (moments_same f.prefix f.slot c f.back) ∙ ap moments (sym f.is)) k.early;
         idle = each_weaker (IsIdle now) (IsIdle later) (idle_still now later u.noted c f) k.kept
             k.idle;
       })
 
   pub completing_passed : later ≡ now → IsIdle now u → IsCompleting start end calls begun later
-      reads (front ++ u ∷ []) back
+      reads (prefix ++ u ∷ []) back
   completing_passed same idle =
-      (let before = answered_calls end k.answer (noted_calls front) in
-      subst (λ zs. IsCompleting start end calls begun zs reads (front ++ u ∷ []) back) (sym same)
+      (let before = answered_calls end k.answer (noted_calls prefix) in
+      subst (λ zs. IsCompleting start end calls begun zs reads (prefix ++ u ∷ []) back) (sym same)
       (record {
         answer = with_answer u.call None k.answer;
         answered = k.answered;
         kept = k.kept ++ u ∷ [];
         moved = subst (λ zs. IsPermutation zs k.answered)
-            (sym (ap (answered_calls end (with_answer u.call None k.answer)) (noted_next front u)
-            ∙ answered_next end k.answer None (noted_calls front) u.call ahead
+            (sym (ap (answered_calls end (with_answer u.call None k.answer)) (noted_next prefix u)
+            ∙ answered_next end k.answer None (noted_calls prefix) u.call ahead
             ∙ append-nil before)) k.moved;
         state = subst (λ zs. IsState start (k.answered ++ calls) (end + 1) begun now zs reads)
             (sym (append_assoc k.kept (u ∷ []) back)) k.state;
@@ -191,7 +192,7 @@ module _ (start end : ℕ) (calls : List Call) (begun : ℕ) (now later : List S
 
 -- AT THE END
 
-idle_one : (i : ℕ) (s : Slot) (slots : List Slot) (u : Noted) → (is_advance u.call.op ≡ true
+idle_one : (i : ℕ) (s : Slot) (slots : List Slot) (u : NotedCall) → (is_advance u.call.op ≡ true
     → EachFrom (FreeBelow u.noted) i (s ∷ slots)) → s.taken ≡ None → may_take i u ≡ false
 idle_one i s slots u h e =
     let P : Bool → Type 0 = λ b. is_advance u.call.op ≡ b → (b && nat_le u.noted i) ≡ false in
@@ -200,7 +201,8 @@ idle_one i s slots u h e =
       | false ↦ λ none. refl
     ] refl
 
-none_take : (i : ℕ) (pending : List Noted) → Each (λ (u : Noted). may_take i u ≡ false) pending
+none_take : (i : ℕ) (pending : List NotedCall)
+    → Each (λ (u : NotedCall). may_take i u ≡ false) pending
     → takers pending i ≡ 0
 none_take i [] h = refl
 none_take i (u ∷ pending) h = omega (
@@ -211,48 +213,50 @@ none_take i (u ∷ pending) h = omega (
   none_take i pending h.1,
 )
 
-no_takers : (i : ℕ) (slots : List Slot) (pending : List Noted)
-    → Each (λ (u : Noted). is_advance u.call.op ≡ true → EachFrom (FreeBelow u.noted) i slots)
+no_takers : (i : ℕ) (slots : List Slot) (pending : List NotedCall)
+    → Each (λ (u : NotedCall). is_advance u.call.op ≡ true → EachFrom (FreeBelow u.noted) i slots)
     pending → EachFrom (λ j (s : Slot). s.taken ≡ None → takers pending j ≡ 0) i slots
 no_takers i [] pending h = tt
 no_takers i (s ∷ slots) pending h = (
-  λ e. none_take i pending (each_weaker (λ (u : Noted). is_advance u.call.op ≡ true
-      → EachFrom (FreeBelow u.noted) i (s ∷ slots)) (λ (u : Noted). may_take i u ≡ false) (λ u k.
+  λ e. none_take i pending (each_weaker (λ (u : NotedCall). is_advance u.call.op ≡ true
+      → EachFrom (FreeBelow u.noted) i (s ∷ slots)) (λ (u : NotedCall). may_take i u
+      ≡ false) (λ u k.
       idle_one i s slots u k e) pending h),
-  no_takers (i + 1) slots pending (each_weaker (λ (u : Noted). is_advance u.call.op ≡ true
-      → EachFrom (FreeBelow u.noted) i (s ∷ slots)) (λ (u : Noted). is_advance u.call.op ≡ true
+  no_takers (i + 1) slots pending (each_weaker (λ (u : NotedCall). is_advance u.call.op ≡ true
+      → EachFrom (FreeBelow u.noted) i (s ∷ slots)) (λ (u : NotedCall). is_advance u.call.op ≡ true
       → EachFrom (FreeBelow u.noted) (i + 1) slots) (λ u k e. (k e).1) pending h),
 )
 
 pub completed : (start end : ℕ) (calls : List Call) (begun : ℕ) (slots : List Slot)
-    (reads : List PlacedRead) (pending : List Noted) (k : IsCompleting start end calls begun slots
+    (reads : List PlacedRead) (pending : List NotedCall) (k : IsCompleting start end calls begun slots
     reads pending []) → Each (λ (s : Slot). free s.taken ≡ false) slots
 completed start end calls begun slots reads pending k =
     all_taken (takers k.kept) 0 0 slots (no_takers 0 slots k.kept k.idle)
     (subst (λ zs. Enough (takers zs) 0 0 slots) (append-nil k.kept) k.state.enough)
 
--- WHAT THE LOOP KEEPS
+-- THE LOOP INVARIANT
 
-abbrev pub Completing : List Slot → List ℕ → List Noted → ℕ → List Slot → List ℕ → List Noted
-    → List Noted → Type 0
-Completing slots next pending end now skips front back =
+abbrev pub Completing : List Slot → List ℕ → List NotedCall → ℕ → List Slot → List ℕ
+    → List NotedCall
+    → List NotedCall → Type 0
+Completing slots next pending end now skips prefix back =
     Skips slots next → Skips now skips
     × ((start : ℕ) (calls : List Call) (t begun : ℕ) (reads : List PlacedRead) → t ≤ end
     → EachPair Earlier (noted_calls pending) → IsState start calls t begun slots pending reads
-    → IsCompleting start end calls begun now reads front back)
+    → IsCompleting start end calls begun now reads prefix back)
 
 pub either_way : (A B : Type 0) (b : Bool) → MatchBool b A B → A ⊎ B
 either_way A B true h = inl h
 either_way A B false h = inr h
 
 -- an advance takes a slot, or nothing changes
-abbrev pub Moves : List Slot → List Slot → ℕ → Noted → Type 0
+abbrev pub Moves : List Slot → List Slot → ℕ → NotedCall → Type 0
 Moves now later end u =
     ((is_advance u.call.op ≡ true) × IsFilled now later u.noted (completion end Done u.call))
     ⊎ ((later ≡ now) × IsIdle now u)
 
-pub moves_on : (slots : List Slot) (next : List ℕ) (pending : List Noted) (end : ℕ)
-    (now : List Slot) (skips : List ℕ) (later : List Slot) (longer : List ℕ) (i : ℕ) (d : Noted)
+pub moves_on : (slots : List Slot) (next : List ℕ) (pending : List NotedCall) (end : ℕ)
+    (now : List Slot) (skips : List ℕ) (later : List Slot) (longer : List ℕ) (i : ℕ) (d : NotedCall)
     → i < length pending
     → Completing slots next pending end now skips (take i pending) (drop i pending)
     → (Skips now skips → Skips later longer × Moves now later end (get_or pending i d))
@@ -261,28 +265,28 @@ moves_on slots next pending end now skips later longer i d lt h move = λ s.
     (let known = h s in
     let moved = move known.0 in
     let u = get_or pending i d in
-    let front = take i pending in
+    let prefix = take i pending in
     let back = drop (i + 1) pending in
-    let whole : pending ≡ front ++ u ∷ back = sym (take-append-drop i pending) ∙ ap (λ zs.
-    front ++ zs) (drop_more pending i d lt) in (
+    let whole : pending ≡ prefix ++ u ∷ back = sym (take-append-drop i pending) ∙ ap (λ zs.
+    prefix ++ zs) (drop_more pending i d lt) in (
       moved.0,
       λ start calls t begun reads le rise state.
-          (let k = subst (IsCompleting start end calls begun now reads front)
+          (let k = subst (IsCompleting start end calls begun now reads prefix)
           (drop_more pending i d lt) (known.1 start calls t begun reads le rise state) in
-          let ahead = ahead_early front u back (subst (λ zs. EachPair Earlier (noted_calls zs))
+          let ahead = ahead_early prefix u back (subst (λ zs. EachPair Earlier (noted_calls zs))
           whole rise) in
           subst (λ zs. IsCompleting start end calls begun later reads zs back)
           (sym (take_more pending i d lt))
           (elim moved.1 [
-            | inl f ↦ completing_filled start end calls begun now later reads front u back ahead k
+            | inl f ↦ completing_filled start end calls begun now later reads prefix u back ahead k
                 f.0 f.1
-            | inr p ↦ completing_passed start end calls begun now later reads front u back ahead k
+            | inr p ↦ completing_passed start end calls begun now later reads prefix u back ahead k
                 p.0 p.1
           ])),
     ))
 
-module _ (slots : List Slot) (next : List ℕ) (pending : List Noted) (end : ℕ) (now : List Slot)
-    (skips : List ℕ) (later : List Slot) (longer : List ℕ) (i : ℕ) (d : Noted)
+module _ (slots : List Slot) (next : List ℕ) (pending : List NotedCall) (end : ℕ) (now : List Slot)
+    (skips : List ℕ) (later : List Slot) (longer : List ℕ) (i : ℕ) (d : NotedCall)
     (lt : i < length pending) (h : Completing slots next pending end now skips (take i pending)
     (drop i pending)) where
   -- an advance that takes a slot, if one is free
@@ -305,7 +309,7 @@ module _ (slots : List Slot) (next : List ℕ) (pending : List Noted) (end : ℕ
         elim (either_way (IsFilled now filling (get_or pending i d).noted
             (completion end Done (get_or pending i d).call)) ((filling ≡ now)
             × NoneFree now (get_or pending i d).noted) b f.1) [
-              | inl filled ↦ inl (adds, filled)
+              | inl slot_of_call ↦ inl (adds, slot_of_call)
               | inr none ↦ inr (none.0, λ e. none.1)
             ],
       ))))

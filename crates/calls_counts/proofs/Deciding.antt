@@ -16,7 +16,7 @@ use Rattle.calls_core.specs.declared.history.Event.{Event}
 use Rattle.calls_core.specs.declared.history.Call.{Call}
 use Rattle.calls_counts.specs.declared.fault.Fault.{Fault}
 use Rattle.calls_counts.specs.declared.state.Slot.{Slot}
-use Rattle.calls_counts.specs.declared.state.Noted.{Noted}
+use Rattle.calls_counts.specs.declared.state.NotedCall.{NotedCall}
 use Rattle.calls_counts.specs.declared.state.PlacedRead.{PlacedRead}
 use Rattle.calls_counts.specs.declared.scan.Scan.{Scan}
 use Rattle.calls_core.specs.Histories.{clock, completion, pending_calls, completed_calls}
@@ -30,7 +30,7 @@ use Rattle.calls_core.proofs.Lists.{each_append}
 use Rattle.calls_counts.specs.Faults.{is_advance, invokes_advance, Shows}
 use Rattle.calls_counts.specs.Orders.{order_from, IsOrdering}
 use Rattle.calls_counts.specs.ScanStates.{noted_calls}
-use Rattle.calls_counts.specs.Scanning.{FreeBelow, filled, IsCompleting, Holds, ScanKeeps, TakesIn}
+use Rattle.calls_counts.specs.Scanning.{FreeBelow, slot_of_call, IsCompleting, Holds, ScanKeeps, TakesIn}
 use Rattle.calls_counts.proofs.Events.{CallFits, pending_fit, completed_fit, answered_fit}
 use Rattle.calls_counts.proofs.Events.{pending_rise}
 use Rattle.calls_counts.proofs.Runs.{each_moved, sequential}
@@ -38,7 +38,7 @@ use Rattle.calls_counts.proofs.Completing.{ahead_early, completing_none, complet
 use Rattle.calls_counts.proofs.Completing.{completing_passed, completed}
 use Rattle.calls_counts.proofs.Ordering.{legal_order}
 
--- THE PAST OF EACH EVENT
+-- THE HISTORY BEFORE EACH EVENT
 
 history_of : (start : ℕ) (late past : List Event) → IsHistoryOf (Eventcount start) (late ++ past)
     → IsHistoryOf (Eventcount start) past
@@ -55,7 +55,7 @@ pub past_part : (events : List Event) (i : ℕ) → reverse events ≡ reverse (
 past_part events i = ap reverse (sym (take-append-drop i events)) ∙ reverse-append (take i events)
     (drop i events)
 
--- each beginning of a history is one
+-- each prefix of a history is a history
 pub history_upto : (start : ℕ) (events : List Event) (i : ℕ)
     → IsHistoryOf (Eventcount start) (reverse events) → IsHistoryOf (Eventcount start)
     (past_at i events)
@@ -73,7 +73,7 @@ past_all events i le = ap reverse (take_all i events le)
 
 -- no more advances were invoked than there are events
 pub begun_within : (start : ℕ) (events : List Event) (i begun : ℕ) (slots : List Slot)
-    (pending : List Noted) (reads : List PlacedRead) → i ≤ length events
+    (pending : List NotedCall) (reads : List PlacedRead) → i ≤ length events
     → Holds start (past_at i events) begun slots pending reads → begun ≤ i
 begun_within start events i begun slots pending reads le h =
     omega (
@@ -124,7 +124,7 @@ module _ (start : ℕ) (events : List Event) (i : ℕ) (d : Event) (lt : i < len
 -- THE END
 
 pub ordered : (start : ℕ) (past : List Event) (end begun : ℕ) (slots : List Slot)
-    (reads : List PlacedRead) (pending : List Noted) (cs : List Call)
+    (reads : List PlacedRead) (pending : List NotedCall) (cs : List Call)
     → IsHistoryOf (Eventcount start) past → noted_calls pending ≡ pending_calls past
     → IsCompleting start end (completed_calls past) begun slots reads pending []
     → IsOrdering slots reads cs → IsOrderOf (Eventcount start) past end cs
@@ -150,17 +150,17 @@ ordered start past end begun slots reads pending cs history is k o =
           (initial (Some kind)) legal.run;
     }
 
--- THE END OF EACH BEGINNING
+-- THE LINEARIZATION OF EACH PREFIX
 
--- the first slot that is free from place n on, if the first of these is at place i
+-- the first slot that is free from index n on, if the first of these slots has index i
 pub record First (n i : ℕ) (slots : List Slot) : Type 0 where
-  pub front : List Slot
+  pub prefix : List Slot
   pub slot : Slot
   pub back : List Slot
-  pub is : slots ≡ front ++ slot ∷ back
+  pub is : slots ≡ prefix ++ slot ∷ back
   pub none : slot.taken ≡ None
-  pub low : n ≤ i + length front
-  pub below : EachFrom (FreeBelow n) i front
+  pub low : n ≤ i + length prefix
+  pub below : EachFrom (FreeBelow n) i prefix
 
 pub first_free : (n i : ℕ) (slots : List Slot) → EachFrom (FreeBelow n) i slots ⊎ First n i slots
 first_free n i [] = inl tt
@@ -170,7 +170,7 @@ first_free n i (s ∷ slots) = go s.taken refl (cases_lt i n) (first_free n (i +
         → EachFrom (FreeBelow n) i (s ∷ slots) ⊎ First n i (s ∷ slots)
     later b (inl rest) = inl (b, rest)
     later b (inr f) = inr (record {
-      front = s ∷ f.front;
+      prefix = s ∷ f.prefix;
       slot = f.slot;
       back = f.back;
       is =
@@ -186,7 +186,7 @@ first_free n i (s ∷ slots) = go s.taken refl (cases_lt i n) (first_free n (i +
         rest
     go None e (inl lt) rest = later (λ none. lt) rest
     go None e (inr le) rest = inr (record {
-      front = [];
+      prefix = [];
       slot = s;
       back = slots;
       is = refl;
@@ -196,41 +196,42 @@ first_free n i (s ∷ slots) = go s.taken refl (cases_lt i n) (first_free n (i +
     })
 
 record Ended (start end : ℕ) (calls : List Call) (begun : ℕ) (reads : List PlacedRead)
-    (pending : List Noted) : Type 0 where
+    (pending : List NotedCall) : Type 0 where
   pub later : List Slot
   pub kept : IsCompleting start end calls begun later reads pending []
 
 complete : (start end : ℕ) (calls : List Call) (begun : ℕ) (slots : List Slot)
-    (reads : List PlacedRead) (front back : List Noted)
-    → EachPair Earlier (noted_calls (front ++ back)) → IsCompleting start end calls begun slots
-    reads front back → Ended start end calls begun reads (front ++ back)
-complete start end calls begun slots reads front [] rise k = record {
+    (reads : List PlacedRead) (prefix back : List NotedCall)
+    → EachPair Earlier (noted_calls (prefix ++ back)) → IsCompleting start end calls begun slots
+    reads prefix back → Ended start end calls begun reads (prefix ++ back)
+complete start end calls begun slots reads prefix [] rise k = record {
   later = slots;
   kept =
-      subst (λ us. IsCompleting start end calls begun slots reads us []) (sym (append-nil front)) k;
+      subst (λ us. IsCompleting start end calls begun slots reads us []) (sym (append-nil prefix)) k;
 }
-complete start end calls begun slots reads front (u ∷ back) rise k =
-    let ahead = ahead_early front u back rise in
-    let same : (front ++ u ∷ []) ++ back ≡ front ++ u ∷ back = append_assoc front (u ∷ []) back in
-    let rest : EachPair Earlier (noted_calls ((front ++ u ∷ []) ++ back)) =
+complete start end calls begun slots reads prefix (u ∷ back) rise k =
+    let ahead = ahead_early prefix u back rise in
+    let same : (prefix ++ u ∷ []) ++ back ≡ prefix ++ u ∷ back =
+    append_assoc prefix (u ∷ []) back in
+    let rest : EachPair Earlier (noted_calls ((prefix ++ u ∷ []) ++ back)) =
     subst (λ us. EachPair Earlier (noted_calls us)) (sym same) rise in
     subst (Ended start end calls begun reads) same
     (elim (cases_Bool (is_advance u.call.op)) [
-      | inr other ↦ complete start end calls begun slots reads (front ++ u ∷ []) back rest
-          (completing_passed start end calls begun slots slots reads front u back ahead k refl (λ e.
+      | inr other ↦ complete start end calls begun slots reads (prefix ++ u ∷ []) back rest
+          (completing_passed start end calls begun slots slots reads prefix u back ahead k refl (λ e.
           absurd (both_ways (is_advance u.call.op) other e)))
       | inl adds ↦
           elim (first_free u.noted 0 slots) [
-            | inl none ↦ complete start end calls begun slots reads (front ++ u ∷ []) back rest
-                (completing_passed start end calls begun slots slots reads front u back ahead k refl
+            | inl none ↦ complete start end calls begun slots reads (prefix ++ u ∷ []) back rest
+                (completing_passed start end calls begun slots slots reads prefix u back ahead k refl
                 (λ e. none))
             | inr f ↦
-                (let later = f.front ++ filled f.slot.moment (completion end Done u.call)
+                (let later = f.prefix ++ slot_of_call f.slot.moment (completion end Done u.call)
                 ∷ f.back in
-                complete start end calls begun later reads (front ++ u ∷ []) back rest
-                (completing_filled start end calls begun slots later reads front u back ahead k adds
+                complete start end calls begun later reads (prefix ++ u ∷ []) back rest
+                (completing_filled start end calls begun slots later reads prefix u back ahead k adds
                 (record {
-                  front = f.front;
+                  prefix = f.prefix;
                   slot = f.slot;
                   back = f.back;
                   was = f.is;
@@ -243,7 +244,7 @@ complete start end calls begun slots reads front (u ∷ back) rise k =
     ])
 
 pub kept_has_order : (start : ℕ) (past : List Event) (begun : ℕ) (slots : List Slot)
-    (pending : List Noted) (reads : List PlacedRead) → IsHistoryOf (Eventcount start) past
+    (pending : List NotedCall) (reads : List PlacedRead) → IsHistoryOf (Eventcount start) past
     → Holds start past begun slots pending reads → HasOrderOf (Eventcount start) past
 kept_has_order start past begun slots pending reads history h =
     let end = clock past in

@@ -1,4 +1,4 @@
--- What one more event does to the pending and to the completed calls.
+-- What one more event changes in the pending and the completed calls.
 use Rattle.std.proofs.Common.{◌≡◌, ℕ, ◌+◌, ◌<◌, ◌≤◌, Bool, true, false, ◌&&◌, ◌==◌, nat_le, List}
 use Rattle.std.proofs.Common.{[], ◌∷◌, ◌++◌, Option, Some, None, refl, ap, ◌∙◌, arith, cond, subst}
 use Rattle.std.proofs.Common.{count_by}
@@ -23,10 +23,11 @@ use Rattle.calls_core.specs.Calls.{Early, Earlier}
 use Rattle.calls_core.proofs.Lists.{each_weaker, each_append, each_pair_append}
 use Rattle.calls_counts.specs.Faults.{is_advance, invokes_advance, invoked_upto}
 use Rattle.calls_core.proofs.Counting.{one, count_cons, count_append}
+use Rattle.calls_core.proofs.Positions.{each_call_by as each_pending_of, each_pair_without as pairs_without}
 
--- ONE WORKER'S CALL
+-- THE PENDING CALL OF A WORKER
 
--- a count over all is that of it and the others
+-- a count of all pending calls is that of one and of the others
 pub count_without : (p : PendingCall → Bool) (w : ℕ) (os : List PendingCall) (o : PendingCall)
     → pending_of w os ≡ Some o → count_by p os ≡ one (p o) + count_by p (without w os)
 count_without p w [] o e = absurd (none-some o e)
@@ -113,25 +114,6 @@ each_without : (P : PendingCall → Type 0) (w : ℕ) (os : List PendingCall) �
 each_without P w [] h = tt
 each_without P w (o ∷ os) h = elim (o.worker == w) as (λ b. Each P (cond b os (o ∷ without w os)))
     [ true ↦ h.1 | false ↦ (h.0, each_without P w os h.1) ]
-
-pairs_without : (R : PendingCall → PendingCall → Type 0) (w : ℕ) (os : List PendingCall)
-    → EachPair R os → EachPair R (without w os)
-pairs_without R w [] h = tt
-pairs_without R w (o ∷ os) h = elim (o.worker == w) as (λ b.
-    EachPair R (cond b os (o ∷ without w os))) [
-      | true ↦ h.1
-      | false ↦
-          (each_without (R o) w os h.0, pairs_without R w os h.1)
-    ]
-
-each_pending_of : (P : PendingCall → Type 0) (w : ℕ) (os : List PendingCall) (o : PendingCall)
-    → Each P os → pending_of w os ≡ Some o → P o
-each_pending_of P w [] o h e = absurd (none-some o e)
-each_pending_of P w (y ∷ os) o h e =
-    elim (y.worker == w) as (λ b. cond b (Some y) (pending_of w os) ≡ Some o → P o) [
-      | true ↦ λ is. subst P (same_Some y o is) h.0
-      | false ↦ λ is. each_pending_of P w os o h.1 is
-    ] e
 
 fits_with : (kind : Kind) (x : Event) (k : Action) (os : List PendingCall)
     → IsNextOf kind k (pending_of x.worker os) → Each (Fits kind) os

@@ -19,7 +19,7 @@ use Rattle.calls_core.specs.declared.history.Call.{Call}
 use Rattle.calls_counts.specs.declared.fault.Fault.{Fault}
 use Rattle.calls_counts.specs.declared.fault.Fault.TheVariants.{Below, Few, Many, Since}
 use Rattle.calls_counts.specs.declared.state.Slot.{Slot}
-use Rattle.calls_counts.specs.declared.state.Noted.{Noted}
+use Rattle.calls_counts.specs.declared.state.NotedCall.{NotedCall}
 use Rattle.calls_counts.specs.declared.state.PlacedRead.{PlacedRead}
 use Rattle.calls_core.specs.Histories.{pending_of, without, invoked_by, pending_calls, completion}
 use Rattle.calls_core.specs.Histories.{Suits, IsNextOf, IsHistoryOf}
@@ -28,7 +28,7 @@ use Rattle.calls_counts.specs.Faults.{is_advance, least, most, Contradicts, made
 use Rattle.calls_counts.specs.Laws.{EveryHistoryIsDecided}
 use Rattle.calls_core.specs.Lists.{Each}
 use Rattle.calls_counts.specs.ScanStates.{noted_calls, taken_calls, placed_calls}
-use Rattle.calls_counts.specs.Scanning.{IsCallAt, filled, IsNew, IsFewer, IsObserved, IsRefused}
+use Rattle.calls_counts.specs.Scanning.{IsCallAt, slot_of_call, IsNew, IsFewer, IsObserved, IsRefused}
 use Rattle.calls_counts.specs.Scanning.{Holds}
 use Rattle.calls_core.proofs.Counting.{one}
 use Rattle.calls_counts.proofs.Observing.{NotFewer, many_shown, placed_gives}
@@ -37,9 +37,9 @@ use Rattle.calls_counts.proofs.Stepping.{observed_into, refused_into, noted_in, 
 use Rattle.calls_counts.proofs.Deciding.{starts, first_free, kept_has_order}
 use Rattle.calls_counts.proofs.Lasting.{shows_next}
 
--- A WORKER'S CALL
+-- THE PENDING CALL OF A WORKER
 
-call_at : (w : ℕ) (pending : List Noted) (o : PendingCall)
+call_at : (w : ℕ) (pending : List NotedCall) (o : PendingCall)
     → pending_of w (noted_calls pending) ≡ Some o → (i : ℕ) × IsCallAt pending w i
 call_at w [] o e = absurd (none-some o e)
 call_at w (u ∷ pending) o e = go (u.call.worker == w) refl e (λ k. call_at w pending o k)
@@ -121,7 +121,7 @@ find_fewer slots (p ∷ reads) call number = go (fewer_or_not slots p.call call 
             (sym (same_Some p q e)) f)
         at (suc k) lt = h k (omega arith)
 
--- A READ OR AN AWAIT HAS ITS RESPONSE
+-- THE RESPONSE OF A READ OR AN AWAIT
 
 below_or_not : (op : Op) (r : Reply) → Contradicts op r ⊎ (Contradicts op r → ⊥)
 below_or_not (Await v) Done = inr (λ b. b)
@@ -250,7 +250,7 @@ module _ (start : ℕ) (a noted : ℕ) (call : Call) (slots : List Slot) (reads 
 record Kept (start : ℕ) (past : List Event) : Type 0 where
   pub begun : ℕ
   pub slots : List Slot
-  pub pending : List Noted
+  pub pending : List NotedCall
   pub reads : List PlacedRead
   pub holds : Holds start past begun slots pending reads
 
@@ -258,7 +258,8 @@ abbrev Faulted : (start : ℕ) → List Event → Type 0
 Faulted start past = (f : Fault) × (Shows start) past f
 
 response_next : (start : ℕ) (past : List Event) (x : Event) (r : Reply) (k : Kept start past)
-    (i : ℕ) (u : Noted) → Turn past x r k.pending (remove k.pending i) i u → Kept start (x ∷ past)
+    (i : ℕ) (u : NotedCall) → Turn past x r k.pending (remove k.pending i) i u
+    → Kept start (x ∷ past)
     ⊎ (Faulted start) (x ∷ past)
 response_next start past x r k i u t =
     let call = completion x.at r u.call in
@@ -266,21 +267,21 @@ response_next start past x r k i u t =
       | inl adds ↦ elim (first_free u.noted 0 k.slots) [
         | inl none ↦ inl (record {
           begun = k.begun;
-          slots = k.slots ++ filled x.at call ∷ [];
+          slots = k.slots ++ slot_of_call x.at call ∷ [];
           pending = remove k.pending i;
           reads = k.reads;
           holds = forced_into start past x r k.begun k.slots k.pending (remove k.pending i) k.reads
-              i u t k.holds k.slots (k.slots ++ filled x.at call ∷ []) adds none refl refl;
+              i u t k.holds k.slots (k.slots ++ slot_of_call x.at call ∷ []) adds none refl refl;
         })
         | inr f ↦ inl (record {
           begun = k.begun;
-          slots = f.front ++ filled f.slot.moment call ∷ f.back;
+          slots = f.prefix ++ slot_of_call f.slot.moment call ∷ f.back;
           pending = remove k.pending i;
           reads = k.reads;
           holds = filled_into start past x r k.begun k.slots k.pending (remove k.pending i) k.reads
-              i u t k.holds (f.front ++ filled f.slot.moment call ∷ f.back) adds
+              i u t k.holds (f.prefix ++ slot_of_call f.slot.moment call ∷ f.back) adds
               (record {
-                front = f.front;
+                prefix = f.prefix;
                 slot = f.slot;
                 back = f.back;
                 was = f.is;

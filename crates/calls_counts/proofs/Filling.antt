@@ -1,4 +1,4 @@
--- An advance has its response.
+-- The response of an advance.
 use Rattle.std.proofs.Common.{◌≡◌, ℕ, ◌+◌, ◌<◌, ◌≤◌, true, nat_le, List, [], ◌∷◌, ◌++◌, length}
 use Rattle.std.proofs.Common.{None, refl, ap, sym, ◌∙◌, arith, cond, subst, append_assoc}
 use Rattle.std.proofs.Common.{length-append}
@@ -9,14 +9,14 @@ use Rattle.calls_core.specs.declared.history.Op.TheVariants.{Advance}
 use Rattle.calls_core.specs.declared.history.Reply.TheVariants.{Done}
 use Rattle.calls_core.specs.declared.history.Call.{Call}
 use Rattle.calls_counts.specs.declared.state.Slot.{Slot}
-use Rattle.calls_counts.specs.declared.state.Noted.{Noted}
+use Rattle.calls_counts.specs.declared.state.NotedCall.{NotedCall}
 use Rattle.calls_counts.specs.declared.state.PlacedRead.{PlacedRead}
 use Rattle.calls_counts.specs.Faults.{is_advance}
 use Rattle.calls_core.specs.Lists.{Each, EachFrom, EachPair}
 use Rattle.calls_counts.specs.ScanStates.{free, frees, taken_calls, placed_calls, moments, Fits}
 use Rattle.calls_counts.specs.ScanStates.{IsSlotAt, Rises, IsAround, IsNotedCall, may_take, takers}
 use Rattle.calls_counts.specs.ScanStates.{Enough, IsPlaced, IsReadAt, IsState}
-use Rattle.calls_counts.specs.Scanning.{FreeBelow, filled}
+use Rattle.calls_counts.specs.Scanning.{FreeBelow, slot_of_call}
 use Rattle.calls_core.proofs.Counting.{one, one_yes, one_no}
 use Rattle.calls_core.proofs.Lists.{each_from_weaker, each_weaker, each_append, each_left}
 use Rattle.calls_core.proofs.Lists.{each_right, each_from_left, each_from_right, each_from_append}
@@ -39,7 +39,8 @@ each_middle P xs y ys h = (each_right P xs (y ∷ ys) h).0
 
 -- WITH LATER MOMENTS
 
-pub pending_longer : (start : ℕ) (calls : List Call) (t m : ℕ) (ms new : List ℕ) (w : Noted) → t ≤ m
+pub pending_longer : (start : ℕ) (calls : List Call) (t m : ℕ) (ms new : List ℕ) (w : NotedCall)
+    → t ≤ m
     → Each (λ z. z ≡ m) new → IsNotedCall start calls t ms w
     → IsNotedCall start calls t (ms ++ new) w
 pending_longer start calls t m ms new w le later h =
@@ -76,14 +77,14 @@ read_longer start t m ms new p le later h =
 -- THE ADVANCE TAKES A FREE SLOT
 
 pub moments_same : (xs : List Slot) (s : Slot) (c : Call) (ys : List Slot)
-    → moments (xs ++ filled s.moment c ∷ ys) ≡ moments (xs ++ s ∷ ys)
+    → moments (xs ++ slot_of_call s.moment c ∷ ys) ≡ moments (xs ++ s ∷ ys)
 moments_same [] s c ys = refl
 moments_same (x ∷ xs) s c ys = ap (λ ms. x.moment ∷ ms) (moments_same xs s c ys)
 
 front_rises : (n f m : ℕ) (c : Call) (i : ℕ) (xs : List Slot) → c.first ≡ f
     → EachFrom (FreeBelow n) i xs → EachFrom (IsAround n f) i (moments xs)
     → Each (λ (z : Slot). z.moment ≤ m) xs
-    → Each (λ (z : Slot). Rises z (filled m c)) xs
+    → Each (λ (z : Slot). Rises z (slot_of_call m c)) xs
 front_rises n f m c i [] e k a le = tt
 front_rises n f m c i (z ∷ xs) e k a le = (
   record {
@@ -94,8 +95,8 @@ front_rises n f m c i (z ∷ xs) e k a le = (
   front_rises n f m c (i + 1) xs e k.1 a.1 le.1,
 )
 
--- as many advances as before may take the free slots before it
-front_takers : (u : Noted) (f g : ℕ → ℕ) (i : ℕ) (xs : List Slot)
+-- a free slot before index u.noted may be taken by the same pending advances without u
+front_takers : (u : NotedCall) (f g : ℕ → ℕ) (i : ℕ) (xs : List Slot)
     → ((j : ℕ) → f j ≡ one (may_take j u) + g j) → EachFrom (FreeBelow u.noted) i xs
     → EachFrom (λ j (s : Slot). s.taken ≡ None → f j ≡ g j) i xs
 front_takers u f g i xs e h =
@@ -117,19 +118,19 @@ fits_returned t m c f op reply first lt le e = record {
   early = omega arith;
 }
 
--- the first free slot from the place that the advance noted
+-- the advance takes the first free slot from the index noted at its invocation on
 pub state_filled_by : (start : ℕ) (calls : List Call) (t v a : ℕ) (xs : List Slot) (s : Slot)
-    (ys : List Slot) (before : List Noted) (u : Noted) (behind : List Noted)
+    (ys : List Slot) (before : List NotedCall) (u : NotedCall) (behind : List NotedCall)
     (reads : List PlacedRead) (c : Call)
     → t ≤ v → c.last < v → s.moment ≤ c.last → c.op ≡ Advance → c.reply ≡ Done
     → c.first ≡ u.call.first → is_advance u.call.op ≡ true
     → s.taken ≡ None → u.noted ≤ length xs → EachFrom (FreeBelow u.noted) 0 xs
     → IsState start calls t a (xs ++ s ∷ ys) (before ++ u ∷ behind) reads
-    → IsState start (c ∷ calls) v a (xs ++ filled s.moment c ∷ ys) (before ++ behind) reads
+    → IsState start (c ∷ calls) v a (xs ++ slot_of_call s.moment c ∷ ys) (before ++ behind) reads
 state_filled_by start calls t v a xs s ys before u behind reads c le past moment op reply first
     advance none low below h =
     let old = moments (xs ++ s ∷ ys) in
-    let same : moments (xs ++ filled s.moment c ∷ ys) ≡ old = moments_same xs s c ys in
+    let same : moments (xs ++ slot_of_call s.moment c ∷ ys) ≡ old = moments_same xs s c ys in
     let own = each_middle (IsNotedCall start calls t old) before u behind h.call in
     let slots : EachFrom (IsSlotAt start (c ∷ calls) v) 0 (xs ++ s ∷ ys) =
     each_from_weaker (IsSlotAt start calls t) (IsSlotAt start (c ∷ calls) v)
@@ -148,7 +149,7 @@ state_filled_by start calls t v a xs s ys before u behind reads c le past moment
     let pairs : EachPair Rises (s ∷ ys) = each_pair_right Rises xs (s ∷ ys) h.rises in
     let across : Each (λ x. Each (Rises x) (s ∷ ys)) xs =
     each_pair_across Rises xs (s ∷ ys) h.rises in
-    let ahead : Each (λ (z : Slot). Rises z (filled s.moment c)) xs =
+    let ahead : Each (λ (z : Slot). Rises z (slot_of_call s.moment c)) xs =
     front_rises u.noted u.call.first s.moment c 0 xs first below
     (each_from_left (IsAround u.noted u.call.first) 0 (moments xs) (s.moment ∷ moments ys)
     around)
@@ -176,11 +177,11 @@ state_filled_by start calls t v a xs s ys before u behind reads c le past moment
         ap length (taken_some xs s.moment c ys),
         length-append (taken_calls xs) (taken_calls ys),
         length-append (taken_calls xs) (c ∷ taken_calls ys),
-        count_out (λ (w : Noted). is_advance w.call.op) before u behind,
+        count_out (λ (w : NotedCall). is_advance w.call.op) before u behind,
         one_yes (is_advance u.call.op) advance,
       );
       slot = each_from_append (IsSlotAt start (c ∷ calls) v) 0 (length xs) xs
-          (filled s.moment c ∷ ys) (omega arith) (each_from_left (IsSlotAt start (c ∷ calls) v) 0 xs
+          (slot_of_call s.moment c ∷ ys) (omega arith) (each_from_left (IsSlotAt start (c ∷ calls) v) 0 xs
           (s ∷ ys) slots) (
             record {
               early = at.0.early;
@@ -189,20 +190,20 @@ state_filled_by start calls t v a xs s ys before u behind reads c le past moment
             },
             at.1,
           );
-      rises = each_pair_append Rises xs (filled s.moment c ∷ ys)
+      rises = each_pair_append Rises xs (slot_of_call s.moment c ∷ ys)
           (each_pair_left Rises xs (s ∷ ys) h.rises) (
-            each_weaker (Rises s) (Rises (filled s.moment c)) (λ z k. record {
+            each_weaker (Rises s) (Rises (slot_of_call s.moment c)) (λ z k. record {
               moments = k.moments;
               later = λ e. absurd (cc);
             }) ys pairs.0,
             pairs.1,
           )
-          (both xs (filled s.moment c) s ys ahead across);
+          (both xs (slot_of_call s.moment c) s ys ahead across);
       call = subst (λ ms. Each (IsNotedCall start (c ∷ calls) v ms) (before ++ behind)) (sym same)
           (each_weaker (IsNotedCall start calls t old) (IsNotedCall start (c ∷ calls) v old)
           (pending_later start (c ∷ []) calls t v (omega arith) old) (before ++ behind)
           (each_without (IsNotedCall start calls t old) before u behind h.call));
-      enough = enough_append g 0 (frees xs + 0) 0 (length xs) xs (filled s.moment c ∷ ys)
+      enough = enough_append g 0 (frees xs + 0) 0 (length xs) xs (slot_of_call s.moment c ∷ ys)
           (omega arith) (omega arith)
           (enough_same f g 0 0 xs (front_takers u f g 0 xs less below)
           (enough_left f 0 0 xs (s ∷ ys) h.enough)) (
@@ -228,15 +229,15 @@ state_filled_by start calls t v a xs s ys before u behind reads c le past moment
     both [] y z ys h k = tt
     both (x ∷ xs) y z ys h k = ((h.0, k.0.1), both xs y z ys h.1 k.1)
 
--- the same, if the advance has its response after all moments
+-- the same, if the advance returns after all moments
 pub state_filled : (start : ℕ) (calls : List Call) (t a : ℕ) (xs : List Slot) (s : Slot)
-    (ys : List Slot) (before : List Noted) (u : Noted) (behind : List Noted)
+    (ys : List Slot) (before : List NotedCall) (u : NotedCall) (behind : List NotedCall)
     (reads : List PlacedRead) (c : Call)
     → t ≤ c.last → c.op ≡ Advance → c.reply ≡ Done → c.first ≡ u.call.first
     → is_advance u.call.op ≡ true
     → s.taken ≡ None → u.noted ≤ length xs → EachFrom (FreeBelow u.noted) 0 xs
     → IsState start calls t a (xs ++ s ∷ ys) (before ++ u ∷ behind) reads
-    → IsState start (c ∷ calls) (c.last + 1) a (xs ++ filled s.moment c ∷ ys)
+    → IsState start (c ∷ calls) (c.last + 1) a (xs ++ slot_of_call s.moment c ∷ ys)
     (before ++ behind) reads
 state_filled start calls t a xs s ys before u behind reads c le op reply first advance none low
     below h =
@@ -245,27 +246,27 @@ state_filled start calls t a xs s ys before u behind reads c le op reply first a
     state_filled_by start calls t (c.last + 1) a xs s ys before u behind reads c (omega arith)
     (omega arith) (omega arith) op reply first advance none low below h
 
--- THE ADVANCE TAKES EFFECT NOW
+-- THE ADVANCE TAKES EFFECT AT ITS RESPONSE
 
 pub state_forced : (start : ℕ) (calls : List Call) (t a : ℕ) (slots : List Slot)
-    (before : List Noted) (u : Noted) (behind : List Noted) (reads : List PlacedRead) (c : Call)
+    (before : List NotedCall) (u : NotedCall) (behind : List NotedCall) (reads : List PlacedRead) (c : Call)
     → t ≤ c.last → c.op ≡ Advance → c.reply ≡ Done → c.first ≡ u.call.first
     → is_advance u.call.op ≡ true → EachFrom (FreeBelow u.noted) 0 slots
     → IsState start calls t a slots (before ++ u ∷ behind) reads
-    → IsState start (c ∷ calls) (c.last + 1) a (slots ++ filled c.last c ∷ [])
+    → IsState start (c ∷ calls) (c.last + 1) a (slots ++ slot_of_call c.last c ∷ [])
     (before ++ behind) reads
 state_forced start calls t a slots before u behind reads c le op reply first advance below h =
     let v = c.last + 1 in
     let ms = moments slots in
-    let more : moments (slots ++ filled c.last c ∷ []) ≡ ms ++ c.last ∷ [] =
-    map-append (λ (z : Slot). z.moment) slots (filled c.last c ∷ []) in
+    let more : moments (slots ++ slot_of_call c.last c ∷ []) ≡ ms ++ c.last ∷ [] =
+    map-append (λ (z : Slot). z.moment) slots (slot_of_call c.last c ∷ []) in
     let own = each_middle (IsNotedCall start calls t ms) before u behind h.call in
     let early : u.call.first < t = own.early in
     let f = takers (before ++ u ∷ behind) in
     let g = takers (before ++ behind) in
     let less : (j : ℕ) → f j ≡ one (may_take j u) + g j = λ j.
     count_out (may_take j) before u behind in
-    let ahead : Each (λ (z : Slot). Rises z (filled c.last c)) slots =
+    let ahead : Each (λ (z : Slot). Rises z (slot_of_call c.last c)) slots =
     front_rises u.noted u.call.first c.last c 0 slots first below own.around
     (each_from_none (IsSlotAt start calls t) (λ (z : Slot). z.moment ≤ c.last) (λ i z k.
     (let e : z.moment < t = k.early in omega arith)) 0 slots h.slot) in
@@ -279,11 +280,11 @@ state_forced start calls t a slots before u behind reads c le op reply first adv
         h.total,
         ap length (taken_some slots c.last c []),
         length-append (taken_calls slots) (c ∷ []),
-        count_out (λ (w : Noted). is_advance w.call.op) before u behind,
+        count_out (λ (w : NotedCall). is_advance w.call.op) before u behind,
         one_yes (is_advance u.call.op) advance,
       );
       slot = each_from_append (IsSlotAt start (c ∷ calls) v) 0 (length slots) slots
-          (filled c.last c ∷ []) (omega arith)
+          (slot_of_call c.last c ∷ []) (omega arith)
           (each_from_weaker (IsSlotAt start calls t) (IsSlotAt start (c ∷ calls) v)
           (slot_later start (c ∷ []) calls t v (omega arith)) 0 slots h.slot) (
             record {
@@ -294,8 +295,8 @@ state_forced start calls t a slots before u behind reads c le op reply first adv
             },
             tt,
           );
-      rises = each_pair_append Rises slots (filled c.last c ∷ []) h.rises (tt, tt)
-          (each_weaker (λ z. Rises z (filled c.last c)) (λ z. Each (Rises z) (filled c.last c ∷ []))
+      rises = each_pair_append Rises slots (slot_of_call c.last c ∷ []) h.rises (tt, tt)
+          (each_weaker (λ z. Rises z (slot_of_call c.last c)) (λ z. Each (Rises z) (slot_of_call c.last c ∷ []))
           (λ z k. (k, tt)) slots ahead);
       call = subst (λ ns. Each (IsNotedCall start (c ∷ calls) v ns) (before ++ behind)) (sym more)
           (each_weaker (IsNotedCall start calls t ms) (IsNotedCall start (c ∷ calls) v
@@ -304,7 +305,7 @@ state_forced start calls t a slots before u behind reads c le op reply first adv
           (pending_longer start calls t c.last ms (c.last ∷ []) w le (refl, tt) k))
           (before ++ behind) (each_without (IsNotedCall start calls t ms) before u behind
           h.call));
-      enough = enough_append g 0 (frees slots + 0) 0 (length slots) slots (filled c.last c ∷ [])
+      enough = enough_append g 0 (frees slots + 0) 0 (length slots) slots (slot_of_call c.last c ∷ [])
           (omega arith) (omega arith)
           (enough_same f g 0 0 slots (front_takers u f g 0 slots less below) h.enough) (
             λ e.

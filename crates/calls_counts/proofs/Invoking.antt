@@ -1,4 +1,4 @@
--- A call is invoked.
+-- The invocation of a call.
 use Rattle.std.proofs.Common.{◌≡◌, ℕ, suc, ◌+◌, ◌<◌, ◌≤◌, ◌⊎◌, inl, inr, true, false, ◌&&◌, nat_le}
 use Rattle.std.proofs.Common.{nat_lt, List, [], ◌∷◌, ◌++◌, length, Option, Some, None, refl, ap}
 use Rattle.std.proofs.Common.{◌∙◌, arith, subst, length-append}
@@ -10,7 +10,7 @@ use Rattle.std.proofs.lemmas.List.{length-map}
 use Rattle.calls_core.specs.declared.history.PendingCall.{PendingCall}
 use Rattle.calls_core.specs.declared.history.Call.{Call}
 use Rattle.calls_counts.specs.declared.state.Slot.{Slot}
-use Rattle.calls_counts.specs.declared.state.Noted.{Noted}
+use Rattle.calls_counts.specs.declared.state.NotedCall.{NotedCall}
 use Rattle.calls_counts.specs.declared.state.PlacedRead.{PlacedRead}
 use Rattle.calls_counts.specs.Faults.{Reached, is_advance, least, lies_between, made_between}
 use Rattle.calls_core.specs.Lists.{Each, EachFrom, EachPair}
@@ -58,10 +58,10 @@ counts_one a t d m (Some c) le f h k =
     (lt-ltb c.last d (let early : c.last < t = h.early in omega arith)))
 
 record LastFree (slots : List Slot) : Type 0 where
-  pub front : List Slot
+  pub prefix : List Slot
   pub slot : Slot
   pub back : List Slot
-  pub is : slots ≡ front ++ slot ∷ back
+  pub is : slots ≡ prefix ++ slot ∷ back
   pub none : slot.taken ≡ None
   pub full : Each (λ (s : Slot). free s.taken ≡ false) back
 
@@ -70,7 +70,7 @@ last_free [] = inl tt
 last_free (s ∷ slots) =
     elim (last_free slots) [
       | inr l ↦ inr (record {
-        front = s ∷ l.front;
+        prefix = s ∷ l.prefix;
         slot = l.slot;
         back = l.back;
         is =
@@ -82,7 +82,7 @@ last_free (s ∷ slots) =
           elim s.taken as (λ o. s.taken ≡ o → Each (λ (z : Slot). free z.taken ≡ false) (s ∷ slots)
           ⊎ LastFree (s ∷ slots)) [
             | None ↦ λ e. inr (record {
-              front = [];
+              prefix = [];
               slot = s;
               back = slots;
               is = refl;
@@ -104,7 +104,7 @@ made_of_taken calls slots reads a d h =
     )
 
 full_reached : (start : ℕ) (calls : List Call) (t d a : ℕ) (slots : List Slot)
-    (pending : List Noted) (reads : List PlacedRead) → t ≤ d
+    (pending : List NotedCall) (reads : List PlacedRead) → t ≤ d
     → IsState start calls t a slots pending reads
     → Each (λ (s : Slot). free s.taken ≡ false) slots → Reached start calls d (start + length slots)
 full_reached start calls t d a slots pending reads le h full =
@@ -128,14 +128,14 @@ full_reached start calls t d a slots pending reads le h full =
     from_start (Some c) = omega arith
 
 since_reached : (start : ℕ) (calls : List Call) (t d a : ℕ) (slots : List Slot)
-    (pending : List Noted) (reads : List PlacedRead) → t ≤ d
+    (pending : List NotedCall) (reads : List PlacedRead) → t ≤ d
     → IsState start calls t a slots pending reads
     → LastFree slots → Reached start calls d (start + length slots)
 since_reached start calls t d a slots pending reads le h l =
-    let at : EachFrom (IsSlotAt start calls t) (length l.front) (l.slot ∷ l.back) =
-    each_from_right (IsSlotAt start calls t) 0 (length l.front) l.front (l.slot ∷ l.back)
+    let at : EachFrom (IsSlotAt start calls t) (length l.prefix) (l.slot ∷ l.back) =
+    each_from_right (IsSlotAt start calls t) 0 (length l.prefix) l.prefix (l.slot ∷ l.back)
     (omega arith) (subst (EachFrom (IsSlotAt start calls t) 0) l.is h.slot) in
-    let pairs : EachPair Rises (l.slot ∷ l.back) = each_pair_right Rises l.front (l.slot ∷ l.back)
+    let pairs : EachPair Rises (l.slot ∷ l.back) = each_pair_right Rises l.prefix (l.slot ∷ l.back)
     (subst (EachPair Rises) l.is h.rises) in
     let r = at.0.raised l.none in
     let m = l.slot.moment in
@@ -144,7 +144,7 @@ since_reached start calls t d a slots pending reads le h l =
     (λ z k. next z.taken m (k.later l.none)) l.back pairs.0 in
     let fits : Each (λ (z : Slot). IfSome z.taken (Fits t z.moment)) l.back =
     each_from_none (IsSlotAt start calls t) (λ (z : Slot). IfSome z.taken (Fits t z.moment))
-    (λ i z k. k.fits) (length l.front + 1) l.back at.1 in
+    (λ i z k. k.fits) (length l.prefix + 1) l.back at.1 in
     let both : Each (λ (z : Slot). IfSome z.taken (Fits t z.moment)
     × IfSome z.taken (λ (c : Call). m + 1 ≤ c.first)) l.back =
     each_both (λ (z : Slot). IfSome z.taken (Fits t z.moment)) (λ (z : Slot). IfSome z.taken
@@ -156,16 +156,16 @@ since_reached start calls t d a slots pending reads le h l =
     × IfSome z.taken (λ (c : Call). m + 1 ≤ c.first)) (λ (z : Slot). free z.taken ≡ false)
     (λ (z : Slot). Counts (m + 1) d z.taken)
     (λ z f e. counts_one (m + 1) t d z.moment z.taken le e f.0 f.1) l.back both l.full) in
-    let split : taken_calls slots ≡ taken_calls l.front ++ taken_calls l.back =
-    ap taken_calls l.is ∙ taken_free l.front l.slot l.back l.none in
+    let split : taken_calls slots ≡ taken_calls l.prefix ++ taken_calls l.back =
+    ap taken_calls l.is ∙ taken_free l.prefix l.slot l.back l.none in
     let within : made_between (m + 1) d (taken_calls slots) ≡ made_between (m + 1) d
-    (taken_calls l.front) + made_between (m + 1) d (taken_calls l.back) =
-    ap (made_between (m + 1) d) split ∙ count_append (lies_between (m + 1) d) (taken_calls l.front)
+    (taken_calls l.prefix) + made_between (m + 1) d (taken_calls l.back) =
+    ap (made_between (m + 1) d) split ∙ count_append (lies_between (m + 1) d) (taken_calls l.prefix)
     (taken_calls l.back) in
-    let long : length slots ≡ length l.front + suc (length l.back) =
-    ap length l.is ∙ length-append l.front (l.slot ∷ l.back) in
+    let long : length slots ≡ length l.prefix + suc (length l.back) =
+    ap length l.is ∙ length-append l.prefix (l.slot ∷ l.back) in
     let early : l.slot.moment < t = at.0.early in
-    let beyond : start + length l.front < least r.call.op r.call.reply = r.beyond in
+    let beyond : start + length l.prefix < least r.call.op r.call.reply = r.beyond in
     let returned : r.call.last ≡ m = r.at in
     record {
       from = m + 1;
@@ -196,7 +196,7 @@ since_reached start calls t d a slots pending reads le h l =
     next (Some c) m h = omega (arith, h)
 
 pub all_reached : (start : ℕ) (calls : List Call) (t d a : ℕ) (slots : List Slot)
-    (pending : List Noted) (reads : List PlacedRead) → t ≤ d
+    (pending : List NotedCall) (reads : List PlacedRead) → t ≤ d
     → IsState start calls t a slots pending reads → Reached start calls d (start + length slots)
 all_reached start calls t d a slots pending reads le h =
     elim (last_free slots) [
@@ -213,12 +213,12 @@ early_moments start calls t slots h =
     (λ (s : Slot). s.moment < t) (λ i s k. k.early) 0 slots h)
 
 pub state_invoked : (start : ℕ) (calls : List Call) (t a b at : ℕ) (slots : List Slot)
-    (pending : List Noted) (reads : List PlacedRead) (o : PendingCall) → t ≤ at → o.first ≡ at
+    (pending : List NotedCall) (reads : List PlacedRead) (o : PendingCall) → t ≤ at → o.first ≡ at
     → b ≡ a + one (is_advance o.op) → IsState start calls t a slots pending reads
     → IsState start calls (at + 1) b slots (pending ++ record { call = o; noted = length slots }
     ∷ []) reads
 state_invoked start calls t a b at slots pending reads o le first more h =
-    let u : Noted = record { call = o; noted = length slots } in
+    let u : NotedCall = record { call = o; noted = length slots } in
     let ms = moments slots in
     let long : length ms ≡ length slots = length-map slots (λ (s : Slot). s.moment) in
     record {
@@ -227,9 +227,9 @@ state_invoked start calls t a b at slots pending reads o le first more h =
         arith,
         more,
         h.total,
-        count_append (λ (w : Noted). is_advance w.call.op)
+        count_append (λ (w : NotedCall). is_advance w.call.op)
             pending (u ∷ []),
-        count_cons (λ (w : Noted). is_advance w.call.op) u [],
+        count_cons (λ (w : NotedCall). is_advance w.call.op) u [],
       );
       slot = each_from_weaker (IsSlotAt start calls t) (IsSlotAt start calls (at + 1))
           ((slot_later start) [] calls t (at + 1) (omega arith)) 0 slots h.slot;

@@ -1,4 +1,4 @@
--- What a history shows, it shows with one more event too.
+-- A fault that a history shows, it shows with one more event too.
 use Rattle.std.proofs.Common.{◌≡◌, ℕ, ◌+◌, ◌<◌, ◌≤◌, false, ◌&&◌, nat_le, List, ◌∷◌, arith}
 use Rattle.std.specs.List.{Contains}
 use Rattle.std.proofs.lemmas.Bool.{lt-leb, and_right}

@@ -1,4 +1,4 @@
--- The reads by their places, among the slots.
+-- The reads, sorted by their places, merged with the slots.
 use Rattle.std.proofs.Common.{◌≡◌, ◌≢◌, ℕ, ◌+◌, ◌<◌, ◌≤◌, inl, inr, Bool, true, false, not, ◌&&◌}
 use Rattle.std.proofs.Common.{◌==◌, List, [], ◌∷◌, ◌++◌, length, refl, ap, sym, ◌∙◌, arith, cond}
 use Rattle.std.proofs.Common.{get_or, take, drop, append_assoc, append-nil}
@@ -68,7 +68,7 @@ same_places old new h k =
     tied k x q refl) new) ∙ h x ∙ filter_agree (ties lt_place x)
     (λ (p : PlacedRead). p.place == k) (λ q. tied k x q refl) old
 
--- A RUN OF ONE PLACE
+-- THE READS OF ONE PLACE
 
 none_kept : (k : ℕ) (ps : List PlacedRead) → All (λ (p : PlacedRead). p.place ≢ k) ps
     → filter (λ (p : PlacedRead). p.place == k) ps ≡ []
@@ -98,7 +98,7 @@ none_before k j reads le h =
     let low = h i d (omega arith) within in
     let same = ap (λ (p : PlacedRead). p.place) (get_or-take j reads i d within) in omega arith))))
 
--- so far: what is pushed, and what is to come
+-- the loop invariant: the reads pushed so far, and those to come
 pub record IsPushed (reads : List PlacedRead) (k : ℕ) (start out : List Call) (j : ℕ) : Type 0 where
   pub within : j ≤ length reads
   pub all : out ++ reads_at k (drop j reads) ≡ start ++ reads_at k reads
@@ -113,26 +113,6 @@ pushed_none reads k out j c = record {
   before = λ i d low lt. (let a = c.before i d low lt in omega arith);
   behind = c.behind;
 }
-
-pub pushed_more : (reads : List PlacedRead) (k : ℕ) (start out : List Call) (j : ℕ) (p : PlacedRead)
-    → j < length reads → p ≡ get_or reads j p → p.place ≡ k → IsPushed reads k start out j
-    → IsPushed reads k start (out ++ p.call ∷ []) (j + 1)
-pushed_more reads k start out j p lt read e h =
-    let rest = filter (λ (q : PlacedRead). q.place == k) (drop (j + 1) reads) in
-    record {
-      within = omega arith;
-      all = append_assoc out (p.call ∷ []) (placed_calls rest) ∙ ap (λ b.
-          out ++ placed_calls (cond b (p ∷ rest) rest)) (sym (eq-eqb p.place k e))
-          ∙ ap (λ zs. out ++ reads_at k zs) (sym (drop_more reads j p lt ∙ ap (λ z.
-          z ∷ drop (j + 1) reads) (sym read))) ∙ h.all;
-      before = λ i d low below. elim (cases_order i j) [
-        | inl same ↦ (let at = ap (λ (z : PlacedRead). z.place) (get_or_default reads j d p lt
-            ∙ sym read) in let own = ap (λ n. (get_or reads n d).place) same in omega arith)
-        | inr (inl less) ↦ h.before i d low less
-        | inr (inr gt) ↦ absurd (omega arith)
-      ];
-      behind = λ i d low below. h.behind i d (omega arith) below;
-    }
 
 pub pushed_stop : (reads : List PlacedRead) (k : ℕ) (start out : List Call) (j : ℕ) (p : PlacedRead)
     → IsNonDecreasingBy (λ (q : PlacedRead). q.place) reads → j < length reads
@@ -150,14 +130,6 @@ pushed_stop reads k start out j p up lt read ne h =
           ∙ h.all,
       record { within = h.within; before = h.before; behind = behind },
     )
-
-pub pushed_end : (reads : List PlacedRead) (k : ℕ) (start out : List Call) (j : ℕ)
-    → length reads ≤ j → IsPushed reads k start out j → (out ≡ start ++ reads_at k reads)
-    × IsCut reads (k + 1) j
-pushed_end reads k start out j le h = (
-  sym (append-nil out) ∙ ap (λ zs. out ++ reads_at k zs) (sym (drop_all j reads le)) ∙ h.all,
-  record { within = h.within; before = h.before; behind = λ i d low below. absurd (omega arith) },
-)
 
 -- ALL SLOTS
 

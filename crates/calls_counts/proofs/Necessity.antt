@@ -61,7 +61,7 @@ pub after_one : (n : ℕ) (op : Op) → count_after n op ≡ n + one (is_advance
 after_one n Advance = refl
 after_one n op = omega arith
 
--- what is given at a place of a run
+-- a call in a legal sequential history returns what the count before it gives
 run_at : (n m : ℕ) (xs : List Call) (c : Call) (ys : List Call) → m ≡ n + advances xs
     → IsCountRun n (xs ++ c ∷ ys) → CountGives m c.op c.reply
 run_at n m [] c ys e run = (let same : n ≡ m = omega arith in
@@ -74,7 +74,7 @@ run_at n m (x ∷ xs) c ys e run =
           (λ (y : Call). is_advance y.op) x xs,
     )) run.1
 
--- A CALL AT ITS PLACE IN AN ORDER
+-- A CALL IN AN ORDER, AND THE CALLS BEFORE AND AFTER IT
 
 record Placing (start : ℕ) (calls : List Call) (c : Call) (xs ys : List Call) : Type 0 where
   pub gives : CountGives (start + advances xs) c.op c.reply
@@ -113,13 +113,13 @@ few : (start : ℕ) (past : List Event) (more cs : List Call) (c : Call)
 few start past more cs c begun legal f =
     let s = place_of start (more ++ completed_calls past) cs c legal
     (Contains-append_right more (completed_calls past) c f.known) in
-    let p = placing start (more ++ completed_calls past) cs c s.front s.back legal s.is in
-    let low : least c.op c.reply ≤ start + advances s.front =
-    least_given (start + advances s.front) c.op c.reply p.gives in
-    let all : advances s.front ≤ count_by (begun_call c.last) s.front =
-    count_less (λ (a : Call). is_advance a.op) (begun_call c.last) s.front (All-weaker (λ a.
+    let p = placing start (more ++ completed_calls past) cs c s.prefix s.back legal s.is in
+    let low : least c.op c.reply ≤ start + advances s.prefix =
+    least_given (start + advances s.prefix) c.op c.reply p.gives in
+    let all : advances s.prefix ≤ count_by (begun_call c.last) s.prefix =
+    count_less (λ (a : Call). is_advance a.op) (begun_call c.last) s.prefix (All-weaker (λ a.
     KeepsOrder a c) (λ (a : Call). is_advance a.op ≡ true → begun_call c.last a ≡ true)
-    (begun_early c) s.front p.before) in
+    (begun_early c) s.prefix p.before) in
     omega (arith, low, all, f.more, p.counts (begun_call c.last), begun)
 
 -- MANY
@@ -154,7 +154,7 @@ made_before start more done a c xs ys reading p =
           (lies_between a c.first) more done,
     )
 
-first_part : (b d : Bool) → (b && d) ≡ true → b ≡ true
+pub first_part : (b d : Bool) → (b && d) ≡ true → b ≡ true
 first_part true d h = refl
 first_part false d h = h
 
@@ -168,22 +168,22 @@ many start past more cs c legal f =
     let done = completed_calls past in
     let s = place_of start (more ++ done) cs c legal (Contains-append_right more done c
     f.call.known) in
-    let p = placing start (more ++ done) cs c s.front s.back legal s.is in
-    let same : start + advances s.front ≤ f.number = most_given (start + advances s.front) c.op
+    let p = placing start (more ++ done) cs c s.prefix s.back legal s.is in
+    let same : start + advances s.prefix ≤ f.number = most_given (start + advances s.prefix) c.op
     c.reply f.number f.call.number p.gives in
     omega (
       arith,
       same,
       f.fewer,
-      made_before start more done 0 c s.front s.back f.call.reading p,
-      lies_advance 0 c.first s.front,
+      made_before start more done 0 c s.prefix s.back f.call.reading p,
+      lies_advance 0 c.first s.prefix,
     )
 
 -- SINCE
 
 contains_split : (xs : List Call) (x : Call) → Split xs x → Contains xs x
 contains_split xs x r = subst (λ (zs : List Call). Contains zs x) (sym r.is)
-    (Contains-append_right r.front (x ∷ r.back) x (zero, omega arith, refl))
+    (Contains-append_right r.prefix (x ∷ r.back) x (zero, omega arith, refl))
 
 -- a call before s in the order was not invoked after its response
 before_none : (d : ℕ) (s x : Call) → KeepsOrder x s → lies_between (s.last + 1) d x ≡ false
@@ -244,16 +244,16 @@ since start past more cs c s history legal f =
     let done = completed_calls past in
     let i = place_of start (more ++ done) cs c legal (Contains-append_right more done c
     f.call.known) in
-    let p = placing start (more ++ done) cs c i.front i.back legal i.is in
-    let same : start + advances i.front ≤ f.number = most_given (start + advances i.front) c.op
+    let p = placing start (more ++ done) cs c i.prefix i.back legal i.is in
+    let same : start + advances i.prefix ≤ f.number = most_given (start + advances i.prefix) c.op
     c.reply f.number f.call.number p.gives in
     let before : s.last < c.first = f.before in
     let spans : Spans (clock past) c = All-contains (Spans (clock past)) done c
     (all_span (Eventcount start) past history) f.call.known in
     let known : Contains cs s = Contains-permutation (more ++ done) cs s legal.each_once
     (Contains-append_right more done s f.known) in
-    elim (in_either i.front c i.back s (subst (λ (zs : List Call). Contains zs s) i.is known)) [
-      | inl r ↦ since_after start more done cs c s f.number i.front i.back r.front r.back legal
+    elim (in_either i.prefix c i.back s (subst (λ (zs : List Call). Contains zs s) i.is known)) [
+      | inl r ↦ since_after start more done cs c s f.number i.prefix i.back r.prefix r.back legal
           f.call.reading f.reading p i.is r.is same f.fewer
       | inr (inl e) ↦ (let own : c.last < c.first = subst (λ (z : Call). z.last < c.first)
           (sym e) before in absurd (omega arith))
@@ -271,8 +271,8 @@ shown start past more cs (Below c) history begun legal f =
     (let calls = more ++ completed_calls past in
     let s = place_of start calls cs c legal (Contains-append_right more (completed_calls past) c
     f.known) in
-    none_given (start + advances s.front) c.op c.reply f.below
-    (placing start calls cs c s.front s.back legal s.is).gives)
+    none_given (start + advances s.prefix) c.op c.reply f.below
+    (placing start calls cs c s.prefix s.back legal s.is).gives)
 shown start past more cs (Few c) history begun legal f =
     few start past more cs c (begun c.last) legal f
 shown start past more cs (Many c) history begun legal f = many start past more cs c legal f

@@ -1,4 +1,4 @@
--- What a read or an await says.
+-- What a read or an await says about the count.
 use Rattle.std.proofs.Common.{max, ◌≡◌, ℕ, zero, suc, ◌+◌, ◌<◌, ◌≤◌, inl, inr, false, List, [], ◌∷◌}
 use Rattle.std.proofs.Common.{◌++◌, length, Some, None, refl, ap, sym, ◌∙◌, arith, subst, slice_get}
 use Rattle.std.proofs.Common.{get_or, append_assoc, append-nil, length-append, ◌↔◌, ◌-◌, nat_lt}
@@ -34,17 +34,6 @@ none_raised slots n m = record {
   few = λ h.
       absurd (omega arith);
 }
-
-pub one_raised : (old slots : List Slot) (n m : ℕ) → length slots < n → IsRaised old slots n m
-    → IsRaised old (slots ++ record { moment = m; taken = None } ∷ []) n m
-one_raised old slots n m lt r =
-    let new : List Slot = record { moment = m; taken = None } ∷ [] in
-    record {
-      more = r.more ++ new;
-      is = ap (λ zs. zs ++ new) r.is ∙ append_assoc old r.more new;
-      each = each_append (IsNew m) r.more new r.each (record { moment = refl; none = refl }, tt);
-      few = λ h. omega (arith, ap length r.is, length-append old r.more, length-append r.more new);
-    }
 
 -- TOO LITTLE
 
@@ -119,18 +108,9 @@ fewer_by slots firsts s call number n m invocations before is le count = (
   λ f. lt-ltb (number - n) m (omega (arith, f.fewer, invocations (s.last + 1))),
 )
 
-pub under_rated : (start : ℕ) (slots : List Slot) (reads : List PlacedRead) (begun noted : ℕ)
-    (call : Call) (number : ℕ) (f : Fault) → most call.op call.reply ≡ Some number
-    → number < start + noted
-    → ((n : ℕ) → number < n → IsReckoned start slots reads call.first n
-    → IsTooLittle start slots reads call number f) → IsRefused start begun noted call slots
-    reads f
-under_rated start slots reads begun noted call number f e lt h =
-    inr (record { number = number; says = e; less = lt; is = h (start + noted) lt })
-
 -- WHAT IS GIVEN
 
--- between the least and the greatest, unless the call is wrong by itself
+-- a count between the least and the greatest gives the reply, unless the call is wrong by itself
 pub reply_gives : (op : Op) (r : Reply) (n : ℕ) → is_advance op ≡ false → Suits op r
     → (Contradicts op r → ⊥) → least op r ≤ n → ((m : ℕ) → most op r ≡ Some m → n ≤ m)
     → CountGives n op r
@@ -158,7 +138,7 @@ least_most (Await v) (Number k) m e = (let same : k ≡ m = grind arith in omega
 least_most (Await v) Timeout m e = omega arith
 least_most op r m e = cc
 
--- the place of a read: not before the place noted at its invocation
+-- the count at the place of a read gives its reply
 pub placed_gives : (start : ℕ) (op : Op) (r : Reply) (noted place : ℕ) → is_advance op ≡ false
     → Suits op r → (Contradicts op r → ⊥) → ((m : ℕ) → most op r ≡ Some m → start + noted ≤ m)
     → place ≡ max (least op r - start) noted → CountGives (start + place) op r

@@ -16,7 +16,7 @@ use Rattle.calls_core.specs.declared.history.Op.TheVariants.{Advance}
 use Rattle.calls_core.specs.declared.history.Reply.TheVariants.{Done}
 use Rattle.calls_core.specs.declared.history.Call.{Call}
 use Rattle.calls_counts.specs.declared.state.Slot.{Slot}
-use Rattle.calls_counts.specs.declared.state.Noted.{Noted}
+use Rattle.calls_counts.specs.declared.state.NotedCall.{NotedCall}
 use Rattle.calls_counts.specs.declared.state.PlacedRead.{PlacedRead}
 use Rattle.calls_counts.specs.CountRuns.{CountGives, count_after, IsCountRun, IsCountOrder}
 use Rattle.calls_counts.specs.Faults.{is_advance}
@@ -57,7 +57,7 @@ full_slot t s f h = go s.taken refl f h
       last = h.last;
     }
 
--- THE RUN
+-- THE ORDER IS A LEGAL SEQUENTIAL HISTORY
 
 run_reads : (n : ℕ) (ps : List PlacedRead) (cs : List Call)
     → Each (λ (p : PlacedRead). (is_advance p.call.op ≡ false)
@@ -128,7 +128,7 @@ run_from start k (s ∷ slots) reads full returned =
 abbrev LastFrom : ℕ → Call → Type 0
 LastFrom m c = m ≤ c.last
 
--- calls from a place on have their responses no earlier than the moment before it
+-- the calls from place k on return no earlier than m, if their moments are no earlier
 late_from : (k m : ℕ) (slots : List Slot) (reads : List PlacedRead) → Each Full slots
     → Each (λ (s : Slot). m ≤ s.moment) slots → Each (λ (p : PlacedRead). k ≤ p.place
     → m ≤ p.call.last) reads → Each (LastFrom m) (order_from k slots reads)
@@ -314,7 +314,7 @@ from_zero (p ∷ reads) = ap (λ b. cond b (p ∷ filter (λ (q : PlacedRead). n
     (filter (λ (q : PlacedRead). nat_le 0 q.place) reads)) (le-leb 0 p.place (omega arith)) ∙ ap
     (λ ps. p ∷ ps) (from_zero reads)
 
--- THE WHOLE
+-- THE WHOLE ORDER
 
 -- if no pending advance may take a free slot, no slot is free
 pub all_taken : (f : ℕ → ℕ) (n i : ℕ) (slots : List Slot) → EachFrom (λ j (s : Slot). s.taken ≡ None
@@ -332,7 +332,7 @@ all_taken f n i (s ∷ slots) e h = (
     go (Some c) some = refl
 
 pub legal_order : (start : ℕ) (calls : List Call) (t a : ℕ) (slots : List Slot)
-    (pending : List Noted) (reads : List PlacedRead) (cs : List Call)
+    (pending : List NotedCall) (reads : List PlacedRead) (cs : List Call)
     → IsState start calls t a slots pending reads → Each (λ (s : Slot). free s.taken ≡ false) slots
     → IsOrdering slots reads cs
     → IsCountOrder start calls cs

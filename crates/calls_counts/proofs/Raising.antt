@@ -1,4 +1,4 @@
--- A read or an await has its response.
+-- The response of a read or an await.
 use Rattle.std.proofs.Common.{◌≡◌, ℕ, zero, suc, ◌+◌, ◌<◌, ◌≤◌, Bool, true, false, ◌&&◌, nat_le}
 use Rattle.std.proofs.Common.{List, [], ◌∷◌, ◌++◌, length, Option, Some, None, refl, ap, sym, ◌∙◌}
 use Rattle.std.proofs.Common.{arith, cond, subst, append_assoc, append-nil, length-append}
@@ -10,7 +10,7 @@ use Rattle.std.proofs.lemmas.List.{map-append, length-map}
 use Rattle.std.proofs.lemmas.List.Elements.{filter_map-append}
 use Rattle.calls_core.specs.declared.history.Call.{Call}
 use Rattle.calls_counts.specs.declared.state.Slot.{Slot}
-use Rattle.calls_counts.specs.declared.state.Noted.{Noted}
+use Rattle.calls_counts.specs.declared.state.NotedCall.{NotedCall}
 use Rattle.calls_counts.specs.declared.state.PlacedRead.{PlacedRead}
 use Rattle.calls_counts.specs.CountRuns.{CountGives}
 use Rattle.calls_counts.specs.Faults.{is_advance, least}
@@ -68,7 +68,7 @@ new_enough m g b n i (s ∷ new) h k l =
     )
 
 -- every pending advance may take a slot after them all
-takers_all : (start : ℕ) (calls : List Call) (t : ℕ) (ms : List ℕ) (j : ℕ) (pending : List Noted)
+takers_all : (start : ℕ) (calls : List Call) (t : ℕ) (ms : List ℕ) (j : ℕ) (pending : List NotedCall)
     → length ms ≤ j → Each (IsNotedCall start calls t ms) pending
     → takers pending j ≡ advancing pending
 takers_all start calls t ms j [] le h = refl
@@ -76,7 +76,7 @@ takers_all start calls t ms j (w ∷ pending) le h =
     omega (
       arith,
       count_cons (may_take j) w pending,
-      count_cons (λ (u : Noted). is_advance u.call.op) w pending,
+      count_cons (λ (u : NotedCall). is_advance u.call.op) w pending,
       (takers_all start) calls t ms j pending le h.1,
       same_one (is_advance w.call.op) (nat_le w.noted j)
           (le-leb w.noted j (omega (arith, h.0.within))),
@@ -86,9 +86,9 @@ takers_all start calls t ms j (w ∷ pending) le h =
     same_one true b e = ap one e
     same_one false b e = refl
 
--- after the response of a read or an await the count is at least the number of slots, old and new
+-- the state after the response of a read or an await, with its place and the new free slots
 pub state_raised : (start : ℕ) (calls : List Call) (t a : ℕ) (slots new : List Slot)
-    (before : List Noted) (u : Noted) (behind : List Noted) (reads : List PlacedRead) (c : Call)
+    (before : List NotedCall) (u : NotedCall) (behind : List NotedCall) (reads : List PlacedRead) (c : Call)
     (place : ℕ)
     → t ≤ c.last → c.first ≡ u.call.first → is_advance c.op ≡ false → is_advance u.call.op ≡ false
     → Each (IsNew c.last) new → place ≤ length slots + length new → u.noted ≤ place
@@ -128,7 +128,7 @@ state_raised start calls t a slots new before u behind reads c place le first re
     omega (
       arith,
       h.total,
-      count_out (λ (w : Noted). is_advance w.call.op) before u behind,
+      count_out (λ (w : NotedCall). is_advance w.call.op) before u behind,
       one_no
           (is_advance u.call.op) readingU,
     ) in

@@ -1,4 +1,4 @@
--- Searches.
+-- Searches for pending calls and free slots, and counts of invocations.
 use Rattle.std.proofs.Common.{◌≡◌, ℕ, zero, suc, ◌+◌, ◌<◌, ◌≤◌, Bool, true, false, not, ◌&&◌}
 use Rattle.std.proofs.Common.{nat_le, nat_lt, ◌==◌, List, [], ◌∷◌, ◌++◌, length, Option, Some, None}
 use Rattle.std.proofs.Common.{refl, ap, sym, ◌∙◌, arith, cond, subst, slice_get, get_or, take, drop}
@@ -11,26 +11,28 @@ use Rattle.std.proofs.lemmas.List.{take-append-drop, set_split, length-take-le}
 use Rattle.std.proofs.lemmas.Option.{slice_get_within, slice_get-get_or, get_or_from_slice_get}
 use Rattle.calls_core.specs.declared.history.Call.{Call}
 use Rattle.calls_counts.specs.declared.state.Slot.{Slot}
-use Rattle.calls_counts.specs.declared.state.Noted.{Noted}
+use Rattle.calls_counts.specs.declared.state.NotedCall.{NotedCall}
 use Rattle.calls_core.specs.Histories.{pending_of, without}
 use Rattle.calls_counts.specs.Faults.{is_advance, lies_between, made_between}
 use Rattle.calls_counts.specs.ScanStates.{noted_calls, taken_calls}
-use Rattle.calls_counts.specs.Scanning.{IsCallAt, FreeBelow, NoneFree, IsFirstFree, filled}
+use Rattle.calls_counts.specs.Scanning.{IsCallAt, FreeBelow, NoneFree, IsFirstFree, slot_of_call}
 use Rattle.calls_counts.specs.Scanning.{IsFilled, invoked_before, AreInvocations}
 use Rattle.calls_core.proofs.Counting.{one, one_yes, one_no, count_cons}
 use Rattle.calls_core.proofs.Lists.{each_from_get}
 
--- A WORKER'S CALL
+-- THE PENDING CALL OF A WORKER
 
-abbrev pub NotHis : List Noted → ℕ → ℕ → Type 0
-NotHis pending w k = (u : Noted) → slice_get pending k ≡ Some u → (u.call.worker == w) ≡ false
+abbrev pub NotHis : List NotedCall → ℕ → ℕ → Type 0
+NotHis pending w k = (u : NotedCall) → slice_get pending k ≡ Some u → (u.call.worker == w) ≡ false
 
-pub not_his : (pending : List Noted) (w k : ℕ) (d : Noted) → ((get_or pending k d).call.worker ≡ w
+pub not_his : (pending : List NotedCall) (w k : ℕ) (d : NotedCall)
+    → ((get_or pending k d).call.worker ≡ w
     → ⊥) → NotHis pending w k
 not_his pending w k d h = λ u at. ne_eqb u.call.worker w (λ e.
-    h (ap (λ (z : Noted). z.call.worker) (get_or_from_slice_get pending k u d at) ∙ e))
+    h (ap (λ (z : NotedCall). z.call.worker) (get_or_from_slice_get pending k u d at) ∙ e))
 
-pub none_by : (pending : List Noted) (w : ℕ) → ((k : ℕ) → k < length pending → NotHis pending w k)
+pub none_by : (pending : List NotedCall) (w : ℕ)
+    → ((k : ℕ) → k < length pending → NotHis pending w k)
     → pending_of w (noted_calls pending) ≡ None
 none_by [] w h = refl
 none_by (u ∷ pending) w h =
@@ -38,7 +40,7 @@ none_by (u ∷ pending) w h =
     (h zero (omega arith) u refl) ∙ none_by pending w (λ k lt z at.
     h (suc k) (omega arith) z at)
 
-pub found_by : (pending : List Noted) (w i : ℕ) (d : Noted) → i < length pending
+pub found_by : (pending : List NotedCall) (w i : ℕ) (d : NotedCall) → i < length pending
     → (get_or pending i d).call.worker ≡ w → ((k : ℕ) → k < i → NotHis pending w k)
     → IsCallAt pending w i
 found_by [] w i d lt e h = absurd (omega arith)
@@ -74,11 +76,6 @@ is_not_none o b e f none = (let no : false ≡ true = ap is_some (sym none) ∙ 
 abbrev pub FreeAt : List Slot → ℕ → ℕ → Type 0
 FreeAt slots n k = (s : Slot) → slice_get slots k ≡ Some s → FreeBelow n k s
 
-pub not_free : (slots : List Slot) (n k : ℕ) (d : Slot) → ((get_or slots k d).taken ≡ None → ⊥)
-    → FreeAt slots n k
-not_free slots n k d h = λ s at none. absurd (h (ap (λ (z : Slot). z.taken)
-    (get_or_from_slice_get slots k s d at) ∙ none))
-
 pub first_from : (slots : List Slot) (n k : ℕ) (d : Slot) → k < length slots → n ≤ k
     → (get_or slots k d).taken ≡ None → ((j : ℕ) → j < k → FreeAt slots n j) → IsFirstFree slots n k
 first_from slots n k d lt low none h = record {
@@ -106,7 +103,7 @@ get_front (z ∷ slots) (suc k) zero s h = (omega arith, h)
 get_front (z ∷ slots) (suc k) (suc j) s h = (let r = get_front slots k j s h in let lt : j < k =
     r.0 in (omega arith, r.1))
 
--- a list at one of its places
+-- a list split at an element
 pub parted : {X : Type 0} (xs : List X) (k : ℕ) (x : X) → slice_get xs k ≡ Some x
     → xs ≡ take k xs ++ x ∷ drop (suc k) xs
 parted xs k x at =
@@ -115,17 +112,17 @@ parted xs k x at =
     take k xs ++ z ∷ drop (suc k) xs) (get_or_from_slice_get xs k x x at)
 
 pub filled_from : (slots : List Slot) (n k : ℕ) (c : Call) (x : Slot) → x ≡ get_or slots k x
-    → IsFirstFree slots n k → IsFilled slots (set slots k (filled x.moment c)) n c
+    → IsFirstFree slots n k → IsFilled slots (set slots k (slot_of_call x.moment c)) n c
 filled_from slots n k c x read f =
     let lt : k < length slots = slice_get_within slots k f.slot f.at in
     let long : length (take k slots) ≡ k = length-take-le k slots (omega arith) in
     record {
-      front = take k slots;
+      prefix = take k slots;
       slot = f.slot;
       back = drop (suc k) slots;
       was = parted slots k f.slot f.at;
-      is = set_split slots k (filled x.moment c) lt ∙ ap
-          (λ (z : Slot). take k slots ++ filled z.moment c ∷ drop (suc k) slots)
+      is = set_split slots k (slot_of_call x.moment c) lt ∙ ap
+          (λ (z : Slot). take k slots ++ slot_of_call z.moment c ∷ drop (suc k) slots)
           (read ∙ get_or_from_slice_get slots k f.slot x f.at);
       none = f.none;
       low = (let low : n ≤ k = f.low in omega arith);
@@ -191,7 +188,7 @@ are_invocations [] d = λ a. refl
 are_invocations (s ∷ slots) d = λ a. invocation_one a d s.taken (taken_calls slots)
     (filter_map (λ (z : Slot). invoked_before d z.taken) slots) (are_invocations slots d a)
 
--- in ascending order
+-- the numbers that are at least a, in ascending order
 pub count_behind : (a i : ℕ) (fs : List ℕ) → i ≤ length fs → ((k : ℕ) (d : ℕ) → 0 ≤ k → k < i
     → nat_lt (get_or fs k d) a ≡ true) → ((k : ℕ) (d : ℕ) → i ≤ k → k < length fs
     → nat_lt (get_or fs k d) a ≡ false) → count_by (λ f. nat_le a f) fs + i ≡ length fs

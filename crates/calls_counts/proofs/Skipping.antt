@@ -7,15 +7,15 @@ use Rattle.std.proofs.lemmas.List.{get_or-set_same, get_or-set_other, set_past, 
 use Rattle.std.proofs.lemmas.Option.{get_or_from_slice_get, same_Some}
 use Rattle.calls_core.specs.declared.history.Call.{Call}
 use Rattle.calls_counts.specs.declared.state.Slot.{Slot}
-use Rattle.calls_counts.specs.Scanning.{filled, IsFilled, Skips}
+use Rattle.calls_counts.specs.Scanning.{slot_of_call, IsFilled, Skips}
 use Rattle.calls_counts.proofs.Searching.{FreeAt}
 
--- no slot is free from a place up to another
+-- no slot is free from one index up to another
 abbrev pub NoneBetween : List Slot → ℕ → ℕ → Type 0
 NoneBetween slots low high = (j : ℕ) (s : Slot) → low ≤ j → j < high → slice_get slots j ≡ Some s
     → s.taken ≡ None → ⊥
 
--- what is known of slot i is set
+-- the skip of slot i is set
 pub skips_set : (slots : List Slot) (next : List ℕ) (i to : ℕ) → to ≤ length slots
     → NoneBetween slots i to → Skips slots next → Skips slots (set next i to)
 skips_set slots next i to le none k = record {
@@ -69,7 +69,7 @@ pub further_within : (slots : List Slot) (next : List ℕ) (i far : ℕ) → i <
     → max (get_or next far 0) far ≤ length slots
 further_within slots next i far lt k is = omega (arith, k.within i, k.within far)
 
--- no slot is free that was skipped
+-- no skipped slot is free
 pub passed_more : (slots : List Slot) (n i to : ℕ) → NoneBetween slots i to
     → ((k : ℕ) → k < i → FreeAt slots n k) → (k : ℕ) → k < to → FreeAt slots n k
 passed_more slots n i to none h k lt = λ s at free.
@@ -89,25 +89,25 @@ skips_filled old new next n c f k = record {
     k.within i,
     ap length f.was,
     ap length f.is,
-    length-append f.front
+    length-append f.prefix
         (f.slot ∷ f.back),
-    length-append f.front (filled f.slot.moment c ∷ f.back),
+    length-append f.prefix (slot_of_call f.slot.moment c ∷ f.back),
   );
   none = λ i j s low high at free.
-      (let r = was_free f.front f.slot f.slot.moment c f.back j s
+      (let r = was_free f.prefix f.slot f.slot.moment c f.back j s
       (ap (λ zs. slice_get zs j) (sym f.is) ∙ at) free in
       k.none i j s low high (ap (λ zs. slice_get zs j) f.was ∙ r) free);
 }
   where
-    was_free : (front : List Slot) (x : Slot) (m : ℕ) (c : Call) (back : List Slot) (j : ℕ)
-        (s : Slot) → slice_get (front ++ filled m c ∷ back) j ≡ Some s → s.taken ≡ None
-        → slice_get (front ++ x ∷ back) j ≡ Some s
-    was_free [] x m c back zero s at free = (let same : filled m c ≡ s =
-        same_Some (filled m c) s at in let none : Some c ≡ None =
+    was_free : (prefix : List Slot) (x : Slot) (m : ℕ) (c : Call) (back : List Slot) (j : ℕ)
+        (s : Slot) → slice_get (prefix ++ slot_of_call m c ∷ back) j ≡ Some s → s.taken ≡ None
+        → slice_get (prefix ++ x ∷ back) j ≡ Some s
+    was_free [] x m c back zero s at free = (let same : slot_of_call m c ≡ s =
+        same_Some (slot_of_call m c) s at in let none : Some c ≡ None =
         ap (λ (z : Slot). z.taken) same ∙ free in absurd (cc))
     was_free [] x m c back (suc j) s at free = at
-    was_free (y ∷ front) x m c back zero s at free = at
-    was_free (y ∷ front) x m c back (suc j) s at free = was_free front x m c back j s at free
+    was_free (y ∷ prefix) x m c back zero s at free = at
+    was_free (y ∷ prefix) x m c back (suc j) s at free = was_free prefix x m c back j s at free
 
 pub skips_longer : (old new more : List Slot) (next : List ℕ) → new ≡ old ++ more → Skips old next
     → Skips new next
@@ -129,13 +129,6 @@ pub skips_same : (slots : List Slot) (next later : List ℕ)
 skips_same slots next later same k = record {
   within = λ i. omega (arith, same i, k.within i);
   none = λ i j s low high at free. k.none i j s low (omega (arith, same i)) at free;
-}
-
-pub skips_nothing : Skips [] []
-skips_nothing = record {
-  within = λ i. omega arith;
-  none = λ i j s low high at free.
-      absurd (omega arith);
 }
 
 -- a taken slot is skipped, and others with it

@@ -1,4 +1,4 @@
--- What is kept, with later events.
+-- The state at a later position, with more calls.
 use Rattle.std.proofs.Common.{◌≡◌, ℕ, ◌+◌, ◌<◌, ◌≤◌, inl, inr, Bool, List, [], ◌∷◌, ◌++◌, length}
 use Rattle.std.proofs.Common.{Option, Some, None, refl, ap, ◌∙◌, arith, cond, subst, count_by}
 use Rattle.std.specs.List.{Contains, cons_option}
@@ -9,7 +9,7 @@ use Rattle.std.proofs.lemmas.List.Sorted.{IsPermutation-cons, IsPermutation-tran
 use Rattle.std.proofs.lemmas.List.Sorted.{IsPermutation-sym, IsPermutation-middle}
 use Rattle.calls_core.specs.declared.history.Call.{Call}
 use Rattle.calls_counts.specs.declared.state.Slot.{Slot}
-use Rattle.calls_counts.specs.declared.state.Noted.{Noted}
+use Rattle.calls_counts.specs.declared.state.NotedCall.{NotedCall}
 use Rattle.calls_counts.specs.declared.state.PlacedRead.{PlacedRead}
 use Rattle.calls_counts.specs.Faults.{Source, Reached, lies_between, made_between}
 use Rattle.calls_core.specs.Lists.{EachFrom}
@@ -73,7 +73,7 @@ module _ (start : ℕ) (more calls : List Call) (t u : ℕ) (le : t ≤ u) where
     counted = omega (arith, r.counted, made_later r.from d);
   }
 
-  pub pending_later : (ms : List ℕ) (w : Noted) → IsNotedCall start calls t ms w
+  pub pending_later : (ms : List ℕ) (w : NotedCall) → IsNotedCall start calls t ms w
       → IsNotedCall start (more ++ calls) u ms w
   pending_later ms w h = record {
     early = omega arith;

@@ -1,4 +1,4 @@
--- What is kept after one more event.
+-- The state after one more event.
 use Rattle.std.proofs.Common.{◌≡◌, ℕ, zero, suc, ◌+◌, ◌<◌, ◌≤◌, inl, inr, Bool, true, false, ◌&&◌}
 use Rattle.std.proofs.Common.{nat_le, List, [], ◌∷◌, ◌++◌, length, Option, Some, None, refl, ap}
 use Rattle.std.proofs.Common.{sym, ◌∙◌, arith, subst, take, drop, get_or, Result, Ok, Err, IfOk}
@@ -25,7 +25,7 @@ use Rattle.calls_core.specs.declared.history.Call.{Call}
 use Rattle.calls_counts.specs.declared.fault.Fault.{Fault}
 use Rattle.calls_counts.specs.declared.fault.Fault.TheVariants.{Below, Few, Many, Since}
 use Rattle.calls_counts.specs.declared.state.Slot.{Slot}
-use Rattle.calls_counts.specs.declared.state.Noted.{Noted}
+use Rattle.calls_counts.specs.declared.state.NotedCall.{NotedCall}
 use Rattle.calls_counts.specs.declared.state.PlacedRead.{PlacedRead}
 use Rattle.calls_core.specs.Histories.{clock, pending_of, without, invoked_by, pending_calls}
 use Rattle.calls_core.specs.Histories.{completion, ended_call, completed_calls, Suits, IsNextOf}
@@ -36,7 +36,7 @@ use Rattle.calls_counts.specs.Faults.{FromSince, FromFew, FromMany, FromBelow, S
 use Rattle.calls_core.specs.Lists.{Each}
 use Rattle.calls_counts.specs.ScanStates.{noted_calls, taken_calls, placed_calls, moments, Fits}
 use Rattle.calls_counts.specs.ScanStates.{IsSlotAt, IsNotedCall, IsReadAt, IsState}
-use Rattle.calls_counts.specs.Scanning.{IsCallAt, NoneFree, filled, IsFilled, IsTooLittle}
+use Rattle.calls_counts.specs.Scanning.{IsCallAt, NoneFree, slot_of_call, IsFilled, IsTooLittle}
 use Rattle.calls_counts.specs.Scanning.{IsObserved, IsReckoned, IsWrong, IsRefused, Holds, Skips}
 use Rattle.calls_counts.specs.Scanning.{ScanKeeps}
 use Rattle.calls_core.proofs.Counting.{one, count_cons, count_append, count_moved, count_less}
@@ -48,6 +48,7 @@ use Rattle.calls_counts.proofs.Raising.{state_raised}
 use Rattle.calls_counts.proofs.Searching.{parted}
 use Rattle.calls_counts.proofs.Skipping.{skips_longer}
 use Rattle.calls_counts.specs.declared.scan.Scan.{Scan}
+use Rattle.calls_counts.proofs.Necessity.{first_part as both_true}
 
 abbrev invoking : ℕ → ℕ → ℕ → Op → Event
 invoking at w j op = record { at = at; worker = w; action = Invoke j op }
@@ -58,7 +59,7 @@ responding at w r = record { at = at; worker = w; action = Respond r }
 -- AN INVOCATION
 
 invoked_at : (start : ℕ) (past : List Event) (at w j : ℕ) (op : Op) (a b : ℕ) (slots : List Slot)
-    (pending : List Noted) (reads : List PlacedRead) → b ≡ a + one (is_advance op)
+    (pending : List NotedCall) (reads : List PlacedRead) → b ≡ a + one (is_advance op)
     → IsHistoryOf (Eventcount start) (invoking at w j op ∷ past)
     → Holds start past a slots pending reads
     → Holds start (invoking at w j op ∷ past) b slots (pending ++ record {
@@ -68,7 +69,7 @@ invoked_at : (start : ℕ) (past : List Event) (at w j : ℕ) (op : Op) (a b : �
     } ∷ []) reads
 invoked_at start past at w j op a b slots pending reads more history h =
     let o = invoked_by (invoking at w j op) j op in
-    let u : Noted = record { call = o; noted = length slots } in
+    let u : NotedCall = record { call = o; noted = length slots } in
     record {
       state = state_invoked start (completed_calls past) (clock past) a b at slots pending reads o
           history.0 refl more h.state;
@@ -79,12 +80,13 @@ invoked_at start past at w j op a b slots pending reads more history h =
         count_cons
             (λ (x : Event). invokes_advance x.action) (invoking at w j op) past,
       );
-      pending_is = map-append (λ (z : Noted). z.call) pending (u ∷ []) ∙ ap (λ os.
+      pending_is = map-append (λ (z : NotedCall). z.call) pending (u ∷ []) ∙ ap (λ os.
           os ++ o ∷ []) h.pending_is;
     }
 
 pub holds_invoked : (start : ℕ) (past : List Event) (x : Event) (j : ℕ) (op : Op) (a b : ℕ)
-    (slots : List Slot) (pending : List Noted) (reads : List PlacedRead) → x.action ≡ Invoke j op
+    (slots : List Slot) (pending : List NotedCall) (reads : List PlacedRead)
+    → x.action ≡ Invoke j op
     → b ≡ a + one (is_advance op) → IsHistoryOf (Eventcount start) (x ∷ past)
     → Holds start past a slots pending reads
     → Holds start (x ∷ past) b slots (pending ++ record {
@@ -102,9 +104,9 @@ holds_invoked start past x j op a b slots pending reads e more =
 
 -- A RESPONSE
 
--- the pending call u of a worker has the response r
-pub record IsReturned (past : List Event) (at w : ℕ) (r : Reply) (pending : List Noted) (i : ℕ)
-    (u : Noted) : Type 0 where
+-- worker w's pending call u returns r
+pub record IsReturned (past : List Event) (at w : ℕ) (r : Reply) (pending : List NotedCall) (i : ℕ)
+    (u : NotedCall) : Type 0 where
   pub is : pending ≡ take i pending ++ u ∷ drop (suc i) pending
   pub rest : noted_calls (take i pending ++ drop (suc i) pending) ≡ pending_calls
       (responding at w r ∷ past)
@@ -117,7 +119,7 @@ follows_some : (start : ℕ) (r : Reply) (o : Option PendingCall) (p : PendingCa
     → IsNextOf (Eventcount start) (Respond r) o → Suits p.op r
 follows_some start r o p e h = subst (IsNextOf (Eventcount start) (Respond r)) e h
 
-pub is_returned : (start : ℕ) (past : List Event) (at w : ℕ) (r : Reply) (pending : List Noted)
+pub is_returned : (start : ℕ) (past : List Event) (at w : ℕ) (r : Reply) (pending : List NotedCall)
     (i : ℕ) (k : IsCallAt pending w i) → noted_calls pending ≡ pending_calls past
     → IsHistoryOf (Eventcount start) (responding at w r ∷ past)
     → IsReturned past at w r pending i k.call
@@ -138,9 +140,9 @@ suits_done Advance (Number n) e s = absurd s
 suits_done Advance Timeout e s = absurd s
 suits_done op r e s = cc
 
--- what is kept of the others
+-- the other pending calls after the response
 module _ (start : ℕ) (past : List Event) (at w : ℕ) (r : Reply) (a : ℕ) (slots : List Slot)
-    (pending : List Noted) (reads : List PlacedRead) (i : ℕ) (u : Noted)
+    (pending : List NotedCall) (reads : List PlacedRead) (i : ℕ) (u : NotedCall)
     (returned : IsReturned past at w r pending i u) (h : Holds start past a slots pending reads)
   where
     call : Call
@@ -175,25 +177,26 @@ module _ (start : ℕ) (past : List Event) (at w : ℕ) (r : Reply) (a : ℕ) (s
         → Holds start (responding at w r ∷ past) a later (remove pending i) reads
     unfolding call
     filled_at later op f =
-        (let s : IsState start (completed_calls past) (clock past) a (f.front ++ f.slot ∷ f.back)
+        (let s : IsState start (completed_calls past) (clock past) a (f.prefix ++ f.slot ∷ f.back)
         (take i pending ++ u ∷ drop (suc i) pending) reads =
         subst (λ zs. IsState start (completed_calls past) (clock past) a zs
         (take i pending ++ u ∷ drop (suc i) pending) reads) f.was split_state in
         returned_holds later reads
         (subst (λ zs. IsState start (call ∷ completed_calls past) (at + 1) a zs
         (take i pending ++ drop (suc i) pending) reads) (sym f.is)
-        (state_filled start (completed_calls past) (clock past) a f.front f.slot f.back
+        (state_filled start (completed_calls past) (clock past) a f.prefix f.slot f.back
         (take i pending) u (drop (suc i) pending) reads call returned.later op
         (suits_done u.call.op r op returned.suits) refl (ap is_advance op) f.none f.low f.below
         s)))
 
     pub forced_at : u.call.op ≡ Advance → NoneFree slots u.noted
-        → Holds start (responding at w r ∷ past) a (slots ++ filled at (completion at r u.call)
+        → Holds start (responding at w r ∷ past) a (slots
+        ++ slot_of_call at (completion at r u.call)
         ∷ [])
         (remove pending i) reads
     unfolding call
     forced_at op none =
-        returned_holds (slots ++ filled at call ∷ []) reads
+        returned_holds (slots ++ slot_of_call at call ∷ []) reads
         (state_forced start (completed_calls past) (clock past) a slots (take i pending) u
         (drop (suc i) pending) reads call returned.later op
         (suits_done u.call.op r op returned.suits) refl (ap is_advance op) none split_state)
@@ -224,7 +227,7 @@ all_taken_calls P (s ∷ slots) h = go s.taken h.0 (all_taken_calls P slots h.1)
     go None k rest = rest
     go (Some c) k rest = All-cons P c (taken_calls slots) k rest
 
-module _ (start : ℕ) (calls : List Call) (t a : ℕ) (slots : List Slot) (pending : List Noted)
+module _ (start : ℕ) (calls : List Call) (t a : ℕ) (slots : List Slot) (pending : List NotedCall)
     (reads : List PlacedRead) (h : IsState start calls t a slots pending reads) where
   all_advances : All (λ (c : Call). is_advance c.op ≡ true) (taken_calls slots)
   all_advances =
@@ -297,17 +300,13 @@ module _ (start : ℕ) (calls : List Call) (t a : ℕ) (slots : List Slot) (pend
     counted = omega (arith, r.counted, made_taken r.from d);
   }
 
-both_true : (x y : Bool) → (x && y) ≡ true → x ≡ true
-both_true true y e = refl
-both_true false y e = e
-
 -- no more advances were invoked up to a position than in all
 invoked_less : (d : ℕ) (past : List Event) → invoked_upto d past ≤ advances_invoked past
 invoked_less d past = count_less (λ (x : Event). invokes_advance x.action && nat_le x.at d)
     (λ (x : Event). invokes_advance x.action) past (λ k x lt. both_true _ _)
 
 module _ (start : ℕ) (past : List Event) (at w : ℕ) (r : Reply) (a : ℕ) (slots : List Slot)
-    (pending : List Noted) (reads : List PlacedRead) (i : ℕ) (u : Noted)
+    (pending : List NotedCall) (reads : List PlacedRead) (i : ℕ) (u : NotedCall)
     (returned : IsReturned past at w r pending i u) (h : Holds start past a slots pending reads)
   where
     own_known : Contains (completed_calls (responding at w r ∷ past)) (completion at r u.call)
@@ -410,10 +409,10 @@ module _ (start : ℕ) (past : List Event) (at w : ℕ) (r : Reply) (a : ℕ) (s
         returned.is h.state.call) in
         omega (arith, own.within, length-map slots (λ (s : Slot). s.moment)))
 
--- AS THE CODE HAS IT
+-- THE STEPS AS THE CODE TAKES THEM
 
 pub invoked_into : (start : ℕ) (past : List Event) (x : Event) (j : ℕ) (op : Op) (a b : ℕ)
-    (slots : List Slot) (pending later : List Noted) (reads : List PlacedRead) (noted : ℕ)
+    (slots : List Slot) (pending later : List NotedCall) (reads : List PlacedRead) (noted : ℕ)
     → x.action ≡ Invoke j op → b ≡ a + one (is_advance op) → noted ≡ length slots
     → later ≡ pending ++ record { call = invoked_by x j op; noted = noted } ∷ []
     → IsHistoryOf (Eventcount start) (x ∷ past) → Holds start past a slots pending reads
@@ -423,15 +422,16 @@ invoked_into start past x j op a b slots pending later reads noted e more long i
     (sym (is ∙ ap (λ n. pending ++ record { call = invoked_by x j op; noted = n } ∷ []) long))
     (holds_invoked start past x j op a b slots pending reads e more history h)
 
--- a worker's pending call has its response r
-pub record Turn (past : List Event) (x : Event) (r : Reply) (pending rest : List Noted) (i : ℕ)
-    (u : Noted) : Type 0 where
+-- the event x is the response r of a worker's pending call
+pub record Turn (past : List Event) (x : Event) (r : Reply) (pending rest : List NotedCall) (i : ℕ)
+    (u : NotedCall) : Type 0 where
   pub returned : IsReturned past x.at x.worker r pending i u
   pub event : x ≡ responding x.at x.worker r
   pub rest_is : rest ≡ remove pending i
 
 pub turn : (start : ℕ) (past : List Event) (x : Event) (r : Reply) (a : ℕ) (slots : List Slot)
-    (pending rest : List Noted) (reads : List PlacedRead) (i : ℕ) (u : Noted) → x.action ≡ Respond r
+    (pending rest : List NotedCall) (reads : List PlacedRead) (i : ℕ) (u : NotedCall)
+    → x.action ≡ Respond r
     → IsCallAt pending x.worker i → u ≡ get_or pending i u → rest ≡ remove pending i
     → IsHistoryOf (Eventcount start) (x ∷ past) → Holds start past a slots pending reads
     → Turn past x r pending rest i u
@@ -456,7 +456,7 @@ advance_is Advance e = refl
 advance_is op e = cc
 
 module _ (start : ℕ) (past : List Event) (x : Event) (r : Reply) (a : ℕ) (slots : List Slot)
-    (pending rest : List Noted) (reads : List PlacedRead) (i : ℕ) (u : Noted)
+    (pending rest : List NotedCall) (reads : List PlacedRead) (i : ℕ) (u : NotedCall)
     (t : Turn past x r pending rest i u) (h : Holds start past a slots pending reads) where
   turned : (later : List Slot) (more : List PlacedRead)
       → Holds start (responding x.at x.worker r ∷ past) a later (remove pending i) more
@@ -472,12 +472,12 @@ module _ (start : ℕ) (past : List Event) (x : Event) (r : Reply) (a : ℕ) (sl
       reads i u t.returned h later (advance_is u.call.op op) f)
 
   pub forced_into : (same later : List Slot) → is_advance u.call.op ≡ true → NoneFree slots u.noted
-      → same ≡ slots → later ≡ same ++ filled x.at (completion x.at r u.call) ∷ []
+      → same ≡ slots → later ≡ same ++ slot_of_call x.at (completion x.at r u.call) ∷ []
       → Holds start (x ∷ past) a later rest reads
   forced_into same later op none stays is =
       subst (λ zs. Holds start (x ∷ past) a zs rest reads)
-      (sym (is ∙ ap (λ zs. zs ++ filled x.at (completion x.at r u.call) ∷ []) stays))
-      (turned (slots ++ filled x.at (completion x.at r u.call) ∷ []) reads
+      (sym (is ∙ ap (λ zs. zs ++ slot_of_call x.at (completion x.at r u.call) ∷ []) stays))
+      (turned (slots ++ slot_of_call x.at (completion x.at r u.call) ∷ []) reads
       (forced_at start past x.at x.worker r a slots pending reads i u t.returned h
       (advance_is u.call.op op) none))
 

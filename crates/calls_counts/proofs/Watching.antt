@@ -1,4 +1,4 @@
--- A monitor keeps the number of the slots and the places of the free ones.
+-- The steps of a monitor, which has the number of the slots and the indices of the free ones.
 use Rattle.std.proofs.Common.{Bool, true, false, ◌&&◌, cond, ◌≡◌, ℕ, zero, suc, ◌+◌, ◌-◌, ◌<◌, ◌≤◌}
 use Rattle.std.proofs.Common.{inl, List, [], ◌∷◌, ◌++◌, length, Option, Some, None, refl, ap, sym}
 use Rattle.std.proofs.Common.{◌∙◌, arith, subst, get_or, Result, Ok, Err, append_assoc, append-nil}
@@ -10,7 +10,7 @@ use Rattle.calls_core.specs.declared.history.Event.{Event}
 use Rattle.calls_core.specs.declared.history.Reply.{Reply}
 use Rattle.calls_core.specs.declared.history.Call.{Call}
 use Rattle.calls_counts.specs.declared.state.Slot.{Slot}
-use Rattle.calls_counts.specs.declared.state.Noted.{Noted}
+use Rattle.calls_counts.specs.declared.state.NotedCall.{NotedCall}
 use Rattle.calls_core.specs.Lists.{Each, EachFrom}
 use Rattle.calls_core.specs.declared.history.Action.TheVariants.{Invoke, Respond}
 use Rattle.calls_core.specs.declared.history.Op.{Op}
@@ -21,7 +21,7 @@ use Rattle.calls_core.specs.Histories.{clock, completed_calls, completion, invok
 use Rattle.calls_counts.specs.Faults.{Reached, Contradicts, is_advance, least, most}
 use Rattle.calls_counts.specs.ScanStates.{free, frees, taken_calls, advancing, may_take, takers}
 use Rattle.calls_counts.specs.ScanStates.{Enough}
-use Rattle.calls_counts.specs.Scanning.{IsCallAt, FreeBelow, filled, IsNew, IsRefused}
+use Rattle.calls_counts.specs.Scanning.{IsCallAt, FreeBelow, slot_of_call, IsNew, IsRefused}
 use Rattle.calls_core.specs.declared.history.TheConstants.{WORKERS}
 use Rattle.calls_core.specs.Outcomes.{HasOrderOf}
 use Rattle.calls_counts.specs.declared.monitor.Refusal.{Refusal}
@@ -38,7 +38,7 @@ use Rattle.calls_counts.proofs.Stepping.{observed_into, refused_into, noted_in, 
 use Rattle.calls_counts.proofs.Deciding.{starts, First, kept_has_order}
 use Rattle.calls_counts.proofs.Exactly.{too_few, seen_by}
 
--- PLACES
+-- INDICES OF FREE SLOTS
 
 pub places_length : (p n : ℕ) → length (places p n) ≡ n
 places_length p zero = refl
@@ -81,16 +81,18 @@ pub free_raised : (m : ℕ) (slots new : List Slot) → Each (IsNew m) new
 free_raised m slots new h = free_append 0 (length slots) slots new (omega arith) ∙ ap (λ ps.
     free_places 0 slots ++ ps) (free_new m (length slots) new h)
 
-pub free_forced : (slots : List Slot) (m : ℕ) (c : Call) → free_places 0 (slots ++ filled m c ∷ [])
+pub free_forced : (slots : List Slot) (m : ℕ) (c : Call)
+    → free_places 0 (slots ++ slot_of_call m c ∷ [])
     ≡ free_places 0 slots
-free_forced slots m c = free_append 0 (length slots) slots (filled m c ∷ []) (omega arith)
+free_forced slots m c = free_append 0 (length slots) slots (slot_of_call m c ∷ []) (omega arith)
     ∙ append-nil (free_places 0 slots)
 
--- THE FIRST FREE PLACE FROM n ON
+-- THE FIRST FREE SLOT FROM INDEX n ON
 
 pub record Pick (n i k : ℕ) (slots : List Slot) (ps : List ℕ) : Type 0 where
   pub first : First n i slots
-  pub rest : (c : Call) → free_places i (first.front ++ filled first.slot.moment c ∷ first.back)
+  pub rest : (c : Call)
+      → free_places i (first.prefix ++ slot_of_call first.slot.moment c ∷ first.back)
       ≡ remove ps k
 
 pub pick : (n i : ℕ) (slots : List Slot) (k : ℕ) (ps : List ℕ) → ps ≡ free_places i slots
@@ -112,7 +114,7 @@ pick n i (s ∷ slots) k ps e lt ge below = go s.taken refl k lt ge below (λ j 
         let f = r.first in
         record {
           first = record {
-            front = s ∷ f.front;
+            prefix = s ∷ f.prefix;
             slot = f.slot;
             back = f.back;
             is =
@@ -122,7 +124,8 @@ pick n i (s ∷ slots) k ps e lt ge below = go s.taken refl k lt ge below (λ j 
             below =
                 (λ none. absurd (let both : Some d ≡ None = sym t ∙ none in cc), f.below);
           };
-          rest = λ c. ap (λ o. own_place i o (free_places (i + 1) (f.front ++ filled f.slot.moment c
+          rest = λ c. ap (λ o. own_place i o (free_places (i + 1) (f.prefix
+              ++ slot_of_call f.slot.moment c
               ∷ f.back))) t ∙ r.rest c;
         }
     go None t zero lt ge below rec =
@@ -130,7 +133,7 @@ pick n i (s ∷ slots) k ps e lt ge below = go s.taken refl k lt ge below (λ j 
         own_place i o (free_places (i + 1) slots)) t in
         record {
           first = record {
-            front = [];
+            prefix = [];
             slot = s;
             back = slots;
             is = refl;
@@ -151,7 +154,7 @@ pick n i (s ∷ slots) k ps e lt ge below = go s.taken refl k lt ge below (λ j 
         let own : i < n = subst (λ qs. get_or qs 0 0 < n) is (below 0 (omega arith)) in
         record {
           first = record {
-            front = s ∷ f.front;
+            prefix = s ∷ f.prefix;
             slot = f.slot;
             back = f.back;
             is =
@@ -161,7 +164,8 @@ pick n i (s ∷ slots) k ps e lt ge below = go s.taken refl k lt ge below (λ j 
             below =
                 (λ none. own, f.below);
           };
-          rest = λ c. ap (λ o. own_place i o (free_places (i + 1) (f.front ++ filled f.slot.moment c
+          rest = λ c. ap (λ o. own_place i o (free_places (i + 1) (f.prefix
+              ++ slot_of_call f.slot.moment c
               ∷ f.back))) t ∙ ap (λ qs. i ∷ qs) (r.rest c) ∙ ap (λ qs. remove qs (suc j)) (sym is);
         }
 
@@ -186,7 +190,7 @@ none_from n i (s ∷ slots) ps e below = go s.taken refl (λ qs. none_from n (i 
               (below (suc l) (omega (arith, ap length is)))),
         ))
 
--- NO MORE PLACES THAN PENDING ADVANCES
+-- NO MORE FREE SLOTS THAN PENDING ADVANCES
 
 enough_few : (f : ℕ → ℕ) (b : ℕ) → ((i : ℕ) → f i ≤ b) → (n i : ℕ) (slots : List Slot)
     → Enough f n i slots → 0 < frees slots → n + frees slots ≤ b
@@ -219,8 +223,8 @@ few_of : (k b : ℕ) → (0 < k → 0 + k ≤ b) → k ≤ b
 few_of zero b h = omega arith
 few_of (suc k) b h = (let le : 0 + suc k ≤ b = h (omega arith) in omega arith)
 
-takers_few : (pending : List Noted) (i : ℕ) → takers pending i ≤ advancing pending
-takers_few pending i = count_less (may_take i) (λ (u : Noted). is_advance u.call.op) pending
+takers_few : (pending : List NotedCall) (i : ℕ) → takers pending i ≤ advancing pending
+takers_few pending i = count_less (may_take i) (λ (u : NotedCall). is_advance u.call.op) pending
     (λ k u lt. first_of_two _ _)
   where
     first_of_two : (a b : Bool) → (a && b) ≡ true → a ≡ true
@@ -228,7 +232,7 @@ takers_few pending i = count_less (may_take i) (λ (u : Noted). is_advance u.cal
     first_of_two false b e = e
 
 pub places_few : (start : ℕ) (past : List Event) (begun total : ℕ) (free : List ℕ)
-    (pending : List Noted) → Watching start past begun total free pending
+    (pending : List NotedCall) → Watching start past begun total free pending
     → length free ≤ advancing pending
 places_few start past begun total free pending w =
     let le = few_of (frees w.slots) (advancing pending) (enough_few (takers pending)
@@ -236,7 +240,7 @@ places_few start past begun total free pending w =
     omega (arith, le, ap length w.free_is, free_counted 0 w.slots)
 
 pub total_few : (start : ℕ) (past : List Event) (begun total : ℕ) (free : List ℕ)
-    (pending : List Noted) → Watching start past begun total free pending → total ≤ begun
+    (pending : List NotedCall) → Watching start past begun total free pending → total ≤ begun
 total_few start past begun total free pending w =
     let le = places_few start past begun total free pending w in
     let all : begun ≡ length (taken_calls w.slots) + advancing pending = w.holds.state.total in
@@ -283,13 +287,13 @@ watched_start start = record {
 }
 
 pub watched_order : (start : ℕ) (past : List Event) (begun total : ℕ) (free : List ℕ)
-    (pending : List Noted) → IsHistoryOf (Eventcount start) past
+    (pending : List NotedCall) → IsHistoryOf (Eventcount start) past
     → Watching start past begun total free pending → HasOrderOf (Eventcount start) past
 watched_order start past begun total free pending history w =
     kept_has_order start past begun w.slots pending w.reads history w.holds
 
 pub watched_invoked : (start : ℕ) (past : List Event) (x : Event) (j : ℕ) (op : Op)
-    (begun b total : ℕ) (free : List ℕ) (pending later : List Noted) → x.action ≡ Invoke j op
+    (begun b total : ℕ) (free : List ℕ) (pending later : List NotedCall) → x.action ≡ Invoke j op
     → b ≡ begun + one (is_advance op)
     → later ≡ pending ++ record { call = invoked_by x j op; noted = total } ∷ []
     → IsHistoryOf (Eventcount start) (x ∷ past) → Watching start past begun total free pending
@@ -304,7 +308,7 @@ watched_invoked start past x j op begun b total free pending later e more is his
 }
 
 module _ (start : ℕ) (past : List Event) (x : Event) (r : Reply) (begun total : ℕ) (free : List ℕ)
-    (pending rest : List Noted) (i : ℕ) (u : Noted) (e : x.action ≡ Respond r)
+    (pending rest : List NotedCall) (i : ℕ) (u : NotedCall) (e : x.action ≡ Respond r)
     (k : IsCallAt pending x.worker i) (read : u ≡ get_or pending i u) (is : rest ≡ remove pending i)
     (history : IsHistoryOf (Eventcount start) (x ∷ past))
     (w : Watching start past begun total free pending) where
@@ -317,17 +321,17 @@ module _ (start : ℕ) (past : List Event) (x : Event) (r : Reply) (begun total 
   watched_filled j more adds f gone =
       (let p = pick u.noted 0 w.slots j free w.free_is f.within f.high f.below in
       let c = completion x.at r u.call in
-      let front = p.first.front in
+      let prefix = p.first.prefix in
       let back = p.first.back in
       let s = p.first.slot in
-      let later : List Slot = front ++ filled s.moment c ∷ back in
+      let later : List Slot = prefix ++ slot_of_call s.moment c ∷ back in
       record {
         slots = later;
         reads = w.reads;
         holds = filled_into start past x r begun w.slots pending rest w.reads i u turned w.holds
             later adds
             (record {
-              front = front;
+              prefix = prefix;
               slot = s;
               back = back;
               was = p.first.is;
@@ -341,9 +345,9 @@ module _ (start : ℕ) (past : List Event) (x : Event) (r : Reply) (begun total 
           arith,
           w.total_is,
           ap length p.first.is,
-          length-append front
+          length-append prefix
               (s ∷ back),
-          length-append front (filled s.moment c ∷ back),
+          length-append prefix (slot_of_call s.moment c ∷ back),
         );
         free_is = gone ∙ sym (p.rest c);
       })
@@ -354,12 +358,12 @@ module _ (start : ℕ) (past : List Event) (x : Event) (r : Reply) (begun total 
   watched_forced later adds below one_more =
       (let c = completion x.at r u.call in
       record {
-        slots = w.slots ++ filled x.at c ∷ [];
+        slots = w.slots ++ slot_of_call x.at c ∷ [];
         reads = w.reads;
         holds = forced_into start past x r begun w.slots pending rest w.reads i u turned w.holds
-            w.slots (w.slots ++ filled x.at c ∷ []) adds
+            w.slots (w.slots ++ slot_of_call x.at c ∷ []) adds
             (none_from u.noted 0 w.slots free w.free_is below) refl refl;
-        total_is = omega (arith, w.total_is, one_more, length-append w.slots (filled x.at c ∷ []));
+        total_is = omega (arith, w.total_is, one_more, length-append w.slots (slot_of_call x.at c ∷ []));
         free_is = w.free_is ∙ sym (free_forced w.slots x.at c);
       })
 
@@ -380,7 +384,7 @@ module _ (start : ℕ) (past : List Event) (x : Event) (r : Reply) (begun total 
       let frees_are : length free ≡ frees w.slots = ap length w.free_is ∙ free_counted 0 w.slots in
       let all : begun ≡ length (taken_calls w.slots) + advancing pending = w.holds.state.total in
       let at_most : advancing pending ≤ length pending =
-      count_by-le-length (λ (v : Noted). is_advance v.call.op) pending in
+      count_by-le-length (λ (v : NotedCall). is_advance v.call.op) pending in
       let enough : n ≤ start + begun = p.few in
       let room : total < n - start → length free + ((n - start) - total) ≤ WORKERS = λ lt.
       omega (arith, lt, frees_are, all, at_most, enough, slots_counted w.slots, w.total_is, few)

@@ -1,4 +1,4 @@
--- Runs of an eventcount by its one number. Only the proofs use this form.
+-- Legal sequential histories of an eventcount, by its count. Only the proofs use this form.
 use Rattle.std.specs.Prelude.{◌≡◌, ℕ, ◌+◌, ◌<◌, ◌≤◌, List, [], ◌∷◌}
 use Rattle.std.specs.List.{AllPairs}
 use Rattle.std.specs.List.Sorted.{IsPermutation}
@@ -18,18 +18,18 @@ CountGives n (Await v) (Number m) = (v ≤ n) × (m ≡ n)
 CountGives n (Await v) Timeout = n < v
 CountGives n _ r = Unit {0}
 
--- the number after a call
+-- the count after a call
 abbrev pub count_after : ℕ → Op → ℕ
 count_after n Advance = n + 1
 count_after n _ = n
 
--- the calls, one after another from the number n on
+-- whether the calls, one after another from the count n on, are a legal sequential history
 abbrev pub IsCountRun : ℕ → List Call → Type 0
 IsCountRun n [] = Unit {0}
 IsCountRun n (c ∷ cs) = CountGives n c.op c.reply × IsCountRun (count_after n c.op) cs
 
--- the calls, each once and no others, in an order that keeps the real-time order and is a run from
--- start on
+-- the calls, each once and no others, in an order that keeps the real-time order and is a legal
+-- sequential history from the count start on
 pub record IsCountOrder (start : ℕ) (calls cs : List Call) : Type 0 where
   pub each_once : IsPermutation calls cs
   pub in_order : AllPairs KeepsOrder cs

@@ -75,19 +75,19 @@ pub record FromBelow (past : List Event) (c : Call) : Type 0 where
   pub known : Contains (completed_calls past) c
   pub below : Contradicts c.op c.reply
 
--- it says more than the advances that were invoked up to its response
+-- it says more than the advances make that were invoked up to its response
 pub record FromFew (start : ℕ) (past : List Event) (c : Call) : Type 0 where
   pub known : Contains (completed_calls past) c
   pub reading : is_advance c.op ≡ false
   pub more : start + invoked_upto c.last past < least c.op c.reply
 
--- it says less than the advances that had their responses before its invocation
+-- it says less than the advances make that returned before its invocation
 pub record FromMany (start : ℕ) (past : List Event) (c : Call) : Type 0 where
   pub number : ℕ
   pub call : SaysAtMost past c number
   pub fewer : number < start + made_between 0 c.first (completed_calls past)
 
--- it says less than what an earlier call s had said, with the advances that lie between the two
+-- it says less than an earlier call s, plus the advances that lie between the two
 pub record FromSince (past : List Event) (c s : Call) : Type 0 where
   pub number : ℕ
   pub call : SaysAtMost past c number
@@ -97,7 +97,7 @@ pub record FromSince (past : List Event) (c s : Call) : Type 0 where
   pub fewer : number < least s.op s.reply
       + made_between (s.last + 1) c.first (completed_calls past)
 
--- what is so if a fault is shown, of an eventcount that is start at first
+-- what each fault says about the history, if the eventcount is start at first
 abbrev pub Shows : ℕ → List Event → Fault → Type 0
 Shows start past (Below c) = FromBelow past c
 Shows start past (Few c) = FromFew start past c
@@ -106,8 +106,8 @@ Shows start past (Since c s) = FromSince past c s
 
 -- WHAT THE COUNT HAS REACHED
 
--- a completed read or await with its response before position d: from there on each advance counts
--- beyond what it says
+-- a completed read or await with its response before position d: each advance after it adds one to
+-- what it says
 pub record Source (calls : List Call) (d from base : ℕ) : Type 0 where
   pub call : Call
   pub known : Contains calls call

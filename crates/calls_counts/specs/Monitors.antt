@@ -1,4 +1,4 @@
--- What a monitor says.
+-- What a monitor represents, and its verdicts.
 use Rattle.std.specs.Prelude.{◌≡◌, ℕ, ◌+◌, ◌<◌, ◌≤◌, List, [], ◌∷◌, Some, Result, Ok, Err}
 use Rattle.calls_core.specs.declared.history.TheConstants.{WORKERS}
 use Rattle.calls_core.specs.declared.history.Kind.TheVariants.{Eventcount}
@@ -15,7 +15,7 @@ use Rattle.calls_counts.specs.declared.monitor.Refusal.TheVariants.{Below, Few, 
 use Rattle.calls_counts.specs.Faults.{least, most, Contradicts, advances_invoked, Reached, Shows}
 use Rattle.calls_counts.specs.Watching.{Watching}
 
--- the monitor has seen the events of a past
+-- the monitor represents the history so far
 abbrev pub Watches : List Event → Monitor → Type 0
 Watches past m = Watching m.start past m.begun m.total m.free.items m.pending.items
 
@@ -28,7 +28,7 @@ abbrev pub HasRoom : Action → ℕ → Type 0
 HasRoom (Invoke k op) n = n < WORKERS
 HasRoom (Respond r) n = Unit {0}
 
--- it has seen the longer past, and that has a linearization. So `begun` is at most the number of
+-- the monitor represents this history, and it has a linearization. `begun` is at most the number of
 -- events: as long as there are fewer than 2^64 - 1, it leaves room for the next one
 pub record IsTaken (start : ℕ) (past : List Event) (new : Monitor) : Type 0 where
   pub same : new.start ≡ start
@@ -42,7 +42,7 @@ refused_call (Below c) = c
 refused_call (Few c low invoked) = c
 refused_call (Many c high made) = c
 
--- why a call is impossible after a past
+-- why a call is impossible after the history so far
 abbrev pub Explains : ℕ → List Event → Refusal → Type 0
 Explains start past (Below c) = Contradicts c.op c.reply
 Explains start past (Few c low invoked) =
@@ -51,7 +51,7 @@ Explains start past (Many c high made) =
     (most c.op c.reply ≡ Some high) × (high < start + made)
     × Reached start (completed_calls past) c.first (start + made)
 
--- with the event a fault is shown, so there is no linearization; and this is why
+-- the event shows a fault, so the history has no linearization; and f explains why
 pub record IsRefusedAt (start : ℕ) (past : List Event) (x : Event) (f : Refusal) : Type 0 where
   pub fault : Fault
   pub shows : Shows start (x ∷ past) fault
@@ -63,7 +63,7 @@ abbrev pub Verdict : ℕ → List Event → Event → Monitor → Result Unit Re
 Verdict start past x new (Ok u) = IsTaken start (x ∷ past) new
 Verdict start past x new (Err f) = IsRefusedAt start past x f
 
--- after any history that it has seen
+-- the verdict on the event, for every history that the old monitor represents
 abbrev pub Judges : Monitor → Monitor → Event → Result Unit Refusal → Type 0
 Judges old new x result =
     (past : List Event) → IsHistoryOf (Eventcount old.start) (x ∷ past) → Watches past old

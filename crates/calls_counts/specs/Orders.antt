@@ -1,4 +1,4 @@
--- The order that the scan gives. Only the proofs and the private contracts use this.
+-- The order that the scan returns. Only the proofs and the private contracts use this.
 use Rattle.std.specs.Prelude.{◌≡◌, ◌<◌, ◌≤◌, length, ℕ, ◌+◌, ◌==◌, nat_le, List, [], ◌∷◌, ◌++◌}
 use Rattle.std.specs.List.{filter, AllWithin}
 use Rattle.std.specs.List.Sorted.{IsPermutation}

@@ -1,4 +1,4 @@
--- What the decision says.
+-- What the outcome of a decision says.
 use Rattle.std.specs.Prelude.{ℕ, List, reverse}
 use Rattle.calls_core.specs.declared.history.Kind.TheVariants.{Eventcount}
 use Rattle.calls_core.specs.declared.history.Event.{Event}
@@ -7,8 +7,7 @@ use Rattle.calls_counts.specs.declared.outcome.Outcome.{Outcome}
 use Rattle.calls_counts.specs.declared.outcome.Outcome.TheVariants.{Ordered, Refused}
 use Rattle.calls_counts.specs.Faults.{Shows}
 
--- of an eventcount that is start at first, if a pending call that took effect has its response at
--- end
+-- for an eventcount that is start at first; a pending call that took effect has its response at end
 abbrev pub IsOutcome : ℕ → List Event → ℕ → Outcome → Type 0
 IsOutcome start events end (Ordered v) =
     IsOrderOf (Eventcount start) (reverse events) end v

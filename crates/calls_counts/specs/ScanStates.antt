@@ -1,4 +1,4 @@
--- What the scan keeps. Only the proofs use this.
+-- The invariant of the scan. Only the proofs and the private contracts use this.
 use Rattle.std.specs.Prelude.{◌≡◌, ℕ, ◌+◌, ◌<◌, ◌≤◌, Bool, true, false, ◌&&◌, nat_le, count_by}
 use Rattle.std.specs.Prelude.{List, [], ◌∷◌, ◌++◌, length, map, Option, Some, None, IfSome}
 use Rattle.std.specs.Prelude.{if◌then◌else◌}
@@ -9,7 +9,7 @@ use Rattle.calls_core.specs.declared.history.Reply.TheVariants.{Done}
 use Rattle.calls_core.specs.declared.history.PendingCall.{PendingCall}
 use Rattle.calls_core.specs.declared.history.Call.{Call}
 use Rattle.calls_counts.specs.declared.state.Slot.{Slot}
-use Rattle.calls_counts.specs.declared.state.Noted.{Noted}
+use Rattle.calls_counts.specs.declared.state.NotedCall.{NotedCall}
 use Rattle.calls_counts.specs.declared.state.PlacedRead.{PlacedRead}
 use Rattle.calls_counts.specs.CountRuns.{CountGives}
 use Rattle.calls_counts.specs.Faults.{is_advance, least, Reached}
@@ -32,8 +32,8 @@ moments slots = map (λ (s : Slot). s.moment) slots
 abbrev pub placed_calls : List PlacedRead → List Call
 placed_calls reads = map (λ (p : PlacedRead). p.call) reads
 
-abbrev pub noted_calls : List Noted → List PendingCall
-noted_calls pending = map (λ (u : Noted). u.call) pending
+abbrev pub noted_calls : List NotedCall → List PendingCall
+noted_calls pending = map (λ (u : NotedCall). u.call) pending
 
 -- SLOTS
 
@@ -70,25 +70,25 @@ pub record Rises (s z : Slot) : Type 0 where
 abbrev pub IsAround : ℕ → ℕ → ℕ → ℕ → Type 0
 IsAround n f i m = (i < n → m < f) × (n ≤ i → f < m)
 
-pub record IsNotedCall (start : ℕ) (calls : List Call) (t : ℕ) (ms : List ℕ) (u : Noted) : Type 0
+pub record IsNotedCall (start : ℕ) (calls : List Call) (t : ℕ) (ms : List ℕ) (u : NotedCall) : Type 0
   where
     pub early : u.call.first < t
     pub within : u.noted ≤ length ms
     pub around : EachFrom (IsAround u.noted u.call.first) 0 ms
     pub reached : Reached start calls u.call.first (start + u.noted)
 
--- a pending advance that may take the slot at place i
-abbrev pub may_take : ℕ → Noted → Bool
+-- whether a pending advance may take the slot at index i
+abbrev pub may_take : ℕ → NotedCall → Bool
 may_take i u = is_advance u.call.op && nat_le u.noted i
 
-abbrev pub takers : List Noted → ℕ → ℕ
+abbrev pub takers : List NotedCall → ℕ → ℕ
 takers pending i = count_by (may_take i) pending
 
-abbrev pub advancing : List Noted → ℕ
-advancing pending = count_by (λ (u : Noted). is_advance u.call.op) pending
+abbrev pub advancing : List NotedCall → ℕ
+advancing pending = count_by (λ (u : NotedCall). is_advance u.call.op) pending
 
--- for each free slot as many pending advances may take it as there are free slots up to it; n are
--- free before
+-- each free slot may be taken by at least as many pending advances as there are free slots up to
+-- it; n are free before
 abbrev pub Enough : (ℕ → ℕ) → ℕ → ℕ → List Slot → Type 0
 Enough f n i [] = Unit {0}
 Enough f n i (s ∷ slots) = (s.taken ≡ None → n < f i) × Enough f ((if free s.taken then 1 else 0)
@@ -109,12 +109,12 @@ pub record IsReadAt (start t : ℕ) (ms : List ℕ) (p : PlacedRead) : Type 0 wh
   pub gives : CountGives (start + p.place) p.call.op p.call.reply
   pub around : EachFrom (IsPlaced p.place p.call.first p.call.last) 0 ms
 
--- THE WHOLE
+-- THE WHOLE STATE
 
 -- after some events: the completed calls, the first position after the events, and how many
 -- advances were invoked
 pub record IsState (start : ℕ) (calls : List Call) (t invoked : ℕ) (slots : List Slot)
-    (pending : List Noted) (reads : List PlacedRead) : Type 0 where
+    (pending : List NotedCall) (reads : List PlacedRead) : Type 0 where
   pub all : IsPermutation calls (taken_calls slots ++ placed_calls reads)
   pub total : invoked ≡ length (taken_calls slots) + advancing pending
   pub slot : EachFrom (IsSlotAt start calls t) 0 slots

@@ -7,7 +7,7 @@ use Rattle.calls_core.specs.declared.history.Kind.TheVariants.{Eventcount}
 use Rattle.calls_core.specs.declared.history.Event.{Event}
 use Rattle.calls_core.specs.declared.history.Call.{Call}
 use Rattle.calls_counts.specs.declared.state.Slot.{Slot}
-use Rattle.calls_counts.specs.declared.state.Noted.{Noted}
+use Rattle.calls_counts.specs.declared.state.NotedCall.{NotedCall}
 use Rattle.calls_counts.specs.declared.state.PlacedRead.{PlacedRead}
 use Rattle.calls_counts.specs.declared.fault.Fault.{Fault}
 use Rattle.calls_counts.specs.declared.fault.Fault.TheVariants.{Below, Few, Many, Since}
@@ -26,23 +26,23 @@ use Rattle.calls_core.specs.Lists.{Each, EachFrom, EachPair}
 use Rattle.calls_counts.specs.ScanStates.{noted_calls, taken_calls, placed_calls, moments, IsState}
 
 -- the pending call of a worker is at index i
-pub record IsCallAt (pending : List Noted) (w i : ℕ) : Type 0 where
-  pub call : Noted
+pub record IsCallAt (pending : List NotedCall) (w i : ℕ) : Type 0 where
+  pub call : NotedCall
   pub at : slice_get pending i ≡ Some call
   pub first : pending_of w (noted_calls pending) ≡ Some call.call
   pub others : without w (noted_calls pending) ≡ noted_calls (remove pending i)
 
 -- FREE SLOTS
 
--- the slot at place i, if it is free, is before place n
+-- the slot at index i, if it is free, is before index n
 abbrev pub FreeBelow : ℕ → ℕ → Slot → Type 0
 FreeBelow n i s = s.taken ≡ None → i < n
 
--- no slot is free from place n on
+-- no slot is free from index n on
 abbrev pub NoneFree : List Slot → ℕ → Type 0
 NoneFree slots n = EachFrom (FreeBelow n) 0 slots
 
--- the slot at place i is the first that is free from place n on
+-- the slot at index i is the first that is free from index n on
 pub record IsFirstFree (slots : List Slot) (n i : ℕ) : Type 0 where
   pub slot : Slot
   pub at : slice_get slots i ≡ Some slot
@@ -50,33 +50,33 @@ pub record IsFirstFree (slots : List Slot) (n i : ℕ) : Type 0 where
   pub low : n ≤ i
   pub before : (k : ℕ) (s : Slot) → k < i → slice_get slots k ≡ Some s → FreeBelow n k s
 
--- no slot is free from each place on up to the place that is known of it
+-- no slot is free from an index up to the entry of next at this index
 pub record Skips (slots : List Slot) (next : List ℕ) : Type 0 where
   pub within : (i : ℕ) → slice_index next i ≤ length slots
   pub none : (i j : ℕ) (s : Slot) → i ≤ j → j < slice_index next i → slice_get slots j ≡ Some s
       → s.taken ≡ None → ⊥
 
-abbrev pub filled : ℕ → Call → Slot
-filled m c = record { moment = m; taken = Some c }
+abbrev pub slot_of_call : ℕ → Call → Slot
+slot_of_call m c = record { moment = m; taken = Some c }
 
--- the first slot that was free from place n on is taken by c, and the others are as they were
+-- the first slot that was free from index n on is taken by c, and the others are unchanged
 pub record IsFilled (old new : List Slot) (n : ℕ) (c : Call) : Type 0 where
-  pub front : List Slot
+  pub prefix : List Slot
   pub slot : Slot
   pub back : List Slot
-  pub was : old ≡ front ++ slot ∷ back
-  pub is : new ≡ front ++ filled slot.moment c ∷ back
+  pub was : old ≡ prefix ++ slot ∷ back
+  pub is : new ≡ prefix ++ slot_of_call slot.moment c ∷ back
   pub none : slot.taken ≡ None
-  pub low : n ≤ length front
-  pub below : NoneFree front n
+  pub low : n ≤ length prefix
+  pub below : NoneFree prefix n
 
 -- the invocation of a slot's advance, if its response is before position d
 abbrev pub invoked_before : ℕ → Option Call → Option ℕ
 invoked_before d None = None
 invoked_before d (Some c) = if is_advance c.op && nat_lt c.last d then Some c.first else None
 
--- as many of these numbers are at least a as there are advances with slots that were invoked at a
--- or later and have their responses before position d
+-- for each a, as many of these numbers are at least a as there are advances with slots that were
+-- invoked at a or later and respond before position d
 abbrev pub AreInvocations : List Slot → ℕ → List ℕ → Type 0
 AreInvocations slots d firsts = (a : ℕ) → count_by (λ f. nat_le a f) firsts ≡ made_between a d
     (taken_calls slots)
@@ -95,12 +95,12 @@ pub record IsRaised (old new : List Slot) (n m : ℕ) : Type 0 where
 
 -- READS AND AWAITS
 
--- number is less than what s says with the advances that lie between s and call
+-- number is less than s says, plus the advances that lie between s and call
 pub record IsFewer (slots : List Slot) (s call : Call) (number : ℕ) : Type 0 where
   pub before : s.last < call.first
   pub fewer : number < least s.op s.reply + made_between (s.last + 1) call.first (taken_calls slots)
 
--- number is too little for a call, and f shows it
+-- number is too small for a call, and f shows it
 abbrev pub IsTooLittle : ℕ → List Slot → List PlacedRead → Call → ℕ → Fault → Type 0
 IsTooLittle start slots reads call number (Below c) = ⊥
 IsTooLittle start slots reads call number (Few c) = ⊥
@@ -109,7 +109,7 @@ IsTooLittle start slots reads call number (Many c) = (c ≡ call)
 IsTooLittle start slots reads call number (Since c s) = (c ≡ call) × Contains (placed_calls reads) s
     × IsFewer slots s call number
 
--- a read or an await takes its place
+-- a read or an await has its place among the slots, to which free ones may be added
 pub record IsObserved (start begun noted : ℕ) (call : Call) (slots later : List Slot)
     (reads more_reads : List PlacedRead) : Type 0 where
   pub more : List Slot
@@ -123,8 +123,8 @@ pub record IsObserved (start begun noted : ℕ) (call : Call) (slots later : Lis
   pub least_is : 0 < length more → start + (length slots + length more) ≤ least call.op call.reply
   pub room : 0 < length more → length slots + length more ≤ begun
 
--- a read or an await that has its place, with its response before position d: from there on each
--- advance counts beyond base
+-- a placed read or await with its response before position d: each advance after it adds one to
+-- base
 pub record IsSource (reads : List PlacedRead) (d from base : ℕ) : Type 0 where
   pub call : Call
   pub known : Contains (placed_calls reads) call
@@ -149,7 +149,7 @@ pub record IsUnderRated (start noted : ℕ) (call : Call) (slots : List Slot)
   pub is : IsReckoned start slots reads call.first (start + noted)
       → IsTooLittle start slots reads call number f
 
--- or the call is wrong by itself
+-- the call is wrong by itself, with the number of invoked advances
 abbrev pub IsWrong : ℕ → ℕ → Call → Fault → Type 0
 IsWrong start begun call (Below c) = (c ≡ call) × Contradicts call.op call.reply
 IsWrong start begun call (Few c) = (c ≡ call) × (start + begun < least call.op call.reply)
@@ -163,7 +163,7 @@ IsRefused start begun noted call slots reads f = IsWrong start begun call f
 -- THE SCAN
 
 pub record Holds (start : ℕ) (past : List Event) (begun : ℕ) (slots : List Slot)
-    (pending : List Noted) (reads : List PlacedRead) : Type 0 where
+    (pending : List NotedCall) (reads : List PlacedRead) : Type 0 where
   pub state : IsState start (completed_calls past) (clock past) begun slots pending reads
   pub begun_is : begun ≡ advances_invoked past
   pub pending_is : noted_calls pending ≡ pending_calls past
@@ -172,30 +172,30 @@ pub record ScanKeeps (start : ℕ) (past : List Event) (scan : Scan) : Type 0 wh
   pub holds : Holds start past scan.begun scan.slots.items scan.pending.items scan.reads.items
   pub skips : Skips scan.slots.items scan.next.items
 
--- of any history that the scan keeps: with one more event it keeps that too, or that shows a fault
+-- for every history that the old scan represents: the new scan represents it with one more event,
+-- or the event shows the fault
 abbrev pub TakesIn : ℕ → Scan → Scan → Event → Option Fault → Type 0
 TakesIn start old new x fault = (past : List Event) → IsHistoryOf (Eventcount start) (x ∷ past)
     → ScanKeeps start past old → MatchOption fault (ScanKeeps start (x ∷ past) new)
     (Shows start (x ∷ past))
 
--- no slot is free from place u.noted on, if the call is an advance
-abbrev pub IsIdle : List Slot → Noted → Type 0
+-- no slot is free from index u.noted on, if the call is an advance
+abbrev pub IsIdle : List Slot → NotedCall → Type 0
 IsIdle slots u = is_advance u.call.op ≡ true → NoneFree slots u.noted
 
--- of the pending calls in front some are answered and the others kept, and those in back are still
--- to come
+-- the pending calls in prefix are answered or kept, and those in back are still to come
 pub record IsCompleting (start end : ℕ) (calls : List Call) (begun : ℕ) (slots : List Slot)
-    (reads : List PlacedRead) (front back : List Noted) : Type 0 where
+    (reads : List PlacedRead) (prefix back : List NotedCall) : Type 0 where
   pub answer : PendingCall → Option Reply
   pub answered : List Call
-  pub kept : List Noted
-  pub moved : IsPermutation (answered_calls end answer (noted_calls front)) answered
+  pub kept : List NotedCall
+  pub moved : IsPermutation (answered_calls end answer (noted_calls prefix)) answered
   pub state : IsState start (answered ++ calls) (end + 1) begun slots (kept ++ back) reads
   pub early : Each (λ m. m ≤ end) (moments slots)
   pub idle : Each (IsIdle slots) kept
 
 -- pending advances take the free slots as if they had their responses at end
-abbrev pub Completes : List Slot → List Slot → List ℕ → List Noted → ℕ → Type 0
+abbrev pub Completes : List Slot → List Slot → List ℕ → List NotedCall → ℕ → Type 0
 Completes slots later next pending end =
     Skips slots next → (start : ℕ) (calls : List Call) (t begun : ℕ) (reads : List PlacedRead)
     → t ≤ end → EachPair Earlier (noted_calls pending) → IsState start calls t begun slots pending

@@ -1,28 +1,28 @@
--- How a monitor's fields represent the events so far, and what its parts do. Only the proofs use
--- this.
+-- How a monitor's fields represent the events so far, and what its parts do. Of this, public
+-- contracts use only `Watching`.
 use Rattle.std.specs.Prelude.{◌≡◌, ℕ, zero, suc, ◌+◌, ◌-◌, ◌<◌, ◌≤◌, max, List, [], ◌∷◌, ◌++◌}
 use Rattle.std.specs.Prelude.{length, Option, Some, None, get_or, Result, Ok, Err}
 use Rattle.calls_core.specs.declared.history.TheConstants.{WORKERS}
 use Rattle.calls_core.specs.declared.history.Event.{Event}
 use Rattle.calls_core.specs.declared.history.Call.{Call}
 use Rattle.calls_counts.specs.declared.state.Slot.{Slot}
-use Rattle.calls_counts.specs.declared.state.Noted.{Noted}
+use Rattle.calls_counts.specs.declared.state.NotedCall.{NotedCall}
 use Rattle.calls_counts.specs.declared.state.PlacedRead.{PlacedRead}
 use Rattle.calls_counts.specs.declared.monitor.Refusal.{Refusal}
 use Rattle.calls_counts.specs.declared.monitor.Refusal.TheVariants.{Below, Few, Many}
 use Rattle.calls_counts.specs.Faults.{least, most, Contradicts}
 use Rattle.calls_counts.specs.Scanning.{Holds}
 
--- n places from p on
+-- the n indices from p on
 abbrev pub places : ℕ → ℕ → List ℕ
 places p zero = []
 places p (suc n) = p ∷ places (p + 1) n
 
--- the numbers of these places, up to index k, are below n
+-- the first k of these numbers are below n
 abbrev pub AllBelow : List ℕ → ℕ → ℕ → Type 0
 AllBelow ps n k = (j : ℕ) → j < k → get_or ps j 0 < n
 
--- at index k is the first place from n on
+-- the first of these numbers that is at least n is at index k
 pub record IsFirstPlace (ps : List ℕ) (n k : ℕ) : Type 0 where
   pub within : k < length ps
   pub high : n ≤ get_or ps k 0
@@ -32,15 +32,15 @@ abbrev pub own_place : ℕ → Option Call → List ℕ → List ℕ
 own_place i None ps = i ∷ ps
 own_place i (Some c) ps = ps
 
--- the places of the free slots, if the first slot has place i
+-- the indices of the free slots, if the first slot has index i
 abbrev pub free_places : ℕ → List Slot → List ℕ
 free_places i [] = []
 free_places i (s ∷ slots) = own_place i s.taken (free_places (i + 1) slots)
 
--- some slots and reads that the scan would keep, of which only the number of slots and the places
--- of the free ones are kept
+-- a state of the scan, of which the monitor has only the number of slots and the indices of the
+-- free ones
 pub record Watching (start : ℕ) (past : List Event) (begun total : ℕ) (free : List ℕ)
-    (pending : List Noted) : Type 0 where
+    (pending : List NotedCall) : Type 0 where
   pub slots : List Slot
   pub reads : List PlacedRead
   pub holds : Holds start past begun slots pending reads

@@ -9,10 +9,9 @@ pub enum Fault {
     /// It says that the count reached more than the advances that were invoked before its response
     /// can make.
     Few(Call),
-    /// It says that the count was less than the advances make that had their responses before its
-    /// invocation.
+    /// It says that the count was less than the advances make that returned before its invocation.
     Many(Call),
-    /// The first call says that the count was less than the second one, which it follows in real
-    /// time, says together with the advances that lie between the two.
+    /// The first call follows the second one in real time. It says that the count was less than
+    /// the second one says, plus the advances between the two.
     Since(Call, Call),
 }

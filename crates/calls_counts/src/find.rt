@@ -1,4 +1,4 @@
-//! Searches among what the scan keeps, and what a reply says of the count.
+//! Searches in the state of the scan, and the bounds that a reply sets on the count.
 ghost use Rattle.std.specs.Prelude.{◌≡◌, ◌↔◌, ℕ, IsTrue, MatchOption, MatchBool, OnOk, IfSome};
 ghost use Rattle.std.specs.Prelude.{None, length, ◌<◌, ◌≤◌, slice_index, slice_set};
 ghost use Rattle.calls_core.specs.Histories.{pending_of};
@@ -6,12 +6,12 @@ ghost use Rattle.calls_counts.specs.ScanStates.{noted_calls};
 ghost use Rattle.calls_counts.specs.Scanning.{IsCallAt, NoneFree, IsFirstFree, IsFilled, Skips};
 ghost use Rattle.calls_counts.specs.Faults.{is_advance, least, most, Contradicts};
 
-use crate::{Noted, Slot};
+use crate::{NotedCall, Slot};
 use calls_core::{Call, Op, Reply};
 use std::alloc::AllocError;
 
 /// Finds the pending call of a worker.
-pub fn find(pending: &[Noted], worker: usize) -> Option<usize>
+pub fn find(pending: &[NotedCall], worker: usize) -> Option<usize>
     ensures { MatchOption result (pending_of worker (noted_calls pending.now) ≡ None)
         (IsCallAt pending.now worker) }
 {
@@ -23,14 +23,14 @@ pub fn find(pending: &[Noted], worker: usize) -> Option<usize>
     None
 }
 
-/// Returns the place up to which no slot is known to be free from slot `i` on.
+/// Returns the index up to which the slots from `i` on are known to be taken, 0 if none is.
 fn skip(next: &[usize], i: usize) -> usize
     ensures { result ≡ slice_index next.now i }
 {
     if i < next.len() { next[i] } else { 0 }
 }
 
-/// Notes that no slot is free from slot `i` up to a place.
+/// Records that the slots from `i` up to index `to` are taken.
 fn set_skip(next: &mut Vec<usize>, i: usize, to: usize)
     ensures { next.new.items ≡ slice_set next.old.items i to }
 {
@@ -39,7 +39,7 @@ fn set_skip(next: &mut Vec<usize>, i: usize, to: usize)
     }
 }
 
-/// Makes room for what is known of so many slots.
+/// Extends the skips with zeros to at least `upto` slots.
 pub fn grow(next: &mut Vec<usize>, upto: usize) -> Result<(), AllocError>
     ensures same { OnOk result ((i : ℕ) → slice_index next.new.items i ≡ slice_index next.old.items
         i) }
@@ -51,8 +51,10 @@ pub fn grow(next: &mut Vec<usize>, upto: usize) -> Result<(), AllocError>
     Ok(())
 }
 
-/// Finds the first free slot from a place on. It skips the slots that are known to be taken, and
-/// shortens the way for later searches.
+/// Finds the first free slot at index `from` or later.
+///
+/// It skips slots that are known to be taken, and lengthens the skips for later searches (path
+/// halving).
 pub fn first_free(slots: &[Slot], next: &mut Vec<usize>, from: usize) -> Option<usize>
     ensures within { IfSome result (λ i. i < length slots.now) }
     ensures found { Skips slots.now next.old.items → Skips slots.now next.new.items
@@ -71,7 +73,9 @@ pub fn first_free(slots: &[Slot], next: &mut Vec<usize>, from: usize) -> Option<
     None
 }
 
-/// Gives an advance the first free slot from a place on, if there is one.
+/// Gives an advance the first free slot at index `noted` or later, if there is one.
+///
+/// Returns whether there was one.
 pub fn fill(slots: &mut Vec<Slot>, next: &mut Vec<usize>, noted: usize, call: Call) -> bool
     ensures { Skips slots.old.items next.old.items → Skips slots.new.items next.new.items
         × MatchBool result (IsFilled slots.old.items slots.new.items noted call)
@@ -121,8 +125,7 @@ pub fn most(op: Op, reply: Reply) -> Option<usize>
 }
 
 /// Returns whether no count gives a reply: an await returned a number below its threshold, or one
-/// of
-/// 0 gave up.
+/// of 0 gave up.
 pub fn contradicts(op: Op, reply: Reply) -> bool
     ensures { IsTrue result ↔ Contradicts op reply }
 {

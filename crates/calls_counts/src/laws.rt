@@ -1,4 +1,4 @@
-//! Theorems of every history of an eventcount, each the contract of a function that does nothing.
+//! Theorems about every history of an eventcount, each the contract of an empty function.
 ghost use Rattle.calls_counts.specs.Laws.{AFaultLeavesNoOrder, EveryHistoryIsDecided};
 ghost use Rattle.calls_counts.specs.Laws.{AMonitorAgrees};
 

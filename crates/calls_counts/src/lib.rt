@@ -1,4 +1,4 @@
-//! Histories of the calls of one eventcount: whether they have a linearization.
+//! Decides and monitors whether a history of the calls of one eventcount is linearizable.
 #![tactic(auto)]
 
 mod fault;
@@ -16,5 +16,5 @@ pub use laws::{a_fault_leaves_no_order, a_monitor_agrees, every_history_is_decid
 pub use monitor::{Monitor, Refusal};
 pub use outcome::Outcome;
 pub use scan::decide;
-pub use state::Noted;
+pub use state::NotedCall;
 use state::{PlacedRead, Slot};

@@ -1,4 +1,4 @@
-//! A monitor: it judges a history event by event, in constant memory.
+//! A monitor of one eventcount: it judges a history event by event, in constant memory.
 ghost use Rattle.std.specs.Prelude.{◌≡◌, ◌+◌, ◌-◌, ◌<◌, ◌≤◌, ◌^◌, ◌++◌, [], ◌∷◌, length};
 ghost use Rattle.std.specs.Prelude.{MatchOption};
 ghost use Rattle.arrayvec.specs.ArrayVec.{array_vec_len};
@@ -6,24 +6,24 @@ ghost use Rattle.calls_core.specs.declared.history.Action.TheVariants.{Invoke, R
 ghost use Rattle.calls_counts.specs.Monitors.{Starts, HasRoom, Judges};
 ghost use Rattle.calls_counts.specs.Watching.{places, AllBelow, IsFirstPlace, IsJudged};
 
-use crate::Noted;
+use crate::NotedCall;
 use crate::find::{contradicts, find, is_advance, least, most};
 use arrayvec::ArrayVec;
 use calls_core::{Action, Call, Event, Op, PendingCall, Reply, WORKERS};
 
-/// What is kept of the events so far, for at most `WORKERS` pending calls.
+/// The state after the events so far, with at most `WORKERS` pending calls.
 #[derive(Drop)]
 pub struct Monitor {
     /// The number that the eventcount has at first.
     pub start: usize,
     /// How many advances were invoked.
     pub begun: usize,
-    /// How much the count has gone up by at least, in every order.
+    /// By how much the count has risen at least, in every linearization.
     pub total: usize,
-    /// The places of those advances that no response accounts for yet, in ascending order.
+    /// Which of the first `total` advances no response accounts for yet: their indices, ascending.
     pub free: ArrayVec<usize, WORKERS>,
     /// The pending calls.
-    pub pending: ArrayVec<Noted, WORKERS>,
+    pub pending: ArrayVec<NotedCall, WORKERS>,
 }
 
 /// Why a history has no linearization: a read or an await with this response is impossible.
@@ -39,7 +39,7 @@ pub enum Refusal {
         invoked: usize,
     },
     /// The call says that the count was no more than `most` at some moment of it, and at its
-    /// invocation the count had gone up by at least `made`.
+    /// invocation the count had risen by at least `made`.
     Many {
         call: Call,
         most: usize,
@@ -48,14 +48,14 @@ pub enum Refusal {
 }
 
 /// Adds a pending call.
-fn begin(pending: &mut ArrayVec<Noted, WORKERS>, call: Noted)
+fn begin(pending: &mut ArrayVec<NotedCall, WORKERS>, call: NotedCall)
     requires { array_vec_len pending.old < WORKERS }
     ensures { pending.new.items ≡ pending.old.items ++ call ∷ [] }
 {
     pending.push(call);
 }
 
-/// Returns the index of the first place from `noted` on.
+/// Returns where in `free` the first index that is at least `noted` is.
 fn place_from(free: &[usize], noted: usize) -> Option<usize>
     ensures { MatchOption result (AllBelow free.now noted (length free.now))
         (IsFirstPlace free.now noted) }
@@ -68,7 +68,7 @@ fn place_from(free: &[usize], noted: usize) -> Option<usize>
     None
 }
 
-/// Adds the places from `from` up to `upto`, as far as there is room.
+/// Adds the indices from `from` to below `upto`, as far as there is room.
 fn raise(free: &mut ArrayVec<usize, WORKERS>, from: usize, upto: usize)
     ensures { (from < upto → length free.old.items + (upto - from) ≤ WORKERS)
         → free.new.items ≡ free.old.items ++ places from (upto - from) }
@@ -97,7 +97,7 @@ impl Monitor {
         }
     }
 
-    /// Takes in an event, or returns why the events up to it have no linearization.
+    /// Adds an event, or returns why the events up to it have no linearization.
     pub fn event(&mut self, event: Event) -> Result<(), Refusal>
         requires workers { HasRoom event.action (array_vec_len self.old.pending) }
         requires invoked { self.old.begun + 1 < 2 ^ 64 }
@@ -113,7 +113,7 @@ impl Monitor {
         }
     }
 
-    /// Notes a call at its invocation.
+    /// Adds a pending call at its invocation.
     fn invoke(&mut self, event: Event, object: usize, op: Op)
         requires workers { array_vec_len self.old.pending < WORKERS }
         requires room { self.old.begun + 1 < 2 ^ 64 }
@@ -127,13 +127,13 @@ impl Monitor {
             first: event.at,
         };
         let noted = self.total;
-        begin(&mut self.pending, Noted { call, noted });
+        begin(&mut self.pending, NotedCall { call, noted });
         if is_advance(op) {
             self.begun += 1;
         }
     }
 
-    /// Gives an advance its place at its response, or judges a read or an await.
+    /// Accounts for an advance, or judges a read or an await, at its response.
     fn respond(&mut self, event: Event, reply: Reply) -> Result<(), Refusal>
         requires action { event.action ≡ Respond reply }
         requires room { self.old.begun + 1 < 2 ^ 64 }

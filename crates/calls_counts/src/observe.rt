@@ -1,4 +1,4 @@
-//! A read or an await has its response.
+//! The response of a read or an await.
 ghost use Rattle.std.specs.Prelude.{◌≡◌, ◌<◌, ◌≤◌, ◌↔◌, ℕ, List, false, length, nat_le, count_by};
 ghost use Rattle.std.specs.Prelude.{IsTrue, IfOk, OnOk, MatchOption};
 ghost use Rattle.std.specs.List.{filter_map};
@@ -14,7 +14,7 @@ use crate::{Fault, PlacedRead, Slot};
 use calls_core::Call;
 use std::alloc::{AllocError, Global};
 
-/// Adds free slots until there are so many.
+/// Adds free slots until there are at least `upto`.
 fn raise(slots: &mut Vec<Slot>, upto: usize, moment: usize) -> Result<(), AllocError>
     ensures added { OnOk result (IsRaised slots.old.items slots.new.items upto moment) }
     ensures enough { OnOk result (upto ≤ length slots.new.items) }
@@ -28,7 +28,7 @@ fn raise(slots: &mut Vec<Slot>, upto: usize, moment: usize) -> Result<(), AllocE
     Ok(())
 }
 
-/// Returns the invocation of a slot's advance, if its response is before a position.
+/// Returns the invocation of a slot's advance, if its response is before position `to`.
 fn invoked_before(slot: &Slot, to: usize) -> Option<usize>
     ensures { result ≡ invoked_before to slot.now.taken }
 {
@@ -44,7 +44,7 @@ fn invoked_before(slot: &Slot, to: usize) -> Option<usize>
     }
 }
 
-/// Collects the invocations of the advances that have slots, and responses before a position.
+/// Collects the invocations of the advances that have a slot and respond before position `to`.
 fn invocations(alloc: Global, slots: &[Slot], to: usize) -> Result<Vec<usize>, AllocError>
     ensures { IfOk result (λ v. v.items ≡ filter_map (λ s. invoked_before to s.taken) slots.now) }
 {
@@ -54,7 +54,7 @@ fn invocations(alloc: Global, slots: &[Slot], to: usize) -> Result<Vec<usize>, A
         .collect(alloc)
 }
 
-/// Collects the same in ascending order.
+/// Collects these invocations in ascending order.
 fn sorted_invocations(alloc: Global, slots: &[Slot], to: usize) -> Result<Vec<usize>, AllocError>
     ensures sorted { IfOk result (λ v. IsNonDecreasing v.items) }
     ensures counted { IfOk result (λ v. AreInvocations slots.now to v.items) }
@@ -64,7 +64,7 @@ fn sorted_invocations(alloc: Global, slots: &[Slot], to: usize) -> Result<Vec<us
     Ok(firsts)
 }
 
-/// Counts those of some ascending numbers that are at least `from`.
+/// Counts the numbers that are at least `from`.
 fn count_from(numbers: &[usize], from: usize) -> usize
     requires { IsNonDecreasing numbers.now }
     ensures { result ≡ count_by (λ f. nat_le from f) numbers.now }
@@ -72,8 +72,8 @@ fn count_from(numbers: &[usize], from: usize) -> usize
     numbers.len() - numbers.partition_point(|f| *f < from)
 }
 
-/// Returns whether `number` is less than what an earlier call says with the advances that lie
-/// between the two calls.
+/// Returns whether `number` is less than an earlier call says, plus the advances that lie between
+/// the two calls.
 fn is_fewer(firsts: &[usize], earlier: &Call, call: &Call, number: usize) -> bool
     requires { IsNonDecreasing firsts.now }
     ensures { (slots : List Slot) → AreInvocations slots call.now.first firsts.now → IsTrue result
@@ -86,7 +86,7 @@ fn is_fewer(firsts: &[usize], earlier: &Call, call: &Call, number: usize) -> boo
     n > number || count_from(firsts, earlier.last + 1) > number - n
 }
 
-/// Returns why `number` is too little for a call.
+/// Returns the fault of a call for which `number` is too small.
 fn too_little(
     alloc: Global,
     start: usize,
@@ -108,8 +108,9 @@ fn too_little(
     Ok(Fault::Many(call))
 }
 
-/// Gives a read or an await its place, or returns why it has none. There were `noted` slots at its
-/// invocation.
+/// Places a read or an await among the slots, or returns the fault that it shows.
+///
+/// There were `noted` slots at its invocation.
 pub fn observe(
     alloc: Global,
     start: usize,

@@ -1,4 +1,4 @@
-//! What the decision says.
+//! The outcome of a decision.
 use crate::Fault;
 use calls_core::PlacedCalls;
 

@@ -9,26 +9,26 @@ ghost use Rattle.calls_counts.specs.Outcomes.{IsOutcome};
 use crate::find::{fill, find, grow, is_advance};
 use crate::observe::observe;
 use crate::untaken::{complete, order};
-use crate::{Fault, Noted, Outcome, PlacedRead, Slot};
+use crate::{Fault, NotedCall, Outcome, PlacedRead, Slot};
 use calls_core::{Action, Call, Event, Op, Part, PendingCall, Reply};
 use std::alloc::{AllocError, Global};
 
-/// What is kept of the events so far.
+/// The state of the scan after the events so far.
 #[derive(Drop)]
 pub struct Scan {
     /// How many advances were invoked.
     pub begun: usize,
-    /// The places of advances in the order: as many as the count has gone up by at least.
+    /// The advances in their order: as many slots as the count has risen by at least.
     pub slots: Vec<Slot>,
-    /// For each slot a place up to which none is free.
+    /// For each slot an index up to which the slots from it on are taken, 0 if none is known.
     pub next: Vec<usize>,
     /// The pending calls.
-    pub pending: Vec<Noted>,
+    pub pending: Vec<NotedCall>,
     /// The completed reads and awaits.
     pub reads: Vec<PlacedRead>,
 }
 
-/// Notes a call at its invocation.
+/// Adds a pending call at its invocation.
 fn invoke(scan: &mut Scan, event: Event, object: usize, op: Op) -> Result<(), AllocError>
     requires room { scan.old.begun + 1 < 2 ^ 64 }
     requires action { event.action ≡ Invoke object op }
@@ -41,14 +41,14 @@ fn invoke(scan: &mut Scan, event: Event, object: usize, op: Op) -> Result<(), Al
         first: event.at,
     };
     let noted = scan.slots.len();
-    scan.pending.push(Noted { call, noted })?;
+    scan.pending.push(NotedCall { call, noted })?;
     if is_advance(op) {
         scan.begun += 1;
     }
     Ok(())
 }
 
-/// Gives a call its place at its response, or returns the fault that it shows.
+/// Places a call in the order at its response, or returns the fault that it shows.
 fn respond(
     alloc: Global,
     start: usize,
@@ -92,7 +92,7 @@ fn respond(
     Ok(None)
 }
 
-/// Takes in an event, or returns the fault that it shows.
+/// Adds an event to the scan, or returns the fault that it shows.
 fn take_in(
     alloc: Global,
     start: usize,
@@ -111,9 +111,10 @@ fn take_in(
     }
 }
 
-/// Decides whether a history of an eventcount that is `start` at first has a linearization: returns
-/// one, or the first faulty event and what shows that there is none. In the linearization the
-/// pending calls that took effect have their responses at `end`.
+/// Decides whether a history of an eventcount that is `start` at first has a linearization.
+///
+/// It returns a linearization, or the first faulty event and the fault that it shows. In the
+/// linearization the pending calls that took effect have their responses at `end`.
 pub fn decide(
     alloc: Global,
     start: usize,

@@ -1,19 +1,20 @@
-//! What the scan keeps.
+//! The parts of the scan's state.
 use calls_core::{Call, PendingCall};
 
-/// The place of an advance in the order, and when the advance takes effect. A slot is free if it is
-/// known that the count went up, and not yet which advance raised it.
+/// The place of an advance in the order, and when the advance takes effect.
+///
+/// A slot is free if it is known that the count rose, and not yet which advance raised it.
 #[derive(Clone, Copy, Debug, PartialEq, Eq)]
 pub struct Slot {
     /// The position at which the advance takes effect.
     pub moment: usize,
-    /// The advance.
+    /// The advance, or `None` if the slot is free.
     pub taken: Option<Call>,
 }
 
 /// A pending call, with what was known at its invocation.
 #[derive(Clone, Copy, Debug, Default, PartialEq, Eq)]
-pub struct Noted {
+pub struct NotedCall {
     /// The call.
     pub call: PendingCall,
     /// How many slots there were at its invocation.

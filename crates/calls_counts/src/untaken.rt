@@ -6,12 +6,12 @@ ghost use Rattle.calls_counts.specs.Orders.{reads_at, order_from, IsOrdering, Is
 ghost use Rattle.calls_counts.specs.Scanning.{Completes};
 
 use crate::find::{fill, is_advance};
-use crate::{Noted, PlacedRead, Slot};
+use crate::{NotedCall, PlacedRead, Slot};
 use calls_core::{Call, PlacedCalls, Reply};
 use std::alloc::{AllocError, Global};
 
 /// Lets pending advances take the free slots, as if they had their responses at `end`.
-pub fn complete(slots: &mut Vec<Slot>, next: &mut Vec<usize>, pending: &[Noted], end: usize)
+pub fn complete(slots: &mut Vec<Slot>, next: &mut Vec<usize>, pending: &[NotedCall], end: usize)
     ensures { Completes slots.old.items slots.new.items next.old.items pending.now end }
 {
     for u in pending {
@@ -29,7 +29,7 @@ pub fn complete(slots: &mut Vec<Slot>, next: &mut Vec<usize>, pending: &[Noted],
     }
 }
 
-/// Sorts the reads by their places, and leaves those of one place as they were.
+/// Sorts the reads by their places; reads of one place keep their order.
 fn sort(reads: &mut Vec<PlacedRead>) -> Result<(), AllocError>
     ensures moved { IsPermutation reads.old.items reads.new.items }
     ensures rising { OnOk result (IsNonDecreasingBy (λ p. p.place) reads.new.items) }
@@ -62,7 +62,7 @@ fn push_run(
     Ok(j)
 }
 
-/// Puts each read at its place among the slots.
+/// Merges the sorted reads and the advances of the slots, each read at its place.
 fn merge(alloc: Global, slots: &[Slot], reads: &[PlacedRead]) -> Result<PlacedCalls, AllocError>
     requires { IsNonDecreasingBy (λ p. p.place) reads.now }
     ensures { IfOk result (λ v. v ≡ order_from 0 slots.now reads.now) }
@@ -79,8 +79,8 @@ fn merge(alloc: Global, slots: &[Slot], reads: &[PlacedRead]) -> Result<PlacedCa
     Ok(out)
 }
 
-/// Puts each read at its place among the slots, and those of one place in the order of their
-/// responses.
+/// Returns the order of the calls: each read is at its place among the slots, and the reads of one
+/// place are in the order of their responses.
 pub fn order(
     alloc: Global,
     slots: &[Slot],

@@ -1,4 +1,4 @@
--- What a history has of the calls of a cell or a database.
+-- The calls of a cell or a database in a history.
 use Rattle.std.proofs.Common.{◌≡◌, ℕ, ◌<◌, ◌≤◌, List, [], ◌∷◌, Option, Some, None, refl, arith}
 use Rattle.calls_core.specs.declared.history.Kind.{Kind}
 use Rattle.calls_core.specs.declared.history.Kind.TheVariants.{Eventcount, Sequencer, Semaphores}
@@ -34,7 +34,7 @@ pub record IsPendingAccess (t : ℕ) (o : PendingCall) : Type 0 where
   pub access : IsAccess o.op
   pub early : o.first < t
 
--- the calls up to position t, if no call begins at the position at which another ends
+-- the calls before position t; no call begins at the position at which another ends
 pub record AreAccesses (done : List Call) (pending : List PendingCall) (t : ℕ) : Type 0 where
   pub completed : Each (IsCompletedAccess t) done
   pub invoked : Each (IsPendingAccess t) pending
@@ -93,7 +93,7 @@ accesses_of kind done pending t u s le h = record {
   pending_apart = h.pending_apart;
 }
 
--- ALL STORES ARE ONE
+-- A HISTORY OF ONE STORE IS ONE OF ANY STORE
 
 access_taken : (kind : Kind) (op : Op) → IsStore kind → IsAccess op → Takes (Some kind) op
 access_taken (Eventcount n) op s h = absurd s

@@ -1,4 +1,4 @@
--- What is known if each get was put once, and what sorted zones give.
+-- The calls of the distinct class satisfy the tests, and their sorted zones decide them.
 use Rattle.std.proofs.Common.{◌≡◌, ◌≢◌, ℕ, zero, suc, ◌+◌, ◌<◌, ◌≤◌, ◌⊎◌, inl, inr, Bool, true}
 use Rattle.std.proofs.Common.{false, not, cond, ◌&&◌, ◌==◌, nat_le, List, [], ◌∷◌, ◌++◌, length}
 use Rattle.std.proofs.Common.{Option, Some, None, refl, ap, sym, ◌∙◌, arith, subst, count_by}
@@ -16,13 +16,13 @@ use Rattle.calls_core.specs.declared.history.PendingCall.{PendingCall}
 use Rattle.calls_core.specs.declared.history.Call.{Call}
 use Rattle.calls_core.specs.Lists.{Each, EachPair}
 use Rattle.calls_core.specs.Histories.{completion, Suits}
-use Rattle.calls_core.specs.Linearizations.{IsSequentialRun, KeepsOrder, answered_one}
+use Rattle.calls_core.specs.Linearizations.{IsLegalHistory, KeepsOrder, answered_one}
 use Rattle.calls_core.specs.Linearizations.{answered_calls, IsLinearOrder}
 use Rattle.calls_core.proofs.Lists.{all_from_each, each_pair_map, all_pairs_from_each}
 use Rattle.calls_core.proofs.Counting.{count_append}
 use Rattle.calls_distinct.specs.declared.zone.Zone.{Zone}
 use Rattle.calls_distinct.specs.declared.cell.Fault.TheVariants.{Stale, Alternate}
-use Rattle.calls_distinct.specs.Cells.{is_put, value_of, value, put_call, put_pending, times}
+use Rattle.calls_distinct.specs.Cells.{is_put, value_put_or_returned, value, put_call, put_pending, times}
 use Rattle.calls_distinct.specs.Cells.{AreDistinct, put_by, put_pending_by}
 use Rattle.calls_distinct.specs.Cells.{IsBegun, ShowsOf, gets, is_got}
 use Rattle.calls_distinct.specs.Zones.{store_answer, all_of, IsZone, zone_calls}
@@ -99,10 +99,11 @@ into_answered t answer (p ∷ os) o r (suc k, lt, e) returned =
     ) returned)
 
 store_answer_is : (done : List Call) (o : PendingCall) (r : Reply) → store_answer done o ≡ Some r
-    → (is_put o.op ≡ true) × (is_got done (value_of o.op Done) ≡ true) × (r ≡ Done)
+    → (is_put o.op ≡ true) × (is_got done (value_put_or_returned o.op Done) ≡ true) × (r ≡ Done)
 store_answer_is done o r e =
-    elim (either (is_put o.op && is_got done (value_of o.op Done))) [
-      | inl b ↦ (let p = and_parts (is_put o.op) (is_got done (value_of o.op Done)) b in
+    elim (either (is_put o.op && is_got done (value_put_or_returned o.op Done))) [
+      | inl b ↦ (let p =
+          and_parts (is_put o.op) (is_got done (value_put_or_returned o.op Done)) b in
           let s : Some Done ≡ Some r = sym (ap (λ y. cond y (Some Done) None) b) ∙ e in
           (p.0, p.1, cc))
       | inr b ↦ (let s : None ≡ Some r = sym (ap (λ y. cond y (Some Done) None) b) ∙ e in cc)
@@ -163,7 +164,7 @@ module _ (done : List Call) (pending : List PendingCall) (t : ℕ)
     | inr h ↦ inl h
   ]
 
-  -- one that passes a test that looks at neither reply nor response
+  -- a call that passes test p is counted, if p looks at neither reply nor response
   counted_one : (p : Call → Bool) (q : PendingCall → Bool) → ((o : PendingCall) (r : Reply)
       → p (completion t r o) ≡ q o) → (c : Call) → Contains (all_of done pending t) c → p c ≡ true
       → 0 < count_by p done + count_by q pending
@@ -325,7 +326,7 @@ module _ (done : List Call) (pending : List PendingCall) (t : ℕ)
                 r.2).0 in
                 let a : store_answer done o ≡ Some Done =
                 ap (λ y. cond y (Some Done) None) (and_from (is_put o.op)
-                (is_got done (value_of o.op Done)) p.0
+                (is_got done (value_put_or_returned o.op Done)) p.0
                 (ap (is_got done) p.1 ∙ got_one g kd get)) in (
                   completion t Done o,
                   Contains-append_left
@@ -336,11 +337,11 @@ module _ (done : List Call) (pending : List PendingCall) (t : ℕ)
                 ))
           ]
 
-  -- THE WHOLE
+  -- THE SORTED ZONES
 
   module _ (order : List Zone) (s : AreSorted (all_of done pending t) done order) where
     pub ordered : (m : ℕ → ℕ) → m 0 ≡ 0 → EachPair (λ (x z : Zone). KeepsOrder x.call z.call) order
-        → IsLinearOrder (IsSequentialRun m) done pending t (zone_calls order)
+        → IsLinearOrder (IsLegalHistory m) done pending t (zone_calls order)
     ordered m z kept = record {
       answer = store_answer done;
       each_once = s.moved;

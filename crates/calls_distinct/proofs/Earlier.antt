@@ -1,4 +1,4 @@
--- Beginnings of a history: their class, their clock, and the first fault.
+-- Prefixes of a history: their class, their clock, and the first fault.
 use Rattle.std.proofs.Common.{◌≡◌, ℕ, ◌+◌, ◌-◌, ◌/◌, ◌<◌, ◌≤◌, Bool, true}
 use Rattle.std.proofs.Common.{false, ◌==◌, cond, Option, Some, None, List, [], ◌∷◌, ◌++◌}
 use Rattle.std.proofs.Common.{length, drop, reverse, get_or, refl, ap, sym, ◌∙◌, arith, subst}
@@ -34,7 +34,7 @@ use Rattle.calls_distinct.proofs.Steps.{past_more}
 
 -- THE CLASS
 
-count_without : (p : PendingCall → Bool) (w : ℕ) (os : List PendingCall) (o : PendingCall)
+pub count_without : (p : PendingCall → Bool) (w : ℕ) (os : List PendingCall) (o : PendingCall)
     → pending_of w os ≡ Some o → count_by p os ≡ one (p o) + count_by p (without w os)
 count_without p w [] o e = absurd (none-some o e)
 count_without p w (y ∷ os) o e =
@@ -96,7 +96,7 @@ store_at i events h = (h.0, h.1, history_at h.0 i events h.2)
 
 -- THE CLOCK
 
-clock_earlier : (kind : Kind) (late past : List Event) → IsHistoryOf kind (late ++ past)
+pub clock_earlier : (kind : Kind) (late past : List Event) → IsHistoryOf kind (late ++ past)
     → clock past ≤ clock (late ++ past)
 clock_earlier kind [] past h = omega arith
 clock_earlier kind (x ∷ late) past h = (let le = clock_earlier kind late past h.2 in
@@ -157,9 +157,9 @@ first_fault_is events low high fault h lt le within order shows kind store =
           (order kind store);
     }
 
--- THE SEARCH
+-- THE BISECTION
 
--- a beginning that has an order, and a longer one with a fault
+-- a prefix that has an order, and a longer one with a fault
 pub record IsSearched (events : List Event) (low high : ℕ) (fault : Fault) : Type 0 where
   pub apart : low < high
   pub within : high ≤ length events

@@ -21,15 +21,15 @@ use Rattle.calls_core.proofs.Counting.{one_yes, one_no, count_cons}
 use Rattle.calls_distinct.specs.declared.cell.Fault.{Fault}
 use Rattle.calls_distinct.specs.declared.cell.Fault.TheVariants.{Nowhere}
 use Rattle.calls_distinct.specs.declared.zone.Group.{Group}
-use Rattle.calls_distinct.specs.declared.zone.Grouped.{Grouped}
+use Rattle.calls_distinct.specs.declared.zone.GroupedCall.{GroupedCall}
 use Rattle.calls_distinct.specs.declared.zone.Zone.{Zone}
 use Rattle.calls_distinct.specs.Cells.{is_put, value, put_call, gets, IsStore}
 use Rattle.calls_distinct.specs.Cells.{IsStoreHistory, IsDistinctHistory, Shows}
-use Rattle.calls_distinct.specs.Outcomes.{put_at}
-use Rattle.calls_distinct.specs.Zones.{NotAfter, AreCrossed, crossing_fault, KeptZones, zone_calls}
+use Rattle.calls_distinct.specs.Outcomes.{is_put_at}
+use Rattle.calls_distinct.specs.Zones.{NotAfter, AreCrossed, crossing_fault, KeepZoneOrder, zone_calls}
 use Rattle.calls_distinct.specs.Groups.{with_call, IsGroup, IsGroupOf, grouped_calls, AreGrouped}
 use Rattle.calls_distinct.specs.Groups.{lacks_put, zones_of}
-use Rattle.calls_distinct.specs.Verdicts.{listed}
+use Rattle.calls_distinct.specs.Verdicts.{calls_of_history}
 use Rattle.calls_distinct.proofs.Facing.{either}
 use Rattle.calls_distinct.proofs.Faults.{put_call_is, put_value}
 use Rattle.calls_distinct.proofs.Checked.{gets_own}
@@ -59,9 +59,9 @@ one_call c =
               );
               put = λ lt. omega (
                 arith,
-                count_cons (put_at (value c) c.first) c [],
+                count_cons (is_put_at (value c) c.first) c [],
                 one_yes
-                    (put_at (value c) c.first c) (and_from (put_call (value c) c) _ own
+                    (is_put_at (value c) c.first c) (and_from (put_call (value c) c) _ own
                     (eq-eqb c.first c.first refl)),
               );
               known_early = (zero, omega arith, refl);
@@ -135,7 +135,7 @@ each_call P (y ∷ xs) h x (suc k, lt, e) = each_call P xs h.1 x (
   e,
 )
 
-pub all_grouped : (calls : List Call) → (zs : List Grouped) × AreGrouped calls calls zs
+pub all_grouped : (calls : List Call) → (zs : List GroupedCall) × AreGrouped calls calls zs
 all_grouped calls = (let r = go calls (each_from_contains (λ (c : Call). Contains calls c) calls
     (λ c k. k)) in (r.0, record { calls = r.1; groups = r.2 }))
   where
@@ -144,8 +144,9 @@ all_grouped calls = (let r = go calls (each_from_contains (λ (c : Call). Contai
     some v c None k e h = absurd (each_call (λ (d : Call). value d ≡ v → ⊥) calls h c k e)
     some v c (Some g) k e h = (g, h)
 
-    go : (cs : List Call) → Each (λ (c : Call). Contains calls c) cs → (zs : List Grouped)
-        × (grouped_calls zs ≡ cs) × Each (λ (z : Grouped). IsGroup calls (value z.call) z.group) zs
+    go : (cs : List Call) → Each (λ (c : Call). Contains calls c) cs → (zs : List GroupedCall)
+        × (grouped_calls zs ≡ cs)
+        × Each (λ (z : GroupedCall). IsGroup calls (value z.call) z.group) zs
     go [] h = ([], refl, tt)
     go (c ∷ cs) h =
         let o = all_groups [] calls (λ v. (None, tt)) (value c) in
@@ -229,7 +230,7 @@ all_sorted (z ∷ zs) =
 
 -- IN ORDER, OR NOT
 
-one_side : (x : Zone) (ys : List Zone) → Each (NotAfter x) ys → Each (KeptZones x) ys
+one_side : (x : Zone) (ys : List Zone) → Each (NotAfter x) ys → Each (KeepZoneOrder x) ys
     ⊎ ((z : Zone) × Contains ys z × NotAfter x z × Precedes z.call x.call)
 one_side x [] k = inl tt
 one_side x (z ∷ ys) k =
@@ -244,7 +245,7 @@ one_side x (z ∷ ys) k =
       ]
     ]
 
-kept_or_crossed : (zs : List Zone) → EachPair NotAfter zs → EachPair KeptZones zs
+kept_or_crossed : (zs : List Zone) → EachPair NotAfter zs → EachPair KeepZoneOrder zs
     ⊎ ((x : Zone) × (z : Zone) × AreCrossed zs x z)
 kept_or_crossed [] h = inl tt
 kept_or_crossed (x ∷ zs) h =
@@ -289,14 +290,14 @@ none_or_one p (x ∷ xs) =
       ]
     ]
 
--- THE WHOLE
+-- EVERY HISTORY
 
 pub every_one_decided : (kind : Kind) (past : List Event) (t : ℕ) → IsStore kind
     → IsHistoryOf kind past → IsDistinctHistory past → clock past ≤ t
     → ((cs : List Call) × IsOrderOf kind past t cs) ⊎ ((fault : Fault) × Shows past fault)
 every_one_decided kind past t store history distinct le =
     let h : IsStoreHistory past = (kind, store, history) in
-    let g = all_grouped (listed past t) in
+    let g = all_grouped (calls_of_history past t) in
     elim (none_or_one lacks_put g.0) [
       | inr r ↦ inr (Nowhere r.0.call, nowhere_shows past t h le distinct g.0 g.1 r.0 r.1 r.2)
       | inl none ↦

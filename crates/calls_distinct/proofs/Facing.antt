@@ -1,4 +1,4 @@
--- If zones can't be in order, two values alternate or a 0 is stale.
+-- If sorted zones are in the wrong order, two values alternate or a 0 is stale.
 use Rattle.std.proofs.Common.{◌≡◌, ◌≢◌, ℕ, ◌<◌, ◌≤◌, ◌⊎◌, inl, inr, min, max, not}
 use Rattle.std.proofs.Common.{Bool, true, false, cond, ◌==◌, List}
 use Rattle.std.proofs.Common.{refl, ap, sym, ◌∙◌, arith, subst}
@@ -16,7 +16,7 @@ use Rattle.calls_distinct.specs.Cells.{IsAlternation, gets, is_got}
 use Rattle.calls_distinct.specs.Zones.{key, rank, NotAfter, IsZone}
 use Rattle.calls_distinct.proofs.Accesses.{IsAccess}
 
--- what is known of the calls that take effect, when each get was found to be put once
+-- the calls that take effect, if the value of each get was put once
 pub record AreChecked (all done : List Call) (pending : List PendingCall) (t : ℕ) : Type 0 where
   pub known : (c : Call) → Contains all c → IsBegun done pending c
   pub access : (c : Call) → Contains all c → IsAccess c.op
@@ -91,7 +91,7 @@ module _ (all done : List Call) (pending : List PendingCall) (t : ℕ)
       → c.first ≤ z.late.first) all c (all_from_each (λ (c : Call). value c ≡ value z.call
       → c.first ≤ z.late.first) all (h.most got)) k e
 
-  -- those of one group have one key
+  -- the zones of a value that was got have one key
   pub one_early : (x z : Zone) → IsZone all done x → IsZone all done z
       → is_got done (value x.call) ≡ true → value x.call ≡ value z.call
       → (x.early.last ≡ z.early.last) × (x.late.first ≡ z.late.first)
@@ -103,7 +103,7 @@ module _ (all done : List Call) (pending : List PendingCall) (t : ℕ)
       let d = one_most z x.late hz hx.known_late got_z (hx.late ∙ e) in
       (omega arith, omega arith)
 
-  -- within a group there is nothing out of order
+  -- no call of a value that was got precedes one that is sorted before it
   pub group_kept : (x z : Zone) → IsZone all done x → IsZone all done z → NotAfter x z
       → is_got done (value x.call) ≡ true → value x.call ≡ value z.call → key x ≡ key z
       → Precedes z.call x.call → ⊥

@@ -1,4 +1,4 @@
--- What shows a fault has no linear order.
+-- A history that shows a fault has no linearization.
 use Rattle.std.proofs.Common.{◌≡◌, ◌≢◌, ℕ, zero, suc, ◌+◌, ◌<◌, ◌≤◌, ◌⊎◌, inl, inr, Bool, true}
 use Rattle.std.proofs.Common.{false, not, ◌&&◌, ◌==◌, nat_le, List, [], ◌∷◌, ◌++◌, length}
 use Rattle.std.proofs.Common.{Option, Some, None, refl, ap, sym, ◌∙◌, arith, subst, count_by}
@@ -18,7 +18,7 @@ use Rattle.calls_core.specs.declared.history.PendingCall.{PendingCall}
 use Rattle.calls_core.specs.declared.history.Call.{Call}
 use Rattle.calls_core.specs.Lists.{Each}
 use Rattle.calls_core.specs.Histories.{completion}
-use Rattle.calls_core.specs.Linearizations.{Gives, after, IsSequentialRun, Precedes, KeepsOrder}
+use Rattle.calls_core.specs.Linearizations.{Gives, after, IsLegalHistory, Precedes, KeepsOrder}
 use Rattle.calls_core.specs.Linearizations.{answered_one, answered_calls, IsLinearOrder}
 use Rattle.calls_core.proofs.Lists.{each_weaker, each_append, all_from_each}
 use Rattle.calls_core.proofs.Filters.{each_from_all}
@@ -26,14 +26,14 @@ use Rattle.calls_core.proofs.Counting.{one, one_yes, count_cons, count_append, c
 use Rattle.calls_core.proofs.Counting.{count_less, split_at, pairs_left}
 use Rattle.calls_distinct.specs.declared.cell.Fault.{Fault}
 use Rattle.calls_distinct.specs.declared.cell.Fault.TheVariants.{Nowhere, Stale, Alternate}
-use Rattle.calls_distinct.specs.Cells.{is_put, returned_value, value_of, value, put_call}
+use Rattle.calls_distinct.specs.Cells.{is_put, returned_value, value_put_or_returned, value, put_call}
 use Rattle.calls_distinct.specs.Cells.{put_pending, times, IsDistinct, put_by, put_pending_by}
 use Rattle.calls_distinct.specs.Cells.{FromNowhere, IsStale, IsBegun, IsAlternation}
 use Rattle.calls_distinct.specs.Cells.{ShowsOf}
 use Rattle.calls_distinct.proofs.Accesses.{IsAccess, IsCompletedAccess, IsPendingAccess}
 use Rattle.calls_distinct.proofs.Accesses.{AreAccesses}
 
--- A RUN
+-- LEGAL SEQUENTIAL HISTORIES
 
 abbrev Access : Call → Type 0
 Access c = IsAccess c.op
@@ -44,7 +44,8 @@ Stores v [] = Unit {0}
 Stores v (c ∷ cs) = ((is_put c.op ≡ true) ⊎ (value c ≡ v)) × Stores (value c) cs
 
 one_step : (m : ℕ → ℕ) (op : Op) (r : Reply) → IsAccess op → Gives m op r
-    → (after m op r 0 ≡ value_of op r) × ((is_put op ≡ true) ⊎ (value_of op r ≡ m 0))
+    → (after m op r 0 ≡ value_put_or_returned op r)
+    × ((is_put op ≡ true) ⊎ (value_put_or_returned op r ≡ m 0))
 one_step m (Put v) r s g = (refl, inl refl)
 one_step m Get r s g = (sym (ap returned_value g), inr (ap returned_value g))
 one_step m Advance r s g = absurd s
@@ -55,7 +56,7 @@ one_step m (P i) r s g = absurd s
 one_step m (V i) r s g = absurd s
 one_step m (PBoth i j) r s g = absurd s
 
-run_stores : (m : ℕ → ℕ) (cs : List Call) → Each Access cs → IsSequentialRun m cs → Stores (m 0) cs
+run_stores : (m : ℕ → ℕ) (cs : List Call) → Each Access cs → IsLegalHistory m cs → Stores (m 0) cs
 run_stores m [] h run = tt
 run_stores m (c ∷ cs) h run =
     let s = one_step m c.op c.reply h.0 run.0 in
@@ -63,8 +64,8 @@ run_stores m (c ∷ cs) h run =
 
 -- A VALUE THAT IS NOT PUT
 
-put_is : (v : ℕ) (op : Op) (r : Reply) → is_put op ≡ true → value_of op r ≡ v
-    → (is_put op && (value_of op Done == v)) ≡ true
+put_is : (v : ℕ) (op : Op) (r : Reply) → is_put op ≡ true → value_put_or_returned op r ≡ v
+    → (is_put op && (value_put_or_returned op Done == v)) ≡ true
 put_is v (Put w) r p e = eq-eqb w v e
 put_is v Get r p e = p
 put_is v Advance r p e = p
@@ -81,8 +82,9 @@ put_call_is v c p e = put_is v c.op c.reply p e
 own_put : (v : ℕ) (c : Call) → is_put c.op ≡ true → value c ≡ v → one (put_call v c) ≡ 1
 own_put v c p e = one_yes (put_call v c) (put_call_is v c p e)
 
-pub put_value : (v : ℕ) (op : Op) (r : Reply) → (is_put op && (value_of op Done == v)) ≡ true
-    → (is_put op ≡ true) × (value_of op r ≡ v)
+pub put_value : (v : ℕ) (op : Op) (r : Reply)
+    → (is_put op && (value_put_or_returned op Done == v)) ≡ true
+    → (is_put op ≡ true) × (value_put_or_returned op r ≡ v)
 put_value v (Put w) r p = (refl, eqb-true w v p)
 put_value v Get r p = (let no : false ≡ true = p in cc)
 put_value v Advance r p = (let no : false ≡ true = p in cc)
@@ -93,7 +95,7 @@ put_value v (P i) r p = (let no : false ≡ true = p in cc)
 put_value v (V i) r p = (let no : false ≡ true = p in cc)
 put_value v (PBoth i j) r p = (let no : false ≡ true = p in cc)
 
--- if v is not stored and not put, nothing has it
+-- if v is not stored and not put, no call has this value
 never : (v s k : ℕ) (d : Call) (cs : List Call) → s ≢ v → count_by (put_call v) cs ≡ 0 → Stores s cs
     → k < length cs → value (get_or cs k d) ≡ v → ⊥
 never v s k d [] ne none run lt e = omega arith
@@ -228,7 +230,7 @@ count_known p xs x h e =
     omega (
       arith,
       ap (count_by p) s.is,
-      count_append p s.front (x ∷ s.back),
+      count_append p s.prefix (x ∷ s.back),
       count_cons p x s.back,
       one_yes (p x) e,
     )
@@ -277,7 +279,7 @@ soon_pending v m o = put_pending v o && not (nat_le m o.first)
 
 module _ (done : List Call) (pending : List PendingCall) (t u : ℕ)
     (given : AreAccesses done pending u) (m : ℕ → ℕ) (zero_first : m 0 ≡ 0) (cs : List Call)
-    (l : IsLinearOrder (IsSequentialRun m) done pending t cs) where
+    (l : IsLinearOrder (IsLegalHistory m) done pending t cs) where
   here : (c : Call) → Contains done c → Contains cs c
   here c k = Contains-permutation (answered_calls t l.answer pending ++ done) cs c l.each_once
       (Contains-append_right (answered_calls t l.answer pending) done c k)
@@ -321,16 +323,16 @@ module _ (done : List Call) (pending : List PendingCall) (t u : ℕ)
   nowhere : (g : Call) → FromNowhere done pending g → ⊥
   nowhere g f =
       let s = split_at cs g (here g f.known) in
-      let some_put : 0 < count_by (put_call (value g)) s.front =
-      put_before (value g) 0 s.front g s.back (λ e. f.some (sym e)) f.get refl
+      let some_put : 0 < count_by (put_call (value g)) s.prefix =
+      put_before (value g) 0 s.prefix g s.back (λ e. f.some (sym e)) f.get refl
       (subst (Stores 0) s.is stores) in
-      let early = pairs_left KeepsOrder s.front g s.back
+      let early = pairs_left KeepsOrder s.prefix g s.back
       (subst (AllPairs KeepsOrder) s.is l.in_order) in
-      let all : count_by (put_call (value g)) s.front ≤ count_by (put_by (value g) g.last) s.front =
-      count_less (put_call (value g)) (put_by (value g) g.last) s.front (λ i e lt p.
-      and_from (put_call (value g) (get_or s.front i e))
-      (nat_le (get_or s.front i e).first g.last) p
-      (le-leb (get_or s.front i e).first g.last (elim (cases_lt g.last (get_or s.front i e).first)
+      let all : count_by (put_call (value g)) s.prefix ≤ count_by (put_by (value g) g.last) s.prefix =
+      count_less (put_call (value g)) (put_by (value g) g.last) s.prefix (λ i e lt p.
+      and_from (put_call (value g) (get_or s.prefix i e))
+      (nat_le (get_or s.prefix i e).first g.last) p
+      (le-leb (get_or s.prefix i e).first g.last (elim (cases_lt g.last (get_or s.prefix i e).first)
       [ inl fb ↦ absurd (early i e lt fb) | inr le ↦ le ]))) in
       omega (
         arith,
@@ -341,10 +343,10 @@ module _ (done : List Call) (pending : List PendingCall) (t u : ℕ)
             (put_pending_by (value g) g.last) (λ o r. refl),
         ap (count_by (put_by (value g) g.last))
             s.is,
-        count_append (put_by (value g) g.last) s.front (g ∷ s.back),
+        count_append (put_by (value g) g.last) s.prefix (g ∷ s.back),
       )
 
-  -- a call is before those that it precedes
+  -- in an order, a call is before a call of another value that it precedes
   stands_before : (a b : Call) (i j : ℕ) → i < length cs → j < length cs → get_or cs i a ≡ a
       → get_or cs j b ≡ b → Precedes a b → value a ≢ value b → i < j
   stands_before a b i j li lj ea eb fb ne =
@@ -378,7 +380,7 @@ module _ (done : List Call) (pending : List PendingCall) (t u : ℕ)
             (λ o r. refl),
       )) lt lg vg (λ e. f.other (sym vc ∙ e))
 
-  -- a call of that value that was invoked no sooner
+  -- a call of b's value that was not invoked before b
   record Found (b : Call) : Type 0 where
     x : Call
     there : Contains cs x
@@ -425,12 +427,12 @@ module _ (done : List Call) (pending : List PendingCall) (t u : ℕ)
                 | false ↦ λ p q. (let no : false ≡ true = q in cc)
               ] refl) in
               let s = split_at cs c (here c kc) in
-              let some_put : 0 < count_by (put_call v) s.front =
-              put_before v 0 s.front c s.back (λ z. own (sym z)) get (sym e)
+              let some_put : 0 < count_by (put_call v) s.prefix =
+              put_before v 0 s.prefix c s.back (λ z. own (sym z)) get (sym e)
               (subst (Stores 0) s.is stores) in
-              let whole : count_by (put_call v) cs ≡ count_by (put_call v) s.front + count_by
+              let whole : count_by (put_call v) cs ≡ count_by (put_call v) s.prefix + count_by
               (put_call v) (c ∷ s.back) = ap (count_by (put_call v)) s.is ∙ count_append
-              (put_call v) s.front (c ∷ s.back) in
+              (put_call v) s.prefix (c ∷ s.back) in
               let parts_cs = count_parts (put_call v) (λ (z : Call). nat_le m z.first) cs in
               let few = counted (soon_put v m) (soon_pending v m) (λ o r. refl) in
               let r = some_one (late_put v m) cs (omega arith) in
@@ -511,7 +513,7 @@ module _ (done : List Call) (pending : List PendingCall) (t u : ℕ)
 
 pub no_order : (done : List Call) (pending : List PendingCall) (t u : ℕ) (f : Fault) (m : ℕ
     → ℕ) (cs : List Call) → AreAccesses done pending u → m 0 ≡ 0 → ShowsOf done pending f
-    → IsLinearOrder (IsSequentialRun m) done pending t cs → ⊥
+    → IsLinearOrder (IsLegalHistory m) done pending t cs → ⊥
 no_order done pending t u (Nowhere g) m cs h z s l = nowhere done pending t u h m z cs l g s
 no_order done pending t u (Stale c g) m cs h z s l = stale done pending t u h m z cs l c g s
 no_order done pending t u (Alternate a b c d) m cs h z s l =

@@ -14,7 +14,7 @@ use Rattle.calls_core.proofs.Lists.{each_weaker, each_append}
 use Rattle.calls_core.proofs.Counting.{one, one_yes, one_no, count_cons, count_append}
 use Rattle.calls_distinct.specs.declared.zone.Group.{Group}
 use Rattle.calls_distinct.specs.Cells.{is_put, value, put_call, gets}
-use Rattle.calls_distinct.specs.Outcomes.{put_at}
+use Rattle.calls_distinct.specs.Outcomes.{is_put_at}
 use Rattle.calls_distinct.specs.Groups.{earlier, later, with_call, IsGroup, IsGroupOf}
 use Rattle.calls_distinct.proofs.Faults.{put_call_is, put_value}
 use Rattle.calls_distinct.proofs.Facing.{either}
@@ -87,7 +87,7 @@ module _ (seen : List Call) (call : Call) (g : Group) (h : IsGroup seen (value c
       let v = value call in
       let gets_more = count_one_more (gets v) seen call in
       let puts_more = count_one_more (put_call v) seen call in
-      let at_more = λ (n : ℕ). count_one_more (put_at v n) seen call in
+      let at_more = λ (n : ℕ). count_one_more (is_put_at v n) seen call in
       let early = early_more in
       let late = late_more in
       elim (is_put call.op) as (λ b. is_put call.op ≡ b → IsGroup (seen ++ call ∷ []) v (cond b
@@ -115,7 +115,7 @@ module _ (seen : List Call) (call : Call) (g : Group) (h : IsGroup seen (value c
               put = λ lt. omega (
                 arith,
                 at_more call.first,
-                one_yes (put_at v call.first call)
+                one_yes (is_put_at v call.first call)
                     (and_from (put_call v call) (call.first == call.first) own
                     (eq-eqb call.first call.first refl)),
               );
@@ -148,7 +148,7 @@ module _ (seen : List Call) (call : Call) (g : Group) (h : IsGroup seen (value c
             absurd (false≢true (sym p ∙ (put_value v c.op c.reply e).0))
       ]
 
--- a call of another value
+-- a call of another value leaves the group as it is
 pub other_more : (seen : List Call) (call : Call) (v : ℕ) (g : Option Group) → value call ≢ v
     → IsGroupOf seen v g → IsGroupOf (seen ++ call ∷ []) v g
 other_more seen call v None ne h = each_append (λ (c : Call). value c ≡ v → ⊥) seen (call ∷ []) h
@@ -178,7 +178,8 @@ other_more seen call v (Some g) ne h =
         one_no
             (put_call v call) no_put,
       );
-      put = λ lt. (let some = h.put lt in omega (arith, count_one_more (put_at v g.put) seen call));
+      put = λ lt. (let some =
+          h.put lt in omega (arith, count_one_more (is_put_at v g.put) seen call));
       known_early = Contains-append_left seen (call ∷ []) g.early h.known_early;
       known_late = Contains-append_left seen (call ∷ []) g.late h.known_late;
       early = h.early;
@@ -242,7 +243,7 @@ group_new seen call old new h e own =
       );
       put = λ lt. (let some = own.put lt in omega (
         arith,
-        count_append (put_at v new.put) seen
+        count_append (is_put_at v new.put) seen
             (call ∷ []),
       ));
       known_early = Contains-append_right seen (call ∷ []) new.early own.known_early;
@@ -267,7 +268,3 @@ group_new seen call old new h e own =
           (elim (either (p x)) [ inr q ↦ q | inl q ↦ absurd (k.0 (f x q)) ]),
       nobody p f xs k.1,
     )
-
-pub group_small : (seen : List Call) (v : ℕ) (g : Group) (n : ℕ) → IsGroup seen v g
-    → length seen < n → g.puts < n
-group_small seen v g n h lt = omega (arith, h.puts, count_by-le-length (put_call v) seen)

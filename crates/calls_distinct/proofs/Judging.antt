@@ -11,11 +11,11 @@ use Rattle.calls_core.specs.Linearizations.{initial}
 use Rattle.calls_core.specs.Outcomes.{IsOrderOf}
 use Rattle.calls_core.proofs.Positions.{are_calls_of}
 use Rattle.calls_distinct.specs.declared.cell.Fault.TheVariants.{Nowhere}
-use Rattle.calls_distinct.specs.declared.zone.Grouped.{Grouped}
+use Rattle.calls_distinct.specs.declared.zone.GroupedCall.{GroupedCall}
 use Rattle.calls_distinct.specs.declared.zone.Zone.{Zone}
 use Rattle.calls_distinct.specs.Cells.{IsStore, IsStoreHistory, IsDistinctHistory, Shows, value}
 use Rattle.calls_distinct.specs.Outcomes.{IsRepeated}
-use Rattle.calls_distinct.specs.Zones.{NotAfter, zone_calls, AreCrossed, crossing_fault, KeptZones}
+use Rattle.calls_distinct.specs.Zones.{NotAfter, zone_calls, AreCrossed, crossing_fault, KeepZoneOrder}
 use Rattle.calls_distinct.specs.Groups.{repeats, lacks_put, zones_of}
 use Rattle.calls_distinct.specs.Verdicts.{AreGroupedOf}
 use Rattle.calls_distinct.proofs.Accesses.{AreAccesses, zero_first, accesses_of}
@@ -24,17 +24,17 @@ use Rattle.calls_distinct.proofs.Verdicts.{all_distinct, is_repeated, in_time, f
 use Rattle.calls_distinct.proofs.Verdicts.{are_sorted}
 
 module _ (past : List Event) (t : ℕ) (h : IsStoreHistory past) (le : clock past ≤ t)
-    (distinct : IsDistinctHistory past) (zs : List Grouped) (grouped : AreGroupedOf past t zs) where
+    (distinct : IsDistinctHistory past) (zs : List GroupedCall) (grouped : AreGroupedOf past t zs) where
   given : AreAccesses (completed_calls past) (pending_calls past) t
   given = accesses_of h.0 (completed_calls past) (pending_calls past) (clock past) t h.1 le
       (are_calls_of h.0 past h.2)
 
-  pub nowhere_shows : (z : Grouped) → Contains zs z → lacks_put z ≡ true
+  pub nowhere_shows : (z : GroupedCall) → Contains zs z → lacks_put z ≡ true
       → Shows past (Nowhere z.call)
   nowhere_shows z k e = from_nowhere (completed_calls past) (pending_calls past) t zs grouped
       distinct z k e
 
-  module _ (none : Each (λ (z : Grouped). lacks_put z ≡ false) zs) (order : List Zone)
+  module _ (none : Each (λ (z : GroupedCall). lacks_put z ≡ false) zs) (order : List Zone)
       (moved : IsPermutation (zones_of t zs) order) (pairs : EachPair NotAfter order) where
     pub crossing_shows : (x z : Zone) → AreCrossed order x z → Shows past (crossing_fault x z)
     crossing_shows x z c = crossed_shows (completed_calls past) (pending_calls past) t given
@@ -42,7 +42,7 @@ module _ (past : List Event) (t : ℕ) (h : IsStoreHistory past) (le : clock pas
         (are_sorted (completed_calls past) (pending_calls past) t zs grouped given order moved
         pairs) x z c
 
-    pub order_is : EachPair KeptZones order → (cs : List Call) → cs ≡ zone_calls order
+    pub order_is : EachPair KeepZoneOrder order → (cs : List Call) → cs ≡ zone_calls order
         → (kind : Kind) → IsStore kind → IsOrderOf kind past t cs
     order_is kept cs e kind store = subst (IsOrderOf kind past t) (sym e)
         (ordered (completed_calls past) (pending_calls past) t given distinct
@@ -50,13 +50,13 @@ module _ (past : List Event) (t : ℕ) (h : IsStoreHistory past) (le : clock pas
         (are_sorted (completed_calls past) (pending_calls past) t zs grouped given order moved
         pairs) (initial (Some kind)) (zero_first kind store) kept)
 
-pub history_distinct : (past : List Event) (t : ℕ) (zs : List Grouped) → AreGroupedOf past t zs
-    → Each (λ (z : Grouped). repeats z ≡ false) zs → IsDistinctHistory past
+pub history_distinct : (past : List Event) (t : ℕ) (zs : List GroupedCall) → AreGroupedOf past t zs
+    → Each (λ (z : GroupedCall). repeats z ≡ false) zs → IsDistinctHistory past
 history_distinct past t zs grouped none = all_distinct (completed_calls past) (pending_calls past) t
     zs grouped none
 
-pub history_repeats : (past : List Event) (t v : ℕ) (zs : List Grouped) → AreGroupedOf past t zs
-    → (z : Grouped) → Contains zs z → repeats z ≡ true → v ≡ value z.call
+pub history_repeats : (past : List Event) (t v : ℕ) (zs : List GroupedCall) → AreGroupedOf past t zs
+    → (z : GroupedCall) → Contains zs z → repeats z ≡ true → v ≡ value z.call
     → IsRepeated (completed_calls past) (pending_calls past) v z.group.put
 history_repeats past t v zs grouped z k e is = subst (λ (n : ℕ). IsRepeated (completed_calls past)
     (pending_calls past) n z.group.put) (sym is) (is_repeated (completed_calls past)

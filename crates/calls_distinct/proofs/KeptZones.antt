@@ -1,4 +1,4 @@
--- One more zone, in order with those before it.
+-- One more zone, whose call keeps the order with those before it.
 use Rattle.std.proofs.Common.{◌≡◌, ℕ, zero, suc, ◌+◌, ◌<◌, ◌≤◌, true, false, cond, nat_lt}
 use Rattle.std.proofs.Common.{Option, Some, None, List, [], ◌∷◌, ◌++◌, length, take, drop, get_or}
 use Rattle.std.proofs.Common.{refl, ap, sym, ◌∙◌, arith, subst}
@@ -9,7 +9,7 @@ use Rattle.std.proofs.lemmas.List.Elements.{Contains-append_left, Contains-appen
 use Rattle.calls_core.specs.Lists.{Each, EachPair}
 use Rattle.calls_core.proofs.Lists.{each_weaker, each_append, each_pair_append, each_pair_across}
 use Rattle.calls_distinct.specs.declared.zone.Zone.{Zone}
-use Rattle.calls_distinct.specs.Zones.{NotAfter, AreCrossed, KeptZones, IsLatest, latest}
+use Rattle.calls_distinct.specs.Zones.{NotAfter, AreCrossed, KeepZoneOrder, IsLatest, latest}
 use Rattle.calls_distinct.proofs.Sorted.{each_of}
 use Rattle.calls_distinct.proofs.Steps.{contains_at}
 
@@ -42,21 +42,21 @@ latest_more zs i d o x y lt h same e = subst (λ v. IsLatest (take (i + 1) zs) (
     (latest_append (take i zs) x (get_or zs i d) (subst (IsLatest (take i zs)) (sym same) h)))
 
 pub kept_none : (zs : List Zone) (i : ℕ) (d : Zone) (x : Option Zone) → i < length zs
-    → IsLatest (take i zs) x → x ≡ None → EachPair KeptZones (take (i + 1) zs)
+    → IsLatest (take i zs) x → x ≡ None → EachPair KeepZoneOrder (take (i + 1) zs)
 kept_none zs i d x lt h e =
     let none : take i zs ≡ [] = subst (IsLatest (take i zs)) e h in
-    subst (EachPair KeptZones) (sym (take_more zs i d lt ∙ ap (λ ys.
+    subst (EachPair KeepZoneOrder) (sym (take_more zs i d lt ∙ ap (λ ys.
     ys ++ get_or zs i d ∷ []) none)) (tt, tt)
 
 pub kept_more : (zs : List Zone) (i : ℕ) (d : Zone) (o : Option Zone) (x : Zone) → i < length zs
-    → IsLatest (take i zs) o → o ≡ Some x → EachPair KeptZones (take i zs)
-    → x.call.first ≤ (get_or zs i d).call.last → EachPair KeptZones (take (i + 1) zs)
+    → IsLatest (take i zs) o → o ≡ Some x → EachPair KeepZoneOrder (take i zs)
+    → x.call.first ≤ (get_or zs i d).call.last → EachPair KeepZoneOrder (take (i + 1) zs)
 kept_more zs i d o x lt h e kept le =
     let z = get_or zs i d in
     let late : IsLatest (take i zs) (Some x) = subst (IsLatest (take i zs)) e h in
-    subst (EachPair KeptZones) (sym (take_more zs i d lt)) (each_pair_append KeptZones (take i zs)
+    subst (EachPair KeepZoneOrder) (sym (take_more zs i d lt)) (each_pair_append KeepZoneOrder (take i zs)
     (z ∷ []) kept (tt, tt)
-    (each_weaker (λ (y : Zone). y.call.first ≤ x.call.first) (λ (y : Zone). Each (KeptZones y)
+    (each_weaker (λ (y : Zone). y.call.first ≤ x.call.first) (λ (y : Zone). Each (KeepZoneOrder y)
     (z ∷ [])) (λ y k. ((λ f. (let before : z.call.last < y.call.first = f in omega arith)), tt))
     (take i zs) late.1))
 

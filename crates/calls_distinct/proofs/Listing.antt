@@ -19,9 +19,9 @@ use Rattle.calls_core.specs.Histories.{completion}
 use Rattle.calls_core.specs.Linearizations.{answered_one, answered_calls}
 use Rattle.calls_core.proofs.Filters.{filter_yes, filter_no, permutation_filter}
 use Rattle.calls_core.proofs.Counting.{one, one_no, count_cons, count_append, count_moved}
-use Rattle.calls_distinct.specs.Cells.{is_put, value_of, value, put_call, put_pending, times, gets}
+use Rattle.calls_distinct.specs.Cells.{is_put, value_put_or_returned, value, put_call, put_pending, times, gets}
 use Rattle.calls_distinct.specs.Cells.{is_got}
-use Rattle.calls_distinct.specs.Outcomes.{put_at, put_pending_at}
+use Rattle.calls_distinct.specs.Outcomes.{is_put_at, put_pending_at}
 use Rattle.calls_distinct.specs.Zones.{put_answer, begun_calls, store_answer, all_of}
 use Rattle.calls_distinct.proofs.Accesses.{IsCompletedAccess}
 
@@ -140,12 +140,12 @@ module _ (done : List Call) (pending : List PendingCall) (t : ℕ) where
   pub begun_times : (v : ℕ) → count_by (put_call v) (begun_calls done pending t)
       ≡ times done pending v
   begun_times v = begun_count (put_call v) (put_pending v) (λ o e. refl) (λ o e.
-      ap (λ b. b && (value_of o.op Done == v)) e)
+      ap (λ b. b && (value_put_or_returned o.op Done == v)) e)
 
-  pub begun_at : (v n : ℕ) → count_by (put_at v n) (begun_calls done pending t) ≡ count_by
-      (put_at v n) done + count_by (put_pending_at v n) pending
-  begun_at v n = begun_count (put_at v n) (put_pending_at v n) (λ o e. refl) (λ o e.
-      ap (λ b. (b && (value_of o.op Done == v)) && (o.first == n)) e)
+  pub begun_at : (v n : ℕ) → count_by (is_put_at v n) (begun_calls done pending t) ≡ count_by
+      (is_put_at v n) done + count_by (put_pending_at v n) pending
+  begun_at v n = begun_count (is_put_at v n) (put_pending_at v n) (λ o e. refl) (λ o e.
+      ap (λ b. (b && (value_put_or_returned o.op Done == v)) && (o.first == n)) e)
 
   pub begun_got : (v : ℕ) → is_got (begun_calls done pending t) v ≡ is_got done v
   begun_got v = ap (nat_le 1) (omega (
@@ -191,7 +191,7 @@ module _ (done : List Call) (pending : List PendingCall) (t : ℕ) where
         | inr h ↦ absurd (false≢true (sym get ∙ answered_puts pending c h))
       ]
 
-  -- THOSE THAT TAKE EFFECT
+  -- THE CALLS THAT TAKE EFFECT
 
   abbrev pub keeps : Call → Bool
   keeps c = nat_lt c.last t || is_got done (value c)
@@ -202,11 +202,12 @@ module _ (done : List Call) (pending : List PendingCall) (t : ℕ) where
   kept_answered (o ∷ os) =
       elim (is_put o.op) as (λ b. filter keeps (answered_one t o (cond b (Some Done) None)
       ++ answered_calls t put_answer os) ≡ answered_one t o
-      (cond (b && is_got done (value_of o.op Done)) (Some Done) None) ++ answered_calls t
+      (cond (b && is_got done (value_put_or_returned o.op Done)) (Some Done) None)
+      ++ answered_calls t
       (store_answer done) os) [
         | false ↦ kept_answered os
-        | true ↦ elim (is_got done (value_of o.op Done)) as (λ b.
-            is_got done (value_of o.op Done) ≡ b → filter keeps
+        | true ↦ elim (is_got done (value_put_or_returned o.op Done)) as (λ b.
+            is_got done (value_put_or_returned o.op Done) ≡ b → filter keeps
             (completion t Done o ∷ answered_calls t put_answer os) ≡ answered_one t o
             (cond b (Some Done) None) ++ answered_calls t (store_answer done) os) [
               | true ↦ λ g. filter_yes keeps (completion t Done o) (answered_calls t put_answer os)
@@ -216,9 +217,9 @@ module _ (done : List Call) (pending : List PendingCall) (t : ℕ) where
             ] refl
       ]
     where
-      late : (b : Bool) → is_got done (value_of o.op Done) ≡ b
-          → (nat_lt t t || is_got done (value_of o.op Done)) ≡ b
-      late b g = ap (λ y. y || is_got done (value_of o.op Done)) (le-ltb t t (omega arith)) ∙ g
+      late : (b : Bool) → is_got done (value_put_or_returned o.op Done) ≡ b
+          → (nat_lt t t || is_got done (value_put_or_returned o.op Done)) ≡ b
+      late b g = ap (λ y. y || is_got done (value_put_or_returned o.op Done)) (le-ltb t t (omega arith)) ∙ g
 
   kept_done : (cs : List Call) → Each (IsCompletedAccess t) cs → filter keeps cs ≡ cs
   kept_done [] h = refl

@@ -1,4 +1,4 @@
--- Calls sorted by zones are a run.
+-- Calls sorted by zones are a legal sequential history.
 use Rattle.std.proofs.Common.{◌≡◌, ◌≢◌, ℕ, zero, suc, ◌<◌, ◌⊎◌, inl, inr, min}
 use Rattle.std.proofs.Common.{true, false, List, [], ◌∷◌, ◌++◌, length, refl, ap, sym}
 use Rattle.std.proofs.Common.{◌∙◌, arith, subst, append_assoc}
@@ -16,19 +16,20 @@ use Rattle.calls_core.specs.declared.history.PendingCall.{PendingCall}
 use Rattle.calls_core.specs.declared.history.Call.{Call}
 use Rattle.calls_core.specs.Lists.{Each, EachPair}
 use Rattle.calls_core.specs.Histories.{Suits}
-use Rattle.calls_core.specs.Linearizations.{Gives, after, IsSequentialRun}
+use Rattle.calls_core.specs.Linearizations.{Gives, after, IsLegalHistory}
 use Rattle.calls_core.proofs.Lists.{each_weaker, each_pair_right, each_pair_left}
 use Rattle.calls_core.proofs.Lists.{each_pair_across, all_from_each}
 use Rattle.calls_core.proofs.Counting.{Split, in_either}
 use Rattle.calls_distinct.specs.declared.zone.Zone.{Zone}
-use Rattle.calls_distinct.specs.Cells.{is_put, value_of, value, gets, is_got}
+use Rattle.calls_distinct.specs.Cells.{is_put, value_put_or_returned, value, gets, is_got}
 use Rattle.calls_distinct.specs.Zones.{key, NotAfter, IsZone, zone_calls}
 use Rattle.calls_distinct.proofs.Accesses.{IsAccess}
 use Rattle.calls_distinct.proofs.Facing.{AreChecked, either, rank_put, rank_get, gets_of, gets_is}
 use Rattle.calls_distinct.proofs.Facing.{key_zero, key_other, one_early}
 
 one_gives : (m : ℕ → ℕ) (op : Op) (r : Reply) → IsAccess op → Suits op r
-    → (is_put op ≡ false → value_of op r ≡ m 0) → Gives m op r × (after m op r 0 ≡ value_of op r)
+    → (is_put op ≡ false → value_put_or_returned op r ≡ m 0) → Gives m op r
+    × (after m op r 0 ≡ value_put_or_returned op r)
 one_gives m (Put v) Done a u h = (refl, refl)
 one_gives m (Put v) (Number n) a u h = absurd u
 one_gives m (Put v) Timeout a u h = absurd u
@@ -77,13 +78,13 @@ middle (u ∷ us) x ws = (let r = middle us x ws in (
 ))
 
 of_split : {X : Type 0} (xs : List X) (x : X) → Split xs x → Contains xs x
-of_split xs x s = subst (λ zs. Contains zs x) (sym s.is) (middle s.front x s.back)
+of_split xs x s = subst (λ zs. Contains zs x) (sym s.is) (middle s.prefix x s.back)
 
--- s is what is stored after these
+-- s is the value that is stored after these calls
 record IsLast (xs : List Zone) (s : ℕ) : Type 0 where
-  front : List Zone
+  prefix : List Zone
   w : Zone
-  is : xs ≡ front ++ w ∷ []
+  is : xs ≡ prefix ++ w ∷ []
   value_is : value w.call ≡ s
 
 module _ (all done : List Call) (pending : List PendingCall) (t : ℕ)
@@ -93,7 +94,7 @@ module _ (all done : List Call) (pending : List PendingCall) (t : ℕ)
   one_zone : (z : Zone) → Contains order z → IsZone all done z
   one_zone z k = each_of (IsZone all done) order z zones k
 
-  -- a get returns what is stored
+  -- a get returns the value that is stored before it
   stored : (xs : List Zone) (z : Zone) (ys : List Zone) (s : ℕ) → order ≡ xs ++ z ∷ ys
       → ((xs ≡ []) × (s ≡ 0)) ⊎ IsLast xs s → is_put z.call.op ≡ false → value z.call ≡ s
   stored xs z ys s is last get =
@@ -108,7 +109,7 @@ module _ (all done : List Call) (pending : List PendingCall) (t : ℕ)
           | inl start ↦ none ∙ sym start.1
           | inr r ↦
               (let n : NotAfter r.w z = each_of (λ x. NotAfter x z) xs r.w before
-              (subst (λ zs. Contains zs r.w) (sym r.is) (middle r.front r.w [])) in
+              (subst (λ zs. Contains zs r.w) (sym r.is) (middle r.prefix r.w [])) in
               let kz = key_zero z (gets_of z.call get none) in
               let keys = n.keys in
               let same : key r.w ≡ key z = omega arith in
@@ -130,24 +131,24 @@ module _ (all done : List Call) (pending : List PendingCall) (t : ℕ)
             min m z.late.first) same.0 ∙ ap (λ m. min q.early.last m) same.1 ∙ sym
             (key_other q (no_get q.call put_q)) in
             elim (in_either xs z ys q (subst (λ zs. Contains zs q) is f.1)) [
-              | inl front ↦ elim last [
-                | inl start ↦ (let e : [] ≡ front.front ++ q ∷ front.back =
-                    sym start.0 ∙ front.is in absurd (nothing front.front q front.back e))
+              | inl prefix ↦ elim last [
+                | inl start ↦ (let e : [] ≡ prefix.prefix ++ q ∷ prefix.back =
+                    sym start.0 ∙ prefix.is in absurd (nothing prefix.prefix q prefix.back e))
                 | inr r ↦
                     (let n : NotAfter r.w z = each_of (λ x. NotAfter x z) xs r.w before
-                    (subst (λ zs. Contains zs r.w) (sym r.is) (middle r.front r.w [])) in
-                    elim (in_either r.front r.w [] q (subst (λ zs. Contains zs q) r.is
-                    (of_split xs q front))) [
+                    (subst (λ zs. Contains zs r.w) (sym r.is) (middle r.prefix r.w [])) in
+                    elim (in_either r.prefix r.w [] q (subst (λ zs. Contains zs q) r.is
+                    (of_split xs q prefix))) [
                       | inl early ↦
-                          (let own : EachPair NotAfter (r.front ++ r.w ∷ []) =
+                          (let own : EachPair NotAfter (r.prefix ++ r.w ∷ []) =
                           subst (EachPair NotAfter) r.is
                           (each_pair_left NotAfter xs (z ∷ ys) pairs) in
-                          let up : Each (λ x. NotAfter x r.w) r.front =
+                          let up : Each (λ x. NotAfter x r.w) r.prefix =
                           each_weaker (λ x. Each (NotAfter x) (r.w ∷ [])) (λ x. NotAfter x r.w)
-                          (λ x h. h.0) r.front (each_pair_across NotAfter r.front
+                          (λ x h. h.0) r.prefix (each_pair_across NotAfter r.prefix
                           (r.w ∷ []) own) in
-                          let m : NotAfter q r.w = each_of (λ x. NotAfter x r.w) r.front q up
-                          (of_split r.front q early) in
+                          let m : NotAfter q r.w = each_of (λ x. NotAfter x r.w) r.prefix q up
+                          (of_split r.prefix q early) in
                           let a = m.keys in
                           let b = n.keys in
                           let c = m.values (omega arith) in
@@ -157,7 +158,7 @@ module _ (all done : List Call) (pending : List PendingCall) (t : ℕ)
                       | inr rest ↦ elim rest [
                         | inl eq ↦ sym value_q ∙ ap (λ (y : Zone). value y.call) (sym eq)
                             ∙ r.value_is
-                        | inr none ↦ absurd (nothing none.front q none.back none.is)
+                        | inr none ↦ absurd (nothing none.prefix q none.back none.is)
                       ]
                     ])
               ]
@@ -177,7 +178,7 @@ module _ (all done : List Call) (pending : List PendingCall) (t : ℕ)
       nothing (u ∷ us) q ws e = cc
 
   run_from : (xs ys : List Zone) (m : ℕ → ℕ) → order ≡ xs ++ ys → ((xs ≡ []) × (m 0 ≡ 0))
-      ⊎ IsLast xs (m 0) → IsSequentialRun m (zone_calls ys)
+      ⊎ IsLast xs (m 0) → IsLegalHistory m (zone_calls ys)
   run_from xs [] m is last = tt
   run_from xs (z ∷ ys) m is last =
       let hz = one_zone z (subst (λ zs. Contains zs z) (sym is) (middle xs z ys)) in
@@ -186,12 +187,12 @@ module _ (all done : List Call) (pending : List PendingCall) (t : ℕ)
         g.0,
         run_from (xs ++ z ∷ []) ys (after m z.call.op z.call.reply)
             (is ∙ sym (append_assoc xs (z ∷ []) ys)) (inr (record {
-              front = xs;
+              prefix = xs;
               w = z;
               is = refl;
               value_is = sym g.1;
             })),
       )
 
-  pub run_sorted : (m : ℕ → ℕ) → m 0 ≡ 0 → IsSequentialRun m (zone_calls order)
+  pub run_sorted : (m : ℕ → ℕ) → m 0 ≡ 0 → IsLegalHistory m (zone_calls order)
   run_sorted m e = run_from [] order m refl (inl (refl, e))

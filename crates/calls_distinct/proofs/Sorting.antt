@@ -1,4 +1,4 @@
--- Zones that were sorted.
+-- Zones that are sorted by key, value and rank.
 use Rattle.std.proofs.Common.{◌≡◌, ℕ, suc, ◌≤◌, Bool, true, false}
 use Rattle.std.proofs.Common.{cond, ◌==◌, nat_lt, List, [], ◌∷◌, get_or, refl, ap, sym, ◌∙◌}
 use Rattle.std.proofs.Common.{arith}
@@ -16,16 +16,7 @@ use Rattle.calls_core.proofs.Filters.{each_from_all}
 use Rattle.calls_distinct.specs.declared.zone.Zone.{Zone}
 use Rattle.calls_distinct.specs.Cells.{value}
 use Rattle.calls_distinct.specs.Zones.{key, rank, zone_cmp, NotAfter}
-
-pub each_pair_from_all : {X : Type 0} (R : X → X → Type 0) (xs : List X) → AllPairs R xs
-    → EachPair R xs
-each_pair_from_all R [] h = tt
-each_pair_from_all R (x ∷ xs) h = (
-  each_from_all (R x) xs (λ k d lt.
-      h 0 (suc k) d (omega arith) (omega arith)),
-  each_pair_from_all R xs (λ i j d lt le.
-      h (suc i) (suc j) d (omega arith) (omega arith)),
-)
+use Rattle.calls_core.proofs.Settling.{each_pair_from_all}
 
 abbrev pub zone_less : Zone → Zone → Bool
 zone_less x y = is_lt (zone_cmp x y)

@@ -1,4 +1,4 @@
--- Steps of the code, over lists.
+-- The steps of the code's loops, over lists.
 use Rattle.std.proofs.Common.{◌≡◌, ℕ, ◌+◌, ◌<◌, Bool, true, false, cond, Option}
 use Rattle.std.proofs.Common.{Some, None, append_assoc, append-nil, subst, List, [], ◌∷◌, ◌++◌}
 use Rattle.std.proofs.Common.{length, take, get_or, reverse, refl, ap, sym, ◌∙◌, arith}
@@ -22,7 +22,7 @@ use Rattle.calls_core.proofs.Counting.{one, count_cons, count_append}
 use Rattle.calls_distinct.specs.Cells.{is_put}
 use Rattle.calls_distinct.specs.Zones.{put_answer}
 
--- A PLACE OF A LIST
+-- AN ELEMENT OF A LIST
 
 pub each_more : {X : Type 0} (Q : X → Type 0) (xs : List X) (i : ℕ) (d : X) → i < length xs
     → Each Q (take i xs) → Q (get_or xs i d) → Each Q (take (i + 1) xs)
@@ -56,7 +56,7 @@ ended_reversed x (Invoke k op) o = refl
 ended_reversed x (Respond r) None = refl
 ended_reversed x (Respond r) (Some o) = refl
 
--- what was noted with one event more
+-- the listed calls with one more event
 pub noted_more : (events : List Event) (i : ℕ) (x : Event) (calls more : List Call)
     (os next : List PendingCall) → i < length events → x ≡ get_or events i x
     → calls ≡ reverse (completed_calls (past_at i events)) → os ≡ pending_calls (past_at i events)

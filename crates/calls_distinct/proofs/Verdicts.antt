@@ -1,4 +1,4 @@
--- What the code's tests give of a history.
+-- What the code's tests show about a history.
 use Rattle.std.proofs.Common.{◌≡◌, ◌≢◌, ℕ, ◌+◌, ◌<◌, ◌≤◌, ◌⊎◌, inl, inr, Bool, true}
 use Rattle.std.proofs.Common.{false, cond, not, ◌&&◌, ◌||◌, ◌==◌, nat_lt, nat_le, List, [], ◌∷◌}
 use Rattle.std.proofs.Common.{map, refl, ap, sym, ◌∙◌, arith, subst, count_by}
@@ -14,11 +14,11 @@ use Rattle.calls_core.specs.Lists.{Each, EachPair}
 use Rattle.calls_core.proofs.Lists.{each_weaker, each_map, each_filter, all_from_each}
 use Rattle.calls_core.proofs.Filters.{each_from_all, filter_yes, filter_no}
 use Rattle.calls_core.proofs.Counting.{one, count_cons}
-use Rattle.calls_distinct.specs.declared.zone.Grouped.{Grouped}
+use Rattle.calls_distinct.specs.declared.zone.GroupedCall.{GroupedCall}
 use Rattle.calls_distinct.specs.declared.zone.Zone.{Zone}
 use Rattle.calls_distinct.specs.Cells.{is_put, value, put_call, put_pending, times, gets, is_got}
 use Rattle.calls_distinct.specs.Cells.{IsDistinct, AreDistinct, put_by, put_pending_by, FromNowhere}
-use Rattle.calls_distinct.specs.Outcomes.{put_at, put_pending_at, IsRepeated}
+use Rattle.calls_distinct.specs.Outcomes.{is_put_at, put_pending_at, IsRepeated}
 use Rattle.calls_distinct.specs.Zones.{begun_calls, all_of, IsZone, NotAfter, zone_calls, AreSorted}
 use Rattle.calls_distinct.specs.Groups.{IsGroup, grouped_calls, AreGrouped, repeats, lacks_put}
 use Rattle.calls_distinct.specs.Groups.{takes_effect, zone_of, zones_of}
@@ -51,34 +51,35 @@ and_rest : (a b : Bool) → (a && b) ≡ false → a ≡ true → b ≡ false
 and_rest true b e f = e
 and_rest false b e f = absurd (false≢true f)
 
-module _ (done : List Call) (pending : List PendingCall) (t : ℕ) (zs : List Grouped)
+module _ (done : List Call) (pending : List PendingCall) (t : ℕ) (zs : List GroupedCall)
     (grouped : AreGrouped (begun_calls done pending t) (begun_calls done pending t) zs) where
-  one_group : (z : Grouped) → Contains zs z → IsGroup (begun_calls done pending t)
+  one_group : (z : GroupedCall) → Contains zs z → IsGroup (begun_calls done pending t)
       (value z.call) z.group
-  one_group z k = each_of (λ (z : Grouped). IsGroup (begun_calls done pending t)
+  one_group z k = each_of (λ (z : GroupedCall). IsGroup (begun_calls done pending t)
       (value z.call) z.group) zs z grouped.groups k
 
-  one_begun : (z : Grouped) → Contains zs z → Contains (begun_calls done pending t) z.call
+  one_begun : (z : GroupedCall) → Contains zs z → Contains (begun_calls done pending t) z.call
   one_begun z k = subst (λ cs. Contains cs z.call) grouped.calls
-      (map_in (λ (z : Grouped). z.call) zs z k)
+      (map_in (λ (z : GroupedCall). z.call) zs z k)
 
-  group_with : (c : Call) → Contains (begun_calls done pending t) c → (z : Grouped) × Contains zs z
+  group_with : (c : Call) → Contains (begun_calls done pending t) c → (z : GroupedCall)
+      × Contains zs z
       × (z.call ≡ c)
-  group_with c k = in_map (λ (z : Grouped). z.call) zs c (subst (λ cs. Contains cs c)
+  group_with c k = in_map (λ (z : GroupedCall). z.call) zs c (subst (λ cs. Contains cs c)
       (sym grouped.calls) k)
 
-  puts_of : (z : Grouped) → Contains zs z → z.group.puts ≡ times done pending (value z.call)
+  puts_of : (z : GroupedCall) → Contains zs z → z.group.puts ≡ times done pending (value z.call)
   puts_of z k = (one_group z k).puts ∙ begun_times done pending t (value z.call)
 
-  put_of : (z : Grouped) → Contains zs z → 0 < z.group.puts
-      → 0 < count_by (put_at (value z.call) z.group.put) done + count_by
+  put_of : (z : GroupedCall) → Contains zs z → 0 < z.group.puts
+      → 0 < count_by (is_put_at (value z.call) z.group.put) done + count_by
       (put_pending_at (value z.call) z.group.put) pending
   put_of z k lt = (let some = (one_group z k).put lt in
       omega (arith, some, begun_at done pending t (value z.call) z.group.put))
 
   -- THE DISTINCT CLASS
 
-  pub all_distinct : Each (λ (z : Grouped). repeats z ≡ false) zs → AreDistinct done pending
+  pub all_distinct : Each (λ (z : GroupedCall). repeats z ≡ false) zs → AreDistinct done pending
   all_distinct none v got =
       let r = some_one (gets v) done (omega (arith, leb-true 1 (count_by (gets v) done) got)) in
       let g = gets_parts v r.0 r.2 in
@@ -89,7 +90,7 @@ module _ (done : List Call) (pending : List PendingCall) (t : ℕ) (zs : List Gr
       let no = or_false (nat_lt 1 z.group.puts) ((value z.call == 0) && nat_lt 0 z.group.puts)
       (and_rest (not (is_put z.call.op)) (nat_lt 1 z.group.puts ||
       ((value z.call == 0) && nat_lt 0 z.group.puts))
-      (each_of (λ (z : Grouped). repeats z ≡ false) zs z none w.1) (ap not get)) in
+      (each_of (λ (z : GroupedCall). repeats z ≡ false) zs z none w.1) (ap not get)) in
       let few = ltb-false 1 z.group.puts no.0 in
       let puts = puts_of z w.1 in
       subst (IsDistinct done pending) own (record {
@@ -98,7 +99,7 @@ module _ (done : List Call) (pending : List PendingCall) (t : ℕ) (zs : List Gr
             (nat_lt 0 z.group.puts) no.1 (eq-eqb (value z.call) 0 e)) in omega arith);
       })
 
-  pub is_repeated : (z : Grouped) → Contains zs z → repeats z ≡ true
+  pub is_repeated : (z : GroupedCall) → Contains zs z → repeats z ≡ true
       → IsRepeated done pending (value z.call) z.group.put
   is_repeated z k e =
       let p = and_parts (not (is_put z.call.op)) (nat_lt 1 z.group.puts ||
@@ -129,9 +130,9 @@ module _ (done : List Call) (pending : List PendingCall) (t : ℕ) (zs : List Gr
         there = put_of z k some;
       }
 
-  -- IN TIME
+  -- PUT BEFORE THE RESPONSE
 
-  pub in_time : Each (λ (z : Grouped). lacks_put z ≡ false) zs → (g : Call) → Contains done g
+  pub in_time : Each (λ (z : GroupedCall). lacks_put z ≡ false) zs → (g : Call) → Contains done g
       → is_put g.op ≡ false → value g ≢ 0 → 0 < count_by (put_by (value g) g.last) done + count_by
       (put_pending_by (value g) g.last) pending
   in_time none g k get ne =
@@ -148,7 +149,7 @@ module _ (done : List Call) (pending : List PendingCall) (t : ℕ) (zs : List Gr
       let no = or_false (z.group.puts == 0) (nat_lt z.call.last z.group.put)
       (and_rest (not (is_put z.call.op) && not (value z.call == 0))
       ((z.group.puts == 0) || nat_lt z.call.last z.group.put)
-      (each_of (λ (z : Grouped). lacks_put z ≡ false) zs z none w.1) tests) in
+      (each_of (λ (z : GroupedCall). lacks_put z ≡ false) zs z none w.1) tests) in
       let le = ltb-false z.call.last z.group.put no.1 in
       let some : 0 < z.group.puts = elim (cases_eq z.group.puts 0) [
         | inl e ↦
@@ -168,12 +169,12 @@ module _ (done : List Call) (pending : List PendingCall) (t : ℕ) (zs : List Gr
       less true true c f = omega (arith, ap one (f refl))
       less true false c f = omega arith
 
-      more_by : (v n m : ℕ) → n ≤ m → (cs : List Call) → count_by (put_at v n) cs ≤ count_by
+      more_by : (v n m : ℕ) → n ≤ m → (cs : List Call) → count_by (is_put_at v n) cs ≤ count_by
           (put_by v m) cs
       more_by v n m le [] = omega arith
       more_by v n m le (c ∷ cs) = omega (
         arith,
-        count_cons (put_at v n) c cs,
+        count_cons (is_put_at v n) c cs,
         count_cons
             (put_by v m) c cs,
         less (put_call v c) (c.first == n) (nat_le c.first m) (λ e.
@@ -193,7 +194,8 @@ module _ (done : List Call) (pending : List PendingCall) (t : ℕ) (zs : List Gr
         more_pending_by v n m le os,
       )
 
-  pub from_nowhere : AreDistinct done pending → (z : Grouped) → Contains zs z → lacks_put z ≡ true
+  pub from_nowhere : AreDistinct done pending → (z : GroupedCall) → Contains zs z
+      → lacks_put z ≡ true
       → FromNowhere done pending z.call
   from_nowhere distinct z k e =
       let v = value z.call in
@@ -233,12 +235,12 @@ module _ (done : List Call) (pending : List PendingCall) (t : ℕ) (zs : List Gr
       less true true c f = omega (arith, ap (λ y. one (not y)) (f refl))
       less true false c f = omega arith
 
-      late_by : (v n m : ℕ) → m < n → (cs : List Call) → count_by (put_at v n) cs ≤ count_by
+      late_by : (v n m : ℕ) → m < n → (cs : List Call) → count_by (is_put_at v n) cs ≤ count_by
           (λ (c : Call). put_call v c && not (nat_le c.first m)) cs
       late_by v n m lt [] = omega arith
       late_by v n m lt (c ∷ cs) = omega (
         arith,
-        count_cons (put_at v n) c cs,
+        count_cons (is_put_at v n) c cs,
         count_cons
             (λ (c : Call). put_call v c && not (nat_le c.first m)) c cs,
         less (put_call v c)
@@ -278,13 +280,13 @@ module _ (done : List Call) (pending : List PendingCall) (t : ℕ) (zs : List Gr
     from_all c k = in_filter (keeps done pending t) (begun_calls done pending t) c
         (Contains-permutation _ _ c all_kept k)
 
-    got_of : (z : Grouped) → Contains zs z → z.group.got ≡ is_got done (value z.call)
+    got_of : (z : GroupedCall) → Contains zs z → z.group.got ≡ is_got done (value z.call)
     got_of z k = (one_group z k).got ∙ begun_got done pending t (value z.call)
 
-    effect_of : (z : Grouped) → Contains zs z → takes_effect t z ≡ keeps done pending t z.call
+    effect_of : (z : GroupedCall) → Contains zs z → takes_effect t z ≡ keeps done pending t z.call
     effect_of z k = ap (λ b. nat_lt z.call.last t || b) (got_of z k)
 
-    own_zone : (z : Grouped) → Contains zs z → takes_effect t z ≡ true
+    own_zone : (z : GroupedCall) → Contains zs z → takes_effect t z ≡ true
         → IsZone (all_of done pending t) done (zone_of z)
     own_zone z k e =
         let all = all_of done pending t in
@@ -337,7 +339,7 @@ module _ (done : List Call) (pending : List PendingCall) (t : ℕ) (zs : List Gr
               })
         ] refl
 
-    zone_call : (z : Grouped) → (zone_of z).call ≡ z.call
+    zone_call : (z : GroupedCall) → (zone_of z).call ≡ z.call
     zone_call z = elim z.group.got as (λ b. (λ (y : Zone). y.call)
         (cond b (record { call = z.call; early = z.group.early; late = z.group.late })
         (record { call = z.call; early = z.call; late = z.call })) ≡ z.call) [
@@ -346,7 +348,7 @@ module _ (done : List Call) (pending : List PendingCall) (t : ℕ) (zs : List Gr
               refl
         ]
 
-    calls_kept : (ys : List Grouped) → Each (λ (z : Grouped). Contains zs z) ys
+    calls_kept : (ys : List GroupedCall) → Each (λ (z : GroupedCall). Contains zs z) ys
         → zone_calls (zones_of t ys) ≡ filter (keeps done pending t) (grouped_calls ys)
     calls_kept [] h = refl
     calls_kept (z ∷ ys) h =
@@ -365,13 +367,13 @@ module _ (done : List Call) (pending : List PendingCall) (t : ℕ) (zs : List Gr
         → EachPair NotAfter order → AreSorted (all_of done pending t) done order
     are_sorted order moved pairs =
         let all = all_of done pending t in
-        let mine : Each (λ (z : Grouped). Contains zs z) zs =
-        each_from_contains (λ (z : Grouped). Contains zs z) zs (λ z k. k) in
+        let mine : Each (λ (z : GroupedCall). Contains zs z) zs =
+        each_from_contains (λ (z : GroupedCall). Contains zs z) zs (λ z k. k) in
         let zones : Each (IsZone all done) (zones_of t zs) =
         each_map zone_of (IsZone all done) (filter (takes_effect t) zs)
-        (each_weaker (λ (z : Grouped). Contains zs z × (takes_effect t z ≡ true))
-        (λ (z : Grouped). IsZone all done (zone_of z)) (λ z p. own_zone z p.0 p.1)
-        (filter (takes_effect t) zs) (each_filter (λ (z : Grouped). Contains zs z)
+        (each_weaker (λ (z : GroupedCall). Contains zs z × (takes_effect t z ≡ true))
+        (λ (z : GroupedCall). IsZone all done (zone_of z)) (λ z p. own_zone z p.0 p.1)
+        (filter (takes_effect t) zs) (each_filter (λ (z : GroupedCall). Contains zs z)
         (takes_effect t) zs mine)) in
         let same : zone_calls (zones_of t zs) ≡ filter (keeps done pending t)
         (begun_calls done pending t) = calls_kept zs mine ∙ ap (filter (keeps done pending t))

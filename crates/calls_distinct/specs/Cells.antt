@@ -1,5 +1,5 @@
 -- The calls of a cell by their values: Put v stores v, and Get returns what is stored, at first 0.
--- A database goes by the same words: there a value represents a list.
+-- The same definitions serve for a database: there a value represents a list.
 use Rattle.std.specs.Prelude.{◌≡◌, ◌≢◌, ◌⊎◌, ℕ, ◌+◌, ◌≤◌, Bool, true, false, ◌&&◌, not, ◌==◌}
 use Rattle.std.specs.Prelude.{nat_le, count_by, List}
 use Rattle.std.specs.List.{Contains}
@@ -17,7 +17,7 @@ use Rattle.calls_core.specs.Linearizations.{Precedes}
 use Rattle.calls_distinct.specs.declared.cell.Fault.{Fault}
 use Rattle.calls_distinct.specs.declared.cell.Fault.TheVariants.{Nowhere, Stale, Alternate}
 
--- WHAT IS GIVEN
+-- STORES
 
 -- a cell, or a database
 abbrev pub IsStore : Kind → Type 0
@@ -39,17 +39,17 @@ returned_value (Number n) = n
 returned_value _ = 0
 
 -- what is put, or returned
-abbrev pub value_of : Op → Reply → ℕ
-value_of (Put v) r = v
-value_of Get r = returned_value r
-value_of _ r = 0
+abbrev pub value_put_or_returned : Op → Reply → ℕ
+value_put_or_returned (Put v) r = v
+value_put_or_returned Get r = returned_value r
+value_put_or_returned _ r = 0
 
 abbrev pub value : Call → ℕ
-value c = value_of c.op c.reply
+value c = value_put_or_returned c.op c.reply
 
 -- whether an operation is a put of v
 abbrev pub puts : ℕ → Op → Bool
-puts v op = is_put op && (value_of op Done == v)
+puts v op = is_put op && (value_put_or_returned op Done == v)
 
 abbrev pub put_call : ℕ → Call → Bool
 put_call v c = puts v c.op

@@ -1,4 +1,4 @@
--- Theorems of the calls of one cell or database.
+-- Theorems about the calls of one cell or database.
 use Rattle.std.specs.Prelude.{◌≤◌, ◌⊎◌, ℕ, List}
 use Rattle.calls_core.specs.declared.history.Kind.{Kind}
 use Rattle.calls_core.specs.declared.history.Event.{Event}
@@ -8,7 +8,7 @@ use Rattle.calls_core.specs.Outcomes.{IsOrderOf}
 use Rattle.calls_distinct.specs.declared.cell.Fault.{Fault}
 use Rattle.calls_distinct.specs.Cells.{IsStore, IsDistinctHistory, Shows}
 
--- events that show a fault have no linearization, wherever it puts the response of a pending call
+-- events that show a fault have no linearization, wherever the pending calls have their responses
 abbrev pub AFaultLeavesNoOrder : Type 0
 AFaultLeavesNoOrder =
     (kind : Kind) (past : List Event) (fault : Fault) (t : ℕ) (cs : List Call) → IsStore kind

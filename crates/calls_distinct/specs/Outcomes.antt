@@ -1,4 +1,4 @@
--- What is decided of a cell or a database.
+-- What the outcome of a decision about a cell or a database says.
 use Rattle.std.specs.Prelude.{◌≡◌, ℕ, ◌+◌, ◌<◌, true, Bool, ◌&&◌, ◌==◌, count_by, List, reverse}
 use Rattle.calls_core.specs.declared.history.Kind.{Kind}
 use Rattle.calls_core.specs.declared.history.Event.{Event}
@@ -10,8 +10,8 @@ use Rattle.calls_distinct.specs.declared.cell.Outcome.{Outcome}
 use Rattle.calls_distinct.specs.declared.cell.Outcome.TheVariants.{Ordered, Refused, Repeated}
 use Rattle.calls_distinct.specs.Cells.{IsStore, put_call, put_pending, is_got, IsDistinct, Shows}
 
-abbrev pub put_at : ℕ → ℕ → Call → Bool
-put_at v n c = put_call v c && (c.first == n)
+abbrev pub is_put_at : ℕ → ℕ → Call → Bool
+is_put_at v n c = put_call v c && (c.first == n)
 
 abbrev pub put_pending_at : ℕ → ℕ → PendingCall → Bool
 put_pending_at v n o = put_pending v o && (o.first == n)
@@ -22,7 +22,7 @@ pub record IsRepeated (done : List Call) (pending : List PendingCall) (v positio
   where
     pub got : is_got done v ≡ true
     pub twice : IsDistinct done pending v → ⊥
-    pub there : 0 < count_by (put_at v position) done + count_by (put_pending_at v position) pending
+    pub there : 0 < count_by (is_put_at v position) done + count_by (put_pending_at v position) pending
 
 -- for each kind of store
 abbrev pub IsOutcome : List Event → ℕ → Outcome → Type 0

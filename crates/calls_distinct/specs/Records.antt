@@ -1,8 +1,8 @@
--- What only the code's own representation needs: what clauses see of the calls that it refers to.
+-- The models of groups and zones. Only the proofs and the private contracts use this.
 use Rattle.std.specs.Prelude.{ℕ, Bool}
 use Rattle.calls_core.specs.declared.history.Call.{Call}
 
--- what is known of all calls of one value
+-- a summary of all calls of one value
 pub record Group : Type 0 where
   pub got : Bool
   pub puts : ℕ
@@ -10,8 +10,8 @@ pub record Group : Type 0 where
   pub early : Call
   pub late : Call
 
--- a call, and what is known of the calls of its value
-pub record Grouped : Type 0 where
+-- a call, and the group of its value
+pub record GroupedCall : Type 0 where
   pub call : Call
   pub group : Group
 

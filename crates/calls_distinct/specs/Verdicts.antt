@@ -1,22 +1,23 @@
--- What only the code's own representation needs: what its parts give of one history.
+-- The grouped calls of a history, and its verdict. Only the proofs and the private contracts use
+-- this.
 use Rattle.std.specs.Prelude.{ℕ, List}
 use Rattle.calls_core.specs.declared.history.Kind.{Kind}
 use Rattle.calls_core.specs.declared.history.Event.{Event}
 use Rattle.calls_core.specs.declared.history.Call.{Call}
 use Rattle.calls_core.specs.Histories.{completed_calls, pending_calls}
 use Rattle.calls_core.specs.Outcomes.{IsOrderOf}
-use Rattle.calls_distinct.specs.declared.zone.Grouped.{Grouped}
+use Rattle.calls_distinct.specs.declared.zone.GroupedCall.{GroupedCall}
 use Rattle.calls_distinct.specs.declared.verdict.Verdict.{Verdict}
 use Rattle.calls_distinct.specs.declared.verdict.Verdict.TheVariants.{Ordered, Faulty}
 use Rattle.calls_distinct.specs.Cells.{IsStore, Shows}
 use Rattle.calls_distinct.specs.Zones.{begun_calls}
 use Rattle.calls_distinct.specs.Groups.{AreGrouped}
 
-abbrev pub listed : List Event → ℕ → List Call
-listed past t = begun_calls (completed_calls past) (pending_calls past) t
+abbrev pub calls_of_history : List Event → ℕ → List Call
+calls_of_history past t = begun_calls (completed_calls past) (pending_calls past) t
 
-abbrev pub AreGroupedOf : List Event → ℕ → List Grouped → Type 0
-AreGroupedOf past t zs = AreGrouped (listed past t) (listed past t) zs
+abbrev pub AreGroupedOf : List Event → ℕ → List GroupedCall → Type 0
+AreGroupedOf past t zs = AreGrouped (calls_of_history past t) (calls_of_history past t) zs
 
 abbrev pub IsVerdict : List Event → ℕ → Verdict → Type 0
 IsVerdict past t (Ordered cs) = (kind : Kind) → IsStore kind → IsOrderOf kind past t cs

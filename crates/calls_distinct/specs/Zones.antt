@@ -1,4 +1,4 @@
--- What only the code's own representation needs: groups, zones, and their order.
+-- Zones, and their order. Only the proofs and the private contracts use this.
 use Rattle.std.specs.Prelude.{◌≡◌, ℕ, ◌≤◌, min, max, true, false, ◌&&◌}
 use Rattle.std.specs.Prelude.{nat_lt, List, [], ◌++◌, map, reverse}
 use Rattle.std.specs.Prelude.{Option, Some}
@@ -16,11 +16,11 @@ use Rattle.calls_core.specs.Linearizations.{answered_calls, Precedes, KeepsOrder
 use Rattle.calls_distinct.specs.declared.zone.Zone.{Zone}
 use Rattle.calls_distinct.specs.declared.cell.Fault.{Fault}
 use Rattle.calls_distinct.specs.declared.cell.Fault.TheVariants.{Stale, Alternate}
-use Rattle.calls_distinct.specs.Cells.{is_put, value_of, value, gets, is_got}
+use Rattle.calls_distinct.specs.Cells.{is_put, value_put_or_returned, value, gets, is_got}
 
 -- WHICH CALLS TAKE EFFECT
 
--- each pending put, as if it had a response
+-- the answer by which each pending put counts as completed
 abbrev pub put_answer : PendingCall → Option Reply
 put_answer o = if is_put o.op then Some Done else None
 
@@ -30,14 +30,15 @@ begun_calls done pending t = reverse done ++ answered_calls t put_answer pending
 
 -- a pending put of a value that was got takes effect, and no other pending call
 abbrev pub store_answer : List Call → PendingCall → Option Reply
-store_answer done o = if is_put o.op && is_got done (value_of o.op Done) then Some Done else None
+store_answer done o =
+    if is_put o.op && is_got done (value_put_or_returned o.op Done) then Some Done else None
 
 abbrev pub all_of : List Call → List PendingCall → ℕ → List Call
 all_of done pending t = answered_calls t (store_answer done) pending ++ done
 
 -- ZONES
 
--- if these are all calls that take effect
+-- z is a zone, if all are the calls that take effect
 pub record IsZone (all done : List Call) (z : Zone) : Type 0 where
   pub known : Contains all z.call
   pub known_early : Contains all z.early
@@ -57,8 +58,7 @@ zone_calls zs = map (λ (z : Zone). z.call) zs
 
 -- THEIR ORDER
 
--- a zone takes effect by the time when one of it has responded and when all of it are invoked; gets
--- of 0 at once
+-- the key of a zone: the earlier of its first response and its last invocation; 0 for a get of 0
 abbrev pub key : Zone → ℕ
 key z = if gets 0 z.call then 0 else min z.early.last z.late.first
 
@@ -83,26 +83,26 @@ pub record AreSorted (all done : List Call) (zs : List Zone) : Type 0 where
   pub sorted : EachPair NotAfter zs
   pub moved : IsPermutation all (zone_calls zs)
 
--- two that are in the wrong order
+-- two zones in the wrong order: x is sorted before z, but the call of z precedes that of x
 pub record AreCrossed (zs : List Zone) (x z : Zone) : Type 0 where
   pub known_x : Contains zs x
   pub known_z : Contains zs z
   pub sorted : NotAfter x z
   pub crossed : Precedes z.call x.call
 
--- what they show
+-- the fault that they show
 abbrev pub crossing_fault : Zone → Zone → Fault
 crossing_fault x z =
     if gets 0 x.call then Stale z.call x.call else Alternate x.early z.late z.call x.call
 
-abbrev pub KeptZones : Zone → Zone → Type 0
-KeptZones x z = KeepsOrder x.call z.call
+abbrev pub KeepZoneOrder : Zone → Zone → Type 0
+KeepZoneOrder x z = KeepsOrder x.call z.call
 
 abbrev pub IsCrossing : List Zone → Option (Zone × Zone) → Type 0
-IsCrossing zs None = EachPair KeptZones zs
+IsCrossing zs None = EachPair KeepZoneOrder zs
 IsCrossing zs (Some p) = AreCrossed zs p.0 p.1
 
--- one of these whose invocation is latest
+-- a zone whose call has the latest invocation
 abbrev pub IsLatest : List Zone → Option Zone → Type 0
 IsLatest zs None = zs ≡ []
 IsLatest zs (Some x) = Contains zs x × Each (λ (z : Zone). z.call.first ≤ x.call.first) zs

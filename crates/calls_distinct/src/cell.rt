@@ -1,4 +1,4 @@
-//! What is decided of a cell.
+//! The outcome of a decision about a cell.
 use calls_core::{Call, PlacedCalls};
 
 /// Why the calls of a cell have no linearization.
@@ -10,19 +10,18 @@ pub enum Fault {
     Stale(Call, Call),
     /// Two values alternate: the first precedes the second, and the third the fourth; the first
     /// and the fourth have one value, the second and the third another. The second and the fourth
-    /// may be pending puts: their responses mean nothing.
+    /// may be pending puts: then the positions of their responses have no meaning.
     Alternate(Call, Call, Call, Call),
 }
 
-/// Whether the calls of a cell make sense.
+/// Whether the calls of a cell are linearizable.
 #[derive(Debug, Drop)]
 pub enum Outcome {
     /// They have this linearization. A pending put that took effect has its response at the end.
     Ordered(PlacedCalls),
-    /// They have none: the event at this index is the first with which they show a fault, this
-    /// one.
+    /// They have none: with the event at this index, and with none before, they show this fault.
     Refused(usize, Fault),
-    /// A get returned this value, which was put twice, or is 0 and was put. The invocation of a
-    /// put of it is at this position.
+    /// Undecided: a get returned this value, which was put twice, or is 0 and was put. The
+    /// invocation of a put of it is at this position.
     Repeated(usize, usize),
 }

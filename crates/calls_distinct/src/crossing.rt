@@ -1,4 +1,4 @@
-//! Whether calls are after some that they precede.
+//! Finds calls that are sorted after calls that they precede.
 ghost use Rattle.std.specs.Prelude.{◌≡◌, ◌↔◌, IsTrue, option_copied, option_map};
 ghost use Rattle.calls_core.specs.Linearizations.{Precedes};
 ghost use Rattle.calls_core.specs.Lists.{EachPair};
@@ -8,7 +8,7 @@ use crate::Fault;
 use crate::reading::gets;
 use crate::zone::Zone;
 
-/// Returns what two calls show that are in the wrong order.
+/// Returns the fault that two calls show if z is after x in the list, and precedes it.
 pub(crate) fn crossing_fault(x: &Zone, z: &Zone) -> Fault
     ensures { result ≡ crossing_fault x.now z.now }
 {
@@ -19,7 +19,7 @@ pub(crate) fn crossing_fault(x: &Zone, z: &Zone) -> Fault
     }
 }
 
-/// Returns the one whose invocation is later.
+/// Returns the zone whose call has the later invocation.
 fn latest<'z, 'a>(x: Option<&'z Zone<'a>>, z: &'z Zone<'a>) -> &'z Zone<'a>
     ensures { result.now ≡ latest (option_copied x.entry) z.now }
 {
@@ -36,7 +36,7 @@ fn precedes(z: &Zone, x: &Zone) -> bool
     z.call.last < x.call.first
 }
 
-/// Finds a call that precedes an earlier one in the list.
+/// Finds a call that precedes one before it in the list, and returns that one first.
 pub(crate) fn crossing<'z, 'a>(zs: &'z [Zone<'a>]) -> Option<(&'z Zone<'a>, &'z Zone<'a>)>
     requires { EachPair NotAfter zs.now }
     ensures { IsCrossing zs.now (option_map (λ p. (p.0.now, p.1.now)) result) }

@@ -1,4 +1,4 @@
-//! Whether the calls of a cell make sense.
+//! Decides whether the calls of a cell are linearizable.
 ghost use Rattle.std.specs.Prelude.{◌≡◌, ◌<◌, ◌≤◌, ◌+◌, length, reverse, IfOk};
 ghost use Rattle.calls_core.specs.declared.history.Kind.{Kind};
 ghost use Rattle.calls_core.specs.Histories.{clock};
@@ -8,12 +8,12 @@ ghost use Rattle.calls_distinct.specs.Cells.{IsStore, IsStoreHistory, IsDistinct
 ghost use Rattle.calls_distinct.specs.Outcomes.{IsOutcome};
 ghost use Rattle.calls_distinct.specs.Verdicts.{AreGroupedOf, IsVerdict};
 
-use crate::groups::{grouped, groups_of};
+use crate::groups::{group_calls, groups_of};
 use crate::history::calls_in;
 use crate::reading::value;
 use crate::testing::first_repeated;
 use crate::verdict::{Verdict, judge};
-use crate::zone::Grouped;
+use crate::zone::GroupedCall;
 use crate::{Fault, Outcome};
 use calls_core::Part;
 use std::alloc::{AllocError, Global};
@@ -31,11 +31,13 @@ fn judge_beginning(alloc: Global, events: &Part<'_, '_>, n: usize) -> Result<Ver
     let beginning = events.first(n);
     let calls = calls_in(alloc, &beginning, end)?;
     let groups = groups_of(alloc, &calls)?;
-    let zs = grouped(alloc, &calls, &groups)?;
+    let zs = group_calls(alloc, &calls, &groups)?;
     judge(alloc, &zs, end)
 }
 
-/// Finds the first event with which the events show a fault, if all of them show one.
+/// Finds, by bisection, the first event with which a prefix shows a fault.
+///
+/// The whole history shows `fault`.
 fn first_fault(
     alloc: Global,
     events: &Part<'_, '_>,
@@ -64,11 +66,11 @@ fn first_fault(
     Ok((low, fault))
 }
 
-/// Decides the calls of some events, of which each is given with those of its value.
+/// Decides the calls of the events, each given with the group of its value.
 fn decide_grouped(
     alloc: Global,
     events: &Part<'_, '_>,
-    zs: &[Grouped<'_, '_>],
+    zs: &[GroupedCall<'_, '_>],
     end: usize,
 ) -> Result<Outcome, AllocError>
     requires history { IsStoreHistory (reverse events.now) }
@@ -89,10 +91,10 @@ fn decide_grouped(
     }
 }
 
-/// Decides whether the calls of one cell, or of one database, have a linearization. It says
-/// nothing if a value was got that was put twice, or 0 was put and got.
+/// Decides whether the calls of one cell, or of one database, have a linearization.
 ///
-/// The events are those of its calls, in order, and `end` is a position after all of them.
+/// It returns `Repeated` if a value was got that was put twice, or 0 was put and got. The events
+/// are those of its calls, in order, and `end` is a position after all of them.
 pub fn decide(alloc: Global, events: &Part<'_, '_>, end: usize) -> Result<Outcome, AllocError>
     requires history { IsStoreHistory (reverse events.now) }
     requires end { clock (reverse events.now) ≤ end }
@@ -100,6 +102,6 @@ pub fn decide(alloc: Global, events: &Part<'_, '_>, end: usize) -> Result<Outcom
 {
     let calls = calls_in(alloc, events, end)?;
     let groups = groups_of(alloc, &calls)?;
-    let zs = grouped(alloc, &calls, &groups)?;
+    let zs = group_calls(alloc, &calls, &groups)?;
     decide_grouped(alloc, events, &zs, end)
 }

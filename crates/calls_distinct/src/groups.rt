@@ -1,4 +1,4 @@
-//! What is known of all calls of each value.
+//! The calls, grouped by value.
 ghost use Rattle.std.specs.Prelude.{◌≡◌, ◌<◌, ℕ, List, ◌++◌, ◌∷◌, [], length, map, IfOk, OnOk};
 ghost use Rattle.std.specs.Prelude.{Option, None, Some, nat_eq};
 ghost use Rattle.std.specs.HashMap.{get};
@@ -9,7 +9,7 @@ ghost use Rattle.calls_distinct.specs.Groups.{earlier, later, with_call, IsGroup
 ghost use Rattle.calls_distinct.specs.Groups.{AreGroups, AreGrouped};
 
 use crate::reading::{is_put, value};
-use crate::zone::{Group, Grouped};
+use crate::zone::{Group, GroupedCall};
 use calls_core::Call;
 use std::alloc::{AllocError, Global};
 use std::collections::HashMap;
@@ -28,21 +28,21 @@ fn group_of_one(call: &Call) -> Group<'_>
     }
 }
 
-/// Returns the one with the earlier response.
+/// Returns the call with the earlier response.
 fn earlier<'a>(a: &'a Call, b: &'a Call) -> &'a Call
     ensures { result.now ≡ earlier a.now b.now }
 {
     if b.last < a.last { b } else { a }
 }
 
-/// Returns the one with the later invocation.
+/// Returns the call with the later invocation.
 fn later<'a>(a: &'a Call, b: &'a Call) -> &'a Call
     ensures { result.now ≡ later a.now b.now }
 {
     if a.first < b.first { b } else { a }
 }
 
-/// Adds a call to the group of its value.
+/// Returns the group with one more call of its value.
 fn with_call<'a>(group: &Group<'a>, call: &'a Call) -> Group<'a>
     requires { group.now.puts < usize.MAX }
     ensures { result ≡ with_call group.now call.now }
@@ -68,7 +68,7 @@ fn with_call<'a>(group: &Group<'a>, call: &'a Call) -> Group<'a>
     }
 }
 
-/// Adds a call.
+/// Adds a call to the group of its value.
 fn add<'a>(groups: &mut HashMap<usize, Group<'a>>, call: &'a Call) -> Result<(), AllocError>
     requires { (v : ℕ) (g : Group) → get nat_eq groups.old v ≡ Some g → g.puts < usize.MAX }
     ensures { OnOk result ((seen : List Call) → AreGroups seen (get nat_eq groups.old)
@@ -97,19 +97,19 @@ pub(crate) fn groups_of(
     Ok(groups)
 }
 
-/// Finds the group of each call.
-pub(crate) fn grouped<'g, 'a>(
+/// Pairs each call with the group of its value.
+pub(crate) fn group_calls<'g, 'a>(
     alloc: Global,
     calls: &'a [Call],
     groups: &'g HashMap<usize, Group<'a>>,
-) -> Result<Vec<Grouped<'g, 'a>>, AllocError>
+) -> Result<Vec<GroupedCall<'g, 'a>>, AllocError>
     requires { AreGroups calls.now (get nat_eq groups.now) }
     ensures { IfOk result (λ v. AreGrouped calls.now calls.now v.items) }
 {
     let mut out = Vec::new(alloc);
     for call in calls {
         if let Some(group) = groups.get(&value(call)) {
-            out.push(Grouped { call, group })?;
+            out.push(GroupedCall { call, group })?;
         }
     }
     Ok(out)

@@ -9,7 +9,7 @@ use crate::reading::is_put;
 use calls_core::{Action, Call, Event, Part, PendingCall, Reply};
 use std::alloc::{AllocError, Global};
 
-/// Takes out the pending call of this worker, if it has one.
+/// Removes and returns the pending call of this worker, if it has one.
 fn take_pending(pending: &mut Vec<PendingCall>, worker: usize) -> Option<PendingCall>
     ensures result { result ≡ pending_of worker pending.old.items }
     ensures rest { pending.new.items ≡ without worker pending.old.items }
@@ -22,21 +22,7 @@ fn take_pending(pending: &mut Vec<PendingCall>, worker: usize) -> Option<Pending
     None
 }
 
-/// Gives a pending call its response.
-fn completion(pending: &PendingCall, reply: Reply, last: usize) -> Call
-    ensures { result ≡ Rattle.calls_core.specs.Histories.completion last reply pending.now }
-{
-    Call {
-        worker: pending.worker,
-        object: pending.object,
-        op: pending.op,
-        reply,
-        first: pending.first,
-        last,
-    }
-}
-
-/// Takes note of one more event.
+/// Adds one event: it makes a call pending, or completes it.
 fn note(calls: &mut Vec<Call>, pending: &mut Vec<PendingCall>, x: &Event) -> Result<(), AllocError>
     ensures calls { OnOk result (calls.new.items ≡ calls.old.items ++ ended_call x.now x.now.action
         (pending_of x.now.worker pending.old.items)) }
@@ -54,27 +40,27 @@ fn note(calls: &mut Vec<Call>, pending: &mut Vec<PendingCall>, x: &Event) -> Res
         }
         Action::Respond(reply) => {
             if let Some(o) = take_pending(pending, x.worker) {
-                calls.push(completion(&o, reply, x.at))?;
+                calls.push(o.complete(reply, x.at))?;
             }
         }
     }
     Ok(())
 }
 
-/// Adds the pending puts, with a response at the end.
+/// Adds the pending puts, with a response at `end`.
 fn add_puts(calls: &mut Vec<Call>, pending: &[PendingCall], end: usize) -> Result<(), AllocError>
     ensures { OnOk result (calls.new.items ≡ calls.old.items ++ answered_calls end put_answer
         pending.now) }
 {
     for o in pending {
         if is_put(o.op) {
-            calls.push(completion(o, Reply::Done, end))?;
+            calls.push(o.complete(Reply::Done, end))?;
         }
     }
     Ok(())
 }
 
-/// Lists the completed calls, and the pending puts with a response at the end.
+/// Lists the completed calls, and the pending puts with a response at `end`.
 pub(crate) fn calls_in(
     alloc: Global,
     events: &Part<'_, '_>,

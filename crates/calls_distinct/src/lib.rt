@@ -1,4 +1,4 @@
-//! Decides the calls of one cell, or of one database, whose values were put once each.
+//! Decides whether the calls of one cell or database, with each value put once, are linearizable.
 #![tactic(auto)]
 
 mod cell;

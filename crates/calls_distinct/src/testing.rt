@@ -5,10 +5,10 @@ ghost use Rattle.calls_core.specs.Lists.{Each};
 ghost use Rattle.calls_distinct.specs.Groups.{repeats, lacks_put, IsFirst};
 
 use crate::reading::{is_put, value};
-use crate::zone::Grouped;
+use crate::zone::GroupedCall;
 
 /// Returns whether this is a get of a value that was put twice, or of 0, which was put.
-fn repeats(z: &Grouped) -> bool
+fn repeats(z: &GroupedCall) -> bool
     ensures { result ≡ repeats z.now }
 {
     let group = z.group;
@@ -16,7 +16,7 @@ fn repeats(z: &Grouped) -> bool
 }
 
 /// Returns whether this is a get of a value that was not put before its response.
-fn lacks_put(z: &Grouped) -> bool
+fn lacks_put(z: &GroupedCall) -> bool
     ensures { result ≡ lacks_put z.now }
 {
     let group = z.group;
@@ -24,7 +24,9 @@ fn lacks_put(z: &Grouped) -> bool
 }
 
 /// Finds a get of a value that was put twice, or of 0, which was put.
-pub(crate) fn first_repeated<'z, 'g, 'a>(zs: &'z [Grouped<'g, 'a>]) -> Option<&'z Grouped<'g, 'a>>
+pub(crate) fn first_repeated<'z, 'g, 'a>(
+    zs: &'z [GroupedCall<'g, 'a>],
+) -> Option<&'z GroupedCall<'g, 'a>>
     ensures { IsFirst repeats zs.now (option_copied result) }
 {
     for z in zs {
@@ -36,7 +38,9 @@ pub(crate) fn first_repeated<'z, 'g, 'a>(zs: &'z [Grouped<'g, 'a>]) -> Option<&'
 }
 
 /// Finds a get of a value that was not put before its response.
-pub(crate) fn first_lacking<'z, 'g, 'a>(zs: &'z [Grouped<'g, 'a>]) -> Option<&'z Grouped<'g, 'a>>
+pub(crate) fn first_lacking<'z, 'g, 'a>(
+    zs: &'z [GroupedCall<'g, 'a>],
+) -> Option<&'z GroupedCall<'g, 'a>>
     ensures { IsFirst lacks_put zs.now (option_copied result) }
 {
     for z in zs {

@@ -9,21 +9,21 @@ ghost use Rattle.calls_distinct.specs.Verdicts.{AreGroupedOf, IsVerdict};
 use crate::Fault;
 use crate::crossing::{crossing, crossing_fault};
 use crate::testing::first_lacking;
-use crate::zone::{Grouped, Zone};
-use crate::zones::sorted;
+use crate::zone::{GroupedCall, Zone};
+use crate::zones::sort_zones;
 use calls_core::PlacedCalls;
 use std::alloc::{AllocError, Global};
 
-/// A linearization, or what shows that there is none.
+/// A linearization, or the fault that shows that there is none.
 #[derive(Debug, Drop)]
 pub(crate) enum Verdict {
-    /// This is one.
+    /// The calls have this linearization.
     Ordered(PlacedCalls),
-    /// This fault is shown.
+    /// The calls show this fault.
     Faulty(Fault),
 }
 
-/// Lists the calls of some zones.
+/// Lists the calls of the zones, in their order.
 fn calls_of(alloc: Global, zs: &[Zone]) -> Result<PlacedCalls, AllocError>
     ensures { IfOk result (λ v. v ≡ zone_calls zs.now) }
 {
@@ -35,14 +35,14 @@ fn calls_of(alloc: Global, zs: &[Zone]) -> Result<PlacedCalls, AllocError>
 }
 
 /// Orders the calls, or finds a fault.
-pub(crate) fn judge(alloc: Global, zs: &[Grouped], end: usize) -> Result<Verdict, AllocError>
+pub(crate) fn judge(alloc: Global, zs: &[GroupedCall], end: usize) -> Result<Verdict, AllocError>
     ensures { IfOk result (λ v. (past : List Event) → IsStoreHistory past → clock past ≤ end
         → IsDistinctHistory past → AreGroupedOf past end zs.now → IsVerdict past end v) }
 {
     if let Some(z) = first_lacking(zs) {
         return Ok(Verdict::Faulty(Fault::Nowhere(*z.call)));
     }
-    let order = sorted(alloc, zs, end)?;
+    let order = sort_zones(alloc, zs, end)?;
     match crossing(&order) {
         Some((x, z)) => Ok(Verdict::Faulty(crossing_fault(x, z))),
         None => Ok(Verdict::Ordered(calls_of(alloc, &order)?)),

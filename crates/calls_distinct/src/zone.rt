@@ -1,19 +1,19 @@
-//! A call among those of its value.
+//! A call with the group, or the zone, of its value.
 use calls_core::Call;
 use std::marker::Model;
 
-/// What is known of all calls of one value.
+/// A summary of all calls of one value.
 #[derive(Debug, Drop)]
 pub(crate) struct Group<'a> {
     /// Whether a get returned the value.
     pub got: bool,
     /// How many puts of it there are.
     pub puts: usize,
-    /// The position of the invocation of the last of them that was seen.
+    /// The position of the invocation of the put that was added last.
     pub put: usize,
-    /// One of the calls whose response is earliest.
+    /// A call with the earliest response.
     pub early: &'a Call,
-    /// One of the calls whose invocation is latest.
+    /// A call with the latest invocation.
     pub late: &'a Call,
 }
 
@@ -31,19 +31,19 @@ impl<'a> Model for Group<'a> {
     } };
 }
 
-/// A call, and what is known of the calls of its value.
+/// A call, and the group of its value.
 #[derive(Debug, Drop)]
-pub(crate) struct Grouped<'g, 'a> {
+pub(crate) struct GroupedCall<'g, 'a> {
     /// The call.
     pub call: &'a Call,
-    /// The calls of its value.
+    /// The group of its value.
     pub group: &'g Group<'a>,
 }
 
-impl<'g, 'a> Model for Grouped<'g, 'a> {
+impl<'g, 'a> Model for GroupedCall<'g, 'a> {
     ghost use Rattle.calls_distinct.specs.Records as records;
 
-    ghost Value = { records.Grouped };
+    ghost Value = { records.GroupedCall };
 
     ghost view = { λ z. record { call = z.call.now; group = z.group.now } };
 }
@@ -54,9 +54,9 @@ impl<'g, 'a> Model for Grouped<'g, 'a> {
 pub(crate) struct Zone<'a> {
     /// The call.
     pub call: &'a Call,
-    /// One of its zone whose response is earliest.
+    /// A call of its zone with the earliest response.
     pub early: &'a Call,
-    /// One of its zone whose invocation is latest.
+    /// A call of its zone with the latest invocation.
     pub late: &'a Call,
 }
 

@@ -6,12 +6,14 @@ ghost use Rattle.calls_distinct.specs.Zones.{key, rank, zone_cmp, NotAfter};
 ghost use Rattle.calls_distinct.specs.Groups.{takes_effect, zone_of, zones_of};
 
 use crate::reading::{gets, is_put, value};
-use crate::zone::{Grouped, Zone};
+use crate::zone::{GroupedCall, Zone};
 use calls_core::Call;
 use std::alloc::{AllocError, Global};
 use std::cmp::Ordering;
 
-/// Returns when the zone of a call takes effect.
+/// Returns the key of a zone: the earlier of its first response and its last invocation.
+///
+/// The key of a get of 0 is 0.
 fn key(z: &Zone) -> usize
     ensures { result ≡ key z.now }
 {
@@ -22,7 +24,7 @@ fn key(z: &Zone) -> usize
     }
 }
 
-/// Returns the place of a call in its zone.
+/// Returns the rank of a call in its zone: the put is first, then the gets by invocations.
 fn rank(call: &Call) -> usize
     ensures { result ≡ rank call.now }
 {
@@ -33,7 +35,7 @@ fn rank(call: &Call) -> usize
     }
 }
 
-/// Compares two calls by their zones, and by their places in one.
+/// Compares two calls by the keys and values of their zones, then by their ranks in one zone.
 fn compare(x: &Zone, y: &Zone) -> Ordering
     ensures { result ≡ zone_cmp x.now y.now }
 {
@@ -43,7 +45,7 @@ fn compare(x: &Zone, y: &Zone) -> Ordering
 }
 
 /// Returns whether this is a completed call, or a pending put of a value that was got.
-fn takes_effect(end: usize, z: &Grouped) -> bool
+fn takes_effect(end: usize, z: &GroupedCall) -> bool
     ensures { result ≡ takes_effect end z.now }
 {
     let group = z.group;
@@ -51,7 +53,7 @@ fn takes_effect(end: usize, z: &Grouped) -> bool
 }
 
 /// Returns the zone of a call.
-fn zone_of<'a>(z: &Grouped<'_, 'a>) -> Zone<'a>
+fn zone_of<'a>(z: &GroupedCall<'_, 'a>) -> Zone<'a>
     ensures { result ≡ zone_of z.now }
 {
     let group = z.group;
@@ -71,7 +73,11 @@ fn zone_of<'a>(z: &Grouped<'_, 'a>) -> Zone<'a>
 }
 
 /// Lists the calls that take effect, with their zones.
-fn zones<'a>(alloc: Global, zs: &[Grouped<'_, 'a>], end: usize) -> Result<Vec<Zone<'a>>, AllocError>
+fn zones<'a>(
+    alloc: Global,
+    zs: &[GroupedCall<'_, 'a>],
+    end: usize,
+) -> Result<Vec<Zone<'a>>, AllocError>
     ensures { IfOk result (λ v. v.items ≡ zones_of end zs.now) }
 {
     let mut out = Vec::new(alloc);
@@ -84,9 +90,9 @@ fn zones<'a>(alloc: Global, zs: &[Grouped<'_, 'a>], end: usize) -> Result<Vec<Zo
 }
 
 /// Lists the calls that take effect, in the order of their zones.
-pub(crate) fn sorted<'a>(
+pub(crate) fn sort_zones<'a>(
     alloc: Global,
-    zs: &[Grouped<'_, 'a>],
+    zs: &[GroupedCall<'_, 'a>],
     end: usize,
 ) -> Result<Vec<Zone<'a>>, AllocError>
     ensures moved { IfOk result (λ v. IsPermutation (zones_of end zs.now) v.items) }

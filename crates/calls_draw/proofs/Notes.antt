@@ -5,21 +5,21 @@ use Rattle.std.specs.Io.KnownBytes.{Keeps}
 use Rattle.std.proofs.Common.{Result, Ok, IsOk, IsErr, refl}
 use Rattle.std.proofs.Common.{ap, sym, ◌∙◌, subst, append_assoc, append-nil, inl, inr}
 use Rattle.std.proofs.lemmas.Bool.{false≢true}
-use Rattle.ec_text.specs.Puts.{Outgoing, Holds, Puts, at_first, IsFresh, IsWrittenOut}
+use Rattle.ec_text.specs.Puts.{OutputModel, Holds, Puts, at_first, IsFresh, IsWrittenOut}
 use Rattle.ec_text.specs.declared.writing.WriteFault.{WriteFault}
 use Rattle.calls_report.specs.declared.status.Status.{Status}
 use Rattle.calls_report.specs.declared.status.Status.TheVariants.{Done, Refused, Usage, InputOutput}
 use Rattle.calls_report.specs.declared.status.Status.TheVariants.{Memory, NotDecided}
-use Rattle.calls_report.specs.Checks.{Outlets, ChecksText, ChecksWhole, Ends, IsJudged, Judged}
+use Rattle.calls_report.specs.Checks.{Outputs, ChecksText, ChecksWhole, Ends, IsJudged, JudgedHistory}
 use Rattle.calls_report.specs.Checks.{remarks_on, IsTooLarge}
-use Rattle.calls_report.specs.Notes.{refusal_note, scene_of, undecided_note}
+use Rattle.calls_report.specs.Notes.{refusal_note, site_of, undecided_note}
 use Rattle.calls_draw.specs.Draws.{Draws, IsNoteOn, SaysAsCheck}
 
 -- some bytes were put
-abbrev pub PutsSome : Outgoing → Outgoing → Type 0
+abbrev pub PutsSome : OutputModel → OutputModel → Type 0
 PutsSome old new = (note : List ℕ) × Puts old new note
 
-both : (old mid new : Outgoing) → PutsSome old mid → PutsSome mid new → PutsSome old new
+both : (old mid new : OutputModel) → PutsSome old mid → PutsSome mid new → PutsSome old new
 both old mid new one other = (
   one.0 ++ other.0,
   λ first all holds.
@@ -27,7 +27,7 @@ both old mid new one other = (
       (other.1 first (all ++ one.0) (one.1 first all holds)),
 )
 
-same : (old new : Outgoing) → new ≡ old → PutsSome old new
+same : (old new : OutputModel) → new ≡ old → PutsSome old new
 same old new is = (
   [],
   λ first all holds.
@@ -35,25 +35,25 @@ same old new is = (
       (subst (Holds first old) (sym (append-nil all)) holds),
 )
 
-ends_say : (status : Status) (m : ℕ) (qs : List (List ℕ)) (old new : Outgoing)
+ends_say : (status : Status) (m : ℕ) (qs : List (List ℕ)) (old new : OutputModel)
     → Ends status m qs old new → PutsSome old new
 ends_say Done m qs old new e = same old new e.2
 ends_say Refused m qs old new (inl e) = (e.0, e.3)
 ends_say Refused m qs old new (inr e) =
-    (refusal_note (scene_of e.0.number e.0.recorded e.1.object e.1.at) e.4.0, e.4.2)
+    (refusal_note (site_of e.0.number e.0.recorded e.1.object e.1.at) e.4.0, e.4.2)
 ends_say NotDecided m qs old new e =
-    (undecided_note (scene_of e.0.number e.0.recorded e.1.object 0) e.1.cause, e.4)
+    (undecided_note (site_of e.0.number e.0.recorded e.1.object 0) e.1.cause, e.4)
 ends_say Memory m qs old new e = (codes "no memory\n", e)
 ends_say Usage m qs old new e = absurd e
 ends_say InputOutput m qs old new e = absurd e
 
-judged_say : (status : Status) (text : List ℕ) (js : List Judged) (old new : Outgoing)
+judged_say : (status : Status) (text : List ℕ) (js : List JudgedHistory) (old new : OutputModel)
     → IsJudged status text js old new → PutsSome old new
 judged_say status text js old new j =
     both old j.remarked new (remarks_on js, j.remarks)
     (ends_say status j.number j.rest j.remarked new j.ends)
 
-text_says : (status : Status) (text : List ℕ) (old new : Outlets)
+text_says : (status : Status) (text : List ℕ) (old new : Outputs)
     → ChecksText status text old new → PutsSome old.notes new.notes
 text_says InputOutput text old new c =
     both old.notes c.2 new.notes (judged_say c.0 text c.1 old.notes c.2 c.3)
@@ -64,7 +64,7 @@ text_says Usage text old new c = judged_say Usage text c.0 old.notes new.notes c
 text_says Memory text old new c = judged_say Memory text c.0 old.notes new.notes c.1
 text_says NotDecided text old new c = judged_say NotDecided text c.0 old.notes new.notes c.1
 
-large_says : (status : Status) (text : List ℕ) (old new : Outlets)
+large_says : (status : Status) (text : List ℕ) (old new : Outputs)
     → IsTooLarge status text old new → PutsSome old.notes new.notes
 large_says Refused text old new c = (codes "too large\n", c.2)
 large_says Done text old new c = absurd c
@@ -73,18 +73,18 @@ large_says InputOutput text old new c = absurd c
 large_says Memory text old new c = absurd c
 large_says NotDecided text old new c = absurd c
 
-check_says : (text : List ℕ) (status : Status) (old new : Outlets) → ChecksWhole status text old new
+check_says : (text : List ℕ) (status : Status) (old new : Outputs) → ChecksWhole status text old new
     → PutsSome old.notes new.notes
 check_says text status old new (inl c) = text_says status text old new c.1
 check_says text status old new (inr c) = large_says status text old new c
 
--- WHERE NOTHING HAD BEEN SAID
+-- WHERE NOTHING HAD BEEN WRITTEN
 
-abbrev made : ℕ → Option (List ℕ) → List ℕ → Bool → Outgoing
+abbrev made : ℕ → Option (List ℕ) → List ℕ → Bool → OutputModel
 made w contents waiting failed =
     record { writer = w; contents = contents; waiting = waiting; failed = failed }
 
-at_is : (o : Outgoing) (w : ℕ) (contents : Option (List ℕ)) → o.writer ≡ w
+at_is : (o : OutputModel) (w : ℕ) (contents : Option (List ℕ)) → o.writer ≡ w
     → o.contents ≡ contents → o.waiting ≡ [] → o.failed ≡ false → o ≡ at_first w contents
 at_is o w contents writer holds none works =
     ap (λ x. made x o.contents o.waiting o.failed) writer
@@ -92,21 +92,21 @@ at_is o w contents writer holds none works =
     ∙ ap (λ x. made w contents x o.failed) none
     ∙ ap (λ x. made w contents [] x) works
 
--- what is said to a writer that held nothing goes to that writer
+-- a check that begins with an empty writer ends with the same writer
 pub writer_stays : (text : List ℕ) (status : Status) (before after : Option (List ℕ)) (w : ℕ)
-    (new : Outgoing) → ChecksWhole status text
+    (new : OutputModel) → ChecksWhole status text
     (record { out = before; notes = at_first w (Some []) }) (record { out = after; notes = new })
     → new.writer ≡ w
 unfolding Holds
 writer_stays text status before after w new checks =
-    let old : Outgoing = at_first w (Some []) in
+    let old : OutputModel = at_first w (Some []) in
     let said = check_says text status (record { out = before; notes = old })
     (record { out = after; notes = new }) checks in
     (said.1 old [] (refl, ([], refl, refl))).0
 
--- and is a note there, if all of it was written
+-- and it is a note there, if all of it was written
 pub noted : (text : List ℕ) (status : Status) (before after : Option (List ℕ)) (w : ℕ)
-    (new : Outgoing) (note : List ℕ) → ChecksWhole status text
+    (new : OutputModel) (note : List ℕ) → ChecksWhole status text
     (record { out = before; notes = at_first w (Some []) }) (record { out = after; notes = new })
     → new.contents ≡ Some note → new.waiting ≡ [] → new.failed ≡ false
     → IsNoteOn text status note
@@ -117,15 +117,15 @@ noted text status before after w new note checks holds none works =
       before,
       after,
       w,
-      subst (λ (o : Outgoing). ChecksWhole status text
+      subst (λ (o : OutputModel). ChecksWhole status text
           (record { out = before; notes = at_first w (Some []) })
           (record { out = after; notes = o })) is checks,
     )
 
--- if what was said left nothing waiting and the writer finished well, all of it was written to that
+-- if nothing is left in the buffer and the writer finished well, the whole note was written to that
 -- writer
 pub finished : (text : List ℕ) (status : Status) (before after : Option (List ℕ)) (w : ℕ)
-    (items note : List ℕ) (old mid new : Outgoing) (done : Result (Unit {0}) WriteFault)
+    (items note : List ℕ) (old mid new : OutputModel) (done : Result (Unit {0}) WriteFault)
     (u : Unit {0}) → old ≡ at_first w (Some items) → items ≡ []
     → ChecksWhole status text (record { out = before; notes = old })
     (record { out = after; notes = mid })
@@ -138,27 +138,27 @@ finished text status before after w items note old mid new done u is empty check
       | true ↦ λ e. absurd (false≢true
           (subst (λ (d : Result (Unit {0}) WriteFault). IsErr d) ends (fails e).0))
       | false ↦ λ e.
-          let out : mid.waiting ≡ [] = written (λ _. ap (λ (o : Outgoing). o.waiting) is) e in
+          let out : mid.waiting ≡ [] = written (λ _. ap (λ (o : OutputModel). o.waiting) is) e in
           let same : new ≡ mid = (fresh (out, e)).1 in
           let first : old ≡ at_first w (Some []) = is ∙ ap (λ xs. at_first w (Some xs)) empty in
           let all : ChecksWhole status text
           (record { out = before; notes = at_first w (Some []) })
           (record { out = after; notes = new }) =
-          subst (λ (o : Outgoing). ChecksWhole status text (record { out = before; notes = o })
+          subst (λ (o : OutputModel). ChecksWhole status text (record { out = before; notes = o })
           (record { out = after; notes = new })) first
-          (subst (λ (o : Outgoing). ChecksWhole status text
+          (subst (λ (o : OutputModel). ChecksWhole status text
           (record { out = before; notes = old }) (record { out = after; notes = o }))
           (sym same) checks) in (
             writer_stays text status before after w new all,
             noted text status before after w new note all (sym holds)
-                (ap (λ (o : Outgoing). o.waiting) same ∙ out)
-                (ap (λ (o : Outgoing). o.failed) same ∙ e),
+                (ap (λ (o : OutputModel). o.waiting) same ∙ out)
+                (ap (λ (o : OutputModel). o.failed) same ∙ e),
           )
     ] refl
 
--- what was said of a text that has no history to draw, which is then not good
+-- what was reported on a text that has no history to draw; such a text is not good
 pub nothing_drawn : {A : Type 0} (Chosen : Type 0) (text : List ℕ) (found status : Status)
-    (old new : Outlets) (last : Option A) → last ≡ None → (found ≡ Done → IsSome last)
+    (old new : Outputs) (last : Option A) → last ≡ None → (found ≡ Done → IsSome last)
     → status ≡ found → Keeps old.out new.out → SaysAsCheck text status old.notes new.notes
     → Draws Chosen text status old new
 nothing_drawn Chosen text found status old new None is kept as_found keeps says =

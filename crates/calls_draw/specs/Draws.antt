@@ -1,10 +1,10 @@
--- What `draw_calls` answered, said and wrote.
+-- What `draw_calls` returned, reported and wrote.
 use Rattle.std.specs.Prelude.{◌≡◌, ◌⊎◌, ◌<◌, List, [], ℕ, Option, Some, length, IsSome, codes}
 use Rattle.std.specs.Io.KnownBytes.{Appends, Keeps}
-use Rattle.ec_text.specs.Puts.{Outgoing, Puts, AppendsPrefix, at_first}
+use Rattle.ec_text.specs.Puts.{OutputModel, Puts, AppendsPrefix, at_first}
 use Rattle.calls_report.specs.declared.status.Status.{Status}
 use Rattle.calls_report.specs.declared.status.Status.TheVariants as statuses
-use Rattle.calls_report.specs.Checks.{Outlets, ChecksWhole}
+use Rattle.calls_report.specs.Checks.{Outputs, ChecksWhole}
 use Rattle.calls_draw.specs.declared.view.CallsView.{CallsView}
 
 -- something is chosen
@@ -13,8 +13,8 @@ Chooses view =
     (0 < length view.workers.now)
     ⊎ ((0 < length view.objects.now) ⊎ (IsSome view.from ⊎ IsSome view.to))
 
--- `check` ends with this status for the text, and leaves this note in a writer that had nothing,
--- wherever its order goes
+-- `check` ends with this status for the text, and leaves this note in an empty writer, whatever
+-- becomes of its linearizations
 abbrev pub IsNoteOn : List ℕ → Status → List ℕ → Type 0
 IsNoteOn text status note =
     (before after : Option (List ℕ)) × (writer : ℕ)
@@ -22,29 +22,29 @@ IsNoteOn text status note =
     (record { out = after; notes = at_first writer (Some note) })
 
 -- the note and the status are those of `check` for this text
-abbrev pub SaysAsCheck : List ℕ → Status → Outgoing → Outgoing → Type 0
+abbrev pub SaysAsCheck : List ℕ → Status → OutputModel → OutputModel → Type 0
 SaysAsCheck text status old new =
     (note : List ℕ) × IsNoteOn text status note × Puts old new note
 
--- a picture was written, and what `check` says was said; or a write failed, and only a proper
+-- a picture was written, and what `check` says was reported; or a write failed, and only a proper
 -- prefix of the picture was written
-abbrev pub WritesOne : List ℕ → Status → Outlets → Outlets → Type 0
+abbrev pub WritesOne : List ℕ → Status → Outputs → Outputs → Type 0
 WritesOne text status old new =
     (picture : List ℕ)
     × ((Appends old.out new.out picture × SaysAsCheck text status old.notes new.notes)
     ⊎ ((status ≡ statuses.InputOutput) × AppendsPrefix old.out new.out picture
     × Puts old.notes new.notes (codes "write fault\n")))
 
--- nothing was written: what was chosen is not there, or memory ran out, or the text is not good, and
--- what `check` says was said
-abbrev pub WritesNone : Type 0 → List ℕ → Status → Outlets → Outlets → Type 0
+-- nothing was written: the choice is empty or not declared, or memory ran out, or the text is not
+-- good, and what `check` says was reported
+abbrev pub WritesNone : Type 0 → List ℕ → Status → Outputs → Outputs → Type 0
 WritesNone Chosen text status old new =
     Keeps old.out new.out
     × (((status ≡ statuses.Usage) × Chosen)
     ⊎ (((status ≡ statuses.Memory) × Puts old.notes new.notes (codes "no memory\n"))
     ⊎ ((status ≡ statuses.Done → ⊥) × SaysAsCheck text status old.notes new.notes)))
 
--- how `draw_calls` ended, if this says that something is chosen
-abbrev pub Draws : Type 0 → List ℕ → Status → Outlets → Outlets → Type 0
+-- how `draw_calls` ended; `Chosen` says that something is chosen
+abbrev pub Draws : Type 0 → List ℕ → Status → Outputs → Outputs → Type 0
 Draws Chosen text status old new =
     WritesOne text status old new ⊎ WritesNone Chosen text status old new

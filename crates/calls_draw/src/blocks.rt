@@ -1,12 +1,12 @@
 //! The panels of cells and databases: values as blocks.
 use crate::grid::LEFT;
-use crate::panels::{Panel, Spot};
+use crate::panels::{CurveStep, Panel};
 use crate::picture::{Evidence, Picture};
-use crate::sink::{Pen, Place, end_text, put_line, put_rect, start_text, xy};
+use crate::sink::{Pen, Pixel, end_text, put_line, put_rect, start_text, xy};
 use crate::words::put_value;
 use calls_core::{Call, Op, Reply};
 
-/// How high a block is.
+/// The height of a block and the gap below it, in pixels.
 pub(crate) const BLOCK: u64 = 22;
 
 /// Puts a block with a value.
@@ -16,7 +16,7 @@ fn put_block(
     class: &[u8],
     object: usize,
     value: usize,
-    at: Place,
+    at: Pixel,
     width: u64,
 ) {
     put_rect(out, class, at, width, BLOCK - 4);
@@ -26,13 +26,13 @@ fn put_block(
     end_text(out);
 }
 
-/// Returns where the block ends that begins with this spot: at the next put.
-fn end_of(picture: &Picture<'_>, spots: &[Spot]) -> u64 {
+/// Returns the x at which a block ends: that of the first put among these steps, or the right edge.
+fn end_of(picture: &Picture<'_>, spots: &[CurveStep]) -> u64 {
     let next = spots.iter().find(|spot| matches!(spot.op, Op::Put(_)));
     next.map_or(picture.grid.right(), |spot| spot.x)
 }
 
-/// Puts the values along the order, a block from each put to the next.
+/// Puts the values along the linearization, a block from each put to the next.
 pub(crate) fn put_values(out: &mut Pen<'_>, picture: &Picture<'_>, panel: &Panel, top: u64) {
     let object = panel.subject.object();
     let spots = panel.spots.as_slice();
@@ -59,7 +59,7 @@ fn value_of(call: &Call) -> usize {
     }
 }
 
-/// Returns how many of these calls have another value than those before them.
+/// Returns how many distinct values these calls have.
 fn lanes_in(calls: &[Call]) -> usize {
     let mut lanes = 0usize;
     for (i, call) in calls.iter().enumerate() {
@@ -72,25 +72,25 @@ fn lanes_in(calls: &[Call]) -> usize {
     lanes
 }
 
-/// Returns the lane of a value: how many other values come before its first call.
+/// Returns the lane of a value: how many distinct values the calls before its first one have.
 fn lane_of(calls: &[Call], value: usize) -> usize {
     let first = calls.iter().position(|call| value_of(call) == value);
     lanes_in(calls.get(..first.unwrap_or(0)).unwrap_or(&[]))
 }
 
-/// Returns how high the blocks of a certificate are.
+/// Returns the height of all lanes of a certificate, in pixels.
 pub(crate) fn lanes_height(evidence: &Evidence<'_>) -> u64 {
     let lanes = lanes_in(evidence.faulty.as_slice()) as u64;
     lanes.saturating_mul(BLOCK)
 }
 
-/// Returns the middle of the lane of a call.
+/// Returns the y of the top of a call's lane.
 fn lane_y(calls: &[Call], call: &Call, top: u64) -> u64 {
     let lane = lane_of(calls, value_of(call)) as u64;
     top.saturating_add(lane.saturating_mul(BLOCK))
 }
 
-/// Puts a tie from the end of a call to the beginning of another, if it precedes that one.
+/// Puts a line from the response of a call to the invocation of another, if it precedes that one.
 fn put_before(
     out: &mut Pen<'_>,
     picture: &Picture<'_>,
@@ -114,8 +114,8 @@ fn put_before(
     put_line(out, b"stair", from, to);
 }
 
-/// Puts which calls precede which: two calls, two pairs of a cell whose values alternate, or gets
-/// of which each follows the next one.
+/// Puts a line between neighbouring calls if one precedes the other. If the values of a cell
+/// alternate, the four calls are two pairs.
 fn put_ties(out: &mut Pen<'_>, picture: &Picture<'_>, evidence: &Evidence<'_>, top: u64) {
     let calls = evidence.faulty.as_slice();
     if let [a, b, c, d] = calls {
@@ -133,7 +133,7 @@ fn put_ties(out: &mut Pen<'_>, picture: &Picture<'_>, evidence: &Evidence<'_>, t
     }
 }
 
-/// Puts the calls of a certificate, as blocks, a lane for each value.
+/// Puts the calls of a certificate as blocks, in one lane for each value.
 pub(crate) fn put_lanes(
     out: &mut Pen<'_>,
     picture: &Picture<'_>,

@@ -1,16 +1,16 @@
-//! What shows that a history is refused, in the panel of its object.
+//! The evidence that a history is rejected, in the panel of its object.
 use crate::curves::put_level;
 use crate::grid::LEFT;
-use crate::panels::{Panel, Subject, said_by};
+use crate::panels::{Panel, Subject, implied_number};
 use crate::picture::{Evidence, Picture};
 use crate::scale::{Range, Scale};
 use crate::sink::{
-    Pen, Place, end_path, end_text, go_across, go_along, put_line, start_path, start_text, xy,
+    Pen, Pixel, end_path, end_text, go_across, go_along, put_line, start_path, start_text, xy,
 };
 use calls_core::{Call, Op, Reply};
-use calls_shapes::{Counted, Portion, Stair};
+use calls_shapes::{CountFilter, Portion, Stair};
 
-/// Returns what shows that a history is refused, if this is the panel of its object.
+/// Returns the evidence that the history is rejected, if this panel shows the object of the fault.
 pub(crate) fn evidence_in<'a, 'b>(
     picture: &'b Picture<'a>,
     panel: &Panel,
@@ -26,15 +26,15 @@ pub(crate) fn evidence_in<'a, 'b>(
 fn number_before(picture: &Picture<'_>, stair: &Stair) -> usize {
     let from = picture.window().from;
     let before = stair.rises.iter().filter(|rise| **rise < from).count();
-    stair.course.base.saturating_add(before)
+    stair.span.base.saturating_add(before)
 }
 
 /// Returns the number of a stair at its end.
 fn number_at_end(stair: &Stair) -> usize {
-    stair.course.base.saturating_add(stair.rises.len())
+    stair.span.base.saturating_add(stair.rises.len())
 }
 
-/// Returns the range with the numbers of what shows that a history is refused.
+/// Returns the range, extended to the numbers of the evidence.
 pub(crate) fn evidence_range(
     picture: &Picture<'_>,
     range: Range,
@@ -42,21 +42,21 @@ pub(crate) fn evidence_range(
 ) -> Range {
     let mut range = stairs_range(picture, range, evidence.stairs.as_slice());
     for call in &evidence.faulty {
-        range = said_by(call.op, call.reply).map_or(range, |n| range.with(n));
-        range = missed(call).map_or(range, |n| range.with(n));
+        range = implied_number(call.op, call.reply).map_or(range, |n| range.with(n));
+        range = missed_threshold(call).map_or(range, |n| range.with(n));
     }
     range
 }
 
 /// Returns the threshold of an await that returned a number below it.
-fn missed(call: &Call) -> Option<usize> {
+fn missed_threshold(call: &Call) -> Option<usize> {
     match (call.op, call.reply) {
         (Op::Await(threshold), Reply::Number(n)) if n < threshold => Some(threshold),
         _ => None,
     }
 }
 
-/// Returns the range with the numbers of stairs.
+/// Returns the range, extended to the numbers of these stairs.
 fn stairs_range(picture: &Picture<'_>, range: Range, stairs: &[Stair]) -> Range {
     let mut range = range;
     for stair in stairs {
@@ -66,26 +66,26 @@ fn stairs_range(picture: &Picture<'_>, range: Range, stairs: &[Stair]) -> Range 
     range
 }
 
-/// Returns how a stair is drawn.
+/// Returns the style class of a stair.
 fn stair_class(stair: &Stair) -> &'static [u8] {
-    match stair.course.counted {
-        Counted::Adding(_) => b"given",
+    match stair.span.counted {
+        CountFilter::Adding(_) => b"given",
         _ => b"stair",
     }
 }
 
 /// Returns the words before the number at the end of a stair.
 fn stair_words(stair: &Stair) -> &'static [u8] {
-    match (stair.course.counted, stair.course.portion) {
-        (Counted::Adding(_), _) => b"given: ",
-        (Counted::Taking(_), _) => b"taken: ",
+    match (stair.span.counted, stair.span.portion) {
+        (CountFilter::Adding(_), _) => b"given: ",
+        (CountFilter::Taking(_), _) => b"taken: ",
         (_, Portion::Called) => b"at most ",
         _ => b"at least ",
     }
 }
 
 /// Puts the number at the end of a stair.
-fn put_stair_end(out: &mut Pen<'_>, at: Place, stair: &Stair) {
+fn put_stair_end(out: &mut Pen<'_>, at: Pixel, stair: &Stair) {
     let place = xy(at.x.saturating_sub(5), at.y.saturating_sub(5));
     start_text(out, b"why end", place);
     out.put(stair_words(stair));
@@ -97,10 +97,10 @@ fn put_stair_end(out: &mut Pen<'_>, at: Place, stair: &Stair) {
 fn put_stair(out: &mut Pen<'_>, picture: &Picture<'_>, scale: &Scale, stair: &Stair) {
     let from = picture.window().from;
     let mut number = number_before(picture, stair);
-    let x = if stair.course.from == 0 {
+    let x = if stair.span.from == 0 {
         LEFT
     } else {
-        picture.grid.x(stair.course.from)
+        picture.grid.x(stair.span.from)
     };
     start_path(out, stair_class(stair), xy(x, scale.y(number)));
     for rise in &stair.rises {
@@ -110,7 +110,7 @@ fn put_stair(out: &mut Pen<'_>, picture: &Picture<'_>, scale: &Scale, stair: &St
             go_along(out, scale.y(number));
         }
     }
-    let end = picture.grid.x(stair.course.to);
+    let end = picture.grid.x(stair.span.to);
     go_across(out, end);
     end_path(out, false);
     put_stair_end(out, xy(end, scale.y(number)), stair);
@@ -123,9 +123,9 @@ fn put_stairs(out: &mut Pen<'_>, picture: &Picture<'_>, scale: &Scale, stairs: &
     }
 }
 
-/// Puts what a call said in words.
-fn put_said_words(out: &mut Pen<'_>, picture: &Picture<'_>, scale: &Scale, call: &Call) {
-    let Some(n) = said_by(call.op, call.reply) else {
+/// Puts the number that a call says, with a word before it.
+fn put_implied_words(out: &mut Pen<'_>, picture: &Picture<'_>, scale: &Scale, call: &Call) {
+    let Some(n) = implied_number(call.op, call.reply) else {
         return;
     };
     let at = xy(
@@ -133,13 +133,13 @@ fn put_said_words(out: &mut Pen<'_>, picture: &Picture<'_>, scale: &Scale, call:
         scale.y(n).saturating_add(14),
     );
     start_text(out, b"why", at);
-    out.put(said_words(call));
+    out.put(implied_words(call));
     out.put_number(n as u64);
     end_text(out);
 }
 
-/// Returns the words before what a call said.
-fn said_words(call: &Call) -> &'static [u8] {
+/// Returns the word before the number that a call says.
+fn implied_words(call: &Call) -> &'static [u8] {
     match (call.op, call.reply) {
         (Op::Await(_), Reply::Done) => b"reached ",
         (Op::Await(_), Reply::Timeout) => b"at most ",
@@ -147,40 +147,44 @@ fn said_words(call: &Call) -> &'static [u8] {
     }
 }
 
-/// Puts what the calls said that are named, a number that several said once.
-fn put_all_said(out: &mut Pen<'_>, picture: &Picture<'_>, scale: &Scale, calls: &[Call]) {
+/// Puts the numbers that these calls say, each number in words only once.
+fn put_implied_numbers(out: &mut Pen<'_>, picture: &Picture<'_>, scale: &Scale, calls: &[Call]) {
     for (i, call) in calls.iter().enumerate() {
-        let said = said_by(call.op, call.reply);
+        let said = implied_number(call.op, call.reply);
         put_level(out, picture, scale, b"said", (call.first, call.last), said);
         let before = calls.get(..i).unwrap_or(&[]);
         if before
             .iter()
-            .all(|other| said_by(other.op, other.reply) != said)
+            .all(|other| implied_number(other.op, other.reply) != said)
         {
-            put_said_words(out, picture, scale, call);
+            put_implied_words(out, picture, scale, call);
         }
     }
 }
 
-/// Puts a tie from the end of a stair to what the first call said.
+/// Puts a line from the end of the first stair to the number that the first faulty call says.
 fn put_tie(out: &mut Pen<'_>, picture: &Picture<'_>, scale: &Scale, evidence: &Evidence<'_>) {
     let (Some(stair), Some(call)) = (evidence.stairs.first(), evidence.faulty.first()) else {
         return;
     };
-    let Some(n) = said_by(call.op, call.reply) else {
+    let Some(n) = implied_number(call.op, call.reply) else {
         return;
     };
-    let x = picture.grid.x(stair.course.to);
+    let x = picture.grid.x(stair.span.to);
     let from = xy(x, scale.y(number_at_end(stair)));
     put_line(out, b"tie", from, xy(x, scale.y(n)));
 }
 
-/// Puts a tie from the end of a ticket to the beginning of another, which it precedes.
+/// Puts a line from the response of the first ticket to the invocation of the second, if their
+/// numbers differ.
 fn put_turn(out: &mut Pen<'_>, picture: &Picture<'_>, scale: &Scale, calls: &[Call]) {
     let [one, other] = calls else {
         return;
     };
-    let (Some(n), Some(m)) = (said_by(one.op, one.reply), said_by(other.op, other.reply)) else {
+    let (Some(n), Some(m)) = (
+        implied_number(one.op, one.reply),
+        implied_number(other.op, other.reply),
+    ) else {
         return;
     };
     if n != m {
@@ -190,12 +194,12 @@ fn put_turn(out: &mut Pen<'_>, picture: &Picture<'_>, scale: &Scale, calls: &[Ca
     }
 }
 
-/// Puts the threshold below which an await returned a number.
+/// Puts the threshold of the first call, if that is an await that returned a number below it.
 fn put_missed(out: &mut Pen<'_>, picture: &Picture<'_>, scale: &Scale, calls: &[Call]) {
     let Some(call) = calls.first() else {
         return;
     };
-    let Some(threshold) = missed(call) else {
+    let Some(threshold) = missed_threshold(call) else {
         return;
     };
     let y = scale.y(threshold);
@@ -209,7 +213,7 @@ fn put_missed(out: &mut Pen<'_>, picture: &Picture<'_>, scale: &Scale, calls: &[
     end_text(out);
 }
 
-/// Puts what shows that a history is refused.
+/// Puts the evidence that a history is rejected.
 pub(crate) fn put_evidence(
     out: &mut Pen<'_>,
     picture: &Picture<'_>,
@@ -218,7 +222,7 @@ pub(crate) fn put_evidence(
     evidence: &Evidence<'_>,
 ) {
     put_stairs(out, picture, scale, evidence.stairs.as_slice());
-    put_all_said(out, picture, scale, evidence.faulty.as_slice());
+    put_implied_numbers(out, picture, scale, evidence.faulty.as_slice());
     match subject {
         Subject::Count(_) => {
             put_tie(out, picture, scale, evidence);

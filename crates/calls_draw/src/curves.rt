@@ -1,6 +1,6 @@
-//! The panels of numbers: bands, curves, and what waits.
+//! The panels of numbers: bands, curves, and the thresholds of pending awaits.
 use crate::grid::LEFT;
-use crate::panels::{Bounds, Panel, Subject, said_by};
+use crate::panels::{Bounds, Panel, Subject, implied_number};
 use crate::picture::{Bar, Picture};
 use crate::scale::{Range, Scale};
 use crate::sink::{
@@ -11,14 +11,14 @@ use crate::words::{put_subject, put_worker};
 use calls_core::Op;
 
 /// Returns the threshold of a pending await.
-fn awaited(bar: &Bar) -> Option<usize> {
+fn awaited_threshold(bar: &Bar) -> Option<usize> {
     match (bar.op, bar.end) {
         (Op::Await(n), None) => Some(n),
         _ => None,
     }
 }
 
-/// Returns the range of bounds.
+/// Returns the range, extended to these bounds.
 fn bounds_range(range: Range, bounds: &[Bounds]) -> Range {
     let mut range = range;
     for one in bounds {
@@ -27,7 +27,8 @@ fn bounds_range(range: Range, bounds: &[Bounds]) -> Range {
     range
 }
 
-/// Returns the range of the numbers that a panel shows.
+/// Returns the range of the numbers that a panel shows. A pending await's threshold is left out if
+/// it is more than 40 above the greatest bound.
 pub(crate) fn range_of(picture: &Picture<'_>, panel: &Panel) -> Range {
     let first = match panel.bounds.first() {
         Some(bounds) => bounds.least,
@@ -37,24 +38,24 @@ pub(crate) fn range_of(picture: &Picture<'_>, panel: &Panel) -> Range {
     let most = range.high.saturating_add(40);
     for bar in &picture.shown {
         if panel.subject.shows(bar.object, bar.op) {
-            let waited = awaited(bar).filter(|n| *n <= most);
+            let waited = awaited_threshold(bar).filter(|n| *n <= most);
             range = waited.map_or(range, |n| range.with(n));
         }
     }
     range
 }
 
-/// Puts the name of a panel before it.
+/// Puts the name of a panel to the left of it.
 pub(crate) fn put_panel_name(out: &mut Pen<'_>, picture: &Picture<'_>, subject: Subject, y: u64) {
     start_text(out, b"name", xy(LEFT - 34, y));
     put_subject(out, picture, subject);
     end_text(out);
 }
 
-/// How many numbers at most are written beside a panel.
+/// The most numbers that are written at the left of a panel.
 const NUMBERS: usize = 16;
 
-/// Puts the numbers beside a panel, and a line for each.
+/// Puts the numbers at the left of a panel, and a line for each.
 pub(crate) fn put_scale(out: &mut Pen<'_>, picture: &Picture<'_>, scale: &Scale) {
     let Range { low, high } = scale.range;
     let step = scale.range.step();
@@ -101,7 +102,7 @@ pub(crate) fn put_band(out: &mut Pen<'_>, picture: &Picture<'_>, scale: &Scale, 
     end_path(out, true);
 }
 
-/// Puts the number along the order.
+/// Puts the curve of the number along the linearization.
 pub(crate) fn put_curve(out: &mut Pen<'_>, picture: &Picture<'_>, scale: &Scale, panel: &Panel) {
     let at = xy(LEFT, scale.y(panel.before));
     start_path(out, b"curve", at);
@@ -123,7 +124,7 @@ pub(crate) fn put_seen(out: &mut Pen<'_>, scale: &Scale, panel: &Panel) {
     }
 }
 
-/// Puts what a pending await waits for.
+/// Puts the threshold of a pending await, and the worker that waits for it.
 fn put_waiting(
     out: &mut Pen<'_>,
     picture: &Picture<'_>,
@@ -147,7 +148,7 @@ fn put_waiting(
 pub(crate) fn put_awaited(out: &mut Pen<'_>, picture: &Picture<'_>, scale: &Scale, panel: &Panel) {
     for bar in &picture.shown {
         if panel.subject.shows(bar.object, bar.op) {
-            if let Some(threshold) = awaited(bar).filter(|n| *n <= scale.range.high) {
+            if let Some(threshold) = awaited_threshold(bar).filter(|n| *n <= scale.range.high) {
                 put_waiting(out, picture, scale, bar, threshold);
             }
         }
@@ -159,7 +160,7 @@ pub(crate) fn put_levels(out: &mut Pen<'_>, picture: &Picture<'_>, scale: &Scale
     for bar in &picture.shown {
         if panel.subject.shows(bar.object, bar.op) {
             if let Some((last, reply)) = bar.end {
-                let said = said_by(bar.op, reply);
+                let said = implied_number(bar.op, reply);
                 put_level(out, picture, scale, b"level", (bar.first, last), said);
             }
         }

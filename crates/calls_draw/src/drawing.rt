@@ -1,4 +1,4 @@
-//! A text of histories of calls in, a picture of one of them out.
+//! Draws a picture of one history of a text.
 ghost use Rattle.std.specs.Prelude.{◌≡◌, ◌⊎◌, ◌<◌, List, [], ℕ, length, codes, nat_eq};
 ghost use Rattle.std.specs.Prelude.{false, IfOk, IsTrue, IsSome};
 ghost use Rattle.std.specs.List.{starts_with};
@@ -7,14 +7,14 @@ ghost use Rattle.calls_report.specs.declared.status.Status.TheVariants.{Done, Me
 ghost use Rattle.calls_draw.specs.Draws.{Draws, Chooses, IsNoteOn, SaysAsCheck, WritesOne};
 
 use crate::choice::{unknown_object, unknown_worker};
-use crate::history::Found;
+use crate::history::FoundHistory;
 use crate::picture::Picture;
-use crate::sink::{Pen, Put};
+use crate::sink::{Pen, PutResult};
 use crate::svg::put_svg;
 use crate::text::put_plain;
 use crate::view::{CallsView, Form};
-use calls_report::{LastJudged, Status, check_whole};
-use ec_text::{Out, write_out};
+use calls_report::{LastHistory, Status, check_whole};
+use ec_text::{Output, write_out};
 use std::alloc::{AllocError, Global};
 use std::io::{Write, sink};
 
@@ -27,24 +27,24 @@ pub fn is_calls(text: &[u8]) -> bool
 
 /// What `check` says of a text.
 #[derive(Drop)]
-struct Noted {
+struct CheckReport {
     status: Status,
     note: Vec<u8>,
 }
 
-/// Puts what `check` says of a text into an empty note, and returns the status with which that ends.
-/// Keeps the history at which it ends.
+/// Writes what `check` says of a text to an empty note, and returns its status. Stores the history
+/// at which it ends in `last`.
 fn put_verdict<'a>(
     alloc: Global,
     text: &'a [u8],
-    last: &mut Option<LastJudged<'a>>,
+    last: &mut Option<LastHistory<'a>>,
     note: &mut Vec<u8>,
 ) -> Result<Status, AllocError>
     requires { note.old.items ≡ [] }
     ensures says { IfOk result (λ status. IsNoteOn text.now status note.new.items) }
     ensures kept { IfOk result (λ status. status ≡ Done → IsSome last.new) }
 {
-    let mut out = Out::new(note);
+    let mut out = Output::new(note);
     let status = check_whole(alloc, text, last, &mut sink(), &mut out);
     let done = out.finish();
     out.into_writer();
@@ -54,22 +54,22 @@ fn put_verdict<'a>(
     }
 }
 
-/// Returns what `check` says of a text, and keeps the history at which it ends.
+/// Returns what `check` says of a text, and stores the history at which it ends in `last`.
 fn note_on<'a>(
     alloc: Global,
     text: &'a [u8],
-    last: &mut Option<LastJudged<'a>>,
-) -> Result<Noted, AllocError>
+    last: &mut Option<LastHistory<'a>>,
+) -> Result<CheckReport, AllocError>
     ensures says { IfOk result (λ n. IsNoteOn text.now n.status n.note.items) }
     ensures kept { IfOk result (λ n. n.status ≡ Done → IsSome last.new) }
 {
     let mut note = Vec::new(alloc);
     let status = put_verdict(alloc, text, last, &mut note)?;
-    Ok(Noted { status, note })
+    Ok(CheckReport { status, note })
 }
 
-/// Says of a text what `check` says.
-fn say_noted<N: Write>(noted: &Noted, notes: &mut Out<'_, N>) -> Status
+/// Reports what `check` says of a text, and returns its status.
+fn report_as_check<N: Write>(noted: &CheckReport, notes: &mut Output<'_, N>) -> Status
     ensures says { (text : List ℕ) → IsNoteOn text noted.now.status noted.now.note.items
         → SaysAsCheck text result notes.old notes.new }
     ensures status { result ≡ noted.now.status }
@@ -79,8 +79,8 @@ fn say_noted<N: Write>(noted: &Noted, notes: &mut Out<'_, N>) -> Status
     noted.status
 }
 
-/// Says that memory ran out.
-fn want<N: Write>(notes: &mut Out<'_, N>) -> Status
+/// Reports that memory ran out.
+fn report_no_memory<N: Write>(notes: &mut Output<'_, N>) -> Status
     ensures status { result ≡ Memory }
     ensures puts { Puts notes.old notes.new (codes "no memory\n") }
     ensures written { IsWrittenOut notes.new }
@@ -89,8 +89,8 @@ fn want<N: Write>(notes: &mut Out<'_, N>) -> Status
     Status::Memory
 }
 
-/// Says a name of the sort of this word that is not declared.
-fn say_unknown<N: Write>(sort: &[u8], name: &str, notes: &mut Out<'_, N>)
+/// Reports a name that is not declared, after the word for its sort.
+fn report_unknown<N: Write>(sort: &[u8], name: &str, notes: &mut Output<'_, N>)
     ensures { IsWrittenOut notes.new }
 {
     notes.put(b"no ");
@@ -110,8 +110,8 @@ fn is_empty(view: &CallsView<'_>, count: usize) -> bool
     is_chosen && (to < from || count <= from)
 }
 
-/// Says that no event is chosen.
-fn say_empty<N: Write>(view: &CallsView<'_>, count: usize, notes: &mut Out<'_, N>)
+/// Reports that no event is chosen.
+fn report_empty<N: Write>(view: &CallsView<'_>, count: usize, notes: &mut Output<'_, N>)
     ensures { IsWrittenOut notes.new }
 {
     notes.put(b"no event from ");
@@ -128,11 +128,11 @@ fn say_empty<N: Write>(view: &CallsView<'_>, count: usize, notes: &mut Out<'_, N
     notes.say(b" events\n");
 }
 
-/// Says what is wrong with what was chosen, and returns whether something is.
-fn say_wrong_choice<N: Write>(
+/// Reports the first thing that is wrong with the choice, and returns whether there is one.
+fn report_wrong_choice<N: Write>(
     view: &CallsView<'_>,
-    found: &Found<'_>,
-    notes: &mut Out<'_, N>,
+    found: &FoundHistory<'_>,
+    notes: &mut Output<'_, N>,
 ) -> bool
     ensures chosen { IsTrue result → Chooses view.now }
     ensures quiet { result ≡ false → notes.new ≡ notes.old }
@@ -140,16 +140,16 @@ fn say_wrong_choice<N: Write>(
 {
     let heading = found.judged.read.recording.heading();
     if let Some(name) = unknown_worker(heading, view.workers) {
-        say_unknown(b"worker", name, notes);
+        report_unknown(b"worker", name, notes);
         return true;
     }
     if let Some(name) = unknown_object(heading, view.objects) {
-        say_unknown(b"object", name, notes);
+        report_unknown(b"object", name, notes);
         return true;
     }
     let count = found.events().len();
     if is_empty(view, count) {
-        say_empty(view, count, notes);
+        report_empty(view, count, notes);
         return true;
     }
     false
@@ -161,7 +161,7 @@ fn put_picture(
     view: &CallsView<'_>,
     out: &mut Pen<'_>,
     picture: &Picture<'_>,
-) -> Put {
+) -> PutResult {
     out.put(view.before.as_bytes());
     match view.form {
         Form::Svg => put_svg(alloc, out, picture)?,
@@ -171,16 +171,16 @@ fn put_picture(
     Ok(())
 }
 
-/// Returns the picture of a history, with what is said of the text.
-fn drawn(
+/// Returns the bytes of the picture of a history, with this note on its text.
+fn draw_picture(
     alloc: Global,
     view: &CallsView<'_>,
     note: &[u8],
-    found: &Found<'_>,
+    found: &FoundHistory<'_>,
 ) -> Result<Vec<u8>, AllocError> {
     let picture = Picture::of(alloc, view, found, note)?;
     let mut bytes = Vec::new(alloc);
-    let mut out = Out::new(&mut bytes);
+    let mut out = Output::new(&mut bytes);
     let put = put_picture(alloc, view, &mut out, &picture);
     let done = out.finish();
     out.into_writer();
@@ -191,12 +191,12 @@ fn drawn(
     }
 }
 
-/// Writes a picture, and says of its text what `check` says.
+/// Writes a picture, and reports what `check` says of its text.
 fn write_picture<W: Write, N: Write>(
-    noted: &Noted,
+    noted: &CheckReport,
     picture: &[u8],
     out: &mut W,
-    notes: &mut Out<'_, N>,
+    notes: &mut Output<'_, N>,
 ) -> Status
     ensures ends { (text : List ℕ) → IsNoteOn text noted.now.status noted.now.note.items
         → WritesOne text result
@@ -205,7 +205,7 @@ fn write_picture<W: Write, N: Write>(
     ensures written { IsWrittenOut notes.new }
 {
     match write_out(out, picture) {
-        Ok(()) => say_noted(noted, notes),
+        Ok(()) => report_as_check(noted, notes),
         Err(_) => {
             notes.say(b"write fault\n");
             Status::InputOutput
@@ -213,14 +213,14 @@ fn write_picture<W: Write, N: Write>(
     }
 }
 
-/// Draws a history of a text, and says of the text what `check` says.
+/// Draws a history of a text, and reports what `check` says of the text.
 fn draw_found<W: Write, N: Write>(
     alloc: Global,
     view: &CallsView<'_>,
-    noted: &Noted,
-    found: &Found<'_>,
+    noted: &CheckReport,
+    found: &FoundHistory<'_>,
     out: &mut W,
-    notes: &mut Out<'_, N>,
+    notes: &mut Output<'_, N>,
 ) -> Status
     ensures ends { (text : List ℕ) → IsNoteOn text noted.now.status noted.now.note.items
         → Draws (Chooses view.now) text result
@@ -228,25 +228,25 @@ fn draw_found<W: Write, N: Write>(
         (record { out = W.contents out.new; notes = notes.new }) }
     ensures written { IsWrittenOut notes.old → IsWrittenOut notes.new }
 {
-    if say_wrong_choice(view, found, notes) {
+    if report_wrong_choice(view, found, notes) {
         return Status::Usage;
     }
-    match drawn(alloc, view, &noted.note, found) {
+    match draw_picture(alloc, view, &noted.note, found) {
         Ok(picture) => write_picture(noted, &picture, out, notes),
-        Err(_) => want(notes),
+        Err(_) => report_no_memory(notes),
     }
 }
 
-/// Draws the first history of a text that is refused or not decided, or else the last one, and says
-/// of the text what `check` says.
+/// Draws the first history of a text that is rejected or not decided, otherwise the last one.
+/// Reports what `check` says of the text.
 ///
-/// Nothing is written unless the picture is whole in memory.
+/// Nothing is written before the whole picture is in memory.
 pub fn draw_calls<W: Write, N: Write>(
     alloc: Global,
     view: &CallsView<'_>,
     text: &[u8],
     out: &mut W,
-    notes: &mut Out<'_, N>,
+    notes: &mut Output<'_, N>,
 ) -> Status
     ensures ends { Draws (Chooses view.now) text.now result
         (record { out = W.contents out.old; notes = notes.old })
@@ -255,10 +255,10 @@ pub fn draw_calls<W: Write, N: Write>(
 {
     let mut last = None;
     let Ok(noted) = note_on(alloc, text, &mut last) else {
-        return want(notes);
+        return report_no_memory(notes);
     };
     match last {
-        Some(judged) => draw_found(alloc, view, &noted, &Found { judged }, out, notes),
-        None => say_noted(&noted, notes),
+        Some(judged) => draw_found(alloc, view, &noted, &FoundHistory { judged }, out, notes),
+        None => report_as_check(&noted, notes),
     }
 }

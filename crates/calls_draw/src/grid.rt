@@ -4,7 +4,7 @@ use crate::view::Window;
 /// Where the first column begins.
 pub(crate) const LEFT: u64 = 164;
 
-/// How high the row of a worker is.
+/// The height of the row of a worker.
 pub(crate) const ROW: u64 = 66;
 
 /// Where the first row begins.
@@ -29,7 +29,7 @@ impl Grid {
         Grid { window, width }
     }
 
-    /// Returns where the event at a position stands, or the nearer edge.
+    /// Returns the x of the event at a position, or of the nearer edge if it is not shown.
     pub(crate) fn x(&self, position: usize) -> u64 {
         if position < self.window.from {
             return LEFT;
@@ -42,13 +42,13 @@ impl Grid {
             .saturating_add(self.width / 2)
     }
 
-    /// Returns where the last column ends.
+    /// Returns the x at which the last column ends.
     pub(crate) fn right(&self) -> u64 {
         let columns = self.window.len() as u64;
         LEFT.saturating_add(columns.saturating_mul(self.width))
     }
 
-    /// Returns where the moment before the event at a position begins.
+    /// Returns the x at which the moment before the event at a position begins.
     pub(crate) fn moment(&self, position: usize) -> u64 {
         if position <= self.window.from {
             LEFT
@@ -57,8 +57,9 @@ impl Grid {
         }
     }
 
-    /// Returns where the point of the call is that is the one with this rank among so many of one
-    /// point.
+    /// Returns the x of the linearization point of a call. The calls of one point are spread evenly
+    /// over the moment before its event: `rank` of them come before this one, `count` is their
+    /// number.
     pub(crate) fn point(&self, point: usize, rank: usize, count: usize) -> u64 {
         let from = self.moment(point);
         let to = self.x(point);
@@ -68,14 +69,14 @@ impl Grid {
     }
 }
 
-/// Returns the middle of a row.
+/// Returns the y of the middle of a row.
 pub(crate) fn row(number: usize) -> u64 {
     TOP.saturating_add((number as u64).saturating_mul(ROW))
         .saturating_add(ROW / 2)
         .saturating_add(4)
 }
 
-/// Returns where the rows end.
+/// Returns the y below this many rows.
 pub(crate) fn below(rows: usize) -> u64 {
     TOP.saturating_add((rows as u64).saturating_mul(ROW))
         .saturating_add(10)

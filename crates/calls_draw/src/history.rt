@@ -1,17 +1,17 @@
 //! The history of a text that is drawn.
 use crate::lines::EventLines;
 use calls_core::Event;
-use calls_report::LastJudged;
+use calls_report::LastHistory;
 use calls_verdict::{Refusal, Verdict};
 use std::alloc::{AllocError, Global};
 
-/// A history of a text, and what is found of it.
+/// A history of a text, and its verdict.
 #[derive(Drop)]
-pub(crate) struct Found<'a> {
-    pub(crate) judged: LastJudged<'a>,
+pub(crate) struct FoundHistory<'a> {
+    pub(crate) judged: LastHistory<'a>,
 }
 
-impl<'a> Found<'a> {
+impl<'a> FoundHistory<'a> {
     /// Returns the events that are drawn: all of them, or those up to the first faulty one.
     pub(crate) fn events(&self) -> &[Event] {
         let all = self.judged.read.recording.events();
@@ -21,7 +21,7 @@ impl<'a> Found<'a> {
         }
     }
 
-    /// Returns the refusal, if it is refused.
+    /// Returns the refusal, `None` if the history is not rejected.
     pub(crate) fn refusal(&self) -> Option<&Refusal> {
         match &self.judged.verdict {
             Verdict::Refused(refusal) => Some(refusal),

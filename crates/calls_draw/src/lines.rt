@@ -1,4 +1,4 @@
-//! The lines of the events of a history, as they stand in its text.
+//! The lines of the events of a history, as its text has them.
 use ec_text::{cut_line, cut_word};
 use std::alloc::{AllocError, Global};
 
@@ -8,7 +8,7 @@ pub(crate) struct EventLines<'a> {
     lines: Vec<&'a [u8]>,
 }
 
-/// Returns a text without so many lines at its beginning.
+/// Returns a text without its first `count` lines.
 fn without_lines(text: &[u8], count: u64) -> &[u8] {
     let mut rest = text;
     for _line in 0..count {
@@ -26,7 +26,7 @@ fn without_word(line: &[u8]) -> &[u8] {
 }
 
 impl<'a> EventLines<'a> {
-    /// Returns so many lines of a text, after so many others.
+    /// Returns `count` lines of a text, without the first `before` ones.
     pub(crate) fn of(
         alloc: Global,
         text: &'a [u8],
@@ -44,9 +44,9 @@ impl<'a> EventLines<'a> {
         Ok(EventLines { lines })
     }
 
-    /// Returns what the call asks for that is invoked at a position, as `await E 2`; or what is
-    /// returned there.
-    pub(crate) fn said(&self, position: usize) -> &'a [u8] {
+    /// Returns the operation that is invoked at a position with its arguments, as `await E 2`; or
+    /// what is returned there.
+    pub(crate) fn event_text(&self, position: usize) -> &'a [u8] {
         match self.lines.get(position) {
             Some(line) => without_word(without_word(line)),
             None => &[],
@@ -54,7 +54,7 @@ impl<'a> EventLines<'a> {
     }
 }
 
-/// Returns the verb of a call, its object, and what else it asks for.
+/// Returns the verb of a call, its object, and its other arguments.
 pub(crate) fn parts_of(act: &[u8]) -> (&[u8], &[u8], &[u8]) {
     let (verb, rest) = cut_word(act);
     let (object, rest) = cut_word(rest.unwrap_or(&[]));

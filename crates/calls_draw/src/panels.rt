@@ -1,9 +1,9 @@
 //! The panels below the rows: the numbers and the values of the objects.
 use crate::choice::uses_semaphore;
 use crate::picture::Picture;
-use crate::sink::Put;
+use crate::sink::PutResult;
 use calls_core::{Kind, Op, Placed, Reply};
-use calls_shapes::{Counted, Step, Tally, Track, start_of, steps_of, tallies_of};
+use calls_shapes::{CountFilter, Step, Tally, Track, start_of, steps_of, tallies_of};
 use std::alloc::{AllocError, Global};
 
 /// What a panel shows.
@@ -13,22 +13,22 @@ pub(crate) enum Subject {
     Count(usize),
     /// The numbers of the sequencer with this index.
     Numbers(usize),
-    /// The units of the semaphore at this place, of the object with this index.
+    /// The units of a semaphore: the index of its object, and its own among the groups.
     Units(usize, usize),
     /// The values of the cell or database with this index.
     Values(usize),
 }
 
-/// The least and the greatest number at each moment that is shown.
+/// The least and the greatest number at a moment.
 #[derive(Clone, Copy, Debug, PartialEq, Eq)]
 pub(crate) struct Bounds {
     pub(crate) least: usize,
     pub(crate) most: usize,
 }
 
-/// What a number is from the point of a call on that is shown.
+/// A step of a curve: the number from the linearization point of a shown call on.
 #[derive(Clone, Copy, Debug, PartialEq, Eq)]
-pub(crate) struct Spot {
+pub(crate) struct CurveStep {
     pub(crate) point: usize,
     pub(crate) x: u64,
     pub(crate) value: usize,
@@ -41,14 +41,14 @@ pub(crate) struct Panel {
     pub(crate) subject: Subject,
     /// The number at the first column.
     pub(crate) before: usize,
-    /// What it is from the point of each call of the object on.
-    pub(crate) spots: Vec<Spot>,
-    /// Its bounds at each moment that is shown, none of a cell.
+    /// Its steps: one for each call that it shows and whose point is in the window.
+    pub(crate) spots: Vec<CurveStep>,
+    /// Its bounds at each moment that is shown; empty if it shows values.
     pub(crate) bounds: Vec<Bounds>,
 }
 
 impl Subject {
-    /// Returns the number of the object that it shows.
+    /// Returns the track of the object that it shows.
     fn track(self) -> Track {
         match self {
             Subject::Count(object) | Subject::Numbers(object) | Subject::Values(object) => Track {
@@ -72,13 +72,14 @@ impl Subject {
         }
     }
 
-    /// Returns whether a certificate on this object speaks of what it shows.
-    pub(crate) fn is_of(self, object: usize, courses: &[calls_shapes::Stair]) -> bool {
+    /// Returns whether a certificate on this object is about what it shows. One on semaphores is,
+    /// if it has a stair of the units added to this one.
+    pub(crate) fn is_of(self, object: usize, spans: &[calls_shapes::Stair]) -> bool {
         match self {
             Subject::Units(_, place) => {
-                courses
+                spans
                     .iter()
-                    .any(|stair| stair.course.counted == Counted::Adding(place))
+                    .any(|stair| stair.span.counted == CountFilter::Adding(place))
             }
             _ => object == self.object(),
         }
@@ -108,7 +109,7 @@ fn count_bounds(
     alloc: Global,
     picture: &Picture<'_>,
     start: usize,
-    counted: Counted,
+    counted: CountFilter,
 ) -> Result<Vec<Bounds>, AllocError> {
     let window = picture.window();
     let tallies = tallies_of(alloc, picture.events, counted)?;
@@ -129,8 +130,8 @@ fn bounds_of_units(
     place: usize,
 ) -> Result<Vec<Bounds>, AllocError> {
     let window = picture.window();
-    let given = tallies_of(alloc, picture.events, Counted::Adding(place))?;
-    let taken = tallies_of(alloc, picture.events, Counted::Taking(place))?;
+    let given = tallies_of(alloc, picture.events, CountFilter::Adding(place))?;
+    let taken = tallies_of(alloc, picture.events, CountFilter::Taking(place))?;
     let mut bounds = Vec::new(alloc);
     for position in window.from..=window.to {
         if let (Some(given), Some(taken)) = (given.get(position), taken.get(position)) {
@@ -148,20 +149,20 @@ fn bounds_of(
     start: usize,
 ) -> Result<Vec<Bounds>, AllocError> {
     match subject {
-        Subject::Count(k) => count_bounds(alloc, picture, start, Counted::Advances(k)),
-        Subject::Numbers(k) => count_bounds(alloc, picture, start, Counted::Tickets(k)),
+        Subject::Count(k) => count_bounds(alloc, picture, start, CountFilter::Advances(k)),
+        Subject::Numbers(k) => count_bounds(alloc, picture, start, CountFilter::Tickets(k)),
         Subject::Units(_, place) => bounds_of_units(alloc, picture, start, place),
         Subject::Values(_) => Ok(Vec::new(alloc)),
     }
 }
 
-/// Returns the last of these values before a position, or else the first one.
+/// Returns the last of these values before a position, `start` if there is none.
 fn value_before(start: usize, steps: &[Step], position: usize) -> usize {
     let before = steps.iter().rev().find(|step| step.point < position);
     before.map_or(start, |step| step.value)
 }
 
-/// Returns where the calls of an object are in an order, by their indices there.
+/// Returns the indices of the calls of an object in a linearization.
 fn indices_of(alloc: Global, order: &[Placed], object: usize) -> Result<Vec<usize>, AllocError> {
     let mut indices = Vec::new(alloc);
     for (i, placed) in order.iter().enumerate() {
@@ -172,20 +173,20 @@ fn indices_of(alloc: Global, order: &[Placed], object: usize) -> Result<Vec<usiz
     Ok(indices)
 }
 
-/// Returns what a number is from the point of each call on that is shown.
+/// Returns the steps of a number: one for each of its calls whose point is in the window.
 fn spots_of(
     alloc: Global,
     picture: &Picture<'_>,
     subject: Subject,
     steps: &[Step],
-) -> Result<Vec<Spot>, AllocError> {
+) -> Result<Vec<CurveStep>, AllocError> {
     let mut spots = Vec::new(alloc);
     let indices = indices_of(alloc, picture.order, subject.object())?;
     for (i, step) in indices.iter().zip(steps) {
         if let Some(placed) = picture.order.get(*i) {
             let op = placed.call.op;
             if picture.window().has_point(step.point) && subject.shows(placed.call.object, op) {
-                spots.push(Spot {
+                spots.push(CurveStep {
                     point: step.point,
                     x: picture.x_of(*i),
                     value: step.value,
@@ -210,7 +211,7 @@ fn panel_of(alloc: Global, picture: &Picture<'_>, subject: Subject) -> Result<Pa
     })
 }
 
-/// Returns whether a drawn call is one of what this shows.
+/// Returns whether a panel shows what some drawn call does.
 fn is_shown(picture: &Picture<'_>, subject: Subject) -> bool {
     picture
         .shown
@@ -218,27 +219,27 @@ fn is_shown(picture: &Picture<'_>, subject: Subject) -> bool {
         .any(|bar| subject.shows(bar.object, bar.op))
 }
 
-/// Adds the panel of what this shows, if a drawn call is one of it.
+/// Adds the panel of what this shows, if it shows what some drawn call does.
 fn add_panel(
     alloc: Global,
     panels: &mut Vec<Panel>,
     picture: &Picture<'_>,
     subject: Subject,
-) -> Put {
+) -> PutResult {
     if is_shown(picture, subject) {
         panels.push(panel_of(alloc, picture, subject)?)?;
     }
     Ok(())
 }
 
-/// Adds the panels of the semaphores.
+/// Adds the panels of the semaphores that are chosen.
 fn add_semaphores(
     alloc: Global,
     panels: &mut Vec<Panel>,
     picture: &Picture<'_>,
     object: usize,
     count: usize,
-) -> Put {
+) -> PutResult {
     for place in 0..count {
         if picture.choice.has_semaphore(place) {
             add_panel(alloc, panels, picture, Subject::Units(object, place))?;
@@ -265,8 +266,9 @@ pub(crate) fn panels_of(alloc: Global, picture: &Picture<'_>) -> Result<Vec<Pane
     Ok(panels)
 }
 
-/// Returns the number that a call says of its object.
-pub(crate) fn said_by(op: Op, reply: Reply) -> Option<usize> {
+/// Returns the number that a call says of its object. An await says its threshold if it is done,
+/// and one less if it gave up.
+pub(crate) fn implied_number(op: Op, reply: Reply) -> Option<usize> {
     match (op, reply) {
         (_, Reply::Number(n)) => Some(n),
         (Op::Await(v), Reply::Done) => Some(v),

@@ -1,11 +1,11 @@
-//! What a picture of a history has.
-use crate::choice::Choice;
+//! What is drawn of a history.
+use crate::choice::Selection;
 use crate::grid::{Grid, LEFT};
-use crate::history::Found;
+use crate::history::FoundHistory;
 use crate::lines::EventLines;
 use crate::view::{CallsView, Window, window_of};
 use calls_core::{Action, Call, Event, Kind, Op, PendingCall, Placed, Reply};
-use calls_shapes::{Bars, Course, Stair, bars_of, courses_of, faulty_calls, stair_of};
+use calls_shapes::{Bars, Stair, StairSpan, bars_of, faulty_calls, spans_of, stair_of};
 use calls_text::Lists;
 use calls_verdict::{Fault, Refusal, Verdict};
 use ec_heading::Heading;
@@ -23,14 +23,14 @@ pub(crate) struct Bar {
 
 /// The outline of a bar that a certificate names or counts.
 #[derive(Clone, Copy, Debug, PartialEq, Eq)]
-pub(crate) enum Outline {
-    /// It is named.
+pub(crate) enum BarOutline {
+    /// The certificate names its call.
     Hot,
-    /// It is counted.
+    /// The certificate counts its call.
     Warm,
 }
 
-/// What shows that a history is refused.
+/// The evidence that a history is rejected.
 #[derive(Drop)]
 pub(crate) struct Evidence<'a> {
     pub(crate) refusal: &'a Refusal,
@@ -50,22 +50,22 @@ pub(crate) struct Picture<'a> {
     pub(crate) kinds: &'a [Kind],
     pub(crate) events: &'a [Event],
     pub(crate) bars: Bars,
-    /// Those that are drawn.
+    /// The bars that are drawn.
     pub(crate) shown: Vec<Bar>,
-    /// The calls in an order, none if the history has no order or is not decided.
+    /// The calls in a linearization; empty if the history has none or is not decided.
     pub(crate) order: &'a [Placed],
-    /// The point of the call that each event invokes, 0 if it has none.
+    /// For each event the linearization point of the call that it invokes, 0 if it has none.
     pub(crate) points: Vec<usize>,
-    /// Where the points of the order are, in pixels.
+    /// The x of the point of each call of `order`, in pixels.
     pub(crate) xs: Vec<u64>,
     pub(crate) evidence: Option<Evidence<'a>>,
-    pub(crate) choice: Choice,
+    pub(crate) choice: Selection,
     pub(crate) grid: Grid,
     /// The number of the line of the event at position 0.
     pub(crate) first_line: u64,
     /// Whether all calls are of one object.
     pub(crate) is_single: bool,
-    /// What is said of the history, in lines.
+    /// What `check` says of the text, in lines.
     pub(crate) note: &'a [u8],
 }
 
@@ -93,11 +93,11 @@ impl Bar {
     }
 
     /// Returns whether it is drawn.
-    fn is_shown(&self, choice: &Choice, window: Window) -> bool {
+    fn is_shown(&self, choice: &Selection, window: Window) -> bool {
         window.meets(self.first, self.last()) && choice.has(self.worker, self.object, self.op)
     }
 
-    /// Returns the position of its end, a high one if it has none.
+    /// Returns the position of its end, `usize::MAX` if it is pending.
     pub(crate) fn last(&self) -> usize {
         match self.end {
             Some((last, _)) => last,
@@ -110,45 +110,45 @@ impl Bar {
 fn stairs_of(
     alloc: Global,
     events: &[Event],
-    courses: &[Course],
+    spans: &[StairSpan],
 ) -> Result<Vec<Stair>, AllocError> {
     let mut stairs = Vec::new(alloc);
-    for course in courses {
-        stairs.push(stair_of(alloc, events, *course)?)?;
+    for span in spans {
+        stairs.push(stair_of(alloc, events, *span)?)?;
     }
     Ok(stairs)
 }
 
-/// Returns what shows that a history is refused.
+/// Returns the evidence that a history is rejected.
 fn evidence_of<'a>(
     alloc: Global,
     kinds: &[Kind],
     events: &[Event],
     refusal: &'a Refusal,
 ) -> Result<Evidence<'a>, AllocError> {
-    let courses = courses_of(alloc, kinds, refusal.object, &refusal.fault)?;
+    let spans = spans_of(alloc, kinds, refusal.object, &refusal.fault)?;
     Ok(Evidence {
         refusal,
         faulty: faulty_calls(alloc, &refusal.fault)?,
-        stairs: stairs_of(alloc, events, &courses)?,
+        stairs: stairs_of(alloc, events, &spans)?,
     })
 }
 
 impl<'a> Evidence<'a> {
-    /// Returns the outline of a bar.
-    pub(crate) fn outline(&self, bar: &Bar) -> Option<Outline> {
+    /// Returns the outline of a bar, `None` if the certificate neither names nor counts its call.
+    pub(crate) fn outline(&self, bar: &Bar) -> Option<BarOutline> {
         if self.faulty.iter().any(|call| call.first == bar.first) {
-            return Some(Outline::Hot);
+            return Some(BarOutline::Hot);
         }
-        let is_counted = self.stairs.iter().any(|stair| counts(&stair.course, bar));
+        let is_counted = self.stairs.iter().any(|stair| counts(&stair.span, bar));
         if is_counted || self.may_have_drawn(bar) {
-            return Some(Outline::Warm);
+            return Some(BarOutline::Warm);
         }
         None
     }
 
-    /// Returns whether a ticket can have drawn a number up to that of a ticket for which too few
-    /// did.
+    /// Returns whether a ticket may have drawn a number up to that of the faulty one, if the fault
+    /// is that too few tickets did.
     fn may_have_drawn(&self, bar: &Bar) -> bool {
         let Fault::Ticket(calls_tickets::Fault::Drawn(call)) = &self.refusal.fault else {
             return false;
@@ -161,7 +161,7 @@ impl<'a> Evidence<'a> {
         is_low && bar.object == self.refusal.object
     }
 
-    /// Returns whether it is of a cell whose gets each have one put.
+    /// Returns whether it is of a cell or database whose values are distinct.
     pub(crate) fn is_distinct(&self) -> bool {
         matches!(
             self.refusal.fault,
@@ -169,7 +169,8 @@ impl<'a> Evidence<'a> {
         )
     }
 
-    /// Returns the least position of what it names.
+    /// Returns the least position among the faulty event and the invocations of the calls that it
+    /// names.
     fn earliest(&self) -> usize {
         let mut least = self.refusal.at;
         for call in &self.faulty {
@@ -180,9 +181,9 @@ impl<'a> Evidence<'a> {
 }
 
 /// Returns whether a course counts the call of a bar.
-fn counts(course: &Course, bar: &Bar) -> bool {
+fn counts(span: &StairSpan, bar: &Bar) -> bool {
     match bar.end {
-        Some((last, reply)) => course.has_completed(&Call {
+        Some((last, reply)) => span.has_completed(&Call {
             worker: bar.worker,
             object: bar.object,
             op: bar.op,
@@ -190,7 +191,7 @@ fn counts(course: &Course, bar: &Bar) -> bool {
             first: bar.first,
             last,
         }),
-        None => course.has_pending(&PendingCall {
+        None => span.has_pending(&PendingCall {
             worker: bar.worker,
             object: bar.object,
             op: bar.op,
@@ -199,10 +200,10 @@ fn counts(course: &Course, bar: &Bar) -> bool {
     }
 }
 
-/// How many events are shown before what a certificate names.
+/// How many events are shown before the first one that a certificate names.
 const BEFORE: usize = 4;
 
-/// The fewest events that are shown of a long history that is refused.
+/// The fewest events that are shown of a long history that is rejected.
 const FEWEST: usize = 20;
 
 /// Returns the first event that is shown if none is chosen.
@@ -217,7 +218,7 @@ fn usual_from(evidence: &Option<Evidence<'_>>, count: usize) -> usize {
     }
 }
 
-/// Returns how many calls from an index on have the point of the one there.
+/// Returns how many calls in a row from an index on have the same point.
 fn same_points(order: &[Placed], i: usize) -> usize {
     let point = point_at(order, i);
     let mut count = 0usize;
@@ -230,7 +231,7 @@ fn same_points(order: &[Placed], i: usize) -> usize {
     count
 }
 
-/// Returns the point at an index.
+/// Returns the point of the call at an index.
 fn point_at(order: &[Placed], i: usize) -> usize {
     match order.get(i) {
         Some(placed) => placed.point,
@@ -238,8 +239,8 @@ fn point_at(order: &[Placed], i: usize) -> usize {
     }
 }
 
-/// Returns where the points of an order are. Calls of one point stand side by side.
-fn places_of(alloc: Global, grid: Grid, order: &[Placed]) -> Result<Vec<u64>, AllocError> {
+/// Returns the x of the point of each call of a linearization. Calls of one point are side by side.
+fn point_xs(alloc: Global, grid: Grid, order: &[Placed]) -> Result<Vec<u64>, AllocError> {
     let mut xs = Vec::new(alloc);
     let mut first = 0;
     let mut count = 0;
@@ -266,30 +267,30 @@ fn points_of(alloc: Global, events: &[Event], order: &[Placed]) -> Result<Vec<us
 }
 
 /// Returns the object of an invocation.
-fn invoked(event: &Event) -> Option<usize> {
+fn invoked_object(event: &Event) -> Option<usize> {
     match event.action {
         Action::Invoke(object, _) => Some(object),
         Action::Respond(_) => None,
     }
 }
 
-/// Returns whether all calls are of one object, which needs no name then.
+/// Returns whether all calls are of one object, which then needs no name. Semaphores need theirs.
 fn has_one_object(events: &[Event], kinds: &[Kind]) -> bool {
-    let Some(first) = events.iter().find_map(|event| invoked(event)) else {
+    let Some(first) = events.iter().find_map(|event| invoked_object(event)) else {
         return true;
     };
     let is_one = !matches!(kinds.get(first), Some(Kind::Semaphores(_)));
     is_one
         && events
             .iter()
-            .all(|event| invoked(event).is_none_or(|k| k == first))
+            .all(|event| invoked_object(event).is_none_or(|k| k == first))
 }
 
 /// Returns the bars that are drawn: the completed ones, and then the pending ones.
 fn shown_bars(
     alloc: Global,
     bars: &Bars,
-    choice: &Choice,
+    choice: &Selection,
     window: Window,
 ) -> Result<Vec<Bar>, AllocError> {
     let completed = bars.completed.iter().map(|call| Bar::of(call));
@@ -300,7 +301,7 @@ fn shown_bars(
         .collect(alloc)
 }
 
-/// Returns the order of the calls, if there is one.
+/// Returns the linearization of a verdict, empty if it has none.
 fn order_of(verdict: &Verdict) -> &[Placed] {
     match verdict {
         Verdict::Linearizable(order) => order.as_slice(),
@@ -309,11 +310,11 @@ fn order_of(verdict: &Verdict) -> &[Placed] {
 }
 
 impl<'a> Picture<'a> {
-    /// Returns what is drawn of a history, and what is said of it.
+    /// Returns what is drawn of a history, with this note on its text.
     pub(crate) fn of(
         alloc: Global,
         view: &CallsView<'_>,
-        found: &'a Found<'_>,
+        found: &'a FoundHistory<'_>,
         note: &'a [u8],
     ) -> Result<Picture<'a>, AllocError> {
         let recording = &found.judged.read.recording;
@@ -326,7 +327,7 @@ impl<'a> Picture<'a> {
         };
         let usual = usual_from(&evidence, events.len());
         let window = window_of(view, events.len(), usual);
-        let choice = Choice::of(alloc, heading, view)?;
+        let choice = Selection::of(alloc, heading, view)?;
         let bars = bars_of(alloc, events)?;
         let order = order_of(&found.judged.verdict);
         Ok(Picture {
@@ -339,7 +340,7 @@ impl<'a> Picture<'a> {
             bars,
             order,
             points: points_of(alloc, events, order)?,
-            xs: places_of(alloc, Grid::new(window), order)?,
+            xs: point_xs(alloc, Grid::new(window), order)?,
             evidence,
             choice,
             grid: Grid::new(window),
@@ -359,7 +360,7 @@ impl<'a> Picture<'a> {
         self.heading.setup().workers()
     }
 
-    /// Returns how many workers are drawn of those before this one.
+    /// Returns how many of the workers before this one are drawn.
     pub(crate) fn rows_before(&self, worker: usize) -> usize {
         let mut rows = 0usize;
         for other in 0..worker {
@@ -384,7 +385,7 @@ impl<'a> Picture<'a> {
         self.points.get(bar.first).copied().unwrap_or(0)
     }
 
-    /// Returns where an order's point stands.
+    /// Returns the x of the point of the call at an index of the linearization.
     pub(crate) fn x_of(&self, i: usize) -> u64 {
         self.xs.get(i).copied().unwrap_or(LEFT)
     }

@@ -1,9 +1,9 @@
-//! The rows of the workers: bars, and marks at the points.
+//! The rows of the workers: bars, and marks at the linearization points.
 use crate::grid::{LEFT, TOP, below, row};
 use crate::lines::parts_of;
-use crate::picture::{Bar, Outline, Picture};
+use crate::picture::{Bar, BarOutline, Picture};
 use crate::sink::{
-    Pen, Place, Put, end_text, put_attribute, put_diamond, put_line, put_number, put_rect,
+    Pen, Pixel, PutResult, end_text, put_attribute, put_diamond, put_line, put_number, put_rect,
     put_text, start_text, xy,
 };
 use crate::words::{class_of, put_whole, put_worker};
@@ -13,7 +13,8 @@ use std::alloc::Global;
 /// Half the height of a bar.
 const HALF: u64 = 11;
 
-/// Puts what stands above the columns, and of how many events, if not all are shown.
+/// Puts the titles of the numbers above the columns, and how many events there are if not all are
+/// shown.
 pub(crate) fn put_column_names(out: &mut Pen<'_>, picture: &Picture<'_>) {
     let x = LEFT - 14;
     start_text(out, b"scale", xy(x, 20));
@@ -40,8 +41,8 @@ pub(crate) fn put_columns(out: &mut Pen<'_>, picture: &Picture<'_>, rows: usize)
     }
 }
 
-/// Puts the class that makes a text small if it has more room than this.
-fn put_squeezed(out: &mut Pen<'_>, class: &[u8], at: Place, text: &[u8], room: u64) {
+/// Puts a text, in smaller letters if it needs more than this room.
+fn put_squeezed(out: &mut Pen<'_>, class: &[u8], at: Pixel, text: &[u8], room: u64) {
     let letters = text.len() as u64;
     out.put(b"<text class='");
     out.put(class);
@@ -60,7 +61,7 @@ fn put_squeezed(out: &mut Pen<'_>, class: &[u8], at: Place, text: &[u8], room: u
     end_text(out);
 }
 
-/// Puts as much of a text as there is room for in small letters.
+/// Puts as much of a text as this room has in small letters, and `~` if that is not all.
 fn put_cut(out: &mut Pen<'_>, text: &[u8], room: u64) {
     let most = (room.saturating_mul(2) / 7).max(2) as usize;
     if text.len() <= most {
@@ -72,13 +73,13 @@ fn put_cut(out: &mut Pen<'_>, text: &[u8], room: u64) {
 }
 
 /// Puts the outline of a bar, if a certificate names or counts it.
-fn put_outline(out: &mut Pen<'_>, picture: &Picture<'_>, bar: &Bar, at: Place, width: u64) {
+fn put_outline(out: &mut Pen<'_>, picture: &Picture<'_>, bar: &Bar, at: Pixel, width: u64) {
     let Some(evidence) = &picture.evidence else {
         return;
     };
     let class: &[u8] = match evidence.outline(bar) {
-        Some(Outline::Hot) => b"hot",
-        Some(Outline::Warm) => b"warm",
+        Some(BarOutline::Hot) => b"hot",
+        Some(BarOutline::Warm) => b"warm",
         None => return,
     };
     let place = xy(at.x.saturating_sub(3), at.y.saturating_sub(3));
@@ -86,7 +87,7 @@ fn put_outline(out: &mut Pen<'_>, picture: &Picture<'_>, bar: &Bar, at: Place, w
 }
 
 /// Puts the rectangle of a bar.
-fn put_bar_rect(out: &mut Pen<'_>, bar: &Bar, at: Place, width: u64) {
+fn put_bar_rect(out: &mut Pen<'_>, bar: &Bar, at: Pixel, width: u64) {
     out.put(b"<rect class='bar ");
     out.put(class_of(bar.op));
     if bar.end.is_none() {
@@ -100,7 +101,7 @@ fn put_bar_rect(out: &mut Pen<'_>, bar: &Bar, at: Place, width: u64) {
     out.put(b"/>\n");
 }
 
-/// Puts a bar with its texts. The next bar of the row begins at this position.
+/// Puts a bar with its texts. The next bar of the row begins at the position `next`.
 fn put_bar(out: &mut Pen<'_>, picture: &Picture<'_>, bar: &Bar, next: usize, y: u64) {
     let x = picture.grid.x(bar.first);
     let end = picture.grid.x(bar.last());
@@ -118,7 +119,7 @@ fn put_bar(out: &mut Pen<'_>, picture: &Picture<'_>, bar: &Bar, next: usize, y: 
 }
 
 /// Puts what a call returned below the end of its bar, nothing if that is `done`.
-fn put_returned(out: &mut Pen<'_>, picture: &Picture<'_>, bar: &Bar, at: Place, room: u64) {
+fn put_returned(out: &mut Pen<'_>, picture: &Picture<'_>, bar: &Bar, at: Pixel, room: u64) {
     let Some((last, reply)) = bar.end else {
         return;
     };
@@ -126,16 +127,16 @@ fn put_returned(out: &mut Pen<'_>, picture: &Picture<'_>, bar: &Bar, at: Place, 
         return;
     }
     let place = xy(at.x.saturating_sub(2), at.y.saturating_add(25));
-    let text = picture.lines.said(last);
+    let text = picture.lines.event_text(last);
     put_squeezed(out, b"reply", place, text, room.max(40));
 }
 
-/// Puts what a call asks for above its bar, and of which object if there are several.
-fn put_labels(out: &mut Pen<'_>, picture: &Picture<'_>, bar: &Bar, at: Place, room: u64) {
+/// Puts the operation of a call above its bar, and the object if there are several.
+fn put_labels(out: &mut Pen<'_>, picture: &Picture<'_>, bar: &Bar, at: Pixel, room: u64) {
     let x = at.x.saturating_add(2);
     let low = xy(x, at.y.saturating_sub(18));
     let high = xy(x, at.y.saturating_sub(28));
-    let act = picture.lines.said(bar.first);
+    let act = picture.lines.event_text(bar.first);
     let (verb, object, rest) = parts_of(act);
     let verb = act.get(..verb.len()).unwrap_or(act);
     match (picture.is_single, bar.op) {
@@ -152,8 +153,8 @@ fn put_labels(out: &mut Pen<'_>, picture: &Picture<'_>, bar: &Bar, at: Place, ro
     }
 }
 
-/// Puts a verb and what a call asks for besides its object.
-fn put_act(out: &mut Pen<'_>, at: Place, verb: &[u8], rest: &[u8], room: u64) {
+/// Puts a verb, and the arguments of a call other than its object.
+fn put_act(out: &mut Pen<'_>, at: Pixel, verb: &[u8], rest: &[u8], room: u64) {
     let letters = (verb.len() as u64).saturating_add(1);
     let used = letters.saturating_mul(6);
     put_squeezed(out, b"act", at, verb, room);
@@ -174,7 +175,7 @@ fn put_row_name(out: &mut Pen<'_>, picture: &Picture<'_>, worker: usize, y: u64)
 }
 
 /// Puts the row of a worker.
-fn put_row(alloc: Global, out: &mut Pen<'_>, picture: &Picture<'_>, worker: usize) -> Put {
+fn put_row(alloc: Global, out: &mut Pen<'_>, picture: &Picture<'_>, worker: usize) -> PutResult {
     let y = row(picture.rows_before(worker));
     put_row_name(out, picture, worker, y);
     let bars = picture.bars_of(alloc, worker)?;
@@ -189,7 +190,7 @@ fn put_row(alloc: Global, out: &mut Pen<'_>, picture: &Picture<'_>, worker: usiz
 }
 
 /// Puts the rows of the workers.
-pub(crate) fn put_rows(alloc: Global, out: &mut Pen<'_>, picture: &Picture<'_>) -> Put {
+pub(crate) fn put_rows(alloc: Global, out: &mut Pen<'_>, picture: &Picture<'_>) -> PutResult {
     for worker in 0..picture.workers() {
         if picture.choice.has_worker(worker) {
             put_row(alloc, out, picture, worker)?;
@@ -198,7 +199,7 @@ pub(crate) fn put_rows(alloc: Global, out: &mut Pen<'_>, picture: &Picture<'_>) 
     Ok(())
 }
 
-/// Puts the marks at the points of the calls that are drawn.
+/// Puts the marks at the linearization points of the calls that are drawn.
 pub(crate) fn put_marks(out: &mut Pen<'_>, picture: &Picture<'_>) {
     for (i, placed) in picture.order.iter().enumerate() {
         let call = &placed.call;

@@ -1,4 +1,4 @@
-//! Where numbers are in a panel, in pixels.
+//! The heights of the numbers in a panel, in pixels.
 
 /// The numbers of a panel, from the least to the greatest.
 #[derive(Clone, Copy, Debug, PartialEq, Eq)]
@@ -7,7 +7,7 @@ pub(crate) struct Range {
     pub(crate) high: usize,
 }
 
-/// A panel: where it begins, how high it is, and its numbers.
+/// The vertical extent of a panel, and the range of its numbers.
 #[derive(Clone, Copy, Debug, PartialEq, Eq)]
 pub(crate) struct Scale {
     pub(crate) range: Range,
@@ -21,7 +21,7 @@ impl Range {
         Range { low: n, high: n }
     }
 
-    /// Returns the range with a number more.
+    /// Returns the range, extended to a number.
     pub(crate) fn with(self, n: usize) -> Range {
         Range {
             low: self.low.min(n),
@@ -29,12 +29,12 @@ impl Range {
         }
     }
 
-    /// Returns how far it reaches, at least 1.
+    /// Returns the difference between its ends, at least 1.
     fn reach(self) -> u64 {
         (self.high.saturating_sub(self.low) as u64).max(1)
     }
 
-    /// Returns the distance of the numbers that are written beside a panel.
+    /// Returns the difference between two numbers that are written at the left of a panel.
     pub(crate) fn step(self) -> usize {
         match self.reach() {
             0..=12 => 1,
@@ -47,13 +47,13 @@ impl Range {
 }
 
 impl Scale {
-    /// Returns the panel of these numbers from a height on.
+    /// Returns the scale of a panel that begins at a height.
     pub(crate) fn new(range: Range, top: u64) -> Scale {
         let height = range.reach().saturating_mul(20).max(40).min(220);
         Scale { range, top, height }
     }
 
-    /// Returns where a number stands, or the nearer edge.
+    /// Returns the y of a number, or of the nearer edge if it is out of range.
     pub(crate) fn y(&self, n: usize) -> u64 {
         let reach = self.range.reach();
         // (so that the product below is not too great)
@@ -63,7 +63,7 @@ impl Scale {
         self.top.saturating_add(down.min(self.height))
     }
 
-    /// Returns where it ends.
+    /// Returns the y at which it ends.
     pub(crate) fn below(&self) -> u64 {
         self.top.saturating_add(self.height)
     }

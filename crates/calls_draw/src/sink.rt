@@ -1,27 +1,27 @@
 //! The elements of an SVG picture.
-use ec_text::Out;
+use ec_text::Output;
 use std::alloc::AllocError;
 
-/// The bytes of a picture so far.
-pub(crate) type Pen<'a> = Out<'a, Vec<u8>>;
+/// The writer of a picture, to a list of bytes.
+pub(crate) type Pen<'a> = Output<'a, Vec<u8>>;
 
-/// Whether there was memory for what was put.
-pub(crate) type Put = Result<(), AllocError>;
+/// The outcome of a function that puts something: an error if memory ran out.
+pub(crate) type PutResult = Result<(), AllocError>;
 
-/// A place in a picture.
+/// The coordinates of a pixel in a picture.
 #[derive(Clone, Copy, Debug, PartialEq, Eq)]
-pub(crate) struct Place {
+pub(crate) struct Pixel {
     pub(crate) x: u64,
     pub(crate) y: u64,
 }
 
-/// Returns the place with these coordinates.
-pub(crate) fn xy(x: u64, y: u64) -> Place {
-    Place { x, y }
+/// Returns the pixel with these coordinates.
+pub(crate) fn xy(x: u64, y: u64) -> Pixel {
+    Pixel { x, y }
 }
 
-/// Puts a byte of a text, escaped if XML needs it; what is no plain character is a question
-/// mark.
+/// Puts a byte of a text, escaped if XML needs it. One that is not printable ASCII becomes a
+/// question mark.
 fn put_escaped_byte(out: &mut Pen<'_>, byte: u8) {
     match byte {
         b'<' => out.put(b"&lt;"),
@@ -48,7 +48,7 @@ pub(crate) fn put_attribute(out: &mut Pen<'_>, name: &[u8], n: u64) {
     out.put(b"'");
 }
 
-/// Puts the name of an element and its class.
+/// Puts the beginning of an element: its name and its class.
 fn put_open(out: &mut Pen<'_>, name: &[u8], class: &[u8]) {
     out.put(b"<");
     out.put(name);
@@ -58,7 +58,7 @@ fn put_open(out: &mut Pen<'_>, name: &[u8], class: &[u8]) {
 }
 
 /// Puts a line.
-pub(crate) fn put_line(out: &mut Pen<'_>, class: &[u8], from: Place, to: Place) {
+pub(crate) fn put_line(out: &mut Pen<'_>, class: &[u8], from: Pixel, to: Pixel) {
     put_open(out, b"line", class);
     put_attribute(out, b"x1", from.x);
     put_attribute(out, b"y1", from.y);
@@ -68,7 +68,7 @@ pub(crate) fn put_line(out: &mut Pen<'_>, class: &[u8], from: Place, to: Place) 
 }
 
 /// Puts a rectangle.
-pub(crate) fn put_rect(out: &mut Pen<'_>, class: &[u8], at: Place, width: u64, height: u64) {
+pub(crate) fn put_rect(out: &mut Pen<'_>, class: &[u8], at: Pixel, width: u64, height: u64) {
     put_open(out, b"rect", class);
     put_attribute(out, b"x", at.x);
     put_attribute(out, b"y", at.y);
@@ -78,7 +78,7 @@ pub(crate) fn put_rect(out: &mut Pen<'_>, class: &[u8], at: Place, width: u64, h
 }
 
 /// Puts a circle.
-pub(crate) fn put_circle(out: &mut Pen<'_>, class: &[u8], at: Place, r: u64) {
+pub(crate) fn put_circle(out: &mut Pen<'_>, class: &[u8], at: Pixel, r: u64) {
     put_open(out, b"circle", class);
     put_attribute(out, b"cx", at.x);
     put_attribute(out, b"cy", at.y);
@@ -86,8 +86,8 @@ pub(crate) fn put_circle(out: &mut Pen<'_>, class: &[u8], at: Place, r: u64) {
     out.put(b"/>\n");
 }
 
-/// Puts the mark of a point: a diamond.
-pub(crate) fn put_diamond(out: &mut Pen<'_>, at: Place) {
+/// Puts the mark of a linearization point: a diamond.
+pub(crate) fn put_diamond(out: &mut Pen<'_>, at: Pixel) {
     out.put(b"<path class='mark' d='M ");
     out.put_number(at.x);
     out.put(b" ");
@@ -96,7 +96,7 @@ pub(crate) fn put_diamond(out: &mut Pen<'_>, at: Place) {
 }
 
 /// Puts the beginning of a text.
-pub(crate) fn start_text(out: &mut Pen<'_>, class: &[u8], at: Place) {
+pub(crate) fn start_text(out: &mut Pen<'_>, class: &[u8], at: Pixel) {
     put_open(out, b"text", class);
     put_attribute(out, b"x", at.x);
     put_attribute(out, b"y", at.y);
@@ -109,21 +109,21 @@ pub(crate) fn end_text(out: &mut Pen<'_>) {
 }
 
 /// Puts a text.
-pub(crate) fn put_text(out: &mut Pen<'_>, class: &[u8], at: Place, text: &[u8]) {
+pub(crate) fn put_text(out: &mut Pen<'_>, class: &[u8], at: Pixel, text: &[u8]) {
     start_text(out, class, at);
     put_escaped(out, text);
     end_text(out);
 }
 
 /// Puts a number as a text.
-pub(crate) fn put_number(out: &mut Pen<'_>, class: &[u8], at: Place, n: u64) {
+pub(crate) fn put_number(out: &mut Pen<'_>, class: &[u8], at: Pixel, n: u64) {
     start_text(out, class, at);
     out.put_number(n);
     end_text(out);
 }
 
 /// Puts the beginning of a path.
-pub(crate) fn start_path(out: &mut Pen<'_>, class: &[u8], at: Place) {
+pub(crate) fn start_path(out: &mut Pen<'_>, class: &[u8], at: Pixel) {
     put_open(out, b"path", class);
     out.put(b" d='M ");
     out.put_number(at.x);

@@ -1,6 +1,6 @@
-//! How a picture looks.
+//! The style of a picture.
 
-/// The beginning of a picture.
+/// The beginning of a picture, up to its width.
 pub(crate) const OPENING: &[u8] = b"<svg xmlns='http://www.w3.org/2000/svg'";
 
 /// The style sheet. The colours are those of M. Okabe and K. Ito, which people who don't see all

@@ -9,21 +9,21 @@ use crate::panels::{Panel, Subject, panels_of};
 use crate::picture::{Evidence, Picture};
 use crate::rows::{put_column_names, put_columns, put_faulty_column, put_marks, put_rows};
 use crate::scale::{Range, Scale};
-use crate::sink::{Pen, Put, put_attribute, put_text, xy};
+use crate::sink::{Pen, PutResult, put_attribute, put_text, xy};
 use crate::style::{OPENING, STYLE};
 use ec_text::cut_line;
 use std::alloc::Global;
 
-/// The room between two panels.
+/// The height of the gap between two panels.
 const GAP: u64 = 34;
 
-/// The room for words that go on beside the columns.
+/// The width of the margin for words to the right of the columns.
 const MARGIN: u64 = 70;
 
-/// How high a line of a note is.
+/// The height of a line of a note.
 const NOTE: u64 = 17;
 
-/// Returns the range of the numbers of a panel.
+/// Returns the range of the numbers of a panel, extended to those of its evidence.
 fn whole_range(picture: &Picture<'_>, panel: &Panel) -> Range {
     let range = range_of(picture, panel);
     match evidence_in(picture, panel) {
@@ -32,7 +32,7 @@ fn whole_range(picture: &Picture<'_>, panel: &Panel) -> Range {
     }
 }
 
-/// Returns how high a panel is.
+/// Returns the height of a panel.
 fn panel_height(picture: &Picture<'_>, panel: &Panel) -> u64 {
     match (panel.subject, evidence_in(picture, panel)) {
         (Subject::Values(_), Some(evidence)) => lanes_height(evidence),
@@ -41,7 +41,7 @@ fn panel_height(picture: &Picture<'_>, panel: &Panel) -> u64 {
     }
 }
 
-/// Returns where the panels end.
+/// Returns the y at which the panels end.
 fn panels_end(picture: &Picture<'_>, rows: usize, panels: &[Panel]) -> u64 {
     let mut y = below(rows).saturating_add(GAP);
     for panel in panels {
@@ -52,8 +52,8 @@ fn panels_end(picture: &Picture<'_>, rows: usize, panels: &[Panel]) -> u64 {
     y
 }
 
-/// Returns how many lines a note has, and how many letters the longest.
-fn measured(note: &[u8]) -> (u64, u64) {
+/// Returns how many lines a note has, and how many letters the longest one has.
+fn measure_note(note: &[u8]) -> (u64, u64) {
     let mut lines = 0u64;
     let mut longest = 0u64;
     let mut rest = note;
@@ -88,7 +88,7 @@ fn put_numbers(out: &mut Pen<'_>, picture: &Picture<'_>, panel: &Panel, top: u64
     }
 }
 
-/// Puts a panel of numbers of an object whose calls are refused.
+/// Puts a panel of numbers with the evidence against its object.
 fn put_refused(
     out: &mut Pen<'_>,
     picture: &Picture<'_>,
@@ -104,7 +104,7 @@ fn put_refused(
     put_evidence(out, picture, scale, panel.subject, evidence);
 }
 
-/// Puts a panel of numbers of another object.
+/// Puts a panel of numbers without evidence.
 fn put_accepted(out: &mut Pen<'_>, picture: &Picture<'_>, panel: &Panel, scale: &Scale) {
     put_band(out, picture, scale, panel);
     if matches!(panel.subject, Subject::Numbers(_)) {
@@ -117,7 +117,8 @@ fn put_accepted(out: &mut Pen<'_>, picture: &Picture<'_>, panel: &Panel, scale: 
     put_awaited(out, picture, scale, panel);
 }
 
-/// Returns where the name of a panel stands: beside it, or above it if its numbers are long.
+/// Returns the y of the name of a panel: to the left of the panel, or above it if its numbers are
+/// long.
 fn name_y(picture: &Picture<'_>, panel: &Panel, top: u64) -> u64 {
     let is_long = !matches!(panel.subject, Subject::Values(_))
         && whole_range(picture, panel).high > 9999;
@@ -170,11 +171,11 @@ fn put_note(out: &mut Pen<'_>, picture: &Picture<'_>, top: u64) {
 }
 
 /// Puts a picture as SVG.
-pub(crate) fn put_svg(alloc: Global, out: &mut Pen<'_>, picture: &Picture<'_>) -> Put {
+pub(crate) fn put_svg(alloc: Global, out: &mut Pen<'_>, picture: &Picture<'_>) -> PutResult {
     let panels = panels_of(alloc, picture)?;
     let rows = picture.rows_before(picture.workers());
     let end = panels_end(picture, rows, panels.as_slice());
-    let (lines, longest) = measured(picture.note);
+    let (lines, longest) = measure_note(picture.note);
     let right = picture.grid.right().saturating_add(MARGIN);
     let width = longest.saturating_mul(8).max(right);
     let height = end.saturating_add(lines.saturating_mul(NOTE));

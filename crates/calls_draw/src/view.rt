@@ -1,6 +1,6 @@
-//! What is asked for of a history.
+//! The view of a history that a caller asks for.
 
-/// As what a picture is written.
+/// The format of a picture.
 #[derive(Clone, Copy, Debug, PartialEq, Eq)]
 pub enum Form {
     /// As SVG.
@@ -9,10 +9,11 @@ pub enum Form {
     Text,
 }
 
-/// What is to be drawn of a history, and as what.
+/// What is drawn of a history, and in which format.
 #[derive(Clone, Copy)]
 pub struct CallsView<'a> {
-    /// The first event that is shown, counted from 0; none: as many as fit.
+    /// The first event that is shown, counted from 0; none: shortly before the evidence of a long
+    /// history that is rejected, otherwise 0. At most the last `EVENTS_MAX` up to `to` are shown.
     pub from: Option<usize>,
     /// The last event that is shown; none: the last one there is.
     pub to: Option<usize>,
@@ -20,19 +21,19 @@ pub struct CallsView<'a> {
     pub workers: &'a [&'a str],
     /// The objects that are shown; none: all.
     pub objects: &'a [&'a str],
-    /// As what the picture is written.
+    /// The format of the picture.
     pub form: Form,
     /// What is written before the picture, and after it.
     pub before: &'a str,
     pub after: &'a str,
 }
 
-/// Some events that follow one another, by their positions.
+/// Some consecutive events, by their positions.
 #[derive(Clone, Copy, Debug, PartialEq, Eq)]
 pub(crate) struct Window {
-    /// The first.
+    /// The position of the first.
     pub(crate) from: usize,
-    /// The first after them.
+    /// The position after the last.
     pub(crate) to: usize,
 }
 
@@ -45,7 +46,7 @@ impl Window {
         self.to.saturating_sub(self.from)
     }
 
-    /// Returns whether a call has some time within, from one position to another.
+    /// Returns whether a call from one position to another overlaps it.
     pub(crate) fn meets(self, first: usize, last: usize) -> bool {
         first < self.to && self.from <= last
     }
@@ -56,7 +57,8 @@ impl Window {
     }
 }
 
-/// Returns the events that are shown, of so many from a position on where none are chosen.
+/// Returns the events that are shown out of `count`, from `usual` on if the view has no first one.
+/// At most the last `EVENTS_MAX` are shown.
 pub(crate) fn window_of(view: &CallsView<'_>, count: usize, usual: usize) -> Window {
     let to = match view.to {
         Some(last) => last.saturating_add(1).min(count),

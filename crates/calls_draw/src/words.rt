@@ -1,4 +1,4 @@
-//! What is written beside the shapes: words of the history's own text.
+//! The words at the shapes: names and operations, as the history's text has them.
 use crate::lines::parts_of;
 use crate::panels::Subject;
 use crate::picture::{Bar, Picture};
@@ -6,7 +6,7 @@ use crate::sink::Pen;
 use calls_core::{Kind, Op};
 use ec_count::{Target, WorkerId};
 
-/// Returns the class of a call.
+/// Returns the style class of a call with this operation.
 pub(crate) fn class_of(op: Op) -> &'static [u8] {
     match op {
         Op::Advance => b"advance",
@@ -41,7 +41,7 @@ pub(crate) fn worker_letters(picture: &Picture<'_>, worker: usize) -> usize {
     }
 }
 
-/// Returns the name of what a panel shows, by a call of it.
+/// Returns the name of what a panel shows, as a call of it has it.
 fn name_by(act: &[u8], op: Op, subject: Subject) -> &[u8] {
     let (_, object, rest) = parts_of(act);
     match (subject, op) {
@@ -57,11 +57,11 @@ pub(crate) fn put_subject(out: &mut Pen<'_>, picture: &Picture<'_>, subject: Sub
         .iter()
         .find(|bar| subject.shows(bar.object, bar.op));
     if let Some(bar) = shown {
-        out.put(name_by(picture.lines.said(bar.first), bar.op, subject));
+        out.put(name_by(picture.lines.event_text(bar.first), bar.op, subject));
     }
 }
 
-/// Puts each number of a list, and a space between two.
+/// Puts the numbers of a list, with a space between two.
 fn put_list(out: &mut Pen<'_>, list: &[u64]) {
     for (i, n) in list.iter().enumerate() {
         if i > 0 {
@@ -71,7 +71,7 @@ fn put_list(out: &mut Pen<'_>, list: &[u64]) {
     }
 }
 
-/// Puts so many zeros.
+/// Puts `count` zeros, with a space between two.
 fn put_zeros(out: &mut Pen<'_>, count: usize) {
     for i in 0..count {
         out.put(if i > 0 {
@@ -82,7 +82,8 @@ fn put_zeros(out: &mut Pen<'_>, count: usize) {
     }
 }
 
-/// Puts a value of a cell or a database. That of a database goes by the number of its list.
+/// Puts a value of a cell or a database. A database has lists as values: its value n is the list n
+/// - 1, and 0 is all zeros.
 pub(crate) fn put_value(out: &mut Pen<'_>, picture: &Picture<'_>, object: usize, value: usize) {
     match picture.kinds.get(object) {
         Some(Kind::Database(count)) if value == 0 => put_zeros(out, *count),
@@ -94,7 +95,7 @@ pub(crate) fn put_value(out: &mut Pen<'_>, picture: &Picture<'_>, object: usize,
     }
 }
 
-/// Puts the point of a call, if it has one in the order.
+/// Puts the linearization point of a call, if it has one.
 fn put_point(out: &mut Pen<'_>, picture: &Picture<'_>, bar: &Bar) {
     let point = picture.point_of(bar);
     if point > 0 {
@@ -103,7 +104,7 @@ fn put_point(out: &mut Pen<'_>, picture: &Picture<'_>, bar: &Bar) {
     }
 }
 
-/// Puts from where to where a call goes.
+/// Puts the positions of the invocation and the response of a call.
 fn put_span(out: &mut Pen<'_>, bar: &Bar) {
     match bar.end {
         Some((last, _)) => {
@@ -123,10 +124,10 @@ fn put_span(out: &mut Pen<'_>, bar: &Bar) {
 pub(crate) fn put_whole(out: &mut Pen<'_>, picture: &Picture<'_>, bar: &Bar) {
     put_worker(out, picture, bar.worker);
     out.put(b" ");
-    out.put(picture.lines.said(bar.first));
+    out.put(picture.lines.event_text(bar.first));
     out.put(b" = ");
     match bar.end {
-        Some((last, _)) => out.put(picture.lines.said(last)),
+        Some((last, _)) => out.put(picture.lines.event_text(last)),
         None => out.put(b"pending"),
     }
     put_span(out, bar);

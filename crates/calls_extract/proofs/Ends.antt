@@ -6,22 +6,22 @@ use Rattle.ec_trace.specs.Outcome as outcomes
 use Rattle.ec_trace.specs.declared.fault.TraceFault.{TraceFault}
 use Rattle.ec_trace.specs.declared.fault.TraceFault.TheVariants as faults
 use Rattle.ec_trace.specs.declared.read.TheConstants.{TRACE_MAX}
-use Rattle.ec_trace.specs.Recounted.{Recounted}
+use Rattle.ec_trace.specs.TraceModel.{TraceModel}
 use Rattle.evc_engine.specs.declared.status.Status.{Status}
 use Rattle.evc_engine.specs.declared.status.Status.TheVariants.{Done, Refused, Usage, InputOutput}
 use Rattle.evc_engine.specs.declared.status.Status.TheVariants.{Memory, Stopped}
-use Rattle.evc_engine.specs.Checks.{Outlets, Notes, ReadsAs}
+use Rattle.evc_engine.specs.Checks.{Outputs, Notes, ReadsAs}
 use Rattle.evc_engine.specs.Notes.{fault_note, fault_status}
 use Rattle.calls_extract.specs.Lines.{calls_text}
-use Rattle.calls_extract.specs.Extracts.{Tells, HasCalls, IsExtracted, Extracts}
+use Rattle.calls_extract.specs.Extracts.{WritesCalls, HasCalls, IsExtracted, Extracts}
 
-is_extracted : (bytes : List ℕ) (t : Recounted) (reads : ReadsAs bytes t) → HasCalls t
+is_extracted : (bytes : List ℕ) (t : TraceModel) (reads : ReadsAs bytes t) → HasCalls t
     → IsExtracted bytes (calls_text reads.trace.outline t.entries) t
 is_extracted bytes t reads all = record { from = reads; all = all; is = refl }
 
 -- a trace that was read, and whose calls were written or not
-pub extracted_so : (bytes : List ℕ) (left : Option (List ℕ)) (t : Recounted) (status : Status)
-    (old new : Outlets) → ReadsAs bytes t → Tells t status old new
+pub extracted_so : (bytes : List ℕ) (left : Option (List ℕ)) (t : TraceModel) (status : Status)
+    (old new : Outputs) → ReadsAs bytes t → WritesCalls t status old new
     → Extracts bytes left status old new
 extracted_so bytes left t Done old new reads ends =
     let o = reads.trace.outline in (
@@ -47,43 +47,43 @@ extracted_so bytes left t Memory old new reads ends = absurd ends
 extracted_so bytes left t Stopped old new reads ends = absurd ends
 
 -- the trace was not read
-pub unread_so : (bytes : List ℕ) (left : Option (List ℕ)) (fault : TraceFault) (old new : Outlets)
-    → outcomes.Tells TRACE_MAX bytes left (Err fault) → Keeps old.out new.out
+pub unread_so : (bytes : List ℕ) (left : Option (List ℕ)) (fault : TraceFault) (old new : Outputs)
+    → outcomes.Returns TRACE_MAX bytes left (Err fault) → Keeps old.out new.out
     → Notes old new (fault_note fault) → Extracts bytes left (fault_status fault) old new
-unread_so bytes left (faults.BadLine n) old new told out note = (
+unread_so bytes left (faults.BadLine n) old new returned out note = (
   faults.BadLine n,
-  record { none = trace_refuses bytes (faults.BadLine n) told; told = told },
+  record { none = trace_refuses bytes (faults.BadLine n) returned; returned = returned },
   out,
   note,
 )
-unread_so bytes left (faults.Refused n r) old new told out note = (
+unread_so bytes left (faults.Refused n r) old new returned out note = (
   faults.Refused n r,
-  record { none = trace_refuses bytes (faults.Refused n r) told; told = told },
+  record { none = trace_refuses bytes (faults.Refused n r) returned; returned = returned },
   out,
   note,
 )
-unread_so bytes left (faults.WrongReply n r) old new told out note = (
+unread_so bytes left (faults.WrongReply n r) old new returned out note = (
   faults.WrongReply n r,
-  record { none = trace_refuses bytes (faults.WrongReply n r) told; told = told },
+  record { none = trace_refuses bytes (faults.WrongReply n r) returned; returned = returned },
   out,
   note,
 )
-unread_so bytes left faults.Unfinished old new told out note = (
+unread_so bytes left faults.Unfinished old new returned out note = (
   faults.Unfinished,
-  record { none = trace_refuses bytes faults.Unfinished told; told = told },
+  record { none = trace_refuses bytes faults.Unfinished returned; returned = returned },
   out,
   note,
 )
-unread_so bytes left faults.TooLarge old new told out note = (
+unread_so bytes left faults.TooLarge old new returned out note = (
   faults.TooLarge,
-  record { none = trace_refuses bytes faults.TooLarge told; told = told },
+  record { none = trace_refuses bytes faults.TooLarge returned; returned = returned },
   out,
   note,
 )
-unread_so bytes left faults.Read old new told out note = inr (told, out, note)
-unread_so bytes left faults.Memory old new told out note = (out, note)
+unread_so bytes left faults.Read old new returned out note = inr (returned, out, note)
+unread_so bytes left faults.Memory old new returned out note = (out, note)
 
--- what was not written to
+-- an output that was not written to
 pub stays : (a : Option (List ℕ)) → Keeps a a
 stays None = tt
 stays (Some xs) = refl

@@ -1,4 +1,4 @@
--- Which entries keep a trace from having a history of calls, and what a note says of it.
+-- Which entries keep a trace from having a history of calls, and what a note says about it.
 use Rattle.std.specs.Prelude.{◌≡◌, ℕ, ◌<◌, Bool, false, List, [], ◌++◌, Option, Some, None, slice_get, codes}
 use Rattle.std.specs.Prelude.{if◌then◌else◌, decimal}
 use Rattle.std.specs.Option.{option_and_then, option_map_or}
@@ -7,18 +7,18 @@ use Rattle.ec_core.specs.declared.act.Act.{Act}
 use Rattle.ec_core.specs.declared.act.Act.TheVariants as acts
 use Rattle.ec_core.specs.declared.act.Entry.{Entry}
 use Rattle.ec_count.specs.declared.target.Target.TheVariants.{Worker}
-use Rattle.ec_heading.specs.Spelling.{Named, word_of}
+use Rattle.ec_heading.specs.Spelling.{NameTable, target_name}
 use Rattle.ec_heading.specs.declared.group.Group.{Group}
-use Rattle.calls_text.specs.Objects.{has_count, has_line, has_cell}
+use Rattle.ec_heading.specs.Groups.{has_event, has_sequencer, has_cell}
 use Rattle.calls_extract.specs.declared.cause.Cause.{Cause}
 use Rattle.calls_extract.specs.declared.cause.Cause.TheVariants.{OfGroup, HandsOver}
 
 -- whether the object of an act belongs to a group
 abbrev pub is_on_group : List Group → Act → Bool
-is_on_group gs (acts.Advance e) = list_any (λ g. has_count g e) gs
-is_on_group gs (acts.Read e) = list_any (λ g. has_count g e) gs
-is_on_group gs (acts.Await e v) = list_any (λ g. has_count g e) gs
-is_on_group gs (acts.Ticket q) = list_any (λ g. has_line g q) gs
+is_on_group gs (acts.Advance e) = list_any (λ g. has_event g e) gs
+is_on_group gs (acts.Read e) = list_any (λ g. has_event g e) gs
+is_on_group gs (acts.Await e v) = list_any (λ g. has_event g e) gs
+is_on_group gs (acts.Ticket q) = list_any (λ g. has_sequencer g q) gs
 is_on_group gs (acts.Put x v) = list_any (λ g. has_cell g x) gs
 is_on_group gs (acts.Get x) = list_any (λ g. has_cell g x) gs
 is_on_group gs acts.Go = false
@@ -35,7 +35,7 @@ cause_at gs entries i = option_and_then (λ (x : Entry). cause_of gs x.act) (sli
 abbrev pub HasNoneBefore : List Group → List Entry → ℕ → Type 0
 HasNoneBefore gs entries n = (i : ℕ) → i < n → cause_at gs entries i ≡ None
 
--- the entry at position i is the first that does, and this is why
+-- the entry at position i is the first that keeps it from that, and this is why
 abbrev pub IsFirstCause : List Group → List Entry → ℕ → Cause → Type 0
 IsFirstCause gs entries i why = (cause_at gs entries i ≡ Some why) × HasNoneBefore gs entries i
 
@@ -46,9 +46,9 @@ cause_words OfGroup = codes ": the object belongs to a group\n"
 cause_words HandsOver = codes ": a component is handed over\n"
 
 -- the name of the worker of the entry at a position
-abbrev pub name_at : Named → List Entry → ℕ → List ℕ
+abbrev pub name_at : NameTable → List Entry → ℕ → List ℕ
 name_at names entries i =
-    option_map_or (λ (x : Entry). word_of names (Worker x.worker)) (slice_get entries i) []
+    option_map_or (λ (x : Entry). target_name names (Worker x.worker)) (slice_get entries i) []
 
 -- the entry, by the name of its worker and its position
 abbrev pub entry_words : List ℕ → ℕ → List ℕ

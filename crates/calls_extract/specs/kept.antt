@@ -1,2 +1,2 @@
--- What only the proofs need.
+-- What only the proofs and the private contracts use.
 pub mod Entries

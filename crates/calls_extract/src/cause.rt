@@ -2,47 +2,46 @@
 ghost use Rattle.std.specs.Prelude.{◌≡◌, Some, None, if◌then◌else◌, length, IfSome};
 ghost use Rattle.std.specs.List.{list_any};
 ghost use Rattle.std.specs.Option.{IfNone};
-ghost use Rattle.calls_text.specs.Objects.{has_count, has_line, has_cell};
+ghost use Rattle.ec_heading.specs.Groups.{has_event, has_sequencer, has_cell};
 ghost use Rattle.ec_text.specs.Puts.{Puts, IsWrittenOut};
 ghost use Rattle.calls_extract.specs.Causes.{cause_of, cause_at, IsFirstCause, HasNoneBefore};
 ghost use Rattle.calls_extract.specs.Causes.{cause_words, entry_words, cause_note, name_at};
 
-use calls_text::{has_cell, has_count, has_line};
 use ec_core::{Act, Run};
 use ec_count::{CellId, EventId, SeqId};
 use ec_heading::Group;
-use ec_text::Out;
+use ec_text::Output;
 use ec_trace::Spellings;
 use std::io::Write;
 
-/// Why an entry has no place in a history of calls.
+/// Why an entry cannot be in a history of calls.
 #[derive(Clone, Copy, Debug, PartialEq, Eq)]
 pub enum Cause {
-    /// Its object belongs to a group, whose calls a history has whole.
+    /// Its object belongs to a group, and a history has only calls of whole groups.
     OfGroup,
-    /// It hands a component over, and the rights of a history stay.
+    /// It hands a component over, but the rights of a history don't change.
     HandsOver,
 }
 
 /// Returns whether an eventcount belongs to one of the groups.
 fn is_event_owned(groups: &[Group], event: EventId) -> bool
-    ensures { result ≡ list_any (λ g. has_count g event) groups.now }
+    ensures { result ≡ list_any (λ g. has_event g event) groups.now }
 {
-    groups.iter().any(|group| has_count(group, event))
+    groups.iter().any(|group| group.has_event(event))
 }
 
 /// Returns whether a sequencer belongs to one of the groups.
 fn is_sequencer_owned(groups: &[Group], sequencer: SeqId) -> bool
-    ensures { result ≡ list_any (λ g. has_line g sequencer) groups.now }
+    ensures { result ≡ list_any (λ g. has_sequencer g sequencer) groups.now }
 {
-    groups.iter().any(|group| has_line(group, sequencer))
+    groups.iter().any(|group| group.has_sequencer(sequencer))
 }
 
 /// Returns whether a cell belongs to one of the groups.
 fn is_cell_owned(groups: &[Group], cell: CellId) -> bool
     ensures { result ≡ list_any (λ g. has_cell g cell) groups.now }
 {
-    groups.iter().any(|group| has_cell(group, cell))
+    groups.iter().any(|group| group.has_cell(cell))
 }
 
 /// Returns the cause of an entry whose object may belong to a group.
@@ -52,7 +51,7 @@ fn of_group(is_owned: bool) -> Option<Cause>
     if is_owned { Some(Cause::OfGroup) } else { None }
 }
 
-/// Returns why an act has no place in a history of calls.
+/// Returns why an act cannot be in a history of calls, or `None` if it can.
 fn cause_of(groups: &[Group], act: &Act) -> Option<Cause>
     ensures { result ≡ cause_of groups.now act.now }
 {
@@ -68,7 +67,7 @@ fn cause_of(groups: &[Group], act: &Act) -> Option<Cause>
     }
 }
 
-/// Returns why the entry at a place has no place in a history of calls.
+/// Returns why the entry at index `place` cannot be in a history of calls.
 fn cause_at(groups: &[Group], run: &Run, place: usize) -> Option<Cause>
     ensures { result ≡ cause_at groups.now run.now.entries place }
 {
@@ -76,7 +75,7 @@ fn cause_at(groups: &[Group], run: &Run, place: usize) -> Option<Cause>
     cause_of(groups, &entry.act)
 }
 
-/// Returns the place of the first entry that has no place in a history of calls, and why.
+/// Returns the index of the first entry that cannot be in a history of calls, and why.
 pub(crate) fn first_cause(groups: &[Group], run: &Run) -> Option<(usize, Cause)>
     ensures some { IfSome result (λ found. IsFirstCause groups.now run.now.entries found.0 found.1) }
     ensures none { IfNone result (HasNoneBefore groups.now run.now.entries
@@ -90,7 +89,7 @@ pub(crate) fn first_cause(groups: &[Group], run: &Run) -> Option<(usize, Cause)>
     None
 }
 
-/// Returns what a note says of a cause.
+/// Returns what a note says about a cause.
 fn cause_words(cause: Cause) -> &'static [u8]
     ensures { result.now ≡ cause_words cause }
 {
@@ -100,8 +99,8 @@ fn cause_words(cause: Cause) -> &'static [u8]
     }
 }
 
-/// Puts which entry keeps a trace from having a history of calls.
-fn put_entry<N: Write>(notes: &mut Out<'_, N>, worker: &[u8], place: u64)
+/// Writes which entry keeps a trace from having a history of calls.
+fn put_entry<N: Write>(notes: &mut Output<'_, N>, worker: &[u8], place: u64)
     ensures { Puts notes.old notes.new (entry_words worker.now place) }
 {
     notes.put(b"no history of calls: worker ");
@@ -110,17 +109,17 @@ fn put_entry<N: Write>(notes: &mut Out<'_, N>, worker: &[u8], place: u64)
     notes.put_number(place);
 }
 
-/// Puts why a trace has no history of calls.
-fn put_cause<N: Write>(notes: &mut Out<'_, N>, worker: &[u8], place: u64, cause: Cause)
+/// Writes why a trace has no history of calls.
+fn put_cause<N: Write>(notes: &mut Output<'_, N>, worker: &[u8], place: u64, cause: Cause)
     ensures { Puts notes.old notes.new (cause_note worker.now place cause) }
 {
     put_entry(notes, worker, place);
     notes.put(cause_words(cause));
 }
 
-/// Says why a trace has no history of calls: the entry, with its worker, and what is wrong with it.
-pub(crate) fn say_cause<N: Write>(
-    notes: &mut Out<'_, N>,
+/// Reports why a trace has no history of calls: the entry, with its worker, and the cause.
+pub(crate) fn report_cause<N: Write>(
+    notes: &mut Output<'_, N>,
     spellings: &Spellings<'_>,
     run: &Run,
     place: usize,

@@ -1,18 +1,18 @@
-//! Writes the calls of a run.
+//! Writes the calls of a run of steps.
 ghost use Rattle.std.specs.Prelude.{◌≡◌, ◌++◌, ◌∷◌, [], codes, OnOk, OnErr};
 ghost use Rattle.std.specs.Io.KnownBytes.{Appends};
 ghost use Rattle.std.specs.List.{flat_map};
 ghost use Rattle.ec_text.specs.Puts.{Puts, AppendsPrefix};
 ghost use Rattle.ec_heading.specs.Spelling.{reply_word};
-ghost use Rattle.ec_heading.specs.Outline.{Outline, IsOutline, headed};
-ghost use Rattle.calls_kernel.specs.Seen.{is_call, is_of_call};
+ghost use Rattle.ec_heading.specs.HeaderTree.{HeaderTree, IsHeaderTree, heading_of_tree};
+ghost use Rattle.calls_kernel.specs.Outside.{is_call, is_of_call};
 ghost use Rattle.calls_extract.specs.Lines.{calls_text};
 ghost use Rattle.calls_extract.specs.kept.Entries.{call_text, return_text, entry_text, text_at};
 
 use ec_core::{Act, Entry, Reply, Run};
 use ec_heading::Heading;
-use ec_text::{Out, WriteFault};
-use ec_trace::{LastNumbers, Spellings, put_act, put_heading, put_reply};
+use ec_text::{Output, WriteFault};
+use ec_trace::{DecimalCache, Spellings, put_act, put_heading, put_reply};
 use std::io::Write;
 
 /// Returns whether an act begins a call.
@@ -37,12 +37,12 @@ fn is_of_call(act: &Act) -> bool
     }
 }
 
-/// Puts the line of the call that an entry begins, if it begins one.
+/// Writes the line of the call that an entry begins, if it begins one.
 #[inline(always)]
 fn put_call<W: Write>(
-    out: &mut Out<'_, W>,
+    out: &mut Output<'_, W>,
     spellings: &Spellings<'_>,
-    last: &mut LastNumbers,
+    last: &mut DecimalCache,
     entry: &Entry,
 )
     ensures { Puts out.old out.new (call_text spellings.now entry.now) }
@@ -55,9 +55,9 @@ fn put_call<W: Write>(
     }
 }
 
-/// Puts the line of a response.
+/// Writes the line of a response.
 #[inline(always)]
-fn put_response<W: Write>(out: &mut Out<'_, W>, worker: &[u8], reply: &Reply)
+fn put_response<W: Write>(out: &mut Output<'_, W>, worker: &[u8], reply: &Reply)
     ensures { Puts out.old out.new (worker.now ++ codes " returns " ++ reply_word reply.now
         ++ 10 ∷ []) }
 {
@@ -67,9 +67,9 @@ fn put_response<W: Write>(out: &mut Out<'_, W>, worker: &[u8], reply: &Reply)
     out.put_byte(b'\n');
 }
 
-/// Puts the line of the call that an entry ends, if it ends one.
+/// Writes the line of the response to the call that an entry ends, if it ends one.
 #[inline(always)]
-fn put_return<W: Write>(out: &mut Out<'_, W>, spellings: &Spellings<'_>, entry: &Entry)
+fn put_return<W: Write>(out: &mut Output<'_, W>, spellings: &Spellings<'_>, entry: &Entry)
     ensures { Puts out.old out.new (return_text spellings.now entry.now) }
 {
     match entry.reply {
@@ -82,13 +82,13 @@ fn put_return<W: Write>(out: &mut Out<'_, W>, spellings: &Spellings<'_>, entry: 
     }
 }
 
-/// Puts the lines of an entry.
+/// Writes the lines of an entry.
 #[inline(always)]
 #[tactic(auto, unfolding(crate::specs::kept::Entries::entry_text))]
 fn put_lines<W: Write>(
-    out: &mut Out<'_, W>,
+    out: &mut Output<'_, W>,
     spellings: &Spellings<'_>,
-    last: &mut LastNumbers,
+    last: &mut DecimalCache,
     entry: &Entry,
 )
     ensures { Puts out.old out.new (entry_text spellings.now entry.now) }
@@ -97,11 +97,11 @@ fn put_lines<W: Write>(
     put_return(out, spellings, entry);
 }
 
-/// Puts the lines of the entry at a place of a run, if there is one.
+/// Writes the lines of the entry at an index of a run, if there is one.
 fn put_lines_at<W: Write>(
-    out: &mut Out<'_, W>,
+    out: &mut Output<'_, W>,
     spellings: &Spellings<'_>,
-    last: &mut LastNumbers,
+    last: &mut DecimalCache,
     run: &Run,
     place: usize,
 )
@@ -112,25 +112,25 @@ fn put_lines_at<W: Write>(
     }
 }
 
-/// Puts the lines of a run's entries.
+/// Writes the lines of a run's entries.
 #[tactic(auto, using(crate::proofs::Events::one_more_entry))]
-fn put_events<W: Write>(out: &mut Out<'_, W>, spellings: &Spellings<'_>, run: &Run)
+fn put_events<W: Write>(out: &mut Output<'_, W>, spellings: &Spellings<'_>, run: &Run)
     ensures { Puts out.old out.new (flat_map (entry_text spellings.now) run.now.entries) }
 {
-    let mut last = LastNumbers::new();
+    let mut last = DecimalCache::new();
     for place in 0..run.len() {
         put_lines_at(out, spellings, &mut last, run, place);
     }
 }
 
-/// Puts the calls of a run.
+/// Writes the calls of a run, with the header.
 fn put_history<W: Write>(
-    out: &mut Out<'_, W>,
+    out: &mut Output<'_, W>,
     spellings: &Spellings<'_>,
     heading: &Heading,
     run: &Run,
 )
-    ensures { (o : Outline) → IsOutline o → headed o ≡ heading.now → spellings.now ≡ heading.now.words
+    ensures { (o : HeaderTree) → IsHeaderTree o → heading_of_tree o ≡ heading.now → spellings.now ≡ heading.now.words
         → Puts out.old out.new (calls_text o run.now.entries) }
 {
     out.put(b"evc-calls 1\n");
@@ -139,20 +139,21 @@ fn put_history<W: Write>(
     out.put(b"end\n");
 }
 
-/// Writes the calls of a run, seen from outside, as a history under the heading whose declarations
-/// the run is on: of the entry that begins a call its invocation, and of the entry that ends one its
-/// response. A hand leaves no line.
+/// Writes the calls of a run, seen from outside, as a history of calls.
 ///
-/// A WriteFault comes only if a write failed or wrote none of its bytes. It takes no memory.
+/// `heading` is the header whose declarations the run uses. The entry that begins a call gives its
+/// invocation, and the entry that ends it gives its response. A hand gives no line.
+///
+/// Returns a `WriteFault` only if a write failed or wrote none of its bytes. Nothing is allocated.
 pub fn write_calls<W: Write>(run: &Run, heading: &Heading, writer: &mut W) -> Result<(), WriteFault>
-    ensures ok { (o : Outline) → IsOutline o → headed o ≡ heading.now → OnOk result
+    ensures ok { (o : HeaderTree) → IsHeaderTree o → heading_of_tree o ≡ heading.now → OnOk result
         (Appends (W.contents writer.old) (W.contents writer.new) (calls_text o run.now.entries)) }
-    ensures err { (o : Outline) → IsOutline o → headed o ≡ heading.now → OnErr result
+    ensures err { (o : HeaderTree) → IsHeaderTree o → heading_of_tree o ≡ heading.now → OnErr result
         (AppendsPrefix (W.contents writer.old) (W.contents writer.new)
         (calls_text o run.now.entries)) }
 {
     let spellings = Spellings::new(heading.words());
-    let mut text = Out::new(writer);
+    let mut text = Output::new(writer);
     put_history(&mut text, &spellings, heading, run);
     let done = text.finish();
     text.into_writer();

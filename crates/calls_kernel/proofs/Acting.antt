@@ -1,4 +1,4 @@
--- Advances, tickets, puts and gets that are made if no call is under way.
+-- Advances, tickets, puts and gets, made while no other call is pending.
 use Rattle.std.proofs.Common.{◌≡◌, ℕ, ◌+◌, ◌-◌, ◌<◌, ◌≤◌, true, false, ◌&&◌, ◌==◌}
 use Rattle.std.proofs.Common.{cond, List, [], ◌∷◌, length, Option, Some, None, is_some, refl, ap}
 use Rattle.std.proofs.Common.{sym}
@@ -6,46 +6,43 @@ use Rattle.std.proofs.Common.{◌∙◌, arith, subst, count_by, unwrap_or}
 use Rattle.std.specs.Option.{option_map_or}
 use Rattle.std.proofs.lemmas.Bool.{eqb-true, eq-eqb, ne_eqb, leb-false, and_parts, and_from}
 use Rattle.ec_count.specs.Tables.{Tables, signallers, component_of}
-use Rattle.ec_count.specs.Members.{place_of}
+use Rattle.ec_count.specs.Members.{index_of}
 use Rattle.ec_core.specs.declared.act.Act.{Act}
 use Rattle.ec_core.specs.declared.act.Act.TheVariants as acts
 use Rattle.ec_core.specs.declared.act.Reply.{Reply as StepReply}
 use Rattle.ec_core.specs.declared.act.Reply.TheVariants as replies
 use Rattle.ec_core.specs.declared.act.Entry.{Entry}
 use Rattle.ec_core.specs.Counts.{total, component_total, issued, cell_value, signallers_at}
-use Rattle.ec_core.specs.Counts.{component_at, is_advance, is_ticket, is_place, handed}
+use Rattle.ec_core.specs.Counts.{component_at, is_advance, is_ticket, is_place, signallers_after}
 use Rattle.ec_core.specs.Acceptance.{has_right, is_at_limit}
-use Rattle.ec_order.specs.Sequential.{put_at}
+use Rattle.ec_order.specs.Sequential.{update_at}
 use Rattle.calls_core.specs.declared.history.Op.{Op}
 use Rattle.calls_core.specs.declared.history.Op.TheVariants.{Advance, Ticket, Put, Get}
 use Rattle.calls_core.specs.declared.history.Reply.{Reply}
 use Rattle.calls_core.specs.declared.history.Call.{Call}
 use Rattle.calls_core.specs.Linearizations.{set_at, Gives}
 use Rattle.calls_core.proofs.Counting.{count_cons, one, one_less, one_yes}
-use Rattle.calls_kernel.specs.Made.{act_of, IsGranted, IsReplyOf}
+use Rattle.calls_kernel.specs.Made.{act_of_call, IsGranted, IsReplyOf}
 use Rattle.calls_kernel.proofs.Steps.{entry}
 use Rattle.calls_kernel.proofs.Runs.{Agrees, event_set, sequencer_set, cell_set, quiet_set}
 use Rattle.calls_kernel.proofs.Fitting.{IsFitting}
 use Rattle.calls_kernel.proofs.Playing.{numbers_of, advances_by, draws, HasRoom, IsClear, IsPlayed}
 use Rattle.calls_kernel.proofs.Playing.{allowed_first, played_once, agrees_same, one_next}
 use Rattle.calls_kernel.proofs.Playing.{same_place}
-
-place_is : (c : ℕ) (o : Option ℕ) → is_place c o ≡ true → o ≡ Some c
-place_is c None h = cc
-place_is c (Some d) h = ap Some (eqb-true d c h)
+use Rattle.ec_core.proofs.shared.Bounds.{place_is}
 
 put_next : (x y v : ℕ) (g : ℕ → ℕ)
-    → put_at g x v y ≡ unwrap_or (cond (x == y) (Some v) None) (g y)
+    → update_at g x v y ≡ unwrap_or (cond (x == y) (Some v) None) (g y)
 put_next x y v g = elim (x == y) as (λ b. cond b v (g y) ≡ unwrap_or (cond b (Some v) None) (g y)) [
   | true ↦ refl
   | false ↦ refl
 ]
 
 module _ (t : Tables) where
-  -- an entry that makes the call leaves room for the others
+  -- an entry that makes the call leaves room for the other calls under the limit
   room_after : (past : List Entry) (n m : ℕ → ℕ → ℕ) (c : Call) (left : List Call) (act : Act)
-      (given : StepReply) → HasRoom t past n (c ∷ left) → act ≡ act_of t c
-      → ((e : ℕ) (ws : List ℕ) → handed e c.worker act ws ≡ ws)
+      (given : StepReply) → HasRoom t past n (c ∷ left) → act ≡ act_of_call t c
+      → ((e : ℕ) (ws : List ℕ) → signallers_after e c.worker act ws ≡ ws)
       → Agrees t (numbers_of (entry c.worker act given ∷ past)) m
       → HasRoom t (entry c.worker act given ∷ past) m left
   unfolding signallers_at component_total issued
@@ -54,16 +51,16 @@ module _ (t : Tables) where
     agrees = agrees;
     advances = λ e v p at.
         (let w = c.worker in
-        let here : component_at t e past w ≡ place_of w (signallers t e) =
-        ap (place_of w) (h.still e) in
+        let here : component_at t e past w ≡ index_of w (signallers t e) =
+        ap (index_of w) (h.still e) in
         let less : one (is_advance e act && is_place p (component_at t e past w))
         ≤ one (advances_by t e v c) =
         one_less (is_advance e act && is_place p (component_at t e past w)) (advances_by t e v c)
         (λ both.
         (let b = and_parts (is_advance e act) (is_place p (component_at t e past w)) both in
-        let own : place_of w (signallers t e) ≡ Some p =
+        let own : index_of w (signallers t e) ≡ Some p =
         sym here ∙ place_is p (component_at t e past w) b.1 in
-        and_from (is_advance e (act_of t c)) (w == v) (ap (is_advance e) (sym is) ∙ b.0)
+        and_from (is_advance e (act_of_call t c)) (w == v) (ap (is_advance e) (sym is) ∙ b.0)
         (eq-eqb w v (same_place t (signallers t e) w v p own at)))) in
         omega (arith, less, h.advances e v p at, count_cons (advances_by t e v) c left));
     tickets = λ q.
@@ -89,7 +86,7 @@ module _ (t : Tables) where
     abbrev Clear : Op → Reply → Type 0
     Clear op reply = IsClear t past n (call op reply ∷ left)
 
-    -- the worker has a component with room
+    -- the worker has a component below the limit
     advance_room : (reply : Reply) → Clear Advance reply
         → has_right t [] w (acts.Advance k) ≡ true
         → is_at_limit t past w (acts.Advance k) ≡ false
@@ -101,7 +98,7 @@ module _ (t : Tables) where
           | None ↦ λ at r. cc
           | Some p ↦ λ at r.
               (let here : component_at t k past w ≡ Some p =
-              ap (place_of w) (h.still k) ∙ at in
+              ap (index_of w) (h.still k) ∙ at in
               let room : component_total t k p past
               + count_by (advances_by t k w) (call Advance reply ∷ left) ≤ t.limit =
               h.advances k w p at in
@@ -125,7 +122,7 @@ module _ (t : Tables) where
         let s = numbers_of past in
         let f = set_at 0 (n k 0 + 1) (n k) in
         let agrees : Agrees t (numbers_of (entry w act given ∷ past)) (set_at k f n) =
-        agrees_same t (record s { events = put_at s.events k (s.events k + 1) })
+        agrees_same t (record s { events = update_at s.events k (s.events k + 1) })
         (numbers_of (entry w act given ∷ past)) (set_at k f n)
         (λ e. one_next t k e s.events) (λ q. no_more (issued q past)) (λ x. refl)
         (event_set t s n k (s.events k + 1) f clear.room.agrees lt
@@ -163,10 +160,13 @@ module _ (t : Tables) where
         let number : n k 0 ≡ issued q past =
         ap (λ j. n j 0) (sym fits.object) ∙ clear.room.agrees.sequencers q lt in
         let agrees : Agrees t (numbers_of (entry w act given ∷ past)) (set_at k f n) =
-        agrees_same t (record s { sequencers = put_at s.sequencers q (s.sequencers q + 1) })
+        agrees_same t (record s { sequencers = update_at s.sequencers q (s.sequencers q + 1) })
         (numbers_of (entry w act given ∷ past)) (set_at k f n)
         (λ e. no_more (total e past)) (λ p. one_next t q p s.sequencers) (λ x. refl)
-        (subst (λ j. Agrees t (record s { sequencers = put_at s.sequencers q (s.sequencers q + 1) })
+        (subst (λ j. Agrees t (record s {
+          sequencers =
+              update_at s.sequencers q (s.sequencers q + 1);
+        })
         (set_at j f n)) fits.object
         (sequencer_set t s n q (s.sequencers q + 1) f clear.room.agrees lt
         (ap (λ i. i + 1) number))) in
@@ -189,10 +189,13 @@ module _ (t : Tables) where
         let s = numbers_of past in
         let f = set_at 0 v (n k) in
         let agrees : Agrees t (numbers_of (entry w act given ∷ past)) (set_at k f n) =
-        agrees_same t (record s { cells = put_at s.cells x v })
+        agrees_same t (record s { cells = update_at s.cells x v })
         (numbers_of (entry w act given ∷ past)) (set_at k f n)
         (λ e. no_more (total e past)) (λ q. no_more (issued q past)) (λ y. put_next x y v s.cells)
-        (subst (λ j. Agrees t (record s { cells = put_at s.cells x v }) (set_at j f n)) fits.object
+        (subst (λ j. Agrees t (record s {
+          cells =
+              update_at s.cells x v;
+        }) (set_at j f n)) fits.object
         (cell_set t s n x v f clear.room.agrees lt refl)) in
         played_once t past (call (Put v) reply) n (set_at k f n) left act given clear refl
         (allowed_first t past w act granted.worker (clear.free w) clear.room.still refl fits.known

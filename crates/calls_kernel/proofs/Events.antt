@@ -7,8 +7,8 @@ use Rattle.ec_count.specs.Tables.{Tables}
 use Rattle.ec_core.specs.declared.act.Entry.{Entry}
 use Rattle.ec_core.specs.Calls.{is_pending}
 use Rattle.calls_core.specs.declared.history.Event.{Event}
-use Rattle.calls_kernel.specs.Seen.{is_call, is_of_call, invocation_at, response_at, events_from}
-use Rattle.calls_kernel.specs.Seen.{events_of}
+use Rattle.calls_kernel.specs.Outside.{is_call, is_of_call, invocation_at, response_at, events_from}
+use Rattle.calls_kernel.specs.Outside.{events_of}
 
 abbrev pub events_past : Tables → List Entry → List Event
 events_past t [] = []

@@ -28,8 +28,8 @@ use Rattle.calls_local.specs.Laws.{AnswersBecomeResponses, ResponsesBecomeAnswer
 use Rattle.calls_core.proofs.Lists.{each_append, each_left, each_right, all_from_each}
 use Rattle.calls_core.proofs.Filters.{permutation_filter, each_from_all}
 use Rattle.calls_core.proofs.Counting.{count_append, count_moved}
-use Rattle.calls_kernel.specs.Seen.{kinds_of}
-use Rattle.calls_kernel.specs.Made.{act_of, IsGranted, KeepsLimit}
+use Rattle.calls_kernel.specs.Outside.{kinds_of}
+use Rattle.calls_kernel.specs.Made.{act_of_call, IsGranted, KeepsLimit}
 use Rattle.calls_kernel.specs.Recorded.{IsWithin, all_calls}
 use Rattle.calls_kernel.specs.Laws.{RecordsAreExactlyTheLinearizable}
 use Rattle.calls_kernel.proofs.Steps.{set_same}
@@ -48,7 +48,7 @@ stays_in c = stays c.reply
 same_fun : {X : Type 0} (f g : ℕ → X) → ((k : ℕ) → f k ≡ g k) → f ≡ g
 same_fun f g h = λ i k. h k i
 
--- who gives up changes nothing
+-- a call that gave up changes nothing
 gave_up : (m : ℕ → ℕ) (op : Op) → Gives m op Timeout → after m op Timeout ≡ m
 gave_up m (Await v) h = refl
 gave_up m (P i) h = refl
@@ -78,7 +78,7 @@ run_without (c ∷ cs) n run =
     step_without n c (filter stays_in cs) c.reply refl run.0
     (run_without cs (set_at c.object (after (n c.object) c.op c.reply) n) run.1)
 
--- ANSWERS WITHOUT THEM
+-- ANSWERS WITHOUT THE CALLS THAT GAVE UP
 
 abbrev kept_reply : Option Reply → Option Reply
 kept_reply None = None
@@ -113,7 +113,7 @@ module _ (t : Tables) where
       ap (λ b. cond b (c ∷ filter stays_in cs) (filter stays_in cs))
       (stays_with c.reply h.0.stays) ∙ ap (λ l. c ∷ l) (granted_stay cs h.1)
 
-  -- rights don't depend on what is returned
+  -- rights don't depend on the reply
   abbrev Whole : ℕ → List PendingCall → List Call
   Whole n os = answered_calls n (λ (o : PendingCall). Some Done) os
 
@@ -142,7 +142,7 @@ module _ (t : Tables) where
       (answered_calls n (λ p. kept_reply (answer p)) os) (one_granted n o (answer o) h.0)
       (answered_granted n answer os h.1)
 
-  -- a test that does not look at what is returned
+  -- a test that does not depend on the reply
   module _ (test : Call → Bool) (blind : (n : ℕ) (o : PendingCall) (r : Reply)
       → test (completion n r o) ≡ test (completion n Done o)) where
     one_fewer : (n : ℕ) (o : PendingCall) (a : Option Reply)
@@ -178,7 +178,7 @@ module _ (t : Tables) where
           answered_fewer (clock past) answer (pending_calls past),
         )
 
-  -- A LINEARIZATION WITHOUT THEM
+  -- A LINEARIZATION WITHOUT THE CALLS THAT GAVE UP
 
   module _ (past : List Event) (within : IsWithin t past) (cs : List Call)
       (l : IsAnsweredLinearization (kinds_of t) past cs) where
@@ -227,13 +227,13 @@ module _ (t : Tables) where
       advances = λ e w. omega (
         arith,
         within.limit.advances e w,
-        calls_fewer (λ (c : Call). is_advance e (act_of t c) && (c.worker == w))
+        calls_fewer (λ (c : Call). is_advance e (act_of_call t c) && (c.worker == w))
             (λ n o r. refl) past (λ o. kept_reply (l.answer o)) left moves_left,
       );
       tickets = λ q. omega (
         arith,
         within.limit.tickets q,
-        calls_fewer (λ (c : Call). is_ticket q (act_of t c)) (λ n o r. refl) past
+        calls_fewer (λ (c : Call). is_ticket q (act_of_call t c)) (λ n o r. refl) past
             (λ o. kept_reply (l.answer o)) left moves_left,
       );
     }

@@ -9,7 +9,7 @@ use Rattle.calls_core.specs.declared.history.Reply.TheVariants.{Done, Number}
 use Rattle.calls_core.specs.declared.history.Action.{Action}
 use Rattle.calls_core.specs.declared.history.Action.TheVariants.{Invoke, Respond}
 use Rattle.calls_core.specs.declared.history.Event.{Event}
-use Rattle.calls_kernel.specs.Seen.{events_of}
+use Rattle.calls_kernel.specs.Outside.{events_of}
 
 presses : Tables
 presses = record {

@@ -1,4 +1,4 @@
--- The calls of a history are on declared objects that take them.
+-- The calls of a history are operations of declared objects.
 use Rattle.std.proofs.Common.{◌≡◌, ℕ, zero, suc, ◌+◌, ◌-◌, ◌<◌, ◌≤◌, inl, inr, true, false}
 use Rattle.std.proofs.Common.{◌==◌, cond, List, [], ◌∷◌, ◌++◌, length, map, Option, Some, None}
 use Rattle.std.proofs.Common.{slice_get}
@@ -27,7 +27,7 @@ use Rattle.calls_core.specs.Histories.{IsHistory}
 use Rattle.calls_core.specs.Linearizations.{answered_calls, answered_one, IsAnsweredLinearization}
 use Rattle.calls_core.specs.Calls.{Fitting}
 use Rattle.calls_core.proofs.Lists.{each_append, all_from_each}
-use Rattle.calls_kernel.specs.Seen.{kinds_of, is_call, object_of}
+use Rattle.calls_kernel.specs.Outside.{kinds_of, is_call, outside_object}
 use Rattle.calls_kernel.specs.Made.{act_on}
 use Rattle.calls_kernel.proofs.Objects.{event_kind, sequencer_kind, cell_kind, length_all}
 
@@ -43,9 +43,9 @@ length_joined [] ys = omega arith
 length_joined (x ∷ xs) ys = omega (arith, length_joined xs ys)
 
 module _ (t : Tables) where
-  -- the act that begins a call of op on object k is one, on a declared object, which is k
+  -- the act that begins a call of op on object k is a call on a declared object, which is k
   pub record IsFitting (k : ℕ) (op : Op) : Type 0 where
-    pub object : object_of t (act_on t k op) ≡ k
+    pub object : outside_object t (act_on t k op) ≡ k
     pub known : names_unknown_object t (act_on t k op) ≡ false
     pub call : is_call (act_on t k op) ≡ true
 
@@ -212,7 +212,7 @@ module _ (kinds : List Kind) where
       each_append FitsCall (answered_one n o (answer o)) (answered_calls n answer os)
       (one_fits n o (answer o) h.0) (answered_fit n answer os h.1)
 
-  -- each completed call, and each pending one that is answered, is one that its object takes
+  -- each completed call, and each pending one that is answered, is an operation of its object
   pub calls_fit : (past : List Event) (answer : PendingCall → Option Reply) → IsHistory kinds past
       → All FitsCall (answered_calls (clock past) answer (pending_calls past)
       ++ completed_calls past)

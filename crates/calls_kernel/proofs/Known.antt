@@ -1,4 +1,4 @@
--- The finished calls of an accepted history are on declared objects.
+-- The completed calls of an accepted history are on declared objects.
 use Rattle.std.proofs.Common.{◌≡◌, true, false, cond, List, [], ◌∷◌}
 use Rattle.std.proofs.Common.{length, Option, Some, None}
 use Rattle.std.specs.List.{All}
@@ -8,7 +8,7 @@ use Rattle.ec_count.specs.Tables.{Tables}
 use Rattle.ec_core.specs.declared.act.Act.{Act}
 use Rattle.ec_core.specs.declared.act.Act.TheVariants as acts
 use Rattle.ec_core.specs.declared.act.Entry.{Entry}
-use Rattle.ec_core.specs.Calls.{CallSoFar, under_way, gone_on, is_pending}
+use Rattle.ec_core.specs.Calls.{CallSoFar, under_way, call_with_act, is_pending}
 use Rattle.ec_core.specs.Acceptance.{IsAccepted, names_unknown_object}
 use Rattle.ec_core.proofs.shared.Answering.{allowed, IsReading, IsReadingCall, call_reads}
 use Rattle.ec_order.specs.declared.call.Call.{Call as FinishedCall}
@@ -28,7 +28,7 @@ module _ (t : Tables) where
   reading_known op h = absurd h
 
   gone_known : (act : Act) (past : List Entry) (o : Option CallSoFar) → IsReadingCall t o
-      → names_unknown_object t act ≡ false → IsKnownCall (gone_on act past o)
+      → names_unknown_object t act ≡ false → IsKnownCall (call_with_act act past o)
   gone_known acts.Go past None r h = tt
   gone_known acts.Go past (Some call) r h = reading_known call.op r
   gone_known act past o r h = h
@@ -49,7 +49,7 @@ module _ (t : Tables) where
   all_known (x ∷ past) acc =
       let k = allowed t past x.worker x.act x.reply acc.0 in
       All-append IsKnown (finished_calls t past)
-      (ended_by t x (gone_on x.act past (under_way x.worker past))) (all_known past acc.1)
-      (ended_known x (gone_on x.act past (under_way x.worker past))
+      (ended_by t x (call_with_act x.act past (under_way x.worker past))) (all_known past acc.1)
+      (ended_known x (call_with_act x.act past (under_way x.worker past))
       (gone_known x.act past (under_way x.worker past) (call_reads t past x.worker acc.1)
       k.0.known))

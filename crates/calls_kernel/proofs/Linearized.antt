@@ -14,11 +14,11 @@ use Rattle.ec_core.specs.Calls.{under_way}
 use Rattle.ec_core.specs.Acceptance.{IsAccepted}
 use Rattle.ec_order.specs.declared.call.Call.{Call as FinishedCall}
 use Rattle.ec_order.specs.Calls.{finished_calls}
-use Rattle.ec_order.specs.Orders.{FinishedBefore, calls_in}
+use Rattle.ec_order.specs.Orders.{Precedes, calls_in}
 use Rattle.ec_order.specs.Points.{ordered_by_points}
 use Rattle.ec_order.specs.Sequential.{zero_state}
 use Rattle.ec_order.specs.Laws.{OrderByPointsIsGood}
-use Rattle.ec_order.specs.Verdicts.{IsGood}
+use Rattle.ec_order.specs.Verdicts.{IsLinearizationWithPoints}
 use Rattle.calls_core.specs.declared.history.Kind.{Kind}
 use Rattle.calls_core.specs.declared.history.Event.{Event}
 use Rattle.calls_core.specs.declared.history.PendingCall.{PendingCall}
@@ -29,29 +29,20 @@ use Rattle.calls_core.specs.declared.history.Call.{Call}
 use Rattle.calls_core.specs.Completions.{IsLinearizable}
 use Rattle.calls_local.specs.Laws.{AnswersBecomeResponses}
 use Rattle.calls_core.proofs.Filters.{permutation_filter}
-use Rattle.calls_kernel.specs.Seen.{kinds_of, is_call, events_of, call_seen, calls_seen}
-use Rattle.calls_kernel.specs.Seen.{pending_seen}
+use Rattle.calls_kernel.specs.Outside.{kinds_of, is_call, events_of, outside_call, outside_calls}
+use Rattle.calls_kernel.specs.Outside.{outside_pending}
 use Rattle.calls_kernel.specs.Laws.{CallsOfAcceptedHistoriesAreLinearizable}
 use Rattle.calls_kernel.proofs.Events.{events_past, events_turned}
 use Rattle.calls_kernel.proofs.Objects.{event_kind, sequencer_kind, cell_kind}
 use Rattle.calls_kernel.proofs.Steps.{IsView, view_of}
 use Rattle.calls_kernel.proofs.Known.{IsKnown, all_known}
 use Rattle.calls_kernel.proofs.Runs.{Agrees, seen_runs}
+use Rattle.ec_order.proofs.Sorting.{AllPairs-map as pairs_map}
 
 -- no pending call takes effect
 answered_none : (n : ℕ) (os : List PendingCall) → answered_calls n (λ o. None) os ≡ []
 answered_none n [] = refl
 answered_none n (o ∷ os) = answered_none n os
-
-pub pairs_map : {X Y : Type 0} (R : Y → Y → Type 0) (f : X → Y) (xs : List X)
-    → AllPairs (λ a b. R (f a) (f b)) xs → AllPairs R (map f xs)
-pairs_map R f [] h = λ i j d lt le. absurd (omega arith)
-pairs_map R f (x ∷ xs) h =
-    let first : All (λ y. R (f x) (f y)) xs = λ k d lt. h zero (suc k) d (omega arith)
-    (omega arith) in
-    let rest : AllPairs (λ a b. R (f a) (f b)) xs = λ i j d lt le. h (suc i) (suc j) d
-    (omega arith) (omega arith) in
-    AllPairs-cons R (f x) (map f xs) (All-map (R (f x)) f xs first) (pairs_map R f xs rest)
 
 module _ (t : Tables) where
   pub at_first : Agrees t zero_state (start (kinds_of t))
@@ -62,29 +53,29 @@ module _ (t : Tables) where
   }
 
   abbrev pub NotAfter : FinishedCall → FinishedCall → Type 0
-  NotAfter a b = FinishedBefore b a → ⊥
+  NotAfter a b = Precedes b a → ⊥
 
-  kept_seen : (a b : FinishedCall) → NotAfter a b → KeepsOrder (call_seen t a) (call_seen t b)
+  kept_seen : (a b : FinishedCall) → NotAfter a b → KeepsOrder (outside_call t a) (outside_call t b)
   kept_seen a b h before =
       h (let lt : 2 * b.last + 1 < 2 * a.first = before in
       let is : b.last < a.first = omega arith in is)
 
   seen_in_order : (cs : List FinishedCall) → AllPairs NotAfter cs
-      → AllPairs KeepsOrder (calls_seen t cs)
+      → AllPairs KeepsOrder (outside_calls t cs)
   seen_in_order cs h =
       let kept = filter (λ (c : FinishedCall). is_call c.op) cs in
       let in_order : AllPairs NotAfter kept =
       AllPairs-filter NotAfter (λ (c : FinishedCall). is_call c.op) cs h in
-      pairs_map KeepsOrder (call_seen t) kept
+      pairs_map KeepsOrder (outside_call t) kept
       (λ i j d lt le. kept_seen (get_or kept i d) (get_or kept j d) (in_order i j d lt le))
 
   seen_moves : (cs ds : List FinishedCall) → IsPermutation cs ds
-      → IsPermutation (reverse (calls_seen t cs)) (calls_seen t ds)
+      → IsPermutation (reverse (outside_calls t cs)) (outside_calls t ds)
   seen_moves cs ds h =
-      IsPermutation-trans (reverse (calls_seen t cs)) (calls_seen t cs) (calls_seen t ds)
-      (IsPermutation-sym (calls_seen t cs) (reverse (calls_seen t cs))
-      (IsPermutation-reverse (calls_seen t cs)))
-      (IsPermutation-map (call_seen t) (filter (λ (c : FinishedCall). is_call c.op) cs)
+      IsPermutation-trans (reverse (outside_calls t cs)) (outside_calls t cs) (outside_calls t ds)
+      (IsPermutation-sym (outside_calls t cs) (reverse (outside_calls t cs))
+      (IsPermutation-reverse (outside_calls t cs)))
+      (IsPermutation-map (outside_call t) (filter (λ (c : FinishedCall). is_call c.op) cs)
       (filter (λ (c : FinishedCall). is_call c.op) ds)
       (permutation_filter (λ (c : FinishedCall). is_call c.op) cs ds h))
 
@@ -92,33 +83,35 @@ module _ (t : Tables) where
   ordered past = calls_in (ordered_by_points t past)
 
   linearized : (past : List Entry) (es : List Event) → IsAccepted t past
-      → IsGood t past (ordered_by_points t past)
-      → IsPermutation (completed_calls es) (calls_seen t (ordered past))
-      → IsAnsweredLinearization (kinds_of t) es (calls_seen t (ordered past))
+      → IsLinearizationWithPoints t past (ordered_by_points t past)
+      → IsPermutation (completed_calls es) (outside_calls t (ordered past))
+      → IsAnsweredLinearization (kinds_of t) es (outside_calls t (ordered past))
   linearized past es acc good moves = record {
     answer = λ o. None;
     each_once = subst (λ zs. IsPermutation (zs ++ completed_calls es)
-        (calls_seen t (ordered past))) (sym (answered_none (clock es) (pending_calls es))) moves;
+        (outside_calls t (ordered past))) (sym (answered_none (clock es) (pending_calls es))) moves;
     in_order = seen_in_order (ordered past) good.legal.in_order;
     run = seen_runs t (ordered past) zero_state (start (kinds_of t)) at_first
         (All-permutation (IsKnown t) (finished_calls t past) (ordered past) good.legal.each_once
         (all_known t past acc)) good.legal.run;
   }
 
-  -- the same of events of any spelling
+  -- the same for a list that equals these events
   seen_of : (h : List Entry) (es : List Event) → es ≡ events_past t (reverse h)
-      → IsAccepted t (reverse h) → IsGood t (reverse h) (ordered_by_points t (reverse h))
+      → IsAccepted t (reverse h)
+      → IsLinearizationWithPoints t (reverse h) (ordered_by_points t (reverse h))
       → IsHistory (kinds_of t) es × (completed_calls es
-      ≡ reverse (calls_seen t (finished_calls t (reverse h)))) × ((w : ℕ)
-      → pending_of w (pending_calls es) ≡ option_map (pending_seen t w) (under_way w (reverse h)))
-      × IsPermutation (completed_calls es) (calls_seen t (ordered (reverse h)))
+      ≡ reverse (outside_calls t (finished_calls t (reverse h)))) × ((w : ℕ)
+      → pending_of w (pending_calls es)
+      ≡ option_map (outside_pending t w) (under_way w (reverse h)))
+      × IsPermutation (completed_calls es) (outside_calls t (ordered (reverse h)))
   seen_of h es is acc good =
       let view : IsView t (reverse h) es =
       subst (IsView t (reverse h)) (sym is) (view_of t (reverse h) acc) in (
         view.keeps.history,
         view.keeps.done_is,
         view.keeps.pending_is,
-        subst (λ zs. IsPermutation zs (calls_seen t (ordered (reverse h))))
+        subst (λ zs. IsPermutation zs (outside_calls t (ordered (reverse h))))
             (sym view.keeps.done_is)
             (seen_moves (finished_calls t (reverse h)) (ordered (reverse h))
             good.legal.each_once),
@@ -142,6 +135,6 @@ accepted_are_linearizable orders answered t h d acc =
       pending = s.2;
       linearization = l;
       linearizable = linearizable_by answered (kinds_of t) (reverse (events_of t h))
-          (calls_seen t (calls_in (ordered_by_points t (reverse h)))) s.0 l;
+          (outside_calls t (calls_in (ordered_by_points t (reverse h)))) s.0 l;
       completed_alone = s.3;
     }

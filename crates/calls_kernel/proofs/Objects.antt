@@ -1,4 +1,4 @@
--- The objects that are declared, in one numbering.
+-- The declared objects, in one numbering.
 use Rattle.std.proofs.Common.{◌≡◌, ℕ, zero, suc, ◌+◌, ◌<◌, true, false}
 use Rattle.std.proofs.Common.{List, [], ◌∷◌, ◌++◌, length, map, Some}
 use Rattle.std.proofs.Common.{slice_get, refl, ap, ◌∙◌, arith}
@@ -12,21 +12,10 @@ use Rattle.ec_core.specs.Acceptance.{names_unknown_object}
 use Rattle.calls_core.specs.declared.history.Kind.{Kind}
 use Rattle.calls_core.specs.declared.history.Kind.TheVariants.{Eventcount, Sequencer, Cell}
 use Rattle.calls_core.specs.Histories.{Takes}
-use Rattle.calls_kernel.specs.Seen.{kinds_of, is_call, object_of, op_of}
+use Rattle.calls_kernel.specs.Outside.{kinds_of, is_call, outside_object, outside_op}
+use Rattle.ec_core.proofs.shared.Joining.{get_back as get_right, get_front as get_left}
 
 -- THE OBJECTS
-
-get_left : {X : Type 0} (xs ys : List X) (i : ℕ) → i < length xs
-    → slice_get (xs ++ ys) i ≡ slice_get xs i
-get_left [] ys i h = absurd (omega arith)
-get_left (x ∷ xs) ys zero h = refl
-get_left (x ∷ xs) ys (suc i) h = get_left xs ys i (omega arith)
-
-get_right : {X : Type 0} (xs ys : List X) (i j : ℕ) → i ≡ length xs + j
-    → slice_get (xs ++ ys) i ≡ slice_get ys j
-get_right [] ys i j is = (let same : i ≡ j = omega arith in ap (slice_get ys) same)
-get_right (x ∷ xs) ys zero j is = absurd (omega arith)
-get_right (x ∷ xs) ys (suc i) j is = get_right xs ys i j (omega arith)
 
 get_all : {X : Type 0} (xs : List X) (k : Kind) (i : ℕ) → i < length xs
     → slice_get (map (λ (x : X). k) xs) i ≡ Some k
@@ -70,9 +59,9 @@ module _ (t : Tables) where
       (omega (arith, length_all t.takers Sequencer))
       ∙ get_all t.cells Cell x h
 
-  -- each object takes the calls on it
+  -- each object has the operations that are called on it
   pub object_takes : (act : Act) → is_call act ≡ true → names_unknown_object t act ≡ false
-      → Takes (slice_get (kinds_of t) (object_of t act)) (op_of act)
+      → Takes (slice_get (kinds_of t) (outside_object t act)) (outside_op act)
   object_takes (acts.Advance e) c h = rw (event_kind e (leb-false (length t.events) e h)) tt
   object_takes (acts.Read e) c h = rw (event_kind e (leb-false (length t.events) e h)) tt
   object_takes (acts.Await e v) c h = rw (event_kind e (leb-false (length t.events) e h)) tt

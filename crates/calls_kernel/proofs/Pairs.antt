@@ -1,4 +1,4 @@
--- Elements that stand in another order take with them what they are paired with.
+-- A permutation of a mapped list is the map of a permutation.
 use Rattle.std.proofs.Common.{◌≡◌, ℕ, zero, suc, List, [], ◌∷◌, length, map, set, get_or, swap}
 use Rattle.std.proofs.Common.{refl, ap}
 use Rattle.std.proofs.Common.{◌∙◌, arith}
@@ -23,7 +23,7 @@ map_swap f (d ∷ xs) i j =
     ∙ ap (λ y. set (set (map f l) i y) j (f (get_or l i d))) (get_map f l j d)
     ∙ ap (λ y. set (set (map f l) i (get_or (map f l) j (f d))) j y) (get_map f l i d)
 
--- what a list becomes in another order of what f gives of its elements
+-- a permutation of xs whose map is ys
 pub record Follows {X Y : Type 0} (f : X → Y) (xs : List X) (ys : List Y) : Type 0 where
   pub moved : List X
   pub moves : IsPermutation xs moved

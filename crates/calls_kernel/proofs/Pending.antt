@@ -1,4 +1,4 @@
--- What one more event makes of a history's pending and completed calls.
+-- The pending and completed calls of a history with one more event.
 use Rattle.std.proofs.Common.{◌≡◌, ℕ, ◌≤◌, Bool, true, false, ◌==◌, cond, List, [], ◌∷◌}
 use Rattle.std.proofs.Common.{◌++◌, Option, Some, None, slice_get, refl, ap, sym, ◌∙◌, subst}
 use Rattle.std.proofs.lemmas.Bool.{eqb-true, eqb-false, ne_eqb}
@@ -23,7 +23,7 @@ none_parts : (b : Bool) (o : PendingCall) (x : Option PendingCall) → cond b (S
 none_parts true o x h = cc
 none_parts false o x h = (refl, h)
 
--- a call more is the one of its worker
+-- one more pending call is that of its worker
 pub pending_more : (v : ℕ) (os : List PendingCall) (p : PendingCall) → pending_of p.worker os ≡ None
     → pending_of v (os ++ p ∷ []) ≡ cond (p.worker == v) (Some p) (pending_of v os)
 pending_more v [] p h = refl
@@ -40,7 +40,7 @@ pending_more v (o ∷ os) p h =
       | false ↦ λ e. pending_more v os p n.1
     ] refl
 
--- without the call of a worker it has none
+-- if the call of a worker is removed, the worker has none
 pub pending_less : (v w : ℕ) (os : List PendingCall) → AreOwn os
     → pending_of v (without w os) ≡ cond (w == v) None (pending_of v os)
 pending_less v w [] own = elim (w == v) as (λ b. pending_of v [] ≡ cond b None None) [
@@ -101,7 +101,7 @@ own_less w (o ∷ os) own =
       )
     ]
 
--- what is known of a history: the pending call of each worker, and the completed calls
+-- a history with this pending call of each worker, and these completed calls
 pub record Keeps (kinds : List Kind) (past : List Event) (pending : ℕ → Option PendingCall)
     (done : List Call) : Type 0 where
   pub history : IsHistory kinds past

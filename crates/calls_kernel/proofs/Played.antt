@@ -18,7 +18,7 @@ use Rattle.calls_core.specs.declared.history.Reply.{Reply}
 use Rattle.calls_core.specs.declared.history.Call.{Call}
 use Rattle.calls_core.specs.Lists.{Each}
 use Rattle.calls_core.specs.Linearizations.{set_at, after, Gives, IsRun, start, initial}
-use Rattle.calls_kernel.specs.Seen.{kinds_of}
+use Rattle.calls_kernel.specs.Outside.{kinds_of}
 use Rattle.calls_kernel.specs.Made.{IsGranted, KeepsLimit, AreMadeAs, AreInARow}
 use Rattle.calls_kernel.specs.Laws.{LinearizationsAreAcceptedHistories}
 use Rattle.calls_kernel.proofs.Objects.{event_kind, sequencer_kind, cell_kind}
@@ -59,7 +59,7 @@ module _ (t : Tables) (d : IsDeclared t) where
   one_played past w k (PBoth i j) reply first last n left =
       λ clear granted fits gives. no_call fits.call
 
-  -- these calls were made after a past
+  -- these calls were made after the history so far
   record ArePlayed (past : List Entry) (cs : List Call) : Type 0 where
     pub late : List Entry
     pub accepted : IsAccepted t late
@@ -118,7 +118,7 @@ module _ (t : Tables) (d : IsDeclared t) where
     };
   }
 
-  -- turned round, in the order of time
+  -- the same for a list that equals the history of the made calls
   made_of : (cs : List Call) (p : ArePlayed [] cs) (back : List Entry) → back ≡ p.late
       → IsAccepted t back × AreMadeAs t (finished_calls t back) cs
       × AreInARow 0 (finished_calls t back) (length p.late)

@@ -1,10 +1,10 @@
--- A call that is made if no other is under way.
+-- A call, made while no other call is pending.
 use Rattle.std.proofs.Common.{◌≡◌, ℕ, ◌+◌, ◌<◌, ◌≤◌, Bool, true, false, not, ◌&&◌, ◌==◌}
 use Rattle.std.proofs.Common.{cond, List, [], ◌∷◌, ◌++◌, length, Option, Some, None, is_some, Ok}
 use Rattle.std.proofs.Common.{refl, ap, sym, ◌∙◌, arith, count_by, slice_get}
 use Rattle.std.proofs.lemmas.Bool.{eqb-true, lt-leb}
 use Rattle.ec_count.specs.Tables.{Tables, signallers, component_of}
-use Rattle.ec_count.specs.Members.{place_of}
+use Rattle.ec_count.specs.Members.{index_of}
 use Rattle.ec_count.proofs.shared.Declared.{found_there}
 use Rattle.ec_core.specs.declared.act.Act.{Act}
 use Rattle.ec_core.specs.declared.act.Act.TheVariants as acts
@@ -12,16 +12,16 @@ use Rattle.ec_core.specs.declared.act.Reply.{Reply as StepReply}
 use Rattle.ec_core.specs.declared.act.Entry.{Entry}
 use Rattle.ec_core.specs.Counts.{total, component_total, issued, cell_value, signallers_at}
 use Rattle.ec_core.specs.Counts.{is_advance, is_ticket}
-use Rattle.ec_core.specs.Calls.{CallSoFar, under_way, gone_on, is_pending, is_go}
+use Rattle.ec_core.specs.Calls.{CallSoFar, under_way, call_with_act, is_pending, is_go}
 use Rattle.ec_core.specs.Acceptance.{IsAccepted, answer_of, refusal_of, refused_or, reply_of}
 use Rattle.ec_core.specs.Acceptance.{has_right, is_too_large, is_at_limit, is_not_handable}
 use Rattle.ec_core.specs.Acceptance.{names_unknown_object, signals_already}
 use Rattle.ec_core.proofs.shared.Answering.{IsAllowed}
 use Rattle.ec_order.specs.declared.call.Call.{Call as FinishedCall}
 use Rattle.ec_order.specs.Calls.{finished_calls, ended_by, call_of_entries}
-use Rattle.ec_order.specs.Sequential.{SequentialState, put_at}
+use Rattle.ec_order.specs.Sequential.{SequentialState, update_at}
 use Rattle.calls_core.specs.declared.history.Call.{Call}
-use Rattle.calls_kernel.specs.Made.{act_of, IsMadeAs, IsReplyOf}
+use Rattle.calls_kernel.specs.Made.{act_of_call, IsMadeAs, IsReplyOf}
 use Rattle.calls_kernel.proofs.Steps.{entry, way_next}
 use Rattle.calls_kernel.proofs.Runs.{Agrees}
 
@@ -42,7 +42,7 @@ answered t past w act reply a is =
     (not_that _ _ _ a.handable (not_that _ _ _ a.fresh refl)))))))) in
     ap (λ o. refused_or o (reply_of t past w act)) none ∙ ap Ok is
 
--- WHERE NO CALL IS UNDER WAY
+-- WHILE NO CALL IS PENDING
 
 abbrev pub numbers_of : List Entry → SequentialState
 numbers_of past = record {
@@ -52,13 +52,13 @@ numbers_of past = record {
 }
 
 abbrev pub advances_by : Tables → ℕ → ℕ → Call → Bool
-advances_by t e w c = is_advance e (act_of t c) && (c.worker == w)
+advances_by t e w c = is_advance e (act_of_call t c) && (c.worker == w)
 
 abbrev pub draws : Tables → ℕ → Call → Bool
-draws t q c = is_ticket q (act_of t c)
+draws t q c = is_ticket q (act_of_call t c)
 
--- what is known of the counts after a past: the objects have the numbers n, nothing was handed
--- over, and there is room for the calls that are left
+-- the counts after the history so far: the objects have the numbers n, no right was handed over,
+-- and the limit leaves room for the calls that are left
 pub record HasRoom (t : Tables) (past : List Entry) (n : ℕ → ℕ → ℕ) (left : List Call) : Type 0
   where
     pub still : (e : ℕ) → signallers_at t e past ≡ signallers t e
@@ -73,7 +73,7 @@ pub record IsClear (t : Tables) (past : List Entry) (n : ℕ → ℕ → ℕ) (l
     pub free : (w : ℕ) → under_way w past ≡ None
     pub room : HasRoom t past n left
 
--- the call c was made after a past
+-- the call c was made after the history so far
 pub record IsPlayed (t : Tables) (past : List Entry) (c : Call) (n : ℕ → ℕ → ℕ)
     (left : List Call) : Type 0 where
   pub late : List Entry
@@ -85,13 +85,13 @@ pub record IsPlayed (t : Tables) (past : List Entry) (c : Call) (n : ℕ → ℕ
   pub rises : made.first ≤ made.last
   pub last : made.last + 1 ≡ length late
 
--- the rights of a past with no hand are the declared ones
+-- the rights after a history without hands are the declared ones
 pub right_kept : (t : Tables) (past : List Entry) (w : ℕ) (act : Act)
     → ((e : ℕ) → signallers_at t e past ≡ signallers t e)
     → has_right t past w act ≡ has_right t [] w act
 unfolding signallers_at
-right_kept t past w (acts.Advance e) still = ap (λ ws. is_some (place_of w ws)) (still e)
-right_kept t past w (acts.Hand e b) still = ap (λ ws. is_some (place_of w ws)) (still e)
+right_kept t past w (acts.Advance e) still = ap (λ ws. is_some (index_of w ws)) (still e)
+right_kept t past w (acts.Hand e b) still = ap (λ ws. is_some (index_of w ws)) (still e)
 right_kept t past w act still = refl
 
 module _ (t : Tables) where
@@ -120,10 +120,10 @@ module _ (t : Tables) where
 
   -- a call of one entry
   pub played_once : (past : List Entry) (c : Call) (n m : ℕ → ℕ → ℕ) (left : List Call) (act : Act)
-      (given : StepReply) → IsClear t past n (c ∷ left) → act ≡ act_of t c
+      (given : StepReply) → IsClear t past n (c ∷ left) → act ≡ act_of_call t c
       → IsAllowed t past c.worker act → reply_of t past c.worker act ≡ given
       → is_pending given ≡ false
-      → gone_on act past (under_way c.worker past)
+      → call_with_act act past (under_way c.worker past)
       ≡ Some (record { op = act; moments = past ∷ [] })
       → IsReplyOf c.op c.reply given → HasRoom t (entry c.worker act given ∷ past) m left
       → IsPlayed t past c m left
@@ -137,7 +137,7 @@ module _ (t : Tables) where
           accepted = (answered t past c.worker act given allowed right, clear.accepted);
           free = λ v. way_next v c.worker act given past
               ∙ ap (λ b. cond (c.worker == v)
-              (cond b (gone_on act past (under_way c.worker past)) None) (under_way v past)) final
+              (cond b (call_with_act act past (under_way c.worker past)) None) (under_way v past)) final
               ∙ ap (λ o. cond (c.worker == v) None o) (clear.free v) ∙ none_both (c.worker == v);
           room = room;
         };
@@ -150,7 +150,7 @@ module _ (t : Tables) where
         last = omega arith;
       }
 
-  -- WHAT IT CHANGES
+  -- THE NUMBERS AFTER THE CALL
 
   pub agrees_same : (s r : SequentialState) (n : ℕ → ℕ → ℕ) → ((e : ℕ) → s.events e ≡ r.events e)
       → ((q : ℕ) → s.sequencers q ≡ r.sequencers q) → ((x : ℕ) → s.cells x ≡ r.cells x)
@@ -161,15 +161,15 @@ module _ (t : Tables) where
     cells = λ i lt. h.cells i lt ∙ x i;
   }
 
-  pub one_next : (i j : ℕ) (g : ℕ → ℕ) → put_at g i (g i + 1) j ≡ cond (i == j) 1 0 + g j
+  pub one_next : (i j : ℕ) (g : ℕ → ℕ) → update_at g i (g i + 1) j ≡ cond (i == j) 1 0 + g j
   one_next i j g =
       elim (i == j) as (λ b. (i == j) ≡ b → cond b (g i + 1) (g j) ≡ cond b 1 0 + g j) [
         | true ↦ λ e. (let same : g i ≡ g j = ap g (eqb-true i j e) in omega arith)
         | false ↦ λ e. omega arith
       ] refl
 
-  -- a worker has its place alone
-  pub same_place : (ws : List ℕ) (w v c : ℕ) → place_of w ws ≡ Some c → place_of v ws ≡ Some c
+  -- no two workers have the same index
+  pub same_place : (ws : List ℕ) (w v c : ℕ) → index_of w ws ≡ Some c → index_of v ws ≡ Some c
       → w ≡ v
   same_place ws w v c a b =
       let x = found_there w 0 c ws a in

@@ -1,5 +1,4 @@
--- Reads and awaits that are made if no call is under way: one round, whose entries follow one
--- another.
+-- Reads and awaits, made while no other call is pending: one round, with its entries in a row.
 use Rattle.std.proofs.Common.{◌≡◌, ℕ, zero, suc, ◌+◌, ◌-◌, ◌<◌, ◌≤◌, Bool, true, false, not, ◌&&◌}
 use Rattle.std.proofs.Common.{◌==◌, cond, List, [], ◌∷◌, ◌++◌, length, Some, None, is_some}
 use Rattle.std.proofs.Common.{refl, ap, sym, ◌∙◌, arith, subst, nat_le, append-nil, length-append}
@@ -12,8 +11,8 @@ use Rattle.ec_core.specs.declared.act.Reply.{Reply as StepReply}
 use Rattle.ec_core.specs.declared.act.Reply.TheVariants as replies
 use Rattle.ec_core.specs.declared.act.Entry.{Entry}
 use Rattle.ec_core.specs.Counts.{total, component_total, issued, cell_value, signallers_at}
-use Rattle.ec_core.specs.Calls.{CallSoFar, under_way, gone_on, is_pending}
-use Rattle.ec_core.specs.Rounds.{event_or, width, sum_read, round_reply, read_reply, position_of}
+use Rattle.ec_core.specs.Calls.{CallSoFar, under_way, call_with_act, is_pending}
+use Rattle.ec_core.specs.Rounds.{event_or, component_count, sum_read, round_reply, read_reply, position_of}
 use Rattle.ec_core.specs.Rounds.{go_reply, IsPastOfEach, EachIsPastOf}
 use Rattle.ec_core.specs.Acceptance.{IsAccepted, reply_of}
 use Rattle.ec_core.proofs.shared.Answering.{IsAllowed, width_some}
@@ -28,7 +27,7 @@ use Rattle.calls_core.specs.declared.history.Reply.TheVariants.{Done, Number, Ti
 use Rattle.calls_core.specs.declared.history.Call.{Call}
 use Rattle.calls_core.specs.Linearizations.{set_at, Gives}
 use Rattle.calls_core.proofs.Counting.{count_cons}
-use Rattle.calls_kernel.specs.Made.{act_of, IsGranted, IsReplyOf}
+use Rattle.calls_kernel.specs.Made.{act_of_call, IsGranted, IsReplyOf}
 use Rattle.calls_kernel.proofs.Steps.{entry, way_next}
 use Rattle.calls_kernel.proofs.Runs.{quiet_set}
 use Rattle.calls_kernel.proofs.Fitting.{IsFitting}
@@ -36,7 +35,7 @@ use Rattle.calls_kernel.proofs.Playing.{numbers_of, advances_by, draws, HasRoom,
 use Rattle.calls_kernel.proofs.Playing.{allowed_first, answered, agrees_same}
 
 module _ (t : Tables) where
-  -- the counts of two pasts are the same
+  -- the signallers and counts after two histories are the same
   pub record SameCounts (early late : List Entry) : Type 0 where
     pub signallers_are : (e : ℕ) → signallers_at t e late ≡ signallers_at t e early
     pub totals : (e : ℕ) → total e late ≡ total e early
@@ -89,7 +88,7 @@ module _ (t : Tables) where
   }
   same_next early past w act given look h = absurd look
 
-  -- a call that reads leaves room for the others
+  -- a call that reads leaves room for the other calls under the limit
   look_room : (early late : List Entry) (n : ℕ → ℕ → ℕ) (k : ℕ) (c : Call) (left : List Call)
       → SameCounts early late → HasRoom t early n (c ∷ left)
       → HasRoom t late (set_at k (n k) n) left
@@ -112,14 +111,15 @@ module _ (t : Tables) where
   module _ (d : IsDeclared t) (past : List Entry) (w : ℕ) (op : Act) (lt : w < t.workers)
       (free : (v : ℕ) → under_way v past ≡ None) where
     abbrev wide : ℕ
-    wide = width t (event_or op)
+    wide = component_count t (event_or op)
 
-    -- the next entry is act, after a past with the entries whose pasts are these
+    -- amid a round: act is next, and ms are the histories before the entries of the round so far
     record IsAmid (now : List Entry) (ms : List (List Entry)) (act : Act) : Type 0 where
       pub accepted : IsAccepted t now
       pub allowed : IsAllowed t now w act
       pub look : IsLook act
-      pub gone : gone_on act now (under_way w now) ≡ Some (record { op = op; moments = now ∷ ms })
+      pub gone : call_with_act act now (under_way w now)
+          ≡ Some (record { op = op; moments = now ∷ ms })
       pub right : reply_of t now w act ≡ read_reply t op now ms
       pub others : (v : ℕ) → (w == v) ≡ false → under_way v now ≡ None
       pub same : SameCounts past now
@@ -132,7 +132,7 @@ module _ (t : Tables) where
         → under_way v (entry w act given ∷ now) ≡ None
     way_after now ms act given h v other =
         way_next v w act given now
-        ∙ ap (λ b. cond b (cond (is_pending given) (gone_on act now (under_way w now)) None)
+        ∙ ap (λ b. cond b (cond (is_pending given) (call_with_act act now (under_way w now)) None)
         (under_way v now)) other ∙ h.others v other
 
     own_after : (now : List Entry) (ms : List (List Entry)) (act : Act) (given : StepReply)
@@ -140,7 +140,7 @@ module _ (t : Tables) where
         ≡ cond (is_pending given) (Some (record { op = op; moments = now ∷ ms })) None
     own_after now ms act given h =
         way_next w w act given now
-        ∙ ap (λ b. cond b (cond (is_pending given) (gone_on act now (under_way w now)) None)
+        ∙ ap (λ b. cond b (cond (is_pending given) (call_with_act act now (under_way w now)) None)
         (under_way w now)) (eq-eqb w w refl)
         ∙ ap (λ o. cond (is_pending given) o None) h.gone
 
@@ -158,7 +158,7 @@ module _ (t : Tables) where
       fresh = refl;
     }
 
-    -- an entry with the reply pending
+    -- after an entry whose reply is pending
     amid_next : (now : List Entry) (ms : List (List Entry)) (act : Act) → IsAmid now ms act
         → read_reply t op now ms ≡ replies.Pending
         → IsAmid (entry w act replies.Pending ∷ now) (now ∷ ms) acts.Go
@@ -171,7 +171,7 @@ module _ (t : Tables) where
           accepted = (answered t now w act replies.Pending h.allowed (h.right ∙ is), h.accepted);
           allowed = go_allowed (x ∷ now) (record { op = op; moments = now ∷ ms }) way;
           look = tt;
-          gone = ap (gone_on acts.Go (x ∷ now)) way;
+          gone = ap (call_with_act acts.Go (x ∷ now)) way;
           right = ap (go_reply t (x ∷ now)) way;
           others = way_after now ms act replies.Pending h;
           same = same_next past now w act replies.Pending h.look h.same;
@@ -256,7 +256,7 @@ module _ (t : Tables) where
     -- the call, if its round ends with the total
     look_played : (c : Call) (n : ℕ → ℕ → ℕ) (k : ℕ) (left : List Call)
         → IsClear t past n (c ∷ left) → 0 < wide → IsAmid past [] op → w ≡ c.worker
-        → op ≡ act_of t c
+        → op ≡ act_of_call t c
         → ((s : ℕ) → s ≡ total (event_or op) past
         → round_reply op s ≡ replies.Number (total (event_or op) past))
         → IsReplyOf c.op c.reply (replies.Number (total (event_or op) past))

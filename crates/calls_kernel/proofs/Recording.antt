@@ -19,7 +19,7 @@ use Rattle.ec_order.specs.Calls.{finished_calls}
 use Rattle.ec_order.specs.Orders.{calls_in}
 use Rattle.ec_order.specs.Points.{ordered_by_points}
 use Rattle.ec_order.specs.Sequential.{SequentialState, zero_state, sequential_reply}
-use Rattle.ec_order.specs.Sequential.{sequential_after, IsSequentialRun}
+use Rattle.ec_order.specs.Sequential.{sequential_after, IsLegalHistory}
 use Rattle.ec_order.specs.Laws.{OrderByPointsIsGood}
 use Rattle.calls_core.specs.declared.history.Op.{Op}
 use Rattle.calls_core.specs.declared.history.Op.TheVariants.{Advance, Read, Await, Ticket, P, V}
@@ -34,13 +34,14 @@ use Rattle.calls_core.specs.Linearizations.{answered_calls}
 use Rattle.calls_local.specs.Laws.{AnswersBecomeResponses}
 use Rattle.calls_core.proofs.Filters.{permutation_filter}
 use Rattle.calls_core.specs.Linearizations.{IsAnsweredLinearization}
-use Rattle.calls_kernel.specs.Seen.{kinds_of, is_call}
+use Rattle.calls_kernel.specs.Outside.{kinds_of, is_call}
 use Rattle.calls_kernel.specs.Made.{act_on, IsReplyOf}
 use Rattle.calls_kernel.specs.Recorded.{IsRecordedAs, AreRecordedAs, IsRecord}
 use Rattle.calls_kernel.specs.Laws.{RecordsAreLinearizable}
 use Rattle.calls_kernel.proofs.Runs.{Agrees, event_set, sequencer_set, cell_set, quiet_set}
 use Rattle.calls_kernel.proofs.Fitting.{IsFitting, fitting, FitsCall, calls_fit}
-use Rattle.calls_kernel.proofs.Linearized.{pairs_map, at_first, NotAfter, linearizable_by}
+use Rattle.calls_kernel.proofs.Linearized.{at_first, NotAfter, linearizable_by}
+use Rattle.ec_order.proofs.Sorting.{AllPairs-map as pairs_map}
 use Rattle.calls_kernel.proofs.Pairs.{Follows, follows, get_map}
 
 pairs_back : {X Y : Type 0} (R : Y → Y → Type 0) (f : X → Y) (xs : List X)
@@ -52,15 +53,15 @@ pairs_back R f xs h = λ i j d lt le.
     subst (λ a. R a (f (get_or xs j d))) (sym (get_map f xs i d))
     (subst (λ b. R (get_or (map f xs) i (f d)) b) (sym (get_map f xs j d)) pair)
 
--- A RUN WITHOUT ITS HANDS
+-- A LEGAL SEQUENTIAL HISTORY WITHOUT ITS HANDS
 
 abbrev is_of : FinishedCall → Bool
 is_of d = is_call d.op
 
 kept_run : (s : SequentialState) (d : FinishedCall) (act : Act) (rest : List FinishedCall)
     → d.op ≡ act → sequential_reply s act ≡ Some d.reply
-    → IsSequentialRun (sequential_after s act) rest
-    → IsSequentialRun s (cond (is_call act) (d ∷ rest) rest)
+    → IsLegalHistory (sequential_after s act) rest
+    → IsLegalHistory s (cond (is_call act) (d ∷ rest) rest)
 kept_run s d (acts.Advance e) rest is h run = rw is (h, run)
 kept_run s d (acts.Read e) rest is h run = rw is (h, run)
 kept_run s d (acts.Await e v) rest is h run = rw is (h, run)
@@ -70,21 +71,21 @@ kept_run s d (acts.Get x) rest is h run = rw is (h, run)
 kept_run s d (acts.Hand e b) rest is h run = run
 kept_run s d acts.Go rest is h run = cc
 
-calls_run : (ds : List FinishedCall) (s : SequentialState) → IsSequentialRun s ds
-    → IsSequentialRun s (filter is_of ds)
+calls_run : (ds : List FinishedCall) (s : SequentialState) → IsLegalHistory s ds
+    → IsLegalHistory s (filter is_of ds)
 calls_run [] s run = tt
 calls_run (d ∷ ds) s run =
     kept_run s d d.op (filter is_of ds) refl run.0
     (calls_run ds (sequential_after s d.op) run.1)
 
--- A RUN OF WHAT WAS RECORDED
+-- THE RECORDED CALLS ARE A LEGAL SEQUENTIAL HISTORY
 
 module _ (t : Tables) where
   some_is : (a b : StepReply) → Some a ≡ Some b → a ≡ b
   some_is a b h = cc
 
   module _ (s : SequentialState) (n : ℕ → ℕ → ℕ) (k : ℕ) (same : Agrees t s n) where
-    -- what the call gives, and what the objects show after it
+    -- the object gives this reply to the call, and the numbers agree after it
     abbrev Steps : Act → Op → Reply → Type 0
     Steps act op reply = Gives (n k) op reply
         × Agrees t (sequential_after s act) (set_at k (after (n k) op reply) n)
@@ -179,7 +180,7 @@ module _ (t : Tables) where
     steps_of (V i) reply given fits h reply_as = cc
     steps_of (PBoth i j) reply given fits h reply_as = cc
 
-  -- a call of the kernel and what was recorded of it
+  -- a call of the kernel, and the call that was recorded of it
   pub record Pair : Type 0 where
     pub made : FinishedCall
     pub call : Call
@@ -195,7 +196,7 @@ module _ (t : Tables) where
     calls ps = map (λ (p : Pair). p.call) ps
 
     pairs_run : (ps : List Pair) (s : SequentialState) (n : ℕ → ℕ → ℕ) → Agrees t s n
-        → All IsSound ps → IsSequentialRun s (mades ps) → IsRun n (calls ps)
+        → All IsSound ps → IsLegalHistory s (mades ps) → IsRun n (calls ps)
     pairs_run [] s n same sound run = tt
     pairs_run (p ∷ ps) s n same sound run =
         let h : IsSound p = All-head IsSound p ps sound in
@@ -214,7 +215,7 @@ module _ (t : Tables) where
               (All-tail IsSound p ps sound) run.1,
         )
 
-    -- what was recorded keeps the order of the kernel's calls
+    -- the order of the kernel's calls keeps the real-time order of the record
     kept_pair : ((i j : ℕ) → i ≤ j → moment i ≤ moment j) → (p q : Pair) → IsSound p → IsSound q
         → NotAfter t p.made q.made → KeepsOrder p.call q.call
     kept_pair rises p q a b h before =
@@ -237,7 +238,7 @@ module _ (t : Tables) where
         (λ i j d lt le. kept_pair rises (get_or ps i d) (get_or ps j d) (sound i d (omega arith))
         (sound j d le) (pairs_back (NotAfter t) (λ (p : Pair). p.made) ps kept i j d lt le))
 
-    -- each of the kernel's calls with what was recorded of it
+    -- each of the kernel's calls, with the call that was recorded of it
     record Zipped (ds : List FinishedCall) (cs : List Call) : Type 0 where
       pub pairs : List Pair
       pub mades_are : mades pairs ≡ ds
@@ -296,7 +297,7 @@ records_answered orders t past d h r =
             (subst (AllPairs (NotAfter t)) (sym f.is)
             (AllPairs-filter (NotAfter t) is_of ordered good.in_order));
         run = pairs_run t r.moment f.moved zero_state (start (kinds_of t)) (at_first t) sound
-            (subst (IsSequentialRun zero_state) (sym f.is)
+            (subst (IsLegalHistory zero_state) (sym f.is)
             (calls_run ordered zero_state good.run));
       },
     )

@@ -1,4 +1,4 @@
--- A run of the sequential object is a run of the objects in their numbering.
+-- A legal sequential history of the kernel is one of the numbered objects.
 use Rattle.std.proofs.Common.{◌≡◌, ℕ, ◌+◌, ◌<◌, ◌≤◌, Bool, true, false, ◌==◌, cond, List, []}
 use Rattle.std.proofs.Common.{◌∷◌, length, Some, None, refl, ap, sym, ◌∙◌, arith, subst, nat_le}
 use Rattle.std.specs.List.{All}
@@ -11,15 +11,15 @@ use Rattle.ec_core.specs.declared.act.Reply.{Reply as StepReply}
 use Rattle.ec_core.specs.declared.act.Reply.TheVariants as replies
 use Rattle.ec_core.specs.Acceptance.{names_unknown_object}
 use Rattle.ec_order.specs.declared.call.Call.{Call as FinishedCall}
-use Rattle.ec_order.specs.Sequential.{SequentialState, put_at, sequential_reply}
-use Rattle.ec_order.specs.Sequential.{sequential_after, IsSequentialRun}
+use Rattle.ec_order.specs.Sequential.{SequentialState, update_at, sequential_reply}
+use Rattle.ec_order.specs.Sequential.{sequential_after, IsLegalHistory}
 use Rattle.calls_core.specs.Linearizations.{set_at, IsRun}
-use Rattle.calls_kernel.specs.Seen.{returned, calls_seen}
+use Rattle.calls_kernel.specs.Outside.{outside_reply, outside_calls}
 use Rattle.calls_kernel.proofs.Steps.{set_same}
 use Rattle.calls_kernel.proofs.Known.{IsKnown}
 
 module _ (t : Tables) where
-  -- the numbers of the objects are those of the sequential object
+  -- the numbers of the objects are those of the sequential state
   pub record Agrees (s : SequentialState) (n : ℕ → ℕ → ℕ) : Type 0 where
     pub events : (e : ℕ) → e < length t.events → n e 0 ≡ s.events e
     pub sequencers : (q : ℕ) → q < length t.takers → n (length t.events + q) 0 ≡ s.sequencers q
@@ -29,9 +29,9 @@ module _ (t : Tables) where
   set_off : (k j : ℕ) (f : ℕ → ℕ) (n : ℕ → ℕ → ℕ) → (k ≡ j → ⊥) → set_at k f n j 0 ≡ n j 0
   set_off k j f n h = ap (λ b. cond b f (n j) 0) (ne_eqb k j h)
 
-  -- one number of the same part that is changed in both
+  -- the same number is changed in both
   set_both : (k i j m : ℕ) (f : ℕ → ℕ) (n : ℕ → ℕ → ℕ) (g : ℕ → ℕ) → f 0 ≡ m
-      → n (k + j) 0 ≡ g j → set_at (k + i) f n (k + j) 0 ≡ put_at g i m j
+      → n (k + j) 0 ≡ g j → set_at (k + i) f n (k + j) 0 ≡ update_at g i m j
   set_both k i j m f n g is same =
       elim (i == j) as (λ b. (i == j) ≡ b → set_at (k + i) f n (k + j) 0 ≡ cond b m (g j)) [
         | true ↦ λ e.
@@ -43,7 +43,7 @@ module _ (t : Tables) where
       ] refl
 
   set_event : (i j m : ℕ) (f : ℕ → ℕ) (n : ℕ → ℕ → ℕ) (g : ℕ → ℕ) → f 0 ≡ m
-      → n j 0 ≡ g j → set_at i f n j 0 ≡ put_at g i m j
+      → n j 0 ≡ g j → set_at i f n j 0 ≡ update_at g i m j
   set_event i j m f n g is same =
       elim (i == j) as (λ b. (i == j) ≡ b → cond b f (n j) 0 ≡ cond b m (g j)) [
         | true ↦ λ e. is
@@ -52,7 +52,7 @@ module _ (t : Tables) where
 
   pub event_set : (s : SequentialState) (n : ℕ → ℕ → ℕ) (e m : ℕ) (f : ℕ → ℕ) → Agrees s n
       → e < length t.events → f 0 ≡ m
-      → Agrees (record s { events = put_at s.events e m }) (set_at e f n)
+      → Agrees (record s { events = update_at s.events e m }) (set_at e f n)
   event_set s n e m f h lt is = record {
     events = λ d low. set_event e d m f n s.events is (h.events d low);
     sequencers = λ q low.
@@ -63,7 +63,7 @@ module _ (t : Tables) where
 
   pub sequencer_set : (s : SequentialState) (n : ℕ → ℕ → ℕ) (q m : ℕ) (f : ℕ → ℕ) → Agrees s n
       → q < length t.takers → f 0 ≡ m
-      → Agrees (record s { sequencers = put_at s.sequencers q m })
+      → Agrees (record s { sequencers = update_at s.sequencers q m })
       (set_at (length t.events + q) f n)
   sequencer_set s n q m f h lt is = record {
     events = λ d low. set_off (length t.events + q) d f n (λ k. omega arith) ∙ h.events d low;
@@ -76,7 +76,7 @@ module _ (t : Tables) where
 
   pub cell_set : (s : SequentialState) (n : ℕ → ℕ → ℕ) (x m : ℕ) (f : ℕ → ℕ) → Agrees s n
       → x < length t.cells → f 0 ≡ m
-      → Agrees (record s { cells = put_at s.cells x m })
+      → Agrees (record s { cells = update_at s.cells x m })
       (set_at (length t.events + length t.takers + x) f n)
   cell_set s n x m f h lt is = record {
     events = λ d low.
@@ -110,10 +110,10 @@ module _ (t : Tables) where
   module _ (s : SequentialState) (n : ℕ → ℕ → ℕ) (w first round last : ℕ)
       (cs : List FinishedCall) (same : Agrees s n) where
     abbrev Goes : Act → Type 0
-    Goes act = (m : ℕ → ℕ → ℕ) → Agrees (sequential_after s act) m → IsRun m (calls_seen t cs)
+    Goes act = (m : ℕ → ℕ → ℕ) → Agrees (sequential_after s act) m → IsRun m (outside_calls t cs)
 
     abbrev Runs : Act → StepReply → Type 0
-    Runs act reply = IsRun n (calls_seen t (call w act reply first round last ∷ cs))
+    Runs act reply = IsRun n (outside_calls t (call w act reply first round last ∷ cs))
 
     some_is : (a b : StepReply) → Some a ≡ Some b → a ≡ b
     some_is a b h = cc
@@ -142,7 +142,7 @@ module _ (t : Tables) where
     call_runs (acts.Read e) reply known h rest =
         let lt : e < length t.events = leb-false (length t.events) e known in
         subst (λ r. Runs (acts.Read e) r) (some_is (replies.Number (s.events e)) reply h) (
-          ap returned (ap replies.Number (sym (same.events e lt))),
+          ap outside_reply (ap replies.Number (sym (same.events e lt))),
           rest (set_at e (n e) n) (quiet_set s n e same),
         )
     call_runs (acts.Await e v) reply known h rest =
@@ -152,7 +152,7 @@ module _ (t : Tables) where
         let lt : q < length t.takers = leb-false (length t.takers) q known in
         let k = length t.events + q in
         subst (λ r. Runs (acts.Ticket q) r) (some_is (replies.Number (s.sequencers q)) reply h) (
-          ap returned (ap replies.Number (sym (same.sequencers q lt))),
+          ap outside_reply (ap replies.Number (sym (same.sequencers q lt))),
           rest (set_at k (set_at 0 (n k 0 + 1) (n k)) n)
               (sequencer_set s n q (s.sequencers q + 1) (set_at 0 (n k 0 + 1) (n k)) same lt
               (ap (λ j. j + 1) (same.sequencers q lt))),
@@ -169,14 +169,14 @@ module _ (t : Tables) where
         let lt : x < length t.cells = leb-false (length t.cells) x known in
         let k = length t.events + length t.takers + x in
         subst (λ r. Runs (acts.Get x) r) (some_is (replies.Number (s.cells x)) reply h) (
-          ap returned (ap replies.Number (sym (same.cells x lt))),
+          ap outside_reply (ap replies.Number (sym (same.cells x lt))),
           rest (set_at k (n k) n) (quiet_set s n k same),
         )
     call_runs (acts.Hand e b) reply known h rest = rest n same
     call_runs acts.Go reply known h rest = cc
 
   pub seen_runs : (cs : List FinishedCall) (s : SequentialState) (n : ℕ → ℕ → ℕ) → Agrees s n
-      → All (IsKnown t) cs → IsSequentialRun s cs → IsRun n (calls_seen t cs)
+      → All (IsKnown t) cs → IsLegalHistory s cs → IsRun n (outside_calls t cs)
   seen_runs [] s n same known run = tt
   seen_runs (c ∷ cs) s n same known run =
       call_runs s n c.worker c.first c.round c.last cs same c.op c.reply

@@ -24,14 +24,14 @@ use Rattle.calls_core.specs.Histories.{completed_calls, ended_call, IsHistory}
 use Rattle.calls_core.specs.Linearizations.{answered_calls, answered_one, KeepsOrder}
 use Rattle.calls_core.specs.Linearizations.{IsAnsweredLinearization}
 use Rattle.calls_core.proofs.Lists.{each_append, each_weaker, all_from_each}
-use Rattle.calls_kernel.specs.Seen.{kinds_of, is_call}
+use Rattle.calls_kernel.specs.Outside.{kinds_of, is_call}
 use Rattle.calls_kernel.specs.Made.{AreMadeAs, AreInARow}
 use Rattle.calls_kernel.specs.Recorded.{AreRecordedAs}
 use Rattle.calls_kernel.specs.Laws.{LinearizableHistoriesAreRecords}
 use Rattle.calls_kernel.proofs.Fitting.{FitsCall, fitting, linearized_fit}
 use Rattle.calls_kernel.proofs.Played.{linearizations_are_accepted}
 
--- CALLS LAST
+-- RESPONSES AFTER INVOCATIONS
 
 abbrev Lasts : Call → Type 0
 Lasts c = c.first ≤ c.last
@@ -208,7 +208,7 @@ module _ (t : Tables) (moment : ℕ → ℕ) where
             (lt-leb j d.last (omega arith))),
       )
 
--- NO HAND IS AMONG THEM
+-- NO HAND IS AMONG THE CALLS
 
 module _ (t : Tables) where
   calls_alone : (ds : List FinishedCall) (cs : List Call) → AreMadeAs t ds cs

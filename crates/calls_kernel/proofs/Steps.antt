@@ -14,8 +14,8 @@ use Rattle.ec_core.specs.declared.act.Act.TheVariants as acts
 use Rattle.ec_core.specs.declared.act.Reply.{Reply as StepReply}
 use Rattle.ec_core.specs.declared.act.Reply.TheVariants as replies
 use Rattle.ec_core.specs.declared.act.Entry.{Entry}
-use Rattle.ec_core.specs.Calls.{CallSoFar, under_way, gone_on, is_pending, is_go}
-use Rattle.ec_core.specs.Rounds.{position_of, event_or, width, sum_read, round_reply, read_reply}
+use Rattle.ec_core.specs.Calls.{CallSoFar, under_way, call_with_act, is_pending, is_go}
+use Rattle.ec_core.specs.Rounds.{position_of, event_or, component_count, sum_read, round_reply, read_reply}
 use Rattle.ec_core.specs.Rounds.{next_component, go_reply}
 use Rattle.ec_core.specs.Acceptance.{IsAccepted, reply_of}
 use Rattle.ec_core.proofs.shared.Answering.{allowed, IsAllowed, IsReading, IsReadingCall}
@@ -27,8 +27,8 @@ use Rattle.calls_core.specs.declared.history.PendingCall.{PendingCall}
 use Rattle.calls_core.specs.declared.history.Call.{Call}
 use Rattle.calls_core.specs.Linearizations.{set_at}
 use Rattle.calls_core.specs.Histories.{clock, completion, Takes, Suits}
-use Rattle.calls_kernel.specs.Seen.{kinds_of, is_call, is_of_call, object_of, op_of, returned}
-use Rattle.calls_kernel.specs.Seen.{invocation_at, call_seen, calls_seen, pending_seen}
+use Rattle.calls_kernel.specs.Outside.{kinds_of, is_call, is_of_call, outside_object, outside_op, outside_reply}
+use Rattle.calls_kernel.specs.Outside.{invocation_at, outside_call, outside_calls, outside_pending}
 use Rattle.calls_kernel.proofs.Pending.{Keeps, keeps_none, keeps_same, keeps_invoked}
 use Rattle.calls_kernel.proofs.Pending.{keeps_responded, invocation, response, begun}
 use Rattle.calls_kernel.proofs.Events.{events_past}
@@ -56,11 +56,11 @@ set_same w f v =
       | false ↦ λ e. refl
     ] refl
 
--- CALLS UNDER WAY
+-- PENDING CALLS
 
--- the call of w after its entry
+-- the pending call of w after its entry
 abbrev pub left : ℕ → Act → StepReply → List Entry → Option CallSoFar
-left w act reply past = cond (is_pending reply) (gone_on act past (under_way w past)) None
+left w act reply past = cond (is_pending reply) (call_with_act act past (under_way w past)) None
 
 pub way_next : (v w : ℕ) (act : Act) (reply : StepReply) (past : List Entry)
     → under_way v (entry w act reply ∷ past)
@@ -78,7 +78,7 @@ HasMoments None = Unit {0}
 HasMoments (Some call) = 0 < length call.moments
 
 gone_moments : (act : Act) (past : List Entry) (o : Option CallSoFar) → HasMoments o
-    → HasMoments (gone_on act past o)
+    → HasMoments (call_with_act act past o)
 gone_moments acts.Go past None h = tt
 gone_moments acts.Go past (Some call) h = omega arith
 gone_moments act past o h = omega arith
@@ -87,20 +87,20 @@ left_moments : (b : Bool) (o : Option CallSoFar) → HasMoments o → HasMoments
 left_moments true o h = h
 left_moments false o h = tt
 
--- a call under way has an entry
+-- a pending call has an entry
 way_moments : (w : ℕ) (past : List Entry) → HasMoments (under_way w past)
 unfolding under_way
 way_moments w [] = tt
 way_moments w (x ∷ past) =
     elim (x.worker == w) as (λ b. HasMoments
-    (cond b (cond (is_pending x.reply) (gone_on x.act past (under_way w past)) None)
+    (cond b (cond (is_pending x.reply) (call_with_act x.act past (under_way w past)) None)
     (under_way w past))) [
-      | true ↦ left_moments (is_pending x.reply) (gone_on x.act past (under_way w past))
+      | true ↦ left_moments (is_pending x.reply) (call_with_act x.act past (under_way w past))
           (gone_moments x.act past (under_way w past) (way_moments w past))
       | false ↦ way_moments w past
     ]
 
--- an entry more leaves its first position
+-- one more entry leaves the first position as it is
 first_kept : (past : List Entry) (ms : List (List Entry)) → 0 < length ms
     → position_of (past ∷ ms) (length (past ∷ ms) - 1) ≡ position_of ms (length ms - 1)
 first_kept past [] h = absurd (omega arith)
@@ -114,15 +114,15 @@ free_is : (o : Option CallSoFar) (act : Act) → is_go act ≡ false
 free_is None act g h = refl
 free_is (Some call) act g h = (let no = ap (λ b. true && not b) g in cc)
 
--- WHAT IS KNOWN OF A HISTORY OF STEPS
+-- A HISTORY OF STEPS AND ITS EVENTS
 
 module _ (t : Tables) where
   -- the pending call of each worker
   abbrev pending_in : List Entry → ℕ → Option PendingCall
-  pending_in past v = option_map (pending_seen t v) (under_way v past)
+  pending_in past v = option_map (outside_pending t v) (under_way v past)
 
   abbrev done_in : List Entry → List Call
-  done_in past = reverse (calls_seen t (finished_calls t past))
+  done_in past = reverse (outside_calls t (finished_calls t past))
 
   pub record IsView (past : List Entry) (es : List Event) : Type 0 where
     pub keeps : Keeps (kinds_of t) es (pending_in past) (done_in past)
@@ -130,62 +130,63 @@ module _ (t : Tables) where
 
   pending_next : (w : ℕ) (act : Act) (reply : StepReply) (past : List Entry)
       (o : Option PendingCall)
-      → o ≡ option_map (pending_seen t w) (left w act reply past)
+      → o ≡ option_map (outside_pending t w) (left w act reply past)
       → (v : ℕ) → set_at w o (pending_in past) v ≡ pending_in (entry w act reply ∷ past) v
   pending_next w act reply past o is v =
       (elim (w == v) as (λ b. (w == v) ≡ b → cond b o (pending_in past v)
-      ≡ option_map (pending_seen t v) (cond b (left w act reply past) (under_way v past))) [
+      ≡ option_map (outside_pending t v) (cond b (left w act reply past) (under_way v past))) [
         | true ↦ λ e.
-            is ∙ ap (λ u. option_map (pending_seen t u) (left w act reply past)) (eqb-true w v e)
+            is ∙ ap (λ u. option_map (outside_pending t u) (left w act reply past)) (eqb-true w v e)
         | false ↦ λ e. refl
       ] refl)
-      ∙ ap (option_map (pending_seen t v)) (sym (way_next v w act reply past))
+      ∙ ap (option_map (outside_pending t v)) (sym (way_next v w act reply past))
 
   seen_append : (xs ys : List FinishedCall)
-      → calls_seen t (xs ++ ys) ≡ calls_seen t xs ++ calls_seen t ys
+      → outside_calls t (xs ++ ys) ≡ outside_calls t xs ++ outside_calls t ys
   seen_append xs ys =
-      ap (map (call_seen t)) (filter-append (λ (c : FinishedCall). is_call c.op) xs ys)
-      ∙ map-append (call_seen t) (filter (λ (c : FinishedCall). is_call c.op) xs)
+      ap (map (outside_call t)) (filter-append (λ (c : FinishedCall). is_call c.op) xs ys)
+      ∙ map-append (outside_call t) (filter (λ (c : FinishedCall). is_call c.op) xs)
       (filter (λ (c : FinishedCall). is_call c.op) ys)
 
   done_next : (x : Entry) (past : List Entry) (cs : List FinishedCall)
-      → ended_by t x (gone_on x.act past (under_way x.worker past)) ≡ cs
-      → reverse (calls_seen t cs) ++ done_in past ≡ done_in (x ∷ past)
+      → ended_by t x (call_with_act x.act past (under_way x.worker past)) ≡ cs
+      → reverse (outside_calls t cs) ++ done_in past ≡ done_in (x ∷ past)
   unfolding finished_calls
   done_next x past cs is =
       sym (ap reverse (seen_append (finished_calls t past)
-      (ended_by t x (gone_on x.act past (under_way x.worker past))))
-      ∙ reverse-append (calls_seen t (finished_calls t past))
-      (calls_seen t (ended_by t x (gone_on x.act past (under_way x.worker past))))
-      ∙ ap (λ ds. reverse (calls_seen t ds) ++ done_in past) is)
+      (ended_by t x (call_with_act x.act past (under_way x.worker past))))
+      ∙ reverse-append (outside_calls t (finished_calls t past))
+      (outside_calls t (ended_by t x (call_with_act x.act past (under_way x.worker past))))
+      ∙ ap (λ ds. reverse (outside_calls t ds) ++ done_in past) is)
 
   -- AN ENTRY THAT BEGINS A CALL
 
   module _ (past : List Entry) (w : ℕ) (act : Act) (reply : StepReply)
       (view : IsView past (events_past t past)) (call : is_call act ≡ true)
       (of_call : is_of_call act ≡ true) (free : under_way w past ≡ None)
-      (takes : Takes (slice_get (kinds_of t) (object_of t act)) (op_of act))
-      (gone : gone_on act past (under_way w past) ≡ Some (record { op = act; moments = past ∷ [] }))
-      (suits : is_pending reply ≡ false → Suits (op_of act) (returned reply)) where
+      (takes : Takes (slice_get (kinds_of t) (outside_object t act)) (outside_op act))
+      (gone : call_with_act act past (under_way w past)
+      ≡ Some (record { op = act; moments = past ∷ [] }))
+      (suits : is_pending reply ≡ false → Suits (outside_op act) (outside_reply reply)) where
     abbrev here : Entry
     here = entry w act reply
 
     abbrev inv : Event
-    inv = invocation (2 * length past) w (object_of t act) (op_of act)
+    inv = invocation (2 * length past) w (outside_object t act) (outside_op act)
 
     abbrev res : Event
-    res = response (2 * length past + 1) w (returned reply)
+    res = response (2 * length past + 1) w (outside_reply reply)
 
     abbrev opened : PendingCall
-    opened = begun (2 * length past) w (object_of t act) (op_of act)
+    opened = begun (2 * length past) w (outside_object t act) (outside_op act)
 
     free_in : pending_in past w ≡ None
-    free_in = ap (option_map (pending_seen t w)) free
+    free_in = ap (option_map (outside_pending t w)) free
 
     invoked : Keeps (kinds_of t) (inv ∷ events_past t past)
         (set_at w (Some opened) (pending_in past)) (done_in past)
     invoked = keeps_invoked (kinds_of t) (events_past t past) (pending_in past) (done_in past)
-        (2 * length past) w (object_of t act) (op_of act) view.keeps view.clock_is free_in takes
+        (2 * length past) w (outside_object t act) (outside_op act) view.keeps view.clock_is free_in takes
 
     events_are : events_past t (here ∷ past)
         ≡ cond (is_pending reply) [] (res ∷ []) ++ (inv ∷ events_past t past)
@@ -195,17 +196,17 @@ module _ (t : Tables) where
         ∙ ap (λ b. cond (is_pending reply) [] (res ∷ [])
         ++ (cond b (inv ∷ []) [] ++ events_past t past)) call
 
-    ended_are : ended_by t here (gone_on act past (under_way w past))
+    ended_are : ended_by t here (call_with_act act past (under_way w past))
         ≡ cond (is_pending reply) [] (call_of_entries t here act (past ∷ []) ∷ [])
     ended_are = ap (ended_by t here) gone
 
     called : is_pending reply ≡ true → IsView (here ∷ past) (inv ∷ events_past t past)
     called e =
-        let way : Some opened ≡ option_map (pending_seen t w) (left w act reply past) =
-        sym (ap (λ b. option_map (pending_seen t w)
-        (cond b (gone_on act past (under_way w past)) None)) e
-        ∙ ap (option_map (pending_seen t w)) gone) in
-        let none : ended_by t here (gone_on act past (under_way w past)) ≡ [] =
+        let way : Some opened ≡ option_map (outside_pending t w) (left w act reply past) =
+        sym (ap (λ b. option_map (outside_pending t w)
+        (cond b (call_with_act act past (under_way w past)) None)) e
+        ∙ ap (option_map (outside_pending t w)) gone) in
+        let none : ended_by t here (call_with_act act past (under_way w past)) ≡ [] =
         ended_are ∙ ap (λ b. cond b [] (call_of_entries t here act (past ∷ []) ∷ [])) e in
         record {
           keeps = keeps_same (kinds_of t) (inv ∷ events_past t past)
@@ -217,28 +218,28 @@ module _ (t : Tables) where
 
     returns : is_pending reply ≡ false → IsView (here ∷ past) (res ∷ inv ∷ events_past t past)
     returns e =
-        let way : None ≡ option_map (pending_seen t w) (left w act reply past) =
-        sym (ap (λ b. option_map (pending_seen t w)
-        (cond b (gone_on act past (under_way w past)) None)) e) in
-        let one : ended_by t here (gone_on act past (under_way w past))
+        let way : None ≡ option_map (outside_pending t w) (left w act reply past) =
+        sym (ap (λ b. option_map (outside_pending t w)
+        (cond b (call_with_act act past (under_way w past)) None)) e) in
+        let one : ended_by t here (call_with_act act past (under_way w past))
         ≡ call_of_entries t here act (past ∷ []) ∷ [] =
         ended_are ∙ ap (λ b. cond b [] (call_of_entries t here act (past ∷ []) ∷ [])) e in
-        let done : reverse (calls_seen t (call_of_entries t here act (past ∷ []) ∷ []))
-        ++ done_in past ≡ completion (2 * length past + 1) (returned reply) opened ∷ done_in past =
-        ap (λ b. reverse (map (call_seen t)
+        let done : reverse (outside_calls t (call_of_entries t here act (past ∷ []) ∷ []))
+        ++ done_in past ≡ completion (2 * length past + 1) (outside_reply reply) opened ∷ done_in past =
+        ap (λ b. reverse (map (outside_call t)
         (cond b (call_of_entries t here act (past ∷ []) ∷ []) [])) ++ done_in past) call in
         record {
           keeps = keeps_same (kinds_of t) (res ∷ inv ∷ events_past t past)
               (set_at w None (set_at w (Some opened) (pending_in past)))
               (pending_in (here ∷ past))
-              (completion (2 * length past + 1) (returned reply) opened ∷ done_in past)
+              (completion (2 * length past + 1) (outside_reply reply) opened ∷ done_in past)
               (done_in (here ∷ past))
               (λ v. set_twice w None (Some opened) (pending_in past) v
               ∙ pending_next w act reply past None way v)
               (sym done ∙ done_next here past (call_of_entries t here act (past ∷ []) ∷ []) one)
               (keeps_responded (kinds_of t) (inv ∷ events_past t past)
               (set_at w (Some opened) (pending_in past)) (done_in past) (2 * length past + 1) w
-              (returned reply) opened invoked (omega arith)
+              (outside_reply reply) opened invoked (omega arith)
               (set_there w (Some opened) (pending_in past)) (suits e));
           clock_is = omega arith;
         }
@@ -257,22 +258,22 @@ module _ (t : Tables) where
       (view : IsView past (events_past t past)) (call : CallSoFar)
       (way : under_way w past ≡ Some call) (some : 0 < length call.moments)
       (reads : is_call call.op ≡ true)
-      (suits : is_pending reply ≡ false → Suits (op_of call.op) (returned reply)) where
+      (suits : is_pending reply ≡ false → Suits (outside_op call.op) (outside_reply reply)) where
     abbrev going : Entry
     going = entry w acts.Go reply
 
     abbrev end : Event
-    end = response (2 * length past + 1) w (returned reply)
+    end = response (2 * length past + 1) w (outside_reply reply)
 
     abbrev the_call : FinishedCall
     the_call = call_of_entries t going call.op (past ∷ call.moments)
 
-    busy : pending_in past w ≡ Some (pending_seen t w call)
-    busy = ap (option_map (pending_seen t w)) way
+    busy : pending_in past w ≡ Some (outside_pending t w call)
+    busy = ap (option_map (outside_pending t w)) way
 
-    go_ended : ended_by t going (gone_on acts.Go past (under_way w past))
+    go_ended : ended_by t going (call_with_act acts.Go past (under_way w past))
         ≡ cond (is_pending reply) [] (the_call ∷ [])
-    go_ended = ap (λ o. ended_by t going (gone_on acts.Go past o)) way
+    go_ended = ap (λ o. ended_by t going (call_with_act acts.Go past o)) way
 
     first_is : 2 * position_of (past ∷ call.moments) (length (past ∷ call.moments) - 1)
         ≡ 2 * position_of call.moments (length call.moments - 1)
@@ -280,12 +281,13 @@ module _ (t : Tables) where
 
     goes_on : is_pending reply ≡ true → IsView (going ∷ past) (events_past t past)
     goes_on e =
-        let after : pending_in past w ≡ option_map (pending_seen t w) (left w acts.Go reply past) =
-        busy ∙ sym (ap (λ b. option_map (pending_seen t w)
-        (cond b (gone_on acts.Go past (under_way w past)) None)) e
-        ∙ ap (λ o. option_map (pending_seen t w) (gone_on acts.Go past o)) way
-        ∙ ap (λ n. Some (begun n w (object_of t call.op) (op_of call.op))) first_is) in
-        let none : ended_by t going (gone_on acts.Go past (under_way w past)) ≡ [] =
+        let after : pending_in past w
+        ≡ option_map (outside_pending t w) (left w acts.Go reply past) =
+        busy ∙ sym (ap (λ b. option_map (outside_pending t w)
+        (cond b (call_with_act acts.Go past (under_way w past)) None)) e
+        ∙ ap (λ o. option_map (outside_pending t w) (call_with_act acts.Go past o)) way
+        ∙ ap (λ n. Some (begun n w (outside_object t call.op) (outside_op call.op))) first_is) in
+        let none : ended_by t going (call_with_act acts.Go past (under_way w past)) ≡ [] =
         go_ended ∙ ap (λ b. cond b [] (the_call ∷ [])) e in
         record {
           keeps = keeps_same (kinds_of t) (events_past t past) (pending_in past)
@@ -300,17 +302,19 @@ module _ (t : Tables) where
     go_returns : is_pending reply ≡ false → IsView (going ∷ past) (end ∷ events_past t past)
     go_returns e =
         let up : clock (events_past t past) ≤ 2 * length past = view.clock_is in
-        let after : None ≡ option_map (pending_seen t w) (left w acts.Go reply past) =
-        sym (ap (λ b. option_map (pending_seen t w)
-        (cond b (gone_on acts.Go past (under_way w past)) None)) e) in
-        let one : ended_by t going (gone_on acts.Go past (under_way w past)) ≡ the_call ∷ [] =
+        let after : None ≡ option_map (outside_pending t w) (left w acts.Go reply past) =
+        sym (ap (λ b. option_map (outside_pending t w)
+        (cond b (call_with_act acts.Go past (under_way w past)) None)) e) in
+        let one : ended_by t going (call_with_act acts.Go past (under_way w past)) ≡ the_call ∷ [] =
         go_ended ∙ ap (λ b. cond b [] (the_call ∷ [])) e in
-        let ended = completion (2 * length past + 1) (returned reply) (pending_seen t w call) in
-        let same : call_seen t the_call ≡ ended =
-        ap (λ n. completion (2 * length past + 1) (returned reply)
-        (begun n w (object_of t call.op) (op_of call.op))) first_is in
-        let done : reverse (calls_seen t (the_call ∷ [])) ++ done_in past ≡ ended ∷ done_in past =
-        ap (λ b. reverse (map (call_seen t) (cond b (the_call ∷ []) [])) ++ done_in past) reads
+        let ended =
+        completion (2 * length past + 1) (outside_reply reply) (outside_pending t w call) in
+        let same : outside_call t the_call ≡ ended =
+        ap (λ n. completion (2 * length past + 1) (outside_reply reply)
+        (begun n w (outside_object t call.op) (outside_op call.op))) first_is in
+        let done : reverse (outside_calls t (the_call ∷ []))
+        ++ done_in past ≡ ended ∷ done_in past =
+        ap (λ b. reverse (map (outside_call t) (cond b (the_call ∷ []) [])) ++ done_in past) reads
         ∙ ap (λ c. c ∷ done_in past) same in
         record {
           keeps = keeps_same (kinds_of t) (end ∷ events_past t past)
@@ -319,7 +323,7 @@ module _ (t : Tables) where
               (pending_next w acts.Go reply past None after)
               (sym done ∙ done_next going past (the_call ∷ []) one)
               (keeps_responded (kinds_of t) (events_past t past) (pending_in past) (done_in past)
-              (2 * length past + 1) w (returned reply) (pending_seen t w call) view.keeps
+              (2 * length past + 1) w (outside_reply reply) (outside_pending t w call) view.keeps
               (omega arith) busy (suits e));
           clock_is = omega arith;
         }
@@ -340,7 +344,7 @@ module _ (t : Tables) where
       (events_past t (entry w (acts.Hand e b) replies.Done ∷ past))
   hand_view past w e b view free =
       let x = entry w (acts.Hand e b) replies.Done in
-      let none : pending_in past w ≡ None = ap (option_map (pending_seen t w)) free in
+      let none : pending_in past w ≡ None = ap (option_map (outside_pending t w)) free in
       record {
         keeps = keeps_same (kinds_of t) (events_past t past) (pending_in past)
             (pending_in (x ∷ past)) (done_in past) (done_in (x ∷ past))
@@ -370,7 +374,7 @@ module _ (t : Tables) where
       → IsReadReply (read_reply t op past ms)
   unfolding read_reply
   reply_read op past ms =
-      elim (nat_le (width t (event_or op)) (next_component t (event_or op) ms + 1)) as
+      elim (nat_le (component_count t (event_or op)) (next_component t (event_or op) ms + 1)) as
       (λ b. IsReadReply (cond b (round_reply op (sum_read t (event_or op)
       (suc (next_component t (event_or op) ms)) (past ∷ ms))) replies.Pending)) [
         | true ↦ round_read op (sum_read t (event_or op)
@@ -379,7 +383,7 @@ module _ (t : Tables) where
       ]
 
   suits_read : (op : Act) (reply : StepReply) → IsReading t op → IsReadReply reply
-      → is_pending reply ≡ false → Suits (op_of op) (returned reply)
+      → is_pending reply ≡ false → Suits (outside_op op) (outside_reply reply)
   suits_read (acts.Read e) (replies.Number n) r h p = tt
   suits_read (acts.Await e v) (replies.Number n) r h p = tt
   suits_read op replies.Done r h p = absurd h
@@ -409,7 +413,7 @@ module _ (t : Tables) where
       begins_view past w (acts.Advance e) reply view refl refl
       (free_is (under_way w past) (acts.Advance e) refl a.free)
       (object_takes t (acts.Advance e) refl a.known) refl
-      (λ p. subst (λ r. Suits (op_of (acts.Advance e)) (returned r)) given tt)
+      (λ p. subst (λ r. Suits (outside_op (acts.Advance e)) (outside_reply r)) given tt)
   entry_view past w (acts.Read e) reply view acc a given =
       begins_view past w (acts.Read e) reply view refl refl
       (free_is (under_way w past) (acts.Read e) refl a.free)
@@ -429,17 +433,17 @@ module _ (t : Tables) where
       begins_view past w (acts.Ticket q) reply view refl refl
       (free_is (under_way w past) (acts.Ticket q) refl a.free)
       (object_takes t (acts.Ticket q) refl a.known) refl
-      (λ p. subst (λ r. Suits (op_of (acts.Ticket q)) (returned r)) given tt)
+      (λ p. subst (λ r. Suits (outside_op (acts.Ticket q)) (outside_reply r)) given tt)
   entry_view past w (acts.Put x v) reply view acc a given =
       begins_view past w (acts.Put x v) reply view refl refl
       (free_is (under_way w past) (acts.Put x v) refl a.free)
       (object_takes t (acts.Put x v) refl a.known) refl
-      (λ p. subst (λ r. Suits (op_of (acts.Put x v)) (returned r)) given tt)
+      (λ p. subst (λ r. Suits (outside_op (acts.Put x v)) (outside_reply r)) given tt)
   entry_view past w (acts.Get x) reply view acc a given =
       begins_view past w (acts.Get x) reply view refl refl
       (free_is (under_way w past) (acts.Get x) refl a.free)
       (object_takes t (acts.Get x) refl a.known) refl
-      (λ p. subst (λ r. Suits (op_of (acts.Get x)) (returned r)) given tt)
+      (λ p. subst (λ r. Suits (outside_op (acts.Get x)) (outside_reply r)) given tt)
   entry_view past w (acts.Hand e b) reply view acc a given =
       subst (λ r. IsView (entry w (acts.Hand e b) r ∷ past)
       (events_past t (entry w (acts.Hand e b) r ∷ past))) given

@@ -1,4 +1,4 @@
--- What histories of steps and histories of calls have to do with each other.
+-- Theorems about histories of steps and histories of calls.
 use Rattle.std.specs.Prelude.{◌↔◌, List, reverse}
 use Rattle.ec_count.specs.Tables.{Tables, IsDeclared}
 use Rattle.ec_core.specs.declared.act.Entry.{Entry}
@@ -9,14 +9,14 @@ use Rattle.calls_core.specs.Lists.{Each}
 use Rattle.calls_core.specs.Histories.{IsHistory}
 use Rattle.calls_core.specs.Linearizations.{IsAnsweredLinearization}
 use Rattle.calls_core.specs.Completions.{IsLinearizable}
-use Rattle.calls_kernel.specs.Seen.{kinds_of, IsSeen}
+use Rattle.calls_kernel.specs.Outside.{kinds_of, HasOutsideHistory}
 use Rattle.calls_kernel.specs.Made.{IsGranted, KeepsLimit, AreMade}
 use Rattle.calls_kernel.specs.Recorded.{IsRecord, IsWithin}
 
 -- whatever the interleaving of its steps, an accepted history is linearizable as a history of calls
 abbrev pub CallsOfAcceptedHistoriesAreLinearizable : Type 0
 CallsOfAcceptedHistoriesAreLinearizable = (t : Tables) (h : List Entry) → IsDeclared t
-    → IsAccepted t (reverse h) → IsSeen t h
+    → IsAccepted t (reverse h) → HasOutsideHistory t h
 
 -- the calls of each linearization, within the rights and the limit, are made by an accepted history
 abbrev pub LinearizationsAreAcceptedHistories : Type 0

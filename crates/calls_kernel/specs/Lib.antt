@@ -1,4 +1,4 @@
-pub mod Seen
+pub mod Outside
 pub mod Made
 pub mod Recorded
 pub mod Laws

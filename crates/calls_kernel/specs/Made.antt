@@ -29,30 +29,30 @@ act_on t k (Put v) = acts.Put (k - length t.events - length t.takers) v
 act_on t k Get = acts.Get (k - length t.events - length t.takers)
 act_on t k _ = acts.Go
 
-abbrev pub act_of : Tables → Call → Act
-act_of t c = act_on t c.object c.op
+abbrev pub act_of_call : Tables → Call → Act
+act_of_call t c = act_on t c.object c.op
 
--- WHAT IS ASKED OF CALLS
+-- CALLS WITHIN RIGHTS AND LIMIT
 
 -- the worker is declared and has the right to the call, the value or threshold is not too large,
 -- and the call did not give up
 pub record IsGranted (t : Tables) (c : Call) : Type 0 where
   pub worker : c.worker < t.workers
-  pub right : has_right t [] c.worker (act_of t c) ≡ true
-  pub small : is_too_large (act_of t c) ≡ false
+  pub right : has_right t [] c.worker (act_of_call t c) ≡ true
+  pub small : is_too_large (act_of_call t c) ≡ false
   pub stays : c.reply ≡ Timeout → ⊥
 
 -- the advances of each worker on each eventcount, and the tickets of each sequencer, are at most
 -- the limit
 pub record KeepsLimit (t : Tables) (cs : List Call) : Type 0 where
   pub advances : (e w : ℕ)
-      → count_by (λ (c : Call). is_advance e (act_of t c) && (c.worker == w)) cs ≤ t.limit
-  pub tickets : (q : ℕ) → count_by (λ (c : Call). is_ticket q (act_of t c)) cs ≤ t.limit
+      → count_by (λ (c : Call). is_advance e (act_of_call t c) && (c.worker == w)) cs ≤ t.limit
+  pub tickets : (q : ℕ) → count_by (λ (c : Call). is_ticket q (act_of_call t c)) cs ≤ t.limit
 
 -- HOW THEY ARE MADE
 
--- what a call of this op returned, and the reply to its last entry. If an await returned no
--- number, the reply is a number that reaches its threshold
+-- the reply to a call of this op, and the reply to its last entry. If an await returned no number,
+-- the latter is a number that reaches its threshold
 abbrev pub IsReplyOf : Op → Reply → StepReply → Type 0
 IsReplyOf (Await v) Done (replies.Number n) = v ≤ n
 IsReplyOf op Done replies.Done = Unit {0}
@@ -61,7 +61,7 @@ IsReplyOf _ _ _ = ⊥
 
 pub record IsMadeAs (t : Tables) (d : FinishedCall) (c : Call) : Type 0 where
   pub worker : d.worker ≡ c.worker
-  pub act : d.op ≡ act_of t c
+  pub act : d.op ≡ act_of_call t c
   pub reply : IsReplyOf c.op c.reply d.reply
 
 -- the completed calls are these calls in this order
@@ -70,7 +70,7 @@ AreMadeAs t [] [] = Unit {0}
 AreMadeAs t (d ∷ ds) (c ∷ cs) = IsMadeAs t d c × AreMadeAs t ds cs
 AreMadeAs t _ _ = ⊥
 
--- each begins right after the last entry of the one before it, from position i up to position n
+-- each call begins right after the last entry of the call before it, from position i to position n
 abbrev pub AreInARow : ℕ → List FinishedCall → ℕ → Type 0
 AreInARow i [] n = i ≡ n
 AreInARow i (d ∷ ds) n = (d.first ≡ i) × (d.first ≤ d.last) × AreInARow (d.last + 1) ds n

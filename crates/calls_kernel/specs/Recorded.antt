@@ -1,4 +1,4 @@
--- Histories of calls that a program recorded of a kernel, with no look into it.
+-- Histories of calls that a program recorded of a kernel without seeing its steps.
 use Rattle.std.specs.Prelude.{ℕ, ◌≤◌, List, [], ◌∷◌, ◌++◌, reverse, Option, Some}
 use Rattle.std.specs.List.{filter}
 use Rattle.std.specs.List.Sorted.{IsPermutation}
@@ -15,11 +15,11 @@ use Rattle.calls_core.specs.declared.history.Call.{Call}
 use Rattle.calls_core.specs.Lists.{Each}
 use Rattle.calls_core.specs.Histories.{clock, completed_calls, pending_calls}
 use Rattle.calls_core.specs.Linearizations.{answered_calls}
-use Rattle.calls_kernel.specs.Seen.{is_call}
+use Rattle.calls_kernel.specs.Outside.{is_call}
 use Rattle.calls_kernel.specs.Made.{IsMadeAs, IsGranted, KeepsLimit}
 
 -- the call c was recorded of the kernel's call d, if the entry at position i happened at the
--- position `moment i` of the record: each of its entries from its invocation to its response
+-- position `moment i` of the record: all its entries are between its invocation and its response
 pub record IsRecordedAs (t : Tables) (moment : ℕ → ℕ) (d : FinishedCall) (c : Call) : Type 0 where
   pub made : IsMadeAs t d c
   pub from_first : c.first ≤ moment d.first
@@ -31,9 +31,9 @@ AreRecordedAs t moment (d ∷ ds) (c ∷ cs) = IsRecordedAs t moment d c × AreR
 AreRecordedAs t moment _ _ = ⊥
 
 -- a history of calls that can have been recorded of a kernel: there is an accepted history of
--- steps, and its entries happened at positions of the record that never fall. Its completed calls
--- but for the hands are the completed calls of the record and some of the pending ones, of which
--- the response had not been recorded
+-- steps, and its entries happened at positions of the record that never fall. Its completed calls,
+-- without the hands, are the completed calls of the record and some of the pending ones, whose
+-- responses were not recorded
 pub record IsRecord (t : Tables) (past : List Event) : Type 0 where
   pub steps : List Entry
   pub accepted : IsAccepted t (reverse steps)

@@ -1,4 +1,4 @@
-//! The laws: each function says one and does nothing.
+//! The theorems: each function states one as its contract.
 ghost use Rattle.calls_kernel.specs.Laws.{CallsOfAcceptedHistoriesAreLinearizable};
 ghost use Rattle.calls_kernel.specs.Laws.{LinearizationsAreAcceptedHistories};
 ghost use Rattle.calls_kernel.specs.Laws.{RecordsAreLinearizable, LinearizableHistoriesAreRecords};
@@ -7,8 +7,9 @@ ghost use Rattle.calls_kernel.specs.Laws.{RecordsAreExactlyTheLinearizable};
 use calls_local::{answers_become_responses, responses_become_answers};
 use ec_order::order_by_points_is_good;
 
-/// States that an accepted history of steps, seen from outside, is a history of calls, and the
-/// order by points of its completed calls is a linearization of it. So it is linearizable.
+/// States that an accepted history of steps is linearizable as a history of calls.
+///
+/// The order of its completed calls by linearization points is a linearization.
 pub fn calls_of_accepted_histories_are_linearizable()
     ensures { CallsOfAcceptedHistoriesAreLinearizable }
 {
@@ -16,14 +17,16 @@ pub fn calls_of_accepted_histories_are_linearizable()
     answers_become_responses();
 }
 
-/// States that each linearization of a history of calls that keeps the declared rights and the
-/// limit is an accepted history of steps, in which its calls are made one after another.
+/// States that each linearization within the declared rights and the limit can be made by steps.
+///
+/// It is an accepted history of steps, in which its calls are made one after another.
 pub fn linearizations_are_accepted_histories()
     ensures { LinearizationsAreAcceptedHistories }
 {}
 
-/// States that a history of calls that a program can have recorded of a kernel is linearizable,
-/// whenever between a call's invocation and its response the kernel made the call's steps.
+/// States that a history of calls that a program can have recorded of a kernel is linearizable.
+///
+/// The kernel may have made a call's steps at any time between its invocation and its response.
 pub fn records_are_linearizable()
     ensures { RecordsAreLinearizable }
 {
@@ -31,14 +34,17 @@ pub fn records_are_linearizable()
     answers_become_responses();
 }
 
-/// States that a history of calls that has a linearization, which keeps the declared rights and the
-/// limit, can have been recorded of a kernel: the steps can't be seen from outside.
+/// States that a history with a linearization can have been recorded of a kernel.
+///
+/// The linearization has to keep the declared rights and the limit. The steps can't be seen from
+/// outside.
 pub fn linearizable_histories_are_records()
     ensures { LinearizableHistoriesAreRecords }
 {}
 
-/// States that within the declared rights and the limit the histories of calls that a program can
-/// have recorded of a kernel are exactly the linearizable ones.
+/// States that what a program can have recorded of a kernel is exactly what is linearizable.
+///
+/// This is about histories of calls within the declared rights and the limit.
 pub fn records_are_exactly_the_linearizable()
     ensures { RecordsAreExactlyTheLinearizable }
 {

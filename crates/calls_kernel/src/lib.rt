@@ -1,6 +1,6 @@
-//! Histories of steps, which the kernel makes, and histories of calls, as a program records them:
-//! each accepted history of steps is a linearizable history of calls, and each linearization of
-//! calls is an accepted history of steps. The crate has no code, only laws.
+//! Theorems about histories of steps, which the kernel makes, and histories of calls, which a
+//! program records. An accepted history of steps is a linearizable history of calls, and a
+//! linearization of calls is an accepted history of steps.
 #![tactic(auto)]
 
 mod laws;

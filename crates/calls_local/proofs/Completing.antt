@@ -24,7 +24,7 @@ use Rattle.calls_core.specs.Linearizations.{IsRun, start}
 use Rattle.calls_core.specs.Linearizations.{KeepsOrder, answered_one, answered_calls, IsLinearOrder}
 use Rattle.calls_core.specs.Linearizations.{IsAnsweredLinearization}
 use Rattle.calls_core.specs.Completions.{is_response, IsLinearizationIn, IsLinearization, with_last}
-use Rattle.calls_core.specs.Completions.{known_at, settled_last, settled}
+use Rattle.calls_core.specs.Completions.{known_at, settled_last, settle_call}
 use Rattle.calls_core.specs.Calls.{Early, Earlier}
 use Rattle.calls_core.proofs.Lists.{each_weaker, each_kept, all_from_each, all_pairs_from_each}
 use Rattle.calls_core.proofs.Filters.{each_from_all, permutation_turn}
@@ -76,7 +76,7 @@ module _ (t w : ℕ) (o : PendingCall) (r : Reply) (a : PendingCall → Option R
   Answered os = (unanswered more os ≡ without w (unanswered a os))
       × IsPermutation (answered_calls t more os) (completion t r o ∷ answered_calls t a os)
 
-  -- the rest, if the first of it is y
+  -- the same with one more pending call in front, which has no answer
   kept_answered : (y : PendingCall) (os : List PendingCall) (z : Option Reply) → a y ≡ z
       → more y ≡ a y → (y.worker == w) ≡ false → z ≡ None → Answered os → Answered (y ∷ os)
   kept_answered y os z e same other is h =
@@ -163,7 +163,7 @@ known_all m t (c ∷ cs) le h = ap (λ d. d ∷ map (known_at t) cs)
     (known_early t c (let lt : c.last < m = h.0.1 in omega arith)) ∙ ap (λ zs.
     c ∷ zs) (known_all m t cs le h.1)
 
--- at the end it is the same
+-- at the end of the history, a settled call is the call as it is known
 same_last : (m n : ℕ) → settled_last m m n ≡ min n m
 same_last m n = elim (cases_lt n m) [
   | inl lt ↦ early_last m m n lt ∙ omega arith
@@ -171,16 +171,17 @@ same_last m n = elim (cases_lt n m) [
       late_last m m n le ∙ omega arith
 ]
 
-pub settled_known : (m : ℕ) (cs : List Call) → map (settled m m) cs ≡ map (known_at m) cs
+pub settled_known : (m : ℕ) (cs : List Call) → map (settle_call m m) cs ≡ map (known_at m) cs
 settled_known m [] = refl
-settled_known m (c ∷ cs) = ap (λ n. with_last c n ∷ map (settled m m) cs) (same_last m c.last) ∙ ap
+settled_known m (c ∷ cs) = ap (λ n. with_last c n ∷ map (settle_call m m) cs) (same_last m c.last)
+    ∙ ap
     (λ zs. known_at m c ∷ zs) (settled_known m cs)
 
 module _ (kinds : List Kind) (past : List Event) (t : ℕ) where
   record Completion (late : List Event) : Type 0 where
     answer : PendingCall → Option Reply
     left : pending_calls (late ++ past) ≡ unanswered answer (pending_calls past)
-    calls : IsPermutation (map (settled (clock past) t) (completed_calls (late ++ past)))
+    calls : IsPermutation (map (settle_call (clock past) t) (completed_calls (late ++ past)))
         (answered_calls t answer (pending_calls past) ++ completed_calls past)
     later : clock past ≤ clock (late ++ past)
     pending : Each (Early (clock past)) (pending_calls (late ++ past))
@@ -192,7 +193,7 @@ module _ (kinds : List Kind) (past : List Event) (t : ℕ) where
       → (k : Completion late)
       → (answer : PendingCall → Option Reply) × (pending_after x action
       (pending_calls (late ++ past)) ≡ unanswered answer (pending_calls past))
-      × IsPermutation (map (settled (clock past) t) (ended_call x action o ++ completed_calls
+      × IsPermutation (map (settle_call (clock past) t) (ended_call x action o ++ completed_calls
       (late ++ past))) (answered_calls t answer (pending_calls past) ++ completed_calls past)
       × Each (λ (c : Call). c.first < clock past) (ended_call x action o ++ completed_calls
       (late ++ past))
@@ -210,7 +211,7 @@ module _ (kinds : List Kind) (past : List Event) (t : ℕ) where
       e in (
         more t w o r k.answer,
         ap (without w) k.left ∙ sym step.0,
-        subst (λ n. IsPermutation (completion n r o ∷ map (settled m t)
+        subst (λ n. IsPermutation (completion n r o ∷ map (settle_call m t)
             (completed_calls (late ++ past))) (answered_calls t (more t w o r k.answer)
             (pending_calls past) ++ completed_calls past)) (sym at)
             (IsPermutation-trans _ _ _ (IsPermutation-cons (completion t r o) _ _ k.calls)
@@ -262,14 +263,15 @@ module _ (kinds : List Kind) (past : List Event) (t : ℕ) where
 pub order_from_responses : (Run : List Call → Type 0) (kinds : List Kind) (past : List Event)
     (t : ℕ)
     (cs : List Call) → clock past ≤ t → IsHistory kinds past
-    → (Run cs → Run (map (settled (clock past) t) cs)) → IsLinearizationIn Run kinds past cs
+    → (Run cs → Run (map (settle_call (clock past) t) cs)) → IsLinearizationIn Run kinds past cs
     → IsLinearOrder Run (completed_calls past) (pending_calls past) t
-    (map (settled (clock past) t) cs)
+    (map (settle_call (clock past) t) cs)
 order_from_responses Run kinds past t cs le h still l =
     let m = clock past in
     let k = with_responses kinds past t l.late l.responses h l.history in
-    let once : IsPermutation (map (settled m t) (completed_calls (l.late ++ past)))
-    (map (settled m t) cs) = IsPermutation-map (settled m t) (completed_calls (l.late ++ past))
+    let once : IsPermutation (map (settle_call m t) (completed_calls (l.late ++ past)))
+    (map (settle_call m t) cs) =
+    IsPermutation-map (settle_call m t) (completed_calls (l.late ++ past))
     cs l.legal.each_once in
     let firsts : Each (λ (c : Call). c.first < m) cs =
     each_from_all (λ (c : Call). c.first < m) cs (All-permutation (λ (c : Call). c.first < m)
@@ -278,7 +280,7 @@ order_from_responses Run kinds past t cs le h still l =
     record {
       answer = k.answer;
       each_once = IsPermutation-trans _ _ _ (IsPermutation-sym _ _ k.calls) once;
-      in_order = all_pairs_from_each KeepsOrder (map (settled m t) cs)
+      in_order = all_pairs_from_each KeepsOrder (map (settle_call m t) cs)
           (settled_keeps m t cs le firsts (each_pair_from_all KeepsOrder cs l.legal.in_order));
       run = still l.legal.run;
     }

@@ -13,7 +13,7 @@ use Rattle.calls_core.specs.declared.history.Call.{Call}
 use Rattle.calls_core.specs.declared.history.Placed.{Placed}
 use Rattle.calls_core.specs.Lists.{Each}
 use Rattle.calls_core.specs.Histories.{Takes}
-use Rattle.calls_core.specs.Linearizations.{IsSequentialRun, IsRun, start, answered_one}
+use Rattle.calls_core.specs.Linearizations.{IsLegalHistory, IsRun, start, answered_one}
 use Rattle.calls_core.specs.Linearizations.{answered_calls, IsLinearOrder, calls_on, pending_on}
 use Rattle.calls_core.specs.Points.{calls_of, by_points, IsPlacedOrder, placed_on}
 use Rattle.calls_core.specs.Calls.{Fitting, IsCompletedCall, AreCalls}
@@ -71,7 +71,7 @@ each_any [] = tt
 each_any (x ∷ xs) = (tt, each_any xs)
 
 pub order_object : (n : ℕ → ℕ) (k t : ℕ) (done : List Call) (pending : List PendingCall)
-    (cs : List Call) → IsLinearOrder (IsSequentialRun n) (calls_on k done) (pending_on k pending) t
+    (cs : List Call) → IsLinearOrder (IsLegalHistory n) (calls_on k done) (pending_on k pending) t
     cs → Each (λ (c : Call). c.object ≡ k) cs
 order_object n k t done pending cs h =
     let calls : Each (λ (c : Call). c.object ≡ k) (calls_on k done) =
@@ -91,7 +91,7 @@ order_object n k t done pending cs h =
     (answered_object t k h.answer (pending_on k pending) open_ones) calls)))
 
 placed_object : (n : ℕ → ℕ) (k t : ℕ) (done : List Call) (pending : List PendingCall)
-    (ps : List Placed) → IsPlacedOrder (IsSequentialRun n) (calls_on k done) (pending_on k pending)
+    (ps : List Placed) → IsPlacedOrder (IsLegalHistory n) (calls_on k done) (pending_on k pending)
     t ps → Each (λ (p : Placed). p.call.object ≡ k) ps
 placed_object n k t done pending ps h = each_unmap (λ (c : Call). c.object ≡ k) ps
     (order_object n k t done pending (calls_of ps) h.legal)
@@ -102,7 +102,7 @@ placed_object n k t done pending ps h = each_unmap (λ (c : Call). c.object ≡ 
 pub record ArePlacedBelow (kinds : List Kind) (n : ℕ) (done : List Call)
     (pending : List PendingCall) (t : ℕ) (ps : List Placed) : Type 0 where
   pub below : Each (λ (p : Placed). p.call.object < n) ps
-  pub placed : (k : ℕ) → k < n → IsPlacedOrder (IsSequentialRun (start kinds k)) (calls_on k done)
+  pub placed : (k : ℕ) → k < n → IsPlacedOrder (IsLegalHistory (start kinds k)) (calls_on k done)
       (pending_on k pending) t (placed_on k ps)
 
 module _ (kinds : List Kind) (done : List Call) (pending : List PendingCall) (t : ℕ) where
@@ -110,7 +110,7 @@ module _ (kinds : List Kind) (done : List Call) (pending : List PendingCall) (t 
   placed_none = record { below = tt; placed = λ k lt. absurd (omega arith) }
 
   pub placed_more : (n : ℕ) (ps qs more : List Placed) → ArePlacedBelow kinds n done pending t ps
-      → IsPlacedOrder (IsSequentialRun (start kinds n)) (calls_on n done) (pending_on n pending) t
+      → IsPlacedOrder (IsLegalHistory (start kinds n)) (calls_on n done) (pending_on n pending) t
       qs → more ≡ ps ++ qs → ArePlacedBelow kinds (n + 1) done pending t more
   placed_more n ps qs more h q is =
       let own = placed_object (start kinds n) n t done pending qs q in
@@ -128,7 +128,7 @@ module _ (kinds : List Kind) (done : List Call) (pending : List PendingCall) (t 
               let rest : placed_on k qs ≡ [] = none_on k qs
               (each_weaker (λ (p : Placed). p.call.object ≡ n) (λ (p : Placed). p.call.object
               ≡ k → ⊥) (λ p e f. omega arith) qs own) in
-              subst (IsPlacedOrder (IsSequentialRun (start kinds k)) (calls_on k done)
+              subst (IsPlacedOrder (IsLegalHistory (start kinds k)) (calls_on k done)
               (pending_on k pending) t) (sym (parts k ∙ ap (λ zs. placed_on k ps ++ zs) rest
               ∙ append-nil (placed_on k ps))) (h.placed k old)
           | inr ge ↦
@@ -136,15 +136,15 @@ module _ (kinds : List Kind) (done : List Call) (pending : List PendingCall) (t 
               let none : placed_on n ps ≡ [] = none_on n ps
               (each_weaker (λ (p : Placed). p.call.object < n) (λ (p : Placed). p.call.object
               ≡ n → ⊥) (λ p lt f. omega arith) ps h.below) in
-              subst (λ j. IsPlacedOrder (IsSequentialRun (start kinds j)) (calls_on j done)
+              subst (λ j. IsPlacedOrder (IsLegalHistory (start kinds j)) (calls_on j done)
               (pending_on j pending) t (placed_on j more)) same
-              (subst (IsPlacedOrder (IsSequentialRun (start kinds n)) (calls_on n done)
+              (subst (IsPlacedOrder (IsLegalHistory (start kinds n)) (calls_on n done)
               (pending_on n pending) t) (sym (parts n ∙ ap (λ zs. zs ++ placed_on n qs) none
               ∙ all_on n qs own)) q)
         ];
       }
 
-  nothing : (n : ℕ → ℕ) → IsPlacedOrder (IsSequentialRun n) [] [] t []
+  nothing : (n : ℕ → ℕ) → IsPlacedOrder (IsLegalHistory n) [] [] t []
   nothing n = record {
     legal = record {
       answer = λ o. None;
@@ -165,9 +165,9 @@ module _ (kinds : List Kind) (done : List Call) (pending : List PendingCall) (t 
   takes_none : (kind : Option Kind) (op : Op) → kind ≡ None → Takes kind op → ⊥
   takes_none kind op e h = subst (λ k. Takes k op) e h
 
-  -- of an index that no object has
+  -- the empty order, for an index that no object has
   pub placed_nothing : (k : ℕ) → AreCalls kinds done pending t → slice_get kinds k ≡ None
-      → IsPlacedOrder (IsSequentialRun (start kinds k)) (calls_on k done) (pending_on k pending) t
+      → IsPlacedOrder (IsLegalHistory (start kinds k)) (calls_on k done) (pending_on k pending) t
       []
   placed_nothing k calls kind =
       let cs : calls_on k done ≡ [] = no_calls k done (each_weaker (IsCompletedCall kinds t)
@@ -178,9 +178,9 @@ module _ (kinds : List Kind) (done : List Call) (pending : List PendingCall) (t 
       (λ (o : PendingCall). o.object ≡ k → ⊥)
       (λ o f e. takes_none (slice_get kinds o.object) o.op (ap (slice_get kinds) e ∙ kind) f)
       pending calls.pending_calls.fits) in
-      subst (λ zs. IsPlacedOrder (IsSequentialRun (start kinds k)) zs (pending_on k pending) t [])
+      subst (λ zs. IsPlacedOrder (IsLegalHistory (start kinds k)) zs (pending_on k pending) t [])
       (sym cs)
-      (subst (λ zs. IsPlacedOrder (IsSequentialRun (start kinds k)) [] zs t []) (sym os)
+      (subst (λ zs. IsPlacedOrder (IsLegalHistory (start kinds k)) [] zs t []) (sym os)
       (nothing (start kinds k)))
 
   pub all_placed : (n : ℕ) (ps : List Placed) → AreCalls kinds done pending t → length kinds ≤ n
@@ -193,14 +193,14 @@ module _ (kinds : List Kind) (done : List Call) (pending : List PendingCall) (t 
             let none : placed_on k ps ≡ [] = none_on k ps
             (each_weaker (λ (p : Placed). p.call.object < n) (λ (p : Placed). p.call.object ≡ k
             → ⊥) (λ p lt e. omega arith) ps h.below) in
-            subst (IsPlacedOrder (IsSequentialRun (start kinds k)) (calls_on k done)
+            subst (IsPlacedOrder (IsLegalHistory (start kinds k)) (calls_on k done)
             (pending_on k pending) t) (sym none) (placed_nothing k calls
             (no_kind kinds k (omega arith)))
       ])
 
   -- a placed order for each object, and so one of all
   placed_below : (n : ℕ) → ((k : ℕ) → (qs : List Placed)
-      × IsPlacedOrder (IsSequentialRun (start kinds k)) (calls_on k done) (pending_on k pending) t
+      × IsPlacedOrder (IsLegalHistory (start kinds k)) (calls_on k done) (pending_on k pending) t
       qs) → (ps : List Placed) × ArePlacedBelow kinds n done pending t ps
   placed_below zero l = ([], placed_none)
   placed_below (suc n) l =
@@ -213,7 +213,7 @@ module _ (kinds : List Kind) (done : List Call) (pending : List PendingCall) (t 
       )
 
   pub whole_placed : AreCalls kinds done pending t → ((k : ℕ) → (qs : List Placed)
-      × IsPlacedOrder (IsSequentialRun (start kinds k)) (calls_on k done) (pending_on k pending) t
+      × IsPlacedOrder (IsLegalHistory (start kinds k)) (calls_on k done) (pending_on k pending) t
       qs) → (ps : List Placed) × IsPlacedOrder (IsRun (start kinds)) done pending t ps
   whole_placed calls l = (let r = placed_below (length kinds) l in
       (by_points r.0, all_placed (length kinds) r.0 calls (omega arith) r.1))

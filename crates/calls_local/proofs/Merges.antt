@@ -1,4 +1,4 @@
--- A list put in the order of its points.
+-- A list sorted by its points.
 use Rattle.std.proofs.Common.{◌≡◌, ◌<◌, ◌≤◌, Bool, true, false, cond, nat_le, List}
 use Rattle.std.proofs.Common.{[], ◌∷◌, refl, ap, sym, ◌∙◌, arith, subst}
 use Rattle.std.specs.List.{filter}
@@ -10,7 +10,7 @@ use Rattle.calls_core.specs.Points.{Within, NoLater, put_in, by_points}
 use Rattle.calls_core.proofs.Lists.{each_weaker}
 use Rattle.calls_core.proofs.Filters.{filter_yes, filter_no}
 
--- ONE IS PUT IN
+-- ONE CALL IS INSERTED
 
 each_put_in : (P : Placed → Type 0) (p : Placed) (qs : List Placed) → P p → Each P qs
     → Each P (put_in p qs)
@@ -43,7 +43,7 @@ put_in_other test p (q ∷ qs) e =
       | false ↦ ap (λ zs. cond (test q) (q ∷ zs) zs) (put_in_other test p qs e)
     ]
 
--- who is earlier fails the test
+-- p is the first that passes the test, since no other that passes has an earlier point
 put_in_own : (test : Placed → Bool) (p : Placed) (qs : List Placed) → test p ≡ true
     → Each (NoLater p) (filter test qs) → filter test (put_in p qs) ≡ p ∷ filter test qs
 put_in_own test p [] e h = filter_yes test p [] e
@@ -60,7 +60,7 @@ put_in_own test p (q ∷ qs) e h =
           ] h)
     ] refl
 
--- ALL ARE PUT IN
+-- ALL CALLS ARE INSERTED
 
 pub each_by_points : (P : Placed → Type 0) (ps : List Placed) → Each P ps → Each P (by_points ps)
 each_by_points P [] h = tt
@@ -70,7 +70,7 @@ pub by_points_rise : (ps : List Placed) → EachPair NoLater (by_points ps)
 by_points_rise [] = tt
 by_points_rise (p ∷ ps) = put_in_rises p (by_points ps) (by_points_rise ps)
 
--- a part that is in order stays as it is
+-- a part that is sorted stays as it is
 pub by_points_part : (test : Placed → Bool) (ps : List Placed) → EachPair NoLater (filter test ps)
     → filter test (by_points ps) ≡ filter test ps
 by_points_part test [] h = refl
@@ -84,7 +84,7 @@ by_points_part test (p ∷ ps) h =
       | false ↦ λ e k. put_in_other test p (by_points ps) e ∙ by_points_part test ps k
     ] refl h
 
--- points within their calls that ascend keep the real-time order
+-- points within their calls that never fall keep the real-time order
 pub rising_keeps : (ps : List Placed) → Each Within ps → EachPair NoLater ps
     → EachPair (λ p q. KeepsOrder p.call q.call) ps
 rising_keeps [] w h = tt

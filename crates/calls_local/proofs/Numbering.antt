@@ -7,13 +7,13 @@ use Rattle.calls_core.specs.declared.history.Op.TheVariants.{Put, Get}
 use Rattle.calls_core.specs.declared.history.Reply.{Reply}
 use Rattle.calls_core.specs.declared.history.Reply.TheVariants.{Done, Number}
 use Rattle.calls_core.specs.declared.history.Call.{Call}
-use Rattle.calls_core.specs.Linearizations.{Gives, after, set_at, IsSequentialRun, initial}
+use Rattle.calls_core.specs.Linearizations.{Gives, after, set_at, IsLegalHistory, initial}
 use Rattle.calls_local.specs.Databases.{ListCall, Write, Snapshot, IsListRun, AreNumbered}
 use Rattle.calls_local.specs.Databases.{AreDistinctNumbers, ListsGoByNumbers, DatabasesGoByNumbers}
 
--- the first call is possible, and so are the ones after it
+-- a call and the ones after it are a legal sequential history
 abbrev Goes : (ℕ → ℕ) → List Call → Op → Reply → Type 0
-Goes m cs op r = Gives m op r × IsSequentialRun (after m op r) cs
+Goes m cs op r = Gives m op r × IsLegalHistory (after m op r) cs
 
 moved : (m : ℕ → ℕ) (cs : List Call) (o p : Op) (r s : Reply) → o ≡ p → r ≡ s → Goes m cs o r
     → Goes m cs p s
@@ -24,7 +24,7 @@ same_number u v e = cc
 
 module _ (f : List ℕ → ℕ) (distinct : AreDistinctNumbers f) where
   to_numbers : (m : ℕ → ℕ) (vs : List ℕ) → m 0 ≡ f vs → (ls : List ListCall) (cs : List Call)
-      → AreNumbered f ls cs → IsListRun vs ls → IsSequentialRun m cs
+      → AreNumbered f ls cs → IsListRun vs ls → IsLegalHistory m cs
   to_numbers m vs e [] [] n h = tt
   to_numbers m vs e [] (c ∷ cs) n h = absurd n
   to_numbers m vs e (l ∷ ls) [] n h = absurd n
@@ -36,7 +36,7 @@ module _ (f : List ℕ → ℕ) (distinct : AreDistinctNumbers f) where
       (ap Number (ap f h.0 ∙ sym e), to_numbers m vs e ls cs n.1 h.1)
 
   to_lists : (m : ℕ → ℕ) (vs : List ℕ) → m 0 ≡ f vs → (ls : List ListCall) (cs : List Call)
-      → AreNumbered f ls cs → IsSequentialRun m cs → IsListRun vs ls
+      → AreNumbered f ls cs → IsLegalHistory m cs → IsListRun vs ls
   to_lists m vs e [] [] n h = tt
   to_lists m vs e [] (c ∷ cs) n h = absurd n
   to_lists m vs e (l ∷ ls) [] n h = absurd n

@@ -1,4 +1,4 @@
--- An order of the calls of all objects from one for each object, and the other way.
+-- An order of the calls of all objects from one for each object, and conversely.
 use Rattle.std.proofs.Common.{◌≡◌, ℕ, Bool, true, false, ◌==◌, cond, List, [], ◌∷◌, ◌++◌}
 use Rattle.std.proofs.Common.{Option, Some, None, refl, ap, sym, ◌∙◌, subst}
 use Rattle.std.specs.List.{filter}
@@ -11,7 +11,7 @@ use Rattle.calls_core.specs.declared.history.PendingCall.{PendingCall}
 use Rattle.calls_core.specs.declared.history.Call.{Call}
 use Rattle.calls_core.specs.declared.history.Placed.{Placed}
 use Rattle.calls_core.specs.Histories.{completion}
-use Rattle.calls_core.specs.Linearizations.{Gives, after, IsSequentialRun, set_at, IsRun}
+use Rattle.calls_core.specs.Linearizations.{Gives, after, IsLegalHistory, set_at, IsRun}
 use Rattle.calls_core.specs.Linearizations.{KeepsOrder, answered_one, answered_calls, IsLinearOrder}
 use Rattle.calls_core.specs.Linearizations.{calls_on, pending_on}
 use Rattle.calls_core.specs.Lists.{Each}
@@ -21,35 +21,35 @@ use Rattle.calls_core.proofs.Filters.{permutation_by_parts}
 use Rattle.calls_core.proofs.Lists.{each_pair_map, all_pairs_from_each}
 use Rattle.calls_local.proofs.Merges.{rising_keeps, each_by_points, by_points_rise, by_points_part}
 
--- RUNS
+-- LEGAL SEQUENTIAL HISTORIES
 
 pub run_part : (k : ℕ) (s : ℕ → ℕ → ℕ) (cs : List Call) → IsRun s cs
-    → IsSequentialRun (s k) (calls_on k cs)
+    → IsLegalHistory (s k) (calls_on k cs)
 run_part k s [] h = tt
 run_part k s (c ∷ cs) h =
     let o = c.object in
     let rest = calls_on k cs in
-    elim (o == k) as (λ b. (o == k) ≡ b → IsSequentialRun (cond b (after (s o) c.op c.reply) (s k))
-    rest → IsSequentialRun (s k) (cond b (c ∷ rest) rest)) [
+    elim (o == k) as (λ b. (o == k) ≡ b → IsLegalHistory (cond b (after (s o) c.op c.reply) (s k))
+    rest → IsLegalHistory (s k) (cond b (c ∷ rest) rest)) [
       | true ↦ λ e r. subst (λ n. Gives (s n) c.op c.reply
-          × IsSequentialRun (after (s n) c.op c.reply) rest) (eqb-true o k e) (h.0, r)
+          × IsLegalHistory (after (s n) c.op c.reply) rest) (eqb-true o k e) (h.0, r)
       | false ↦ λ e r. r
     ] refl (run_part k (set_at o (after (s o) c.op c.reply) s) cs h.1)
 
-pub run_whole : (s : ℕ → ℕ → ℕ) (cs : List Call) → ((k : ℕ) → IsSequentialRun (s k) (calls_on k cs))
+pub run_whole : (s : ℕ → ℕ → ℕ) (cs : List Call) → ((k : ℕ) → IsLegalHistory (s k) (calls_on k cs))
     → IsRun s cs
 run_whole s [] h = tt
 run_whole s (c ∷ cs) h =
     let o = c.object in
-    let here : IsSequentialRun (s o) (c ∷ calls_on o cs) =
-    subst (IsSequentialRun (s o)) (filter_yes (λ (d : Call). d.object == o) c cs
+    let here : IsLegalHistory (s o) (c ∷ calls_on o cs) =
+    subst (IsLegalHistory (s o)) (filter_yes (λ (d : Call). d.object == o) c cs
     (eq-eqb o o refl)) (h o) in (
       here.0,
       run_whole (set_at o (after (s o) c.op c.reply) s) cs
-          (λ k. elim (o == k) as (λ b. (o == k) ≡ b → IsSequentialRun (s k)
+          (λ k. elim (o == k) as (λ b. (o == k) ≡ b → IsLegalHistory (s k)
           (cond b (c ∷ calls_on k cs) (calls_on k cs))
-          → IsSequentialRun (cond b (after (s o) c.op c.reply) (s k)) (calls_on k cs)) [
-            | true ↦ λ e r. subst (λ n. IsSequentialRun (after (s n) c.op c.reply) (calls_on k cs))
+          → IsLegalHistory (cond b (after (s o) c.op c.reply) (s k)) (calls_on k cs)) [
+            | true ↦ λ e r. subst (λ n. IsLegalHistory (after (s n) c.op c.reply) (calls_on k cs))
                 (sym (eqb-true o k e)) r.1
             | false ↦ λ e r. r
           ] refl (h k)),
@@ -68,7 +68,7 @@ one_part t k o (Some r) rest true e = filter_yes (λ (c : Call). c.object == k)
 one_part t k o (Some r) rest false e = filter_no (λ (c : Call). c.object == k)
     (completion t r o) rest e
 
--- those of object k, if the answers are given by objects
+-- the answered calls of object k, if f k has the answers of object k
 pub answered_part : (t : ℕ) (f : ℕ → PendingCall → Option Reply) (k : ℕ) (os : List PendingCall)
     → calls_on k (answered_calls t (λ o. f o.object o) os) ≡ answered_calls t (f k)
     (pending_on k os)
@@ -103,7 +103,7 @@ each_by_parts {X} key Q (x ∷ xs) h =
 
 module _ (s : ℕ → ℕ → ℕ) (done : List Call) (pending : List PendingCall) (t : ℕ) where
   pub part_of_order : (cs : List Call) (k : ℕ) → IsLinearOrder (IsRun s) done pending t cs
-      → IsLinearOrder (IsSequentialRun (s k)) (calls_on k done) (pending_on k pending) t
+      → IsLinearOrder (IsLegalHistory (s k)) (calls_on k done) (pending_on k pending) t
       (calls_on k cs)
   part_of_order cs k l =
       let all : IsPermutation (calls_on k (answered_calls t l.answer pending ++ done))
@@ -119,16 +119,15 @@ module _ (s : ℕ → ℕ → ℕ) (done : List Call) (pending : List PendingCal
         run = run_part k s cs l.run;
       }
 
-  -- the calls of object k of a list that is put in the order of points
-  pub points_part : (ps : List Placed) (k : ℕ) → IsPlacedOrder (IsSequentialRun (s k))
+  -- the calls of object k in a list that is sorted by points
+  pub points_part : (ps : List Placed) (k : ℕ) → IsPlacedOrder (IsLegalHistory (s k))
       (calls_on k done) (pending_on k pending) t (placed_on k ps)
       → calls_on k (calls_of (by_points ps)) ≡ calls_of (placed_on k ps)
   points_part ps k h = filter_map_of (λ (c : Call). c.object == k) (λ (p : Placed). p.call)
       (by_points ps) ∙ ap calls_of (by_points_part (λ (p : Placed). p.call.object == k) ps h.rises)
 
-  -- calls with points that are in order for each object are in order for all when they are put in
-  -- the order of their points
-  pub order_of_placed : (ps : List Placed) → ((k : ℕ) → IsPlacedOrder (IsSequentialRun (s k))
+  -- calls that are a placed order for each object are one for all objects, once sorted by points
+  pub order_of_placed : (ps : List Placed) → ((k : ℕ) → IsPlacedOrder (IsLegalHistory (s k))
       (calls_on k done) (pending_on k pending) t (placed_on k ps))
       → IsPlacedOrder (IsRun s) done pending t (by_points ps)
   order_of_placed ps h =
@@ -154,7 +153,7 @@ module _ (s : ℕ → ℕ → ℕ) (done : List Call) (pending : List PendingCal
           in_order = all_pairs_from_each KeepsOrder (calls_of zs)
               (each_pair_map (λ (p : Placed). p.call) KeepsOrder zs
               (rising_keeps zs (each_by_points Within ps within) (by_points_rise ps)));
-          run = run_whole s (calls_of zs) (λ k. subst (IsSequentialRun (s k)) (sym (here k))
+          run = run_whole s (calls_of zs) (λ k. subst (IsLegalHistory (s k)) (sym (here k))
               (h k).legal.run);
         };
         within = each_by_points Within ps within;

@@ -1,4 +1,4 @@
--- The part of a history on one object.
+-- The part of a history of one object.
 use Rattle.std.proofs.Common.{◌≡◌, ℕ, ◌+◌, ◌≤◌, true, false, ◌==◌, cond, List, [], ◌∷◌, ◌++◌}
 use Rattle.std.proofs.Common.{Option, Some, None, refl, ap, sym, ◌∙◌, arith, subst, slice_get}
 use Rattle.std.proofs.lemmas.Bool.{eqb-true}
@@ -17,7 +17,7 @@ use Rattle.calls_core.specs.Linearizations.{IsLinearOrder, calls_on, pending_on}
 use Rattle.calls_local.specs.Laws.{APartIsAHistory}
 use Rattle.calls_core.proofs.Filters.{filter_yes, filter_no}
 
--- A WORKER'S CALL
+-- THE PENDING CALL OF A WORKER
 
 module _ (k w : ℕ) where
   call_by_on : (os : List PendingCall) (o : PendingCall) → pending_of w os ≡ Some o
@@ -209,7 +209,7 @@ module _ (kinds : List Kind) (k : ℕ) where
         | false ↦ λ e. part_history past h.2
       ] refl
 
--- a history of one object of its kind
+-- the part of object k is a history of its kind
 next_of : (kinds : List Kind) (k : ℕ) (kind : Kind) (action : Action) (o z : Option PendingCall)
     → slice_get kinds k ≡ Some kind → is_on k action z ≡ true → IsNext kinds action o
     → IsNextOf kind action o

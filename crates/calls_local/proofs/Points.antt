@@ -12,10 +12,10 @@ use Rattle.calls_core.specs.declared.history.Call.{Call}
 use Rattle.calls_core.specs.declared.history.Placed.{Placed}
 use Rattle.calls_core.specs.Lists.{Each, EachPair}
 use Rattle.calls_core.specs.Histories.{clock, pending_calls, completed_calls}
-use Rattle.calls_core.specs.Linearizations.{IsSequentialRun, set_at, start, KeepsOrder}
+use Rattle.calls_core.specs.Linearizations.{IsLegalHistory, set_at, start, KeepsOrder}
 use Rattle.calls_core.specs.Linearizations.{answered_one, answered_calls, IsLinearOrder, calls_on}
 use Rattle.calls_core.specs.Linearizations.{pending_on}
-use Rattle.calls_core.specs.Points.{placed, placed_one, Within, NoLater, calls_of}
+use Rattle.calls_core.specs.Points.{with_points, placed_one, Within, NoLater, calls_of}
 use Rattle.calls_core.specs.Points.{IsPlacedOrder, placed_on}
 use Rattle.calls_core.specs.Calls.{Early, Apart, IsCompletedCall, AreCalls, IsCallOf}
 use Rattle.calls_core.specs.Calls.{AreCallsOf}
@@ -28,7 +28,7 @@ use Rattle.calls_local.specs.Laws.{PartsAreLinearized, PartsMakeWhole, OrderHasP
 use Rattle.calls_local.specs.Laws.{OrderOnHasPoints, PlacedPartsMakeWhole, PointsKeepTheOrder}
 use Rattle.calls_local.proofs.Objects.{part_of_order, points_part, order_of_placed}
 
--- WHAT IS KNOWN OF THE POSITIONS
+-- POSITIONS
 
 -- no response has the position of an invocation
 pub record AreTimed (t : ℕ) (done : List Call) (pending : List PendingCall) : Type 0 where
@@ -138,8 +138,8 @@ each_moved Q xs ys moved h = each_from_all Q ys (All-permutation Q xs ys moved
 
 -- POINTS
 
--- each call is returned after the latest invocation up to it, if m is right after the latest one
--- before
+-- each call responds after the latest invocation of the calls up to it; m is right after the latest
+-- invocation of earlier calls
 abbrev pub Timely : ℕ → List Call → Type 0
 Timely m [] = Unit {0}
 Timely m (c ∷ cs) = (max m (c.first + 1) ≤ c.last) × Timely (max m (c.first + 1)) cs
@@ -194,7 +194,7 @@ points_rise n (c ∷ cs) = (
       cs,
 )
 
--- an order, whatever its run, with a point for each call
+-- an order, whatever Run requires, with a point for each call
 pub order_with_points : (Run : List Call → Type 0) (done : List Call) (pending : List PendingCall)
     (t : ℕ) (cs : List Call) → AreTimed t done pending → IsLinearOrder Run done pending t cs
     → IsPlacedOrder Run done pending t (placed_one 0 cs)
@@ -218,7 +218,7 @@ order_with_points Run done pending t cs h l =
     }
 
 pub order_has_points : OrderHasPoints
-order_has_points = λ kind m done pending t cs h l. order_with_points (IsSequentialRun m) done
+order_has_points = λ kind m done pending t cs h l. order_with_points (IsLegalHistory m) done
     pending t cs (timed_of kind done pending t h) l
 
 keeps_each : (p : Placed) (qs : List Placed) → Within p → Each Within qs → Each (NoLater p) qs
@@ -247,7 +247,7 @@ points_keep_the_order = λ ps within rises. all_pairs_from_each KeepsOrder (call
 
 pub order_on_has_points : OrderOnHasPoints
 order_on_has_points = λ kinds k done pending t cs h l.
-    order_with_points (IsSequentialRun (start kinds k)) (calls_on k done) (pending_on k pending) t
+    order_with_points (IsLegalHistory (start kinds k)) (calls_on k done) (pending_on k pending) t
     cs (timed_part k t done pending (timed kinds done pending t h)) l
 
 pub placed_parts_make_whole : PlacedPartsMakeWhole
@@ -256,14 +256,14 @@ placed_parts_make_whole = λ kinds done pending t ps h. order_of_placed (start k
 
 -- MANY OBJECTS
 
--- the points of the calls of object k are those that they have alone
-pub placed_part : (k : ℕ) (s : ℕ → ℕ) (cs : List Call) → placed_on k (placed s cs) ≡ placed_one
+-- the points of the calls of object k don't depend on other objects
+pub placed_part : (k : ℕ) (s : ℕ → ℕ) (cs : List Call) → placed_on k (with_points s cs) ≡ placed_one
     (s k) (calls_on k cs)
 placed_part k s [] = refl
 placed_part k s (c ∷ cs) =
     let o = c.object in
     let q = max (s o) (c.first + 1) in
-    let rest = placed_on k (placed (set_at o q s) cs) in
+    let rest = placed_on k (with_points (set_at o q s) cs) in
     elim (o == k) as (λ b. (o == k) ≡ b → rest ≡ placed_one (cond b q (s k)) (calls_on k cs)
     → cond b (record { point = q; call = c } ∷ rest) rest ≡ placed_one (s k)
     (cond b (c ∷ calls_on k cs) (calls_on k cs))) [
@@ -281,10 +281,10 @@ pub parts_make_whole : PartsMakeWhole
 parts_make_whole = λ kinds past cs h l.
     (let done = completed_calls past in
     let pending = pending_calls past in
-    let ps = placed (λ j. 0) cs in
-    let each : (k : ℕ) → IsPlacedOrder (IsSequentialRun (start kinds k)) (calls_on k done)
+    let ps = with_points (λ j. 0) cs in
+    let each : (k : ℕ) → IsPlacedOrder (IsLegalHistory (start kinds k)) (calls_on k done)
     (pending_on k pending) (clock past) (placed_on k ps) =
-    λ k. subst (IsPlacedOrder (IsSequentialRun (start kinds k)) (calls_on k done)
+    λ k. subst (IsPlacedOrder (IsLegalHistory (start kinds k)) (calls_on k done)
     (pending_on k pending) (clock past)) (sym (placed_part k (λ j. 0) cs))
     (order_on_has_points kinds k done pending (clock past) (calls_on k cs)
     (histories_have_calls kinds past h) (l k)) in (

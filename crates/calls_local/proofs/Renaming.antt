@@ -1,4 +1,4 @@
--- What other numbers for values leave as it is.
+-- What new numbers for values leave unchanged.
 use Rattle.std.proofs.Common.{◌≡◌, ℕ, ◌+◌, ◌-◌, ◌<◌, ◌≤◌, Bool, true, false, ◌==◌, cond, List, []}
 use Rattle.std.proofs.Common.{◌∷◌, ◌++◌, map, Option, Some, None, refl, ap, sym, ◌∙◌, arith, subst}
 use Rattle.std.proofs.Common.{slice_get}
@@ -36,7 +36,7 @@ use Rattle.calls_core.proofs.Positions.{histories_have_calls}
 use Rattle.calls_core.proofs.Settling.{each_pair_from_all}
 use Rattle.calls_core.proofs.Beginnings.{changed, changed_head}
 use Rattle.calls_local.specs.Renamings.{IsNaming, renamed_op, renamed_reply, renamed_action}
-use Rattle.calls_local.specs.Renamings.{renamed, NumbersAreNames}
+use Rattle.calls_local.specs.Renamings.{rename_values, NumbersAreNames}
 use Rattle.calls_local.proofs.Completing.{responses_become_answers}
 use Rattle.calls_local.proofs.Responding.{unmapped, answers_become_responses}
 
@@ -161,7 +161,7 @@ module _ (f : ℕ → ℕ → ℕ) where
     last = c.last;
   }
 
--- RUNS
+-- LEGAL SEQUENTIAL HISTORIES
 
 module _ (kinds : List Kind) (f : ℕ → ℕ → ℕ) where
   abbrev Fits : Call → Type 0
@@ -205,7 +205,7 @@ module _ (kinds : List Kind) (f : ℕ → ℕ → ℕ) where
             fits.1 (matched_next s u o c.op c.reply fits.0 m) h.1,
       )
 
-  -- its operation is a renamed one
+  -- the operation of d is a renamed one, of its object
   abbrev IsRenamed : Call → Type 0
   IsRenamed d = (op : Op) × (renamed_op (f d.object) op ≡ d.op)
       × Takes (slice_get kinds d.object) op
@@ -254,7 +254,7 @@ module _ (kinds : List Kind) (f : ℕ → ℕ → ℕ) where
       was.1 next h.1 in
       (c ∷ r.0, ap (λ z. z ∷ map (renamed_call f) r.0) same ∙ ap (λ zs. d ∷ zs) r.1, (b.2, r.2))
 
--- RENAMED ALIKE, THE SAME
+-- RENAMING IS ONE TO ONE
 
 same_op : (g : ℕ → ℕ) → ((u v : ℕ) → g u ≡ g v → u ≡ v) → (op other : Op)
     → renamed_op g op ≡ renamed_op g other → op ≡ other
@@ -618,7 +618,8 @@ module _ (f : ℕ → ℕ → ℕ) where
   pending_step x y (Respond r) (Some o) os w at = ap (λ v. without v (map (renamed_pending f) os)) w
       ∙ without_renamed x.worker os
 
-  pending_renamed : (past : List Event) → pending_calls (renamed f past) ≡ map (renamed_pending f)
+  pending_renamed : (past : List Event)
+      → pending_calls (rename_values f past) ≡ map (renamed_pending f)
       (pending_calls past)
   pending_renamed [] = refl
   pending_renamed (x ∷ past) =
@@ -627,7 +628,7 @@ module _ (f : ℕ → ℕ → ℕ) where
       ap (pending_after y (renamed_action f x.action o)) (pending_renamed past)
       ∙ pending_step x y x.action o (pending_calls past) refl refl
 
-  own_renamed : (w : ℕ) (past : List Event) → pending_of w (pending_calls (renamed f past))
+  own_renamed : (w : ℕ) (past : List Event) → pending_of w (pending_calls (rename_values f past))
       ≡ renamed_some (pending_of w (pending_calls past))
   own_renamed w past = ap (pending_of w) (pending_renamed past) ∙ pending_of_renamed w
       (pending_calls past)
@@ -641,19 +642,21 @@ module _ (f : ℕ → ℕ → ℕ) where
       completion n (renamed_reply (f o.object) o.op r) (renamed_pending f o) ∷ map
       (renamed_call f) cs) at
 
-  completed_renamed : (past : List Event) → completed_calls (renamed f past) ≡ map (renamed_call f)
+  completed_renamed : (past : List Event)
+      → completed_calls (rename_values f past) ≡ map (renamed_call f)
       (completed_calls past)
   completed_renamed [] = refl
   completed_renamed (x ∷ past) =
       let o = pending_of x.worker (pending_calls past) in
       let y = renamed_event x o in
-      ap (λ z. ended_call y (renamed_action f x.action o) z ++ completed_calls (renamed f past))
+      ap (λ z. ended_call y (renamed_action f x.action o) z
+      ++ completed_calls (rename_values f past))
       (own_renamed x.worker past)
       ∙ ap (λ zs. ended_call y (renamed_action f x.action o) (renamed_some o) ++ zs)
       (completed_renamed past)
       ∙ completed_step x y x.action o (completed_calls past) refl
 
-  clock_renamed : (past : List Event) → clock (renamed f past) ≡ clock past
+  clock_renamed : (past : List Event) → clock (rename_values f past) ≡ clock past
   clock_renamed [] = refl
   clock_renamed (x ∷ past) = refl
 
@@ -665,7 +668,7 @@ module _ (f : ℕ → ℕ → ℕ) where
   next_renamed kinds (Respond r) (Some o) h = suits_renamed (f o.object) o.op r h
 
   pub history_renamed : (kinds : List Kind) (past : List Event) → IsHistory kinds past
-      → IsHistory kinds (renamed f past)
+      → IsHistory kinds (rename_values f past)
   history_renamed kinds [] h = tt
   history_renamed kinds (x ∷ past) h =
       let o = pending_of x.worker (pending_calls past) in (
@@ -682,45 +685,45 @@ module _ (f : ℕ → ℕ → ℕ) where
       (clock past) ds
 
   to_renamed : (kinds : List Kind) (past : List Event) (ds : List Call) → RenamedOrder kinds past ds
-      → IsAnsweredLinearization kinds (renamed f past) ds
+      → IsAnsweredLinearization kinds (rename_values f past) ds
   to_renamed kinds past ds l =
-      subst (λ n. IsLinearOrder (IsRun (start kinds)) (completed_calls (renamed f past))
-      (pending_calls (renamed f past)) n ds) (sym (clock_renamed past))
-      (subst (λ xs. IsLinearOrder (IsRun (start kinds)) xs (pending_calls (renamed f past))
+      subst (λ n. IsLinearOrder (IsRun (start kinds)) (completed_calls (rename_values f past))
+      (pending_calls (rename_values f past)) n ds) (sym (clock_renamed past))
+      (subst (λ xs. IsLinearOrder (IsRun (start kinds)) xs (pending_calls (rename_values f past))
       (clock past) ds) (sym (completed_renamed past))
       (subst (λ ys. IsLinearOrder (IsRun (start kinds))
       (map (renamed_call f) (completed_calls past)) ys (clock past) ds)
       (sym (pending_renamed past)) l))
 
   from_renamed : (kinds : List Kind) (past : List Event) (ds : List Call)
-      → IsAnsweredLinearization kinds (renamed f past) ds → RenamedOrder kinds past ds
+      → IsAnsweredLinearization kinds (rename_values f past) ds → RenamedOrder kinds past ds
   from_renamed kinds past ds l =
       subst (λ n. IsLinearOrder (IsRun (start kinds)) (map (renamed_call f) (completed_calls past))
       (map (renamed_pending f) (pending_calls past)) n ds) (clock_renamed past)
       (subst (λ xs. IsLinearOrder (IsRun (start kinds)) xs
-      (map (renamed_pending f) (pending_calls past)) (clock (renamed f past)) ds)
+      (map (renamed_pending f) (pending_calls past)) (clock (rename_values f past)) ds)
       (completed_renamed past)
-      (subst (λ ys. IsLinearOrder (IsRun (start kinds)) (completed_calls (renamed f past)) ys
-      (clock (renamed f past)) ds) (pending_renamed past) l))
+      (subst (λ ys. IsLinearOrder (IsRun (start kinds)) (completed_calls (rename_values f past)) ys
+      (clock (rename_values f past)) ds) (pending_renamed past) l))
 
 module _ (kinds : List Kind) (f : ℕ → ℕ → ℕ) (past : List Event) (naming : IsNaming f)
     (h : IsHistory kinds past) where
-  renamed_is_linearizable : IsLinearizable kinds past → IsLinearizable kinds (renamed f past)
+  renamed_is_linearizable : IsLinearizable kinds past → IsLinearizable kinds (rename_values f past)
   renamed_is_linearizable l =
       let cs = map (known_at (clock past)) l.0 in
       let order = order_renamed f naming kinds (completed_calls past) (pending_calls past)
       (clock past) (histories_have_calls kinds past h) cs
       (responses_become_answers kinds past l.0 h l.1) in
-      let r = answers_become_responses kinds (renamed f past) (map (renamed_call f) cs)
+      let r = answers_become_responses kinds (rename_values f past) (map (renamed_call f) cs)
       (history_renamed f kinds past h) (to_renamed f kinds past (map (renamed_call f) cs) order)
       in
       (r.0, r.1)
 
-  is_linearizable_back : IsLinearizable kinds (renamed f past) → IsLinearizable kinds past
+  is_linearizable_back : IsLinearizable kinds (rename_values f past) → IsLinearizable kinds past
   is_linearizable_back l =
-      let ds = map (known_at (clock (renamed f past))) l.0 in
+      let ds = map (known_at (clock (rename_values f past))) l.0 in
       let order = from_renamed f kinds past ds (responses_become_answers kinds
-      (renamed f past) l.0 (history_renamed f kinds past h) l.1) in
+      (rename_values f past) l.0 (history_renamed f kinds past h) l.1) in
       let back = order_back f naming kinds (completed_calls past) (pending_calls past) (clock past)
       (histories_have_calls kinds past h) ds order in
       let r = answers_become_responses kinds past back.0 h back.1 in

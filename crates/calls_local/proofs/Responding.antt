@@ -24,7 +24,7 @@ use Rattle.calls_core.specs.Lists.{Each, EachPair}
 use Rattle.calls_core.specs.Histories.{clock, pending_of, without, invoked_by, pending_after}
 use Rattle.calls_core.specs.Histories.{pending_calls, completion, ended_call, completed_calls}
 use Rattle.calls_core.specs.Histories.{Suits, IsNext, IsHistory}
-use Rattle.calls_core.specs.Linearizations.{Gives, IsSequentialRun, IsRun, set_at, after, start}
+use Rattle.calls_core.specs.Linearizations.{Gives, IsLegalHistory, IsRun, set_at, after, start}
 use Rattle.calls_core.specs.Linearizations.{KeepsOrder, answered_one, answered_calls, IsLinearOrder}
 use Rattle.calls_core.specs.Completions.{is_response, IsLinearizationIn, known_at}
 use Rattle.calls_local.specs.Laws.{AnswersBecomeResponses}
@@ -70,7 +70,7 @@ workers_differ kinds [] h = tt
 workers_differ kinds (x ∷ past) h = differ_with kinds x x.action (pending_calls past)
     (pending_of x.worker (pending_calls past)) refl h.1 (workers_differ kinds past h.2)
 
--- the call of a worker that stands after those of others
+-- the pending call of a worker, after those of other workers
 call_behind : (us : List PendingCall) (o : PendingCall) (vs : List PendingCall)
     → Each (λ (p : PendingCall). Differ p o) us → pending_of o.worker (us ++ o ∷ vs) ≡ Some o
 call_behind [] o vs h = ap (λ b. cond b (Some o) (pending_of o.worker vs))
@@ -136,7 +136,7 @@ abbrev returned_at : ℕ → PendingCall → Reply → Event
 returned_at n o r = record { at = n; worker = o.worker; action = Respond r }
 
 module _ (kinds : List Kind) (t : ℕ) (answer : PendingCall → Option Reply) where
-  -- after a past in which the calls of os are pending, those of them that have an answer get a
+  -- after a history in which the calls of os are pending, those of them that have an answer get a
   -- response
   record Responding (n : ℕ) (past : List Event) (os : List PendingCall) : Type 0 where
     late : List Event
@@ -230,7 +230,7 @@ module _ (kinds : List Kind) (t : ℕ) (answer : PendingCall → Option Reply) w
           responding_some n past o os r e one.2 (ih (n + 1) (returned_at n o r ∷ past) us
           (omega arith) (omega arith) one.0 one.1 (differ_drop us o os d) s.1))
 
--- THE SAME MOVES BEFORE A MAP
+-- A PERMUTATION OF A MAPPED LIST
 
 pub record Unmapped {X Y : Type 0} (f : X → Y) (xs : List X) (bs : List Y) : Type 0 where
   pub ys : List X
@@ -276,7 +276,7 @@ unmapped {X} {Y} f = along_permutation (λ ls bs. (xs : List X) → map f xs ≡
               b ∷ a ∷ zs) rest;
         })
 
--- THE WHOLE
+-- THE WHOLE LINEARIZATION
 
 known_run_back : (t : ℕ) (s : ℕ → ℕ → ℕ) (cs : List Call) → IsRun s (map (known_at t) cs)
     → IsRun s cs
@@ -288,7 +288,7 @@ known_run_back t s (c ∷ cs) h = (
 )
 
 pub known_one_run_back : (t : ℕ) (n : ℕ → ℕ) (cs : List Call)
-    → IsSequentialRun n (map (known_at t) cs) → IsSequentialRun n cs
+    → IsLegalHistory n (map (known_at t) cs) → IsLegalHistory n cs
 known_one_run_back t n [] h = tt
 known_one_run_back t n (c ∷ cs) h = (h.0, known_one_run_back t (after n c.op c.reply) cs h.1)
 
@@ -353,7 +353,7 @@ responses_from_order Run kinds past t cs le h back suiting l =
       r.is,
     )
 
-pub one_run_suits : (n : ℕ → ℕ) (cs : List Call) → IsSequentialRun n cs
+pub one_run_suits : (n : ℕ → ℕ) (cs : List Call) → IsLegalHistory n cs
     → Each (λ (c : Call). Suits c.op c.reply) cs
 one_run_suits n [] h = tt
 one_run_suits n (c ∷ cs) h = (

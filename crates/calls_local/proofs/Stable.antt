@@ -1,4 +1,4 @@
--- A list in the order of its points is determined by what it has at each point.
+-- A list sorted by its points is determined by its calls at each point.
 use Rattle.std.proofs.Common.{◌≡◌, ℕ, zero, suc, ◌<◌, ◌≤◌, inl, inr, Bool, true, false, not, ◌&&◌}
 use Rattle.std.proofs.Common.{◌==◌, cond, nat_lt, List, [], ◌∷◌, refl, ap, sym, ◌∙◌, arith, subst}
 use Rattle.std.proofs.Common.{Less, Equal, Greater, is_lt}
@@ -19,7 +19,7 @@ use Rattle.calls_local.proofs.Merges.{by_points_part, by_points_rise}
 abbrev pub at_point : ℕ → Placed → Bool
 at_point v p = p.point == v
 
--- nothing stands at a point before the first
+-- no call has a point before that of the first
 early_none : (v : ℕ) (p : Placed) (ps : List Placed) → v < p.point → Each (NoLater p) ps
     → filter (at_point v) (p ∷ ps) ≡ []
 early_none v p ps lt h = filter_no (at_point v) p ps (ne_eqb p.point v (λ e. omega arith))
@@ -111,7 +111,7 @@ one_rises v (p ∷ ps) h = (
   one_rises v ps h.1,
 )
 
--- what ties with one of point v has point v
+-- calls that compare as equal have the same point
 ties_at : (p q : Placed) → ties (λ (x y : Placed). is_lt (nat_cmp x.point y.point)) p q
     ≡ at_point p.point q
 ties_at p q = ap (λ b. not b && not (is_lt (nat_cmp q.point p.point))) (lt_cmp p.point q.point) ∙ ap

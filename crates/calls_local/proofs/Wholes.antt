@@ -1,4 +1,4 @@
--- Linearizations of the whole from those of the parts, and the other way; and beginnings.
+-- Linearizations of the whole from those of the parts, and conversely; and of prefixes.
 use Rattle.std.proofs.Common.{◌≡◌, ℕ, zero, suc, ◌≤◌, ◌==◌, true, false, cond, List, [], ◌∷◌, ◌++◌}
 use Rattle.std.proofs.Common.{map, Option, Some, None, refl, ap, sym, ◌∙◌, arith, subst, slice_get}
 use Rattle.std.proofs.lemmas.Option.{same_Some, none-some}
@@ -13,11 +13,11 @@ use Rattle.calls_core.specs.declared.history.Placed.{Placed}
 use Rattle.calls_core.specs.Lists.{Each}
 use Rattle.calls_core.specs.Histories.{clock, pending_of, pending_calls, completed_calls, Takes}
 use Rattle.calls_core.specs.Histories.{IsNext, IsHistory, IsHistoryOf, is_on, part}
-use Rattle.calls_core.specs.Linearizations.{IsSequentialRun, initial, start, IsLinearOrder}
+use Rattle.calls_core.specs.Linearizations.{IsLegalHistory, initial, start, IsLinearOrder}
 use Rattle.calls_core.specs.Linearizations.{calls_on, pending_on}
 use Rattle.calls_core.specs.Points.{calls_of, placed_one, IsPlacedOrder}
 use Rattle.calls_core.specs.Completions.{IsLinearization, IsLinearizationOn, IsLinearizable}
-use Rattle.calls_core.specs.Completions.{IsLinearizableOn, known_at, settled}
+use Rattle.calls_core.specs.Completions.{IsLinearizableOn, known_at, settle_call}
 use Rattle.calls_core.specs.Calls.{Fitting}
 use Rattle.calls_core.specs.Outcomes.{IsOrderOf, HasOrderOf}
 use Rattle.calls_core.proofs.Lists.{each_weaker}
@@ -25,7 +25,7 @@ use Rattle.calls_core.proofs.Positions.{each_call_by, histories_have_calls, call
 use Rattle.calls_core.proofs.Settling.{settled_one_run, has_order_from, order_later}
 use Rattle.calls_core.proofs.Beginnings.{order_of_earlier, whole_of_earlier, history_earlier}
 use Rattle.calls_local.specs.Laws.{Locality, LinearizableByOrders, OneObject}
-use Rattle.calls_local.specs.Laws.{ABeginningIsLinearizable}
+use Rattle.calls_local.specs.Laws.{APrefixIsLinearizable}
 use Rattle.calls_local.proofs.Objects.{part_of_order}
 use Rattle.calls_local.proofs.Points.{order_on_has_points}
 use Rattle.calls_local.proofs.Parts.{part_history, part_history_of, part_clock, order_of_part}
@@ -44,12 +44,12 @@ module _ (kinds : List Kind) (past : List Event) (h : IsHistory kinds past) wher
       let t = clock past in
       let whole = responses_become_answers kinds past cs h l in
       let ds = calls_on k (map (known_at t) cs) in
-      let there : IsLinearOrder (IsSequentialRun (start kinds k)) (completed_calls (part k past))
+      let there : IsLinearOrder (IsLegalHistory (start kinds k)) (completed_calls (part k past))
       (pending_calls (part k past)) t ds =
-      order_of_part (IsSequentialRun (start kinds k)) kinds k t past ds h
+      order_of_part (IsLegalHistory (start kinds k)) kinds k t past ds h
       (part_of_order (start kinds) (completed_calls past) (pending_calls past) t
       (map (known_at t) cs) k whole) in
-      let r = responses_from_order (IsSequentialRun (start kinds k)) kinds (part k past) t ds
+      let r = responses_from_order (IsLegalHistory (start kinds k)) kinds (part k past) t ds
       (part_clock kinds k past h) (part_history kinds k past h)
       (λ es. known_one_run_back t (start kinds k) es) (one_run_suits (start kinds k) ds) there in
       (r.0, r.1)
@@ -57,17 +57,17 @@ module _ (kinds : List Kind) (past : List Event) (h : IsHistory kinds past) wher
   -- PARTS TO WHOLE
 
   part_placed : (k : ℕ) (ds : List Call) → IsLinearizationOn kinds k past ds
-      → IsPlacedOrder (IsSequentialRun (start kinds k)) (calls_on k (completed_calls past))
+      → IsPlacedOrder (IsLegalHistory (start kinds k)) (calls_on k (completed_calls past))
       (pending_on k (pending_calls past)) (clock past) (placed_one 0
-      (map (settled (clock (part k past)) (clock past)) ds))
+      (map (settle_call (clock (part k past)) (clock past)) ds))
   part_placed k ds l =
       let m = clock (part k past) in
-      let cs = map (settled m (clock past)) ds in
-      let order = order_from_responses (IsSequentialRun (start kinds k)) kinds (part k past)
+      let cs = map (settle_call m (clock past)) ds in
+      let order = order_from_responses (IsLegalHistory (start kinds k)) kinds (part k past)
       (clock past) ds (part_clock kinds k past h) (part_history kinds k past h)
       (settled_one_run m (clock past) (start kinds k) ds) l in
       order_on_has_points kinds k (completed_calls past) (pending_calls past) (clock past) cs
-      (histories_have_calls kinds past h) (order_from_part (IsSequentialRun (start kinds k))
+      (histories_have_calls kinds past h) (order_from_part (IsLegalHistory (start kinds k))
       kinds k (clock past) past cs h order)
 
   whole_linearizable : ((k : ℕ) → IsLinearizableOn kinds k past) → IsLinearizable kinds past
@@ -75,7 +75,7 @@ module _ (kinds : List Kind) (past : List Event) (h : IsHistory kinds past) wher
       let r = whole_placed kinds (completed_calls past) (pending_calls past) (clock past)
       (histories_have_calls kinds past h)
       (λ k. (
-        placed_one 0 (map (settled (clock (part k past)) (clock past)) (l k).0),
+        placed_one 0 (map (settle_call (clock (part k past)) (clock past)) (l k).0),
         part_placed k
             (l k).0 (l k).1,
       )) in
@@ -85,16 +85,16 @@ module _ (kinds : List Kind) (past : List Event) (h : IsHistory kinds past) wher
   -- BY THE KINDS OF THE OBJECTS
 
   pub order_on_part : (k t : ℕ) (kind : Kind) (cs : List Call) → slice_get kinds k ≡ Some kind
-      → IsOrderOf kind (part k past) t cs → IsLinearOrder (IsSequentialRun (start kinds k))
+      → IsOrderOf kind (part k past) t cs → IsLinearOrder (IsLegalHistory (start kinds k))
       (calls_on k (completed_calls past)) (pending_on k (pending_calls past)) t cs
   order_on_part k t kind cs e l =
-      order_from_part (IsSequentialRun (start kinds k)) kinds k t past cs h
-      (subst (λ (o : Option Kind). IsLinearOrder (IsSequentialRun (initial o))
+      order_from_part (IsLegalHistory (start kinds k)) kinds k t past cs h
+      (subst (λ (o : Option Kind). IsLinearOrder (IsLegalHistory (initial o))
       (completed_calls (part k past)) (pending_calls (part k past)) t cs) (sym e) l)
 
   pub order_placed_on : (k t : ℕ) (kind : Kind) (cs : List Call) → slice_get kinds k ≡ Some kind
       → clock past ≤ t → IsOrderOf kind (part k past) t cs
-      → IsPlacedOrder (IsSequentialRun (start kinds k)) (calls_on k (completed_calls past))
+      → IsPlacedOrder (IsLegalHistory (start kinds k)) (calls_on k (completed_calls past))
       (pending_on k (pending_calls past)) t (placed_one 0 cs)
   order_placed_on k t kind cs e le l =
       order_on_has_points kinds k (completed_calls past) (pending_calls past) t cs
@@ -107,14 +107,14 @@ module _ (kinds : List Kind) (past : List Event) (h : IsHistory kinds past) wher
       let t = clock past in
       let whole = responses_become_answers kinds past l.0 h l.1 in
       let ds = calls_on k (map (known_at t) l.0) in
-      let there : IsLinearOrder (IsSequentialRun (start kinds k)) (completed_calls (part k past))
+      let there : IsLinearOrder (IsLegalHistory (start kinds k)) (completed_calls (part k past))
       (pending_calls (part k past)) t ds =
-      order_of_part (IsSequentialRun (start kinds k)) kinds k t past ds h
+      order_of_part (IsLegalHistory (start kinds k)) kinds k t past ds h
       (part_of_order (start kinds) (completed_calls past) (pending_calls past) t
       (map (known_at t) l.0) k whole) in
       has_order_from kind (part k past) t ds (part_history_of kinds k kind past h e)
       (part_clock kinds k past h)
-      (subst (λ (o : Option Kind). IsLinearOrder (IsSequentialRun (initial o))
+      (subst (λ (o : Option Kind). IsLinearOrder (IsLegalHistory (initial o))
       (completed_calls (part k past)) (pending_calls (part k past)) t ds) e there)
 
   orders_make_whole : ((k : ℕ) (kind : Kind) → slice_get kinds k ≡ Some kind
@@ -126,7 +126,7 @@ module _ (kinds : List Kind) (past : List Event) (h : IsHistory kinds past) wher
       (c.0, c.1)
     where
       by_kind : (k : ℕ) (o : Option Kind) → slice_get kinds k ≡ o → (qs : List Placed)
-          × IsPlacedOrder (IsSequentialRun (start kinds k)) (calls_on k (completed_calls past))
+          × IsPlacedOrder (IsLegalHistory (start kinds k)) (calls_on k (completed_calls past))
           (pending_on k (pending_calls past)) (clock past) qs
       by_kind k None e = (
         [],
@@ -152,23 +152,10 @@ linearizable_by_orders = λ kinds past h. (
       orders_make_whole kinds past h l,
 )
 
--- BEGINNINGS
+-- PREFIXES
 
--- the part of a longer history ends with that of its beginning
-pub part_append : (k : ℕ) (late past : List Event) → (ls : List Event)
-    × (part k (late ++ past) ≡ ls ++ part k past)
-part_append k [] past = ([], refl)
-part_append k (x ∷ late) past =
-    let r = part_append k late past in
-    elim (is_on k x.action (pending_of x.worker (pending_calls (late ++ past)))) as (λ b.
-    (ls : List Event) × (cond b (x ∷ part k (late ++ past)) (part k (late ++ past)) ≡ ls
-    ++ part k past)) [
-      | true ↦ (x ∷ r.0, ap (λ zs. x ∷ zs) r.1)
-      | false ↦ r
-    ]
-
-pub a_beginning_is_linearizable : ABeginningIsLinearizable
-a_beginning_is_linearizable = λ kinds late past h l.
+pub a_prefix_is_linearizable : APrefixIsLinearizable
+a_prefix_is_linearizable = λ kinds late past h l.
     (let t = clock (late ++ past) in
     let begun = whole_of_earlier kinds late past h (
       map
@@ -178,15 +165,6 @@ a_beginning_is_linearizable = λ kinds late past h l.
     let r = answers_become_responses kinds past begun.0 (history_earlier kinds late past h)
     begun.1 in
     (r.0, r.1))
-
--- an order of the part of a longer history gives one of the part of its beginning
-pub order_of_part_before : (kinds : List Kind) (k : ℕ) (kind : Kind) (late past : List Event)
-    → IsHistory kinds (late ++ past) → slice_get kinds k ≡ Some kind
-    → HasOrderOf kind (part k (late ++ past)) → HasOrderOf kind (part k past)
-order_of_part_before kinds k kind late past h e l =
-    (let r = part_append k late past in
-    order_of_earlier kind r.0 (part k past) (subst (IsHistoryOf kind) r.1
-    (part_history_of kinds k kind (late ++ past) h e)) (subst (HasOrderOf kind) r.1 l))
 
 -- ONE OBJECT
 

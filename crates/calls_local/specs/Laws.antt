@@ -1,4 +1,4 @@
--- Theorems on every history.
+-- Theorems about every history.
 use Rattle.std.specs.Prelude.{◌≡◌, ◌↔◌, ℕ, ◌≤◌, List, [], ◌∷◌, ◌++◌, map, Some, slice_get}
 use Rattle.std.specs.List.{AllPairs}
 use Rattle.calls_core.specs.declared.history.Kind.{Kind}
@@ -9,17 +9,17 @@ use Rattle.calls_core.specs.declared.history.Placed.{Placed}
 use Rattle.calls_core.specs.Lists.{Each, EachPair}
 use Rattle.calls_core.specs.Histories.{clock, IsHistory, IsHistoryOf, completed_calls}
 use Rattle.calls_core.specs.Histories.{pending_calls, part}
-use Rattle.calls_core.specs.Linearizations.{IsSequentialRun, IsRun, start, IsLinearOrder}
+use Rattle.calls_core.specs.Linearizations.{IsLegalHistory, IsRun, start, IsLinearOrder}
 use Rattle.calls_core.specs.Linearizations.{IsAnsweredLinearization, IsAnsweredLinearizationOn}
 use Rattle.calls_core.specs.Linearizations.{calls_on, pending_on, KeepsOrder}
 use Rattle.calls_core.specs.Completions.{IsLinearization, IsLinearizable, IsLinearizableOn}
 use Rattle.calls_core.specs.Completions.{known_at}
 use Rattle.calls_core.specs.Calls.{AreCalls, AreCallsOf}
 use Rattle.calls_core.specs.Outcomes.{HasOrderOf}
-use Rattle.calls_core.specs.Points.{placed_one, by_points, merged, IsPlacedOrder, placed_on}
+use Rattle.calls_core.specs.Points.{placed_one, by_points, merge_calls, IsPlacedOrder, placed_on}
 use Rattle.calls_core.specs.Points.{Within, NoLater, calls_of}
 
--- the completed and pending calls of a history are as every history has them
+-- what holds of the completed and pending calls of every history
 abbrev pub HistoriesHaveCalls : Type 0
 HistoriesHaveCalls = (kinds : List Kind) (past : List Event) → IsHistory kinds past
     → AreCalls kinds (completed_calls past) (pending_calls past) (clock past)
@@ -33,19 +33,19 @@ APartIsAHistory = (kinds : List Kind) (k : ℕ) (past : List Event) → IsHistor
     × (clock (part k past) ≤ clock past)
     × ((kind : Kind) → slice_get kinds k ≡ Some kind → IsHistoryOf kind (part k past))
 
--- what a linearization has of one object is a linearization of that object's calls
+-- a linearization, restricted to one object, is a linearization of that object's calls
 abbrev pub PartsAreLinearized : Type 0
 PartsAreLinearized = (kinds : List Kind) (past : List Event) (cs : List Call)
     → IsAnsweredLinearization kinds past cs → (k : ℕ) → IsAnsweredLinearizationOn kinds k past
     (calls_on k cs)
 
--- a list that has of each object a linearization of that object's calls, merged by its points, is
--- one of all calls, in which each object keeps its order
+-- a list that is a linearization of each object's calls, if restricted to them, is one of all calls
+-- once it is merged by points; the calls of each object keep their order
 abbrev pub PartsMakeWhole : Type 0
 PartsMakeWhole = (kinds : List Kind) (past : List Event) (cs : List Call) → IsHistory kinds past
     → ((k : ℕ) → IsAnsweredLinearizationOn kinds k past (calls_on k cs))
-    → IsAnsweredLinearization kinds past (merged cs) × ((k : ℕ)
-    → calls_on k (merged cs) ≡ calls_on k cs)
+    → IsAnsweredLinearization kinds past (merge_calls cs) × ((k : ℕ)
+    → calls_on k (merge_calls cs) ≡ calls_on k cs)
 
 -- a linearization by later responses is one by answers
 abbrev pub ResponsesBecomeAnswers : Type 0
@@ -53,7 +53,7 @@ ResponsesBecomeAnswers = (kinds : List Kind) (past : List Event) (cs : List Call
     → IsHistory kinds past → IsLinearization kinds past cs
     → IsAnsweredLinearization kinds past (map (known_at (clock past)) cs)
 
--- and each linearization by answers is one by later responses, as it is known at the end
+-- and a linearization by answers is one by later responses, which count as ones at the end
 abbrev pub AnswersBecomeResponses : Type 0
 AnswersBecomeResponses = (kinds : List Kind) (past : List Event) (cs : List Call)
     → IsHistory kinds past → IsAnsweredLinearization kinds past cs
@@ -65,50 +65,49 @@ abbrev pub Locality : Type 0
 Locality = (kinds : List Kind) (past : List Event) → IsHistory kinds past
     → IsLinearizable kinds past ↔ ((k : ℕ) → IsLinearizableOn kinds k past)
 
--- the same by answers: exactly when the part on each object has an order of its kind
+-- the same by answers: exactly when the part of each object has an order of its kind
 abbrev pub LinearizableByOrders : Type 0
 LinearizableByOrders = (kinds : List Kind) (past : List Event) → IsHistory kinds past
     → IsLinearizable kinds past ↔ ((k : ℕ) (kind : Kind) → slice_get kinds k ≡ Some kind
     → HasOrderOf kind (part k past))
 
--- the same of a history of one object
+-- the same for a history of one object
 abbrev pub OneObject : Type 0
 OneObject = (kind : Kind) (past : List Event) → IsHistory (kind ∷ []) past
     → IsLinearizable (kind ∷ []) past ↔ HasOrderOf kind past
 
--- a beginning of a linearizable history is linearizable
-abbrev pub ABeginningIsLinearizable : Type 0
-ABeginningIsLinearizable = (kinds : List Kind) (late past : List Event)
+-- a prefix of a linearizable history is linearizable
+abbrev pub APrefixIsLinearizable : Type 0
+APrefixIsLinearizable = (kinds : List Kind) (late past : List Event)
     → IsHistory kinds (late ++ past) → IsLinearizable kinds (late ++ past)
     → IsLinearizable kinds past
 
--- in an order of the calls of one object each call has a point of its own time, and the points
--- ascend
+-- in an order of the calls of one object each call has a point between its invocation and its
+-- response, and the points never fall
 abbrev pub OrderHasPoints : Type 0
 OrderHasPoints = (kind : Kind) (m : ℕ → ℕ) (done : List Call) (pending : List PendingCall) (t : ℕ)
-    (cs : List Call) → AreCallsOf kind done pending t → IsLinearOrder (IsSequentialRun m) done
+    (cs : List Call) → AreCallsOf kind done pending t → IsLinearOrder (IsLegalHistory m) done
     pending t cs
-    → IsPlacedOrder (IsSequentialRun m) done pending t (placed_one 0 cs)
+    → IsPlacedOrder (IsLegalHistory m) done pending t (placed_one 0 cs)
 
--- the same of the calls of object k among those of many
+-- the same for the calls of object k among those of many
 abbrev pub OrderOnHasPoints : Type 0
 OrderOnHasPoints = (kinds : List Kind) (k : ℕ) (done : List Call) (pending : List PendingCall)
     (t : ℕ) (cs : List Call) → AreCalls kinds done pending t
-    → IsLinearOrder (IsSequentialRun (start kinds k)) (calls_on k done) (pending_on k pending) t cs
-    → IsPlacedOrder (IsSequentialRun (start kinds k)) (calls_on k done) (pending_on k pending) t
+    → IsLinearOrder (IsLegalHistory (start kinds k)) (calls_on k done) (pending_on k pending) t cs
+    → IsPlacedOrder (IsLegalHistory (start kinds k)) (calls_on k done) (pending_on k pending) t
     (placed_one 0 cs)
 
--- and the converse: if each call has a point of its own time and the points ascend, the calls
--- stand in real-time order
+-- and the converse: if each call has a point between its invocation and its response, and the
+-- points never fall, the calls keep the real-time order
 abbrev pub PointsKeepTheOrder : Type 0
 PointsKeepTheOrder = (ps : List Placed) → Each Within ps → EachPair NoLater ps
     → AllPairs KeepsOrder (calls_of ps)
 
--- a list that has a placed order for each object, in the order of all points, is a placed order of
--- all calls
+-- a list that has a placed order for each object, sorted by points, is a placed order of all calls
 abbrev pub PlacedPartsMakeWhole : Type 0
 PlacedPartsMakeWhole = (kinds : List Kind) (done : List Call) (pending : List PendingCall) (t : ℕ)
     (ps : List Placed)
-    → ((k : ℕ) → IsPlacedOrder (IsSequentialRun (start kinds k)) (calls_on k done)
+    → ((k : ℕ) → IsPlacedOrder (IsLegalHistory (start kinds k)) (calls_on k done)
     (pending_on k pending) t (placed_on k ps))
     → IsPlacedOrder (IsRun (start kinds)) done pending t (by_points ps)

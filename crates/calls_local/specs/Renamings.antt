@@ -13,7 +13,7 @@ use Rattle.calls_core.specs.Histories.{pending_of, pending_calls, IsHistory}
 use Rattle.calls_core.specs.Completions.{IsLinearizable}
 
 -- f k v is the new number of the value v of object k: equal only for equal values, and 0 for the
--- value at first
+-- initial value
 pub record IsNaming (f : ℕ → ℕ → ℕ) : Type 0 where
   pub first : (k : ℕ) → f k 0 ≡ 0
   pub one_to_one : (k u v : ℕ) → f k u ≡ f k v → u ≡ v
@@ -26,27 +26,27 @@ abbrev pub renamed_reply : (ℕ → ℕ) → Op → Reply → Reply
 renamed_reply f Get (Number n) = Number (f n)
 renamed_reply f op r = r
 
--- where the worker has this pending call
+-- the action of an event whose worker has this pending call
 abbrev pub renamed_action : (ℕ → ℕ → ℕ) → Action → Option PendingCall → Action
 renamed_action f (Invoke k op) o = Invoke k (renamed_op (f k) op)
 renamed_action f (Respond r) None = Respond r
 renamed_action f (Respond r) (Some o) = Respond (renamed_reply (f o.object) o.op r)
 
 -- the same history, in which each value that is put or got has its new number
-abbrev pub renamed : (ℕ → ℕ → ℕ) → List Event → List Event
-renamed f [] = []
-renamed f (x ∷ past) =
+abbrev pub rename_values : (ℕ → ℕ → ℕ) → List Event → List Event
+rename_values f [] = []
+rename_values f (x ∷ past) =
     record {
       at = x.at;
       worker = x.worker;
       action = renamed_action f x.action
           (pending_of x.worker (pending_calls past));
-    } ∷ renamed f past
+    } ∷ rename_values f past
 
 -- whether a history is linearizable does not depend on the numbers that the values of its cells and
 -- databases have
 abbrev pub NumbersAreNames : Type 0
 NumbersAreNames = (kinds : List Kind) (f : ℕ → ℕ → ℕ) (past : List Event) → IsNaming f
     → IsHistory kinds past
-    → IsHistory kinds (renamed f past) × (IsLinearizable kinds past
-    ↔ IsLinearizable kinds (renamed f past))
+    → IsHistory kinds (rename_values f past) × (IsLinearizable kinds past
+    ↔ IsLinearizable kinds (rename_values f past))

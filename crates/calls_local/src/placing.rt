@@ -1,4 +1,4 @@
-//! The calls of many objects in one order.
+//! Merges the calls of many objects into one order.
 ghost use Rattle.std.specs.Prelude.{◌≡◌, IfOk};
 ghost use Rattle.calls_core.specs.Points.{by_points};
 
@@ -12,8 +12,7 @@ fn point(placed: &Placed) -> usize
     placed.point
 }
 
-/// Puts calls in the order of their points, and those of one point in the order in which they
-/// stand.
+/// Sorts calls by their linearization points; calls with the same point keep their order.
 pub fn merge(calls: &mut Vec<Placed>) -> Result<(), AllocError>
     ensures { IfOk result (λ u. calls.new.items ≡ by_points calls.old.items) }
 {

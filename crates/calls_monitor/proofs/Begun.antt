@@ -1,4 +1,4 @@
--- How many calls were begun: no more than the positions of their events allow.
+-- How many calls were invoked: no more than the positions of their events allow.
 use Rattle.std.proofs.Common.{◌≡◌, ℕ, ◌+◌, ◌-◌, ◌^◌, ◌<◌, ◌≤◌, Bool, true, false, ◌==◌, cond, arith}
 use Rattle.std.proofs.Common.{List, [], ◌∷◌, length, Option, Some, None, refl}
 use Rattle.std.proofs.lemmas.List.{length-append}
@@ -14,22 +14,13 @@ use Rattle.calls_core.specs.Histories.{pending_calls, ended_call, completed_call
 use Rattle.calls_core.specs.Histories.{IsNextOf, IsHistoryOf}
 use Rattle.calls_core.proofs.Counting.{count_cons}
 use Rattle.calls_counts.specs.Faults.{is_advance, invokes_advance, advances_invoked}
-use Rattle.calls_monitor.specs.kept.Watching.{begun}
+use Rattle.calls_monitor.specs.kept.Watching.{call_count}
+use Rattle.calls_tickets.proofs.Histories.{without_long as without_length}
 
--- how many calls an event begins
+-- how many calls an event invokes
 abbrev pub one : Action → ℕ
 one (Invoke k op) = 1
 one (Respond r) = 0
-
-without_length : (w : ℕ) (os : List PendingCall) (o : PendingCall) → pending_of w os ≡ Some o
-    → length (without w os) + 1 ≡ length os
-without_length w [] o e = absurd (none-some o e)
-without_length w (y ∷ os) o e =
-    elim (y.worker == w) as (λ b. cond b (Some y) (pending_of w os) ≡ Some o
-    → length (cond b os (y ∷ without w os)) + 1 ≡ length (y ∷ os)) [
-      | true ↦ λ is. omega arith
-      | false ↦ λ is. omega (arith, without_length w os o is)
-    ] e
 
 pending_step : (kind : Kind) (x : Event) (action : Action) (os : List PendingCall)
     (o : Option PendingCall) → pending_of x.worker os ≡ o → IsNextOf kind action o
@@ -48,7 +39,7 @@ ended_one kind x (Respond r) None h = absurd h
 ended_one kind x (Respond r) (Some o) h = refl
 
 pub begun_next : (kind : Kind) (x : Event) (past : List Event) → IsHistoryOf kind (x ∷ past)
-    → begun (x ∷ past) ≡ begun past + one x.action
+    → call_count (x ∷ past) ≡ call_count past + one x.action
 begun_next kind x past h =
     let os = pending_calls past in
     let o = pending_of x.worker os in
@@ -60,7 +51,7 @@ begun_next kind x past h =
 
 -- two events of each completed call and one of each pending call
 events_made : (kind : Kind) (past : List Event) → IsHistoryOf kind past
-    → length (completed_calls past) + begun past ≡ length past
+    → length (completed_calls past) + call_count past ≡ length past
 events_made kind [] h = refl
 events_made kind (x ∷ past) h =
     let o = pending_of x.worker (pending_calls past) in
@@ -77,7 +68,7 @@ within_clock kind [] h = omega arith
 within_clock kind (x ∷ past) h = omega (arith, h.0, within_clock kind past h.2)
 
 pub begun_few : (kind : Kind) (x : Event) (past : List Event) → IsHistoryOf kind (x ∷ past)
-    → x.at < 2 ^ 64 → length (pending_calls past) ≤ WORKERS → begun past ≤ 2 ^ 64 - 2
+    → x.at < 2 ^ 64 → length (pending_calls past) ≤ WORKERS → call_count past ≤ 2 ^ 64 - 2
 begun_few kind x past h fits few =
     omega (arith, h.0, within_clock kind past h.2, events_made kind past h.2, fits, few)
 
@@ -89,9 +80,9 @@ invokes_one : (a : Action) → cond (invokes_advance a) 1 0 ≤ one a
 invokes_one (Invoke k op) = advance_one (is_advance op)
 invokes_one (Respond r) = omega arith
 
--- no more advances were invoked
+-- no more advances than calls were invoked
 pub advances_few : (kind : Kind) (past : List Event) → IsHistoryOf kind past
-    → advances_invoked past ≤ begun past
+    → advances_invoked past ≤ call_count past
 advances_few kind [] h = omega arith
 advances_few kind (x ∷ past) h =
     omega (

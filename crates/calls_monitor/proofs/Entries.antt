@@ -72,11 +72,3 @@ pub get_set : {X : Type 0} (xs : List X) (k : ℕ) (x y : X) → slice_get xs k 
 get_set [] k x y e = absurd (cc)
 get_set (z ∷ xs) zero x y e = refl
 get_set (z ∷ xs) (suc k) x y e = get_set xs k x y e
-
-pub get_other : {X : Type 0} (xs : List X) (j k : ℕ) (y : X) → (j ≡ k → ⊥)
-    → slice_get (set xs j y) k ≡ slice_get xs k
-get_other [] j k y other = refl
-get_other (z ∷ xs) zero zero y other = absurd (other refl)
-get_other (z ∷ xs) zero (suc k) y other = refl
-get_other (z ∷ xs) (suc j) zero y other = refl
-get_other (z ∷ xs) (suc j) (suc k) y other = get_other xs j k y (λ e. other (omega (arith, e)))

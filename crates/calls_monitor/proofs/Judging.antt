@@ -31,12 +31,14 @@ use Rattle.calls_monitor.specs.declared.monitor.Rejection.{Rejection}
 use Rattle.calls_monitor.specs.declared.monitor.Rejection.TheVariants.{Refused, Full}
 use Rattle.calls_monitor.specs.Refusals.{Explains}
 use Rattle.calls_monitor.specs.Monitors.{IsWatched, IsFine, Verdict}
-use Rattle.calls_monitor.specs.kept.Watching.{entry, HasRoom, WatchesOf, Watches, IsHandedTo}
-use Rattle.calls_monitor.specs.kept.Watching.{IsHanded}
+use Rattle.calls_monitor.specs.kept.Watching.{entry, WatchesOf, Watches, IsHandedTo}
+use Rattle.calls_counts.specs.Monitors.{HasRoom}
+use Rattle.calls_monitor.specs.kept.Watching.{IsPassed}
 use Rattle.calls_monitor.proofs.Begun.{begun_few}
 use Rattle.calls_monitor.proofs.Objects.{order_of_watch, none_of, roomy}
 use Rattle.calls_monitor.proofs.Entries.{is_his, IsAt, at_position, at_none}
-use Rattle.calls_monitor.proofs.Entries.{get_set, get_other}
+use Rattle.calls_monitor.proofs.Entries.{get_set}
+use Rattle.calls_semaphores.proofs.Scanning.{get_other}
 
 -- THE OBJECT OF AN EVENT
 
@@ -192,10 +194,10 @@ module _ (kinds : List Kind) (past : List Event) (x : Event) (h : IsHistory kind
           (begun_few kind x (part j past) own_history fits (omega (arith, own_few, few)))
           kind own_watch.0 own_history.2 own_watch.2))
 
-      pub handed : (result : Result Unit Rejection) → IsHanded old.objects.items new.objects.items j
+      pub passed : (result : Result Unit Rejection) → IsPassed old.objects.items new.objects.items j
           x
           result → Verdict kinds past x new result
-      handed result t = judged result (t own_watch.0 own_watch.1)
+      passed result t = judged result (t own_watch.0 own_watch.1)
 
 -- EVENTS
 
@@ -216,10 +218,10 @@ module _ (kinds : List Kind) (past : List Event) (x : Event) (h : IsHistory kind
       → (new : Monitor) → new.pending.items ≡ old.pending.items ++ record {
         worker = x.worker;
         object = j;
-      } ∷ [] → (result : Result Unit Rejection) → IsHanded old.objects.items new.objects.items j x
+      } ∷ [] → (result : Result Unit Rejection) → IsPassed old.objects.items new.objects.items j x
       result → Verdict kinds past x new result
   invoked j op is less new more result t =
-      handed kinds past x h fits old w j
+      passed kinds past x h fits old w j
       (ap (λ a. object_of a (pending_of x.worker (pending_calls past))) is)
       (subst (λ a. HasRoom a (length (pending_calls past))) (sym is) (omega (arith, entries, less)))
       (omega (arith, entries, few)) new
@@ -238,14 +240,14 @@ module _ (kinds : List Kind) (past : List Event) (x : Event) (h : IsHistory kind
   pub responded : (r : Reply) → x.action ≡ Respond r → (i : ℕ) (p : Pending)
       → position (is_his x.worker) old.pending.items ≡ Some i → p ≡ get_or old.pending.items i p
       → (new : Monitor) → new.pending.items ≡ remove old.pending.items i
-      → (result : Result Unit Rejection) → IsHanded old.objects.items new.objects.items p.object x
+      → (result : Result Unit Rejection) → IsPassed old.objects.items new.objects.items p.object x
       result → Verdict kinds past x new result
   responded r is i p found got new less result t =
       let at : IsAt x.worker (pending_calls past) i p =
       at_position x.worker (pending_calls past) i p
       (subst (λ ps. position (is_his x.worker) ps ≡ Some i) w.pending found)
       (got ∙ ap (λ ps. get_or ps i p) w.pending) in
-      handed kinds past x h fits old w p.object
+      passed kinds past x h fits old w p.object
       (ap (λ a. object_of a (pending_of x.worker (pending_calls past))) is
       ∙ ap (object_of (Respond r)) at.his ∙ ap (λ (q : Pending). Some q.object) (sym at.same))
       (subst (λ a. HasRoom a (length (pending_calls past))) (sym is) tt)

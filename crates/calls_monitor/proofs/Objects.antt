@@ -1,4 +1,4 @@
--- What is kept of one object, kind by kind.
+-- The monitor of one object, kind by kind.
 use Rattle.std.proofs.Common.{◌≡◌, ℕ, ◌+◌, ◌-◌, ◌^◌, ◌≤◌, arith, List, [], ◌∷◌, length}
 use Rattle.std.proofs.Common.{None, Result, Ok, Err, MatchResult, IsErrAnd, ap, sym, ◌∙◌, subst}
 use Rattle.std.proofs.lemmas.List.{length-map}
@@ -13,9 +13,9 @@ use Rattle.calls_core.specs.Histories.{clock, pending_calls, IsHistoryOf}
 use Rattle.calls_core.specs.Outcomes.{HasOrderOf}
 use Rattle.calls_core.proofs.Lists.{all_pairs_from_each}
 use Rattle.calls_core.specs.Linearizations.{KeepsOrder}
-use Rattle.calls_counts.specs.declared.state.Noted.{Noted}
+use Rattle.calls_counts.specs.declared.state.NotedCall.{NotedCall}
 use Rattle.calls_counts.specs.declared.monitor.Monitor.{Monitor as CountMonitor}
-use Rattle.calls_counts.specs.Monitors.{IsTaken, Starts as CountStarts}
+use Rattle.calls_counts.specs.Monitors.{IsTaken, Starts as CountStarts, HasRoom}
 use Rattle.calls_counts.specs.Watching.{Watching}
 use Rattle.calls_counts.proofs.Watching.{taken_by}
 use Rattle.calls_tickets.specs.declared.pending.PendingTicket.{PendingTicket}
@@ -33,7 +33,7 @@ use Rattle.calls_monitor.specs.declared.object.Refusal.TheVariants.{Ticket as Ti
 use Rattle.calls_monitor.specs.declared.object.Refusal.TheVariants.{Units as UnitRefusal}
 use Rattle.calls_monitor.specs.Refusals.{Explains}
 use Rattle.calls_monitor.specs.Monitors.{IsWatched}
-use Rattle.calls_monitor.specs.kept.Watching.{begun, WatchesOf, HasRoom, RoomFor, VerdictOf}
+use Rattle.calls_monitor.specs.kept.Watching.{call_count, WatchesOf, RoomFor, VerdictOf}
 use Rattle.calls_monitor.proofs.Begun.{one, begun_next, advances_few}
 
 -- NO EVENTS
@@ -107,14 +107,14 @@ at_most (Invoke k op) m n e h = omega (arith, e, h)
 at_most (Respond r) m n e h = tt
 
 module _ (x : Event) (past : List Event) (a : Action)
-    (room : HasRoom a (length (pending_calls past))) (few : begun past ≤ 2 ^ 64 - 2) where
+    (room : HasRoom a (length (pending_calls past))) (few : call_count past ≤ 2 ^ 64 - 2) where
   count_roomy : (n : ℕ) (m : CountMonitor) → IsHistoryOf (Eventcount n) past → IsTaken n past m
       → RoomFor (Count m) a
   count_roomy n m h t =
       let os = m.pending.items in
       let same : length os ≡ length (pending_calls past) =
-      sym (length-map os (λ (u : Noted). u.call)) ∙ ap length t.watches.holds.pending_is in
-      let upto : m.begun ≤ begun past = omega (
+      sym (length-map os (λ (u : NotedCall). u.call)) ∙ ap length t.watches.holds.pending_is in
+      let upto : m.begun ≤ call_count past = omega (
         arith,
         t.watches.holds.begun_is,
         advances_few (Eventcount n) past h,
@@ -168,21 +168,21 @@ grown (Respond r) old new n g up = λ i. omega (arith, g i, up i)
 units_taken : (x : Event) (past : List Event) (old new : UnitMonitor) (u : Unit)
     → UnitJudges old new x (Ok u) → Grows x.action old.bank.added.items new.bank.added.items
     → (kind : Kind) → IsHistoryOf kind (x ∷ past) → WatchesOf kind past (Units old)
-    → begun past ≤ 2 ^ 64 - 2 → WatchesOf kind (x ∷ past) (Units new)
+    → call_count past ≤ 2 ^ 64 - 2 → WatchesOf kind (x ∷ past) (Units new)
 units_taken x past old new u judges grows (Eventcount n) h w few = absurd w
 units_taken x past old new u judges grows Sequencer h w few = absurd w
 units_taken x past old new u judges grows (Semaphores units) h w few = (
   judges units past h w.0 (λ i. omega (arith, w.1 i, few)),
   subst (λ n. UpTo n new.bank.added.items) (sym (begun_next (Semaphores units) x past h))
-      (grown x.action old.bank.added.items new.bank.added.items (begun past) grows w.1),
+      (grown x.action old.bank.added.items new.bank.added.items (call_count past) grows w.1),
 )
 units_taken x past old new u judges grows Cell h w few = absurd w
 units_taken x past old new u judges grows (Database n) h w few = absurd w
 
--- it explains what it refuses
+-- the monitor of semaphores explains what it rejects
 units_explained : (x : Event) (past : List Event) (old new : UnitMonitor) (f : Fault)
     → UnitJudges old new x (Err f) → (kind : Kind) → IsHistoryOf kind (x ∷ past)
-    → WatchesOf kind past (Units old) → begun past ≤ 2 ^ 64 - 2
+    → WatchesOf kind past (Units old) → call_count past ≤ 2 ^ 64 - 2
     → Explains kind past x (UnitRefusal f)
 units_explained x past old new f judges (Eventcount n) h w few = absurd w
 units_explained x past old new f judges Sequencer h w few = absurd w
@@ -196,7 +196,7 @@ pub units_judged : (x : Event) (past : List Event) (old new : UnitMonitor)
     → Grows x.action old.bank.added.items new.bank.added.items
     → MatchResult r (λ u. mapped ≡ Ok u) (λ f. IsErrAnd mapped (λ e. e ≡ UnitRefusal f))
     → (kind : Kind) → IsHistoryOf kind (x ∷ past) → WatchesOf kind past (Units old)
-    → begun past ≤ 2 ^ 64 - 2 → VerdictOf kind past x (Units new) mapped
+    → call_count past ≤ 2 ^ 64 - 2 → VerdictOf kind past x (Units new) mapped
 units_judged x past old new (Ok u) mapped judges grows is kind h w few =
     subst (VerdictOf kind past x (Units new)) (sym is)
     (units_taken x past old new u judges grows kind h w few)

@@ -19,7 +19,7 @@ use Rattle.calls_monitor.proofs.Judging.{fine}
 
 -- OPENING
 
--- the watch of an object that has no events yet
+-- the monitor of an object before the first event
 abbrev pub IsOpenedAt : List Watch → ℕ → Kind → Type 0
 IsOpenedAt ws k kind = (w : Watch) × (slice_get ws k ≡ Some w) × WatchesOf kind [] w
 

@@ -1,4 +1,4 @@
--- What a monitor of a whole history says.
+-- What a monitor of a whole history reports.
 use Rattle.std.specs.Prelude.{◌≡◌, ℕ, ◌+◌, ◌<◌, List, ◌∷◌, length, reverse, slice_get}
 use Rattle.std.specs.Prelude.{Option, Some, None, Result, Ok, Err, false}
 use Rattle.calls_core.specs.declared.history.TheConstants.{WORKERS}
@@ -50,7 +50,7 @@ pub record IsFull (past : List Event) (x : Event) : Type 0 where
   pub invocation : is_response x.action ≡ false
   pub full : length (pending_calls past) ≡ WORKERS
 
--- of every history that the old monitor represents: the answer after the event x
+-- the result of event x, for a history that the old monitor represents
 abbrev pub Verdict : List Kind → List Event → Event → Monitor → Result Unit Rejection → Type 0
 Verdict kinds past x new (Ok u) = IsFine kinds (x ∷ past) × Watches kinds (x ∷ past) new
 Verdict kinds past x new (Err (Refused r)) = IsRefused kinds past x r

@@ -9,8 +9,8 @@ use Rattle.calls_semaphores.specs.Monitors.{IsRefusedAt as IsUnitRefused}
 use Rattle.calls_monitor.specs.declared.object.Refusal.{Refusal}
 use Rattle.calls_monitor.specs.declared.object.Refusal.TheVariants.{Count, Ticket, Units}
 
--- of an object of this kind, after the events of its calls: what the monitor of its kind says of
--- the event x. With it those calls have no linearization
+-- what the monitor of an object of this kind reports of the event x, after the events of its calls:
+-- with x these calls have no linearization
 abbrev pub Explains : Kind → List Event → Event → Refusal → Type 0
 Explains (Eventcount n) past x (Count f) = IsCountRefused n past x f
 Explains Sequencer past x (Ticket f) = IsTicketRefused past x f.call

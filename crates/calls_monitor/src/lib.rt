@@ -1,4 +1,4 @@
-//! One monitor for a history of the calls of many objects.
+//! A monitor of a history of the calls of many objects.
 #![tactic(auto)]
 
 mod monitor;

@@ -4,7 +4,7 @@ ghost use Rattle.std.specs.Prelude.{◌≡◌, ◌==◌, [], IfOk};
 ghost use Rattle.std.specs.List.{position};
 ghost use Rattle.calls_monitor.specs.declared.monitor.Pending.{Pending};
 ghost use Rattle.calls_monitor.specs.Monitors.{Judges};
-ghost use Rattle.calls_monitor.specs.kept.Watching.{Watches, IsHanded};
+ghost use Rattle.calls_monitor.specs.kept.Watching.{Watches, IsPassed};
 
 use crate::Refusal;
 use crate::object::Watch;
@@ -12,7 +12,7 @@ use arrayvec::ArrayVec;
 use calls_core::{Action, Event, Kind, WORKERS};
 use std::alloc::{AllocError, Global};
 
-/// Whose call is pending, and of which object.
+/// The worker and the object of a pending call.
 #[derive(Clone, Copy, Default)]
 pub(crate) struct Pending {
     /// The worker.
@@ -21,16 +21,16 @@ pub(crate) struct Pending {
     pub(crate) object: usize,
 }
 
-/// What is kept of the events so far.
+/// The state after the events so far.
 #[derive(Drop)]
 pub struct Monitor {
-    /// What is kept of the calls of each object.
+    /// The monitor of each object.
     pub(crate) objects: Vec<Watch>,
     /// The pending calls, in the order of their invocations.
     pub(crate) pending: ArrayVec<Pending, WORKERS>,
 }
 
-/// The calls of one object have no linearization, and so the history has none.
+/// Which object's calls have no linearization, so that the history has none, and why.
 #[derive(Clone, Copy, Debug, PartialEq, Eq)]
 pub struct Refused {
     /// The index of the object.
@@ -42,9 +42,9 @@ pub struct Refused {
 /// Why a monitor doesn't accept an event.
 #[derive(Clone, Copy, Debug, PartialEq, Eq)]
 pub enum Rejection {
-    /// The events up to this one have no linearization. After that the monitor has no use.
+    /// The events up to this one have no linearization. The monitor must not be used again.
     Refused(Refused),
-    /// The event invokes a call while `WORKERS` calls are pending. The monitor is as before.
+    /// The event invokes a call while `WORKERS` calls are pending. The monitor is unchanged.
     Full,
 }
 
@@ -56,7 +56,7 @@ fn find(pending: &[Pending], worker: usize) -> Option<usize>
 }
 
 impl Monitor {
-    /// Makes a monitor of the objects of these kinds. This allocates, and `event` does not.
+    /// Returns a monitor of objects of these kinds. This allocates, and `event` does not.
     pub fn open(alloc: Global, kinds: &[Kind]) -> Result<Self, AllocError>
         ensures { IfOk result (Watches kinds.now []) }
     {
@@ -70,7 +70,7 @@ impl Monitor {
         })
     }
 
-    /// Takes in an event, or returns why it doesn't.
+    /// Judges the next event, or returns why the monitor does not accept it.
     pub fn event(&mut self, event: Event) -> Result<(), Rejection>
         ensures { Judges self.old self.new event result }
     {
@@ -85,22 +85,22 @@ impl Monitor {
                     worker: event.worker,
                     object,
                 });
-                self.hand(object, event)
+                self.pass_to_object(object, event)
             }
             Action::Respond(_reply) => {
                 let Some(i) = find(self.pending.as_slice(), event.worker) else {
                     return Ok(());
                 };
                 let object = self.pending.remove(i).object;
-                self.hand(object, event)
+                self.pass_to_object(object, event)
             }
         }
     }
 
-    /// Hands an event to the monitor of its object.
-    fn hand(&mut self, object: usize, event: Event) -> Result<(), Rejection>
+    /// Passes an event to the monitor of its object.
+    fn pass_to_object(&mut self, object: usize, event: Event) -> Result<(), Rejection>
         ensures pending { self.new.pending ≡ self.old.pending }
-        ensures handed { IsHanded self.old.objects.items self.new.objects.items object event
+        ensures passed { IsPassed self.old.objects.items self.new.objects.items object event
             result }
     {
         if object >= self.objects.len() {

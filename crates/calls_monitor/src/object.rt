@@ -1,7 +1,8 @@
-//! What is kept of the calls of one object.
+//! The monitor of one object.
 ghost use Rattle.std.specs.Prelude.{◌↔◌, [], IfOk, IsTrue};
 ghost use Rattle.calls_monitor.specs.declared.object.Watch.TheVariants.{Count};
-ghost use Rattle.calls_monitor.specs.kept.Watching.{WatchesOf, HasRoom, RoomFor, JudgesOf};
+ghost use Rattle.calls_monitor.specs.kept.Watching.{WatchesOf, RoomFor, JudgesOf};
+ghost use Rattle.calls_counts.specs.Monitors.{HasRoom};
 
 use calls_core::{Action, Event, Kind, WORKERS};
 use std::alloc::{AllocError, Global};
@@ -22,15 +23,16 @@ pub(crate) enum Watch {
 /// Why the calls of one object have no linearization.
 #[derive(Clone, Copy, Debug, PartialEq, Eq)]
 pub enum Refusal {
-    /// It is an eventcount.
+    /// Of an eventcount.
     Count(calls_counts::Refusal),
-    /// It is a sequencer.
+    /// Of a sequencer.
     Ticket(calls_tickets::Refused),
-    /// It is semaphores.
+    /// Of semaphores.
     Units(calls_semaphores::Fault),
 }
 
-/// Returns whether a monitor with so many pending calls has room for one that an event begins.
+/// Returns whether a monitor with `pending` pending calls has room for the call that an event
+/// invokes.
 fn has_room(action: Action, pending: usize) -> bool
     ensures { IsTrue result ↔ HasRoom action pending }
 {
@@ -40,7 +42,7 @@ fn has_room(action: Action, pending: usize) -> bool
     }
 }
 
-/// Returns whether an eventcount's monitor can take in an event.
+/// Returns whether the monitor of an eventcount has room for an event, and can count one more call.
 fn has_room_to_count(monitor: &calls_counts::Monitor, action: Action) -> bool
     ensures { IsTrue result ↔ RoomFor (Count monitor.now) action }
 {
@@ -50,7 +52,7 @@ fn has_room_to_count(monitor: &calls_counts::Monitor, action: Action) -> bool
 }
 
 impl Watch {
-    /// Begins to watch an object.
+    /// Returns the monitor of an object of this kind.
     pub(crate) fn open(alloc: Global, kind: &Kind) -> Result<Watch, AllocError>
         ensures { IfOk result (WatchesOf kind.now []) }
     {
@@ -76,7 +78,7 @@ impl Watch {
         }
     }
 
-    /// Takes in an event of the object's calls, or returns why those have no linearization.
+    /// Judges the next event of the object's calls, or returns why these have no linearization.
     pub(crate) fn event(&mut self, event: Event) -> Result<(), Refusal>
         requires { RoomFor self.old event.action }
         ensures { JudgesOf self.old self.new event result }

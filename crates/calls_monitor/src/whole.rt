@@ -1,4 +1,4 @@
-//! A whole history, given at once.
+//! Monitors a whole history that is given at once.
 ghost use Rattle.std.specs.Prelude.{IfOk, reverse};
 ghost use Rattle.calls_core.specs.Histories.{IsHistory};
 ghost use Rattle.calls_monitor.specs.Monitors.{IsWatchedTo};
@@ -16,7 +16,7 @@ pub struct Stop {
     pub rejection: Rejection,
 }
 
-/// Hands the events of a history to a monitor, up to the first that it doesn't accept.
+/// Passes the events of a history to a monitor, and returns the first that it doesn't accept.
 pub fn watch(alloc: Global, kinds: &[Kind], events: &[Event]) -> Result<Option<Stop>, AllocError>
     requires { IsHistory kinds.now (reverse events.now) }
     ensures { IfOk result (IsWatchedTo kinds.now events.now) }

@@ -9,18 +9,16 @@ use Rattle.ec_core.specs.declared.act.Act.TheVariants as acts
 use Rattle.ec_core.specs.declared.act.Reply.{Reply}
 use Rattle.ec_core.specs.declared.act.Reply.TheVariants as replies
 use Rattle.ec_core.specs.declared.act.Entry.{Entry}
-use Rattle.ec_core.specs.Calls.{CallSoFar, under_way, gone_on, is_pending}
+use Rattle.ec_core.specs.Calls.{CallSoFar, under_way, call_with_act, is_pending}
 use Rattle.ec_core.specs.Rounds.{position_of}
 use Rattle.ec_order.specs.Calls.{finished_calls, ended_by, call_of_entries}
-use Rattle.calls_kernel.specs.Seen.{is_call}
+use Rattle.calls_kernel.specs.Outside.{is_call}
 use Rattle.calls_replay.specs.kept.Going.{IsFree, IsGoing, HasGone, Goes}
+use Rattle.ec_core.proofs.shared.Stepping.{entry}
 
-abbrev pub entry : ℕ → Act → Reply → Entry
-entry w act reply = record { worker = w; act = act; reply = reply }
-
--- the call of w after its entry
+-- the pending call of w after its entry
 abbrev left : ℕ → Act → Reply → List Entry → Option CallSoFar
-left w act reply past = cond (is_pending reply) (gone_on act past (under_way w past)) None
+left w act reply past = cond (is_pending reply) (call_with_act act past (under_way w past)) None
 
 way_next : (v w : ℕ) (act : Act) (reply : Reply) (past : List Entry)
     → under_way v (entry w act reply ∷ past)
@@ -41,9 +39,9 @@ way_other v w act reply past other =
     ∙ ap (λ b. cond b (left v act reply past) (under_way v past))
     (ne_eqb w v (λ e. other (sym e)))
 
--- the act that begins a call begins one whatever was under way
+-- the act that begins a call begins one, whatever call was pending
 begins : (act : Act) (past : List Entry) (o : Option CallSoFar) → is_call act ≡ true
-    → gone_on act past o ≡ Some (record { op = act; moments = past ∷ [] })
+    → call_with_act act past o ≡ Some (record { op = act; moments = past ∷ [] })
 begins (acts.Advance e) past o c = refl
 begins (acts.Read e) past o c = refl
 begins (acts.Await e v) past o c = refl
@@ -55,7 +53,7 @@ begins (acts.Hand e b) past o c = cc
 
 module _ (t : Tables) where
   finished_next : (w : ℕ) (act : Act) (reply : Reply) (past : List Entry) (o : Option CallSoFar)
-      → gone_on act past (under_way w past) ≡ o
+      → call_with_act act past (under_way w past) ≡ o
       → finished_calls t (entry w act reply ∷ past)
       ≡ finished_calls t past ++ ended_by t (entry w act reply) o
   unfolding finished_calls
@@ -84,7 +82,7 @@ module _ (t : Tables) where
   all_free v w act reply past final others =
       elim (w == v) as (λ b. (w == v) ≡ b → cond b (left v act reply past) (under_way v past) ≡ None) [
         | true ↦ λ e.
-            ap (λ b. cond b (gone_on act past (under_way v past)) None) final
+            ap (λ b. cond b (call_with_act act past (under_way v past)) None) final
         | false ↦ λ e. others (λ same. absurd_of w v e (sym same))
       ] refl
     where
@@ -117,7 +115,7 @@ module _ (t : Tables) where
 
   -- THE OTHERS
 
-  -- an entry more leaves the first position
+  -- one more entry does not change the first position
   first_kept : (late : List Entry) (ms : List (List Entry)) → 0 < length ms
       → position_of (late ∷ ms) (length (late ∷ ms) - 1) ≡ position_of ms (length ms - 1)
   first_kept late [] h = absurd (omega arith)
@@ -128,9 +126,9 @@ module _ (t : Tables) where
 
   goes_on : (past : List Entry) (w : ℕ) (act : Act) (late : List Entry)
       → (g : IsGoing t past w act late)
-      → gone_on acts.Go late (under_way w late)
+      → call_with_act acts.Go late (under_way w late)
       ≡ Some (record { op = act; moments = late ∷ g.moments })
-  goes_on past w act late g = ap (gone_on acts.Go late) g.own
+  goes_on past w act late g = ap (call_with_act acts.Go late) g.own
 
   next_goes : (past : List Entry) (w : ℕ) (act : Act) (late : List Entry)
       → IsGoing t past w act late

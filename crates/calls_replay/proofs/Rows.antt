@@ -18,7 +18,7 @@ use Rattle.calls_core.specs.declared.history.Op.TheVariants as ops
 use Rattle.calls_core.specs.declared.history.Reply as answers
 use Rattle.calls_core.specs.declared.history.Reply.TheVariants as given
 use Rattle.calls_core.specs.declared.history.Call.{Call}
-use Rattle.calls_kernel.specs.Made.{act_of, IsReplyOf, IsMadeAs, AreMadeAs, AreInARow}
+use Rattle.calls_kernel.specs.Made.{act_of_call, IsReplyOf, IsMadeAs, AreMadeAs, AreInARow}
 use Rattle.calls_replay.specs.Made.{is_made, made_of}
 use Rattle.calls_replay.specs.kept.Going.{HasGone, Goes, AreMadeIn}
 
@@ -37,9 +37,9 @@ module _ (t : Tables) where
   one_more_in_row i (e ∷ ds) n d m row first rises last =
       (row.0, row.1, one_more_in_row (e.last + 1) ds n d m row.2 first rises last)
 
-  -- a call that has gone is one more that was made
+  -- a call that is completed is one more that was made
   one_more_call : (past late : List Entry) (cs : List Call) (c : Call) (reply : Reply)
-      → AreMadeIn t cs past → HasGone t past c.worker (act_of t c) late reply
+      → AreMadeIn t cs past → HasGone t past c.worker (act_of_call t c) late reply
       → IsReplyOf c.op c.reply reply
       → AreMadeIn t (cs ++ c ∷ []) late
   one_more_call past late cs c reply made g is =
@@ -86,9 +86,9 @@ module _ (t : Tables) where
   no_reply ops.Get (given.Number n) is = is
   no_reply ops.Get given.Timeout is = is
 
-  -- a call that goes and whose last reply is that of a call that returned has gone
+  -- a call whose last reply is that of a recorded call is completed
   pub call_made : (past late : List Entry) (cs : List Call) (c : Call) (reply : Reply)
-      → AreMadeIn t cs past → Goes t past c.worker (act_of t c) late reply
+      → AreMadeIn t cs past → Goes t past c.worker (act_of_call t c) late reply
       → IsReplyOf c.op c.reply reply
       → AreMadeIn t (cs ++ c ∷ []) late
   call_made past late cs c replies.Pending made g is = absurd (no_reply c.op c.reply is)
@@ -102,7 +102,7 @@ pub nothing_made : (t : Tables) → AreMadeIn t [] []
 unfolding finished_calls under_way
 nothing_made t = record { calls = tt; in_a_row = refl; free = λ w. refl }
 
--- what is added of a call that is made, and of one that is not
+-- a call that is made is added, and one that is not is left out
 pub made_or_not : (limit : ℕ) (cs : List Call) (c : Call)
     → cs ++ filter (is_made limit) (c ∷ []) ≡ cond (is_made limit c) (cs ++ c ∷ []) cs
 made_or_not limit cs c =
@@ -127,7 +127,7 @@ module _ (limit : ℕ) (order : List Placed) (i : ℕ) (d : Placed) where
       ∙ ap (filter (is_made limit)) (map-append f (take i order) (x ∷ []))
       ∙ filter-append (is_made limit) (map f (take i order)) (f x ∷ [])
 
-  -- so a call of the order more was made, or left out
+  -- so one more call of the order was made, or left out
   pub one_more : (t s : Tables) (n : ℕ) (late : List Entry) → limit ≡ t.limit → n ≡ t.limit
       → s ≡ t → i < length order
       → AreMadeIn s (so_far ++ filter (is_made n) ((get_or order i d).call ∷ [])) late

@@ -7,9 +7,10 @@ use Rattle.ec_core.specs.declared.act.Act.TheVariants as acts
 use Rattle.ec_core.specs.declared.act.Reply.{Reply}
 use Rattle.ec_core.specs.declared.act.Reply.TheVariants as replies
 use Rattle.ec_core.specs.declared.act.Entry.{Entry}
-use Rattle.calls_kernel.specs.Seen.{is_call}
+use Rattle.calls_kernel.specs.Outside.{is_call}
 use Rattle.calls_replay.specs.kept.Going.{IsFree, IsGoing, Goes}
-use Rattle.calls_replay.proofs.Going.{entry, first_step, next_step}
+use Rattle.calls_replay.proofs.Going.{first_step, next_step}
+use Rattle.ec_core.proofs.shared.Stepping.{entry}
 
 newest : (es : List Entry) (x : Entry) → reverse (es ++ x ∷ []) ≡ x ∷ reverse es
 newest es x = reverse-append es (x ∷ [])
@@ -23,7 +24,7 @@ begun t es late w act reply is c free =
     (sym (ap reverse is ∙ newest es (entry w act reply)))
     (first_step t (reverse es) w act reply c free)
 
--- one more
+-- one more step
 pub gone_on : (t : Tables) (es now late : List Entry) (w : ℕ) (act : Act) (before reply : Reply)
     → late ≡ now ++ entry w acts.Go reply ∷ [] → before ≡ replies.Pending
     → Goes t (reverse es) w act (reverse now) before

@@ -9,39 +9,29 @@ use Rattle.ec_core.specs.declared.act.Act.{Act}
 use Rattle.ec_core.specs.declared.act.Act.TheVariants as acts
 use Rattle.ec_core.specs.declared.act.Entry.{Entry}
 use Rattle.ec_core.specs.Acceptance.{IsAccepted}
-use Rattle.ec_core.specs.Recorded as runs
+use Rattle.ec_core.specs.RunModel as runs
 use Rattle.ec_order.specs.Calls.{finished_calls}
-use Rattle.ec_heading.specs.Headed.{Headed}
-use Rattle.ec_heading.specs.Outline.{Outline, IsOutline, headed}
+use Rattle.ec_heading.specs.HeadingModel.{HeadingModel}
+use Rattle.ec_heading.specs.HeaderTree.{HeaderTree, IsHeaderTree, heading_of_tree}
 use Rattle.ec_heading.specs.Spelling.{trace_text}
 use Rattle.ec_heading.specs.Versions.{CanSpellAll, can_spell}
 use Rattle.ec_heading.specs.declared.version.Version.{Version}
 use Rattle.ec_heading.specs.declared.version.Version.TheVariants.{Two}
-use Rattle.ec_heading.proofs.shared.OutlineFound.{version_found}
-use Rattle.ec_trace.specs.Outcome.{outcome}
+use Rattle.ec_heading.proofs.shared.TreeFound.{version_found}
+use Rattle.ec_trace.specs.Outcome.{parse_result}
 use Rattle.ec_trace.specs.declared.read.TheConstants.{TRACE_MAX}
 use Rattle.ec_trace.proofs.shared.ReadTraces.{written_is_read}
 use Rattle.calls_core.specs.declared.history.Placed.{Placed}
 use Rattle.calls_kernel.specs.Made.{AreInARow}
-use Rattle.calls_text.specs.Recordings.{Recorded}
+use Rattle.calls_text.specs.Recordings.{RecordingModel}
 use Rattle.calls_text.specs.Rules.{KeepsRules}
 use Rattle.calls_report.specs.declared.status.Status.TheVariants.{Done, InputOutput}
-use Rattle.calls_report.specs.Checks.{Outlets}
+use Rattle.calls_report.specs.Checks.{Outputs}
 use Rattle.calls_replay.specs.Made.{made_of}
 use Rattle.calls_replay.specs.Replays.{IsTraceOfOrder, TracesOfOrdersAreRead, left_out, left_note}
 use Rattle.calls_replay.specs.kept.Going.{AreMadeIn}
 use Rattle.calls_replay.specs.kept.Ends.{WritesSteps}
-
--- version 2 has each act
-can_spell_any : (act : Act) → can_spell Two act ≡ true
-can_spell_any (acts.Advance e) = refl
-can_spell_any (acts.Read e) = refl
-can_spell_any (acts.Await e v) = refl
-can_spell_any acts.Go = refl
-can_spell_any (acts.Ticket q) = refl
-can_spell_any (acts.Put x v) = refl
-can_spell_any (acts.Get x) = refl
-can_spell_any (acts.Hand e b) = refl
+use Rattle.ec_heading.proofs.shared.VersionFacts.{two_spells as can_spell_any}
 
 can_spell_all : (v : Version) (entries : List Entry) → v ≡ Two → CanSpellAll v entries
 can_spell_all v entries is = λ i d lt.
@@ -49,7 +39,7 @@ can_spell_all v entries is = λ i d lt.
     ap (λ (u : Version). can_spell u x.act) is ∙ can_spell_any x.act
 
 -- the trace of a run that has made the calls of an order is that of the order
-pub trace_of_order : (r : Recorded) (order : List Placed) (run : runs.Recorded)
+pub trace_of_order : (r : RecordingModel) (order : List Placed) (run : runs.RunModel)
     → (keeps : KeepsRules r) → run.setup ≡ r.heading.setup
     → IsAccepted run.setup (reverse run.entries)
     → AreMadeIn r.heading.setup (made_of r.heading.setup.limit order) (reverse run.entries)
@@ -72,22 +62,22 @@ trace_of_order r order run keeps same accepted made =
       spells = refl;
     }
 
--- the writing of the trace of a run, under a heading
-module _ (r : Recorded) (order : List Placed) (run : runs.Recorded) (h : Headed) (is : h ≡ r.heading)
+-- the writing of the trace of a run, with a header
+module _ (r : RecordingModel) (order : List Placed) (run : runs.RunModel) (h : HeadingModel) (is : h ≡ r.heading)
     (keeps : KeepsRules r) (same : run.setup ≡ h.setup)
     (accepted : IsAccepted run.setup (reverse run.entries))
     (made : AreMadeIn h.setup (made_of h.setup.limit order) (reverse run.entries))
-    (old new : Outlets) where
+    (old new : Outputs) where
   abbrev trace : List ℕ
   trace = trace_text keeps.heading.outline run.entries
 
   of_order : IsTraceOfOrder r order trace
   of_order =
-      trace_of_order r order run keeps (same ∙ ap (λ (k : Headed). k.setup) is) accepted
-      (subst (λ (k : Headed). AreMadeIn k.setup (made_of k.setup.limit order) (reverse run.entries))
+      trace_of_order r order run keeps (same ∙ ap (λ (k : HeadingModel). k.setup) is) accepted
+      (subst (λ (k : HeadingModel). AreMadeIn k.setup (made_of k.setup.limit order) (reverse run.entries))
       is made)
 
-  pub all_written : ((o : Outline) → IsOutline o → headed o ≡ h
+  pub all_written : ((o : HeaderTree) → IsHeaderTree o → heading_of_tree o ≡ h
       → Appends old.out new.out (trace_text o run.entries))
       → Puts old.notes new.notes (left_note (left_out r order)) → WritesSteps r order Done old new
   all_written writes puts = (
@@ -97,7 +87,7 @@ module _ (r : Recorded) (order : List Placed) (run : runs.Recorded) (h : Headed)
     puts,
   )
 
-  pub part_written : ((o : Outline) → IsOutline o → headed o ≡ h
+  pub part_written : ((o : HeaderTree) → IsHeaderTree o → heading_of_tree o ≡ h
       → AppendsPrefix old.out new.out (trace_text o run.entries))
       → Puts old.notes new.notes (codes "write fault\n")
       → WritesSteps r order InputOutput old new
@@ -110,18 +100,18 @@ module _ (r : Recorded) (order : List Placed) (run : runs.Recorded) (h : Headed)
 
 pub traces_of_orders_are_read : TracesOfOrdersAreRead
 traces_of_orders_are_read text read order trace x within =
-    let o : Outline = x.trace_is.outline in
-    let h : Headed = read.recorded.heading in
+    let o : HeaderTree = x.trace_is.outline in
+    let h : HeadingModel = read.recorded.heading in
     let steps : List Entry = x.trace_is.made.steps in
     let spells : trace ≡ trace_text o steps = x.trace_is.spells in
     let version : o.version ≡ Two =
-    sym (version_found o) ∙ ap (λ (k : Headed). k.version) x.trace_is.declares
+    sym (version_found o) ∙ ap (λ (k : HeadingModel). k.version) x.trace_is.declares
     ∙ x.begins.spelled.keeps.version in
-    let accepted : IsAccepted (headed o).setup (reverse steps) =
-    subst (λ (k : Headed). IsAccepted k.setup (reverse steps)) (sym x.trace_is.declares)
+    let accepted : IsAccepted (heading_of_tree o).setup (reverse steps) =
+    subst (λ (k : HeadingModel). IsAccepted k.setup (reverse steps)) (sym x.trace_is.declares)
     x.trace_is.made.accepted in
     let small : length (trace_text o steps) ≤ TRACE_MAX =
     subst (λ (l : List ℕ). length l ≤ TRACE_MAX) spells within in
-    ap (outcome TRACE_MAX) spells
+    ap (parse_result TRACE_MAX) spells
     ∙ written_is_read o steps x.trace_is.is accepted (can_spell_all o.version steps version) small
-    ∙ ap (λ (k : Headed). Ok (record { heading = k; entries = steps })) x.trace_is.declares
+    ∙ ap (λ (k : HeadingModel). Ok (record { heading = k; entries = steps })) x.trace_is.declares

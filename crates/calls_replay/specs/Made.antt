@@ -8,8 +8,8 @@ use Rattle.calls_core.specs.declared.history.Op.TheVariants.{Ticket}
 use Rattle.calls_core.specs.declared.history.Call.{Call}
 use Rattle.calls_core.specs.declared.history.Placed.{Placed}
 
--- whether a call is made: it did not give up, and is no ticket past the limit. Only a pending call
--- can be one, since a recorded number is below the limit
+-- whether a call is made: it did not time out, and is not a ticket past the limit. Only a pending
+-- ticket can be past the limit, since a recorded number is below it
 abbrev pub is_made_as : ℕ → Op → Reply → Bool
 is_made_as limit op Timeout = false
 is_made_as limit Ticket (Number n) = nat_lt n limit

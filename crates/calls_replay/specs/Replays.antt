@@ -3,24 +3,24 @@ use Rattle.std.specs.Prelude.{◌≡◌, ◌⊎◌, ℕ, ◌-◌, ◌≤◌, ◌
 use Rattle.std.specs.Prelude.{count_by, Option, Ok, codes, decimal, if◌then◌else◌}
 use Rattle.std.specs.Io.KnownBytes.{Appends, Keeps}
 use Rattle.ec_text.specs.Puts.{Puts, AppendsPrefix}
-use Rattle.ec_heading.specs.Outline.{Outline, IsOutline, headed}
+use Rattle.ec_heading.specs.HeaderTree.{HeaderTree, IsHeaderTree, heading_of_tree}
 use Rattle.ec_heading.specs.Spelling.{trace_text}
-use Rattle.ec_trace.specs.Outcome.{outcome}
+use Rattle.ec_trace.specs.Outcome.{parse_result}
 use Rattle.ec_trace.specs.declared.read.TheConstants.{TRACE_MAX}
 use Rattle.calls_core.specs.declared.history.Action.{Action}
 use Rattle.calls_core.specs.declared.history.Action.TheVariants.{Invoke, Respond}
 use Rattle.calls_core.specs.declared.history.Event as events
 use Rattle.calls_core.specs.declared.history.Placed.{Placed}
 use Rattle.calls_kernel.specs.Made.{AreMade}
-use Rattle.calls_text.specs.Recordings.{Recorded}
+use Rattle.calls_text.specs.Recordings.{RecordingModel}
 use Rattle.calls_text.specs.Reading.{Opening}
-use Rattle.calls_text.specs.Outcomes.{OneRead, goes, parts_of}
+use Rattle.calls_text.specs.Outcomes.{OneRead, parse_from, lines_of_text}
 use Rattle.calls_text.specs.Laws.{IsSpelled}
 use Rattle.calls_report.specs.declared.checking.TheConstants.{TEXT_MAX}
 use Rattle.calls_report.specs.declared.status.Status.{Status}
 use Rattle.calls_report.specs.declared.status.Status.TheVariants.{Done, Refused, Usage}
 use Rattle.calls_report.specs.declared.status.Status.TheVariants.{InputOutput, Memory, NotDecided}
-use Rattle.calls_report.specs.Checks.{Outlets, HasOrder, IsUnread, SaysRefused, SaysOpen}
+use Rattle.calls_report.specs.Checks.{Outputs, HasOrder, IsUnread, SaysRefused, SaysOpen}
 use Rattle.calls_report.specs.Checks.{IsTooLarge, IsNothingRead}
 use Rattle.calls_replay.specs.declared.obstacle.Obstacle.{Obstacle}
 use Rattle.calls_replay.specs.Made.{is_made, made_of}
@@ -32,8 +32,8 @@ abbrev pub is_invocation : Action → Bool
 is_invocation (Invoke k op) = true
 is_invocation (Respond reply) = false
 
--- how many calls of a history are not made: they gave up, or are pending and took no effect
-abbrev pub left_out : Recorded → List Placed → ℕ
+-- how many calls of a history are not made: they timed out, or are pending and took no effect
+abbrev pub left_out : RecordingModel → List Placed → ℕ
 left_out r order =
     count_by (λ (e : events.Event). is_invocation e.action) r.events
     - count_by (λ (p : Placed). is_made r.heading.setup.limit p.call) order
@@ -51,19 +51,19 @@ differs_note n =
 
 -- THE TRACE OF AN ORDER
 
--- the trace of an accepted history of steps under the heading of r: its completed calls are the
--- calls of the order that are made, in this order, each with its steps next to each other, and there
--- is no other step
-pub record IsTraceOfOrder (r : Recorded) (order : List Placed) (text : List ℕ) : Type 0 where
-  pub outline : Outline
-  pub is : IsOutline outline
-  pub declares : headed outline ≡ r.heading
+-- the trace of an accepted history of steps, with the header of r. Its completed calls are the
+-- calls of the order that are made, in this order, each with its steps next to each other, and
+-- there is no other step
+pub record IsTraceOfOrder (r : RecordingModel) (order : List Placed) (text : List ℕ) : Type 0 where
+  pub outline : HeaderTree
+  pub is : IsHeaderTree outline
+  pub declares : heading_of_tree outline ≡ r.heading
   pub made : AreMade r.heading.setup (made_of r.heading.setup.limit order)
   pub spells : text ≡ trace_text outline made.steps
 
 -- a text that begins with this history
 pub record Begins (text : List ℕ) (read : OneRead) : Type 0 where
-  pub reads : goes 1 Opening (parts_of text) ≡ Ok read
+  pub reads : parse_from 1 Opening (lines_of_text text) ≡ Ok read
   pub spelled : IsSpelled text 1 read
 
 -- the text is one history, and this is the trace of a linearization of it
@@ -82,17 +82,17 @@ pub record Hinders (text : List ℕ) (read : OneRead) (why : Obstacle) : Type 0 
 -- THE END OF THE COMMAND
 
 -- a call of a linearization, at this index, was not made as it was recorded
-abbrev pub SaysDiffers : List ℕ → Outlets → Outlets → Type 0
+abbrev pub SaysDiffers : List ℕ → Outputs → Outputs → Type 0
 SaysDiffers text old new =
     (read : OneRead) × (order : List Placed) × (index : ℕ) × Begins text read
     × HasOrder read.recorded order × Puts old.notes new.notes (differs_note index)
 
--- a text within the bound. Its only history is linearizable, and the trace was written; a note says
--- how many calls leave no step. Or nothing was written, and a note says why: the text is no history,
--- its history is not linearizable or not decided, as `check` says it; the history has no trace; a
--- call was not made as it was recorded; or memory ran out. Or a write failed, and a beginning was
--- written
-abbrev pub ReplaysText : Status → List ℕ → Outlets → Outlets → Type 0
+-- how the command ended, for a text within the bound. Done: its only history is linearizable, and
+-- the trace was written; a note says how many calls leave no step. InputOutput: a write failed
+-- after a prefix of the trace. Otherwise nothing was written, and a note says why: the text is not
+-- a history, its history is not linearizable or not decided, as `check` says it; the history has no
+-- trace; a call was not made as it was recorded; or memory ran out
+abbrev pub ReplaysText : Status → List ℕ → Outputs → Outputs → Type 0
 ReplaysText Done text old new =
     (read : OneRead) × (order : List Placed) × (trace : List ℕ)
     × IsReplayed text read order trace × Appends old.out new.out trace
@@ -106,25 +106,25 @@ ReplaysText Usage text old new =
     × Puts old.notes new.notes (obstacle_note read.recorded read.number why)
 ReplaysText Refused text old new =
     Keeps old.out new.out
-    × (((note : List ℕ) × IsUnread 1 (parts_of text) note × Puts old.notes new.notes note)
-    ⊎ (SaysRefused 1 (parts_of text) old.notes new.notes ⊎ SaysDiffers text old new))
+    × (((note : List ℕ) × IsUnread 1 (lines_of_text text) note × Puts old.notes new.notes note)
+    ⊎ (SaysRefused 1 (lines_of_text text) old.notes new.notes ⊎ SaysDiffers text old new))
 ReplaysText NotDecided text old new =
-    Keeps old.out new.out × SaysOpen 1 (parts_of text) old.notes new.notes
+    Keeps old.out new.out × SaysOpen 1 (lines_of_text text) old.notes new.notes
 ReplaysText Memory text old new =
     Keeps old.out new.out × Puts old.notes new.notes (codes "no memory\n")
 
 -- how the command ended, for an input that had these bytes and has those left
-abbrev pub Replays : List ℕ → Option (List ℕ) → Status → Outlets → Outlets → Type 0
+abbrev pub Replays : List ℕ → Option (List ℕ) → Status → Outputs → Outputs → Type 0
 Replays bytes left status old new =
     ((length bytes ≤ TEXT_MAX) × ReplaysText status bytes old new)
     ⊎ (IsTooLarge status bytes old new ⊎ IsNothingRead status bytes left old new)
 
 -- THE TRACE IS ACCEPTED
 
--- the trace of an order, if it is within the bound of a trace, is read again as its heading and its
--- steps: so `evc check` accepts it
+-- the trace of an order, if it is within the bound of a trace, is read as its header and its steps:
+-- so `evc check` accepts it
 abbrev pub TracesOfOrdersAreRead : Type 0
 TracesOfOrdersAreRead = (text : List ℕ) (read : OneRead) (order : List Placed) (trace : List ℕ)
     → (x : IsReplayed text read order trace) → length trace ≤ TRACE_MAX
-    → outcome TRACE_MAX trace
+    → parse_result TRACE_MAX trace
     ≡ Ok (record { heading = read.recorded.heading; entries = x.trace_is.made.steps })

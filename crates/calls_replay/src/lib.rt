@@ -1,4 +1,4 @@
-//! The calls of a history of calls, made by a kernel one after another: a trace of steps.
+//! Writes a history of calls as a trace of steps: a kernel makes the calls, one after another.
 #![tactic(auto)]
 
 mod laws;

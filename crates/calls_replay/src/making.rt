@@ -3,7 +3,7 @@ ghost use Rattle.std.specs.Prelude.{◌≡◌, ◌++◌, ◌∷◌, [], List, re
 ghost use Rattle.std.specs.List.{filter};
 ghost use Rattle.calls_core.specs.declared.history.Call.{Call};
 ghost use Rattle.calls_core.specs.declared.history.Reply.TheVariants as answers;
-ghost use Rattle.calls_kernel.specs.Seen.{is_call};
+ghost use Rattle.calls_kernel.specs.Outside.{is_call};
 ghost use Rattle.calls_kernel.specs.Made.{IsReplyOf};
 ghost use Rattle.calls_kernel.specs.Made as made;
 ghost use Rattle.calls_replay.specs.Made.{made_of, is_made};
@@ -22,15 +22,16 @@ const ROUND: usize = 16;
 /// Why calls were not made.
 #[derive(Clone, Copy, Debug, PartialEq, Eq)]
 pub enum Stop {
-    /// The kernel refuses the call at this index, or returns otherwise.
+    /// The kernel has no such call as that at this index of the order, refuses it, or returns
+    /// another reply.
     Differs(usize),
     /// An allocation failed.
     Memory,
 }
 
 /// Returns the act that begins a call, if its object is an eventcount, a sequencer or a cell.
-fn act_of(heading: &Heading, call: &Call) -> Option<Act>
-    ensures act { IfSome result (λ act. act ≡ made.act_of heading.now.setup call.now) }
+fn opening_act(heading: &Heading, call: &Call) -> Option<Act>
+    ensures act { IfSome result (λ act. act ≡ made.act_of_call heading.now.setup call.now) }
     ensures begins { IfSome result (λ act. is_call act ≡ true) }
 {
     let object = call.object;
@@ -54,7 +55,7 @@ fn act_of(heading: &Heading, call: &Call) -> Option<Act>
     }
 }
 
-/// Returns whether this is a number that reaches a threshold.
+/// Returns whether the reply is a number that reaches a threshold.
 fn is_at_least(given: Reply, threshold: usize) -> bool
     ensures { IsTrue result → IsReplyOf (Op.Await threshold) answers.Done given }
 {
@@ -64,7 +65,7 @@ fn is_at_least(given: Reply, threshold: usize) -> bool
     }
 }
 
-/// Returns whether this is the number.
+/// Returns whether the reply is this number.
 fn is_number(given: Reply, n: usize) -> bool
     ensures { IsTrue result → given ≡ Reply.Number n }
 {
@@ -74,7 +75,7 @@ fn is_number(given: Reply, n: usize) -> bool
     }
 }
 
-/// Returns whether this is no number.
+/// Returns whether the reply is `Done`.
 fn is_done(given: Reply) -> bool
     ensures { IsTrue result → given ≡ Reply.Done }
 {
@@ -84,7 +85,7 @@ fn is_done(given: Reply) -> bool
     }
 }
 
-/// Returns whether a call of this op that returned nothing has the reply as that of its last step.
+/// Returns whether the reply of the last step suits a call that returned `done`.
 fn is_done_by(op: Op, given: Reply) -> bool
     ensures { IsTrue result → IsReplyOf op answers.Done given }
 {
@@ -94,7 +95,7 @@ fn is_done_by(op: Op, given: Reply) -> bool
     }
 }
 
-/// Returns whether a call of this op that returned this has the reply as that of its last step.
+/// Returns whether the reply of the last step, `given`, suits a call that returned `reply`.
 fn is_reply_of(op: Op, reply: calls_core::Reply, given: Reply) -> bool
     ensures { IsTrue result → IsReplyOf op reply given }
 {
@@ -105,7 +106,7 @@ fn is_reply_of(op: Op, reply: calls_core::Reply, given: Reply) -> bool
     }
 }
 
-/// Makes a step of the call at an index.
+/// Makes a step of the call at this index of the order.
 fn step(run: &mut Run, worker: WorkerId, act: Act, index: usize) -> Result<Reply, Stop>
     ensures { IfOk result (λ reply. run.new ≡ record run.old {
       entries = run.old.entries
@@ -119,7 +120,7 @@ fn step(run: &mut Run, worker: WorkerId, act: Act, index: usize) -> Result<Reply
     }
 }
 
-/// Makes all steps of a call, and returns the reply to the last. It is pending if the call waits.
+/// Makes all steps of a call, and returns the reply of the last. It is pending if the call waits.
 fn make(run: &mut Run, worker: WorkerId, act: Act, index: usize) -> Result<Reply, Stop>
     ensures setup { IfOk result (λ reply. run.new.setup ≡ run.old.setup) }
     ensures goes { IfOk result (λ reply. is_call act ≡ true → IsFree (reverse run.old.entries)
@@ -135,7 +136,7 @@ fn make(run: &mut Run, worker: WorkerId, act: Act, index: usize) -> Result<Reply
     Ok(reply)
 }
 
-/// Makes a call, which has to return what it returned.
+/// Makes a call, which must return what was recorded.
 fn make_call(run: &mut Run, heading: &Heading, call: &Call, index: usize) -> Result<(), Stop>
     requires { run.old.setup ≡ heading.now.setup }
     ensures setup { OnOk result (run.new.setup ≡ run.old.setup) }
@@ -143,7 +144,7 @@ fn make_call(run: &mut Run, heading: &Heading, call: &Call, index: usize) -> Res
         → AreMadeIn run.old.setup cs (reverse run.old.entries)
         → AreMadeIn run.old.setup (cs ++ call.now ∷ []) (reverse run.new.entries)) }
 {
-    let Some(act) = act_of(heading, call) else {
+    let Some(act) = opening_act(heading, call) else {
         return Err(Stop::Differs(index));
     };
     let Some(worker) = WorkerId::new(call.worker) else {
@@ -157,8 +158,9 @@ fn make_call(run: &mut Run, heading: &Heading, call: &Call, index: usize) -> Res
     }
 }
 
-/// Returns whether a call is made: it did not give up, and is no ticket past the limit, which only a
-/// pending call can be.
+/// Returns whether a call is made: it did not time out, and is not a ticket past the limit.
+///
+/// Only a pending ticket can be past the limit.
 pub(crate) fn is_made(limit: u64, call: &Call) -> bool
     ensures { result ≡ is_made limit call.now }
 {
@@ -191,8 +193,10 @@ fn make_next(
     Ok(())
 }
 
-/// Makes the calls of a linearization on the declarations of a heading, one after another, but for
-/// those that timed out, and for pending tickets past the limit.
+/// Makes the calls of a linearization on a kernel, one after another.
+///
+/// The kernel has the declarations of the header. Calls that timed out, and pending tickets past
+/// the limit, are left out.
 pub fn replay(alloc: Global, heading: &Heading, order: &[Placed]) -> Result<Run, Stop>
     ensures setup { IfOk result (λ run. run.setup ≡ heading.now.setup) }
     ensures made { IfOk result (λ run. AreMadeIn heading.now.setup

@@ -8,14 +8,14 @@ ghost use Rattle.calls_replay.specs.Obstacles.{first_of_group, obstacle_note};
 use calls_core::Action;
 use calls_text::{Read, Recording, first_group};
 use ec_count::EventId;
-use ec_text::Out;
+use ec_text::Output;
 use ec_trace::Spellings;
 use std::io::Write;
 
 /// Why a history has no trace of steps.
 #[derive(Clone, Copy, Debug, PartialEq, Eq)]
 pub enum Obstacle {
-    /// An eventcount has a count at the beginning, which no step made.
+    /// The initial count of an eventcount is not 0, and no step made it.
     Begun(EventId),
     /// The event at this position is on a semaphore or a database.
     OfGroup(usize),
@@ -23,13 +23,13 @@ pub enum Obstacle {
     Second(u64),
 }
 
-/// Returns the first eventcount that has a count at the beginning.
+/// Returns the first eventcount whose initial count is not 0.
 fn first_begun(recording: &Recording) -> Option<EventId>
     ensures some { IfSome result (λ e. IsFirstBegun recording.now e) }
     ensures none { IfNone result (HasZeros recording.now) }
 {
     let setup = recording.heading().setup();
-    setup.known();
+    setup.invariant();
     for n in 0..setup.events() {
         if let Some(event) = EventId::new(n) {
             if recording.start(event) != 0 {
@@ -79,8 +79,8 @@ fn line_of(read: &Read<'_>, position: usize) -> u64
     first.saturating_add(position as u64)
 }
 
-/// Puts that an eventcount has a count at the beginning.
-fn put_begun<N: Write>(notes: &mut Out<'_, N>, name: &[u8])
+/// Puts that the initial count of an eventcount is not 0.
+fn put_begun<N: Write>(notes: &mut Output<'_, N>, name: &[u8])
     ensures { Puts notes.old notes.new (codes "no trace: the count of " ++ name.now
         ++ codes " is not 0 at the beginning\n") }
 {
@@ -89,8 +89,8 @@ fn put_begun<N: Write>(notes: &mut Out<'_, N>, name: &[u8])
     notes.put(b" is not 0 at the beginning\n");
 }
 
-/// Puts what stands in the way in a line.
-fn put_at<N: Write>(notes: &mut Out<'_, N>, line: u64, words: &[u8])
+/// Puts the number of a line, and why there is no trace.
+fn put_at_line<N: Write>(notes: &mut Output<'_, N>, line: u64, words: &[u8])
     ensures { Puts notes.old notes.new (codes "line " ++ decimal line ++ words.now) }
 {
     notes.put(b"line ");
@@ -99,7 +99,7 @@ fn put_at<N: Write>(notes: &mut Out<'_, N>, line: u64, words: &[u8])
 }
 
 /// Puts why a history has no trace of steps.
-fn put_obstacle<N: Write>(notes: &mut Out<'_, N>, read: &Read<'_>, obstacle: Obstacle)
+fn put_obstacle<N: Write>(notes: &mut Output<'_, N>, read: &Read<'_>, obstacle: Obstacle)
     ensures { Puts notes.old notes.new (obstacle_note read.now.recording read.now.number obstacle) }
 {
     match obstacle {
@@ -107,17 +107,25 @@ fn put_obstacle<N: Write>(notes: &mut Out<'_, N>, read: &Read<'_>, obstacle: Obs
             let spellings = Spellings::new(read.recording.heading().words());
             put_begun(notes, spellings.event(event));
         }
-        Obstacle::OfGroup(position) => put_at(
+        Obstacle::OfGroup(position) => put_at_line(
             notes,
             line_of(read, position),
             b": no trace: the call is of a semaphore or a database\n",
         ),
-        Obstacle::Second(line) => put_at(notes, line, b": no trace: another history follows\n"),
+        Obstacle::Second(line) => put_at_line(
+            notes,
+            line,
+            b": no trace: another history follows\n",
+        ),
     }
 }
 
-/// Says why a history has no trace of steps.
-pub(crate) fn say_obstacle<N: Write>(notes: &mut Out<'_, N>, read: &Read<'_>, obstacle: Obstacle)
+/// Reports why a history has no trace of steps.
+pub(crate) fn report_obstacle<N: Write>(
+    notes: &mut Output<'_, N>,
+    read: &Read<'_>,
+    obstacle: Obstacle,
+)
     ensures puts { Puts notes.old notes.new (obstacle_note read.now.recording read.now.number
         obstacle) }
     ensures written { IsWrittenOut notes.new }

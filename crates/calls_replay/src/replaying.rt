@@ -1,4 +1,4 @@
-//! `trace`: a history of calls in, a trace of steps out.
+//! `trace`: reads a history of calls, and writes a trace of steps.
 ghost use Rattle.std.specs.Prelude.{◌≡◌, ◌≤◌, length, count_by, IfSome};
 ghost use Rattle.ec_text.specs.Puts.{Puts, IsWrittenOut};
 ghost use Rattle.calls_text.specs.Rules.{KeepsRules};
@@ -8,11 +8,11 @@ ghost use Rattle.calls_replay.specs.Made.{is_made};
 ghost use Rattle.calls_replay.specs.kept.Ends.{WritesSteps, ReplaysRead, ReplaysWhole};
 
 use crate::making::{Stop, is_made, replay};
-use crate::obstacle::{find_obstacle, say_obstacle};
+use crate::obstacle::{find_obstacle, report_obstacle};
 use calls_core::{Action, Event, Placed};
 use calls_report::{Status, TEXT_MAX, linearize, note_unread};
 use calls_text::{Read as OneRead, read_history, read_is_spelled};
-use ec_text::{Input, Out, read_up_to};
+use ec_text::{Input, Output, read_up_to};
 use ec_trace::write_trace;
 use std::alloc::Global;
 use std::io::{Read, Write};
@@ -53,8 +53,8 @@ fn left_out(read: &OneRead<'_>, order: &[Placed]) -> usize
     invoked.saturating_sub(count_made(limit, order))
 }
 
-/// Says that calls leave no step.
-fn say_left_out<N: Write>(notes: &mut Out<'_, N>, count: usize)
+/// Reports how many calls leave no step, if there are any.
+fn report_left_out<N: Write>(notes: &mut Output<'_, N>, count: usize)
     ensures puts { Puts notes.old notes.new (left_note count) }
     ensures written { IsWrittenOut notes.old → IsWrittenOut notes.new }
 {
@@ -69,8 +69,8 @@ fn say_left_out<N: Write>(notes: &mut Out<'_, N>, count: usize)
     notes.say(b" calls leave no step: they timed out, or are pending and took no effect\n");
 }
 
-/// Says that the kernel makes a call otherwise.
-fn say_differs<N: Write>(notes: &mut Out<'_, N>, index: usize)
+/// Reports that the kernel does not make a call as it was recorded.
+fn report_difference<N: Write>(notes: &mut Output<'_, N>, index: usize)
     ensures puts { Puts notes.old notes.new (differs_note index) }
     ensures written { IsWrittenOut notes.new }
 {
@@ -85,7 +85,7 @@ fn write_steps<W: Write, N: Write>(
     read: &OneRead<'_>,
     order: &[Placed],
     out: &mut W,
-    notes: &mut Out<'_, N>,
+    notes: &mut Output<'_, N>,
 ) -> Status
     requires { KeepsRules read.now.recording }
     ensures ends { WritesSteps read.now.recording order.now result
@@ -101,14 +101,14 @@ fn write_steps<W: Write, N: Write>(
             return Status::Memory;
         }
         Err(Stop::Differs(index)) => {
-            say_differs(notes, index);
+            report_difference(notes, index);
             return Status::Refused;
         }
     };
-    run.known();
+    run.invariant();
     match write_trace(&run, heading, out) {
         Ok(()) => {
-            say_left_out(notes, left_out(read, order));
+            report_left_out(notes, left_out(read, order));
             Status::Done
         }
         Err(_) => {
@@ -123,7 +123,7 @@ fn replay_read<W: Write, N: Write>(
     alloc: Global,
     read: &OneRead<'_>,
     out: &mut W,
-    notes: &mut Out<'_, N>,
+    notes: &mut Output<'_, N>,
 ) -> Status
     requires { KeepsRules read.now.recording }
     ensures ends { ReplaysRead read.now.number read.now.recording read.now.rest.now result
@@ -132,7 +132,7 @@ fn replay_read<W: Write, N: Write>(
     ensures written { IsWrittenOut notes.old → IsWrittenOut notes.new }
 {
     if let Some(obstacle) = find_obstacle(read) {
-        say_obstacle(notes, read, obstacle);
+        report_obstacle(notes, read, obstacle);
         return Status::Usage;
     }
     match linearize(alloc, read, notes) {
@@ -146,7 +146,7 @@ fn replay_text<W: Write, N: Write>(
     alloc: Global,
     text: &[u8],
     out: &mut W,
-    notes: &mut Out<'_, N>,
+    notes: &mut Output<'_, N>,
 ) -> Status
     requires { length text.now ≤ TEXT_MAX }
     ensures ends { ReplaysText result text.now
@@ -161,12 +161,12 @@ fn replay_text<W: Write, N: Write>(
     }
 }
 
-/// Writes the trace of a text that was read whole, or more of it than a text may have.
+/// Writes the trace of a text that may be too large.
 fn replay_whole<W: Write, N: Write>(
     alloc: Global,
     text: &[u8],
     out: &mut W,
-    notes: &mut Out<'_, N>,
+    notes: &mut Output<'_, N>,
 ) -> Status
     ensures ends { ReplaysWhole result text.now
         (record { out = W.contents out.old; notes = notes.old })
@@ -180,16 +180,17 @@ fn replay_whole<W: Write, N: Write>(
     replay_text(alloc, text, out, notes)
 }
 
-/// Reads a history of calls, and writes a trace of steps with the calls of a linearization, one
-/// after another; notes say what is wrong, and how many calls leave no step.
+/// Reads a history of calls, and writes a trace of steps with the calls of a linearization.
 ///
-/// A text of more than 67108864 bytes is too large, whatever is in it. The trace may have more bytes
-/// than that, and then `evc check` takes it for too large.
+/// The calls come one after another. Notes say what is wrong, and how many calls leave no step.
+///
+/// A text of more than 67108864 bytes is too large, whatever is in it. The trace may have more
+/// bytes than that, and then `evc check` reports that it is too large.
 pub fn replay_calls<R: Read, W: Write, N: Write>(
     alloc: Global,
     reader: &mut R,
     out: &mut W,
-    notes: &mut Out<'_, N>,
+    notes: &mut Output<'_, N>,
 ) -> Status
     ensures ends { IfSome (R.remaining reader.old) (λ bytes. Replays bytes (R.remaining reader.new)
         result

@@ -7,9 +7,9 @@ use Rattle.calls_report.specs.declared.checking.TheConstants.{TEXT_MAX}
 use Rattle.calls_report.specs.declared.status.Status.{Status}
 use Rattle.calls_report.specs.declared.status.Status.TheVariants.{Done, Refused, Usage}
 use Rattle.calls_report.specs.declared.status.Status.TheVariants.{InputOutput, Memory, NotDecided}
-use Rattle.calls_report.specs.Checks.{Outlets, ChecksText, ChecksWhole, IsTooLarge, Checks}
+use Rattle.calls_report.specs.Checks.{Outputs, ChecksText, ChecksWhole, IsTooLarge, Checks}
 
--- a text that is within its bound is all that there is
+-- if what was read is within the bound, it is the whole text
 pub all_of_it : (max : ℕ) (bytes : List ℕ) → length (looked_at max bytes) ≤ max
     → looked_at max bytes ≡ bytes
 all_of_it max bytes short =
@@ -19,7 +19,7 @@ all_of_it max bytes short =
 longer : (max : ℕ) (bytes : List ℕ) → max < length (looked_at max bytes) → max < length bytes
 longer max bytes long = omega (arith, length-take (max + 1) bytes, long)
 
-pub too_large : (bytes : List ℕ) (status : Status) (old new : Outlets)
+pub too_large : (bytes : List ℕ) (status : Status) (old new : Outputs)
     → IsTooLarge status (looked_at TEXT_MAX bytes) old new → IsTooLarge status bytes old new
 too_large bytes Done old new l = l
 too_large bytes Refused old new l = (longer TEXT_MAX bytes l.0, l.1, l.2)
@@ -28,7 +28,7 @@ too_large bytes InputOutput old new l = l
 too_large bytes Memory old new l = l
 too_large bytes NotDecided old new l = l
 
-whole : (bytes : List ℕ) (left : Option (List ℕ)) (status : Status) (old new : Outlets)
+whole : (bytes : List ℕ) (left : Option (List ℕ)) (status : Status) (old new : Outputs)
     → ChecksWhole status (looked_at TEXT_MAX bytes) old new → Checks bytes left status old new
 whole bytes left status old new (inl c) =
     let same : looked_at TEXT_MAX bytes ≡ bytes = all_of_it TEXT_MAX bytes c.0 in
@@ -40,7 +40,7 @@ whole bytes left status old new (inl c) =
 whole bytes left status old new (inr l) = inr (inl (too_large bytes status old new l))
 
 pub text_checks : (known left : Option (List ℕ)) (text : List ℕ) (status : Status)
-    (old new : Outlets)
+    (old new : Outputs)
     → IfSome known (λ bytes. (text ≡ looked_at TEXT_MAX bytes) × IsReadUp TEXT_MAX bytes left)
     → ChecksWhole status text old new → IfSome known (λ bytes. Checks bytes left status old new)
 text_checks None left text status old new is c = tt

@@ -1,34 +1,35 @@
--- How histories are judged in turn.
+-- How histories are judged, one after another.
 use Rattle.std.proofs.Common.{◌≡◌, ◌<◌, ◌≤◌, inl, inr, ℕ, ◌+◌, List, [], ◌∷◌, ◌++◌, Result, Ok, Err}
 use Rattle.std.proofs.Common.{Bool, true, false, cond, eqb, if◌then◌else◌, refl, ap, sym, ◌∙◌, subst, arith}
 use Rattle.std.proofs.Common.{codes}
 use Rattle.std.proofs.Common.{append-nil, length}
 use Rattle.std.specs.List.{onto_first}
 use Rattle.std.proofs.lemmas.List.Concat.{flat_map-append}
-use Rattle.ec_text.specs.Puts.{Outgoing, Puts}
+use Rattle.ec_text.specs.Puts.{OutputModel, Puts}
 use Rattle.ec_text.proofs.shared.PutLemmas.{puts_then}
-use Rattle.ec_heading.specs.Headed.{Headed}
+use Rattle.ec_heading.specs.HeadingModel.{HeadingModel}
 use Rattle.calls_core.specs.declared.history.Placed.{Placed}
-use Rattle.calls_text.specs.declared.fault.Kind.{Kind}
+use Rattle.calls_text.specs.declared.fault.FaultKind.{FaultKind}
 use Rattle.calls_text.specs.declared.fault.TextFault.{TextFault}
 use Rattle.calls_text.specs.declared.fault.TextFault.TheVariants as faults
-use Rattle.calls_text.specs.Recordings.{Recorded}
+use Rattle.calls_text.specs.Recordings.{RecordingModel}
 use Rattle.calls_text.specs.Reading.{Stage, Opening, Limiting, Declaring, Running, Ended, step}
 use Rattle.calls_text.specs.Reading.{is_ended}
-use Rattle.calls_text.specs.Outcomes.{OneRead, Parsed, LineAt, parts_of, goes, taken, ended}
-use Rattle.calls_text.specs.Outcomes.{TellsFault}
+use Rattle.calls_text.specs.Outcomes.{OneRead, ParseResult, LineAt, lines_of_text, parse_from, after_line, parse_end}
+use Rattle.calls_text.specs.Outcomes.{ReturnsFault}
 use Rattle.calls_report.specs.declared.checking.Stop.{Stop}
 use Rattle.calls_report.specs.declared.checking.Stop.TheVariants as stops
 use Rattle.calls_report.specs.declared.status.Status.TheVariants as statuses
 use Rattle.calls_report.specs.Notes.{fault_note}
 use Rattle.calls_report.specs.Orders.{order_lines}
 use Rattle.calls_report.specs.Remarks.{remarks_text}
-use Rattle.calls_report.specs.Checks.{Judged, HasOrder, AreJudged, texts_of, remarks_on}
+use Rattle.calls_report.specs.Checks.{JudgedHistory, HasOrder, AreJudged, texts_of, remarks_on}
 use Rattle.calls_report.specs.Checks.{history_text, IsNoEnd}
 use Rattle.calls_report.specs.kept.Judging.{PutsOrder, StopsBy, status_by, EndsBy, fault_status}
 use Rattle.calls_report.specs.kept.Judging.{Judges, IsJudgedSoFar}
+use Rattle.calls_text.proofs.TextParts.{by_rest, by_line}
 
-pub same_lines : (a b : Outgoing) (h k : Headed) (ls ms : List (List ℕ)) (n m : ℕ)
+pub same_lines : (a b : OutputModel) (h k : HeadingModel) (ls ms : List (List ℕ)) (n m : ℕ)
     (order : List Placed) → h ≡ k → ls ≡ ms → n ≡ m → Puts a b (order_lines h ls n order)
     → Puts a b (order_lines k ms m order)
 same_lines a b h k ls ms n m order e f q put =
@@ -38,42 +39,23 @@ same_lines a b h k ls ms n m order e f q put =
 
 -- NUMBERS OF LINES
 
-by_none : (n : ℕ) (s : Stage) → is_ended s ≡ false → goes n s [] ≡ ended n s []
-unfolding goes is_ended
+by_none : (n : ℕ) (s : Stage) → is_ended s ≡ false → parse_from n s [] ≡ parse_end n s []
+unfolding parse_from is_ended
 by_none n Opening going = refl
 by_none n Limiting going = refl
 by_none n (Declaring d) going = refl
 by_none n (Running r) going = refl
 by_none n (Ended r) going = cc
 
-by_rest : (n : ℕ) (s : Stage) (rest : List ℕ) → is_ended s ≡ false
-    → goes n s (rest ∷ []) ≡ ended n s rest
-unfolding goes is_ended
-by_rest n Opening rest going = refl
-by_rest n Limiting rest going = refl
-by_rest n (Declaring d) rest going = refl
-by_rest n (Running r) rest going = refl
-by_rest n (Ended r) rest going = cc
-
-by_line : (n : ℕ) (s : Stage) (line next : List ℕ) (others : List (List ℕ)) → is_ended s ≡ false
-    → goes n s (line ∷ next ∷ others)
-    ≡ taken n line (step s line) (λ t. goes (n + 1) t (next ∷ others))
-unfolding goes is_ended
-by_line n Opening line next others going = refl
-by_line n Limiting line next others going = refl
-by_line n (Declaring d) line next others going = refl
-by_line n (Running r) line next others going = refl
-by_line n (Ended r) line next others going = cc
-
-one_read : (x y : OneRead) → ◌≡◌ {A = Parsed} (Ok x) (Ok y) → x ≡ y
+one_read : (x y : OneRead) → ◌≡◌ {A = ParseResult} (Ok x) (Ok y) → x ≡ y
 one_read x y same = cc
 
-no_read : {P : Type 0} (f : LineAt) (y : OneRead) → ◌≡◌ {A = Parsed} (Err f) (Ok y) → P
+no_read : {P : Type 0} (f : LineAt) (y : OneRead) → ◌≡◌ {A = ParseResult} (Err f) (Ok y) → P
 no_read f y same = absurd (let never : ⊥ = cc in never)
 
 at_end : (n : ℕ) (s : Stage) (ps : List (List ℕ)) (o : OneRead) → is_ended s ≡ true
-    → goes n s ps ≡ Ok o → n ≤ o.number
-unfolding goes is_ended
+    → parse_from n s ps ≡ Ok o → n ≤ o.number
+unfolding parse_from is_ended
 at_end n Opening ps o over is = cc
 at_end n Limiting ps o over is = cc
 at_end n (Declaring d) ps o over is = cc
@@ -83,13 +65,14 @@ at_end n (Ended r) ps o over is =
     (one_read (record { recorded = r; number = n; rest = ps }) o is) in
     omega arith
 
-takes_on : (n : ℕ) (line : List ℕ) (r : Result Stage Kind) (others : Stage → Parsed) (o : OneRead)
-    → ((t : Stage) → others t ≡ Ok o → n + 1 ≤ o.number) → taken n line r others ≡ Ok o
+takes_on : (n : ℕ) (line : List ℕ) (r : Result Stage FaultKind) (others : Stage
+    → ParseResult) (o : OneRead)
+    → ((t : Stage) → others t ≡ Ok o → n + 1 ≤ o.number) → after_line n line r others ≡ Ok o
     → n + 1 ≤ o.number
 takes_on n line (Ok t) others o more is = more t is
 takes_on n line (Err kind) others o more is = no_read _ o is
 
-ended_on : (n : ℕ) (s : Stage) (rest : List ℕ) (o : OneRead) → ended n s rest ≡ Ok o
+ended_on : (n : ℕ) (s : Stage) (rest : List ℕ) (o : OneRead) → parse_end n s rest ≡ Ok o
     → n + 1 ≤ o.number
 ended_on n s [] o is = no_read _ o is
 ended_on n s (b ∷ bs) o is =
@@ -99,19 +82,19 @@ either_way : (b : Bool) (n m : ℕ) → (if b then n else n + 1) ≤ m → n ≤
 either_way true n m most = most
 either_way false n m most = omega arith
 
--- a history ends behind where it begins, unless it is over there
+-- a history ends on a later line than it begins, unless it has ended there
 goes_on : (b : Bool) (ps : List (List ℕ)) (n : ℕ) (s : Stage) (o : OneRead) → is_ended s ≡ b
-    → goes n s ps ≡ Ok o → (if b then n else n + 1) ≤ o.number
+    → parse_from n s ps ≡ Ok o → (if b then n else n + 1) ≤ o.number
 goes_on true ps n s o over is = at_end n s ps o over is
 goes_on false [] n s o going is = ended_on n s [] o (sym (by_none n s going) ∙ is)
 goes_on false (rest ∷ []) n s o going is = ended_on n s rest o (sym (by_rest n s rest going) ∙ is)
 goes_on false (line ∷ next ∷ others) n s o going is =
-    takes_on n line (step s line) (λ t. goes (n + 1) t (next ∷ others)) o
+    takes_on n line (step s line) (λ t. parse_from (n + 1) t (next ∷ others)) o
     (λ t e. either_way (is_ended t) (n + 1) o.number
     (goes_on (is_ended t) (next ∷ others) (n + 1) t o refl e))
     (sym (by_line n s line next others going) ∙ is)
 
-pub goes_past : (n : ℕ) (ps : List (List ℕ)) (o : OneRead) → goes n Opening ps ≡ Ok o
+pub goes_past : (n : ℕ) (ps : List (List ℕ)) (o : OneRead) → parse_from n Opening ps ≡ Ok o
     → n + 1 ≤ o.number
 unfolding is_ended
 goes_past n ps o is = goes_on false ps n Opening o refl is
@@ -122,14 +105,14 @@ no_parts : (b : ℕ) (ps : List (List ℕ)) → onto_first b ps ≡ [] → ⊥
 no_parts b [] none = cc
 no_parts b (p ∷ ps) none = cc
 
-some_parts : (bytes : List ℕ) → parts_of bytes ≡ [] → ⊥
+some_parts : (bytes : List ℕ) → lines_of_text bytes ≡ [] → ⊥
 some_parts [] none = cc
 some_parts (b ∷ bytes) none =
     let P : Bool → Type 0 =
-    λ t. cond t ([] ∷ parts_of bytes) (onto_first b (parts_of bytes)) ≡ [] → ⊥ in
+    λ t. cond t ([] ∷ lines_of_text bytes) (onto_first b (lines_of_text bytes)) ≡ [] → ⊥ in
     let w : P (eqb b 10) = elim (eqb b 10) as P [
       | true ↦ λ e. (let never : ⊥ = cc in never)
-      | false ↦ λ e. no_parts b (parts_of bytes) e
+      | false ↦ λ e. no_parts b (lines_of_text bytes) e
     ] in
     w none
 
@@ -140,60 +123,65 @@ long_parts b (p ∷ ps) one = cc
 tail_none : (p : List ℕ) (ps : List (List ℕ)) → p ∷ ps ≡ [] ∷ [] → ps ≡ []
 tail_none p ps one = cc
 
-more_parts : (b : ℕ) (bytes : List ℕ) → parts_of (b ∷ bytes) ≡ [] ∷ [] → ⊥
+more_parts : (b : ℕ) (bytes : List ℕ) → lines_of_text (b ∷ bytes) ≡ [] ∷ [] → ⊥
 more_parts b bytes one =
     let P : Bool → Type 0 =
-    λ t. cond t ([] ∷ parts_of bytes) (onto_first b (parts_of bytes)) ≡ [] ∷ [] → ⊥ in
+    λ t. cond t ([] ∷ lines_of_text bytes) (onto_first b (lines_of_text bytes)) ≡ [] ∷ [] → ⊥ in
     let w : P (eqb b 10) = elim (eqb b 10) as P [
-      | true ↦ λ e. some_parts bytes (tail_none [] (parts_of bytes) e)
-      | false ↦ λ e. long_parts b (parts_of bytes) e
+      | true ↦ λ e. some_parts bytes (tail_none [] (lines_of_text bytes) e)
+      | false ↦ λ e. long_parts b (lines_of_text bytes) e
     ] in
     w one
 
-by_bytes : (rest : List ℕ) → 0 < length rest → parts_of rest ≡ [] ∷ [] → ⊥
+by_bytes : (rest : List ℕ) → 0 < length rest → lines_of_text rest ≡ [] ∷ [] → ⊥
 by_bytes [] some none = omega (arith, some)
 by_bytes (b ∷ bytes) some none = more_parts b bytes none
 
--- where bytes are left after a history
-pub no_end : (n : ℕ) (rest : List ℕ) → (1 < n → 0 < length rest) → IsNoEnd n (parts_of rest)
+-- if bytes are left after a history, the text does not end there
+pub no_end : (n : ℕ) (rest : List ℕ) → (1 < n → 0 < length rest) → IsNoEnd n (lines_of_text rest)
 no_end n rest left = λ past none. by_bytes rest (left past) none
 
 -- ONE HISTORY MORE
 
-judged_more : (n : ℕ) (ps : List (List ℕ)) (js : List Judged) (m : ℕ) (qs : List (List ℕ))
-    (j : Judged) → AreJudged n ps js m qs → goes m Opening qs ≡ Ok j.read
+judged_more : (n : ℕ) (ps : List (List ℕ)) (js : List JudgedHistory) (m : ℕ) (qs : List (List ℕ))
+    (j : JudgedHistory) → AreJudged n ps js m qs → parse_from m Opening qs ≡ Ok j.read
     → HasOrder j.read.recorded j.order
     → AreJudged n ps (js ++ j ∷ []) j.read.number j.read.rest
-judged_more n ps [] m qs j are reads has =
-    (ap (λ k. goes k Opening ps) are.0 ∙ ap (goes m Opening) are.1 ∙ reads, has, (refl, refl))
+judged_more n ps [] m qs j are reads has = (
+  ap (λ k. parse_from k Opening ps) are.0 ∙ ap (parse_from m Opening) are.1
+      ∙ reads,
+  has,
+  (refl, refl),
+)
 judged_more n ps (k ∷ js) m qs j are reads has =
     (are.0, are.1, judged_more k.read.number k.read.rest js m qs j are.2 reads has)
 
-texts_more : (js : List Judged) (j : Judged) → texts_of (js ++ j ∷ [])
+texts_more : (js : List JudgedHistory) (j : JudgedHistory) → texts_of (js ++ j ∷ [])
     ≡ texts_of js ++ history_text j.read.recorded j.order
 texts_more js j =
-    flat_map-append (λ (k : Judged). history_text k.read.recorded k.order) js (j ∷ [])
+    flat_map-append (λ (k : JudgedHistory). history_text k.read.recorded k.order) js (j ∷ [])
     ∙ ap (λ t. texts_of js ++ t) (append-nil (history_text j.read.recorded j.order))
 
-remarks_more : (js : List Judged) (j : Judged) → remarks_on (js ++ j ∷ [])
+remarks_more : (js : List JudgedHistory) (j : JudgedHistory) → remarks_on (js ++ j ∷ [])
     ≡ remarks_on js ++ remarks_text j.read.number j.read.recorded
 remarks_more js j =
-    flat_map-append (λ (k : Judged). remarks_text k.read.number k.read.recorded) js (j ∷ [])
+    flat_map-append (λ (k : JudgedHistory). remarks_text k.read.number k.read.recorded) js (j ∷ [])
     ∙ ap (λ t. remarks_on js ++ t) (append-nil (remarks_text j.read.number j.read.recorded))
 
-pub so_far_more : (text : List ℕ) (n : ℕ) (rest : List ℕ) (old mid new before among after : Outgoing)
-    (r : Recorded) (m : ℕ) (more : List ℕ) → IsJudgedSoFar text n rest old mid before among
-    → goes n Opening (parts_of rest)
-    ≡ Ok (record { recorded = r; number = m; rest = parts_of more })
+pub so_far_more : (text : List ℕ) (n : ℕ) (rest : List ℕ) (old mid new before among after : OutputModel)
+    (r : RecordingModel) (m : ℕ) (more : List ℕ) → IsJudgedSoFar text n rest old mid before among
+    → parse_from n Opening (lines_of_text rest)
+    ≡ Ok (record { recorded = r; number = m; rest = lines_of_text more })
     → PutsOrder r mid new → Puts among after (remarks_text m r)
     → IsJudgedSoFar text m more old new before after
 so_far_more text n rest old mid new before among after r m more so reads put remarked =
-    let j : Judged = record {
-      read = record { recorded = r; number = m; rest = parts_of more };
+    let j : JudgedHistory = record {
+      read = record { recorded = r; number = m; rest = lines_of_text more };
       order = put.0;
     } in record {
       judged = so.judged ++ j ∷ [];
-      judged_are = judged_more 1 (parts_of text) so.judged n (parts_of rest) j so.judged_are reads
+      judged_are =
+          judged_more 1 (lines_of_text text) so.judged n (lines_of_text rest) j so.judged_are reads
           put.1;
       texts = subst (Puts old new) (sym (texts_more so.judged j))
           (puts_then old mid new _ _ so.texts put.2);
@@ -201,33 +189,25 @@ so_far_more text n rest old mid new before among after r m more so reads put rem
           (puts_then before among after _ _ so.remarks remarked);
     }
 
-none_put : (now : Outgoing) → Puts now now []
+none_put : (now : OutputModel) → Puts now now []
 none_put now = λ first all h. rw append-nil h
-
-pub none_so_far : (text : List ℕ) (now notes : Outgoing)
-    → IsJudgedSoFar text 1 text now now notes notes
-none_so_far text now notes = record {
-  judged = [];
-  judged_are = (refl, refl);
-  texts = none_put now;
-  remarks = none_put notes;
-}
 
 -- THE END
 
-same_put : (a b c : Outgoing) (bs : List ℕ) → c ≡ b → Puts a b bs → Puts a c bs
+same_put : (a b c : OutputModel) (bs : List ℕ) → c ≡ b → Puts a b bs → Puts a c bs
 same_put a b c bs same put = subst (λ k. Puts a k bs) (sym same) put
 
-pub judges_unread : (text : List ℕ) (n : ℕ) (rest : List ℕ) (old new before among after : Outgoing)
+pub judges_unread : (text : List ℕ) (n : ℕ) (rest : List ℕ) (old new before among after : OutputModel)
     (fault : TextFault) → IsJudgedSoFar text n rest old new before among
-    → IsNoEnd n (parts_of rest) → TellsFault (goes n Opening (parts_of rest)) fault
+    → IsNoEnd n (lines_of_text rest)
+    → ReturnsFault (parse_from n Opening (lines_of_text rest)) fault
     → Puts among after (fault_note fault)
     → Judges (fault_status fault) text old new before after
 judges_unread text n rest old new before among after (faults.At m kind cause) so goes_on tells says = (
   so.judged,
   record {
     number = n;
-    rest = parts_of rest;
+    rest = lines_of_text rest;
     judged_are = so.judged_are;
     remarked = among;
     remarks = so.remarks;
@@ -244,7 +224,7 @@ judges_unread text n rest old new before among after faults.Memory so goes_on te
   so.judged,
   record {
     number = n;
-    rest = parts_of rest;
+    rest = lines_of_text rest;
     judged_are = so.judged_are;
     remarked = among;
     remarks = so.remarks;
@@ -254,15 +234,16 @@ judges_unread text n rest old new before among after faults.Memory so goes_on te
 )
 
 pub judges_stopped : (text : List ℕ) (n : ℕ) (rest : List ℕ)
-    (old new before among mid after : Outgoing) (o : OneRead) (stop : Stop)
-    → IsJudgedSoFar text n rest old new before among → goes n Opening (parts_of rest) ≡ Ok o
+    (old new before among mid after : OutputModel) (o : OneRead) (stop : Stop)
+    → IsJudgedSoFar text n rest old new before among
+    → parse_from n Opening (lines_of_text rest) ≡ Ok o
     → StopsBy o.number o.recorded among mid stop → EndsBy stop mid after
     → Judges (status_by stop) text old new before after
 judges_stopped text n rest old new before among mid after o stops.Refused so reads stop same = (
   so.judged,
   record {
     number = n;
-    rest = parts_of rest;
+    rest = lines_of_text rest;
     judged_are = so.judged_are;
     remarked = among;
     remarks = so.remarks;
@@ -284,7 +265,7 @@ judges_stopped text n rest old new before among mid after o stops.NotDecided so 
   so.judged,
   record {
     number = n;
-    rest = parts_of rest;
+    rest = lines_of_text rest;
     judged_are = so.judged_are;
     remarked = among;
     remarks = so.remarks;
@@ -296,7 +277,7 @@ judges_stopped text n rest old new before among mid after o stops.Memory so read
   so.judged,
   record {
     number = n;
-    rest = parts_of rest;
+    rest = lines_of_text rest;
     judged_are = so.judged_are;
     remarked = among;
     remarks = so.remarks;
@@ -305,18 +286,18 @@ judges_stopped text n rest old new before among mid after o stops.Memory so read
   so.texts,
 )
 
-pub judges_all : (text : List ℕ) (n : ℕ) (rest : List ℕ) (old new before after : Outgoing)
+pub judges_all : (text : List ℕ) (n : ℕ) (rest : List ℕ) (old new before after : OutputModel)
     → IsJudgedSoFar text n rest old new before after → 1 < n → rest ≡ []
     → Judges statuses.Done text old new before after
 judges_all text n rest old new before after so past none = (
   so.judged,
   record {
     number = n;
-    rest = parts_of rest;
+    rest = lines_of_text rest;
     judged_are = so.judged_are;
     remarked = after;
     remarks = so.remarks;
-    ends = (past, ap parts_of none, refl);
+    ends = (past, ap lines_of_text none, refl);
   },
   so.texts,
 )

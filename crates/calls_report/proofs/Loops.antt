@@ -6,9 +6,9 @@ use Rattle.std.proofs.Common.{add-one, decimal, None, slice_get, slice_index_or}
 use Rattle.std.specs.List.{flat_map}
 use Rattle.std.proofs.lemmas.List.{take_more}
 use Rattle.std.proofs.lemmas.List.Concat.{flat_map-append}
-use Rattle.ec_text.specs.Puts.{Outgoing, Puts, Holds}
+use Rattle.ec_text.specs.Puts.{OutputModel, Puts, Holds}
 use Rattle.ec_text.proofs.shared.PutLemmas.{puts_then}
-use Rattle.calls_text.specs.Spelling.{spaced}
+use Rattle.calls_text.specs.Spelling.{numbers_after_spaces}
 
 pub flat_more : {A : Type 0} (f : A → List ℕ) (xs : List A) (i : ℕ) (d : A) → i < length xs
     → flat_map f (take (i + 1) xs) ≡ flat_map f (take i xs) ++ f (get_or xs i d)
@@ -17,7 +17,7 @@ flat_more f xs i d lt =
     ∙ flat_map-append f (take i xs) (get_or xs i d ∷ [])
     ∙ ap (λ (r : List ℕ). flat_map f (take i xs) ++ r) (append-nil (f (get_or xs i d)))
 
-pub puts_more : {A : Type 0} (f : A → List ℕ) (xs : List A) (i : ℕ) (d : A) (a b c : Outgoing)
+pub puts_more : {A : Type 0} (f : A → List ℕ) (xs : List A) (i : ℕ) (d : A) (a b c : OutputModel)
     → i < length xs → Puts a b (flat_map f (take i xs)) → Puts b c (f (get_or xs i d))
     → Puts a c (flat_map f (take (i + 1) xs))
 puts_more f xs i d a b c lt before now =
@@ -30,23 +30,26 @@ zeros_end : (n : ℕ) → replicate {A = ℕ} (suc n) 0 ≡ replicate {A = ℕ} 
 zeros_end zero = refl
 zeros_end (suc n) = ap (λ (ns : List ℕ). 0 ∷ ns) (zeros_end n)
 
-zeros_next : (n : ℕ) → spaced (replicate (suc n) 0) ≡ spaced (replicate n 0) ++ spaced (0 ∷ [])
+zeros_next : (n : ℕ) → numbers_after_spaces (replicate (suc n) 0)
+    ≡ numbers_after_spaces (replicate n 0) ++ numbers_after_spaces (0 ∷ [])
 zeros_next n =
-    ap (λ (ns : List ℕ). spaced ns) (zeros_end n)
+    ap (λ (ns : List ℕ). numbers_after_spaces ns) (zeros_end n)
     ∙ flat_map-append (λ n. 32 ∷ decimal n) (replicate n 0) (0 ∷ [])
 
-pub zeros_more : (n : ℕ) (a b c : Outgoing) → Puts a b (spaced (replicate n 0))
-    → Puts b c (spaced (0 ∷ [])) → Puts a c (spaced (replicate (n + 1) 0))
+pub zeros_more : (n : ℕ) (a b c : OutputModel) → Puts a b (numbers_after_spaces (replicate n 0))
+    → Puts b c (numbers_after_spaces (0 ∷ []))
+    → Puts a c (numbers_after_spaces (replicate (n + 1) 0))
 zeros_more n a b c before now =
     rw add-one
     (subst (Puts a c) (sym (zeros_next n))
-    (puts_then a b c (spaced (replicate n 0)) (spaced (0 ∷ [])) before now))
+    (puts_then a b c (numbers_after_spaces (replicate n 0)) (numbers_after_spaces (0 ∷ [])) before now))
 
 -- NOTHING
 
-pub none_put : (a : Outgoing) (xs : List (List ℕ)) (i : ℕ) → None ≡ slice_get xs i
-    → Puts a a (spaced (slice_index_or xs i []))
-none_put a xs i is = subst (λ (ns : List ℕ). Puts a a (spaced ns)) (sym (missing xs i is))
+pub none_put : (a : OutputModel) (xs : List (List ℕ)) (i : ℕ) → None ≡ slice_get xs i
+    → Puts a a (numbers_after_spaces (slice_index_or xs i []))
+none_put a xs i is =
+    subst (λ (ns : List ℕ). Puts a a (numbers_after_spaces ns)) (sym (missing xs i is))
     (puts_nothing a)
   where
     missing : (ys : List (List ℕ)) (k : ℕ) → None ≡ slice_get ys k → slice_index_or ys k [] ≡ []
@@ -54,5 +57,5 @@ none_put a xs i is = subst (λ (ns : List ℕ). Puts a a (spaced ns)) (sym (miss
     missing (y ∷ ys) zero e = cc
     missing (y ∷ ys) (suc k) e = missing ys k e
 
-    puts_nothing : (o : Outgoing) → Puts o o []
+    puts_nothing : (o : OutputModel) → Puts o o []
     puts_nothing o = λ first all h. subst (Holds first o) (sym (append-nil all)) h

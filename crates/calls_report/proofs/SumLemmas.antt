@@ -19,14 +19,14 @@ count_push : {X : Type 0} (p : X → Bool) (xs : List X) (x : X)
     → count_by p (xs ++ x ∷ []) ≡ (if p x then count_by p xs + 1 else count_by p xs)
 count_push p xs x = sum_by_push (λ y. if p y then 1 else 0) xs x ∙ with_one (p x) (count_by p xs)
 
--- what is stored after one more call
+-- the value after one more call
 value_push : (k v : ℕ) (ps : List Placed) (p : Placed) → value_after k v (ps ++ p ∷ [])
     ≡ (if p.call.object == k then put_value (value_after k v ps) p.call.op else value_after k v ps)
 value_push k v [] p = refl
 value_push k v (q ∷ ps) p =
     value_push k (if q.call.object == k then put_value v q.call.op else v) ps p
 
--- a number that was counted on where the test holds
+-- a count to which one was added if the test holds
 counted : {X : Type 0} (t : X → Bool) (xs : List X) (x : X) (old new : ℕ) → old ≡ count_by t xs
     → new ≡ (if t x then old + 1 else old) → new ≡ count_by t (xs ++ x ∷ [])
 counted t xs x old new was is =

@@ -1,5 +1,5 @@
--- How the count is found that was surely reached: the advances that have returned are those that
--- were invoked, but for the pending ones.
+-- The count that was surely reached: the advances that have returned are those that were invoked,
+-- but for the pending ones.
 use Rattle.std.proofs.Common.{◌≡◌, ℕ, suc, ◌+◌, ◌-◌, ◌<◌, ◌≤◌, ◌==◌, nat_lt, max, Bool, true, false}
 use Rattle.std.proofs.Common.{◌&&◌, List, [], ◌∷◌, ◌++◌, Option, Some, None, refl, ap, sym, ◌∙◌, arith}
 use Rattle.std.proofs.Common.{cond, subst, count_by, reverse, take, drop, get_or, length, IfSome}
@@ -22,8 +22,8 @@ use Rattle.calls_core.proofs.Counting.{one, one_no, count_cons, count_append}
 use Rattle.calls_counts.specs.Faults.{is_advance, least}
 use Rattle.calls_counts.proofs.Events.{count_without}
 use Rattle.calls_report.specs.Counting.{invokes_advance_of, is_advance_of}
-use Rattle.calls_report.specs.Remarks.{returned, returned_after, shown_count, greatest_shown}
-use Rattle.calls_report.specs.kept.Sure.{is_open, is_open_after, left_after, raised_by}
+use Rattle.calls_report.specs.Remarks.{returned_advances, returned_after, shown_count, greatest_shown}
+use Rattle.calls_report.specs.kept.Sure.{is_pending_advance, is_open_after, left_after, raised_by}
 
 -- ADVANCES, BY A TEST OF THEIR INVOCATIONS' POSITIONS
 
@@ -34,7 +34,7 @@ abbrev done_at : (ℕ → Bool) → ℕ → Call → Bool
 done_at q k c = q c.first && ((c.object == k) && is_advance c.op)
 
 abbrev open_at : (ℕ → Bool) → ℕ → PendingCall → Bool
-open_at q k o = q o.first && is_open k o
+open_at q k o = q o.first && is_pending_advance k o
 
 none_taken : (w : ℕ) (os : List PendingCall) → pending_of w os ≡ None → without w os ≡ os
 none_taken w [] e = refl
@@ -137,7 +137,7 @@ later_are kinds k x past later h =
       (all_after kinds k x past later h).0,
     )
 
--- EVENTS IN TURN
+-- EVENTS, ONE AFTER ANOTHER
 
 count_reversed : {X : Type 0} (p : X → Bool) (xs : List X)
     → count_by p (reverse xs) ≡ count_by p xs
@@ -164,7 +164,7 @@ whole_past xs i d lt =
     ∙ reverse-append (take (i + 1) xs) (drop (i + 1) xs)
     ∙ ap (λ zs. reverse (drop (i + 1) xs) ++ zs) (next_past xs i d lt)
 
--- those that have returned of the advances after an event
+-- how many of the advances after an event have returned
 pub returned_is : (kinds : List Kind) (k : ℕ) (events : List Event) (i : ℕ) (d : Event)
     → i < length events → IsHistory kinds (reverse events)
     → returned_after k (get_or events i d).at events
@@ -185,9 +185,9 @@ returned_is kinds k events i d lt h =
       called_are (nat_lt x.at) k (reverse events),
     )
 
--- and of all
-pub all_returned : (k : ℕ) (events : List Event) → returned k events
-    ≡ count_by (is_advance_of k) events - count_by (is_open k) (pending_calls (reverse events))
+-- how many of all advances have returned
+pub all_returned : (k : ℕ) (events : List Event) → returned_advances k events
+    ≡ count_by (is_advance_of k) events - count_by (is_pending_advance k) (pending_calls (reverse events))
 all_returned k events =
     omega (arith, count_reversed (is_advance_of k) events, called_are (λ p. true) k (reverse events))
 

@@ -13,16 +13,16 @@ use Rattle.std.proofs.lemmas.List.Concat.{flat_map-append}
 use Rattle.std.proofs.lemmas.Bool.{ne_eqb}
 use Rattle.ec_count.specs.declared.target.Target.{Target}
 use Rattle.ec_count.specs.declared.target.Target.TheVariants.{Event, Sequencer}
-use Rattle.ec_heading.specs.Headed.{Headed}
+use Rattle.ec_heading.specs.HeadingModel.{HeadingModel}
 use Rattle.ec_heading.specs.declared.group.Group as kinds
 use Rattle.ec_heading.specs.declared.group.Group.TheVariants as groups
 use Rattle.ec_database.specs.Shapes.{Database}
-use Rattle.ec_text.specs.Puts.{Puts, Outgoing}
+use Rattle.ec_text.specs.Puts.{Puts, OutputModel}
 use Rattle.ec_text.proofs.shared.PutLemmas.{puts_then}
 use Rattle.calls_core.specs.declared.history.Placed.{Placed}
-use Rattle.calls_text.specs.Objects.{has_count, has_line}
-use Rattle.calls_text.specs.Recordings.{Recorded, first_group}
-use Rattle.calls_text.specs.Spelling.{list_of}
+use Rattle.ec_heading.specs.Groups.{has_event, has_sequencer}
+use Rattle.calls_text.specs.Recordings.{RecordingModel, first_group}
+use Rattle.calls_text.specs.Spelling.{numbers_of_list}
 use Rattle.calls_report.specs.Totals.{effects, group_event, group_sequencer, event_total}
 use Rattle.calls_report.specs.Totals.{sequencer_total}
 use Rattle.calls_report.specs.Totals.{cell_total, count_line, cell_line, cell_lines, word_totals}
@@ -31,18 +31,18 @@ use Rattle.calls_report.specs.Totals.{totals_at, totals_text}
 -- GROUPS
 
 -- an eventcount of a database
-pub database_event : (h : Headed) (order : List Placed) (e i : ℕ) (g : kinds.Group) (d : Database)
-    (n : ℕ) → g ≡ groups.Database d → has_count g e ≡ true → n ≡ effects order (first_group h + i)
+pub database_event : (h : HeadingModel) (order : List Placed) (e i : ℕ) (g : kinds.Group) (d : Database)
+    (n : ℕ) → g ≡ groups.Database d → has_event g e ≡ true → n ≡ effects order (first_group h + i)
     → Some n ≡ group_event h order e i g
 database_event h order e i g d n is has count =
-    let has' : has_count (groups.Database d) e ≡ true = ap (λ k. has_count k e) (sym is) ∙ has in
+    let has' : has_event (groups.Database d) e ≡ true = ap (λ k. has_event k e) (sym is) ∙ has in
     rw is (rw (has', count) refl)
 
-pub database_sequencer : (h : Headed) (order : List Placed) (q i : ℕ) (g : kinds.Group)
-    (d : Database) (n : ℕ) → g ≡ groups.Database d → has_line g q ≡ true
+pub database_sequencer : (h : HeadingModel) (order : List Placed) (q i : ℕ) (g : kinds.Group)
+    (d : Database) (n : ℕ) → g ≡ groups.Database d → has_sequencer g q ≡ true
     → n ≡ effects order (first_group h + i) → Some n ≡ group_sequencer h order q i g
 database_sequencer h order q i g d n is has count =
-    let has' : has_line (groups.Database d) q ≡ true = ap (λ k. has_line k q) (sym is) ∙ has in
+    let has' : has_sequencer (groups.Database d) q ≡ true = ap (λ k. has_sequencer k q) (sym is) ∙ has in
     rw is (rw (has', count) refl)
 
 no_list : (lists : List (List ℕ)) (k : ℕ) → None ≡ slice_get lists k → get_or lists k [] ≡ []
@@ -50,9 +50,9 @@ no_list [] k none = refl
 no_list (l ∷ lists) zero none = cc
 no_list (l ∷ lists) (suc k) none = no_list lists k none
 
--- a list that is not kept has zeros
+-- a list that is not stored has zeros
 pub no_number : (lists : List (List ℕ)) (cells n m i : ℕ) → n ≡ m → (n ≡ 0 → ⊥)
-    → None ≡ slice_get lists (n - 1) → 0 ≡ get_or (list_of lists cells m) i 0
+    → None ≡ slice_get lists (n - 1) → 0 ≡ get_or (numbers_of_list lists cells m) i 0
 no_number lists cells n m i is some none =
     let test : (m == 0) ≡ false = ne_eqb m 0 (λ e. some (is ∙ e)) in
     let empty : get_or lists (m - 1) [] ≡ [] =
@@ -61,12 +61,12 @@ no_number lists cells n m i is some none =
 
 -- CELLS
 
--- the line of the cell at a place of a block, if there is one
-abbrev line_at : Recorded → List Placed → List ℕ → ℕ → ℕ → List ℕ
+-- the line of the cell at an index of a block, if there is one
+abbrev line_at : RecordingModel → List Placed → List ℕ → ℕ → ℕ → List ℕ
 line_at r order word first i =
     if nat_lt (first + i) 256 then cell_line word i (cell_total r order (first + i)) else []
 
-lines_next : (r : Recorded) (order : List Placed) (word : List ℕ) (first i n : ℕ)
+lines_next : (r : RecordingModel) (order : List Placed) (word : List ℕ) (first i n : ℕ)
     → cell_lines r order word first i (suc n)
     ≡ cell_lines r order word first i n ++ line_at r order word first (i + n)
 unfolding cell_lines
@@ -78,7 +78,7 @@ lines_next r order word first i (suc n) =
     rw same (ap (λ t. line_at r order word first i ++ t) (lines_next r order word first (i + 1) n)
     ∙ sym (append_assoc (line_at r order word first i) (cell_lines r order word first (i + 1) n) _))
 
-pub no_lines : (now : Outgoing) (r : Recorded) (order : List Placed) (word : List ℕ) (first : ℕ)
+pub no_lines : (now : OutputModel) (r : RecordingModel) (order : List Placed) (word : List ℕ) (first : ℕ)
     → Puts now now (cell_lines r order word first 0 0)
 unfolding cell_lines
 no_lines now r order word first = λ begun all h. rw append-nil h
@@ -88,7 +88,7 @@ at_option : (b : Bool) (f : ℕ → List ℕ) (x : ℕ)
 at_option true f x = refl
 at_option false f x = refl
 
-pub line_put : (a b c : Outgoing) (r : Recorded) (order : List Placed) (word : List ℕ)
+pub line_put : (a b c : OutputModel) (r : RecordingModel) (order : List Placed) (word : List ℕ)
     (first n : ℕ) (cell : Option ℕ) → Puts a b (cell_lines r order word first 0 n)
     → cell ≡ (if nat_lt (first + n) 256 then Some (first + n) else None)
     → Puts b c (option_map_or (λ x. cell_line word n (cell_total r order x)) cell [])
@@ -110,7 +110,7 @@ line_put a b c r order word first n cell before is now =
 
 -- WORDS
 
-pub event_put : (a b : Outgoing) (r : Recorded) (order : List Placed) (word : List ℕ)
+pub event_put : (a b : OutputModel) (r : RecordingModel) (order : List Placed) (word : List ℕ)
     (target : Target) (e n : ℕ) → target ≡ Event e → n ≡ event_total r order e
     → Puts a b (count_line (codes "eventcount ") word n)
     → Puts a b (word_totals r order word target)
@@ -118,7 +118,7 @@ event_put a b r order word target e n at is put =
     subst (Puts a b) (ap (count_line (codes "eventcount ") word) is
     ∙ ap (word_totals r order word) (sym at)) put
 
-pub sequencer_put : (a b : Outgoing) (r : Recorded) (order : List Placed) (word : List ℕ)
+pub sequencer_put : (a b : OutputModel) (r : RecordingModel) (order : List Placed) (word : List ℕ)
     (target : Target) (q n : ℕ) → target ≡ Sequencer q → n ≡ sequencer_total r order q
     → Puts a b (count_line (codes "sequencer ") word n)
     → Puts a b (word_totals r order word target)
@@ -127,7 +127,7 @@ sequencer_put a b r order word target q n at is put =
     ∙ ap (word_totals r order word) (sym at)) put
 
 -- the lines of these words
-abbrev pub lines_of : Recorded → List Placed → List (List ℕ × Target) → List ℕ
+abbrev pub lines_of : RecordingModel → List Placed → List (List ℕ × Target) → List ℕ
 lines_of r order words = flat_map (λ (e : List ℕ × Target). word_totals r order e.0 e.1) words
 
 take_more : {A : Type 0} (xs : List A) (k : ℕ) (x : A) → slice_get xs k ≡ Some x
@@ -143,14 +143,14 @@ take_past [] (suc k) h = refl
 take_past (y ∷ ys) zero h = cc
 take_past (y ∷ ys) (suc k) h = ap (λ t. y ∷ t) (take_past ys k h)
 
-word_more : (r : Recorded) (order : List Placed) (words : List (List ℕ × Target))
+word_more : (r : RecordingModel) (order : List Placed) (words : List (List ℕ × Target))
     (e : List ℕ × Target) → lines_of r order (words ++ e ∷ [])
     ≡ lines_of r order words ++ word_totals r order e.0 e.1
 word_more r order words e =
     flat_map-append (λ (d : List ℕ × Target). word_totals r order d.0 d.1) words (e ∷ [])
     ∙ ap (λ t. lines_of r order words ++ t) (append-nil (word_totals r order e.0 e.1))
 
-one_more : (r : Recorded) (order : List Placed) (words : List (List ℕ × Target)) (k : ℕ)
+one_more : (r : RecordingModel) (order : List Placed) (words : List (List ℕ × Target)) (k : ℕ)
     → lines_of r order (take (suc k) words)
     ≡ lines_of r order (take k words) ++ totals_at r order (slice_get words k)
 one_more r order words k =
@@ -162,7 +162,7 @@ one_more r order words k =
           ∙ word_more r order (take k words) e
     ] refl
 
-pub word_put : (a b c : Outgoing) (r : Recorded) (order : List Placed)
+pub word_put : (a b c : OutputModel) (r : RecordingModel) (order : List Placed)
     (words : List (List ℕ × Target)) (k : ℕ) → Puts a b (lines_of r order (take k words))
     → Puts b c (totals_at r order (slice_get words k))
     → Puts a c (lines_of r order (take (k + 1) words))
@@ -170,7 +170,7 @@ word_put a b c r order words k before now =
     subst (Puts a c) (sym (ap (λ n. lines_of r order (take n words)) (add-one k)
     ∙ one_more r order words k)) (puts_then a b c _ _ before now)
 
-pub words_put : (a b : Outgoing) (r : Recorded) (order : List Placed)
+pub words_put : (a b : OutputModel) (r : RecordingModel) (order : List Placed)
     (words : List (List ℕ × Target)) (k : ℕ) → length words ≤ k → words ≡ r.heading.words
     → Puts a b (lines_of r order (take k words)) → Puts a b (totals_text r order)
 words_put a b r order words k far all put =

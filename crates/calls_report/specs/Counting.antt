@@ -9,8 +9,8 @@ use Rattle.calls_core.specs.declared.history.Call.{Call}
 use Rattle.calls_core.specs.declared.history.PendingCall.{PendingCall}
 use Rattle.calls_counts.specs.Faults.{is_advance}
 use Rattle.calls_semaphores.specs.Banks.{took, adds}
-use Rattle.calls_report.specs.declared.counting.Counted.{Counted}
-use Rattle.calls_report.specs.declared.counting.Counted.TheVariants as counts
+use Rattle.calls_report.specs.declared.counting.CountFilter.{CountFilter}
+use Rattle.calls_report.specs.declared.counting.CountFilter.TheVariants as counts
 
 abbrev pub is_at_most : ℕ → Reply → Bool
 is_at_most n Done = false
@@ -18,7 +18,7 @@ is_at_most n (Number m) = nat_le m n
 is_at_most n Timeout = false
 
 -- whether a completed call is counted
-abbrev pub is_counted : Counted → Call → Bool
+abbrev pub is_counted : CountFilter → Call → Bool
 is_counted (counts.Advances k from before) c =
     (c.object == k) && (is_advance c.op && (nat_le from c.first && nat_lt c.last before))
 is_counted (counts.Tickets k n) c = (c.object == k) && is_at_most n c.reply
@@ -35,9 +35,9 @@ invokes_advance_of k (Respond r) = false
 abbrev pub is_advance_of : ℕ → Event → Bool
 is_advance_of k x = invokes_advance_of k x.action
 
-abbrev pub invokes_up_of : ℕ → Action → Bool
-invokes_up_of i (Invoke j op) = adds i op
-invokes_up_of i (Respond r) = false
+abbrev pub invokes_v_of : ℕ → Action → Bool
+invokes_v_of i (Invoke j op) = adds i op
+invokes_v_of i (Respond r) = false
 
-abbrev pub is_up_of : ℕ → Event → Bool
-is_up_of i x = invokes_up_of i x.action
+abbrev pub is_v_of : ℕ → Event → Bool
+is_v_of i x = invokes_v_of i x.action

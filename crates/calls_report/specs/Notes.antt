@@ -1,25 +1,25 @@
 -- The notes.
 use Rattle.std.specs.Prelude.{ℕ, ◌-◌, List, ◌++◌, length, codes, decimal, if◌then◌else◌}
-use Rattle.ec_text.specs.Puts.{Outgoing, Puts}
-use Rattle.calls_text.specs.declared.fault.Kind.{Kind}
-use Rattle.calls_text.specs.declared.fault.Kind.TheVariants as kinds
+use Rattle.ec_text.specs.Puts.{OutputModel, Puts}
+use Rattle.calls_text.specs.declared.fault.FaultKind.{FaultKind}
+use Rattle.calls_text.specs.declared.fault.FaultKind.TheVariants as kinds
 use Rattle.calls_text.specs.declared.fault.Cause.{Cause}
 use Rattle.calls_text.specs.declared.fault.Cause.TheVariants as causes
 use Rattle.calls_text.specs.declared.fault.TextFault.{TextFault}
 use Rattle.calls_text.specs.declared.fault.TextFault.TheVariants as faults
 use Rattle.calls_text.specs.Faults.{kind_number, kind_name}
-use Rattle.calls_text.specs.Recordings.{Recorded}
-use Rattle.calls_text.specs.Spelling.{store_word, value_of, spaced}
+use Rattle.calls_text.specs.Recordings.{RecordingModel}
+use Rattle.calls_text.specs.Spelling.{store_word, numbers_of_value, numbers_after_spaces}
 use Rattle.calls_cells.specs.declared.outcome.Undecided as cells
 use Rattle.calls_verdict.specs.declared.verdict.Refusal.{Refusal}
 use Rattle.calls_report.specs.declared.certificate.Certificate.{Certificate}
 use Rattle.calls_report.specs.Certificates.{IsCertificate}
-use Rattle.calls_report.specs.Refusals.{Scene, line_of, is_cell, certificate_text}
+use Rattle.calls_report.specs.Refusals.{SiteModel, line_of, is_cell, certificate_text}
 
 -- FAULTS OF TEXTS
 
--- what a kind of fault says
-abbrev pub kind_text : Kind → List ℕ
+-- the text for a kind of fault
+abbrev pub kind_text : FaultKind → List ℕ
 kind_text kinds.BadHeader = codes "evc-calls 1 is expected"
 kind_text kinds.BadLine = codes "no line of this form may stand here"
 kind_text kinds.BadName = codes "a word is no name"
@@ -37,8 +37,8 @@ kind_text kinds.Idle = codes "the worker has no pending call"
 kind_text kinds.Unsuited = codes "the reply does not suit the call"
 kind_text kinds.AtLimit = codes "the limit is passed"
 
--- what is wrong with a line
-abbrev pub cause_text : Kind → Cause → List ℕ
+-- the text that says what is wrong with a line
+abbrev pub cause_text : FaultKind → Cause → List ℕ
 cause_text kind causes.Long = codes "more than 8192 bytes"
 cause_text kind causes.Mark = codes "a byte order mark"
 cause_text kind causes.Return = codes "a carriage return at the end"
@@ -52,7 +52,7 @@ cause_text kind causes.Other = kind_text kind
 abbrev pub line_words : ℕ → List ℕ
 line_words n = codes "line " ++ decimal n ++ codes ": "
 
-abbrev pub kind_words : Kind → List ℕ
+abbrev pub kind_words : FaultKind → List ℕ
 kind_words kind = decimal (kind_number kind) ++ codes " " ++ kind_name kind
 
 -- the note on a fault of a text
@@ -64,11 +64,11 @@ fault_note faults.Memory = codes "no memory\n"
 -- HISTORIES WITHOUT A LINEARIZATION
 
 -- the number of the line of the event at position 0, if n is that of the line after `end`
-abbrev pub first_line : ℕ → Recorded → ℕ
+abbrev pub first_line : ℕ → RecordingModel → ℕ
 first_line n r = n - 1 - length r.events
 
-abbrev pub scene_of : ℕ → Recorded → ℕ → ℕ → Scene
-scene_of n r object at = record {
+abbrev pub site_of : ℕ → RecordingModel → ℕ → ℕ → SiteModel
+site_of n r object at = record {
   heading = r.heading;
   lists = r.lists;
   object = object;
@@ -77,8 +77,8 @@ scene_of n r object at = record {
 }
 
 -- the same, if n is the number of the line of the event at position 0
-abbrev pub scene_at : Recorded → ℕ → ℕ → ℕ → Scene
-scene_at r object n at = record {
+abbrev pub site_at : RecordingModel → ℕ → ℕ → ℕ → SiteModel
+site_at r object n at = record {
   heading = r.heading;
   lists = r.lists;
   object = object;
@@ -87,34 +87,35 @@ scene_at r object n at = record {
 }
 
 -- the note of a certificate
-abbrev pub refusal_note : Scene → Certificate → List ℕ
+abbrev pub refusal_note : SiteModel → Certificate → List ℕ
 refusal_note s shown =
     (codes "line " ++ line_of s s.at ++ codes ": ") ++ certificate_text s shown ++ codes "\n"
 
--- a note is put of what the calls of the object show, up to the first faulty event
-abbrev pub SaysRefusal : ℕ → Recorded → Refusal → Outgoing → Outgoing → Type 0
+-- a note is put with a certificate of the refusal
+abbrev pub SaysRefusal : ℕ → RecordingModel → Refusal → OutputModel → OutputModel → Type 0
 SaysRefusal n r refusal old new =
     (shown : Certificate) × IsCertificate r refusal shown
-    × Puts old new (refusal_note (scene_of n r refusal.object refusal.at) shown)
+    × Puts old new (refusal_note (site_of n r refusal.object refusal.at) shown)
 
 -- HISTORIES THAT ARE NOT DECIDED
 
-unfoldable pub repeated_words : Scene → List ℕ
+unfoldable pub repeated_words : SiteModel → List ℕ
 repeated_words s =
     if is_cell s then codes " was put more than once, and the puts of lines "
     else codes " was written more than once, and the writes of lines "
 
-abbrev pub undecided_text : Scene → ℕ → List ℕ
+abbrev pub undecided_text : SiteModel → ℕ → List ℕ
 undecided_text s value =
-    codes " is not decided:" ++ spaced (value_of s.heading s.lists s.object value)
+    codes " is not decided:"
+    ++ numbers_after_spaces (numbers_of_value s.heading s.lists s.object value)
 
-abbrev pub repeated_text : Scene → ℕ → List ℕ
+abbrev pub repeated_text : SiteModel → ℕ → List ℕ
 repeated_text s value = store_word s.heading s.object ++ undecided_text s value ++ repeated_words s
 
-abbrev pub overlap_text : Scene → cells.Undecided → List ℕ
+abbrev pub overlap_text : SiteModel → cells.Undecided → List ℕ
 overlap_text s u =
     line_of s u.first.first ++ codes " and " ++ line_of s u.second.first ++ codes " overlap\n"
 
 -- the note on a cell or a database that is not decided
-abbrev pub undecided_note : Scene → cells.Undecided → List ℕ
+abbrev pub undecided_note : SiteModel → cells.Undecided → List ℕ
 undecided_note s u = repeated_text s u.value ++ overlap_text s u

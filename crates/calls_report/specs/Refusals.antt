@@ -4,7 +4,7 @@ use Rattle.std.specs.Prelude.{[]}
 use Rattle.std.specs.Prelude.{◌∷◌, ◌++◌}
 use Rattle.std.specs.Prelude.{length, codes, decimal, if◌then◌else◌}
 use Rattle.std.specs.List.{flat_map}
-use Rattle.ec_heading.specs.Headed.{Headed}
+use Rattle.ec_heading.specs.HeadingModel.{HeadingModel}
 use Rattle.calls_core.specs.declared.history.Op.{Op}
 use Rattle.calls_core.specs.declared.history.Op.TheVariants as ops
 use Rattle.calls_core.specs.declared.history.Reply.{Reply}
@@ -12,22 +12,22 @@ use Rattle.calls_core.specs.declared.history.Reply.TheVariants as replies
 use Rattle.calls_core.specs.declared.history.Call.{Call}
 use Rattle.calls_tickets.specs.Faults.{number}
 use Rattle.calls_text.specs.Recordings.{first_sequencer, first_group}
-use Rattle.calls_text.specs.Spelling.{event_word, sequencer_word, group_word, store_word, value_of}
-use Rattle.calls_text.specs.Spelling.{spaced}
+use Rattle.calls_text.specs.Spelling.{event_word, sequencer_word, group_word, store_word, numbers_of_value}
+use Rattle.calls_text.specs.Spelling.{numbers_after_spaces}
 use Rattle.calls_report.specs.declared.certificate.Certificate.{Certificate}
 use Rattle.calls_report.specs.declared.certificate.Certificate.TheVariants as shows
 
--- where a certificate stands: what is declared, the lists of numbers, the object, the number of the
+-- the site of a certificate: what is declared, the lists of numbers, the object, the number of the
 -- line of the event at position 0, and the position of the first faulty event
-pub record Scene : Type 0 where
-  pub heading : Headed
+pub record SiteModel : Type 0 where
+  pub heading : HeadingModel
   pub lists : List (List ℕ)
   pub object : ℕ
   pub first : ℕ
   pub at : ℕ
 
--- the number of the line of a position; it does not go past the greatest of 64 bits
-abbrev pub line_of : Scene → ℕ → List ℕ
+-- the number of the line of the event at a position, at most 2 ^ 64 - 1
+abbrev pub line_of : SiteModel → ℕ → List ℕ
 line_of s n = decimal (min (s.first + n) (2 ^ 64 - 1))
 
 -- EVENTCOUNTS
@@ -35,10 +35,10 @@ line_of s n = decimal (min (s.first + n) (2 ^ 64 - 1))
 abbrev pub advances_word : ℕ → List ℕ
 advances_word n = if n == 1 then codes " advance of " else codes " advances of "
 
-abbrev pub advances_text : Scene → ℕ → List ℕ
+abbrev pub advances_text : SiteModel → ℕ → List ℕ
 advances_text s n = decimal n ++ advances_word n ++ event_word s.heading s.object
 
--- the count at the beginning, if it is not 0
+-- the initial count, if it is not 0
 abbrev pub start_text : ℕ → List ℕ
 start_text n = if n == 0 then [] else codes ", from " ++ decimal n
 
@@ -60,56 +60,56 @@ abbrev pub returned_text : Reply → List ℕ
 returned_text (replies.Number n) = codes "returned " ++ decimal n
 returned_text _ = codes "returned timeout"
 
--- an await returned this, and awaited more, or 0
+-- an await returned a number below its threshold, or gave up on 0
 abbrev pub below_text : Call → List ℕ
 below_text c = returned_text c.reply ++ (codes ", but it awaited " ++ decimal (threshold c.op))
 
-abbrev pub only_text : Scene → ℕ → List ℕ
+abbrev pub only_text : SiteModel → ℕ → List ℕ
 only_text s n = codes ", but only " ++ advances_text s n ++ codes " had been called"
 
--- so many advances are too few
-abbrev pub few_text : Scene → Call → ℕ → ℕ → List ℕ
+-- there were too few advances for the count
+abbrev pub few_text : SiteModel → Call → ℕ → ℕ → List ℕ
 few_text s c n start = count_text c ++ only_text s n ++ start_text start
 
-abbrev pub when_text : Scene → Call → List ℕ
+abbrev pub when_text : SiteModel → Call → List ℕ
 when_text s c = codes ", but when it was called (line " ++ line_of s c.first ++ codes ") "
 
-abbrev pub made_text : Scene → ℕ → ℕ → List ℕ
+abbrev pub made_text : SiteModel → ℕ → ℕ → List ℕ
 made_text s n start = advances_text s n ++ codes " had returned" ++ start_text start
 
--- so many advances are too many
-abbrev pub many_text : Scene → Call → ℕ → ℕ → List ℕ
+-- there were too many advances for the count
+abbrev pub many_text : SiteModel → Call → ℕ → ℕ → List ℕ
 many_text s c n start = count_text c ++ when_text s c ++ made_text s n start
 
 -- the line of an earlier response
-abbrev pub but_line : Scene → ℕ → List ℕ
+abbrev pub but_line : SiteModel → ℕ → List ℕ
 but_line s n = codes ", but line " ++ line_of s n
 
-abbrev pub before_text : Scene → Call → List ℕ
+abbrev pub before_text : SiteModel → Call → List ℕ
 before_text s c = codes " before it was called (line " ++ line_of s c.first ++ codes ")"
 
-abbrev pub among_text : Scene → Call → ℕ → List ℕ
+abbrev pub among_text : SiteModel → Call → ℕ → List ℕ
 among_text s c n =
     codes ", and " ++ advances_text s n ++ codes " were called and returned between it and line "
     ++ line_of s c.first
 
 -- that no advance lies between two calls, or how many do
-abbrev pub between_text : Scene → Call → ℕ → List ℕ
+abbrev pub between_text : SiteModel → Call → ℕ → List ℕ
 between_text s c n = if n == 0 then before_text s c else among_text s c n
 
-abbrev pub had_text : Scene → Call → List ℕ
+abbrev pub had_text : SiteModel → Call → List ℕ
 had_text s d = but_line s d.last ++ codes " had " ++ count_text d
 
--- an earlier call says more, with the advances between
-abbrev pub since_text : Scene → Call → Call → ℕ → List ℕ
+-- an earlier call shows a greater count, with the advances between the two
+abbrev pub since_text : SiteModel → Call → Call → ℕ → List ℕ
 since_text s c d n = count_text c ++ had_text s d ++ between_text s c n
 
--- so many advances had surely taken effect
-abbrev pub surely_text : Scene → ℕ → ℕ → List ℕ
+-- how many advances had surely taken effect
+abbrev pub surely_text : SiteModel → ℕ → ℕ → List ℕ
 surely_text s n start =
     advances_text s n ++ codes " had surely taken effect" ++ start_text start
 
-abbrev pub raised_text : Scene → Call → ℕ → ℕ → List ℕ
+abbrev pub raised_text : SiteModel → Call → ℕ → ℕ → List ℕ
 raised_text s c n start = count_text c ++ when_text s c ++ surely_text s n start
 
 -- SEQUENCERS
@@ -118,44 +118,44 @@ abbrev pub number_text : Call → List ℕ
 number_text c = codes "returned " ++ decimal (number c)
 
 -- two calls returned one number
-abbrev pub twice_text : Scene → Call → Call → List ℕ
+abbrev pub twice_text : SiteModel → Call → Call → List ℕ
 twice_text s a b =
     number_text a ++ codes ", as line " ++ line_of s (min a.last b.last) ++ codes " had"
 
-abbrev pub had_number : Scene → Call → List ℕ
+abbrev pub had_number : SiteModel → Call → List ℕ
 had_number s a = but_line s a.last ++ codes " had " ++ number_text a
 
 -- a greater number was returned before
-abbrev pub turned_text : Scene → Call → Call → List ℕ
+abbrev pub turned_text : SiteModel → Call → Call → List ℕ
 turned_text s a b = number_text b ++ had_number s a ++ before_text s b
 
 -- the line of an earlier call
-abbrev pub earlier_text : Scene → ℕ → List ℕ
+abbrev pub earlier_text : SiteModel → ℕ → List ℕ
 earlier_text s n = if n == s.at then [] else codes "line " ++ line_of s n ++ codes " had "
 
 abbrev pub tickets_word : ℕ → List ℕ
 tickets_word n = if n == 1 then codes " ticket of " else codes " tickets of "
 
-abbrev pub tickets_text : Scene → ℕ → List ℕ
+abbrev pub tickets_text : SiteModel → ℕ → List ℕ
 tickets_text s n =
     codes ", but only " ++ decimal n ++ tickets_word n
     ++ sequencer_word s.heading (s.object - first_sequencer s.heading)
 
 -- so few tickets can have drawn the numbers up to this one
-abbrev pub drawn_text : Scene → Call → ℕ → List ℕ
+abbrev pub drawn_text : SiteModel → Call → ℕ → List ℕ
 drawn_text s c n =
     earlier_text s c.last ++ number_text c ++ tickets_text s n
     ++ (codes " can have drawn 0 to " ++ decimal (number c))
 
 -- no order of the tickets gives the number
-abbrev pub unordered_text : Scene → Call → List ℕ
+abbrev pub unordered_text : SiteModel → Call → List ℕ
 unordered_text s c =
     number_text c ++ codes ", which no order of the tickets of "
     ++ sequencer_word s.heading (s.object - first_sequencer s.heading) ++ codes " gives"
 
 -- SEMAPHORES
 
--- what stands after the digits of an ordinal number
+-- the suffix of an ordinal number, such as `th`
 abbrev pub ordinal : ℕ → List ℕ
 ordinal n =
     if nat_le 11 (n % 100) && nat_le (n % 100) 13 then codes "th"
@@ -170,19 +170,19 @@ abbrev pub units_text : ℕ → ℕ → List ℕ
 units_text units added =
     codes ", with " ++ decimal units ++ codes " at first and " ++ decimal added
 
--- so many units were taken, of so many
-abbrev pub unit_text : Scene → ℕ → ℕ → ℕ → ℕ → List ℕ
+-- more units were taken than there were
+abbrev pub unit_text : SiteModel → ℕ → ℕ → ℕ → ℕ → List ℕ
 unit_text s place taken units added =
     nth_text taken ++ (codes " p of " ++ group_word s.heading place) ++ units_text units added
     ++ codes " v called"
 
 -- a unit was taken, and none was left
-abbrev pub no_unit_text : Scene → ℕ → List ℕ
+abbrev pub no_unit_text : SiteModel → ℕ → List ℕ
 no_unit_text s place = codes "no unit of " ++ group_word s.heading place ++ codes " was left"
 
 -- CELLS AND DATABASES
 
-abbrev pub is_cell : Scene → Bool
+abbrev pub is_cell : SiteModel → Bool
 is_cell s = nat_lt s.object (first_group s.heading)
 
 abbrev pub stored_value : Op → Reply → ℕ
@@ -191,45 +191,46 @@ stored_value op (replies.Number n) = n
 stored_value op _ = 0
 
 -- the value of a put or a get, each number after a space
-abbrev pub value_text : Scene → Call → List ℕ
-value_text s c = spaced (value_of s.heading s.lists s.object (stored_value c.op c.reply))
+abbrev pub value_text : SiteModel → Call → List ℕ
+value_text s c =
+    numbers_after_spaces (numbers_of_value s.heading s.lists s.object (stored_value c.op c.reply))
 
 -- the cell or database, and what a get of it returned
-abbrev pub got_text : Scene → Call → List ℕ
+abbrev pub got_text : SiteModel → Call → List ℕ
 got_text s c = store_word s.heading s.object ++ codes " returned" ++ value_text s c
 
-unfoldable pub no_put : Scene → List ℕ
+unfoldable pub no_put : SiteModel → List ℕ
 no_put s = if is_cell s then codes ", but no put of" else codes ", but no write of"
 
 unfoldable pub called_words : List ℕ
 called_words = codes " had been called"
 
 -- no put of the value had been called
-abbrev pub nowhere_text : Scene → Call → List ℕ
+abbrev pub nowhere_text : SiteModel → Call → List ℕ
 nowhere_text s c = got_text s c ++ no_put s ++ value_text s c ++ called_words
 
-abbrev pub put_had : Scene → List ℕ
+abbrev pub put_had : SiteModel → List ℕ
 put_had s = if is_cell s then codes " had put" else codes " had written"
 
-abbrev pub had_stored : Scene → Op → List ℕ
+abbrev pub had_stored : SiteModel → Op → List ℕ
 had_stored s (ops.Put n) = put_had s
 had_stored s _ = codes " had returned"
 
-abbrev pub stored_text : Scene → Call → List ℕ
+abbrev pub stored_text : SiteModel → Call → List ℕ
 stored_text s c = had_stored s c.op ++ value_text s c
 
 -- a call of another value was completed before the get was called
-abbrev pub stale_text : Scene → Call → Call → List ℕ
+abbrev pub stale_text : SiteModel → Call → Call → List ℕ
 stale_text s c d = got_text s d ++ but_line s c.last ++ stored_text s c ++ before_text s d
 
 -- the line of a position, after a space
-abbrev pub line_text : Scene → ℕ → List ℕ
+abbrev pub line_text : SiteModel → ℕ → List ℕ
 line_text s n = 32 ∷ line_of s n
 
 unfoldable pub alternate_words : List ℕ
 alternate_words = codes " alternate: lines"
 
-abbrev pub two_text : Scene → Call → Call → List ℕ
+abbrev pub two_text : SiteModel → Call → Call → List ℕ
 two_text s c d =
     got_text s c ++ (codes ", but" ++ value_text s c) ++ (codes " and" ++ value_text s d)
     ++ alternate_words
@@ -239,41 +240,41 @@ is_get ops.Get = true
 is_get _ = false
 
 -- whether the first faulty event is the response of c, or of the get b of the same value
-abbrev pub ends_second : Scene → Call → Call → Bool
+abbrev pub ends_second : SiteModel → Call → Call → Bool
 ends_second s b c = (c.last == s.at) || (is_get b.op && (b.last == s.at))
 
--- of the values of a and c that which was returned last comes first
-abbrev pub values_text : Scene → Call → Call → Call → List ℕ
+-- the values of a and c: the one that was returned last comes first
+abbrev pub values_text : SiteModel → Call → Call → Call → List ℕ
 values_text s a b c = if ends_second s b c then two_text s c a else two_text s a c
 
-abbrev pub four_lines : Scene → Call → Call → Call → Call → List ℕ
+abbrev pub four_lines : SiteModel → Call → Call → Call → Call → List ℕ
 four_lines s a b c d =
     line_text s a.last ++ line_text s b.first ++ line_text s c.last ++ line_text s d.first
 
 -- two values alternate
-abbrev pub alternate_text : Scene → Call → Call → Call → Call → List ℕ
+abbrev pub alternate_text : SiteModel → Call → Call → Call → Call → List ℕ
 alternate_text s a b c d = values_text s a b c ++ four_lines s a b c d
 
 -- the lines of responses
-abbrev pub response_lines : Scene → List Call → List ℕ
+abbrev pub response_lines : SiteModel → List Call → List ℕ
 response_lines s cs = flat_map (λ (c : Call). line_text s c.last) cs
 
 -- the lines of the other gets, if there are any
-abbrev pub by_text : Scene → List Call → List ℕ
+abbrev pub by_text : SiteModel → List Call → List ℕ
 by_text s cs = if length cs == 0 then [] else codes ", by lines" ++ response_lines s cs
 
-unfoldable pub none_left : Scene → List ℕ
+unfoldable pub none_left : SiteModel → List ℕ
 none_left s =
     if is_cell s then codes ", but no put is left for it" else codes ", but no write is left for it"
 
 -- no put is left for the first of these gets
-abbrev pub none_left_text : Scene → List Call → List ℕ
+abbrev pub none_left_text : SiteModel → List Call → List ℕ
 none_left_text s [] = []
 none_left_text s (c ∷ cs) = got_text s c ++ none_left s ++ by_text s cs
 
 -- ANY CERTIFICATE
 
-abbrev pub certificate_text : Scene → Certificate → List ℕ
+abbrev pub certificate_text : SiteModel → Certificate → List ℕ
 certificate_text s (shows.Below c) = below_text c
 certificate_text s (shows.Few c n start) = few_text s c n start
 certificate_text s (shows.Many c n start) = many_text s c n start

@@ -1,4 +1,4 @@
--- The remarks: awaits that are pending although their thresholds were surely passed.
+-- The remarks: awaits that are pending although their thresholds were surely reached.
 use Rattle.std.specs.Prelude.{ℕ, ◌+◌, ◌==◌, nat_le, nat_lt, max, ◌&&◌, count_by, List, [], ◌∷◌}
 use Rattle.std.specs.Prelude.{◌++◌, reverse, codes, decimal, if◌then◌else◌}
 use Rattle.std.specs.List.{flat_map}
@@ -9,28 +9,28 @@ use Rattle.calls_core.specs.declared.history.Call.{Call}
 use Rattle.calls_core.specs.declared.history.PendingCall.{PendingCall}
 use Rattle.calls_core.specs.Histories.{completed_calls, pending_calls}
 use Rattle.calls_counts.specs.Faults.{is_advance, least}
-use Rattle.calls_text.specs.Recordings.{Recorded}
+use Rattle.calls_text.specs.Recordings.{RecordingModel}
 use Rattle.calls_text.specs.Spelling.{worker_word, event_word}
 use Rattle.calls_report.specs.declared.remarks.Remark.{Remark}
 use Rattle.calls_report.specs.Certificates.{start_at}
-use Rattle.calls_report.specs.Refusals.{Scene, line_of}
-use Rattle.calls_report.specs.Notes.{scene_of}
+use Rattle.calls_report.specs.Refusals.{SiteModel, line_of}
+use Rattle.calls_report.specs.Notes.{site_of}
 
 -- WHAT THE COUNT HAS SURELY REACHED
 
 -- how many advances of object k have returned
-abbrev pub returned : ℕ → List Event → ℕ
-returned k events =
+abbrev pub returned_advances : ℕ → List Event → ℕ
+returned_advances k events =
     count_by (λ (c : Call). (c.object == k) && is_advance c.op) (completed_calls (reverse events))
 
--- and how many of those that were invoked after position p
+-- how many of those that were invoked after position p
 abbrev pub returned_after : ℕ → ℕ → List Event → ℕ
 returned_after k p events =
     count_by (λ (c : Call). nat_lt p c.first && ((c.object == k) && is_advance c.op))
     (completed_calls (reverse events))
 
 -- the count that a completed call of the eventcount k shows: the least at which it gives its reply,
--- and the advances that were invoked after its response and have returned
+-- plus the advances that were invoked after its response and have returned
 abbrev pub shown_count : ℕ → List Event → Call → ℕ
 shown_count k events c =
     if c.object == k then least c.op c.reply + returned_after k c.last events else 0
@@ -43,9 +43,9 @@ greatest_shown k events n (c ∷ cs) =
 
 -- the count that the eventcount k has surely reached at the end: by the advances that have returned,
 -- or by what a call has shown
-abbrev pub sure_count : Recorded → ℕ → ℕ
+abbrev pub sure_count : RecordingModel → ℕ → ℕ
 sure_count r k =
-    greatest_shown k r.events (start_at r k + returned k r.events)
+    greatest_shown k r.events (start_at r k + returned_advances k r.events)
     (completed_calls (reverse r.events))
 
 -- REMARKS
@@ -55,20 +55,20 @@ remark_by n o (Await v) =
     if nat_le v n then record { call = o; threshold = v; count = n } ∷ [] else []
 remark_by n o _ = []
 
--- the remark on a pending call, if it is an await whose threshold was surely passed
-abbrev pub remark_on : Recorded → PendingCall → List Remark
+-- the remark on a pending call, if it is an await whose threshold was surely reached
+abbrev pub remark_on : RecordingModel → PendingCall → List Remark
 remark_on r o = remark_by (sure_count r o.object) o o.op
 
 -- the remarks on a history, in the order of the invocations
-abbrev pub remarks_of : Recorded → List Remark
+abbrev pub remarks_of : RecordingModel → List Remark
 remarks_of r = flat_map (remark_on r) (pending_calls (reverse r.events))
 
 -- AS TEXT
 
-abbrev pub remark_head : Scene → PendingCall → List ℕ
+abbrev pub remark_head : SiteModel → PendingCall → List ℕ
 remark_head s o = codes "remark: line " ++ line_of s o.first ++ codes ": "
 
-abbrev pub awaits_text : Scene → PendingCall → ℕ → List ℕ
+abbrev pub awaits_text : SiteModel → PendingCall → ℕ → List ℕ
 awaits_text s o v =
     worker_word s.heading o.worker ++ codes " awaits " ++ event_word s.heading o.object
     ++ codes " " ++ decimal v
@@ -76,14 +76,14 @@ awaits_text s o v =
 abbrev pub sure_text : ℕ → List ℕ
 sure_text n = codes ", and the count was surely " ++ decimal n ++ codes "\n"
 
-abbrev pub remark_text : Scene → Remark → List ℕ
+abbrev pub remark_text : SiteModel → Remark → List ℕ
 remark_text s m =
     remark_head s m.call ++ awaits_text s m.call m.threshold ++ sure_text m.count
 
 -- the lines of these remarks
-abbrev pub remark_lines : Scene → List Remark → List ℕ
+abbrev pub remark_lines : SiteModel → List Remark → List ℕ
 remark_lines s ms = flat_map (remark_text s) ms
 
 -- the remarks on a history as text, if n is the number of the line after its `end`
-abbrev pub remarks_text : ℕ → Recorded → List ℕ
-remarks_text n r = remark_lines (scene_of n r 0 0) (remarks_of r)
+abbrev pub remarks_text : ℕ → RecordingModel → List ℕ
+remarks_text n r = remark_lines (site_of n r 0 0) (remarks_of r)

@@ -1,4 +1,4 @@
--- What the calls of a linearization make of the objects, as text.
+-- The totals of the objects after the calls of a linearization, as text.
 use Rattle.std.specs.Prelude.{ℕ, ◌+◌, ◌^◌, ◌==◌, zero, suc, Bool, true, false, ◌&&◌, nat_lt}
 use Rattle.std.specs.Prelude.{count_by}
 use Rattle.std.specs.Prelude.{List, [], ◌∷◌, ◌++◌}
@@ -8,17 +8,17 @@ use Rattle.std.specs.List.{flat_map}
 use Rattle.ec_count.specs.declared.target.Target.{Target}
 use Rattle.ec_count.specs.declared.target.Target.TheVariants.{Worker, Event, Sequencer, Cells}
 use Rattle.ec_count.specs.declared.target.Target.TheVariants.{Group}
-use Rattle.ec_heading.specs.Headed.{Headed}
+use Rattle.ec_heading.specs.HeadingModel.{HeadingModel}
 use Rattle.ec_heading.specs.declared.group.Group as kinds
 use Rattle.ec_heading.specs.declared.group.Group.TheVariants as groups
 use Rattle.calls_core.specs.declared.history.Op.{Op}
 use Rattle.calls_core.specs.declared.history.Op.TheVariants as ops
 use Rattle.calls_core.specs.declared.history.Placed.{Placed}
 use Rattle.calls_semaphores.specs.Banks.{takes, is_done}
-use Rattle.calls_text.specs.Objects.{has_count, has_line, has_cell}
-use Rattle.calls_text.specs.Recordings.{Recorded, first_sequencer, first_cell, first_group}
-use Rattle.calls_text.specs.Recordings.{start_of}
-use Rattle.calls_text.specs.Spelling.{list_of}
+use Rattle.ec_heading.specs.Groups.{has_event, has_sequencer, has_cell}
+use Rattle.calls_text.specs.Recordings.{RecordingModel, first_sequencer, first_cell, first_group}
+use Rattle.calls_text.specs.Recordings.{start_count}
+use Rattle.calls_text.specs.Spelling.{numbers_of_list}
 
 -- COUNTS OVER THE ORDER
 
@@ -36,69 +36,70 @@ has_effect k p = (p.call.object == k) && is_effect p.call.op
 abbrev pub effects : List Placed → ℕ → ℕ
 effects order k = count_by (has_effect k) order
 
--- what is stored after a call where v was
+-- the value after a call, if it was v before
 abbrev pub put_value : ℕ → Op → ℕ
 put_value v (ops.Put w) = w
 put_value v _ = v
 
--- what object k stores after these calls where v was
+-- the value of object k after these calls, if it was v before
 abbrev pub value_after : ℕ → ℕ → List Placed → ℕ
 value_after k v [] = v
 value_after k v (p ∷ ps) = value_after k (if p.call.object == k then put_value v p.call.op else v)
     ps
 
--- whether a call adds a unit to the semaphore at place i
+-- whether a call adds a unit to the semaphore at index i among the groups
 abbrev pub adds_to : ℕ → Op → Bool
 adds_to i (ops.V j) = j == i
 adds_to i _ = false
 
-abbrev pub added : List Placed → ℕ → ℕ
-added order i = count_by (λ (p : Placed). adds_to i p.call.op) order
+abbrev pub added_units : List Placed → ℕ → ℕ
+added_units order i = count_by (λ (p : Placed). adds_to i p.call.op) order
 
--- how many units of the semaphore at place i were taken
-abbrev pub taken : List Placed → ℕ → ℕ
-taken order i = count_by (λ (p : Placed). takes i p.call.op && is_done p.call.reply) order
+-- how many units of the semaphore at index i among the groups were taken
+abbrev pub taken_units : List Placed → ℕ → ℕ
+taken_units order i = count_by (λ (p : Placed). takes i p.call.op && is_done p.call.reply) order
 
 abbrev pub is_pair : Op → Bool
 is_pair (ops.PBoth i j) = true
 is_pair _ = false
 
--- how often units of two were taken at once
+-- how many times units of two semaphores were taken at once
 abbrev pub pairs : List Placed → ℕ
 pairs order = count_by (λ (p : Placed). is_pair p.call.op && is_done p.call.reply) order
 
 -- THE OBJECTS OF GROUPS
 
--- what an eventcount has by the calls of the group at place i, if it belongs to that
-abbrev pub group_event : Headed → List Placed → ℕ → ℕ → kinds.Group → Option ℕ
-group_event h order e i (groups.Buffer b) = if has_count (groups.Buffer b) e then Some 0 else None
+-- the count of an eventcount by the calls of the group at index i, if it belongs to that group
+abbrev pub group_event : HeadingModel → List Placed → ℕ → ℕ → kinds.Group → Option ℕ
+group_event h order e i (groups.Buffer b) = if has_event (groups.Buffer b) e then Some 0 else None
 group_event h order e i (groups.Database d) =
-    if has_count (groups.Database d) e then Some (effects order (first_group h + i)) else None
+    if has_event (groups.Database d) e then Some (effects order (first_group h + i)) else None
 group_event h order e i (groups.Semaphore s) =
-    if has_count (groups.Semaphore s) e then Some (added order i) else None
+    if has_event (groups.Semaphore s) e then Some (added_units order i) else None
 group_event h order e i (groups.Both s) =
-    if has_count (groups.Both s) e then Some (pairs order) else None
+    if has_event (groups.Both s) e then Some (pairs order) else None
 
--- and a sequencer
-abbrev pub group_sequencer : Headed → List Placed → ℕ → ℕ → kinds.Group → Option ℕ
-group_sequencer h order q i (groups.Buffer b) = if has_line (groups.Buffer b) q then Some 0 else
+-- how many numbers the calls of the group at index i drew, if the sequencer belongs to that group
+abbrev pub group_sequencer : HeadingModel → List Placed → ℕ → ℕ → kinds.Group → Option ℕ
+group_sequencer h order q i (groups.Buffer b) = if has_sequencer (groups.Buffer b) q then Some 0 else
     None
 group_sequencer h order q i (groups.Database d) =
-    if has_line (groups.Database d) q then Some (effects order (first_group h + i)) else None
+    if has_sequencer (groups.Database d) q then Some (effects order (first_group h + i)) else None
 group_sequencer h order q i (groups.Semaphore s) =
-    if has_line (groups.Semaphore s) q then Some (taken order i) else None
+    if has_sequencer (groups.Semaphore s) q then Some (taken_units order i) else None
 group_sequencer h order q i (groups.Both s) =
-    if has_line (groups.Both s) q then Some (pairs order) else None
+    if has_sequencer (groups.Both s) q then Some (pairs order) else None
 
--- the numbers of a database in the end
-abbrev pub stored : Recorded → List Placed → ℕ → ℕ → List ℕ
-stored r order i cells = list_of r.lists cells (value_after (first_group r.heading + i) 0 order)
+-- the final numbers of a database
+abbrev pub final_numbers : RecordingModel → List Placed → ℕ → ℕ → List ℕ
+final_numbers r order i cells =
+    numbers_of_list r.lists cells (value_after (first_group r.heading + i) 0 order)
 
--- and a cell
-abbrev pub group_cell : Recorded → List Placed → ℕ → ℕ → kinds.Group → Option ℕ
+-- the final number of a cell of the group at index i, if it belongs to that group
+abbrev pub group_cell : RecordingModel → List Placed → ℕ → ℕ → kinds.Group → Option ℕ
 group_cell r order x i (groups.Buffer b) = if has_cell (groups.Buffer b) x then Some 0 else None
 group_cell r order x i (groups.Database d) =
-    if has_cell (groups.Database d) x then Some (slice_index_or (stored r order i d.cells)
+    if has_cell (groups.Database d) x then Some (slice_index_or (final_numbers r order i d.cells)
     (x - d.first_cell) 0)
     else None
 group_cell r order x i (groups.Semaphore s) = None
@@ -108,25 +109,25 @@ abbrev pub or_else : Option ℕ → Option ℕ → Option ℕ
 or_else None other = other
 or_else (Some n) other = Some n
 
--- what the first group gives that gives something, of those from place i on
+-- the first result that f has for one of these groups; the first of them has index i
 abbrev pub by_groups : (ℕ → kinds.Group → Option ℕ) → ℕ → List kinds.Group → Option ℕ
 by_groups f i [] = None
 by_groups f i (g ∷ gs) = or_else (f i g) (by_groups f (i + 1) gs)
 
--- TOTALS: what each object has by the calls
+-- TOTALS: the final state of each object
 
--- a count does not go past the greatest number of 64 bits
-abbrev pub event_total : Recorded → List Placed → ℕ → ℕ
+-- a count is at most 2 ^ 64 - 1
+abbrev pub event_total : RecordingModel → List Placed → ℕ → ℕ
 event_total r order e =
     unwrap_or (by_groups (group_event r.heading order e) 0 r.heading.groups)
-    (min (start_of r.from e + effects order e) (2 ^ 64 - 1))
+    (min (start_count r.from e + effects order e) (2 ^ 64 - 1))
 
-abbrev pub sequencer_total : Recorded → List Placed → ℕ → ℕ
+abbrev pub sequencer_total : RecordingModel → List Placed → ℕ → ℕ
 sequencer_total r order q =
     unwrap_or (by_groups (group_sequencer r.heading order q) 0 r.heading.groups)
     (effects order (first_sequencer r.heading + q))
 
-abbrev pub cell_total : Recorded → List Placed → ℕ → ℕ
+abbrev pub cell_total : RecordingModel → List Placed → ℕ → ℕ
 cell_total r order x =
     unwrap_or (by_groups (group_cell r order x) 0 r.heading.groups)
     (value_after (first_cell r.heading + x) 0 order)
@@ -140,16 +141,16 @@ abbrev pub cell_line : List ℕ → ℕ → ℕ → List ℕ
 cell_line word i n =
     codes "cell " ++ word ++ codes "[" ++ decimal i ++ codes "] " ++ decimal n ++ codes "\n"
 
--- the lines of n cells of a block, from its i-th on, of which the block begins at cell first; there
--- are 256 cells
-unfoldable pub cell_lines : Recorded → List Placed → List ℕ → ℕ → ℕ → ℕ → List ℕ
+-- the lines of n cells of a block, from its i-th on. The block begins at cell first, and there are
+-- 256 cells
+unfoldable pub cell_lines : RecordingModel → List Placed → List ℕ → ℕ → ℕ → ℕ → List ℕ
 cell_lines r order word first i zero = []
 cell_lines r order word first i (suc n) =
     (if nat_lt (first + i) 256 then cell_line word i (cell_total r order (first + i)) else [])
     ++ cell_lines r order word first (i + 1) n
 
--- the lines of what a word spells
-abbrev pub word_totals : Recorded → List Placed → List ℕ → Target → List ℕ
+-- the lines of the objects that a word names
+abbrev pub word_totals : RecordingModel → List Placed → List ℕ → Target → List ℕ
 word_totals r order word (Event e) = count_line (codes "eventcount ") word (event_total r order e)
 word_totals r order word (Sequencer q) = count_line (codes "sequencer ") word
     (sequencer_total r order q)
@@ -157,12 +158,12 @@ word_totals r order word (Cells first n) = cell_lines r order word first 0 n
 word_totals r order word (Worker w) = []
 word_totals r order word (Group g) = []
 
--- the same of the word at a place, if there is one
-abbrev pub totals_at : Recorded → List Placed → Option (List ℕ × Target) → List ℕ
+-- the same of the word at an index, if there is one
+abbrev pub totals_at : RecordingModel → List Placed → Option (List ℕ × Target) → List ℕ
 totals_at r order None = []
 totals_at r order (Some e) = word_totals r order e.0 e.1
 
 -- the totals, in the order of the declarations and of the objects of each
-abbrev pub totals_text : Recorded → List Placed → List ℕ
+abbrev pub totals_text : RecordingModel → List Placed → List ℕ
 totals_text r order =
     flat_map (λ (e : List ℕ × Target). word_totals r order e.0 e.1) r.heading.words

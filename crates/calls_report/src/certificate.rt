@@ -5,7 +5,9 @@ ghost use Rattle.calls_report.specs.Certificates.{advances_between, start_at, co
 ghost use Rattle.calls_report.specs.Certificates.{ticket_certificate, units_of, unit_certificate};
 ghost use Rattle.calls_report.specs.Certificates.{IsValueCertificate, IsCertificate};
 
-use crate::counting::{Counted, count_advances, count_completed, count_pending_tickets, count_ups};
+use crate::counting::{
+    CountFilter, count_advances, count_completed, count_pending_tickets, count_v_calls,
+};
 use calls_core::{Call, Event, Reply};
 use calls_text::Recording;
 use calls_verdict::{Fault, Refusal};
@@ -18,44 +20,44 @@ use std::alloc::{AllocError, Global};
 pub enum Certificate<'a> {
     /// An await returned a number below its threshold, or one of 0 gave up.
     Below(Call),
-    /// A call says that the count reached more than so many advances that had been called can make,
-    /// from this count at the beginning.
+    /// A call shows a greater count than this many advances can make of this initial count. No more
+    /// advances had been called.
     Few(Call, usize, u64),
-    /// A call says that the count was less than so many advances make that had returned, from this
-    /// count at the beginning.
+    /// A call shows a smaller count than this many advances make of this initial count. They had
+    /// returned before the call was invoked.
     Many(Call, usize, u64),
-    /// A call says that the count was less than an earlier one says, together with so many advances
+    /// The first call shows a smaller count than the second, an earlier one, and this many advances
     /// between the two.
     Since(Call, Call, usize),
-    /// A call says that the count was less than so many advances make that had surely taken effect
-    /// when it was called, from this count at the beginning.
+    /// A call shows a smaller count than this many advances make of this initial count. They had
+    /// surely taken effect when the call was invoked.
     Sure(Call, usize, u64),
     /// Two tickets returned one number.
     Twice(Call, Call),
-    /// The first ticket returned its number before the second was called, which returned a smaller
-    /// one.
+    /// The first ticket returned before the second was invoked, and the second has the smaller
+    /// number.
     Turned(Call, Call),
-    /// Only so many tickets can have drawn the numbers up to that of this one.
+    /// Only this many tickets can have drawn the numbers from 0 to that of this ticket.
     Drawn(Call, usize),
-    /// No order of the tickets gives what this one returned.
+    /// No order of the tickets gives the number of this ticket.
     Unordered(Call),
-    /// So many units of the semaphore at this place were taken, of so many at first and so many
-    /// added.
+    /// More units of a semaphore were taken than there can have been: the initial ones, and one for
+    /// each `v` that had been called. `place` is its index among the groups.
     Units {
         place: usize,
         taken: usize,
         units: u64,
         added: usize,
     },
-    /// A call took a unit of the semaphore at this place, and none was left.
+    /// A call took a unit of the semaphore at this index among the groups, and none was left.
     NoUnit(usize),
     /// No put of what a get returned had been called.
     Nowhere(Call),
-    /// The first call, of another value, was completed before the second was called, a get of 0.
+    /// The first call, of another value, was completed before the second, a get of 0, was invoked.
     Stale(Call, Call),
     /// Two values alternate.
     Alternate(Call, Call, Call, Call),
-    /// No put is left for the first of these gets, by the others.
+    /// No put is left for the first of these gets, since the others need them.
     NoneLeft(&'a [Call]),
 }
 
@@ -69,10 +71,10 @@ fn advances_between(
 ) -> Result<usize, AllocError>
     ensures { IfOk result (λ n. n ≡ advances_between object from before events.now) }
 {
-    count_completed(alloc, events, Counted::Advances(object, from, before))
+    count_completed(alloc, events, CountFilter::Advances(object, from, before))
 }
 
-/// Returns the count of an eventcount at the beginning.
+/// Returns the initial count of an eventcount.
 pub fn start_at(recording: &Recording, object: usize) -> u64
     ensures { result ≡ start_at recording.now object }
 {
@@ -82,7 +84,7 @@ pub fn start_at(recording: &Recording, object: usize) -> u64
     }
 }
 
-/// Returns the advances that had returned before a call.
+/// Returns the certificate `Many` of a call.
 fn of_many<'a>(
     alloc: Global,
     recording: &Recording,
@@ -97,7 +99,7 @@ fn of_many<'a>(
     Ok(Certificate::Many(call, n, start_at(recording, object)))
 }
 
-/// Returns what shows the fault of an eventcount.
+/// Returns the certificate of a fault of an eventcount.
 fn of_count<'a>(
     alloc: Global,
     recording: &Recording,
@@ -125,7 +127,7 @@ fn of_count<'a>(
 }
 
 /// Returns the number that a ticket returned.
-pub(crate) fn number_of(call: &Call) -> usize
+pub(crate) fn ticket_number(call: &Call) -> usize
     ensures { result ≡ number call.now }
 {
     match call.reply {
@@ -134,7 +136,7 @@ pub(crate) fn number_of(call: &Call) -> usize
     }
 }
 
-/// Returns what shows the fault of a sequencer.
+/// Returns the certificate of a fault of a sequencer.
 fn of_ticket<'a>(
     alloc: Global,
     events: &[Event],
@@ -147,7 +149,7 @@ fn of_ticket<'a>(
         calls_tickets::Fault::Twice(one, other) => Ok(Certificate::Twice(one, other)),
         calls_tickets::Fault::Turned(one, other) => Ok(Certificate::Turned(one, other)),
         calls_tickets::Fault::Drawn(call) => {
-            let counted = Counted::Tickets(object, number_of(&call));
+            let counted = CountFilter::Tickets(object, ticket_number(&call));
             let drawn = count_completed(alloc, events, counted)?;
             let pending = count_pending_tickets(alloc, events, object, call.last)?;
             let Some(tickets) = drawn.checked_add(pending) else {
@@ -158,7 +160,7 @@ fn of_ticket<'a>(
     }
 }
 
-/// Returns the units of a semaphore at first.
+/// Returns the initial units of a semaphore.
 fn units_of(heading: &Heading, place: usize) -> u64
     ensures { result ≡ units_of heading.now place }
 {
@@ -168,7 +170,7 @@ fn units_of(heading: &Heading, place: usize) -> u64
     }
 }
 
-/// Returns what shows the fault of a semaphore.
+/// Returns the certificate of a fault of a semaphore.
 fn of_units<'a>(
     alloc: Global,
     heading: &Heading,
@@ -180,13 +182,13 @@ fn of_units<'a>(
     let place = fault.index;
     Ok(Certificate::Units {
         place,
-        taken: count_completed(alloc, events, Counted::Taken(place))?,
+        taken: count_completed(alloc, events, CountFilter::Taken(place))?,
         units: units_of(heading, place),
-        added: count_ups(events, place),
+        added: count_v_calls(events, place),
     })
 }
 
-/// Returns what shows the fault of a cell or a database.
+/// Returns the certificate of a fault of a cell or a database.
 fn of_value<'a>(fault: &'a calls_cells::Fault) -> Certificate<'a>
     ensures { IsValueCertificate fault.now result }
 {
@@ -200,7 +202,7 @@ fn of_value<'a>(fault: &'a calls_cells::Fault) -> Certificate<'a>
     }
 }
 
-/// Returns what shows a fault, by the events up to it.
+/// Returns the certificate of a fault, by the events up to it.
 pub(crate) fn certify<'a>(
     alloc: Global,
     recording: &Recording,

@@ -1,4 +1,4 @@
-//! `check`: histories of calls in, an order of the calls of each out.
+//! `check`: reads histories of calls, and writes a linearization of each.
 ghost use Rattle.std.specs.Prelude.{◌≡◌, ◌≤◌, IfSome, IsSome, IfOk, OnOk, OnErr, IfErr, length};
 ghost use Rattle.ec_text.specs.Puts.{Puts, IsWrittenOut};
 ghost use Rattle.calls_report.specs.declared.status.Status.TheVariants.{Done};
@@ -11,9 +11,9 @@ ghost use Rattle.calls_report.specs.kept.Sums.{AreSums};
 ghost use Rattle.calls_report.specs.kept.Judging.{PutsOrder, StopsBy, status_by, EndsBy};
 ghost use Rattle.calls_report.specs.kept.Judging.{fault_status, Judges};
 
-use crate::notes::{say_fault, say_refusal, say_undecided};
+use crate::notes::{report_fault, report_refusal, report_undecided};
 use crate::order::put_order;
-use crate::remarks::{remarks_of, say_remarks};
+use crate::remarks::{remarks_of, report_remarks};
 use crate::status::Status;
 use crate::sums::Sums;
 use crate::totals::Totals;
@@ -21,17 +21,19 @@ use crate::words::Speaker;
 use calls_core::Placed;
 use calls_text::{Read as OneRead, Recording, TextFault, read_history};
 use calls_verdict::{Verdict, decide};
-use ec_text::{Input, Out, read_up_to};
+use ec_text::{Input, Output, read_up_to};
 use std::alloc::Global;
 use std::io::{Read, Write};
 
 /// The most bytes that a text may have.
 pub const TEXT_MAX: usize = 67_108_864;
 
-/// A history at which a check ended: the first that has no linearization or is not decided, or else
-/// the last one of the text.
+/// The history at which a check ended, with its verdict.
+///
+/// It is the first that has no linearization or is not decided, or otherwise the last one of the
+/// text.
 #[derive(Drop)]
-pub struct LastJudged<'a> {
+pub struct LastHistory<'a> {
     /// The text from the history's first line on.
     pub text: &'a [u8],
     /// The number of that line.
@@ -40,7 +42,7 @@ pub struct LastJudged<'a> {
     pub verdict: Verdict,
 }
 
-/// Why no text of a history is put.
+/// Why no linearization of a history is put.
 #[derive(Clone, Copy, Debug, PartialEq, Eq)]
 pub(crate) enum Stop {
     /// It has no linearization.
@@ -51,8 +53,8 @@ pub(crate) enum Stop {
     Memory,
 }
 
-/// Puts the text of a linearizable history.
-fn put_text<W: Write>(out: &mut Out<'_, W>, recording: &Recording, order: &[Placed], sums: &Sums)
+/// Puts the output for a linearizable history: a linearization, and the totals.
+fn put_text<W: Write>(out: &mut Output<'_, W>, recording: &Recording, order: &[Placed], sums: &Sums)
     requires { AreSums order.now sums.now }
     ensures { Puts out.old out.new (history_text recording.now order.now) }
 {
@@ -65,12 +67,14 @@ fn put_text<W: Write>(out: &mut Out<'_, W>, recording: &Recording, order: &[Plac
     out.put(b"end\n");
 }
 
-/// Returns a linearization of a history, or says why there is none and keeps the verdict.
+/// Returns a linearization of a history, or reports why there is none.
+///
+/// In the second case `kept` gets the verdict. If memory runs out, nothing is reported or stored.
 fn find_order<N: Write>(
     alloc: Global,
     read: &OneRead<'_>,
     kept: &mut Option<Verdict>,
-    notes: &mut Out<'_, N>,
+    notes: &mut Output<'_, N>,
 ) -> Result<Vec<Placed>, Stop>
     ensures ok { IfOk result (λ order. HasOrder read.now.recording order.items) }
     ensures quiet { OnOk result (notes.new ≡ notes.old) }
@@ -83,7 +87,7 @@ fn find_order<N: Write>(
     };
     match verdict {
         Verdict::Linearizable(order) => Ok(order),
-        Verdict::Refused(refusal) => match say_refusal(alloc, notes, read, &refusal) {
+        Verdict::Refused(refusal) => match report_refusal(alloc, notes, read, &refusal) {
             Ok(()) => {
                 *kept = Some(Verdict::Refused(refusal));
                 Err(Stop::Refused)
@@ -91,21 +95,22 @@ fn find_order<N: Write>(
             Err(_) => Err(Stop::Memory),
         },
         Verdict::NotDecided(undecided) => {
-            say_undecided(notes, read, &undecided);
+            report_undecided(notes, read, &undecided);
             *kept = Some(Verdict::NotDecided(undecided));
             Err(Stop::NotDecided)
         }
     }
 }
 
-/// Judges a history: puts its text and says the remarks on it, or says why there is no text; and
-/// keeps the verdict.
+/// Judges a history: puts its linearization and reports the remarks, or reports why there is none.
+///
+/// `kept` gets the verdict. If memory runs out, nothing is put or reported.
 fn judge<W: Write, N: Write>(
     alloc: Global,
     read: &OneRead<'_>,
     kept: &mut Option<Verdict>,
-    out: &mut Out<'_, W>,
-    notes: &mut Out<'_, N>,
+    out: &mut Output<'_, W>,
+    notes: &mut Output<'_, N>,
 ) -> Result<(), Stop>
     ensures ok { OnOk result (PutsOrder read.now.recording out.old out.new) }
     ensures remarks { OnOk result (Puts notes.old notes.new
@@ -126,13 +131,13 @@ fn judge<W: Write, N: Write>(
         return Err(Stop::Memory);
     };
     put_text(out, &read.recording, &order, &sums);
-    say_remarks(notes, read, &remarks);
+    report_remarks(notes, read, &remarks);
     *kept = Some(Verdict::Linearizable(order));
     Ok(())
 }
 
-/// Returns how a check ends that was stopped, and says that memory ran out.
-fn end_by<N: Write>(stop: Stop, notes: &mut Out<'_, N>) -> Status
+/// Returns the status of a check that was stopped, and reports if memory ran out.
+fn end_by<N: Write>(stop: Stop, notes: &mut Output<'_, N>) -> Status
     ensures status { result ≡ status_by stop }
     ensures stops { result ≡ Done → ⊥ }
     ensures notes { EndsBy stop notes.old notes.new }
@@ -148,12 +153,11 @@ fn end_by<N: Write>(stop: Stop, notes: &mut Out<'_, N>) -> Status
     }
 }
 
-/// Returns a linearization of a history, or says why there is none and returns how a command ends
-/// then.
+/// Returns a linearization of a history, or reports why there is none and returns the status.
 pub fn linearize<N: Write>(
     alloc: Global,
     read: &OneRead<'_>,
-    notes: &mut Out<'_, N>,
+    notes: &mut Output<'_, N>,
 ) -> Result<Vec<Placed>, Status>
     ensures ok { IfOk result (λ order. HasOrder read.now.recording order.items) }
     ensures quiet { OnOk result (notes.new ≡ notes.old) }
@@ -167,14 +171,14 @@ pub fn linearize<N: Write>(
     }
 }
 
-/// Says why a text is no history, and returns how a command ends then.
-pub fn note_unread<N: Write>(fault: TextFault, notes: &mut Out<'_, N>) -> Status
+/// Reports why a text is not a history, and returns the status.
+pub fn note_unread<N: Write>(fault: TextFault, notes: &mut Output<'_, N>) -> Status
     ensures status { result ≡ fault_status fault }
     ensures stops { result ≡ Done → ⊥ }
     ensures puts { Puts notes.old notes.new (fault_note fault) }
     ensures written { IsWrittenOut notes.new }
 {
-    say_fault(notes, fault);
+    report_fault(notes, fault);
     match fault {
         TextFault::At { .. } => Status::Refused,
         TextFault::Memory => Status::Memory,
@@ -187,10 +191,10 @@ fn judged<'a>(
     number: u64,
     read: OneRead<'a>,
     verdict: Option<Verdict>,
-) -> Option<LastJudged<'a>>
+) -> Option<LastHistory<'a>>
     ensures { IsSome verdict → IsSome result }
 {
-    Some(LastJudged {
+    Some(LastHistory {
         text,
         number,
         read,
@@ -198,13 +202,15 @@ fn judged<'a>(
     })
 }
 
-/// Judges the histories of a text, up to the first that is rejected, and keeps the last of them.
+/// Judges the histories of a text, up to the first that is faulty, not linearizable or not decided.
+///
+/// `last` gets the history at which this ends, if it was read and has a verdict.
 fn judge_all<'a, W: Write, N: Write>(
     alloc: Global,
     text: &'a [u8],
-    last: &mut Option<LastJudged<'a>>,
-    out: &mut Out<'_, W>,
-    notes: &mut Out<'_, N>,
+    last: &mut Option<LastHistory<'a>>,
+    out: &mut Output<'_, W>,
+    notes: &mut Output<'_, N>,
 ) -> Status
     requires { length text.now ≤ TEXT_MAX }
     ensures judges { Judges result text.now out.old out.new notes.old notes.new }
@@ -232,13 +238,15 @@ fn judge_all<'a, W: Write, N: Write>(
     }
 }
 
-/// Judges a text within the bound, writes what was found, and keeps the last history.
+/// Judges the histories of a text within the bound, and writes their linearizations.
+///
+/// `last` gets the history at which this ends, if it was read and has a verdict.
 fn check_text<'a, W: Write, N: Write>(
     alloc: Global,
     text: &'a [u8],
-    last: &mut Option<LastJudged<'a>>,
+    last: &mut Option<LastHistory<'a>>,
     out: &mut W,
-    notes: &mut Out<'_, N>,
+    notes: &mut Output<'_, N>,
 ) -> Status
     requires { length text.now ≤ TEXT_MAX }
     ensures checks { ChecksText result text.now
@@ -247,7 +255,7 @@ fn check_text<'a, W: Write, N: Write>(
     ensures kept { result ≡ Done → IsSome last.new }
     ensures written { IsWrittenOut notes.old → IsWrittenOut notes.new }
 {
-    let mut texts = Out::new(out);
+    let mut texts = Output::new(out);
     let status = judge_all(alloc, text, last, &mut texts, notes);
     let done = texts.finish();
     texts.into_writer();
@@ -260,14 +268,16 @@ fn check_text<'a, W: Write, N: Write>(
     }
 }
 
-/// Checks a text that was read whole, or more of it than a text may have, and keeps the history at
-/// which that ended, if there is one: of a good text its last one.
+/// Checks a text that is given at once.
+///
+/// `last` gets the history at which this ends, if it was read and has a verdict: of a good text its
+/// last one. A text of more than `TEXT_MAX` bytes is too large.
 pub fn check_whole<'a, W: Write, N: Write>(
     alloc: Global,
     text: &'a [u8],
-    last: &mut Option<LastJudged<'a>>,
+    last: &mut Option<LastHistory<'a>>,
     out: &mut W,
-    notes: &mut Out<'_, N>,
+    notes: &mut Output<'_, N>,
 ) -> Status
     ensures checks { ChecksWhole result text.now
         (record { out = W.contents out.old; notes = notes.old })
@@ -282,11 +292,11 @@ pub fn check_whole<'a, W: Write, N: Write>(
     check_text(alloc, text, last, out, notes)
 }
 
-/// Reads histories of calls, and writes an order of the calls of each, up to the first that has no
-/// linearization; then a note says why.
+/// Reads histories of calls, and writes a linearization of each.
 ///
-/// The notes begin with the remarks on the histories that have one: of each await that is pending
-/// although its threshold was surely passed.
+/// It ends at the first history that is faulty, not linearizable or not decided, and a note says
+/// why. Before that come the remarks on the histories so far: one for each await that is pending
+/// although its threshold was surely reached.
 ///
 /// A text of more than 67108864 bytes is too large, whatever is in it. A read that fails is not
 /// tried again.
@@ -294,7 +304,7 @@ pub fn check<R: Read, W: Write, N: Write>(
     alloc: Global,
     reader: &mut R,
     out: &mut W,
-    notes: &mut Out<'_, N>,
+    notes: &mut Output<'_, N>,
 ) -> Status
     ensures ends { IfSome (R.remaining reader.old) (λ bytes. Checks bytes (R.remaining reader.new)
         result

@@ -1,10 +1,10 @@
-//! Calls, counted.
+//! Counts calls of a history.
 ghost use Rattle.std.specs.Prelude.{◌≡◌, ◌≤◌, [], count_by, reverse, IfOk, IfSome};
 ghost use Rattle.std.specs.List.{cons_option};
 ghost use Rattle.calls_core.specs.Histories.{ended_call, pending_of};
 ghost use Rattle.calls_core.specs.Histories.{completed_calls, pending_calls};
 ghost use Rattle.calls_report.specs.Counting.{is_counted, is_counted_pending, is_advance_of};
-ghost use Rattle.calls_report.specs.Counting.{is_up_of};
+ghost use Rattle.calls_report.specs.Counting.{is_v_of};
 
 use calls_core::{Action, Call, Event, Op, PendingCall, Reply};
 use calls_verdict::{find, follow};
@@ -12,35 +12,35 @@ use std::alloc::{AllocError, Global};
 
 /// Which completed calls are counted.
 #[derive(Clone, Copy, Debug, PartialEq, Eq)]
-pub(crate) enum Counted {
+pub(crate) enum CountFilter {
     /// The advances of this object that were invoked at the first position or later and have their
     /// responses before the second.
     Advances(usize, usize, usize),
     /// The tickets of this object that returned at most this number.
     Tickets(usize, usize),
-    /// The calls that took a unit of the semaphore at this place.
+    /// The calls that took a unit of the semaphore at this index among the groups.
     Taken(usize),
 }
 
 /// Returns whether a completed call is counted.
-fn is_counted(counted: Counted, call: &Call) -> bool
+fn is_counted(counted: CountFilter, call: &Call) -> bool
     ensures { result ≡ is_counted counted call.now }
 {
     match counted {
-        Counted::Advances(object, from, before) => {
+        CountFilter::Advances(object, from, before) => {
             call.object == object
                 && matches!(call.op, Op::Advance)
                 && from <= call.first
                 && call.last < before
         }
-        Counted::Tickets(object, most) => {
+        CountFilter::Tickets(object, most) => {
             call.object == object
                 && match call.reply {
                     Reply::Number(n) => n <= most,
                     _ => false,
                 }
         }
-        Counted::Taken(place) => {
+        CountFilter::Taken(place) => {
             matches!(call.reply, Reply::Done)
                 && match call.op {
                     Op::P(i) => i == place,
@@ -52,7 +52,7 @@ fn is_counted(counted: Counted, call: &Call) -> bool
 }
 
 /// Returns the call that an event completes, if it completes one of these.
-pub fn completed(pending: &[PendingCall], event: &Event) -> Option<Call>
+pub fn completed_call(pending: &[PendingCall], event: &Event) -> Option<Call>
     ensures call { cons_option result [] ≡ ended_call event.now event.now.action
         (pending_of event.now.worker pending.now) }
     ensures at { IfSome result (λ c. c.last ≡ event.now.at) }
@@ -74,8 +74,8 @@ pub fn completed(pending: &[PendingCall], event: &Event) -> Option<Call>
     })
 }
 
-/// Returns how many of one call or none are counted.
-fn count_one(counted: Counted, call: Option<Call>) -> usize
+/// Returns 1 if there is a call that is counted, and otherwise 0.
+fn count_one(counted: CountFilter, call: Option<Call>) -> usize
     ensures count { result ≡ count_by (is_counted counted) (cons_option call []) }
     ensures few { result ≤ 1 }
 {
@@ -89,7 +89,7 @@ fn count_one(counted: Counted, call: Option<Call>) -> usize
 pub(crate) fn count_completed(
     alloc: Global,
     events: &[Event],
-    counted: Counted,
+    counted: CountFilter,
 ) -> Result<usize, AllocError>
     ensures { IfOk result (λ n. n ≡ count_by (is_counted counted)
         (completed_calls (reverse events.now))) }
@@ -97,7 +97,7 @@ pub(crate) fn count_completed(
     let mut pending = Vec::new(alloc);
     let mut count = 0;
     for event in events {
-        count += count_one(counted, completed(&pending, event));
+        count += count_one(counted, completed_call(&pending, event));
         let _object = follow(&mut pending, event)?;
     }
     Ok(count)
@@ -158,9 +158,9 @@ pub(crate) fn count_advances(events: &[Event], object: usize) -> usize
         .count()
 }
 
-/// Returns how many v of the semaphore at a place were invoked.
-pub(crate) fn count_ups(events: &[Event], place: usize) -> usize
-    ensures { result ≡ count_by (is_up_of place) events.now }
+/// Returns how many `v` of a semaphore were invoked. `place` is its index among the groups.
+pub(crate) fn count_v_calls(events: &[Event], place: usize) -> usize
+    ensures { result ≡ count_by (is_v_of place) events.now }
 {
     events
         .iter()

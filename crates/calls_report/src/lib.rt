@@ -1,5 +1,5 @@
-//! What is found of histories of calls, as texts: an order of the calls, or a note that says why
-//! there is none.
+//! Checks histories of calls, and writes a linearization of each, or a note that says why there is
+//! none.
 #![tactic(auto)]
 
 mod certificate;
@@ -16,7 +16,7 @@ mod totals;
 mod words;
 
 pub use certificate::{Certificate, start_at};
-pub use checking::{LastJudged, TEXT_MAX, check, check_whole, linearize, note_unread};
-pub use counting::completed;
-pub use notes::{say_certificate, say_fault, say_refusal, say_undecided};
+pub use checking::{LastHistory, TEXT_MAX, check, check_whole, linearize, note_unread};
+pub use counting::completed_call;
+pub use notes::{report_certificate, report_fault, report_refusal, report_undecided};
 pub use status::Status;

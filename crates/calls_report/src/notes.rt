@@ -1,9 +1,9 @@
-//! The notes. A write of notes that fails is not reported, and none is tried after it.
+//! The notes. A failed write of a note is not reported, and no write is tried after it.
 ghost use Rattle.std.specs.Prelude.{◌≡◌, ◌++◌, codes, OnOk, OnErr};
 ghost use Rattle.ec_text.specs.Puts.{Puts, IsWrittenOut};
 ghost use Rattle.calls_report.specs.Refusals.{line_of};
 ghost use Rattle.calls_report.specs.Notes.{cause_text, kind_text, line_words, kind_words};
-ghost use Rattle.calls_report.specs.Notes.{fault_note, first_line, scene_of, scene_at};
+ghost use Rattle.calls_report.specs.Notes.{fault_note, first_line, site_of, site_at};
 ghost use Rattle.calls_report.specs.Notes.{refusal_note};
 ghost use Rattle.calls_report.specs.Notes.{SaysRefusal, repeated_words, repeated_text};
 ghost use Rattle.calls_report.specs.Notes.{overlap_text, undecided_text, undecided_note};
@@ -11,38 +11,38 @@ ghost use Rattle.calls_report.specs.Notes.{overlap_text, undecided_text, undecid
 use crate::certificate::{Certificate, certify};
 use crate::refusal::Site;
 use crate::words::Speaker;
-use calls_text::{Cause, Kind, Read, Recording, TextFault};
+use calls_text::{Cause, FaultKind, Read, Recording, TextFault};
 use calls_verdict::{Refusal, Undecided};
-use ec_text::Out;
+use ec_text::Output;
 use std::alloc::{AllocError, Global};
 use std::io::Write;
 
-/// Returns what a kind of fault says.
-fn kind_text(kind: Kind) -> &'static [u8]
+/// Returns the text for a kind of fault.
+fn kind_text(kind: FaultKind) -> &'static [u8]
     ensures { result.now ≡ kind_text kind }
 {
     match kind {
-        Kind::BadHeader => b"evc-calls 1 is expected",
-        Kind::BadLine => b"no line of this form may stand here",
-        Kind::BadName => b"a word is no name",
-        Kind::NameTaken => b"a name was used before",
-        Kind::UnknownName => b"a name is not declared",
-        Kind::BadNumber => b"a number is out of range",
-        Kind::TooMany => b"a table would pass its bound",
-        Kind::Hidden => b"the object belongs to a group",
-        Kind::TwoRoles => b"one stands in both roles",
-        Kind::NoRight => b"the worker lacks the right",
-        Kind::BadOrder => b"the from lines are not in the order of the declarations",
-        Kind::Unfinished => b"the text ends too early",
-        Kind::Busy => b"the call of the worker is pending",
-        Kind::Idle => b"the worker has no pending call",
-        Kind::Unsuited => b"the reply does not suit the call",
-        Kind::AtLimit => b"the limit is passed",
+        FaultKind::BadHeader => b"evc-calls 1 is expected",
+        FaultKind::BadLine => b"no line of this form may stand here",
+        FaultKind::BadName => b"a word is no name",
+        FaultKind::NameTaken => b"a name was used before",
+        FaultKind::UnknownName => b"a name is not declared",
+        FaultKind::BadNumber => b"a number is out of range",
+        FaultKind::TooMany => b"a table would pass its bound",
+        FaultKind::Hidden => b"the object belongs to a group",
+        FaultKind::TwoRoles => b"one stands in both roles",
+        FaultKind::NoRight => b"the worker lacks the right",
+        FaultKind::BadOrder => b"the from lines are not in the order of the declarations",
+        FaultKind::Unfinished => b"the text ends too early",
+        FaultKind::Busy => b"the call of the worker is pending",
+        FaultKind::Idle => b"the worker has no pending call",
+        FaultKind::Unsuited => b"the reply does not suit the call",
+        FaultKind::AtLimit => b"the limit is passed",
     }
 }
 
-/// Returns what is wrong with a line.
-fn cause_text(kind: Kind, cause: Cause) -> &'static [u8]
+/// Returns the text that says what is wrong with a line.
+fn cause_text(kind: FaultKind, cause: Cause) -> &'static [u8]
     ensures { result.now ≡ cause_text kind cause }
 {
     match cause {
@@ -58,8 +58,8 @@ fn cause_text(kind: Kind, cause: Cause) -> &'static [u8]
     }
 }
 
-/// Puts the beginning of a note on a line.
-fn put_line<W: Write>(out: &mut Out<'_, W>, line: u64)
+/// Puts the number of a line, at the beginning of a note.
+fn put_line<W: Write>(out: &mut Output<'_, W>, line: u64)
     ensures { Puts out.old out.new (line_words line) }
 {
     out.put(b"line ");
@@ -68,7 +68,7 @@ fn put_line<W: Write>(out: &mut Out<'_, W>, line: u64)
 }
 
 /// Puts the number and the name of a kind.
-fn put_kind<W: Write>(out: &mut Out<'_, W>, kind: Kind)
+fn put_kind<W: Write>(out: &mut Output<'_, W>, kind: FaultKind)
     ensures { Puts out.old out.new (kind_words kind) }
 {
     out.put_number(kind.number());
@@ -77,7 +77,7 @@ fn put_kind<W: Write>(out: &mut Out<'_, W>, kind: Kind)
 }
 
 /// Puts what is wrong with a line.
-fn put_cause<W: Write>(out: &mut Out<'_, W>, kind: Kind, cause: Cause)
+fn put_cause<W: Write>(out: &mut Output<'_, W>, kind: FaultKind, cause: Cause)
     ensures { Puts out.old out.new (codes ": " ++ cause_text kind cause ++ codes "\n") }
 {
     out.put(b": ");
@@ -85,8 +85,8 @@ fn put_cause<W: Write>(out: &mut Out<'_, W>, kind: Kind, cause: Cause)
     out.put(b"\n");
 }
 
-/// Puts why a text is no history.
-fn put_fault<W: Write>(out: &mut Out<'_, W>, fault: TextFault)
+/// Puts why a text is not a history.
+fn put_fault<W: Write>(out: &mut Output<'_, W>, fault: TextFault)
     ensures { Puts out.old out.new (fault_note fault) }
 {
     match fault {
@@ -99,8 +99,8 @@ fn put_fault<W: Write>(out: &mut Out<'_, W>, fault: TextFault)
     }
 }
 
-/// Says why a text is no history.
-pub fn say_fault<N: Write>(notes: &mut Out<'_, N>, fault: TextFault)
+/// Reports why a text is not a history.
+pub fn report_fault<N: Write>(notes: &mut Output<'_, N>, fault: TextFault)
     ensures puts { Puts notes.old notes.new (fault_note fault) }
     ensures written { IsWrittenOut notes.new }
 {
@@ -116,9 +116,9 @@ fn first_line(read: &Read<'_>) -> u64
     read.number.saturating_sub(1).saturating_sub(events)
 }
 
-/// Returns where the certificate of an object stands.
+/// Returns the site of a certificate in a history that was read.
 pub(crate) fn site_of<'a>(read: &'a Read<'_>, object: usize, at: usize) -> Site<'a>
-    ensures { result ≡ scene_of read.now.number read.now.recording object at }
+    ensures { result ≡ site_of read.now.number read.now.recording object at }
 {
     Site {
         speaker: Speaker::new(read.recording.heading(), read.recording.lists()),
@@ -128,8 +128,8 @@ pub(crate) fn site_of<'a>(read: &'a Read<'_>, object: usize, at: usize) -> Site<
     }
 }
 
-/// Puts the line of the first faulty event.
-fn put_site<W: Write>(out: &mut Out<'_, W>, site: &Site<'_>)
+/// Puts the number of the line of the first faulty event.
+fn put_site<W: Write>(out: &mut Output<'_, W>, site: &Site<'_>)
     ensures { Puts out.old out.new (codes "line " ++ line_of site.now site.now.at ++ codes ": ") }
 {
     out.put(b"line ");
@@ -138,7 +138,7 @@ fn put_site<W: Write>(out: &mut Out<'_, W>, site: &Site<'_>)
 }
 
 /// Puts the note of a certificate.
-fn put_refusal<W: Write>(out: &mut Out<'_, W>, site: &Site<'_>, shown: Certificate<'_>)
+fn put_refusal<W: Write>(out: &mut Output<'_, W>, site: &Site<'_>, shown: Certificate<'_>)
     ensures { Puts out.old out.new (refusal_note site.now shown.entry) }
 {
     put_site(out, site);
@@ -146,10 +146,10 @@ fn put_refusal<W: Write>(out: &mut Out<'_, W>, site: &Site<'_>, shown: Certifica
     out.put(b"\n");
 }
 
-/// Says why a history has no linearization.
-pub fn say_refusal<N: Write>(
+/// Reports why a history has no linearization.
+pub fn report_refusal<N: Write>(
     alloc: Global,
-    notes: &mut Out<'_, N>,
+    notes: &mut Output<'_, N>,
     read: &Read<'_>,
     refusal: &Refusal,
 ) -> Result<(), AllocError>
@@ -165,9 +165,9 @@ pub fn say_refusal<N: Write>(
     Ok(())
 }
 
-/// Returns where a certificate stands, by the number of the line of the event at position 0.
+/// Returns the site of a certificate. `first` is the number of the line of the event at position 0.
 fn site_at(recording: &Recording, object: usize, first: u64, at: usize) -> Site<'_>
-    ensures { result ≡ scene_at recording.now object first at }
+    ensures { result ≡ site_at recording.now object first at }
 {
     Site {
         speaker: Speaker::new(recording.heading(), recording.lists()),
@@ -177,10 +177,11 @@ fn site_at(recording: &Recording, object: usize, first: u64, at: usize) -> Site<
     }
 }
 
-/// Says why the calls of an object have no linearization from the event at a position on, by the
-/// number of the line of the event at position 0.
-pub fn say_certificate<N: Write>(
-    notes: &mut Out<'_, N>,
+/// Reports why the calls of an object have no linearization from the event at position `at` on.
+///
+/// `first` is the number of the line of the event at position 0.
+pub fn report_certificate<N: Write>(
+    notes: &mut Output<'_, N>,
     recording: &Recording,
     object: usize,
     first: u64,
@@ -188,16 +189,16 @@ pub fn say_certificate<N: Write>(
     shown: Certificate<'_>,
 )
     ensures puts { Puts notes.old notes.new
-        (refusal_note (scene_at recording.now object first at) shown.entry) }
+        (refusal_note (site_at recording.now object first at) shown.entry) }
     ensures written { IsWrittenOut notes.new }
 {
     put_refusal(notes, &site_at(recording, object, first, at), shown);
     notes.flush();
 }
 
-/// Puts that something was put more than once.
+/// Puts the words on a value that was put or written more than once.
 #[tactic(auto, unfolding(crate::specs::Notes::repeated_words))]
-fn put_repeated_words<W: Write>(out: &mut Out<'_, W>, site: &Site<'_>)
+fn put_repeated_words<W: Write>(out: &mut Output<'_, W>, site: &Site<'_>)
     ensures { Puts out.old out.new (repeated_words site.now) }
 {
     if site.speaker.is_cell(site.object) {
@@ -207,15 +208,15 @@ fn put_repeated_words<W: Write>(out: &mut Out<'_, W>, site: &Site<'_>)
     }
 }
 
-/// Puts which value is not decided.
-fn put_undecided<W: Write>(out: &mut Out<'_, W>, site: &Site<'_>, value: usize)
+/// Puts that an object is not decided, and a value.
+fn put_undecided<W: Write>(out: &mut Output<'_, W>, site: &Site<'_>, value: usize)
     ensures { Puts out.old out.new (undecided_text site.now value) }
 {
     site.put_with(out, b" is not decided:", value);
 }
 
-/// Puts what was put more than once.
-fn put_repeated<W: Write>(out: &mut Out<'_, W>, site: &Site<'_>, value: usize)
+/// Puts that an object is not decided, as a value was put more than once.
+fn put_repeated<W: Write>(out: &mut Output<'_, W>, site: &Site<'_>, value: usize)
     ensures { Puts out.old out.new (repeated_text site.now value) }
 {
     site.speaker.put_store(out, site.object);
@@ -223,8 +224,8 @@ fn put_repeated<W: Write>(out: &mut Out<'_, W>, site: &Site<'_>, value: usize)
     put_repeated_words(out, site);
 }
 
-/// Puts which puts overlap.
-fn put_overlap<W: Write>(out: &mut Out<'_, W>, site: &Site<'_>, cause: &calls_cells::Undecided)
+/// Puts the lines of two puts that overlap.
+fn put_overlap<W: Write>(out: &mut Output<'_, W>, site: &Site<'_>, cause: &calls_cells::Undecided)
     ensures { Puts out.old out.new (overlap_text site.now cause.now) }
 {
     site.put_line(out, cause.first.first);
@@ -233,9 +234,9 @@ fn put_overlap<W: Write>(out: &mut Out<'_, W>, site: &Site<'_>, cause: &calls_ce
     out.put(b" overlap\n");
 }
 
-/// Says why a history is not decided.
-pub fn say_undecided<N: Write>(notes: &mut Out<'_, N>, read: &Read<'_>, undecided: &Undecided)
-    ensures puts { Puts notes.old notes.new (undecided_note (scene_of read.now.number
+/// Reports why a history is not decided.
+pub fn report_undecided<N: Write>(notes: &mut Output<'_, N>, read: &Read<'_>, undecided: &Undecided)
+    ensures puts { Puts notes.old notes.new (undecided_note (site_of read.now.number
         read.now.recording undecided.now.object 0) undecided.now.cause) }
     ensures written { IsWrittenOut notes.new }
 {

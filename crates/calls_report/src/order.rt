@@ -1,4 +1,4 @@
-//! The order of the calls of a history, as text.
+//! A linearization of a history, as text.
 ghost use Rattle.std.specs.Prelude.{◌≡◌, List};
 ghost use Rattle.std.specs.List.{flat_map};
 ghost use Rattle.ec_text.specs.Puts.{Puts};
@@ -7,12 +7,11 @@ ghost use Rattle.calls_report.specs.Orders.{shown_reply};
 
 use crate::words::Speaker;
 use calls_core::{Call, Placed};
-use ec_text::Out;
+use ec_text::Output;
 use std::io::Write;
 
-/// Puts what a call returned, after a space: of a pending one that it is pending. The number is
-/// that of the events.
-fn put_reply<W: Write>(out: &mut Out<'_, W>, speaker: &Speaker<'_>, end: usize, call: &Call)
+/// Puts what a call returned, after a space, or that it is pending. `end` is the number of events.
+fn put_reply<W: Write>(out: &mut Output<'_, W>, speaker: &Speaker<'_>, end: usize, call: &Call)
     ensures { Puts out.old out.new (shown_reply speaker.now.heading speaker.now.lists end call.now) }
 {
     if call.last == end {
@@ -23,7 +22,7 @@ fn put_reply<W: Write>(out: &mut Out<'_, W>, speaker: &Speaker<'_>, end: usize, 
 }
 
 /// Puts the point and the worker of a call.
-fn put_head<W: Write>(out: &mut Out<'_, W>, speaker: &Speaker<'_>, placed: &Placed)
+fn put_head<W: Write>(out: &mut Output<'_, W>, speaker: &Speaker<'_>, placed: &Placed)
     ensures { Puts out.old out.new (head_text speaker.now.heading placed.now) }
 {
     out.put_number(placed.point as u64);
@@ -33,7 +32,7 @@ fn put_head<W: Write>(out: &mut Out<'_, W>, speaker: &Speaker<'_>, placed: &Plac
 }
 
 /// Puts what a call returned, and the end of its line.
-fn put_tail<W: Write>(out: &mut Out<'_, W>, speaker: &Speaker<'_>, end: usize, call: &Call)
+fn put_tail<W: Write>(out: &mut Output<'_, W>, speaker: &Speaker<'_>, end: usize, call: &Call)
     ensures { Puts out.old out.new (tail_text speaker.now.heading speaker.now.lists end call.now) }
 {
     out.put(b" =");
@@ -42,7 +41,7 @@ fn put_tail<W: Write>(out: &mut Out<'_, W>, speaker: &Speaker<'_>, end: usize, c
 }
 
 /// Puts the line of a call.
-fn put_line<W: Write>(out: &mut Out<'_, W>, speaker: &Speaker<'_>, end: usize, placed: &Placed)
+fn put_line<W: Write>(out: &mut Output<'_, W>, speaker: &Speaker<'_>, end: usize, placed: &Placed)
     ensures { Puts out.old out.new (order_line speaker.now.heading speaker.now.lists end
         placed.now) }
 {
@@ -52,9 +51,9 @@ fn put_line<W: Write>(out: &mut Out<'_, W>, speaker: &Speaker<'_>, end: usize, p
     put_tail(out, speaker, end, call);
 }
 
-/// Puts the lines of calls.
+/// Puts the lines of a linearization.
 pub fn put_order<W: Write>(
-    out: &mut Out<'_, W>,
+    out: &mut Output<'_, W>,
     speaker: &Speaker<'_>,
     end: usize,
     order: &[Placed],

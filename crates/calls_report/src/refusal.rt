@@ -1,7 +1,8 @@
 //! A certificate in words.
 ghost use Rattle.std.specs.Prelude.{◌≡◌, ◌++◌, codes, decimal};
 ghost use Rattle.calls_tickets.specs.Faults.{number};
-ghost use Rattle.calls_text.specs.Spelling.{worker_word, event_word, group_word, value_of, spaced};
+ghost use Rattle.calls_text.specs.Spelling.{worker_word, event_word, group_word, numbers_of_value};
+ghost use Rattle.calls_text.specs.Spelling.{numbers_after_spaces};
 ghost use Rattle.ec_text.specs.Puts.{Puts};
 ghost use Rattle.calls_report.specs.Refusals.{line_of, advances_word, advances_text, start_text};
 ghost use Rattle.calls_report.specs.Refusals.{counted_text, count_text, threshold, returned_text};
@@ -20,14 +21,14 @@ ghost use Rattle.calls_report.specs.Refusals.{none_left, none_left_text, certifi
 ghost use Rattle.calls_report.specs.Refusals.{surely_text, raised_text, unordered_text};
 ghost use Rattle.calls_report.specs.Refusals.{no_unit_text};
 
-use crate::certificate::{Certificate, number_of};
+use crate::certificate::{Certificate, ticket_number};
 use crate::words::Speaker;
 use calls_core::{Call, Op, Reply};
-use ec_text::Out;
+use ec_text::Output;
 use std::io::Write;
 use std::marker::Model;
 
-/// Where a certificate stands: the words of the history, its object, the number of the line of the
+/// The site of a certificate: the words of the history, its object, the number of the line of the
 /// event at position 0, and the position of the first faulty event.
 #[derive(Drop)]
 pub(crate) struct Site<'a> {
@@ -40,7 +41,7 @@ pub(crate) struct Site<'a> {
 impl<'a> Model for Site<'a> {
     ghost use Rattle.calls_report.specs.Refusals as refusals;
 
-    ghost Value = { refusals.Scene };
+    ghost Value = { refusals.SiteModel };
 
     ghost view = { λ s. record {
       heading = s.speaker.heading;
@@ -52,7 +53,7 @@ impl<'a> Model for Site<'a> {
     } };
 }
 
-/// Returns what stands after the digits of an ordinal number.
+/// Returns the suffix of an ordinal number, such as `th`.
 fn ordinal(n: usize) -> &'static [u8]
     ensures { result.now ≡ ordinal n }
 {
@@ -68,8 +69,8 @@ fn ordinal(n: usize) -> &'static [u8]
     }
 }
 
-/// Puts the count at the beginning, if it is not 0.
-fn put_start<W: Write>(out: &mut Out<'_, W>, start: u64)
+/// Puts the initial count, if it is not 0.
+fn put_start<W: Write>(out: &mut Output<'_, W>, start: u64)
     ensures { Puts out.old out.new (start_text start) }
 {
     if start != 0 {
@@ -79,7 +80,7 @@ fn put_start<W: Write>(out: &mut Out<'_, W>, start: u64)
 }
 
 /// Puts what a read or an await returned, awaited or gave up on.
-fn put_count<W: Write>(out: &mut Out<'_, W>, call: &Call)
+fn put_count<W: Write>(out: &mut Output<'_, W>, call: &Call)
     ensures { Puts out.old out.new (count_text call.now) }
 {
     match (call.op, call.reply) {
@@ -100,7 +101,7 @@ fn put_count<W: Write>(out: &mut Out<'_, W>, call: &Call)
 }
 
 /// Puts what a call returned.
-fn put_returned<W: Write>(out: &mut Out<'_, W>, reply: Reply)
+fn put_returned<W: Write>(out: &mut Output<'_, W>, reply: Reply)
     ensures { Puts out.old out.new (returned_text reply) }
 {
     match reply {
@@ -113,7 +114,7 @@ fn put_returned<W: Write>(out: &mut Out<'_, W>, reply: Reply)
 }
 
 /// Puts bytes and a number.
-fn put_with_number<W: Write>(out: &mut Out<'_, W>, before: &[u8], n: usize)
+fn put_with_number<W: Write>(out: &mut Output<'_, W>, before: &[u8], n: usize)
     ensures { Puts out.old out.new (before.now ++ decimal n) }
 {
     out.put(before);
@@ -130,8 +131,8 @@ fn threshold(op: Op) -> usize
     }
 }
 
-/// Puts that an await could not return this.
-fn put_below<W: Write>(out: &mut Out<'_, W>, call: &Call)
+/// Puts that an await returned a number below its threshold, or gave up on 0.
+fn put_below<W: Write>(out: &mut Output<'_, W>, call: &Call)
     ensures { Puts out.old out.new (below_text call.now) }
 {
     put_returned(out, call.reply);
@@ -139,7 +140,7 @@ fn put_below<W: Write>(out: &mut Out<'_, W>, call: &Call)
 }
 
 /// Puts the word for advances.
-fn put_advances_word<W: Write>(out: &mut Out<'_, W>, n: usize)
+fn put_advances_word<W: Write>(out: &mut Output<'_, W>, n: usize)
     ensures { Puts out.old out.new (advances_word n) }
 {
     if n == 1 {
@@ -150,7 +151,7 @@ fn put_advances_word<W: Write>(out: &mut Out<'_, W>, n: usize)
 }
 
 /// Puts the word for tickets.
-fn put_tickets_word<W: Write>(out: &mut Out<'_, W>, n: usize)
+fn put_tickets_word<W: Write>(out: &mut Output<'_, W>, n: usize)
     ensures { Puts out.old out.new (tickets_word n) }
 {
     if n == 1 {
@@ -161,22 +162,22 @@ fn put_tickets_word<W: Write>(out: &mut Out<'_, W>, n: usize)
 }
 
 /// Puts the number that a ticket returned.
-fn put_number<W: Write>(out: &mut Out<'_, W>, call: &Call)
+fn put_number<W: Write>(out: &mut Output<'_, W>, call: &Call)
     ensures { Puts out.old out.new (number_text call.now) }
 {
     out.put(b"returned ");
-    out.put_number(number_of(call) as u64);
+    out.put_number(ticket_number(call) as u64);
 }
 
-/// Puts up to which number tickets can have drawn.
-fn put_can<W: Write>(out: &mut Out<'_, W>, call: &Call)
+/// Puts the range of numbers that tickets can have drawn.
+fn put_can<W: Write>(out: &mut Output<'_, W>, call: &Call)
     ensures { Puts out.old out.new (codes " can have drawn 0 to " ++ decimal (number call.now)) }
 {
-    put_with_number(out, b" can have drawn 0 to ", number_of(call));
+    put_with_number(out, b" can have drawn 0 to ", ticket_number(call));
 }
 
 /// Puts an ordinal number.
-fn put_nth<W: Write>(out: &mut Out<'_, W>, n: usize)
+fn put_nth<W: Write>(out: &mut Output<'_, W>, n: usize)
     ensures { Puts out.old out.new (nth_text n) }
 {
     out.put(b"the ");
@@ -184,8 +185,8 @@ fn put_nth<W: Write>(out: &mut Out<'_, W>, n: usize)
     out.put(ordinal(n));
 }
 
-/// Puts the units of a semaphore at first, and those added.
-fn put_units<W: Write>(out: &mut Out<'_, W>, units: u64, added: usize)
+/// Puts the initial units of a semaphore, and the number of its `v`.
+fn put_units<W: Write>(out: &mut Output<'_, W>, units: u64, added: usize)
     ensures { Puts out.old out.new (units_text units added) }
 {
     out.put(b", with ");
@@ -196,7 +197,7 @@ fn put_units<W: Write>(out: &mut Out<'_, W>, units: u64, added: usize)
 
 /// Puts that something had been called.
 #[tactic(auto, unfolding(crate::specs::Refusals::called_words))]
-fn put_called<W: Write>(out: &mut Out<'_, W>)
+fn put_called<W: Write>(out: &mut Output<'_, W>)
     ensures { Puts out.old out.new called_words }
 {
     out.put(b" had been called");
@@ -204,7 +205,7 @@ fn put_called<W: Write>(out: &mut Out<'_, W>)
 
 /// Puts that values alternate.
 #[tactic(auto, unfolding(crate::specs::Refusals::alternate_words))]
-fn put_alternating<W: Write>(out: &mut Out<'_, W>)
+fn put_alternating<W: Write>(out: &mut Output<'_, W>)
     ensures { Puts out.old out.new alternate_words }
 {
     out.put(b" alternate: lines");
@@ -222,29 +223,29 @@ fn stored_value(call: &Call) -> usize
 }
 
 impl<'a> Site<'a> {
-    /// Puts the number of the line of a position.
-    pub(crate) fn put_line<W: Write>(&self, out: &mut Out<'_, W>, position: usize)
+    /// Puts the number of the line of the event at a position.
+    pub(crate) fn put_line<W: Write>(&self, out: &mut Output<'_, W>, position: usize)
         ensures { Puts out.old out.new (line_of self.now position) }
     {
         out.put_number(self.first.saturating_add(position as u64));
     }
 
     /// Puts the name of a worker.
-    pub(crate) fn put_worker<W: Write>(&self, out: &mut Out<'_, W>, worker: usize)
+    pub(crate) fn put_worker<W: Write>(&self, out: &mut Output<'_, W>, worker: usize)
         ensures { Puts out.old out.new (worker_word self.now.heading worker) }
     {
         self.speaker.put_worker(out, worker);
     }
 
     /// Puts the name of an eventcount.
-    pub(crate) fn put_event<W: Write>(&self, out: &mut Out<'_, W>, event: usize)
+    pub(crate) fn put_event<W: Write>(&self, out: &mut Output<'_, W>, event: usize)
         ensures { Puts out.old out.new (event_word self.now.heading event) }
     {
         self.speaker.put_event(out, event);
     }
 
     /// Puts a number of advances of the eventcount.
-    fn put_advances<W: Write>(&self, out: &mut Out<'_, W>, n: usize)
+    fn put_advances<W: Write>(&self, out: &mut Output<'_, W>, n: usize)
         ensures { Puts out.old out.new (advances_text self.now n) }
     {
         out.put_number(n as u64);
@@ -252,8 +253,8 @@ impl<'a> Site<'a> {
         self.speaker.put_event(out, self.object);
     }
 
-    /// Puts that only so many advances had been called.
-    fn put_only<W: Write>(&self, out: &mut Out<'_, W>, n: usize)
+    /// Puts that only `n` advances had been called.
+    fn put_only<W: Write>(&self, out: &mut Output<'_, W>, n: usize)
         ensures { Puts out.old out.new (only_text self.now n) }
     {
         out.put(b", but only ");
@@ -262,7 +263,7 @@ impl<'a> Site<'a> {
     }
 
     /// Puts that too few advances had been called.
-    fn put_few<W: Write>(&self, out: &mut Out<'_, W>, call: &Call, n: usize, start: u64)
+    fn put_few<W: Write>(&self, out: &mut Output<'_, W>, call: &Call, n: usize, start: u64)
         ensures { Puts out.old out.new (few_text self.now call.now n start) }
     {
         put_count(out, call);
@@ -271,7 +272,7 @@ impl<'a> Site<'a> {
     }
 
     /// Puts when a call was called.
-    fn put_when<W: Write>(&self, out: &mut Out<'_, W>, call: &Call)
+    fn put_when<W: Write>(&self, out: &mut Output<'_, W>, call: &Call)
         ensures { Puts out.old out.new (when_text self.now call.now) }
     {
         out.put(b", but when it was called (line ");
@@ -280,7 +281,7 @@ impl<'a> Site<'a> {
     }
 
     /// Puts how many advances had returned.
-    fn put_made<W: Write>(&self, out: &mut Out<'_, W>, n: usize, start: u64)
+    fn put_made<W: Write>(&self, out: &mut Output<'_, W>, n: usize, start: u64)
         ensures { Puts out.old out.new (made_text self.now n start) }
     {
         self.put_advances(out, n);
@@ -289,7 +290,7 @@ impl<'a> Site<'a> {
     }
 
     /// Puts that too many advances had returned.
-    fn put_many<W: Write>(&self, out: &mut Out<'_, W>, call: &Call, n: usize, start: u64)
+    fn put_many<W: Write>(&self, out: &mut Output<'_, W>, call: &Call, n: usize, start: u64)
         ensures { Puts out.old out.new (many_text self.now call.now n start) }
     {
         put_count(out, call);
@@ -298,7 +299,7 @@ impl<'a> Site<'a> {
     }
 
     /// Puts the line of an earlier response.
-    fn put_but_line<W: Write>(&self, out: &mut Out<'_, W>, position: usize)
+    fn put_but_line<W: Write>(&self, out: &mut Output<'_, W>, position: usize)
         ensures { Puts out.old out.new (but_line self.now position) }
     {
         out.put(b", but line ");
@@ -306,7 +307,7 @@ impl<'a> Site<'a> {
     }
 
     /// Puts that something was before a call.
-    fn put_before<W: Write>(&self, out: &mut Out<'_, W>, call: &Call)
+    fn put_before<W: Write>(&self, out: &mut Output<'_, W>, call: &Call)
         ensures { Puts out.old out.new (before_text self.now call.now) }
     {
         out.put(b" before it was called (line ");
@@ -315,7 +316,7 @@ impl<'a> Site<'a> {
     }
 
     /// Puts how many advances lie between two calls.
-    fn put_among<W: Write>(&self, out: &mut Out<'_, W>, call: &Call, n: usize)
+    fn put_among<W: Write>(&self, out: &mut Output<'_, W>, call: &Call, n: usize)
         ensures { Puts out.old out.new (among_text self.now call.now n) }
     {
         out.put(b", and ");
@@ -325,7 +326,7 @@ impl<'a> Site<'a> {
     }
 
     /// Puts that no advance lies between two calls, or how many do.
-    fn put_between<W: Write>(&self, out: &mut Out<'_, W>, call: &Call, n: usize)
+    fn put_between<W: Write>(&self, out: &mut Output<'_, W>, call: &Call, n: usize)
         ensures { Puts out.old out.new (between_text self.now call.now n) }
     {
         if n == 0 {
@@ -336,7 +337,7 @@ impl<'a> Site<'a> {
     }
 
     /// Puts what an earlier call had returned.
-    fn put_had<W: Write>(&self, out: &mut Out<'_, W>, earlier: &Call)
+    fn put_had<W: Write>(&self, out: &mut Output<'_, W>, earlier: &Call)
         ensures { Puts out.old out.new (had_text self.now earlier.now) }
     {
         self.put_but_line(out, earlier.last);
@@ -345,7 +346,7 @@ impl<'a> Site<'a> {
     }
 
     /// Puts that an earlier call shows a greater count.
-    fn put_since<W: Write>(&self, out: &mut Out<'_, W>, call: &Call, earlier: &Call, n: usize)
+    fn put_since<W: Write>(&self, out: &mut Output<'_, W>, call: &Call, earlier: &Call, n: usize)
         ensures { Puts out.old out.new (since_text self.now call.now earlier.now n) }
     {
         put_count(out, call);
@@ -354,7 +355,7 @@ impl<'a> Site<'a> {
     }
 
     /// Puts how many advances had surely taken effect.
-    fn put_surely<W: Write>(&self, out: &mut Out<'_, W>, n: usize, start: u64)
+    fn put_surely<W: Write>(&self, out: &mut Output<'_, W>, n: usize, start: u64)
         ensures { Puts out.old out.new (surely_text self.now n start) }
     {
         self.put_advances(out, n);
@@ -363,7 +364,7 @@ impl<'a> Site<'a> {
     }
 
     /// Puts that too many advances had surely taken effect.
-    fn put_raised<W: Write>(&self, out: &mut Out<'_, W>, call: &Call, n: usize, start: u64)
+    fn put_raised<W: Write>(&self, out: &mut Output<'_, W>, call: &Call, n: usize, start: u64)
         ensures { Puts out.old out.new (raised_text self.now call.now n start) }
     {
         put_count(out, call);
@@ -372,7 +373,7 @@ impl<'a> Site<'a> {
     }
 
     /// Puts that no order of the tickets gives a number.
-    fn put_unordered<W: Write>(&self, out: &mut Out<'_, W>, call: &Call)
+    fn put_unordered<W: Write>(&self, out: &mut Output<'_, W>, call: &Call)
         ensures { Puts out.old out.new (unordered_text self.now call.now) }
     {
         put_number(out, call);
@@ -382,7 +383,7 @@ impl<'a> Site<'a> {
     }
 
     /// Puts that no unit of a semaphore was left.
-    fn put_no_unit<W: Write>(&self, out: &mut Out<'_, W>, place: usize)
+    fn put_no_unit<W: Write>(&self, out: &mut Output<'_, W>, place: usize)
         ensures { Puts out.old out.new (no_unit_text self.now place) }
     {
         out.put(b"no unit of ");
@@ -391,7 +392,7 @@ impl<'a> Site<'a> {
     }
 
     /// Puts that two tickets returned one number.
-    fn put_twice<W: Write>(&self, out: &mut Out<'_, W>, one: &Call, other: &Call)
+    fn put_twice<W: Write>(&self, out: &mut Output<'_, W>, one: &Call, other: &Call)
         ensures { Puts out.old out.new (twice_text self.now one.now other.now) }
     {
         put_number(out, one);
@@ -401,7 +402,7 @@ impl<'a> Site<'a> {
     }
 
     /// Puts the number that an earlier ticket had returned.
-    fn put_had_number<W: Write>(&self, out: &mut Out<'_, W>, earlier: &Call)
+    fn put_had_number<W: Write>(&self, out: &mut Output<'_, W>, earlier: &Call)
         ensures { Puts out.old out.new (had_number self.now earlier.now) }
     {
         self.put_but_line(out, earlier.last);
@@ -410,7 +411,7 @@ impl<'a> Site<'a> {
     }
 
     /// Puts that a greater number was returned before a ticket was called.
-    fn put_turned<W: Write>(&self, out: &mut Out<'_, W>, greater: &Call, smaller: &Call)
+    fn put_turned<W: Write>(&self, out: &mut Output<'_, W>, greater: &Call, smaller: &Call)
         ensures { Puts out.old out.new (turned_text self.now greater.now smaller.now) }
     {
         put_number(out, smaller);
@@ -419,7 +420,7 @@ impl<'a> Site<'a> {
     }
 
     /// Puts the line of an earlier call.
-    fn put_earlier<W: Write>(&self, out: &mut Out<'_, W>, position: usize)
+    fn put_earlier<W: Write>(&self, out: &mut Output<'_, W>, position: usize)
         ensures { Puts out.old out.new (earlier_text self.now position) }
     {
         if position != self.at {
@@ -429,8 +430,8 @@ impl<'a> Site<'a> {
         }
     }
 
-    /// Puts that only so many tickets can have drawn something.
-    fn put_tickets<W: Write>(&self, out: &mut Out<'_, W>, n: usize)
+    /// Puts that only `n` tickets can have drawn some numbers.
+    fn put_tickets<W: Write>(&self, out: &mut Output<'_, W>, n: usize)
         ensures { Puts out.old out.new (tickets_text self.now n) }
     {
         out.put(b", but only ");
@@ -440,7 +441,7 @@ impl<'a> Site<'a> {
     }
 
     /// Puts that too few tickets can have drawn the numbers up to one.
-    fn put_drawn<W: Write>(&self, out: &mut Out<'_, W>, call: &Call, n: usize)
+    fn put_drawn<W: Write>(&self, out: &mut Output<'_, W>, call: &Call, n: usize)
         ensures { Puts out.old out.new (drawn_text self.now call.now n) }
     {
         self.put_earlier(out, call.last);
@@ -449,8 +450,8 @@ impl<'a> Site<'a> {
         put_can(out, call);
     }
 
-    /// Puts the semaphore at a place.
-    fn put_p_of<W: Write>(&self, out: &mut Out<'_, W>, place: usize)
+    /// Puts the word `p` and a semaphore. `place` is its index among the groups.
+    fn put_p_of<W: Write>(&self, out: &mut Output<'_, W>, place: usize)
         ensures { Puts out.old out.new (codes " p of " ++ group_word self.now.heading place) }
     {
         out.put(b" p of ");
@@ -460,7 +461,7 @@ impl<'a> Site<'a> {
     /// Puts that too many units of a semaphore were taken.
     fn put_taken<W: Write>(
         &self,
-        out: &mut Out<'_, W>,
+        out: &mut Output<'_, W>,
         place: usize,
         taken: usize,
         units: u64,
@@ -475,14 +476,14 @@ impl<'a> Site<'a> {
     }
 
     /// Puts the value of a put or a get, each number after a space.
-    fn put_value<W: Write>(&self, out: &mut Out<'_, W>, call: &Call)
+    fn put_value<W: Write>(&self, out: &mut Output<'_, W>, call: &Call)
         ensures { Puts out.old out.new (value_text self.now call.now) }
     {
         self.speaker.put_value(out, self.object, stored_value(call));
     }
 
     /// Puts the cell or database, and what a get of it returned.
-    fn put_got<W: Write>(&self, out: &mut Out<'_, W>, call: &Call)
+    fn put_got<W: Write>(&self, out: &mut Output<'_, W>, call: &Call)
         ensures { Puts out.old out.new (got_text self.now call.now) }
     {
         self.speaker.put_store(out, self.object);
@@ -492,7 +493,7 @@ impl<'a> Site<'a> {
 
     /// Puts that there was no put.
     #[tactic(auto, unfolding(crate::specs::Refusals::no_put))]
-    fn put_no_put<W: Write>(&self, out: &mut Out<'_, W>)
+    fn put_no_put<W: Write>(&self, out: &mut Output<'_, W>)
         ensures { Puts out.old out.new (no_put self.now) }
     {
         if self.speaker.is_cell(self.object) {
@@ -503,7 +504,7 @@ impl<'a> Site<'a> {
     }
 
     /// Puts that no put of a value had been called.
-    fn put_nowhere<W: Write>(&self, out: &mut Out<'_, W>, call: &Call)
+    fn put_nowhere<W: Write>(&self, out: &mut Output<'_, W>, call: &Call)
         ensures { Puts out.old out.new (nowhere_text self.now call.now) }
     {
         self.put_got(out, call);
@@ -513,7 +514,7 @@ impl<'a> Site<'a> {
     }
 
     /// Puts that a put had stored something.
-    fn put_put_had<W: Write>(&self, out: &mut Out<'_, W>)
+    fn put_put_had<W: Write>(&self, out: &mut Output<'_, W>)
         ensures { Puts out.old out.new (put_had self.now) }
     {
         if self.speaker.is_cell(self.object) {
@@ -524,7 +525,7 @@ impl<'a> Site<'a> {
     }
 
     /// Puts that a call had stored or returned something.
-    fn put_had_stored<W: Write>(&self, out: &mut Out<'_, W>, op: Op)
+    fn put_had_stored<W: Write>(&self, out: &mut Output<'_, W>, op: Op)
         ensures { Puts out.old out.new (had_stored self.now op) }
     {
         match op {
@@ -534,7 +535,7 @@ impl<'a> Site<'a> {
     }
 
     /// Puts what a call had stored or returned.
-    fn put_stored<W: Write>(&self, out: &mut Out<'_, W>, call: &Call)
+    fn put_stored<W: Write>(&self, out: &mut Output<'_, W>, call: &Call)
         ensures { Puts out.old out.new (stored_text self.now call.now) }
     {
         self.put_had_stored(out, call.op);
@@ -542,7 +543,7 @@ impl<'a> Site<'a> {
     }
 
     /// Puts that a call of another value was completed before a get of the first value was called.
-    fn put_stale<W: Write>(&self, out: &mut Out<'_, W>, earlier: &Call, call: &Call)
+    fn put_stale<W: Write>(&self, out: &mut Output<'_, W>, earlier: &Call, call: &Call)
         ensures { Puts out.old out.new (stale_text self.now earlier.now call.now) }
     {
         self.put_got(out, call);
@@ -552,7 +553,7 @@ impl<'a> Site<'a> {
     }
 
     /// Puts a line, after a space.
-    fn put_next_line<W: Write>(&self, out: &mut Out<'_, W>, position: usize)
+    fn put_next_line<W: Write>(&self, out: &mut Output<'_, W>, position: usize)
         ensures { Puts out.old out.new (line_text self.now position) }
     {
         out.put(b" ");
@@ -560,16 +561,16 @@ impl<'a> Site<'a> {
     }
 
     /// Puts bytes, and a value, each number after a space.
-    pub(crate) fn put_with<W: Write>(&self, out: &mut Out<'_, W>, before: &[u8], value: usize)
+    pub(crate) fn put_with<W: Write>(&self, out: &mut Output<'_, W>, before: &[u8], value: usize)
         ensures { Puts out.old out.new (before.now
-            ++ spaced (value_of self.now.heading self.now.lists self.now.object value)) }
+            ++ numbers_after_spaces (numbers_of_value self.now.heading self.now.lists self.now.object value)) }
     {
         out.put(before);
         self.speaker.put_value(out, self.object, value);
     }
 
     /// Puts bytes, and the value of a call.
-    fn put_with_value<W: Write>(&self, out: &mut Out<'_, W>, before: &[u8], call: &Call)
+    fn put_with_value<W: Write>(&self, out: &mut Output<'_, W>, before: &[u8], call: &Call)
         ensures { Puts out.old out.new (before.now ++ value_text self.now call.now) }
     {
         out.put(before);
@@ -577,7 +578,7 @@ impl<'a> Site<'a> {
     }
 
     /// Puts two values that alternate.
-    fn put_two<W: Write>(&self, out: &mut Out<'_, W>, one: &Call, other: &Call)
+    fn put_two<W: Write>(&self, out: &mut Output<'_, W>, one: &Call, other: &Call)
         ensures { Puts out.old out.new (two_text self.now one.now other.now) }
     {
         self.put_got(out, one);
@@ -594,8 +595,8 @@ impl<'a> Site<'a> {
         c.last == self.at || (matches!(b.op, Op::Get) && b.last == self.at)
     }
 
-    /// Puts two values that alternate, of which that comes first that was returned last.
-    fn put_values<W: Write>(&self, out: &mut Out<'_, W>, a: &Call, b: &Call, c: &Call)
+    /// Puts two values that alternate: the one that was returned last comes first.
+    fn put_values<W: Write>(&self, out: &mut Output<'_, W>, a: &Call, b: &Call, c: &Call)
         ensures { Puts out.old out.new (values_text self.now a.now b.now c.now) }
     {
         if self.ends_second(b, c) {
@@ -606,7 +607,14 @@ impl<'a> Site<'a> {
     }
 
     /// Puts the lines of two responses, each with an invocation after it.
-    fn put_four_lines<W: Write>(&self, out: &mut Out<'_, W>, a: &Call, b: &Call, c: &Call, d: &Call)
+    fn put_four_lines<W: Write>(
+        &self,
+        out: &mut Output<'_, W>,
+        a: &Call,
+        b: &Call,
+        c: &Call,
+        d: &Call,
+    )
         ensures { Puts out.old out.new (four_lines self.now a.now b.now c.now d.now) }
     {
         self.put_next_line(out, a.last);
@@ -616,7 +624,14 @@ impl<'a> Site<'a> {
     }
 
     /// Puts that two values alternate.
-    fn put_alternate<W: Write>(&self, out: &mut Out<'_, W>, a: &Call, b: &Call, c: &Call, d: &Call)
+    fn put_alternate<W: Write>(
+        &self,
+        out: &mut Output<'_, W>,
+        a: &Call,
+        b: &Call,
+        c: &Call,
+        d: &Call,
+    )
         ensures { Puts out.old out.new (alternate_text self.now a.now b.now c.now d.now) }
     {
         self.put_values(out, a, b, c);
@@ -624,7 +639,7 @@ impl<'a> Site<'a> {
     }
 
     /// Puts the lines of responses, each after a space.
-    fn put_lines<W: Write>(&self, out: &mut Out<'_, W>, gets: &[Call])
+    fn put_lines<W: Write>(&self, out: &mut Output<'_, W>, gets: &[Call])
         ensures { Puts out.old out.new (response_lines self.now gets.now) }
     {
         for get in gets {
@@ -633,7 +648,7 @@ impl<'a> Site<'a> {
     }
 
     /// Puts the lines of the other gets, if there are any.
-    fn put_by<W: Write>(&self, out: &mut Out<'_, W>, gets: &[Call])
+    fn put_by<W: Write>(&self, out: &mut Output<'_, W>, gets: &[Call])
         ensures { Puts out.old out.new (by_text self.now gets.now) }
     {
         if !gets.is_empty() {
@@ -644,7 +659,7 @@ impl<'a> Site<'a> {
 
     /// Puts that no put is left.
     #[tactic(auto, unfolding(crate::specs::Refusals::none_left))]
-    fn put_none<W: Write>(&self, out: &mut Out<'_, W>)
+    fn put_none<W: Write>(&self, out: &mut Output<'_, W>)
         ensures { Puts out.old out.new (none_left self.now) }
     {
         if self.speaker.is_cell(self.object) {
@@ -655,7 +670,7 @@ impl<'a> Site<'a> {
     }
 
     /// Puts that no put is left for the first of these gets, by the others.
-    fn put_none_left<W: Write>(&self, out: &mut Out<'_, W>, gets: &[Call])
+    fn put_none_left<W: Write>(&self, out: &mut Output<'_, W>, gets: &[Call])
         ensures { Puts out.old out.new (none_left_text self.now gets.now) }
     {
         if let [call, earlier @ ..] = gets {
@@ -668,7 +683,7 @@ impl<'a> Site<'a> {
     /// Puts a certificate.
     pub(crate) fn put_certificate<W: Write>(
         &self,
-        out: &mut Out<'_, W>,
+        out: &mut Output<'_, W>,
         certificate: Certificate<'_>,
     )
         ensures { Puts out.old out.new (certificate_text self.now certificate.entry) }

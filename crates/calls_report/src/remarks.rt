@@ -1,9 +1,9 @@
-//! Remarks on awaits that are pending although their thresholds were surely passed.
+//! Remarks on awaits that are pending although their thresholds were surely reached.
 ghost use Rattle.std.specs.Prelude.{◌≡◌, [], reverse, IfOk};
 ghost use Rattle.std.specs.List.{cons_option};
 ghost use Rattle.ec_text.specs.Puts.{Puts, IsWrittenOut};
 ghost use Rattle.calls_core.specs.Histories.{pending_calls};
-ghost use Rattle.calls_report.specs.Notes.{scene_of};
+ghost use Rattle.calls_report.specs.Notes.{site_of};
 ghost use Rattle.calls_report.specs.Remarks.{remark_by, remark_on, remarks_of, remark_head};
 ghost use Rattle.calls_report.specs.Remarks.{awaits_text, sure_text, remark_text, remark_lines};
 
@@ -13,7 +13,7 @@ use crate::refusal::Site;
 use crate::sure::sure_count;
 use calls_core::{Op, PendingCall};
 use calls_text::{Read, Recording};
-use ec_text::Out;
+use ec_text::Output;
 use std::alloc::{AllocError, Global};
 use std::io::Write;
 
@@ -39,7 +39,7 @@ fn remark_by(count: usize, call: &PendingCall) -> Option<Remark>
     }
 }
 
-/// Returns the remark on a pending call, if it is an await whose threshold was surely passed.
+/// Returns the remark on a pending call, if it is an await whose threshold was surely reached.
 fn remark_on(
     alloc: Global,
     recording: &Recording,
@@ -70,8 +70,8 @@ pub(crate) fn remarks_of(alloc: Global, recording: &Recording) -> Result<Vec<Rem
     Ok(remarks)
 }
 
-/// Puts the line of an invocation.
-fn put_head<W: Write>(out: &mut Out<'_, W>, site: &Site<'_>, call: &PendingCall)
+/// Puts the number of the line of an invocation.
+fn put_head<W: Write>(out: &mut Output<'_, W>, site: &Site<'_>, call: &PendingCall)
     ensures { Puts out.old out.new (remark_head site.now call.now) }
 {
     out.put(b"remark: line ");
@@ -80,7 +80,12 @@ fn put_head<W: Write>(out: &mut Out<'_, W>, site: &Site<'_>, call: &PendingCall)
 }
 
 /// Puts who awaits what.
-fn put_awaits<W: Write>(out: &mut Out<'_, W>, site: &Site<'_>, call: &PendingCall, threshold: usize)
+fn put_awaits<W: Write>(
+    out: &mut Output<'_, W>,
+    site: &Site<'_>,
+    call: &PendingCall,
+    threshold: usize,
+)
     ensures { Puts out.old out.new (awaits_text site.now call.now threshold) }
 {
     site.put_worker(out, call.worker);
@@ -91,7 +96,7 @@ fn put_awaits<W: Write>(out: &mut Out<'_, W>, site: &Site<'_>, call: &PendingCal
 }
 
 /// Puts the count that was surely reached.
-fn put_sure<W: Write>(out: &mut Out<'_, W>, count: usize)
+fn put_sure<W: Write>(out: &mut Output<'_, W>, count: usize)
     ensures { Puts out.old out.new (sure_text count) }
 {
     out.put(b", and the count was surely ");
@@ -100,7 +105,7 @@ fn put_sure<W: Write>(out: &mut Out<'_, W>, count: usize)
 }
 
 /// Puts a remark.
-fn put_remark<W: Write>(out: &mut Out<'_, W>, site: &Site<'_>, remark: &Remark)
+fn put_remark<W: Write>(out: &mut Output<'_, W>, site: &Site<'_>, remark: &Remark)
     ensures { Puts out.old out.new (remark_text site.now remark.now) }
 {
     put_head(out, site, &remark.call);
@@ -109,7 +114,7 @@ fn put_remark<W: Write>(out: &mut Out<'_, W>, site: &Site<'_>, remark: &Remark)
 }
 
 /// Puts remarks.
-fn put_remarks<W: Write>(out: &mut Out<'_, W>, site: &Site<'_>, remarks: &[Remark])
+fn put_remarks<W: Write>(out: &mut Output<'_, W>, site: &Site<'_>, remarks: &[Remark])
     ensures { Puts out.old out.new (remark_lines site.now remarks.now) }
 {
     for remark in remarks {
@@ -117,10 +122,14 @@ fn put_remarks<W: Write>(out: &mut Out<'_, W>, site: &Site<'_>, remarks: &[Remar
     }
 }
 
-/// Says the remarks on a history.
-pub(crate) fn say_remarks<N: Write>(notes: &mut Out<'_, N>, read: &Read<'_>, remarks: &[Remark])
+/// Reports the remarks on a history.
+pub(crate) fn report_remarks<N: Write>(
+    notes: &mut Output<'_, N>,
+    read: &Read<'_>,
+    remarks: &[Remark],
+)
     ensures puts { Puts notes.old notes.new (remark_lines
-        (scene_of read.now.number read.now.recording 0 0) remarks.now) }
+        (site_of read.now.number read.now.recording 0 0) remarks.now) }
     ensures written { IsWrittenOut notes.old → IsWrittenOut notes.new }
 {
     if remarks.is_empty() {

@@ -7,7 +7,7 @@ ghost use Rattle.calls_report.specs.Statuses.{status_code};
 pub enum Status {
     /// Each history is linearizable, and the texts were written.
     Done,
-    /// The text is no history, or a history has no linearization: the note says why.
+    /// The text is not a history, or a history has no linearization: the note says why.
     Refused,
     /// The command line was wrong.
     Usage,

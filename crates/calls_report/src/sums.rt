@@ -1,4 +1,4 @@
-//! What the calls of an order make of the objects.
+//! Sums over a linearization.
 ghost use Rattle.std.specs.Prelude.{ℕ, List, ◌≡◌, ◌+◌, ◌<◌, ◌∷◌, ◌++◌, [], IfOk, OnOk, length};
 ghost use Rattle.std.specs.Prelude.{slice_index_or};
 ghost use Rattle.calls_report.specs.Totals.{is_effect};
@@ -8,7 +8,7 @@ ghost use Rattle.calls_report.specs.kept.Sums.{AddsUnits, AddsPair};
 use calls_core::{Call, Op, Placed, Reply};
 use std::alloc::{AllocError, Global};
 
-/// What the calls of an order make of the objects. If no number is kept, it is 0.
+/// The sums over a linearization. A number that is not stored is 0.
 #[derive(Drop)]
 pub(crate) struct Sums {
     /// For each object how many advances, tickets and puts of it there are.
@@ -19,11 +19,11 @@ pub(crate) struct Sums {
     pub(crate) added: Vec<usize>,
     /// For each group how many units were taken.
     pub(crate) taken: Vec<usize>,
-    /// How often units of two were taken at once.
+    /// How many times units of two semaphores were taken at once.
     pub(crate) pairs: usize,
 }
 
-/// Returns the number at an index, 0 if none is kept.
+/// Returns the number at an index, 0 if none is stored.
 pub(crate) fn number_at(numbers: &[usize], i: usize) -> usize
     ensures { result ≡ slice_index_or numbers.now i 0 }
 {
@@ -33,7 +33,7 @@ pub(crate) fn number_at(numbers: &[usize], i: usize) -> usize
     }
 }
 
-/// Makes room for a number at an index.
+/// Extends the numbers by zeros, so that there is one at an index.
 fn reach(numbers: &mut Vec<usize>, i: usize) -> Result<(), AllocError>
     ensures room { OnOk result (i < length numbers.new.items) }
     ensures same { (j : ℕ) → slice_index_or numbers.new.items j 0 ≡ slice_index_or numbers.old.items
@@ -65,7 +65,7 @@ fn add_one(numbers: &mut Vec<usize>, i: usize) -> Result<(), AllocError>
     set(numbers, i, n)
 }
 
-/// Returns whether it is an advance, a ticket or a put.
+/// Returns whether the operation is an advance, a ticket or a put.
 fn is_effect(op: Op) -> bool
     ensures { result ≡ is_effect op }
 {
@@ -99,7 +99,7 @@ impl Sums {
         Ok(())
     }
 
-    /// Adds that units of two semaphores were taken at once.
+    /// Adds a unit taken of each of two semaphores at once.
     fn add_pair(&mut self, i: usize, j: usize) -> Result<(), AllocError>
         ensures { OnOk result (AddsPair i j self.old self.new) }
     {
@@ -114,7 +114,7 @@ impl Sums {
         Ok(())
     }
 
-    /// Adds what a call takes from semaphores, or adds to one.
+    /// Adds the units that a call takes or adds.
     fn add_units(&mut self, call: &Call) -> Result<(), AllocError>
         ensures { OnOk result (AddsUnits call.now self.old self.new) }
     {
@@ -135,7 +135,7 @@ impl Sums {
         self.add_units(&placed.call)
     }
 
-    /// Returns the sums over an order.
+    /// Returns the sums over a linearization.
     pub(crate) fn of(alloc: Global, order: &[Placed]) -> Result<Sums, AllocError>
         ensures { IfOk result (AreSums order.now) }
     {

@@ -4,11 +4,12 @@ ghost use Rattle.calls_core.specs.Histories.{pending_calls, completed_calls};
 ghost use Rattle.calls_counts.specs.Faults.{least};
 ghost use Rattle.calls_report.specs.Certificates.{start_at};
 ghost use Rattle.calls_report.specs.Counting.{is_advance_of};
-ghost use Rattle.calls_report.specs.Remarks.{returned, greatest_shown, sure_count};
-ghost use Rattle.calls_report.specs.kept.Sure.{is_open, is_open_after, left_after, raised_by};
+ghost use Rattle.calls_report.specs.Remarks.{returned_advances, greatest_shown, sure_count};
+ghost use Rattle.calls_report.specs.kept.Sure.{is_pending_advance, is_open_after, left_after};
+ghost use Rattle.calls_report.specs.kept.Sure.{raised_by};
 
 use crate::certificate::start_at;
-use crate::counting::{completed, count_advances, is_advance_of};
+use crate::counting::{completed_call, count_advances, is_advance_of};
 use calls_core::{Call, Event, Op, PendingCall, Reply};
 use calls_text::Recording;
 use calls_verdict::follow;
@@ -26,9 +27,9 @@ fn least(op: Op, reply: Reply) -> usize
     }
 }
 
-/// Returns how many of these are advances of an object.
+/// Returns how many pending calls are advances of an object.
 fn count_open(pending: &[PendingCall], object: usize) -> usize
-    ensures { result ≡ count_by (is_open object) pending.now }
+    ensures { result ≡ count_by (is_pending_advance object) pending.now }
 {
     pending
         .iter()
@@ -36,7 +37,7 @@ fn count_open(pending: &[PendingCall], object: usize) -> usize
         .count()
 }
 
-/// Returns how many of these are advances of an object that were invoked after a position.
+/// Returns how many pending calls are advances of an object that were invoked after a position.
 fn count_open_after(pending: &[PendingCall], object: usize, position: usize) -> usize
     ensures { result ≡ count_by (is_open_after object position) pending.now }
 {
@@ -48,7 +49,7 @@ fn count_open_after(pending: &[PendingCall], object: usize, position: usize) -> 
         .count()
 }
 
-/// Returns how many advances come after an event, of so many that come from it on.
+/// Returns how many of the `left` advances from an event on come after it.
 fn left_after(left: usize, event: &Event, object: usize) -> usize
     ensures { result ≡ left_after object left event.now }
 {
@@ -59,11 +60,11 @@ fn left_after(left: usize, event: &Event, object: usize) -> usize
     }
 }
 
-/// Returns the greater of a count and of what a call shows, if one of the object was completed.
+/// Returns the greater of a count and of that which a completed call of the object shows.
 ///
-/// So many advances were invoked after its response, of which those among `pending` have not
-/// returned.
-fn raised(
+/// `left` advances were invoked after the response of the call; of these, the ones in `pending`
+/// have not returned.
+fn max_with_call(
     greatest: usize,
     call: Option<Call>,
     object: usize,
@@ -85,7 +86,8 @@ fn raised(
     }
 }
 
-/// Returns the greatest of a count and of those that the completed calls of an object show.
+/// Returns the greatest of the count `first` and of those that the completed calls of an object
+/// show.
 fn greatest_shown(
     alloc: Global,
     recording: &Recording,
@@ -105,17 +107,27 @@ fn greatest_shown(
     let mut greatest = first;
     for event in events {
         left = left_after(left, event, object);
-        greatest = raised(greatest, completed(&calls, event), object, left, pending)?;
+        greatest = max_with_call(
+            greatest,
+            completed_call(&calls, event),
+            object,
+            left,
+            pending,
+        )?;
         let _object = follow(&mut calls, event)?;
     }
     Ok(greatest)
 }
 
-/// Returns the count at the beginning and the advances that have returned.
-fn made(recording: &Recording, pending: &[PendingCall], object: usize) -> Result<usize, AllocError>
+/// Returns the sum of the initial count and the advances that have returned.
+fn returned_count(
+    recording: &Recording,
+    pending: &[PendingCall],
+    object: usize,
+) -> Result<usize, AllocError>
     requires { pending.now ≡ pending_calls (reverse recording.now.events) }
     ensures { IfOk result (λ n. n ≡ start_at recording.now object
-        + returned object recording.now.events) }
+        + returned_advances object recording.now.events) }
 {
     let called = count_advances(recording.events(), object);
     let returned = called.saturating_sub(count_open(pending, object));
@@ -125,8 +137,9 @@ fn made(recording: &Recording, pending: &[PendingCall], object: usize) -> Result
     }
 }
 
-/// Returns the count that an eventcount has surely reached at the end, by the calls that are pending
-/// then.
+/// Returns the count that an eventcount has surely reached at the end.
+///
+/// `pending` are the calls that are pending then.
 pub(crate) fn sure_count(
     alloc: Global,
     recording: &Recording,
@@ -136,6 +149,6 @@ pub(crate) fn sure_count(
     requires { pending.now ≡ pending_calls (reverse recording.now.events) }
     ensures { IfOk result (λ n. n ≡ sure_count recording.now object) }
 {
-    let first = made(recording, pending, object)?;
+    let first = returned_count(recording, pending, object)?;
     greatest_shown(alloc, recording, pending, object, first)
 }

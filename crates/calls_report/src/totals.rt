@@ -1,4 +1,4 @@
-//! What each object has by the calls of a linearization, as text.
+//! The totals of the objects after the calls of a linearization, as text.
 ghost use Rattle.std.specs.Prelude.{◌≡◌, ◌+◌, ◌<◌, length, List, slice_get, slice_index_or};
 ghost use Rattle.std.specs.Prelude.{[], Some, None, if◌then◌else◌, nat_lt};
 ghost use Rattle.std.specs.Option.{option_map_or};
@@ -6,29 +6,28 @@ ghost use Rattle.ec_text.specs.Puts.{Puts};
 ghost use Rattle.calls_core.specs.declared.history.Placed.{Placed};
 ghost use Rattle.calls_text.specs.Recordings.{first_group};
 ghost use Rattle.calls_report.specs.Totals.{effects};
-ghost use Rattle.calls_report.specs.Totals.{group_event, group_sequencer, group_cell, stored};
+ghost use Rattle.calls_report.specs.Totals.{group_event, group_sequencer, group_cell};
+ghost use Rattle.calls_report.specs.Totals.{final_numbers};
 ghost use Rattle.calls_report.specs.Totals.{event_total, sequencer_total, cell_total};
 ghost use Rattle.calls_report.specs.Totals.{count_line, cell_line, cell_lines, word_totals};
 ghost use Rattle.calls_report.specs.Totals.{totals_text, totals_at};
 ghost use Rattle.calls_report.specs.kept.Sums.{AreSums};
 
 use crate::sums::{Sums, number_at};
-use calls_text::{
-    Recording, first_cell, first_group, first_sequencer, has_cell, has_count, has_line,
-};
-use ec_count::{CellId, EventId, SeqId, Target, Vocabulary};
+use calls_text::{Recording, first_cell, first_group, first_sequencer};
+use ec_count::{CellId, EventId, SeqId, SymbolTable, Target};
 use ec_heading::Group;
-use ec_text::Out;
+use ec_text::Output;
 use std::io::Write;
 
-/// A history, and the sums over an order of its calls.
+/// A history, and the sums over a linearization.
 #[derive(Drop)]
 pub(crate) struct Totals<'a> {
     pub(crate) recording: &'a Recording,
     pub(crate) sums: &'a Sums,
 }
 
-/// Returns the cell at a place of a block, if there is one.
+/// Returns the cell at index `i` of a block, if there is one.
 fn cell_at(first: CellId, i: usize) -> Option<CellId>
     ensures { result ≡ (if nat_lt (first + i) 256 then Some (first + i) else None) }
 {
@@ -36,7 +35,7 @@ fn cell_at(first: CellId, i: usize) -> Option<CellId>
 }
 
 impl<'a> Totals<'a> {
-    /// Returns how many writes of the database at a place there are.
+    /// Returns how many writes of a database there are. `place` is its index among the groups.
     fn writes(&self, place: usize) -> usize
         requires { place < length self.now.recording.now.heading.groups }
         ensures { (order : List Placed) → AreSums order self.now.sums.now → result ≡ effects order
@@ -50,13 +49,13 @@ impl<'a> Totals<'a> {
         )
     }
 
-    /// Returns what an eventcount has by the calls of a group, if it belongs to that.
+    /// Returns the count of an eventcount by the calls of a group, if it belongs to the group.
     fn of_group_event(&self, event: EventId, place: usize, group: &Group) -> Option<usize>
         requires { place < length self.now.recording.now.heading.groups }
         ensures { (order : List Placed) → AreSums order self.now.sums.now → result ≡ group_event
             self.now.recording.now.heading order event place group.now }
     {
-        if !has_count(group, event) {
+        if !group.has_event(event) {
             return None;
         }
         match *group {
@@ -67,13 +66,13 @@ impl<'a> Totals<'a> {
         }
     }
 
-    /// Returns what a sequencer has by the calls of a group, if it belongs to that.
+    /// Returns how many numbers the calls of a group drew, if the sequencer belongs to the group.
     fn of_group_sequencer(&self, sequencer: SeqId, place: usize, group: &Group) -> Option<usize>
         requires { place < length self.now.recording.now.heading.groups }
         ensures { (order : List Placed) → AreSums order self.now.sums.now → result ≡ group_sequencer
             self.now.recording.now.heading order sequencer place group.now }
     {
-        if !has_line(group, sequencer) {
+        if !group.has_sequencer(sequencer) {
             return None;
         }
         match *group {
@@ -84,11 +83,11 @@ impl<'a> Totals<'a> {
         }
     }
 
-    /// Returns the number of a cell of the database at a place.
+    /// Returns the final number of cell `i` of a database. `place` is its index among the groups.
     fn of_database_cell(&self, place: usize, cells: usize, i: usize) -> u64
         requires { place < length self.now.recording.now.heading.groups }
         ensures { (order : List Placed) → AreSums order self.now.sums.now → result ≡ slice_index_or
-            (stored self.now.recording.now order place cells) i 0 }
+            (final_numbers self.now.recording.now order place cells) i 0 }
     {
         // there is a kind for each group, so the sum fits
         let _kinds = self.recording.kinds().len();
@@ -103,13 +102,13 @@ impl<'a> Totals<'a> {
         }
     }
 
-    /// Returns what a cell has as one of a group, if it is one.
+    /// Returns the final number of a cell of a group, if it belongs to the group.
     fn of_group_cell(&self, cell: CellId, place: usize, group: &Group) -> Option<u64>
         requires { place < length self.now.recording.now.heading.groups }
         ensures { (order : List Placed) → AreSums order self.now.sums.now → result ≡ group_cell
             self.now.recording.now order cell place group.now }
     {
-        if !has_cell(group, cell) {
+        if !group.has_cell(cell) {
             return None;
         }
         match *group {
@@ -121,7 +120,7 @@ impl<'a> Totals<'a> {
         }
     }
 
-    /// Returns the count of an eventcount.
+    /// Returns the final count of an eventcount.
     fn of_event(&self, event: EventId) -> u64
         ensures { (order : List Placed) → AreSums order self.now.sums.now → result ≡ event_total
             self.now.recording.now order event }
@@ -135,7 +134,7 @@ impl<'a> Totals<'a> {
         self.recording.start(event).saturating_add(own as u64)
     }
 
-    /// Returns how many tickets of a sequencer were drawn.
+    /// Returns how many numbers of a sequencer were drawn.
     fn of_sequencer(&self, sequencer: SeqId) -> u64
         ensures { (order : List Placed) → AreSums order self.now.sums.now → result ≡ sequencer_total
             self.now.recording.now order sequencer }
@@ -146,14 +145,14 @@ impl<'a> Totals<'a> {
                 return n as u64;
             }
         }
-        heading.setup().known();
+        heading.setup().invariant();
         number_at(
             &self.sums.effects,
             first_sequencer(heading) + sequencer.get(),
         ) as u64
     }
 
-    /// Returns what a cell stores.
+    /// Returns the final number of a cell.
     fn of_cell(&self, cell: CellId) -> u64
         ensures { (order : List Placed) → AreSums order self.now.sums.now → result ≡ cell_total
             self.now.recording.now order cell }
@@ -164,12 +163,12 @@ impl<'a> Totals<'a> {
                 return n;
             }
         }
-        heading.setup().known();
+        heading.setup().invariant();
         number_at(&self.sums.values, first_cell(heading) + cell.get()) as u64
     }
 
     /// Puts the line of a cell.
-    fn put_cell<W: Write>(&self, out: &mut Out<'_, W>, word: &[u8], i: usize, cell: CellId)
+    fn put_cell<W: Write>(&self, out: &mut Output<'_, W>, word: &[u8], i: usize, cell: CellId)
         ensures { (order : List Placed) → AreSums order self.now.sums.now → Puts out.old out.new
             (cell_line word.now i (cell_total self.now.recording.now order cell)) }
     {
@@ -183,7 +182,13 @@ impl<'a> Totals<'a> {
     }
 
     /// Puts the line of a cell, if there is one.
-    fn put_spot<W: Write>(&self, out: &mut Out<'_, W>, word: &[u8], i: usize, cell: Option<CellId>)
+    fn put_spot<W: Write>(
+        &self,
+        out: &mut Output<'_, W>,
+        word: &[u8],
+        i: usize,
+        cell: Option<CellId>,
+    )
         ensures { (order : List Placed) → AreSums order self.now.sums.now → Puts out.old out.new
             (option_map_or (λ x. cell_line word.now i (cell_total self.now.recording.now order x))
             cell []) }
@@ -194,7 +199,7 @@ impl<'a> Totals<'a> {
     }
 
     /// Puts the lines of a block of cells.
-    fn put_cells<W: Write>(&self, out: &mut Out<'_, W>, word: &[u8], first: CellId, n: usize)
+    fn put_cells<W: Write>(&self, out: &mut Output<'_, W>, word: &[u8], first: CellId, n: usize)
         ensures { (order : List Placed) → AreSums order self.now.sums.now → Puts out.old out.new
             (cell_lines self.now.recording.now order word.now first 0 n) }
     {
@@ -203,8 +208,8 @@ impl<'a> Totals<'a> {
         }
     }
 
-    /// Puts the line of a count.
-    fn put_count<W: Write>(&self, out: &mut Out<'_, W>, sort: &[u8], word: &[u8], n: u64)
+    /// Puts the line of an eventcount or a sequencer.
+    fn put_count<W: Write>(&self, out: &mut Output<'_, W>, sort: &[u8], word: &[u8], n: u64)
         ensures { Puts out.old out.new (count_line sort.now word.now n) }
     {
         out.put(sort);
@@ -214,8 +219,8 @@ impl<'a> Totals<'a> {
         out.put(b"\n");
     }
 
-    /// Puts the lines of what a word spells.
-    fn put_word<W: Write>(&self, out: &mut Out<'_, W>, word: &[u8], target: Target)
+    /// Puts the lines of the objects that a word names.
+    fn put_word<W: Write>(&self, out: &mut Output<'_, W>, word: &[u8], target: Target)
         ensures { (order : List Placed) → AreSums order self.now.sums.now → Puts out.old out.new
             (word_totals self.now.recording.now order word.now target) }
     {
@@ -231,8 +236,8 @@ impl<'a> Totals<'a> {
         }
     }
 
-    /// Puts the lines of what the word at a place spells, if there is one.
-    fn put_place<W: Write>(&self, out: &mut Out<'_, W>, words: &Vocabulary, place: usize)
+    /// Puts the lines of the objects that the word at an index names, if there is one.
+    fn put_place<W: Write>(&self, out: &mut Output<'_, W>, words: &SymbolTable, place: usize)
         ensures { (order : List Placed) → AreSums order self.now.sums.now → Puts out.old out.new
             (totals_at self.now.recording.now order (slice_get words.now place)) }
     {
@@ -242,7 +247,7 @@ impl<'a> Totals<'a> {
     }
 
     /// Puts the totals.
-    pub(crate) fn put<W: Write>(&self, out: &mut Out<'_, W>)
+    pub(crate) fn put<W: Write>(&self, out: &mut Output<'_, W>)
         ensures { (order : List Placed) → AreSums order self.now.sums.now → Puts out.old out.new
             (totals_text self.now.recording.now order) }
     {

@@ -1,9 +1,10 @@
-//! Calls and replies, as they are spelled.
+//! Calls and replies, as text.
 ghost use Rattle.std.specs.Prelude.{◌≡◌, ◌-◌, [], nat_lt, replicate, slice_index_or};
 ghost use Rattle.ec_text.specs.Puts.{Puts};
 ghost use Rattle.calls_text.specs.Recordings.{first_sequencer, first_group};
 ghost use Rattle.calls_text.specs.Spelling.{worker_word, event_word, sequencer_word, cell_name};
-ghost use Rattle.calls_text.specs.Spelling.{group_word, store_word, list_of, value_of, spaced};
+ghost use Rattle.calls_text.specs.Spelling.{group_word, store_word, numbers_of_list};
+ghost use Rattle.calls_text.specs.Spelling.{numbers_of_value, numbers_after_spaces};
 ghost use Rattle.calls_text.specs.Spelling.{put_word, get_word, call_text, returned_value};
 ghost use Rattle.calls_text.specs.Spelling.{spaced_reply};
 ghost use Rattle.calls_report.specs.kept.Speakers.{IsStoreOp};
@@ -12,12 +13,12 @@ use calls_core::{Op, Reply};
 use calls_text::{Lists, first_cell, first_group, first_sequencer, numbers_of};
 use ec_count::{CellId, EventId, SeqId, Target, WorkerId};
 use ec_heading::Heading;
-use ec_text::Out;
+use ec_text::Output;
 use ec_trace::{Spellings, put_cell};
 use std::io::Write;
 use std::marker::Model;
 
-/// The words of a history: those of its workers and objects, and its lists.
+/// What the text of calls depends on: the words of workers and objects, and the lists of numbers.
 #[derive(Drop)]
 pub struct Speaker<'a> {
     pub(crate) heading: &'a Heading,
@@ -29,7 +30,7 @@ impl<'a> Model for Speaker<'a> {
     ghost use Rattle.std.specs.Prelude.{◌≡◌};
     ghost use Rattle.calls_report.specs.kept.Speakers as speakers;
 
-    ghost Value = { speakers.Spoken };
+    ghost Value = { speakers.SpeakerModel };
 
     ghost view = { λ s. record { heading = s.heading.now; lists = s.lists.now } };
 
@@ -37,7 +38,7 @@ impl<'a> Model for Speaker<'a> {
 }
 
 impl<'a> Speaker<'a> {
-    /// Returns the words of a heading, and these lists.
+    /// Returns the words of a header, and these lists.
     pub fn new(heading: &'a Heading, lists: &'a Lists) -> Speaker<'a>
         ensures heading { result.heading ≡ heading.now }
         ensures lists { result.lists ≡ lists.now }
@@ -50,7 +51,7 @@ impl<'a> Speaker<'a> {
     }
 
     /// Puts the name of a worker.
-    pub fn put_worker<W: Write>(&self, out: &mut Out<'_, W>, worker: usize)
+    pub fn put_worker<W: Write>(&self, out: &mut Output<'_, W>, worker: usize)
         ensures { Puts out.old out.new (worker_word self.now.heading worker) }
     {
         if let Some(worker) = WorkerId::new(worker) {
@@ -59,7 +60,7 @@ impl<'a> Speaker<'a> {
     }
 
     /// Puts the name of an eventcount.
-    pub fn put_event<W: Write>(&self, out: &mut Out<'_, W>, event: usize)
+    pub fn put_event<W: Write>(&self, out: &mut Output<'_, W>, event: usize)
         ensures { Puts out.old out.new (event_word self.now.heading event) }
     {
         if let Some(event) = EventId::new(event) {
@@ -68,7 +69,7 @@ impl<'a> Speaker<'a> {
     }
 
     /// Puts the name of a sequencer.
-    pub fn put_sequencer<W: Write>(&self, out: &mut Out<'_, W>, sequencer: usize)
+    pub fn put_sequencer<W: Write>(&self, out: &mut Output<'_, W>, sequencer: usize)
         ensures { Puts out.old out.new (sequencer_word self.now.heading sequencer) }
     {
         if let Some(sequencer) = SeqId::new(sequencer) {
@@ -77,7 +78,7 @@ impl<'a> Speaker<'a> {
     }
 
     /// Puts the name of a cell.
-    pub fn put_cell<W: Write>(&self, out: &mut Out<'_, W>, cell: usize)
+    pub fn put_cell<W: Write>(&self, out: &mut Output<'_, W>, cell: usize)
         ensures { Puts out.old out.new (cell_name self.now.heading cell) }
     {
         if let Some(cell) = CellId::new(cell) {
@@ -86,7 +87,7 @@ impl<'a> Speaker<'a> {
     }
 
     /// Puts the name of a group.
-    pub fn put_group<W: Write>(&self, out: &mut Out<'_, W>, place: usize)
+    pub fn put_group<W: Write>(&self, out: &mut Output<'_, W>, place: usize)
         ensures { Puts out.old out.new (group_word self.now.heading place) }
     {
         match self.heading.names().name_of(Target::Group(place)) {
@@ -96,7 +97,7 @@ impl<'a> Speaker<'a> {
     }
 
     /// Puts the name of the sequencer with this index among the objects.
-    pub fn put_sequencer_of<W: Write>(&self, out: &mut Out<'_, W>, object: usize)
+    pub fn put_sequencer_of<W: Write>(&self, out: &mut Output<'_, W>, object: usize)
         ensures { Puts out.old out.new (sequencer_word self.now.heading
             (object - first_sequencer self.now.heading)) }
     {
@@ -111,7 +112,7 @@ impl<'a> Speaker<'a> {
     }
 
     /// Puts the word of a cell or a database.
-    pub fn put_store<W: Write>(&self, out: &mut Out<'_, W>, object: usize)
+    pub fn put_store<W: Write>(&self, out: &mut Output<'_, W>, object: usize)
         ensures { Puts out.old out.new (store_word self.now.heading object) }
     {
         let first = first_group(self.heading);
@@ -123,8 +124,8 @@ impl<'a> Speaker<'a> {
     }
 
     /// Puts each number of a list after a space.
-    fn put_spaced<W: Write>(&self, out: &mut Out<'_, W>, numbers: &[u64])
-        ensures { Puts out.old out.new (spaced numbers.now) }
+    fn put_spaced<W: Write>(&self, out: &mut Output<'_, W>, numbers: &[u64])
+        ensures { Puts out.old out.new (numbers_after_spaces numbers.now) }
     {
         for n in numbers {
             out.put(b" ");
@@ -132,9 +133,9 @@ impl<'a> Speaker<'a> {
         }
     }
 
-    /// Puts so many zeros, each after a space.
-    fn put_zeros<W: Write>(&self, out: &mut Out<'_, W>, count: usize)
-        ensures { Puts out.old out.new (spaced (replicate count 0)) }
+    /// Puts `count` zeros, each after a space.
+    fn put_zeros<W: Write>(&self, out: &mut Output<'_, W>, count: usize)
+        ensures { Puts out.old out.new (numbers_after_spaces (replicate count 0)) }
     {
         for _zero in 0..count {
             self.put_spaced(out, &[0]);
@@ -142,8 +143,9 @@ impl<'a> Speaker<'a> {
     }
 
     /// Puts each number of the list at an index after a space, nothing if there is no such list.
-    fn put_list<W: Write>(&self, out: &mut Out<'_, W>, index: usize)
-        ensures { Puts out.old out.new (spaced (slice_index_or self.now.lists index [])) }
+    fn put_list<W: Write>(&self, out: &mut Output<'_, W>, index: usize)
+        ensures { Puts out.old out.new
+            (numbers_after_spaces (slice_index_or self.now.lists index [])) }
     {
         match self.lists.get(index) {
             Some(list) => self.put_spaced(out, list),
@@ -152,8 +154,8 @@ impl<'a> Speaker<'a> {
     }
 
     /// Puts each number of a value after a space.
-    pub fn put_value<W: Write>(&self, out: &mut Out<'_, W>, object: usize, n: usize)
-        ensures { Puts out.old out.new (spaced (value_of self.now.heading self.now.lists object n)) }
+    pub fn put_value<W: Write>(&self, out: &mut Output<'_, W>, object: usize, n: usize)
+        ensures { Puts out.old out.new (numbers_after_spaces (numbers_of_value self.now.heading self.now.lists object n)) }
     {
         if object < first_group(self.heading) {
             self.put_spaced(out, &[n as u64]);
@@ -167,7 +169,7 @@ impl<'a> Speaker<'a> {
     }
 
     /// Puts a call of an object.
-    pub fn put_call<W: Write>(&self, out: &mut Out<'_, W>, object: usize, op: Op)
+    pub fn put_call<W: Write>(&self, out: &mut Output<'_, W>, object: usize, op: Op)
         ensures { Puts out.old out.new (call_text self.now.heading self.now.lists object op) }
     {
         match op {
@@ -208,7 +210,7 @@ impl<'a> Speaker<'a> {
     }
 
     /// Puts a call of a cell or a database.
-    fn put_store_call<W: Write>(&self, out: &mut Out<'_, W>, object: usize, op: Op)
+    fn put_store_call<W: Write>(&self, out: &mut Output<'_, W>, object: usize, op: Op)
         requires { IsStoreOp op }
         ensures { Puts out.old out.new (call_text self.now.heading self.now.lists object op) }
     {
@@ -227,7 +229,7 @@ impl<'a> Speaker<'a> {
     }
 
     /// Puts a reply to a call of an object, after a space.
-    pub fn put_reply<W: Write>(&self, out: &mut Out<'_, W>, object: usize, op: Op, reply: Reply)
+    pub fn put_reply<W: Write>(&self, out: &mut Output<'_, W>, object: usize, op: Op, reply: Reply)
         ensures { Puts out.old out.new (spaced_reply self.now.heading self.now.lists object op
             reply) }
     {

@@ -35,10 +35,10 @@ completed_invoke x past k op e = ap (λ a. ended_call x a (pending_of x.worker (
 -- o is the pending call of worker w, and the rest are the others
 pub record IsFound (w : ℕ) (os : List PendingCall) (o : PendingCall) (rest : List PendingCall) :
     Type 0 where
-  pub front : List PendingCall
+  pub prefix : List PendingCall
   pub back : List PendingCall
-  pub is : os ≡ front ++ o ∷ back
-  pub rest_is : rest ≡ front ++ back
+  pub is : os ≡ prefix ++ o ∷ back
+  pub rest_is : rest ≡ prefix ++ back
 
 pub found_by : (w : ℕ) (os : List PendingCall) (o : PendingCall) → pending_of w os ≡ Some o
     → IsFound w os o (without w os)
@@ -47,14 +47,14 @@ found_by w (p ∷ os) o e =
     elim (p.worker == w) as (λ b. (if b then Some p else pending_of w os) ≡ Some o
     → IsFound w (p ∷ os) o (if b then os else p ∷ without w os)) [
       | true ↦ λ f. record {
-        front = [];
+        prefix = [];
         back = os;
         is =
             (let same : p ≡ o = cc in ap (λ q. q ∷ os) same);
         rest_is = refl;
       }
       | false ↦ λ f. (let r = found_by w os o f in record {
-        front = p ∷ r.front;
+        prefix = p ∷ r.prefix;
         back = r.back;
         is =
             ap (λ ps. p ∷ ps) r.is;
@@ -96,7 +96,7 @@ pub taken_invoke : (x : Event) (past : List Event) (k : ℕ) (op : Op) (i : ℕ)
     → units_taken i (x ∷ past) ≡ units_taken i past
 taken_invoke x past k op i e = ap (count_by (took_of i)) (completed_invoke x past k op e)
 
--- a test of a pending call is one of its rest and of itself
+-- a count of the pending calls is that of one of them and of the rest
 pub count_found : (q : PendingCall → Bool) (w : ℕ) (os : List PendingCall) (o : PendingCall)
     (rest : List PendingCall) → IsFound w os o rest
     → count_by q os ≡ count_by q rest + one (q o)
@@ -105,10 +105,10 @@ count_found q w os o rest f =
       arith,
       ap (count_by q) f.is,
       ap (count_by q) f.rest_is,
-      count_append q f.front
+      count_append q f.prefix
           (o ∷ f.back),
       count_cons q o f.back,
-      count_append q f.front f.back,
+      count_append q f.prefix f.back,
     )
 
 pub added_respond : (x : Event) (past : List Event) (r : Reply) (o : PendingCall) (i : ℕ)

@@ -33,7 +33,7 @@ use Rattle.calls_semaphores.specs.declared.fault.Fault.{Fault}
 use Rattle.calls_semaphores.specs.Banks.{adds, takes, took, took_by, added_by, pending_added_by}
 use Rattle.calls_semaphores.specs.Faults.{Shows}
 use Rattle.calls_semaphores.specs.Monitors.{units_taken, units_added}
-use Rattle.calls_semaphores.specs.Keeping.{is_v, answer, IsKept}
+use Rattle.calls_semaphores.specs.Keeping.{is_v, answer, IsLinearizationSoFar}
 use Rattle.calls_semaphores.proofs.Runs.{took_of, added_of, state_after}
 use Rattle.calls_semaphores.proofs.Counts.{pending_invoke, completed_invoke, found_by}
 use Rattle.calls_semaphores.proofs.Counts.{pending_respond, completed_respond, adds_of}
@@ -129,7 +129,7 @@ module _ (units : Vec ℕ Global) where
 
   -- FAULTS
 
-  -- the call that takes a unit more than there are shows a fault
+  -- a call that takes a unit of a semaphore that has none left shows a fault
   pub shows_new : (x : Event) (past : List Event) → IsHistoryOf (Semaphores units) (x ∷ past)
       → (r : Reply) (o : PendingCall) → x.action ≡ Respond r
       → pending_of x.worker (pending_calls past) ≡ Some o
@@ -171,7 +171,7 @@ module _ (units : Vec ℕ Global) where
         );
       }
 
-  -- and it stays so when the history grows
+  -- a fault that a history shows, it shows with one more event too
   module _ (x : Event) (past : List Event) (h : IsHistoryOf (Semaphores units) (x ∷ past))
       (f : Fault) (s : Shows (Semaphores units) past f) where
     abbrev n : ℕ
@@ -246,9 +246,9 @@ module _ (units : Vec ℕ Global) where
   -- LINEARIZATIONS
 
   abbrev pub HasKept : List Event → Type 0
-  HasKept past = (t : ℕ) → clock past ≤ t → (cs : List Call) × IsKept units past t cs
+  HasKept past = (t : ℕ) → clock past ≤ t → (cs : List Call) × IsLinearizationSoFar units past t cs
 
-  pub kept_start : (t : ℕ) → IsKept units [] t []
+  pub kept_start : (t : ℕ) → IsLinearizationSoFar units [] t []
   kept_start t = record {
     each_once = IsPermutation-refl [];
     in_order = tt;
@@ -257,7 +257,8 @@ module _ (units : Vec ℕ Global) where
     fits = tt;
   }
 
-  pub order_of_kept : (past : List Event) (t : ℕ) (cs : List Call) → IsKept units past t cs
+  pub order_of_kept : (past : List Event) (t : ℕ) (cs : List Call)
+      → IsLinearizationSoFar units past t cs
       → IsOrderOf (Semaphores units) past t cs
   order_of_kept past t cs k = record {
     answer = answer;
@@ -274,7 +275,8 @@ module _ (units : Vec ℕ Global) where
     pub has_invoked : (k : ℕ) (op : Op) → x.action ≡ Invoke k op → HasKept past → HasKept (x ∷ past)
     has_invoked k op e kept = λ t le.
         let r = kept t (before t le) in
-        elim (is_v op) as (λ b. is_v op ≡ b → (cs : List Call) × IsKept units (x ∷ past) t cs) [
+        elim (is_v op) as (λ b. is_v op ≡ b → (cs : List Call)
+        × IsLinearizationSoFar units (x ∷ past) t cs) [
           | true ↦ λ v. (
             r.0 ++ completion t Done (invoked_by x k op) ∷ [],
             invoked_v units x past t
@@ -285,9 +287,9 @@ module _ (units : Vec ℕ Global) where
 
     module _ (r : Reply) (o : PendingCall) (e : x.action ≡ Respond r)
         (f : pending_of x.worker (pending_calls past) ≡ Some o) where
-      stands : (t : ℕ) (le : clock (x ∷ past) ≤ t) (cs : List Call) → is_v o.op ≡ true
-          → IsKept units past t cs → Contains cs (completion t Done o)
-      stands t le cs v kept =
+      represents : (t : ℕ) (le : clock (x ∷ past) ≤ t) (cs : List Call) → is_v o.op ≡ true
+          → IsLinearizationSoFar units past t cs → Contains cs (completion t Done o)
+      represents t le cs v kept =
           let c = completion t Done o in
           let all = answered_calls t answer (pending_calls past) in
           let here : Contains all c =
@@ -300,14 +302,14 @@ module _ (units : Vec ℕ Global) where
       pub has_v : is_v o.op ≡ true → HasKept past → HasKept (x ∷ past)
       has_v v kept = λ t le.
           let k = kept t (before t le) in
-          let s = split_at k.0 (completion t Done o) (stands t le k.0 v k.1) in (
-            s.front ++ completion x.at r o ∷ s.back,
-            responded_v units x past t h le r o e f s.front s.back v
+          let s = split_at k.0 (completion t Done o) (represents t le k.0 v k.1) in (
+            s.prefix ++ completion x.at r o ∷ s.back,
+            responded_v units x past t h le r o e f s.prefix s.back v
                 (v_done o.op r v (suited units x past t h le r o e f))
-                (subst (IsKept units past t) s.is k.1),
+                (subst (IsLinearizationSoFar units past t) s.is k.1),
           )
 
-      -- with the units that it takes it is at the end
+      -- a call that is no v, if the units that it takes are left, is added at the end
       pub has_other : is_v o.op ≡ false → ((i : ℕ) → took i o.op r ≡ true
           → units_taken i past < first i + units_added i past) → HasKept past → HasKept (x ∷ past)
       has_other v units_are kept = λ t le.
@@ -374,7 +376,7 @@ module _ (units : Vec ℕ Global) where
         inr s
   ]
 
-  -- from any linearization
+  -- a history that has any linearization has one of this form
   pub kept_of_order : (past : List Event) → IsHistoryOf (Semaphores units) past → (t : ℕ)
       → clock past ≤ t → (cs : List Call) → IsOrderOf (Semaphores units) past t cs → HasKept past
   kept_of_order past h t le cs l = elim (kept_or_fault past h) [

@@ -1,4 +1,4 @@
--- What shows a fault has no linearization.
+-- A history that shows a fault has no linearization.
 use Rattle.std.proofs.Common.{◌≡◌, ℕ, ◌+◌, ◌<◌, ◌≤◌, inl, inr, Bool, true, false, nat_le, List, []}
 use Rattle.std.proofs.Common.{◌∷◌, ◌++◌, Option, Some, None, refl, ap, sym, ◌∙◌, arith, subst}
 use Rattle.std.proofs.Common.{count_by, append_assoc, Vec}
@@ -20,7 +20,7 @@ use Rattle.calls_core.specs.Lists.{Each}
 use Rattle.calls_core.specs.Calls.{IsCallOf}
 use Rattle.calls_core.specs.Histories.{IsHistoryOf, clock, completion, completed_calls}
 use Rattle.calls_core.specs.Histories.{pending_calls}
-use Rattle.calls_core.specs.Linearizations.{IsSequentialRun, KeepsOrder, answered_one}
+use Rattle.calls_core.specs.Linearizations.{IsLegalHistory, KeepsOrder, answered_one}
 use Rattle.calls_core.specs.Linearizations.{answered_calls, initial}
 use Rattle.calls_core.specs.Outcomes.{IsOrderOf}
 use Rattle.calls_core.proofs.Positions.{are_calls_of}
@@ -34,13 +34,13 @@ use Rattle.calls_semaphores.specs.Faults.{Shows}
 use Rattle.calls_semaphores.proofs.Runs.{IsOp, took_of, added_of, took_in, added_in, run_count}
 use Rattle.calls_semaphores.proofs.Runs.{run_left}
 
--- THE LAST ONE THAT PASSES A TEST
+-- THE LAST ELEMENT THAT PASSES A TEST
 
 record LastOne {X : Type 0} (q : X → Bool) (cs : List X) : Type 0 where
-  front : List X
+  prefix : List X
   x : X
   back : List X
-  is : cs ≡ front ++ x ∷ back
+  is : cs ≡ prefix ++ x ∷ back
   yes : q x ≡ true
   none : count_by q back ≡ 0
 
@@ -49,7 +49,7 @@ last_one q [] lt = absurd (omega arith)
 last_one q (y ∷ cs) lt =
     elim (cases_lt 0 (count_by q cs)) [
       | inl more ↦ (let r = last_one q cs more in record {
-        front = y ∷ r.front;
+        prefix = y ∷ r.prefix;
         x = r.x;
         back =
             r.back;
@@ -58,7 +58,7 @@ last_one q (y ∷ cs) lt =
         none = r.none;
       })
       | inr le ↦ record {
-        front = [];
+        prefix = [];
         x = y;
         back = cs;
         is = refl;
@@ -84,7 +84,7 @@ one_late n t i o (Some r) lt =
           (took_by n i (completion t r o)) (and_right (took i o.op r) (nat_le t n) (lt-leb t n lt)),
     )
 
--- none of them has its response up to n
+-- no answered pending call has its response up to n
 answered_late : (n t i : ℕ) (answer : PendingCall → Option Reply) (os : List PendingCall) → n < t
     → count_by (took_by n i) (answered_calls t answer os) ≡ 0
 answered_late n t i answer [] lt = refl
@@ -117,7 +117,7 @@ answered_pending n t i answer (o ∷ os) =
       count_cons (pending_added_by n i) o os,
     )
 
--- who takes adds nothing
+-- a call that took a unit adds none
 took_adds_none : (i : ℕ) (op : Op) (r : Reply) → took i op r ≡ true → adds i op ≡ false
 took_adds_none i (P j) r e = refl
 took_adds_none i (V j) r e = cc
@@ -175,46 +175,48 @@ module _ (units : Vec ℕ Global) where
       let d = r.x in
       let parts = and_parts (took i d.op d.reply) (nat_le d.last n) r.yes in
       let up : d.last ≤ n = leb-true d.last n parts.1 in
-      let counted : count_by took_up cs ≡ count_by took_up r.front +
+      let counted : count_by took_up cs ≡ count_by took_up r.prefix +
       (one (took_up d) + count_by took_up r.back) =
-      ap (count_by took_up) r.is ∙ count_append took_up r.front (d ∷ r.back) ∙ ap (λ k.
-      count_by took_up r.front + k) (count_cons took_up d r.back) in
-      let fewer : count_by took_up r.front ≤ took_in i r.front =
-      count_less took_up (took_of i) r.front (λ k x lt e. (and_parts _ _ e).0) in
-      let again : cs ≡ (r.front ++ d ∷ []) ++ r.back = r.is ∙ sym
-      (append_assoc r.front (d ∷ []) r.back) in
-      let run : IsSequentialRun (initial (Some kind)) (r.front ++ d ∷ []) =
-      run_left (initial (Some kind)) (r.front ++ d ∷ []) r.back
-      (subst (IsSequentialRun (initial (Some kind))) again l.run) in
-      let bank_front : Each OfBank (r.front ++ d ∷ []) = each_left OfBank (r.front ++ d ∷ []) r.back
+      ap (count_by took_up) r.is ∙ count_append took_up r.prefix (d ∷ r.back) ∙ ap (λ k.
+      count_by took_up r.prefix + k) (count_cons took_up d r.back) in
+      let fewer : count_by took_up r.prefix ≤ took_in i r.prefix =
+      count_less took_up (took_of i) r.prefix (λ k x lt e. (and_parts _ _ e).0) in
+      let again : cs ≡ (r.prefix ++ d ∷ []) ++ r.back = r.is ∙ sym
+      (append_assoc r.prefix (d ∷ []) r.back) in
+      let run : IsLegalHistory (initial (Some kind)) (r.prefix ++ d ∷ []) =
+      run_left (initial (Some kind)) (r.prefix ++ d ∷ []) r.back
+      (subst (IsLegalHistory (initial (Some kind))) again l.run) in
+      let bank_front : Each OfBank (r.prefix ++ d ∷ []) =
+      each_left OfBank (r.prefix ++ d ∷ []) r.back
       (subst (Each OfBank) again bank_cs) in
-      let bound = run_count units (initial (Some kind)) i (r.front ++ d ∷ []) bank_front run in
-      let took_front : took_in i (r.front ++ d ∷ []) ≡ took_in i r.front + 1 =
+      let bound = run_count units (initial (Some kind)) i (r.prefix ++ d ∷ []) bank_front run in
+      let took_front : took_in i (r.prefix ++ d ∷ []) ≡ took_in i r.prefix + 1 =
       omega (
         arith,
-        count_append (took_of i) r.front (d ∷ []),
+        count_append (took_of i) r.prefix (d ∷ []),
         count_cons
             (took_of i) d [],
         one_yes (took_of i d) parts.0,
       ) in
-      let added_front : added_in i (r.front ++ d ∷ []) ≡ added_in i r.front =
+      let added_front : added_in i (r.prefix ++ d ∷ []) ≡ added_in i r.prefix =
       omega (
         arith,
-        count_append (added_of i) r.front (d ∷ []),
+        count_append (added_of i) r.prefix (d ∷ []),
         count_cons (added_of i) d [],
         one_no
             (added_of i d) (took_adds_none i d.op d.reply parts.0),
       ) in
-      let before : Each (λ x. KeepsOrder x d) r.front = each_from_all (λ x. KeepsOrder x d) r.front
-      (pairs_left KeepsOrder r.front d r.back (subst (AllPairs KeepsOrder) r.is l.in_order)) in
-      let invoked : added_in i r.front ≤ count_by added_up r.front =
-      count_less (added_of i) added_up r.front
-      (all_from_each (λ (x : Call). added_of i x ≡ true → added_up x ≡ true) r.front
+      let before : Each (λ x. KeepsOrder x d) r.prefix =
+      each_from_all (λ x. KeepsOrder x d) r.prefix
+      (pairs_left KeepsOrder r.prefix d r.back (subst (AllPairs KeepsOrder) r.is l.in_order)) in
+      let invoked : added_in i r.prefix ≤ count_by added_up r.prefix =
+      count_less (added_of i) added_up r.prefix
+      (all_from_each (λ (x : Call). added_of i x ≡ true → added_up x ≡ true) r.prefix
       (each_weaker (λ x. KeepsOrder x d) (λ (x : Call). added_of i x ≡ true → added_up x ≡ true)
       (λ x k e. and_from (adds i x.op) (nat_le x.first n) e
-      (le-leb x.first n (not_later x.first d.last n k up))) r.front before)) in
-      let countedV : count_by added_up cs ≡ count_by added_up r.front + count_by added_up
-      (d ∷ r.back) = ap (count_by added_up) r.is ∙ count_append added_up r.front (d ∷ r.back) in
+      (le-leb x.first n (not_later x.first d.last n k up))) r.prefix before)) in
+      let countedV : count_by added_up cs ≡ count_by added_up r.prefix + count_by added_up
+      (d ∷ r.back) = ap (count_by added_up) r.is ∙ count_append added_up r.prefix (d ∷ r.back) in
       omega (
         arith,
         movedP,

@@ -1,4 +1,4 @@
--- Runs of a bank, by counting.
+-- Legal sequential histories of a bank, by counting.
 use Rattle.std.proofs.Common.{◌≡◌, ℕ, ◌+◌, ◌-◌, ◌<◌, ◌==◌, Bool, true, false, List, [], ◌∷◌, ◌++◌}
 use Rattle.std.proofs.Common.{Some, refl, arith, count_by, Vec, cond, ◌&&◌, ◌||◌, subst, ap}
 use Rattle.std.specs.declared.alloc.Global.{Global}
@@ -12,7 +12,7 @@ use Rattle.calls_core.specs.declared.history.Reply.TheVariants.{Done, Number, Ti
 use Rattle.calls_core.specs.declared.history.Call.{Call}
 use Rattle.calls_core.specs.Lists.{Each}
 use Rattle.calls_core.specs.Histories.{Takes}
-use Rattle.calls_core.specs.Linearizations.{Gives, after, set_at, IsSequentialRun}
+use Rattle.calls_core.specs.Linearizations.{Gives, after, set_at, IsLegalHistory}
 use Rattle.calls_semaphores.specs.Banks.{adds, took}
 use Rattle.calls_core.proofs.Counting.{one, count_cons}
 
@@ -90,7 +90,7 @@ module _ (units : Vec ℕ Global) where
   one_step m i Get r s g = absurd s
 
   pub run_count : (m : ℕ → ℕ) (i : ℕ) (cs : List Call) → Each (λ c. IsOp c.op) cs
-      → IsSequentialRun m cs
+      → IsLegalHistory m cs
       → state_after m cs i + took_in i cs ≡ m i + added_in i cs
   run_count m i [] s run = refl
   run_count m i (c ∷ cs) s run =
@@ -102,23 +102,23 @@ module _ (units : Vec ℕ Global) where
         count_cons (added_of i) c cs,
       )
 
-pub run_left : (m : ℕ → ℕ) (xs ys : List Call) → IsSequentialRun m (xs ++ ys) → IsSequentialRun m xs
+pub run_left : (m : ℕ → ℕ) (xs ys : List Call) → IsLegalHistory m (xs ++ ys) → IsLegalHistory m xs
 run_left m [] ys run = tt
 run_left m (x ∷ xs) ys run = (run.0, run_left (after m x.op x.reply) xs ys run.1)
 
-pub run_more : (m : ℕ → ℕ) (xs : List Call) (c : Call) → IsSequentialRun m xs
-    → Gives (state_after m xs) c.op c.reply → IsSequentialRun m (xs ++ c ∷ [])
+pub run_more : (m : ℕ → ℕ) (xs : List Call) (c : Call) → IsLegalHistory m xs
+    → Gives (state_after m xs) c.op c.reply → IsLegalHistory m (xs ++ c ∷ [])
 run_more m [] c run g = (g, tt)
 run_more m (x ∷ xs) c run g = (run.0, run_more (after m x.op x.reply) xs c run.1 g)
 
--- a call gives way to one with the same operation and reply
+-- a call is replaced by one with the same operation and reply
 pub run_changed : (m : ℕ → ℕ) (xs : List Call) (c d : Call) (ys : List Call) → c.op ≡ d.op
     → c.reply ≡ d.reply
-    → IsSequentialRun m (xs ++ c ∷ ys) → IsSequentialRun m (xs ++ d ∷ ys)
+    → IsLegalHistory m (xs ++ c ∷ ys) → IsLegalHistory m (xs ++ d ∷ ys)
 run_changed m [] c d ys e f run = (
   subst (λ o. Gives m o d.reply) e (subst (λ r. Gives m c.op r) f run.0),
-  subst (λ o. IsSequentialRun (after m o d.reply) ys) e
-      (subst (λ r. IsSequentialRun (after m c.op r) ys) f run.1),
+  subst (λ o. IsLegalHistory (after m o d.reply) ys) e
+      (subst (λ r. IsLegalHistory (after m c.op r) ys) f run.1),
 )
 run_changed m (x ∷ xs) c d ys e f run = (
   run.0,

@@ -1,4 +1,4 @@
--- The steps of the code.
+-- The steps of the scan.
 use Rattle.std.proofs.Common.{◌≡◌, ℕ, zero, suc, ◌+◌, ◌<◌, ◌≤◌, ◌==◌, Bool, true, false, ◌||◌, List}
 use Rattle.std.proofs.Common.{[], ◌∷◌, ◌++◌, length, set, map, get_or, Some, None, refl, ap, sym}
 use Rattle.std.proofs.Common.{◌∙◌, arith, subst, Vec, cond, slice_get, slice_index}
@@ -26,13 +26,13 @@ use Rattle.calls_core.specs.Linearizations.{initial}
 use Rattle.calls_core.proofs.Lists.{each_weaker, each_append, each_both}
 use Rattle.calls_core.proofs.Counting.{one_yes}
 use Rattle.calls_semaphores.specs.declared.bank.Bank.{Bank}
-use Rattle.calls_semaphores.specs.declared.scan.Open.{Open}
+use Rattle.calls_semaphores.specs.declared.scan.PendingUnits.{PendingUnits}
 use Rattle.calls_semaphores.specs.declared.scan.Scan.{Scan}
 use Rattle.calls_semaphores.specs.Banks.{takes, took}
 use Rattle.calls_semaphores.specs.Monitors.{AreLeft, IsRefusedAt, units_left, units_taken}
 use Rattle.calls_semaphores.specs.Monitors.{units_added}
 use Rattle.calls_semaphores.specs.Keeping.{is_v, one_if, Distinct, IsOpened, AreAdded, TakenAs}
-use Rattle.calls_semaphores.specs.Keeping.{IsKept, IsPlaced, calls_in, Holds}
+use Rattle.calls_semaphores.specs.Keeping.{IsLinearizationSoFar, IsPlaced, calls_in, Holds}
 use Rattle.calls_semaphores.proofs.Runs.{IsOp, state_after}
 use Rattle.calls_semaphores.proofs.Counts.{pending_invoke, pending_respond, completed_respond}
 use Rattle.calls_semaphores.proofs.Counts.{added_invoke, taken_invoke, added_respond, taken_respond}
@@ -127,7 +127,7 @@ get_last : {X : Type 0} (xs : List X) (x : X) → slice_get (xs ++ x ∷ []) (le
 get_last [] x = refl
 get_last (y ∷ xs) x = get_last xs x
 
-get_other : {X : Type 0} (xs : List X) (k j : ℕ) (y : X) → (k ≡ j → ⊥)
+pub get_other : {X : Type 0} (xs : List X) (k j : ℕ) (y : X) → (k ≡ j → ⊥)
     → slice_get (set xs k y) j ≡ slice_get xs j
 get_other [] k j y h = refl
 get_other (x ∷ xs) zero zero y h = absurd (h refl)
@@ -136,15 +136,15 @@ get_other (x ∷ xs) (suc k) zero y h = refl
 get_other (x ∷ xs) (suc k) (suc j) y h = get_other xs k j y (λ e. h (ap suc e))
 
 record IsSplit {X : Type 0} (xs : List X) (k : ℕ) (x : X) : Type 0 where
-  front : List X
+  prefix : List X
   back : List X
-  is : xs ≡ front ++ x ∷ back
-  changed : (y : X) → set xs k y ≡ front ++ y ∷ back
+  is : xs ≡ prefix ++ x ∷ back
+  changed : (y : X) → set xs k y ≡ prefix ++ y ∷ back
 
 split_get : {X : Type 0} (xs : List X) (k : ℕ) (x : X) → slice_get xs k ≡ Some x → IsSplit xs k x
 split_get [] k x e = absurd (cc)
 split_get (y ∷ xs) zero x e = record {
-  front = [];
+  prefix = [];
   back = xs;
   is =
       (let same : y ≡ x = cc in ap (λ z. z ∷ xs) same);
@@ -152,7 +152,7 @@ split_get (y ∷ xs) zero x e = record {
 }
 split_get (y ∷ xs) (suc k) x e =
     (let r = split_get xs k x e in record {
-      front = y ∷ r.front;
+      prefix = y ∷ r.prefix;
       back = r.back;
       is =
           ap (λ zs. y ∷ zs) r.is;
@@ -172,7 +172,7 @@ distinct_op units Ticket h = tt
 distinct_op units (Put v) h = tt
 distinct_op units Get h = tt
 
--- who takes a unit takes one of the bank
+-- a call takes units only of semaphores of the bank
 in_bank : (units : Vec ℕ Global) (op : Op) (i : ℕ) → IsOp units op → takes i op ≡ true
     → i < length units.items
 in_bank units (P j) i h e = subst (λ k. k < length units.items) (eqb-true j i e) h
@@ -272,18 +272,18 @@ module _ (units : Vec ℕ Global) (x : Event) (past : List Event) (h : IsHistory
     one_yes (took i o.op r) e,
   )
 
--- WHAT THE SCAN KEEPS
+-- THE INVARIANT OF THE SCAN
 
 pub scan_start : (units : Vec ℕ Global) (s : Scan) → IsOpened units.items s.bank
     → s.pending.items ≡ [] → s.order.items ≡ [] → Holds units [] s
 scan_start units s opened pending order = record {
   pending = ap calls_in pending;
   left = left_start units.items s.bank opened;
-  kept = subst (IsKept units [] s.end) (sym order) (kept_start units s.end);
+  kept = subst (IsLinearizationSoFar units [] s.end) (sym order) (kept_start units s.end);
   places = subst (Each (IsPlaced s.end s.order.items)) (sym pending) tt;
 }
 
-placed_more : (t : ℕ) (cs : List Call) (c : Call) (os : List Open) → Each (IsPlaced t cs) os
+placed_more : (t : ℕ) (cs : List Call) (c : Call) (os : List PendingUnits) → Each (IsPlaced t cs) os
     → Each (IsPlaced t (cs ++ c ∷ [])) os
 placed_more t cs c os h = each_weaker (IsPlaced t cs) (IsPlaced t (cs ++ c ∷ [])) (λ o f v.
     get_more cs (c ∷ []) o.place (completion t Done o.call) (f v)) os h
@@ -291,12 +291,13 @@ placed_more t cs c os h = each_weaker (IsPlaced t cs) (IsPlaced t (cs ++ c ∷ [
 module _ (units : Vec ℕ Global) (x : Event) (past : List Event) (h : IsHistoryOf (Semaphores units)
     (x ∷ past)) (old : Scan) (k : Holds units past old) (r : Reply) (is : x.action ≡ Respond r)
   where
-    pub scan_nobody : position (is_his (λ (o : Open). o.call) x.worker) old.pending.items ≡ None → ⊥
+    pub scan_nobody : position (is_his (λ (o : PendingUnits). o.call) x.worker) old.pending.items
+        ≡ None → ⊥
     scan_nobody none = no_pending units x past h r is (subst (λ ps.
-        pending_of x.worker ps ≡ None) k.pending (at_none (λ (o : Open). o.call) x.worker
+        pending_of x.worker ps ≡ None) k.pending (at_none (λ (o : PendingUnits). o.call) x.worker
         old.pending.items none))
 
-    module _ (i : ℕ) (o : Open) (at : IsAt (λ (p : Open). p.call) x.worker old.pending.items i o)
+    module _ (i : ℕ) (o : PendingUnits) (at : IsAt (λ (p : PendingUnits). p.call) x.worker old.pending.items i o)
       where
         pub scan_found : pending_of x.worker (pending_calls past) ≡ Some o.call
         scan_found = subst (λ ps. pending_of x.worker ps ≡ Some o.call) k.pending at.his
@@ -314,7 +315,7 @@ module _ (units : Vec ℕ Global) (x : Event) (past : List Event) (h : IsHistory
 module _ (units : Vec ℕ Global) (x : Event) (past : List Event) (h : IsHistoryOf (Semaphores units)
     (x ∷ past)) (old new : Scan) (le : clock (x ∷ past) ≤ old.end) (k : Holds units past old)
     (end : new.end ≡ old.end) where
-  abbrev os : List Open
+  abbrev os : List PendingUnits
   os = old.pending.items
 
   -- INVOCATIONS
@@ -323,11 +324,12 @@ module _ (units : Vec ℕ Global) (x : Event) (past : List Event) (h : IsHistory
       ++ record { call = invoked_by x j op; place = length old.order.items } ∷ [])
       (same : length new.bank.added.items ≡ length old.bank.added.items)
       (more : AreAdded old.bank new.bank op) where
-    abbrev it : Open
+    abbrev it : PendingUnits
     it = record { call = invoked_by x j op; place = length old.order.items }
 
     pending_now : calls_in new.pending.items ≡ pending_calls (x ∷ past)
-    pending_now = ap calls_in pending ∙ map-append (λ (o : Open). o.call) os (it ∷ []) ∙ ap (λ zs.
+    pending_now = ap calls_in pending ∙ map-append (λ (o : PendingUnits). o.call) os (it ∷ [])
+        ∙ ap (λ zs.
         zs ++ invoked_by x j op ∷ []) k.pending ∙ sym (pending_invoke x past j op is)
 
     left_new : AreLeft units.items (x ∷ past) new.bank
@@ -337,7 +339,7 @@ module _ (units : Vec ℕ Global) (x : Event) (past : List Event) (h : IsHistory
         Done (invoked_by x j op) ∷ [] → Holds units (x ∷ past) new
     scan_invoked_v v order =
         let c = completion old.end Done (invoked_by x j op) in
-        let kept : IsKept units (x ∷ past) old.end (old.order.items ++ c ∷ []) =
+        let kept : IsLinearizationSoFar units (x ∷ past) old.end (old.order.items ++ c ∷ []) =
         invoked_v units x past old.end h le j op old.order.items is v k.kept in
         let placed : Each (IsPlaced old.end (old.order.items ++ c ∷ [])) (os ++ it ∷ []) =
         each_append (IsPlaced old.end (old.order.items ++ c ∷ [])) os (it ∷ [])
@@ -349,8 +351,8 @@ module _ (units : Vec ℕ Global) (x : Event) (past : List Event) (h : IsHistory
         record {
           pending = pending_now;
           left = left_new;
-          kept = subst (λ t. IsKept units (x ∷ past) t new.order.items) (sym end)
-              (subst (IsKept units (x ∷ past) old.end) (sym order) kept);
+          kept = subst (λ t. IsLinearizationSoFar units (x ∷ past) t new.order.items) (sym end)
+              (subst (IsLinearizationSoFar units (x ∷ past) old.end) (sym order) kept);
           places = subst (λ t. Each (IsPlaced t new.order.items) new.pending.items) (sym end)
               (subst (λ cs. Each (IsPlaced old.end cs) new.pending.items) (sym order)
               (subst (Each (IsPlaced old.end (old.order.items ++ c ∷ []))) (sym pending) placed));
@@ -359,7 +361,7 @@ module _ (units : Vec ℕ Global) (x : Event) (past : List Event) (h : IsHistory
     pub scan_invoked_other : is_v op ≡ false → new.order.items ≡ old.order.items
         → Holds units (x ∷ past) new
     scan_invoked_other v order =
-        let kept : IsKept units (x ∷ past) old.end old.order.items =
+        let kept : IsLinearizationSoFar units (x ∷ past) old.end old.order.items =
         invoked_other units x past old.end h le j op old.order.items is v k.kept in
         let none : is_v op ≡ true → slice_get old.order.items (length old.order.items) ≡ Some
         (completion old.end Done (invoked_by x j op)) = λ w. cc in
@@ -368,8 +370,8 @@ module _ (units : Vec ℕ Global) (x : Event) (past : List Event) (h : IsHistory
         record {
           pending = pending_now;
           left = left_new;
-          kept = subst (λ t. IsKept units (x ∷ past) t new.order.items) (sym end)
-              (subst (IsKept units (x ∷ past) old.end) (sym order) kept);
+          kept = subst (λ t. IsLinearizationSoFar units (x ∷ past) t new.order.items) (sym end)
+              (subst (IsLinearizationSoFar units (x ∷ past) old.end) (sym order) kept);
           places = subst (λ t. Each (IsPlaced t new.order.items) new.pending.items) (sym end)
               (subst (λ cs. Each (IsPlaced old.end cs) new.pending.items) (sym order)
               (subst (Each (IsPlaced old.end old.order.items)) (sym pending) placed));
@@ -377,20 +379,21 @@ module _ (units : Vec ℕ Global) (x : Event) (past : List Event) (h : IsHistory
 
   -- RESPONSES
 
-  module _ (r : Reply) (is : x.action ≡ Respond r) (i : ℕ) (o : Open)
-      (at : IsAt (λ (p : Open). p.call) x.worker os i o) where
+  module _ (r : Reply) (is : x.action ≡ Respond r) (i : ℕ) (o : PendingUnits)
+      (at : IsAt (λ (p : PendingUnits). p.call) x.worker os i o) where
     pub found_now : pending_of x.worker (pending_calls past) ≡ Some o.call
     found_now = subst (λ ps. pending_of x.worker ps ≡ Some o.call) k.pending at.his
 
-    abbrev rest : List Open
+    abbrev rest : List PendingUnits
     rest = remove os i
 
     rest_is : calls_in rest ≡ without x.worker (pending_calls past)
     rest_is = sym at.rest ∙ ap (without x.worker) k.pending
 
-    apart : Each (λ (p : Open). p.call.first ≡ o.call.first → ⊥) rest
+    apart : Each (λ (p : PendingUnits). p.call.first ≡ o.call.first → ⊥) rest
     apart =
-        each_unmapped (λ (p : Open). p.call) (λ (p : PendingCall). p.first ≡ o.call.first → ⊥) rest
+        each_unmapped (λ (p : PendingUnits). p.call) (λ (p : PendingCall). p.first ≡ o.call.first
+        → ⊥) rest
         (subst (Each (λ (p : PendingCall). p.first ≡ o.call.first → ⊥)) (sym rest_is)
         (apart_rest units x past old.end h le r o.call is found_now))
 
@@ -419,15 +422,15 @@ module _ (units : Vec ℕ Global) (x : Event) (past : List Event) (h : IsHistory
           o.call.op r (fitting units x past old.end h le r o.call is found_now)
           (suited units x past old.end h le r o.call is found_now)
           (λ i q. omega (arith, some i q, state_count units x past old.end h le i cs k.kept)) in
-          let kept : IsKept units (x ∷ past) old.end (cs ++ c ∷ []) =
+          let kept : IsLinearizationSoFar units (x ∷ past) old.end (cs ++ c ∷ []) =
           responded_other units x past old.end h le r o.call is found_now cs v gives k.kept in
           let placed : Each (IsPlaced old.end (cs ++ c ∷ [])) rest =
           placed_more old.end cs c rest rest_placed in
           record {
             pending = pending_left;
             left = left_rest;
-            kept = subst (λ t. IsKept units (x ∷ past) t new.order.items) (sym end)
-                (subst (IsKept units (x ∷ past) old.end) (sym order) kept);
+            kept = subst (λ t. IsLinearizationSoFar units (x ∷ past) t new.order.items) (sym end)
+                (subst (IsLinearizationSoFar units (x ∷ past) old.end) (sym order) kept);
             places = subst (λ t. Each (IsPlaced t new.order.items) new.pending.items) (sym end)
                 (subst (λ zs. Each (IsPlaced old.end zs) new.pending.items) (sym order)
                 (subst (Each (IsPlaced old.end (cs ++ c ∷ []))) (sym pending) placed));
@@ -441,12 +444,12 @@ module _ (units : Vec ℕ Global) (x : Event) (past : List Event) (h : IsHistory
           let here : slice_get cs o.place ≡ Some (completion old.end Done o.call) =
           its_place k.places v in
           let s = split_get cs o.place (completion old.end Done o.call) here in
-          let kept : IsKept units (x ∷ past) old.end (s.front ++ c ∷ s.back) =
-          responded_v units x past old.end h le r o.call is found_now s.front s.back v
+          let kept : IsLinearizationSoFar units (x ∷ past) old.end (s.prefix ++ c ∷ s.back) =
+          responded_v units x past old.end h le r o.call is found_now s.prefix s.back v
           (v_done o.call.op r v (suited units x past old.end h le r o.call is found_now))
-          (subst (IsKept units past old.end) s.is k.kept) in
+          (subst (IsLinearizationSoFar units past old.end) s.is k.kept) in
           let placed : Each (IsPlaced old.end (set cs o.place c)) rest =
-          each_both (IsPlaced old.end cs) (λ (p : Open). p.call.first ≡ o.call.first
+          each_both (IsPlaced old.end cs) (λ (p : PendingUnits). p.call.first ≡ o.call.first
           → ⊥) (IsPlaced old.end (set cs o.place c))
           (λ p f q w. get_other cs o.place p.place c (λ e.
           q (let one : Some (completion old.end Done o.call) ≡ Some
@@ -455,8 +458,9 @@ module _ (units : Vec ℕ Global) (x : Event) (past : List Event) (h : IsHistory
           record {
             pending = pending_left;
             left = left_rest;
-            kept = subst (λ t. IsKept units (x ∷ past) t new.order.items) (sym end)
-                (subst (IsKept units (x ∷ past) old.end) (sym (order ∙ s.changed c)) kept);
+            kept = subst (λ t. IsLinearizationSoFar units (x ∷ past) t new.order.items) (sym end)
+                (subst (IsLinearizationSoFar units (x ∷ past) old.end) (sym (order
+                ∙ s.changed c)) kept);
             places = subst (λ t. Each (IsPlaced t new.order.items) new.pending.items) (sym end)
                 (subst (λ zs. Each (IsPlaced old.end zs) new.pending.items) (sym order)
                 (subst (Each (IsPlaced old.end (set cs o.place c))) (sym pending) placed));

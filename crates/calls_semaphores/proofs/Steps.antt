@@ -35,7 +35,7 @@ use Rattle.calls_core.proofs.Filters.{permutation_same}
 use Rattle.calls_core.proofs.Counting.{one, one_yes, one_no, count_cons, count_append, count_moved}
 use Rattle.calls_semaphores.specs.Banks.{took}
 use Rattle.calls_semaphores.specs.Monitors.{units_taken, units_added}
-use Rattle.calls_semaphores.specs.Keeping.{is_v, answer, IsKept}
+use Rattle.calls_semaphores.specs.Keeping.{is_v, answer, IsLinearizationSoFar}
 use Rattle.calls_semaphores.proofs.Runs.{IsOp, took_of, added_of, state_after, run_count, run_more}
 use Rattle.calls_semaphores.proofs.Runs.{run_changed}
 use Rattle.calls_semaphores.proofs.Counts.{pending_invoke, completed_invoke, IsFound, found_by}
@@ -69,7 +69,7 @@ pairs_changed R (a ∷ us) c d bs h k f = (
   pairs_changed R us c d bs h.1 k.1 f,
 )
 
--- A CALL THAT GETS ITS RESPONSE
+-- A CALL IN THE LINEARIZATION GETS ITS RESPONSE
 
 -- a call that was invoked at position m and has no response before t
 abbrev is_open : ℕ → ℕ → Call → Bool
@@ -140,7 +140,7 @@ it_is_open : (t : ℕ) (o : PendingCall) → is_open t o.first (completion t Don
 it_is_open t o = and_from (t == t) (o.first == o.first) (eq-eqb t t refl)
     (eq-eqb o.first o.first refl)
 
--- WHAT A BANK GIVES
+-- WHICH REPLIES A BANK GIVES
 
 next_takes : (units : Vec ℕ Global) (k : ℕ) (op : Op) (o : Option PendingCall)
     → IsNextOf (Semaphores units) (Invoke k op) o → IsOp units op
@@ -165,7 +165,7 @@ or_right : (x y : Bool) → y ≡ true → (x || y) ≡ true
 or_right true y e = refl
 or_right false y e = e
 
--- a bank gives what has the units that it takes
+-- a bank gives a reply, if it has the units that the call takes
 pub bank_gives : (units : Vec ℕ Global) (m : ℕ → ℕ) (op : Op) (r : Reply) → IsOp units op
     → Suits op r → ((i : ℕ) → took i op r ≡ true → 0 < m i) → Gives m op r
 bank_gives units m (V i) Done h s f = refl
@@ -215,7 +215,7 @@ module _ (units : Vec ℕ Global) (x : Event) (past : List Event) (t : ℕ)
   later cs e = each_weaker Starts StartsNow (λ c lt. omega (arith, h.0)) cs e
 
   -- the units that are left, by counting
-  pub state_count : (i : ℕ) (cs : List Call) → IsKept units past t cs
+  pub state_count : (i : ℕ) (cs : List Call) → IsLinearizationSoFar units past t cs
       → state_after m0 cs i + units_taken i past ≡ m0 i + units_added i past
   state_count i cs k =
       omega (
@@ -241,8 +241,8 @@ module _ (units : Vec ℕ Global) (x : Event) (past : List Event) (t : ℕ)
       e)
 
   pub invoked_v : (k : ℕ) (op : Op) (cs : List Call) → x.action ≡ Invoke k op → is_v op ≡ true
-      → IsKept units past t cs
-      → IsKept units (x ∷ past) t (cs ++ completion t Done (invoked_by x k op) ∷ [])
+      → IsLinearizationSoFar units past t cs
+      → IsLinearizationSoFar units (x ∷ past) t (cs ++ completion t Done (invoked_by x k op) ∷ [])
   invoked_v k op cs e v kept =
       let c = completion t Done (invoked_by x k op) in
       let new : answered_calls t answer (pending_calls (x ∷ past)) ≡ answered_calls t answer os ++ c
@@ -267,7 +267,7 @@ module _ (units : Vec ℕ Global) (x : Event) (past : List Event) (t : ℕ)
       }
 
   pub invoked_other : (k : ℕ) (op : Op) (cs : List Call) → x.action ≡ Invoke k op → is_v op ≡ false
-      → IsKept units past t cs → IsKept units (x ∷ past) t cs
+      → IsLinearizationSoFar units past t cs → IsLinearizationSoFar units (x ∷ past) t cs
   invoked_other k op cs e v kept =
       let new : answered_calls t answer (pending_calls (x ∷ past)) ≡ answered_calls t answer os =
       ap (answered_calls t answer) (pending_invoke x past k op e) ∙ answered_more k op false v
@@ -296,7 +296,7 @@ module _ (units : Vec ℕ Global) (x : Event) (past : List Event) (t : ℕ)
         (subst (λ a. IsNextOf (Semaphores units) a (pending_of x.worker os)) is h.1)
 
     of_pending : (Q : PendingCall → Type 0) → Each Q os → Q o
-    of_pending Q q = (each_right Q split.front (o ∷ split.back) (subst (Each Q) split.is q)).0
+    of_pending Q q = (each_right Q split.prefix (o ∷ split.back) (subst (Each Q) split.is q)).0
 
     pub fitting : IsOp units o.op
     fitting = of_pending (λ (p : PendingCall). IsOp units p.op) calls.fits
@@ -305,14 +305,14 @@ module _ (units : Vec ℕ Global) (x : Event) (past : List Event) (t : ℕ)
     begun = of_pending (Early (clock past)) calls.early
 
     abbrev pub fronts : List Call
-    fronts = answered_calls t answer split.front
+    fronts = answered_calls t answer split.prefix
 
     abbrev pub backs : List Call
     backs = answered_calls t answer split.back
 
     rest_answered : answered_calls t answer (pending_calls (x ∷ past)) ≡ fronts ++ backs
     rest_answered = ap (answered_calls t answer) (pending_respond x past r is ∙ split.rest_is)
-        ∙ answered_append t answer split.front split.back
+        ∙ answered_append t answer split.prefix split.back
 
     now_all : answered_calls t answer (pending_calls (x ∷ past)) ++ completed_calls (x ∷ past) ≡
         (fronts ++ backs) ++ completion x.at r o ∷ done
@@ -322,13 +322,13 @@ module _ (units : Vec ℕ Global) (x : Event) (past : List Event) (t : ℕ)
     pub were_answered : (b : Bool) → is_v o.op ≡ b → answered_calls t answer os ≡ fronts ++
         (answered_one t o (answer_if b) ++ backs)
     were_answered b e =
-        ap (answered_calls t answer) split.is ∙ answered_append t answer split.front
+        ap (answered_calls t answer) split.is ∙ answered_append t answer split.prefix
         (o ∷ split.back)
         ∙ ap (λ c. fronts ++ (answered_one t o (answer_if c) ++ backs)) e
 
     pub responded_other : (cs : List Call) → is_v o.op ≡ false → Gives (state_after m0 cs) o.op r
-        → IsKept units past t cs
-        → IsKept units (x ∷ past) t (cs ++ completion x.at r o ∷ [])
+        → IsLinearizationSoFar units past t cs
+        → IsLinearizationSoFar units (x ∷ past) t (cs ++ completion x.at r o ∷ [])
     responded_other cs v gives kept =
         let c = completion x.at r o in
         let before : IsPermutation ((fronts ++ backs) ++ done) cs =
@@ -345,30 +345,31 @@ module _ (units : Vec ℕ Global) (x : Event) (past : List Event) (t : ℕ)
           fits = each_append (λ (a : Call). IsOp units a.op) cs (c ∷ []) kept.fits (fitting, tt);
         }
 
-    pairs : EachPair Earlier (split.front ++ o ∷ split.back)
+    pairs : EachPair Earlier (split.prefix ++ o ∷ split.back)
     pairs = subst (EachPair Earlier) split.is calls.rises
 
-    apart_front : Each (λ (p : PendingCall). p.first ≡ o.first → ⊥) split.front
+    apart_front : Each (λ (p : PendingCall). p.first ≡ o.first → ⊥) split.prefix
     apart_front =
         each_weaker (λ p. Each (Earlier p) (o ∷ split.back)) (λ (p : PendingCall). p.first ≡ o.first
-        → ⊥) (λ p q e. (let lt : p.first < o.first = q.0 in omega arith)) split.front
-        (each_pair_across Earlier split.front (o ∷ split.back) pairs)
+        → ⊥) (λ p q e. (let lt : p.first < o.first = q.0 in omega arith)) split.prefix
+        (each_pair_across Earlier split.prefix (o ∷ split.back) pairs)
 
     apart_back : Each (λ (p : PendingCall). p.first ≡ o.first → ⊥) split.back
     apart_back =
         each_weaker (Earlier o) (λ (p : PendingCall). p.first ≡ o.first → ⊥) (λ p lt e.
         omega arith) split.back
-        (each_pair_right Earlier split.front (o ∷ split.back) pairs).0
+        (each_pair_right Earlier split.prefix (o ∷ split.back) pairs).0
 
-    -- the others of the pending calls were invoked elsewhere
+    -- the other pending calls were invoked at other positions
     pub apart_rest : Each (λ (p : PendingCall). p.first ≡ o.first → ⊥) (without x.worker os)
     apart_rest = subst (Each (λ (p : PendingCall). p.first ≡ o.first → ⊥)) (sym split.rest_is)
-        (each_append (λ (p : PendingCall). p.first ≡ o.first → ⊥) split.front split.back apart_front
+        (each_append (λ (p : PendingCall). p.first ≡ o.first
+        → ⊥) split.prefix split.back apart_front
         apart_back)
 
     pub responded_v : (us bs : List Call) → is_v o.op ≡ true → r ≡ Done
-        → IsKept units past t (us ++ completion t Done o ∷ bs)
-        → IsKept units (x ∷ past) t (us ++ completion x.at r o ∷ bs)
+        → IsLinearizationSoFar units past t (us ++ completion t Done o ∷ bs)
+        → IsLinearizationSoFar units (x ∷ past) t (us ++ completion x.at r o ∷ bs)
     responded_v us bs v r_is kept =
         let c = completion t Done o in
         let d = completion x.at Done o in
@@ -380,7 +381,7 @@ module _ (units : Vec ℕ Global) (x : Event) (past : List Event) (t : ℕ)
         ap (λ zs. zs ++ done) (were_answered true v) in
         let opened : q c ≡ true = it_is_open t o in
         let c_to_d : f c ≡ d = ap (λ b. if b then with_last c x.at else c) opened in
-        let no_front : count_by q fronts ≡ 0 = others_open t o.first split.front apart_front in
+        let no_front : count_by q fronts ≡ 0 = others_open t o.first split.prefix apart_front in
         let no_back : count_by q backs ≡ 0 = others_open t o.first split.back apart_back in
         let no_done : count_by q done ≡ 0 = completed_open t o.first done
         (each_weaker (IsCallOf (Semaphores units) (clock past)) (λ (a : Call). a.last < t)
@@ -426,7 +427,7 @@ module _ (units : Vec ℕ Global) (x : Event) (past : List Event) (t : ℕ)
         subst (λ zs. IsPermutation zs (us ++ d ∷ bs)) all_now
         (subst (IsPermutation (map f all)) cs_now (IsPermutation-map f all cs kept.each_once))
         in
-        let done_now : IsKept units (x ∷ past) t (us ++ d ∷ bs) = record {
+        let done_now : IsLinearizationSoFar units (x ∷ past) t (us ++ d ∷ bs) = record {
           each_once = subst (λ zs. IsPermutation zs (us ++ d ∷ bs))
               (sym (now_all ∙ ap (λ z. (fronts ++ backs) ++ completion x.at z o ∷ done) r_is))
               (moved_right d fronts backs done (us ++ d ∷ bs) moved);
@@ -440,4 +441,5 @@ module _ (units : Vec ℕ Global) (x : Event) (past : List Event) (t : ℕ)
               (each_left (λ (a : Call). IsOp units a.op) us (c ∷ bs) kept.fits)
               (each_right (λ (a : Call). IsOp units a.op) us (c ∷ bs) kept.fits);
         } in
-        subst (λ z. IsKept units (x ∷ past) t (us ++ completion x.at z o ∷ bs)) (sym r_is) done_now
+        subst (λ z. IsLinearizationSoFar units (x ∷ past) t (us
+        ++ completion x.at z o ∷ bs)) (sym r_is) done_now

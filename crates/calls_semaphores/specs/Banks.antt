@@ -54,11 +54,11 @@ abbrev pub pending_added_by : ℕ → ℕ → PendingCall → Bool
 pending_added_by n i o = adds i o.op && nat_le o.first n
 
 -- how many units of semaphore i were taken by the calls with responses up to position n
-abbrev pub taken : ℕ → ℕ → List Event → ℕ
-taken n i past = count_by (took_by n i) (completed_calls past)
+abbrev pub taken_units : ℕ → ℕ → List Event → ℕ
+taken_units n i past = count_by (took_by n i) (completed_calls past)
 
 -- how many units the calls add to semaphore i that were invoked up to position n
-abbrev pub added : ℕ → ℕ → List Event → ℕ
-added n i past =
+abbrev pub added_units : ℕ → ℕ → List Event → ℕ
+added_units n i past =
     count_by (added_by n i) (completed_calls past)
     + count_by (pending_added_by n i) (pending_calls past)

@@ -1,4 +1,4 @@
--- What only the code's representation needs: no theorem of the bank is stated by these.
+-- The state of a bank and of the scan. Only the proofs and the private contracts use this.
 use Rattle.std.specs.Prelude.{◌≡◌, ℕ, ◌+◌, ◌-◌, ◌<◌, ◌≤◌, ◌==◌, Bool, true, false, List, ◌∷◌, ◌++◌}
 use Rattle.std.specs.Prelude.{length, map, Option, Some, None, if◌then◌else◌, slice_index}
 use Rattle.std.specs.Prelude.{slice_get, Vec}
@@ -16,10 +16,10 @@ use Rattle.calls_core.specs.declared.history.Call.{Call}
 use Rattle.calls_core.specs.Lists.{Each, EachPair}
 use Rattle.calls_core.specs.Histories.{Takes, IsHistoryOf, clock, completion, completed_calls}
 use Rattle.calls_core.specs.Histories.{pending_calls}
-use Rattle.calls_core.specs.Linearizations.{IsSequentialRun, KeepsOrder, answered_calls, initial}
+use Rattle.calls_core.specs.Linearizations.{IsLegalHistory, KeepsOrder, answered_calls, initial}
 use Rattle.calls_semaphores.specs.declared.bank.Bank.{Bank}
 use Rattle.calls_semaphores.specs.declared.fault.Fault.{Fault}
-use Rattle.calls_semaphores.specs.declared.scan.Open.{Open}
+use Rattle.calls_semaphores.specs.declared.scan.PendingUnits.{PendingUnits}
 use Rattle.calls_semaphores.specs.declared.scan.Scan.{Scan}
 use Rattle.calls_semaphores.specs.Banks.{adds, takes, took}
 use Rattle.calls_semaphores.specs.Monitors.{AreLeft, IsRefusedAt, UpTo, units_left}
@@ -91,27 +91,27 @@ abbrev pub answer : PendingCall → Option Reply
 answer o = if is_v o.op then Some Done else None
 
 -- a linearization in which a pending v has its response at t, and in which every call was invoked
--- before the end of the past
-pub record IsKept (units : Vec ℕ Global) (past : List Event) (t : ℕ) (cs : List Call)
+-- in the history so far
+pub record IsLinearizationSoFar (units : Vec ℕ Global) (past : List Event) (t : ℕ) (cs : List Call)
     : Type 0 where
   pub each_once :
       IsPermutation (answered_calls t answer (pending_calls past) ++ completed_calls past) cs
   pub in_order : EachPair KeepsOrder cs
-  pub run : IsSequentialRun (initial (Some (Semaphores units))) cs
+  pub run : IsLegalHistory (initial (Some (Semaphores units))) cs
   pub early : Each (λ (c : Call). c.first < clock past) cs
   pub fits : Each (λ (c : Call). Takes (Some (Semaphores units)) c.op) cs
 
--- a pending v is at its place
-abbrev pub IsPlaced : ℕ → List Call → Open → Type 0
+-- a pending v is in the linearization at its place
+abbrev pub IsPlaced : ℕ → List Call → PendingUnits → Type 0
 IsPlaced t cs o = is_v o.call.op ≡ true → slice_get cs o.place ≡ Some (completion t Done o.call)
 
-abbrev pub calls_in : List Open → List PendingCall
-calls_in os = map (λ (o : Open). o.call) os
+abbrev pub calls_in : List PendingUnits → List PendingCall
+calls_in os = map (λ (o : PendingUnits). o.call) os
 
 pub record Holds (units : Vec ℕ Global) (past : List Event) (s : Scan) : Type 0 where
   pub pending : calls_in s.pending.items ≡ pending_calls past
   pub left : AreLeft units.items past s.bank
-  pub kept : IsKept units past s.end s.order.items
+  pub kept : IsLinearizationSoFar units past s.end s.order.items
   pub places : Each (IsPlaced s.end s.order.items) s.pending.items
 
 abbrev pub IsStep : Vec ℕ Global → List Event → Event → Scan → Option Fault → Type 0

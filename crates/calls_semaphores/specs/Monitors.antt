@@ -1,4 +1,4 @@
--- What a monitor of a bank says.
+-- What a monitor of a bank represents, and its verdicts.
 use Rattle.std.specs.Prelude.{◌≡◌, ℕ, ◌+◌, ◌-◌, ◌^◌, ◌<◌, ◌≤◌, List, [], ◌∷◌, length, count_by}
 use Rattle.std.specs.Prelude.{slice_index, Result, Ok, Err, Vec}
 use Rattle.std.specs.declared.alloc.Global.{Global}
@@ -31,15 +31,15 @@ units_added i past =
 abbrev pub units_left : Bank → ℕ → ℕ
 units_left b i = slice_index b.left.items i + slice_index b.added.items i
 
--- each semaphore of the bank has the units left that it had at first and that were added, but for
--- those that were taken
+-- each semaphore of the bank has the units left that it had at first, plus those that were added,
+-- minus those that were taken
 pub record AreLeft (units : List ℕ) (past : List Event) (b : Bank) : Type 0 where
   pub same : length b.added.items ≡ length units
   pub each : (i : ℕ) → i < length units
       → units_left b i + units_taken i past ≡ slice_index units i + units_added i past
 
--- the monitor represents a past of a bank with these units at first, and that past has a
--- linearization
+-- the monitor represents the history so far of a bank with these units at first, and this history
+-- has a linearization
 pub record Represents (units : Vec ℕ Global) (past : List Event) (m : Monitor) : Type 0 where
   pub pending : m.pending.items ≡ pending_calls past
   pub left : AreLeft units.items past m.bank
@@ -54,11 +54,11 @@ HasRoom (Respond r) n = Unit {0}
 abbrev pub UpTo : ℕ → List ℕ → Type 0
 UpTo n xs = (i : ℕ) → slice_index xs i ≤ n
 
--- and the greatest of them grows by at most one
+-- the greatest of the numbers grows by at most one
 abbrev pub GrowsByOne : List ℕ → List ℕ → Type 0
 GrowsByOne old new = (n : ℕ) → UpTo n old → UpTo (n + 1) new
 
--- at an invocation, and at a response none of them grows
+-- at an invocation the greatest number grows by at most one, and at a response none grows
 abbrev pub Grows : Action → List ℕ → List ℕ → Type 0
 Grows (Invoke k op) old new = GrowsByOne old new
 Grows (Respond r) old new = (i : ℕ) → slice_index new i ≤ slice_index old i
@@ -67,7 +67,7 @@ Grows (Respond r) old new = (i : ℕ) → slice_index new i ≤ slice_index old 
 abbrev pub Starts : Vec ℕ Global → Monitor → Type 0
 Starts units m = Represents units [] m × UpTo 0 m.bank.added.items
 
--- the call that the event ends shows a fault, and so there is no linearization
+-- the call that the event completes shows a fault, and so there is no linearization
 pub record IsRefusedAt (units : Vec ℕ Global) (past : List Event) (x : Event) (f : Fault)
     : Type 0 where
   pub ended : completed_calls (x ∷ past) ≡ f.call ∷ completed_calls past
@@ -79,8 +79,8 @@ abbrev pub Verdict : Vec ℕ Global → List Event → Event → Monitor → Res
 Verdict units past x new (Ok u) = Represents units (x ∷ past) new
 Verdict units past x new (Err f) = IsRefusedAt units past x f
 
--- whatever past of whatever bank the monitor represents, if the event makes a history of it, and
--- there is room for one more unit, the verdict on that history is right
+-- for every bank and every history of it that the monitor represents: if the event extends this
+-- history, and there is room for one more unit, the verdict on the longer history is right
 abbrev pub Judges : Monitor → Monitor → Event → Result Unit Fault → Type 0
 Judges old new x result = (units : Vec ℕ Global) (past : List Event)
     → IsHistoryOf (Semaphores units) (x ∷ past) → Represents units past old

@@ -1,4 +1,4 @@
--- What is decided of the calls of a bank.
+-- What the outcome of a decision about the calls of a bank says.
 use Rattle.std.specs.Prelude.{ℕ, List, reverse}
 use Rattle.calls_core.specs.declared.history.Kind.{Kind}
 use Rattle.calls_core.specs.declared.history.Event.{Event}

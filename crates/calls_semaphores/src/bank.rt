@@ -8,13 +8,14 @@ ghost use Rattle.calls_semaphores.specs.Keeping.{IsOpened};
 use calls_core::{Op, Reply};
 use std::alloc::{AllocError, Global};
 
-/// The units that each semaphore has left. Those that were added are taken first: no number here
-/// grows above what was invoked.
+/// The units that each semaphore has left.
+///
+/// Added units are taken first, so that no number here exceeds the units at first or the v calls.
 #[derive(Drop)]
 pub struct Bank {
-    /// Those of the units at first.
+    /// For each semaphore, how many of its first units are left.
     pub left: Vec<usize>,
-    /// Those of the units that were added.
+    /// For each semaphore, how many of the units that were added are left.
     pub added: Vec<usize>,
 }
 
@@ -60,7 +61,7 @@ impl Bank {
         (i < self.added.len() && self.added[i] > 0) || (i < self.left.len() && self.left[i] > 0)
     }
 
-    /// Adds the unit of a v.
+    /// Adds the unit of a v; other operations add nothing.
     pub(crate) fn add(&mut self, op: Op)
         ensures same { length self.new.added.items ≡ length self.old.added.items }
         ensures grows { GrowsByOne self.old.added.items self.new.added.items }
@@ -71,7 +72,7 @@ impl Bank {
         }
     }
 
-    /// Returns a semaphore that has no unit for a call.
+    /// Returns the first semaphore that lacks a unit for a call, if one does.
     fn missing(&self, op: Op) -> Option<usize>
         ensures { MatchOption result (HasUnits self.now op) (IsMissing self.now op) }
     {
@@ -109,7 +110,7 @@ impl Bank {
         }
     }
 
-    /// Takes the units of a call with this reply, or returns a semaphore that has none.
+    /// Takes the units of a call with this reply, or returns a semaphore that lacks one.
     pub(crate) fn take(&mut self, op: Op, reply: Reply) -> Option<usize>
         ensures same { length self.new.added.items ≡ length self.old.added.items }
         ensures fewer { AreFewer self.old.added.items self.new.added.items }

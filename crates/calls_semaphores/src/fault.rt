@@ -1,4 +1,4 @@
-//! What is decided of the calls of a bank.
+//! The outcome of a decision about the calls of a bank.
 use calls_core::{Call, PlacedCalls};
 
 /// Up to the response of a call, more calls took a unit of a semaphore than it had units: those at

@@ -1,4 +1,4 @@
-//! Theorems about every history of a bank, each the contract of a function that does nothing.
+//! Theorems about every history of a bank, each the contract of an empty function.
 ghost use Rattle.calls_semaphores.specs.Laws.{AFaultLeavesNoOrder, EveryHistoryIsDecided};
 
 /// States that a history that shows a fault has no linearization.

@@ -1,4 +1,4 @@
-//! Histories of the calls of a bank of semaphores, decided by counting.
+//! Decides and monitors, by counting, whether the calls of a bank of semaphores are linearizable.
 #![tactic(auto)]
 
 mod bank;

@@ -1,17 +1,17 @@
-//! A monitor: it judges a history event by event, in constant memory.
+//! A monitor of one bank: it judges a history event by event, in constant memory.
 ghost use Rattle.std.specs.Prelude.{◌≡◌, ◌-◌, ◌==◌, IfOk};
 ghost use Rattle.std.specs.List.{position};
 ghost use Rattle.calls_core.specs.declared.history.PendingCall.{PendingCall};
 ghost use Rattle.arrayvec.specs.ArrayVec.{array_vec_len};
 ghost use Rattle.calls_semaphores.specs.Monitors.{HasRoom, Judges, Grows, Starts};
 
-use crate::scan::{completion, invoked_by};
+use crate::scan::invoked_by;
 use crate::{Bank, Fault};
 use arrayvec::ArrayVec;
 use calls_core::{Action, Event, PendingCall, WORKERS};
 use std::alloc::{AllocError, Global};
 
-/// What is kept of the events so far.
+/// The state after the events so far, with at most `WORKERS` pending calls.
 #[derive(Drop)]
 pub struct Monitor {
     /// The units that are left.
@@ -28,8 +28,9 @@ fn find(pending: &[PendingCall], worker: usize) -> Option<usize>
 }
 
 impl Monitor {
-    /// Returns a monitor of a bank of semaphores that have these units at first. This allocates,
-    /// and `event` does not.
+    /// Returns a monitor of a bank of semaphores that have these units at first.
+    ///
+    /// This allocates, and `event` does not.
     pub fn new(alloc: Global, units: &Vec<usize>) -> Result<Self, AllocError>
         ensures { IfOk result (Starts units.now) }
     {
@@ -39,8 +40,9 @@ impl Monitor {
         })
     }
 
-    /// Takes in an event, or reports a fault: then the events up to it have no linearization, and
-    /// the monitor takes in no more of them.
+    /// Adds an event, or reports a fault: then the events up to it have no linearization.
+    ///
+    /// After a fault the monitor represents no history.
     pub fn event(&mut self, event: Event) -> Result<(), Fault>
         requires workers { HasRoom event.action (array_vec_len self.old.pending) }
         ensures judges { Judges self.old self.new event result }
@@ -56,7 +58,7 @@ impl Monitor {
                 let Some(k) = find(self.pending.as_slice(), event.worker) else {
                     return Ok(());
                 };
-                let call = completion(event.at, reply, self.pending.remove(k));
+                let call = self.pending.remove(k).complete(reply, event.at);
                 match self.bank.take(call.op, reply) {
                     None => Ok(()),
                     Some(index) => Err(Fault { call, index }),

@@ -3,8 +3,8 @@ ghost use Rattle.std.specs.Prelude.{◌≡◌, ◌-◌, ◌<◌, ◌≤◌, ◌=
 ghost use Rattle.std.specs.List.{position};
 ghost use Rattle.calls_core.specs.declared.history.Kind.TheVariants.{Semaphores};
 ghost use Rattle.calls_core.specs.declared.history.Action.TheVariants.{Invoke, Respond};
-ghost use Rattle.calls_core.specs.Histories.{IsHistoryOf, clock, completion, invoked_by};
-ghost use Rattle.calls_semaphores.specs.declared.scan.Open.{Open};
+ghost use Rattle.calls_core.specs.Histories.{IsHistoryOf, clock, invoked_by};
+ghost use Rattle.calls_semaphores.specs.declared.scan.PendingUnits.{PendingUnits};
 ghost use Rattle.calls_semaphores.specs.Monitors.{UpTo, GrowsByOne};
 ghost use Rattle.calls_semaphores.specs.Keeping.{is_v, IsOpened, Steps};
 ghost use Rattle.calls_semaphores.specs.Outcomes.{IsOutcome};
@@ -13,22 +13,22 @@ use crate::{Bank, Fault, Outcome};
 use calls_core::{Action, Call, Event, Op, Part, PendingCall, PlacedCalls, Reply};
 use std::alloc::{AllocError, Global};
 
-/// A pending call.
+/// A pending call, and its index in the linearization so far.
 #[derive(Clone, Copy)]
-pub(crate) struct Open {
+pub(crate) struct PendingUnits {
     /// The call.
     pub(crate) call: PendingCall,
     /// Its index in the linearization, if it is a v.
     pub(crate) place: usize,
 }
 
-/// What is known of the events so far.
+/// The state of the scan after the events so far.
 #[derive(Drop)]
 pub(crate) struct Scan {
     /// The units that are left.
     pub(crate) bank: Bank,
     /// The pending calls.
-    pub(crate) pending: Vec<Open>,
+    pub(crate) pending: Vec<PendingUnits>,
     /// A linearization, in which a pending v has its response at `end`.
     pub(crate) order: Vec<Call>,
     /// The first position after all events.
@@ -54,29 +54,15 @@ pub(crate) fn invoked_by(event: Event, object: usize, op: Op) -> PendingCall
     }
 }
 
-/// Returns the call that a response ends.
-pub(crate) fn completion(last: usize, reply: Reply, pending: PendingCall) -> Call
-    ensures { result ≡ completion last reply pending }
-{
-    Call {
-        worker: pending.worker,
-        object: pending.object,
-        op: pending.op,
-        reply,
-        first: pending.first,
-        last,
-    }
-}
-
 /// Returns the index of the pending call of a worker.
-fn find(pending: &[Open], worker: usize) -> Option<usize>
-    ensures { result ≡ position (λ (o : Open). o.call.worker == worker) pending.now }
+fn find(pending: &[PendingUnits], worker: usize) -> Option<usize>
+    ensures { result ≡ position (λ (o : PendingUnits). o.call.worker == worker) pending.now }
 {
     pending.iter().position(|o| o.call.worker == worker)
 }
 
 impl Scan {
-    /// Begins with a bank of semaphores that have these units.
+    /// Returns the scan of no events, for a bank of semaphores that have these units.
     fn new(alloc: Global, units: &Vec<usize>, end: usize) -> Result<Self, AllocError>
         ensures { IfOk result (λ s. (s.end ≡ end) × IsOpened units.now.items s.bank
             × (s.pending.items ≡ []) × (s.order.items ≡ [])) }
@@ -89,7 +75,7 @@ impl Scan {
         })
     }
 
-    /// Takes in an invocation.
+    /// Adds an invocation.
     fn invoke(&mut self, event: Event, object: usize, op: Op) -> Result<(), AllocError>
         requires { UpTo (usize.MAX - 1) self.old.bank.added.items }
         ensures end { self.new.end ≡ self.old.end }
@@ -99,16 +85,16 @@ impl Scan {
     {
         let call = invoked_by(event, object, op);
         let place = self.order.len();
-        self.pending.push(Open { call, place })?;
+        self.pending.push(PendingUnits { call, place })?;
         self.bank.add(op);
         if !is_v(op) {
             return Ok(());
         }
-        self.order.push(completion(self.end, Reply::Done, call))?;
+        self.order.push(call.complete(Reply::Done, self.end))?;
         Ok(())
     }
 
-    /// Takes in a response.
+    /// Adds a response, and returns the fault that it shows, if any.
     fn respond(&mut self, event: Event, reply: Reply) -> Result<Option<Fault>, AllocError>
         ensures end { self.new.end ≡ self.old.end }
         ensures grows { GrowsByOne self.old.bank.added.items self.new.bank.added.items }
@@ -119,7 +105,7 @@ impl Scan {
             return Ok(None);
         };
         let open = self.pending.remove(k);
-        let call = completion(event.at, reply, open.call);
+        let call = open.call.complete(reply, event.at);
         if let Some(index) = self.bank.take(call.op, reply) {
             return Ok(Some(Fault { call, index }));
         }
@@ -131,7 +117,7 @@ impl Scan {
         Ok(None)
     }
 
-    /// Takes in an event, and returns what it shows if there is no linearization.
+    /// Adds an event, and returns the fault that it shows, if any.
     fn event(&mut self, event: Event) -> Result<Option<Fault>, AllocError>
         requires { UpTo (usize.MAX - 1) self.old.bank.added.items }
         ensures end { self.new.end ≡ self.old.end }
@@ -148,8 +134,8 @@ impl Scan {
     }
 }
 
-/// Returns calls with their points.
-fn placed(alloc: Global, calls: &[Call]) -> Result<PlacedCalls, AllocError>
+/// Returns the calls with their linearization points.
+fn place_calls(alloc: Global, calls: &[Call]) -> Result<PlacedCalls, AllocError>
     ensures { IfOk result (λ order. order ≡ calls.now) }
 {
     let mut order = PlacedCalls::new(alloc);
@@ -159,8 +145,9 @@ fn placed(alloc: Global, calls: &[Call]) -> Result<PlacedCalls, AllocError>
     Ok(order)
 }
 
-/// Decides whether the calls of a bank of semaphores have a linearization. `end` is a position
-/// after all events.
+/// Decides whether the calls of a bank of semaphores have a linearization.
+///
+/// `end` is a position after all events.
 pub fn decide(
     alloc: Global,
     units: &Vec<usize>,
@@ -179,5 +166,5 @@ pub fn decide(
             return Ok(Outcome::Refused(i, fault));
         }
     }
-    Ok(Outcome::Ordered(placed(alloc, &scan.order)?))
+    Ok(Outcome::Ordered(place_calls(alloc, &scan.order)?))
 }

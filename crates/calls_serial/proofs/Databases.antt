@@ -1,4 +1,4 @@
--- A database is a cell whose values go by numbers.
+-- A history of a database, whose values are numbers of lists, is one of a cell.
 use Rattle.std.proofs.Common.{ℕ, List, [], ◌∷◌, Option, Some, None}
 use Rattle.calls_core.specs.declared.history.Kind.TheVariants.{Cell, Database}
 use Rattle.calls_core.specs.declared.history.Op.{Op}
@@ -25,14 +25,14 @@ takes n (P i) h = absurd h
 takes n (V i) h = absurd h
 takes n (PBoth i j) h = absurd h
 
-next : (n : ℕ) (a : Action) (o : Option PendingCall) → IsNextOf (Database n) a o
+pub next : (n : ℕ) (a : Action) (o : Option PendingCall) → IsNextOf (Database n) a o
     → IsNextOf Cell a o
 next n (Invoke k op) None h = takes n op h
 next n (Invoke k op) (Some o) h = h
 next n (Respond r) None h = h
 next n (Respond r) (Some o) h = h
 
-history : (n : ℕ) (past : List Event) → IsHistoryOf (Database n) past → IsHistoryOf Cell past
+pub history : (n : ℕ) (past : List Event) → IsHistoryOf (Database n) past → IsHistoryOf Cell past
 history n [] h = tt
 history n (x ∷ past) h =
     (h.0, next n x.action (pending_of x.worker (pending_calls past)) h.1, history n past h.2)

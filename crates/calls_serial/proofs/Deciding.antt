@@ -22,7 +22,7 @@ use Rattle.calls_core.specs.Histories.{completion, ended_call, completed_calls, 
 use Rattle.calls_core.specs.Histories.{IsNextOf, IsHistoryOf}
 use Rattle.calls_core.specs.Calls.{IsCallOf}
 use Rattle.calls_core.specs.Beginnings.{past_at}
-use Rattle.calls_core.specs.Completions.{settled}
+use Rattle.calls_core.specs.Completions.{settle_call}
 use Rattle.calls_core.specs.Outcomes.{IsOrderOf, HasOrderOf}
 use Rattle.calls_core.proofs.Lists.{each_weaker}
 use Rattle.calls_core.proofs.Positions.{each_call_by, are_calls_of}
@@ -35,7 +35,7 @@ use Rattle.calls_serial.specs.declared.stage.Pass.{Pass}
 use Rattle.calls_serial.specs.declared.stage.Stop.{Stop}
 use Rattle.calls_serial.specs.declared.stage.Stop.TheVariants.{Fails, Overlaps}
 use Rattle.calls_serial.specs.Faults.{Leaves}
-use Rattle.calls_serial.specs.kept.Stages.{Held, held, helds, held_calls, all_calls}
+use Rattle.calls_serial.specs.kept.Stages.{StageView, stage_view, helds, held_calls, all_calls}
 use Rattle.calls_serial.specs.kept.Stages.{first_stage}
 use Rattle.calls_serial.specs.Outcomes.{IsOutcome}
 use Rattle.calls_serial.specs.kept.Passing.{Holding, EndsCall, IsInvoked}
@@ -140,13 +140,13 @@ responded_past end past x r o old new call fault e h lt ours same rest holding e
 
 -- THE BEGINNING AND THE END
 
-pub begun_holding : (end : ℕ) (hs : List Held) (ls : List Link) → hs ≡ first_stage ∷ []
+pub begun_holding : (end : ℕ) (hs : List StageView) (ls : List Link) → hs ≡ first_stage ∷ []
     → Holding end 0 [] [] hs ls
 begun_holding end hs ls e = record {
-  front = first_stage ∷ [];
+  prefix = first_stage ∷ [];
   now = None;
   all = e;
-  stands = record {
+  represents = record {
     begins = refl;
     each = (record { put = (refl, refl); gets = tt; sorted = tt }, tt);
     pairs = (tt, tt);
@@ -165,13 +165,13 @@ begun end pass pending stages = record {
   holding = begun_holding end (helds pass.stages.items) (reverse pass.links.items) stages;
 }
 
-pub holding_order : (end : ℕ) (past : List Event) (hs : List Held) (ls : List Link)
+pub holding_order : (end : ℕ) (past : List Event) (hs : List StageView) (ls : List Link)
     → Holding end (clock past) (completed_calls past) (pending_calls past) hs ls
     → IsOrderOf Cell past end (all_calls hs)
 holding_order end past hs ls k =
     subst (λ zs. IsOrderOf Cell past end (all_calls zs)) (sym k.all)
-    (ordered end (clock past) (completed_calls past) (pending_calls past) k.front k.now
-    k.stands.each k.stands.pairs k.stands.put k.stands.puts k.stands.once)
+    (ordered end (clock past) (completed_calls past) (pending_calls past) k.prefix k.now
+    k.represents.each k.represents.pairs k.represents.put k.represents.puts k.represents.once)
 
 holds_order : (end : ℕ) (past : List Event) (pass : Pass) → Holds end past pass
     → IsOrderOf Cell past end (all_calls (helds pass.stages.items))
@@ -181,7 +181,7 @@ holds_order end past pass h =
 pub has_order : (end : ℕ) (past : List Event) (pass : Pass) → IsHistoryOf Cell past
     → clock past ≤ end → Holds end past pass → HasOrderOf Cell past
 has_order end past pass h le holds = (
-  map (settled (clock past) (clock past)) (all_calls (helds pass.stages.items)),
+  map (settle_call (clock past) (clock past)) (all_calls (helds pass.stages.items)),
   order_at Cell past end (clock past) (all_calls (helds pass.stages.items)) h le (omega arith)
       (holds_order end past pass holds),
 )
@@ -246,7 +246,7 @@ pub if_ok : {X Y : Type 0} (P Q : X → Type 0) (res : Result X Y) → ((r : X) 
 if_ok P Q (Ok r) f h = f r h
 if_ok P Q (Err e) f h = tt
 
--- the order of all
+-- the order of all calls, at the end
 pub order_all : (end i : ℕ) (events : List Event) (pass : Pass) → length events ≤ i
     → Holds end (past_at i events) pass
     → IsOrderOf Cell (reverse events) end (all_calls (helds pass.stages.items))
@@ -266,12 +266,12 @@ taken_call xs ys calls rest w i o same are k at left =
 
 pub order_more : (stages : List Stage) (i : ℕ) (d : Stage) (calls more : List Call)
     → i < length stages → calls ≡ all_calls (helds (take i stages))
-    → more ≡ calls ++ held_calls (held (get_or stages i d))
+    → more ≡ calls ++ held_calls (stage_view (get_or stages i d))
     → more ≡ all_calls (helds (take (i + 1) stages))
 order_more stages i d calls more lt was is =
-    is ∙ ap (λ zs. zs ++ held_calls (held (get_or stages i d))) was
+    is ∙ ap (λ zs. zs ++ held_calls (stage_view (get_or stages i d))) was
     ∙ ap (λ zs. all_calls (helds (take i stages)) ++ zs)
-    (sym (append-nil (held_calls (held (get_or stages i d)))))
-    ∙ sym (all_calls_append (helds (take i stages)) (held (get_or stages i d) ∷ []))
-    ∙ ap all_calls (sym (map-append held (take i stages) (get_or stages i d ∷ [])))
+    (sym (append-nil (held_calls (stage_view (get_or stages i d)))))
+    ∙ sym (all_calls_append (helds (take i stages)) (stage_view (get_or stages i d) ∷ []))
+    ∙ ap all_calls (sym (map-append stage_view (take i stages) (get_or stages i d ∷ [])))
     ∙ ap (λ ss. all_calls (helds ss)) (sym (take_more stages i d lt))

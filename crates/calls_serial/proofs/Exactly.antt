@@ -1,4 +1,4 @@
--- Every history whose puts do not overlap has a linearization or shows a fault, without any code.
+-- Every history whose puts do not overlap has a linearization or shows a fault, whatever the code.
 use Rattle.std.proofs.Common.{◌≡◌, ℕ, zero, suc, ◌+◌, ◌-◌, ◌<◌, ◌≤◌, ◌⊎◌, inl, inr, false}
 use Rattle.std.proofs.Common.{List, [], ◌∷◌, ◌++◌, length, Option, Some, None, refl, ap}
 use Rattle.std.proofs.Common.{sym, ◌∙◌, arith, subst, take, drop, slice_get, get_or}
@@ -24,8 +24,8 @@ use Rattle.calls_core.specs.Outcomes.{HasOrderOf}
 use Rattle.calls_core.proofs.Positions.{each_call_by, are_calls_of}
 use Rattle.calls_serial.specs.declared.stage.Link.{Link}
 use Rattle.calls_serial.specs.Faults.{Leaves, HasNoneLeft}
-use Rattle.calls_serial.specs.kept.Stages.{Held, is_put, IsOver, Begins, gathered, current}
-use Rattle.calls_serial.specs.kept.Stages.{all_calls, first_stage, opened, with_get, with_late}
+use Rattle.calls_serial.specs.kept.Stages.{StageView, is_put, IsOver, Begins, gets_of_link, current}
+use Rattle.calls_serial.specs.kept.Stages.{all_calls, first_stage, open_stage, with_get, with_late}
 use Rattle.calls_serial.specs.kept.Stages.{with_response, links_with, pending_puts}
 use Rattle.calls_serial.specs.kept.Stages.{IsPassed, NextLater, NextEarlier, IsAt}
 use Rattle.calls_serial.specs.kept.Stages.{IsShutOut}
@@ -40,19 +40,20 @@ use Rattle.calls_serial.proofs.Deciding.{early_calls, begun_holding, holding_ord
 
 -- THE SEARCH
 
-got_at : (hs : List Held) (k : ℕ) → k < length hs → slice_get hs k ≡ Some (get_or hs k first_stage)
+got_at : (hs : List StageView) (k : ℕ) → k < length hs
+    → slice_get hs k ≡ Some (get_or hs k first_stage)
 got_at [] k lt = absurd (omega arith)
 got_at (h ∷ hs) zero lt = refl
 got_at (h ∷ hs) (suc k) lt = got_at hs k (omega arith)
 
-taken_at : (hs : List Held) (n k : ℕ) → k < n → k < length hs
+taken_at : (hs : List StageView) (n k : ℕ) → k < n → k < length hs
     → drop k (take n hs) ≡ get_or hs k first_stage ∷ drop (suc k) (take n hs)
 taken_at [] n k lt le = absurd (omega arith)
 taken_at (h ∷ hs) zero k lt le = absurd (omega arith)
 taken_at (h ∷ hs) (suc n) zero lt le = refl
 taken_at (h ∷ hs) (suc n) (suc k) lt le = taken_at hs n k (omega arith) (omega arith)
 
-taken_none : (hs : List Held) (n : ℕ) → drop n (take n hs) ≡ []
+taken_none : (hs : List StageView) (n : ℕ) → drop n (take n hs) ≡ []
 taken_none [] zero = refl
 taken_none [] (suc n) = refl
 taken_none (h ∷ hs) zero = refl
@@ -63,14 +64,15 @@ over_cases n None = inl tt
 over_cases n (Some p) =
     elim (cases_lt p.last n) [ inl lt ↦ inl lt | inr le ↦ inr (λ lt. omega (arith, lt)) ]
 
-module _ (hs : List Held) (n first x : ℕ) (le : n ≤ length hs) where
+module _ (hs : List StageView) (n first x : ℕ) (le : n ≤ length hs) where
   abbrev pub Sought : Type 0
   Sought =
       ((i : ℕ) × IsAt hs n first x i) ⊎ ((because : Option ℕ) × IsShutOut hs n first x because)
 
   early : (k : ℕ) → k < n → IsOver first (get_or hs k first_stage).put
       → Each (IsPassed first x) (drop (suc k) (take n hs))
-      → (get_or hs k first_stage).value ≡ x → (rest : List Held) → drop (suc k) hs ≡ rest → Sought
+      → (get_or hs k first_stage).value ≡ x → (rest : List StageView) → drop (suc k) hs ≡ rest
+      → Sought
   early k lt over passed same [] e = inl (
     k,
     record {
@@ -149,7 +151,7 @@ module _ (hs : List Held) (n first x : ℕ) (le : n ≤ length hs) where
   sought begins = seek n (omega arith) begins
       (subst (Each (IsPassed first x)) (sym (taken_none hs n)) tt)
 
--- WHAT IS SHOWN STAYS SHOWN
+-- A FAULT STAYS
 
 shown_invoked : (x : Event) (k : ℕ) (op : Op) (past : List Event) → IsHistoryOf Cell past
     → clock past ≤ x.at → (gets : List Call) → HasNoneLeft past gets
@@ -203,7 +205,7 @@ stays (x ∷ late) past gets h l =
 
 abbrev pub Kept : ℕ → ℕ → List Call → List PendingCall → Type 0
 Kept end t done pending =
-    ((hs : List Held) × (ls : List Link) × Holding end t done pending hs ls)
+    ((hs : List StageView) × (ls : List Link) × Holding end t done pending hs ls)
     ⊎ ((gets : List Call) × Leaves done pending gets None)
 
 put_cases : (op : Op) → (is_put op ≡ false) ⊎ ((v : ℕ) × (op ≡ Put v))
@@ -223,7 +225,7 @@ first_cases (Some p) = inr (p, refl)
 
 module _ (end t : ℕ) (done : List Call) (pending : List PendingCall)
     (early : Each (λ (c : Call). c.last < t) done) where
-  invoked : (o : PendingCall) (hs : List Held) (ls : List Link)
+  invoked : (o : PendingCall) (hs : List StageView) (ls : List Link)
       → Holding end t done pending hs ls → t ≤ o.first → o.first < end
       → Each (λ (p : PendingCall). p.first < t) pending
       → ((p q : PendingCall) → AreBothPending (pending ++ o ∷ []) p q → ⊥)
@@ -233,9 +235,9 @@ module _ (end t : ℕ) (done : List Call) (pending : List PendingCall)
         | inl other ↦ inl (hs, ls, other_in end t done pending o hs ls early le other k)
         | inr put ↦ elim (first_cases (first_of (pending_puts pending))) [
           | inl none ↦ inl (
-            hs ++ opened end put.0 o ∷ [],
+            hs ++ open_stage end put.0 o ∷ [],
             ls,
-            put_in end t done pending o put.0 hs (hs ++ opened end put.0 o ∷ []) ls early le lt
+            put_in end t done pending o put.0 hs (hs ++ open_stage end put.0 o ∷ []) ls early le lt
                 put.1 none refl k,
           )
           | inr some ↦ absurd (serial some.0 o
@@ -244,103 +246,106 @@ module _ (end t : ℕ) (done : List Call) (pending : List PendingCall)
       ]
 
   -- the list with a stage changed at an index
-  abbrev applied : List Held → ℕ → (Held → Held) → List Held
+  abbrev applied : List StageView → ℕ → (StageView → StageView) → List StageView
   applied [] i f = []
   applied (h ∷ hs) zero f = f h ∷ hs
   applied (h ∷ hs) (suc i) f = h ∷ applied hs i f
 
-  applied_at : (front : List Held) (h : Held) (back : List Held) (i : ℕ) (f : Held → Held)
-      → length front ≡ i → applied (front ++ h ∷ back) i f ≡ front ++ f h ∷ back
+  applied_at : (prefix : List StageView) (h : StageView) (back : List StageView) (i : ℕ) (f : StageView → StageView)
+      → length prefix ≡ i → applied (prefix ++ h ∷ back) i f ≡ prefix ++ f h ∷ back
   applied_at [] h back zero f e = refl
   applied_at [] h back (suc i) f e = absurd (omega arith)
-  applied_at (a ∷ front) h back zero f e = absurd (omega arith)
-  applied_at (a ∷ front) h back (suc i) f e =
-      ap (λ zs. a ∷ zs) (applied_at front h back i f (omega arith))
+  applied_at (a ∷ prefix) h back zero f e = absurd (omega arith)
+  applied_at (a ∷ prefix) h back (suc i) f e =
+      ap (λ zs. a ∷ zs) (applied_at prefix h back i f (omega arith))
 
-  applied_last : (hs front : List Held) (h : Held) (f : Held → Held) → hs ≡ front ++ h ∷ []
-      → applied hs (length hs - 1) f ≡ front ++ f h ∷ []
-  applied_last hs front h f e =
+  applied_last : (hs prefix : List StageView) (h : StageView) (f : StageView → StageView)
+      → hs ≡ prefix ++ h ∷ []
+      → applied hs (length hs - 1) f ≡ prefix ++ f h ∷ []
+  applied_last hs prefix h f e =
       ap (λ zs. applied zs (length zs - 1) f) e
-      ∙ applied_at front h [] (length (front ++ h ∷ []) - 1) f
-      (omega (arith, length-append front (h ∷ [])))
+      ∙ applied_at prefix h [] (length (prefix ++ h ∷ []) - 1) f
+      (omega (arith, length-append prefix (h ∷ [])))
 
-  abbrev last_of : Held → List Held → Held
+  abbrev last_of : StageView → List StageView → StageView
   last_of d [] = d
   last_of d (h ∷ hs) = last_of h hs
 
-  last_is : (d : Held) (front : List Held) (h : Held) → last_of d (front ++ h ∷ []) ≡ h
+  last_is : (d : StageView) (prefix : List StageView) (h : StageView)
+      → last_of d (prefix ++ h ∷ []) ≡ h
   last_is d [] h = refl
-  last_is d (a ∷ front) h = last_is a front h
+  last_is d (a ∷ prefix) h = last_is a prefix h
 
-  module _ (w at : ℕ) (r : Reply) (o : PendingCall) (hs : List Held) (ls : List Link)
+  module _ (w at : ℕ) (r : Reply) (o : PendingCall) (hs : List StageView) (ls : List Link)
       (g : IsResponse end t done pending w at o) (k : Holding end t done pending hs ls) where
     abbrev pub After : Type 0
     After = Kept end (at + 1) (completion at r o ∷ done) (without w pending)
 
     module _ (x : ℕ) (get : o.op ≡ Get) (number : r ≡ Number x) where
-      many : length k.front ≡ length k.front
+      many : length k.prefix ≡ length k.prefix
       many = refl
 
-      placed : (i : ℕ) → IsAt hs (length k.front) o.first x i → After
+      placed : (i : ℕ) → IsAt hs (length k.prefix) o.first x i → After
       placed i a = inl (
         applied hs i (with_get (completion at r o)),
         ls,
-        placed_in end t done pending w at o hs ls g get k x (length k.front) r number refl i
+        placed_in end t done pending w at o hs ls g get k x (length k.prefix) r number refl i
             (applied hs i (with_get (completion at r o))) a
-            (λ front h back long e. ap (λ zs. applied zs i (with_get (completion at r o))) e
-            ∙ applied_at front h back i (with_get (completion at r o)) long),
+            (λ prefix h back long e. ap (λ zs. applied zs i (with_get (completion at r o))) e
+            ∙ applied_at prefix h back i (with_get (completion at r o)) long),
       )
 
-      late : (because : Option ℕ) → IsShutOut hs (length k.front) o.first x because
-          → length k.front < length hs
-          → ((h : Held) → slice_get hs (length k.front) ≡ Some h → h.value ≡ x) → After
+      late : (because : Option ℕ) → IsShutOut hs (length k.prefix) o.first x because
+          → length k.prefix < length hs
+          → ((h : StageView) → slice_get hs (length k.prefix) ≡ Some h → h.value ≡ x) → After
       late because s lt value = inl (
         applied hs (length hs - 1) (with_late (completion at r o) (length ls)),
         links_with (last_of first_stage hs).link
             (record { get = completion at r o; because = because }) ls,
-        late_in end t done pending w at o hs ls g get k x (length k.front) r number refl because s
+        late_in end t done pending w at o hs ls g get k x (length k.prefix) r number refl because s
             lt value (applied hs (length hs - 1) (with_late (completion at r o) (length ls)))
             (links_with (last_of first_stage hs).link
             (record { get = completion at r o; because = because }) ls) (length ls) refl
-            (λ front h e. (
-              applied_last hs front h (with_late (completion at r o) (length ls)) e,
-              ap (λ (z : Held). links_with z.link
+            (λ prefix h e. (
+              applied_last hs prefix h (with_late (completion at r o) (length ls)) e,
+              ap (λ (z : StageView). links_with z.link
                   (record { get = completion at r o; because = because }) ls)
-                  (ap (last_of first_stage) e ∙ last_is first_stage front h),
+                  (ap (last_of first_stage) e ∙ last_is first_stage prefix h),
             )),
       )
 
-      fault : (because : Option ℕ) → IsShutOut hs (length k.front) o.first x because
-          → (length k.front < length hs → (h : Held) → slice_get hs (length k.front) ≡ Some h
+      fault : (because : Option ℕ) → IsShutOut hs (length k.prefix) o.first x because
+          → (length k.prefix < length hs → (h : StageView) → slice_get hs (length k.prefix) ≡ Some h
           → h.value ≡ x → ⊥) → After
       fault because s other = inr (
-        completion at r o ∷ gathered because ls,
-        fault_in end t done pending w at o hs ls g get k x (length k.front) r number refl because s
+        completion at r o ∷ gets_of_link because ls,
+        fault_in end t done pending w at o hs ls g get k x (length k.prefix) r number refl because s
             other,
       )
 
-      shut : (because : Option ℕ) → IsShutOut hs (length k.front) o.first x because → After
+      shut : (because : Option ℕ) → IsShutOut hs (length k.prefix) o.first x because → After
       shut because s =
-          elim (cases_lt (length k.front) (length hs)) [
+          elim (cases_lt (length k.prefix) (length hs)) [
             | inr le ↦ fault because s (λ lt h e v. omega arith)
-            | inl lt ↦ elim (cases_eq (get_or hs (length k.front) first_stage).value x) [
+            | inl lt ↦ elim (cases_eq (get_or hs (length k.prefix) first_stage).value x) [
               | inl same ↦ late because s lt
-                  (λ h e. ap (λ (z : Held). z.value) (sym (own h lt e)) ∙ same)
+                  (λ h e. ap (λ (z : StageView). z.value) (sym (own h lt e)) ∙ same)
               | inr other ↦ fault because s
-                  (λ lt h e v. other (ap (λ (z : Held). z.value) (own h lt e) ∙ v))
+                  (λ lt h e v. other (ap (λ (z : StageView). z.value) (own h lt e) ∙ v))
             ]
           ]
         where
-          own : (h : Held) → length k.front < length hs → slice_get hs (length k.front) ≡ Some h
-              → get_or hs (length k.front) first_stage ≡ h
-          own h lt e = same_Some (get_or hs (length k.front) first_stage) h
-              (sym (got_at hs (length k.front) lt) ∙ e)
+          own : (h : StageView) → length k.prefix < length hs
+              → slice_get hs (length k.prefix) ≡ Some h
+              → get_or hs (length k.prefix) first_stage ≡ h
+          own h lt e = same_Some (get_or hs (length k.prefix) first_stage) h
+              (sym (got_at hs (length k.prefix) lt) ∙ e)
 
       pub answered : After
       answered =
-          elim (sought hs (length k.front) o.first x
-          (omega (arith, ap length k.all, length-append k.front (current k.now)))
-          (begins_taken end t done pending w at o hs ls g get k (length k.front) refl)) [
+          elim (sought hs (length k.prefix) o.first x
+          (omega (arith, ap length k.all, length-append k.prefix (current k.now)))
+          (begins_taken end t done pending w at o hs ls g get k (length k.prefix) refl)) [
             | inl a ↦ placed a.0 a.1
             | inr b ↦ shut b.0 b.1
           ]
@@ -352,7 +357,7 @@ module _ (end t : ℕ) (done : List Call) (pending : List PendingCall)
       completed_in end t done pending w at r o hs
           (applied hs (length hs - 1) (with_response (completion at r o))) ls g f is k
           (completion at r o) refl
-          (λ front h e. applied_last hs front h (with_response (completion at r o)) e),
+          (λ prefix h e. applied_last hs prefix h (with_response (completion at r o)) e),
     )
 
     ended : (op : Op) (q : Reply) → o.op ≡ op → r ≡ q → Takes (Some Cell) op → Suits op q

@@ -16,10 +16,10 @@ use Rattle.calls_core.specs.Lists.{Each}
 use Rattle.calls_core.specs.Histories.{pending_of, without}
 use Rattle.calls_serial.specs.declared.stage.Stage.{Stage}
 use Rattle.calls_serial.specs.declared.stage.Link.{Link}
-use Rattle.calls_serial.specs.kept.Stages.{Held, held, helds, is_put, pending_puts, Begins, IsOver}
-use Rattle.calls_serial.specs.declared.search.Found.{Found}
-use Rattle.calls_serial.specs.declared.search.Found.TheVariants.{At, Shut}
-use Rattle.calls_serial.specs.kept.Stages.{gathered, IsPassed, NextLater, NextEarlier, IsReason}
+use Rattle.calls_serial.specs.kept.Stages.{StageView, stage_view, helds, is_put, pending_puts, Begins, IsOver}
+use Rattle.calls_serial.specs.declared.search.PutChoice.{PutChoice}
+use Rattle.calls_serial.specs.declared.search.PutChoice.TheVariants.{At, Shut}
+use Rattle.calls_serial.specs.kept.Stages.{gets_of_link, IsPassed, NextLater, NextEarlier, IsReason}
 use Rattle.calls_serial.specs.kept.Stages.{IsAt}
 use Rattle.calls_serial.specs.kept.Stages.{IsFound, IsEarly, links_with, with_get, with_late}
 use Rattle.calls_serial.specs.kept.Stages.{with_response}
@@ -27,7 +27,7 @@ use Rattle.calls_serial.specs.kept.Passing.{IsCallAt, first_of, IsLate}
 use Rattle.std.specs.Prelude.{IsTrue, ◌↔◌}
 use Rattle.calls_serial.proofs.Growing.{puts_yes, puts_no}
 
--- A WORKER'S CALL
+-- THE PENDING CALL OF A WORKER
 
 abbrev pub NotHis : List PendingCall → ℕ → ℕ → Type 0
 NotHis pending w k = (u : PendingCall) → slice_get pending k ≡ Some u → (u.worker == w) ≡ false
@@ -91,45 +91,45 @@ put_later pending i d lt e h =
 
 -- STAGES
 
-pub held_get : (xs : List Stage) (i : ℕ) (d : Stage) (front : List Held) (h : Held)
-    (back : List Held) → length front ≡ i → helds xs ≡ front ++ h ∷ back
-    → held (get_or xs i d) ≡ h
+pub held_get : (xs : List Stage) (i : ℕ) (d : Stage) (prefix : List StageView) (h : StageView)
+    (back : List StageView) → length prefix ≡ i → helds xs ≡ prefix ++ h ∷ back
+    → stage_view (get_or xs i d) ≡ h
 held_get [] i d [] h back e is = absurd (let k : [] ≡ h ∷ back = is in cc)
-held_get [] i d (a ∷ front) h back e is = absurd (let k : [] ≡ a ∷ (front ++ h ∷ back) = is in cc)
-held_get (x ∷ xs) zero d [] h back e is = (let k : held x ∷ helds xs ≡ h ∷ back = is in cc)
-held_get (x ∷ xs) zero d (a ∷ front) h back e is = absurd (omega arith)
+held_get [] i d (a ∷ prefix) h back e is = absurd (let k : [] ≡ a ∷ (prefix ++ h ∷ back) = is in cc)
+held_get (x ∷ xs) zero d [] h back e is = (let k : stage_view x ∷ helds xs ≡ h ∷ back = is in cc)
+held_get (x ∷ xs) zero d (a ∷ prefix) h back e is = absurd (omega arith)
 held_get (x ∷ xs) (suc i) d [] h back e is = absurd (omega arith)
-held_get (x ∷ xs) (suc i) d (a ∷ front) h back e is =
-    (let k : held x ∷ helds xs ≡ a ∷ (front ++ h ∷ back) = is in
-    held_get xs i d front h back (omega arith) (let j : helds xs ≡ front ++ h ∷ back = cc in j))
+held_get (x ∷ xs) (suc i) d (a ∷ prefix) h back e is =
+    (let k : stage_view x ∷ helds xs ≡ a ∷ (prefix ++ h ∷ back) = is in
+    held_get xs i d prefix h back (omega arith) (let j : helds xs ≡ prefix ++ h ∷ back = cc in j))
 
-pub held_set : (xs : List Stage) (i : ℕ) (s : Stage) (k : Held) (front : List Held) (h : Held)
-    (back : List Held) → length front ≡ i → helds xs ≡ front ++ h ∷ back → held s ≡ k
-    → helds (set xs i s) ≡ front ++ k ∷ back
+pub held_set : (xs : List Stage) (i : ℕ) (s : Stage) (k : StageView) (prefix : List StageView) (h : StageView)
+    (back : List StageView) → length prefix ≡ i → helds xs ≡ prefix ++ h ∷ back → stage_view s ≡ k
+    → helds (set xs i s) ≡ prefix ++ k ∷ back
 held_set [] i s k [] h back e is same = absurd (let j : [] ≡ h ∷ back = is in cc)
-held_set [] i s k (a ∷ front) h back e is same =
-    absurd (let j : [] ≡ a ∷ (front ++ h ∷ back) = is in cc)
+held_set [] i s k (a ∷ prefix) h back e is same =
+    absurd (let j : [] ≡ a ∷ (prefix ++ h ∷ back) = is in cc)
 held_set (x ∷ xs) zero s k [] h back e is same =
-    (let j : held x ∷ helds xs ≡ h ∷ back = is in
+    (let j : stage_view x ∷ helds xs ≡ h ∷ back = is in
     let rest : helds xs ≡ back = cc in
-    ap (λ (z : Held). z ∷ helds xs) same ∙ ap (λ zs. k ∷ zs) rest)
-held_set (x ∷ xs) zero s k (a ∷ front) h back e is same = absurd (omega arith)
+    ap (λ (z : StageView). z ∷ helds xs) same ∙ ap (λ zs. k ∷ zs) rest)
+held_set (x ∷ xs) zero s k (a ∷ prefix) h back e is same = absurd (omega arith)
 held_set (x ∷ xs) (suc i) s k [] h back e is same = absurd (omega arith)
-held_set (x ∷ xs) (suc i) s k (a ∷ front) h back e is same =
-    (let j : held x ∷ helds xs ≡ a ∷ (front ++ h ∷ back) = is in
-    let first : held x ≡ a = cc in
-    let rest : helds xs ≡ front ++ h ∷ back = cc in
-    ap (λ (z : Held). z ∷ helds (set xs i s)) first
-    ∙ ap (λ zs. a ∷ zs) (held_set xs i s k front h back (omega arith) rest same))
+held_set (x ∷ xs) (suc i) s k (a ∷ prefix) h back e is same =
+    (let j : stage_view x ∷ helds xs ≡ a ∷ (prefix ++ h ∷ back) = is in
+    let first : stage_view x ≡ a = cc in
+    let rest : helds xs ≡ prefix ++ h ∷ back = cc in
+    ap (λ (z : StageView). z ∷ helds (set xs i s)) first
+    ∙ ap (λ zs. a ∷ zs) (held_set xs i s k prefix h back (omega arith) rest same))
 
 pub helds_at : (xs : List Stage) (i : ℕ) (d : Stage) → i < length xs
-    → slice_get (helds xs) i ≡ Some (held (get_or xs i d))
+    → slice_get (helds xs) i ≡ Some (stage_view (get_or xs i d))
 helds_at [] i d lt = absurd (omega arith)
 helds_at (x ∷ xs) zero d lt = refl
 helds_at (x ∷ xs) (suc i) d lt = helds_at xs i d (omega arith)
 
 pub helds_drop : (xs : List Stage) (i : ℕ) (d : Stage) → i < length xs
-    → drop i (helds xs) ≡ held (get_or xs i d) ∷ drop (suc i) (helds xs)
+    → drop i (helds xs) ≡ stage_view (get_or xs i d) ∷ drop (suc i) (helds xs)
 helds_drop [] i d lt = absurd (omega arith)
 helds_drop (x ∷ xs) zero d lt = refl
 helds_drop (x ∷ xs) (suc i) d lt = helds_drop xs i d (omega arith)
@@ -142,36 +142,24 @@ helds_past (x ∷ xs) (suc i) le = helds_past xs i (omega arith)
 
 pub helds_taken : (xs : List Stage) (n i : ℕ) (d : Stage) → i < n → i < length xs
     → drop i (take n (helds xs))
-    ≡ held (get_or xs i d) ∷ drop (suc i) (take n (helds xs))
+    ≡ stage_view (get_or xs i d) ∷ drop (suc i) (take n (helds xs))
 helds_taken [] n i d lt le = absurd (omega arith)
 helds_taken (x ∷ xs) zero i d lt le = absurd (omega arith)
 helds_taken (x ∷ xs) (suc n) zero d lt le = refl
 helds_taken (x ∷ xs) (suc n) (suc i) d lt le = helds_taken xs n i d (omega arith) (omega arith)
 
-pub taken_past : (xs : List Stage) (n : ℕ) → n ≤ length xs → drop n (take n (helds xs)) ≡ []
-taken_past [] zero le = refl
-taken_past [] (suc n) le = refl
-taken_past (x ∷ xs) zero le = refl
-taken_past (x ∷ xs) (suc n) le = taken_past xs n (omega arith)
-
 -- the first stage has no put to be passed
-pub begins_passed : (f x : ℕ) (hs : List Held) → Begins hs → Each (IsPassed f x) hs → ⊥
+pub begins_passed : (f x : ℕ) (hs : List StageView) → Begins hs → Each (IsPassed f x) hs → ⊥
 begins_passed f x [] b h = b
 begins_passed f x (a ∷ hs) b h = h.0.over (subst (IsOver f) (sym b) tt)
 
 -- CHAINS
 
-pub gathered_here : (i : ℕ) (l : Link) (ls : List Link) → length ls ≡ i
-    → gathered (Some i) (l ∷ ls) ≡ l.get ∷ gathered l.because ls
-gathered_here i l ls e =
-    ap (λ b. cond b (l.get ∷ gathered l.because ls) (gathered (Some i) ls))
-    (eq-eqb i (length ls) (sym e))
-
 pub gathered_on : (next : Option ℕ) (i : ℕ) (l : Link) (ls : List Link) → length ls ≡ i
-    → (next ≡ Some i → ⊥) → gathered next (l ∷ ls) ≡ gathered next ls
+    → (next ≡ Some i → ⊥) → gets_of_link next (l ∷ ls) ≡ gets_of_link next ls
 gathered_on None i l ls e h = refl
 gathered_on (Some j) i l ls e h =
-    ap (λ b. cond b (l.get ∷ gathered l.because ls) (gathered (Some j) ls))
+    ap (λ b. cond b (l.get ∷ gets_of_link l.because ls) (gets_of_link (Some j) ls))
     (ne_eqb j (length ls) (λ same. h (ap Some (same ∙ e))))
 
 pub taken_links : (xs : List Link) (i : ℕ) (d : Link) → i < length xs
@@ -190,14 +178,14 @@ no_link = record {
 
 pub chain_on : (links : List Link) (i j : ℕ) (next : Option ℕ) (gets rest : List Call)
     → i ≤ length links → i ≡ j + 1 → option_eq (λ a b. a == b) next (Some j) ≡ false
-    → gets ++ gathered next (reverse (take i links)) ≡ rest
-    → gets ++ gathered next (reverse (take j links)) ≡ rest
+    → gets ++ gets_of_link next (reverse (take i links)) ≡ rest
+    → gets ++ gets_of_link next (reverse (take j links)) ≡ rest
 chain_on links i j next gets rest le e other h =
     ap (λ zs. gets ++ zs)
     (sym (gathered_on next j (get_or links j no_link) (reverse (take j links))
     (taken_length links j (omega arith)) (λ same. differ same))
-    ∙ ap (gathered next) (sym (taken_links links j no_link (omega arith)))
-    ∙ ap (λ k. gathered next (reverse (take k links))) (sym e))
+    ∙ ap (gets_of_link next) (sym (taken_links links j no_link (omega arith)))
+    ∙ ap (λ k. gets_of_link next (reverse (take k links))) (sym e))
     ∙ h
   where
     differ : next ≡ Some j → ⊥
@@ -206,25 +194,25 @@ chain_on links i j next gets rest le e other h =
         sym (ap (λ o. option_eq (λ a b. a == b) o (Some j)) same ∙ eq-eqb j j refl) ∙ other in
         cc)
 
--- WHAT A SEARCH SAYS
+-- THE RESULT OF A SEARCH
 
-pub stage_is : (xs : List Stage) (i : ℕ) (d : Stage) (h : Held) → i < length xs
-    → slice_get (helds xs) i ≡ Some h → held (get_or xs i d) ≡ h
+pub stage_is : (xs : List Stage) (i : ℕ) (d : Stage) (h : StageView) → i < length xs
+    → slice_get (helds xs) i ≡ Some h → stage_view (get_or xs i d) ≡ h
 stage_is xs i d h lt here =
-    same_Some (held (get_or xs i d)) h (sym (helds_at xs i d lt) ∙ here)
+    same_Some (stage_view (get_or xs i d)) h (sym (helds_at xs i d lt) ∙ here)
 
 tail_is : (xs : List Stage) (i j : ℕ) (e : Stage) → j ≡ suc i → j < length xs
-    → drop (suc i) (helds xs) ≡ held (get_or xs j e) ∷ drop (suc j) (helds xs)
+    → drop (suc i) (helds xs) ≡ stage_view (get_or xs j e) ∷ drop (suc j) (helds xs)
 tail_is xs i j e next lt = ap (λ k. drop k (helds xs)) (sym next) ∙ helds_drop xs j e lt
 
 -- the next stage has its moment before first
 pub early_shut : (xs : List Stage) (i j first x : ℕ) (d e g : Stage) → j ≡ suc i
     → i < length xs → j < length xs → (get_or xs i d).value ≡ x
     → (get_or xs j g).moment < first
-    → (h : Held) → slice_get (helds xs) i ≡ Some h
+    → (h : StageView) → slice_get (helds xs) i ≡ Some h
     → IsReason first x h (drop (suc i) (helds xs)) (get_or xs j e).link
 early_shut xs i j first x d e g next lt less value early h here = inr (
-  ap (λ (z : Held). z.value) (sym (stage_is xs i d h lt here)) ∙ value,
+  ap (λ (z : StageView). z.value) (sym (stage_is xs i d h lt here)) ∙ value,
   subst (λ hs. NextEarlier first hs (get_or xs j e).link) (sym (tail_is xs i j e next less)) (
     (let same = ap (λ (z : Stage). z.moment) (get_or_default xs j e g less) in omega arith),
     refl,
@@ -234,19 +222,19 @@ early_shut xs i j first x d e g next lt less value early h here = inr (
 -- the next stage has its moment later, or there is none
 pub early_next : (xs : List Stage) (i j first x : ℕ) (d e : Stage) → j ≡ suc i → i < length xs
     → j < length xs → (get_or xs i d).value ≡ x → first ≤ (get_or xs j e).moment
-    → (h : Held) → slice_get (helds xs) i ≡ Some h
+    → (h : StageView) → slice_get (helds xs) i ≡ Some h
     → (h.value ≡ x) × NextLater first (drop (suc i) (helds xs))
 early_next xs i j first x d e next lt less value late h here = (
-  ap (λ (z : Held). z.value) (sym (stage_is xs i d h lt here)) ∙ value,
+  ap (λ (z : StageView). z.value) (sym (stage_is xs i d h lt here)) ∙ value,
   subst (NextLater first) (sym (tail_is xs i j e next less)) late,
 )
 
 pub early_last : (xs : List Stage) (i first x : ℕ) (d : Stage) → i < length xs
-    → length xs ≤ suc i → (get_or xs i d).value ≡ x → (h : Held)
+    → length xs ≤ suc i → (get_or xs i d).value ≡ x → (h : StageView)
     → slice_get (helds xs) i ≡ Some h
     → (h.value ≡ x) × NextLater first (drop (suc i) (helds xs))
 early_last xs i first x d lt le value h here = (
-  ap (λ (z : Held). z.value) (sym (stage_is xs i d h lt here)) ∙ value,
+  ap (λ (z : StageView). z.value) (sym (stage_is xs i d h lt here)) ∙ value,
   subst (NextLater first) (sym (helds_past xs (suc i) le)) tt,
 )
 
@@ -258,12 +246,12 @@ module _ (xs : List Stage) (n first x i : ℕ) (d e : Stage) (lt : i < n) (le : 
   same = get_or_default xs i e d within
 
   pub early_found : (j : ℕ) → j ≡ suc i → IsOver first (get_or xs i d).put
-      → Each (IsPassed first x) (drop j (take n (helds xs))) → (f : Found)
+      → Each (IsPassed first x) (drop j (take n (helds xs))) → (f : PutChoice)
       → IsEarly (helds xs) first x i f → IsFound (helds xs) n first x f
   early_found j next over passed (At k) h =
-      (let own = h.1 (held (get_or xs i d)) (helds_at xs i d within) in
+      (let own = h.1 (stage_view (get_or xs i d)) (helds_at xs i d within) in
       subst (λ z. IsAt (helds xs) n first x z) (sym h.0) (record {
-        stage = held (get_or xs i d);
+        stage = stage_view (get_or xs i d);
         here = helds_at xs i d within;
         within = lt;
         value = own.0;
@@ -271,18 +259,18 @@ module _ (xs : List Stage) (n first x i : ℕ) (d e : Stage) (lt : i < n) (le : 
       }))
   early_found j next over passed (Shut because) h = record {
     index = i;
-    stage = held (get_or xs i d);
+    stage = stage_view (get_or xs i d);
     here = helds_at xs i d within;
     within = lt;
     over = over;
     passed = subst (λ k. Each (IsPassed first x) (drop k (take n (helds xs)))) next passed;
-    reason = h (held (get_or xs i d)) (helds_at xs i d within);
+    reason = h (stage_view (get_or xs i d)) (helds_at xs i d within);
   }
 
   pub late_found : (IsOver first (get_or xs i d).put → ⊥) → (get_or xs i e).value ≡ x
       → IsAt (helds xs) n first x i
   late_found late value = record {
-    stage = held (get_or xs i d);
+    stage = stage_view (get_or xs i d);
     here = helds_at xs i d within;
     within = lt;
     value = ap (λ (z : Stage). z.value) (sym same) ∙ value;
@@ -296,7 +284,7 @@ module _ (xs : List Stage) (n first x i : ℕ) (d e : Stage) (lt : i < n) (le : 
   passed_more j next late other h =
       subst (Each (IsPassed first x))
       (sym (helds_taken xs n i d lt within
-      ∙ ap (λ k. held (get_or xs i d) ∷ drop k (take n (helds xs))) (sym next))) (
+      ∙ ap (λ k. stage_view (get_or xs i d) ∷ drop k (take n (helds xs))) (sym next))) (
         record {
           over = late;
           other = λ v. other (ap (λ (z : Stage). z.value) same ∙ v);
@@ -306,31 +294,33 @@ module _ (xs : List Stage) (n first x i : ℕ) (d e : Stage) (lt : i < n) (le : 
 
 -- THE LAST STAGE
 
-pub last_is : (xs : List Stage) (front : List Held) (h : Held) → helds xs ≡ front ++ h ∷ []
-    → length front ≡ length xs - 1
-last_is xs front h e =
-    omega (arith, ap length e, length-map xs held, length-append front (h ∷ []))
+pub last_is : (xs : List Stage) (prefix : List StageView) (h : StageView) → helds xs ≡ prefix
+    ++ h ∷ []
+    → length prefix ≡ length xs - 1
+last_is xs prefix h e =
+    omega (arith, ap length e, length-map xs stage_view, length-append prefix (h ∷ []))
 
-pub last_late : (xs : List Stage) (links : List Link) (front : List Held) (h : Held)
-    (l : Link) (s d : Stage) (n k : ℕ) (first : Bool) → helds xs ≡ front ++ h ∷ []
-    → IsLate (held (get_or xs n d)) (held s) l.get k first → n ≡ length xs - 1 → k ≡ length links
-    → (helds (set xs n s) ≡ front ++ with_late l.get (length links) h ∷ [])
+pub last_late : (xs : List Stage) (links : List Link) (prefix : List StageView) (h : StageView)
+    (l : Link) (s d : Stage) (n k : ℕ) (first : Bool) → helds xs ≡ prefix ++ h ∷ []
+    → IsLate (stage_view (get_or xs n d)) (stage_view s) l.get k first → n ≡ length xs - 1
+    → k ≡ length links
+    → (helds (set xs n s) ≡ prefix ++ with_late l.get (length links) h ∷ [])
     × (IsTrue first ↔ (h.link ≡ None))
-last_late xs links front h l s d n k first e late is many =
-    (let at : length front ≡ n = last_is xs front h e ∙ sym is in
-    let own : held (get_or xs n d) ≡ h = held_get xs n d front h [] at e in (
-      held_set xs n s (with_late l.get (length links) h) front h [] at e
-          (late.stage ∙ ap (λ (z : Held). with_late l.get k z) own
+last_late xs links prefix h l s d n k first e late is many =
+    (let at : length prefix ≡ n = last_is xs prefix h e ∙ sym is in
+    let own : stage_view (get_or xs n d) ≡ h = held_get xs n d prefix h [] at e in (
+      held_set xs n s (with_late l.get (length links) h) prefix h [] at e
+          (late.stage ∙ ap (λ (z : StageView). with_late l.get k z) own
           ∙ ap (λ i. with_late l.get i h) many),
-      subst (λ (z : Held). IsTrue first ↔ (z.link ≡ None)) own late.said,
+      subst (λ (z : StageView). IsTrue first ↔ (z.link ≡ None)) own late.said,
     ))
 
-pub links_new : (h : Held) (l : Link) (links : List Link) → h.link ≡ None
+pub links_new : (h : StageView) (l : Link) (links : List Link) → h.link ≡ None
     → reverse (links ++ l ∷ []) ≡ links_with h.link l (reverse links)
 links_new h l links e =
     reverse-append links (l ∷ []) ∙ ap (λ o. links_with o l (reverse links)) (sym e)
 
-pub links_old : (h : Held) (l : Link) (links : List Link) → (h.link ≡ None → ⊥)
+pub links_old : (h : StageView) (l : Link) (links : List Link) → (h.link ≡ None → ⊥)
     → reverse links ≡ links_with h.link l (reverse links)
 links_old h l links other = by h.link other
   where
@@ -338,18 +328,18 @@ links_old h l links other = by h.link other
     by None f = absurd (f refl)
     by (Some i) f = refl
 
-pub last_full : (xs : List Stage) (front : List Held) (h : Held) (c : Call) (s d : Stage) (n : ℕ)
-    → helds xs ≡ front ++ h ∷ [] → held s ≡ with_response c (held (get_or xs n d))
-    → n ≡ length xs - 1 → helds (set xs n s) ≡ front ++ with_response c h ∷ []
-last_full xs front h c s d n e full is =
-    (let at : length front ≡ n = last_is xs front h e ∙ sym is in
-    held_set xs n s (with_response c h) front h [] at e
-    (full ∙ ap (with_response c) (held_get xs n d front h [] at e)))
+pub last_full : (xs : List Stage) (prefix : List StageView) (h : StageView) (c : Call) (s d : Stage) (n : ℕ)
+    → helds xs ≡ prefix ++ h ∷ [] → stage_view s ≡ with_response c (stage_view (get_or xs n d))
+    → n ≡ length xs - 1 → helds (set xs n s) ≡ prefix ++ with_response c h ∷ []
+last_full xs prefix h c s d n e full is =
+    (let at : length prefix ≡ n = last_is xs prefix h e ∙ sym is in
+    held_set xs n s (with_response c h) prefix h [] at e
+    (full ∙ ap (with_response c) (held_get xs n d prefix h [] at e)))
 
-pub pushed : (xs : List Stage) (front : List Held) (h : Held) (back : List Held) (i : ℕ)
-    (c : Call) (s d : Stage) → length front ≡ i → helds xs ≡ front ++ h ∷ back
-    → held s ≡ with_get c (held (get_or xs i d))
-    → helds (set xs i s) ≡ front ++ with_get c h ∷ back
-pushed xs front h back i c s d at e own =
-    held_set xs i s (with_get c h) front h back at e
-    (own ∙ ap (with_get c) (held_get xs i d front h back at e))
+pub pushed : (xs : List Stage) (prefix : List StageView) (h : StageView) (back : List StageView) (i : ℕ)
+    (c : Call) (s d : Stage) → length prefix ≡ i → helds xs ≡ prefix ++ h ∷ back
+    → stage_view s ≡ with_get c (stage_view (get_or xs i d))
+    → helds (set xs i s) ≡ prefix ++ with_get c h ∷ back
+pushed xs prefix h back i c s d at e own =
+    held_set xs i s (with_get c h) prefix h back at e
+    (own ∙ ap (with_get c) (held_get xs i d prefix h back at e))

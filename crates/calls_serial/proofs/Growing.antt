@@ -1,4 +1,4 @@
--- What one more event leaves true.
+-- What stays true with one more event.
 use Rattle.std.proofs.Common.{◌≡◌, ℕ, suc, ◌<◌, ◌≤◌, ◌⊎◌, inl, inr, Bool, true, false, ◌==◌}
 use Rattle.std.proofs.Common.{cond, List, [], ◌∷◌, ◌++◌, length, Option, Some, None, refl, ap, sym}
 use Rattle.std.proofs.Common.{◌∙◌, arith, subst}
@@ -17,7 +17,7 @@ use Rattle.calls_core.proofs.Lists.{each_weaker, each_append, all_from_each}
 use Rattle.calls_serial.specs.declared.stage.Link.{Link}
 use Rattle.calls_serial.specs.Faults.{IsShut, IsGone, HasOnly, Binds}
 use Rattle.calls_serial.specs.Faults.{Leaves}
-use Rattle.calls_serial.specs.kept.Stages.{Held, is_put, IsGot, IsHeld, IsOver, gathered}
+use Rattle.calls_serial.specs.kept.Stages.{StageView, is_put, IsGot, IsHeld, IsOver, gets_of_link}
 use Rattle.calls_serial.specs.kept.Stages.{IsChain}
 use Rattle.calls_serial.specs.kept.Stages.{IsLinked, IsBacked, pending_puts}
 
@@ -35,7 +35,7 @@ pub puts_append : (os ps : List PendingCall)
     → pending_puts (os ++ ps) ≡ pending_puts os ++ pending_puts ps
 puts_append = filter-append (λ (o : PendingCall). is_put o.op)
 
--- another call than a put is taken out
+-- a call that is no put is removed
 pub puts_without : (w : ℕ) (os : List PendingCall) (o : PendingCall) → pending_of w os ≡ Some o
     → is_put o.op ≡ false → pending_puts (without w os) ≡ pending_puts os
 puts_without w [] o e is_no = absurd (none-some o e)
@@ -47,23 +47,23 @@ puts_without w (y ∷ os) o e is_no =
       | false ↦ λ is. ap (λ zs. cond (is_put y.op) (y ∷ zs) zs) (puts_without w os o is is_no)
     ] e
 
--- a put with the others
+-- a pending put among the others
 pub record IsAmong (os rest : List PendingCall) (o : PendingCall) : Type 0 where
-  pub front : List PendingCall
+  pub prefix : List PendingCall
   pub back : List PendingCall
-  pub is : pending_puts os ≡ front ++ o ∷ back
-  pub left : pending_puts rest ≡ front ++ back
+  pub is : pending_puts os ≡ prefix ++ o ∷ back
+  pub left : pending_puts rest ≡ prefix ++ back
 
 among_more : (y : PendingCall) (os rest : List PendingCall) (o : PendingCall) → (b : Bool)
     → is_put y.op ≡ b → IsAmong os rest o → IsAmong (y ∷ os) (y ∷ rest) o
 among_more y os rest o true e h = record {
-  front = y ∷ h.front;
+  prefix = y ∷ h.prefix;
   back = h.back;
   is = puts_yes y os e ∙ ap (λ zs. y ∷ zs) h.is;
   left = puts_yes y rest e ∙ ap (λ zs. y ∷ zs) h.left;
 }
 among_more y os rest o false e h = record {
-  front = h.front;
+  prefix = h.prefix;
   back = h.back;
   is = puts_no y os e ∙ h.is;
   left = puts_no y rest e ∙ h.left;
@@ -76,7 +76,7 @@ among w (y ∷ os) o e yes' =
     elim (y.worker == w) as (λ b. cond b (Some y) (pending_of w os) ≡ Some o
     → IsAmong (y ∷ os) (cond b os (y ∷ without w os)) o) [
       | true ↦ λ is. record {
-        front = [];
+        prefix = [];
         back = pending_puts os;
         is = puts_yes y os (ap (λ (z : PendingCall). is_put z.op) (same_Some y o is) ∙ yes')
             ∙ ap (λ (z : PendingCall). z ∷ pending_puts os) (same_Some y o is);
@@ -85,28 +85,28 @@ among w (y ∷ os) o e yes' =
       | false ↦ λ is. among_more y os (without w os) o (is_put y.op) refl (among w os o is yes')
     ] e
 
--- the only put is taken out
+-- the only pending put is removed
 pub only_put : (w : ℕ) (os : List PendingCall) (o p : PendingCall) → pending_of w os ≡ Some o
     → is_put o.op ≡ true → pending_puts os ≡ p ∷ []
     → (o ≡ p) × (pending_puts (without w os) ≡ [])
 only_put w os o p e yes' one = (let s = among w os o e yes' in
-    by s.front s.back (sym s.is ∙ one) s.left)
+    by s.prefix s.back (sym s.is ∙ one) s.left)
   where
-    by : (front back : List PendingCall) → front ++ o ∷ back ≡ p ∷ []
-        → pending_puts (without w os) ≡ front ++ back
+    by : (prefix back : List PendingCall) → prefix ++ o ∷ back ≡ p ∷ []
+        → pending_puts (without w os) ≡ prefix ++ back
         → (o ≡ p) × (pending_puts (without w os) ≡ [])
     by [] back is left = (let own : o ≡ p = cc in own, let none : back ≡ [] = cc in left ∙ none)
     by (y ∷ []) back is left = absurd (let no : o ∷ back ≡ [] = cc in cc)
-    by (y ∷ z ∷ front) back is left = absurd (let no : z ∷ (front ++ o ∷ back) ≡ [] = cc in cc)
+    by (y ∷ z ∷ prefix) back is left = absurd (let no : z ∷ (prefix ++ o ∷ back) ≡ [] = cc in cc)
 
--- and there is no other
+-- if a worker has a pending put, there are pending puts
 pub no_put : (w : ℕ) (os : List PendingCall) (o : PendingCall) → pending_of w os ≡ Some o
     → is_put o.op ≡ true → pending_puts os ≡ [] → ⊥
-no_put w os o e yes' none = (let s = among w os o e yes' in by s.front s.back (sym s.is ∙ none))
+no_put w os o e yes' none = (let s = among w os o e yes' in by s.prefix s.back (sym s.is ∙ none))
   where
-    by : (front back : List PendingCall) → front ++ o ∷ back ≡ [] → ⊥
+    by : (prefix back : List PendingCall) → prefix ++ o ∷ back ≡ [] → ⊥
     by [] back is = cc
-    by (y ∷ front) back is = cc
+    by (y ∷ prefix) back is = cc
 
 pub each_put : (Q : PendingCall → Type 0) (os : List PendingCall) → Each Q (pending_puts os)
     → Each (λ (o : PendingCall). is_put o.op ≡ true → Q o) os
@@ -120,7 +120,7 @@ each_put Q (o ∷ os) h =
 
 -- LATER MOMENTS
 
-pub held_later : (t u : ℕ) (h : Held) → t ≤ u → IsHeld t h → IsHeld u h
+pub held_later : (t u : ℕ) (h : StageView) → t ≤ u → IsHeld t h → IsHeld u h
 held_later t u h le k = record {
   put = k.put;
   gets = each_weaker (IsGot h.value h.moment t) (IsGot h.value h.moment u)
@@ -166,7 +166,8 @@ module _ (done more : List Call) (os less : List PendingCall) (t : ℕ)
   leaves_grow [] f h = h
   leaves_grow (c ∷ cs) f h = (h.0, binds_grow cs c h.0 h.1, only_grows h.0 c f h.2)
 
-  pub backed_grow : (ls : List Link) (h : Held) → IsBacked done os ls h → IsBacked more less ls h
+  pub backed_grow : (ls : List Link) (h : StageView) → IsBacked done os ls h
+      → IsBacked more less ls h
   backed_grow ls h k p e = by h.link (k p e)
     where
       by : (l : Option ℕ) → IsLinked done os ls h.moment p l → IsLinked more less ls h.moment p l
@@ -250,14 +251,14 @@ only_responded done os t w at r o e b c f lt h = record {
 
 -- CHAINS
 
-pub gathered_none : (ls : List Link) → gathered None ls ≡ []
+pub gathered_none : (ls : List Link) → gets_of_link None ls ≡ []
 gathered_none [] = refl
 gathered_none (l ∷ ls) = gathered_none ls
 
 pub gathered_older : (i : ℕ) (l : Link) (ls : List Link) → i < length ls
-    → gathered (Some i) (l ∷ ls) ≡ gathered (Some i) ls
+    → gets_of_link (Some i) (l ∷ ls) ≡ gets_of_link (Some i) ls
 gathered_older i l ls lt =
-    ap (λ b. cond b (l.get ∷ gathered l.because ls) (gathered (Some i) ls))
+    ap (λ b. cond b (l.get ∷ gets_of_link l.because ls) (gets_of_link (Some i) ls))
     (ne_eqb i (length ls) (λ e. omega arith))
 
 pub linked_older : (done : List Call) (os : List PendingCall) (l : Link) (ls : List Link) (m : ℕ)
@@ -270,5 +271,5 @@ linked_older done os l ls m p (Some i) h = (
 )
 
 pub backed_older : (done : List Call) (os : List PendingCall) (l : Link) (ls : List Link)
-    (h : Held) → IsBacked done os ls h → IsBacked done os (l ∷ ls) h
+    (h : StageView) → IsBacked done os ls h → IsBacked done os (l ∷ ls) h
 backed_older done os l ls h k p e = linked_older done os l ls h.moment p h.link (k p e)

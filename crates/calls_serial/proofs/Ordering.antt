@@ -15,12 +15,12 @@ use Rattle.calls_core.specs.declared.history.PendingCall.{PendingCall}
 use Rattle.calls_core.specs.declared.history.Call.{Call}
 use Rattle.calls_core.specs.Lists.{Each, EachPair}
 use Rattle.calls_core.specs.Histories.{completion}
-use Rattle.calls_core.specs.Linearizations.{Gives, after, IsSequentialRun, Precedes, KeepsOrder}
+use Rattle.calls_core.specs.Linearizations.{Gives, after, IsLegalHistory, Precedes, KeepsOrder}
 use Rattle.calls_core.specs.Linearizations.{answered_one, answered_calls, IsLinearOrder}
 use Rattle.calls_core.proofs.Lists.{each_weaker, each_append, each_both}
 use Rattle.calls_core.proofs.Lists.{each_pair_append, all_pairs_from_each}
 use Rattle.calls_core.proofs.Filters.{permutation_same}
-use Rattle.calls_serial.specs.kept.Stages.{Held, put_calls, held_calls, all_calls, is_put}
+use Rattle.calls_serial.specs.kept.Stages.{StageView, put_calls, held_calls, all_calls, is_put}
 use Rattle.calls_serial.specs.kept.Stages.{put_answer}
 use Rattle.calls_serial.specs.kept.Stages.{IsGot, IsStored, Sooner, IsHeld}
 use Rattle.calls_serial.specs.kept.Stages.{Follows}
@@ -33,7 +33,8 @@ pub each_every : {X : Type 0} (P : X → Type 0) → ((x : X) → P x) → (xs :
 each_every P f [] = tt
 each_every P f (x ∷ xs) = (f x, each_every P f xs)
 
-pub all_calls_append : (gs hs : List Held) → all_calls (gs ++ hs) ≡ all_calls gs ++ all_calls hs
+pub all_calls_append : (gs hs : List StageView) → all_calls (gs ++ hs) ≡ all_calls gs
+    ++ all_calls hs
 all_calls_append [] hs = refl
 all_calls_append (g ∷ gs) hs =
     ap (λ zs. held_calls g ++ zs) (all_calls_append gs hs)
@@ -47,7 +48,7 @@ StartsBy n c = c.first ≤ n
 abbrev pub EndsFrom : ℕ → Call → Type 0
 EndsFrom n c = n ≤ c.last
 
--- calls that began by a moment may be before those that ended from it on
+-- calls invoked up to position n may be before calls that respond from n on
 across : (n : ℕ) (xs ys : List Call) → Each (StartsBy n) xs → Each (EndsFrom n) ys
     → Each (λ (x : Call). Each (KeepsOrder x) ys) xs
 across n [] ys h k = tt
@@ -62,7 +63,7 @@ put_starts : (v m n : ℕ) (put : Option Call) → IsStored v m put → m ≤ n
 put_starts v m n None s le = tt
 put_starts v m n (Some p) s le = (let lt = s.first in omega arith, tt)
 
-pub starts : (t : ℕ) (a b : Held) → IsHeld t a → Follows a b
+pub starts : (t : ℕ) (a b : StageView) → IsHeld t a → Follows a b
     → Each (StartsBy b.moment) (held_calls a)
 starts t a b h f =
     each_append (StartsBy b.moment) (put_calls a.put) a.gets
@@ -72,7 +73,7 @@ put_ends : (v m : ℕ) (put : Option Call) → IsStored v m put → Each (EndsFr
 put_ends v m None s = tt
 put_ends v m (Some p) s = (s.last, tt)
 
-pub ends : (t : ℕ) (h : Held) → IsHeld t h → Each (EndsFrom h.moment) (held_calls h)
+pub ends : (t : ℕ) (h : StageView) → IsHeld t h → Each (EndsFrom h.moment) (held_calls h)
 ends t h k =
     each_append (EndsFrom h.moment) (put_calls h.put) h.gets
     (put_ends h.value h.moment h.put k.put)
@@ -102,7 +103,7 @@ own_keep v m t (Some p) gs s h k = (
     late : (p g : Call) (m : ℕ) → p.first < m → m ≤ g.last → Precedes g p → ⊥
     late p g m a b lt = (let l : g.last < p.first = lt in omega arith)
 
-across_all : (t : ℕ) (a : Held) (hs : List Held) → IsHeld t a → Each (Follows a) hs
+across_all : (t : ℕ) (a : StageView) (hs : List StageView) → IsHeld t a → Each (Follows a) hs
     → Each (IsHeld t) hs → Each (λ (x : Call). Each (KeepsOrder x) (all_calls hs)) (held_calls a)
 across_all t a [] own f h =
     each_every (λ (x : Call). Each (KeepsOrder x) []) (λ x. tt) (held_calls a)
@@ -114,7 +115,7 @@ across_all t a (b ∷ hs) own f h =
     (across b.moment (held_calls a) (held_calls b) (starts t a b own f.0) (ends t b h.0))
     (across_all t a hs own f.1 h.1)
 
-pub keeps : (t : ℕ) (hs : List Held) → Each (IsHeld t) hs → EachPair Follows hs
+pub keeps : (t : ℕ) (hs : List StageView) → Each (IsHeld t) hs → EachPair Follows hs
     → EachPair KeepsOrder (all_calls hs)
 keeps t [] h f = tt
 keeps t (a ∷ hs) h f =
@@ -122,7 +123,7 @@ keeps t (a ∷ hs) h f =
     (own_keep a.value a.moment t a.put a.gets h.0.put h.0.gets h.0.sorted)
     (keeps t hs h.1 f.1) (across_all t a hs h.0 f.0 h.1)
 
--- THE RUN
+-- THE ORDER IS A LEGAL SEQUENTIAL HISTORY
 
 get_runs : (m : ℕ → ℕ) (v : ℕ) (op : Op) (r : Reply) → op ≡ Get → r ≡ Number v → m 0 ≡ v
     → Gives m op r × (after m op r ≡ m)
@@ -131,12 +132,12 @@ get_runs m v op r e f z =
     (f ∙ ap Number (sym z), refl)
 
 gets_run : (m : ℕ → ℕ) (v n t : ℕ) (gs rest : List Call) → m 0 ≡ v → Each (IsGot v n t) gs
-    → IsSequentialRun m rest → IsSequentialRun m (gs ++ rest)
+    → IsLegalHistory m rest → IsLegalHistory m (gs ++ rest)
 gets_run m v n t [] rest z h run = run
 gets_run m v n t (g ∷ gs) rest z h run =
     let s = get_runs m v g.op g.reply h.0.op h.0.reply z in (
       s.0,
-      subst (λ f. IsSequentialRun f (gs ++ rest)) (sym s.1)
+      subst (λ f. IsLegalHistory f (gs ++ rest)) (sym s.1)
           (gets_run m v n t gs rest z h.1 run),
     )
 
@@ -146,29 +147,30 @@ put_runs m v op r e f = subst (λ o. Gives m o r × (after m o r 0 ≡ v)) (sym 
 
 held_runs : (m : ℕ → ℕ) (v n t : ℕ) (put : Option Call) (gs rest : List Call) → IsStored v n put
     → Each (IsGot v n t) gs → (put ≡ None → m 0 ≡ 0)
-    → ((f : ℕ → ℕ) → IsSequentialRun f rest) → IsSequentialRun m ((put_calls put ++ gs) ++ rest)
+    → ((f : ℕ → ℕ) → IsLegalHistory f rest) → IsLegalHistory m ((put_calls put ++ gs) ++ rest)
 held_runs m v n t None gs rest s h z run =
     gets_run m v n t gs rest (z refl ∙ sym s.0) h (run m)
 held_runs m v n t (Some p) gs rest s h z run =
     let k = put_runs m v p.op p.reply s.op s.reply in
     (k.0, gets_run (after m p.op p.reply) v n t gs rest k.1 h (run (after m p.op p.reply)))
 
--- with a put at first the run goes from any state
-rest_runs : (t : ℕ) (m : ℕ → ℕ) (hs : List Held) → Each (IsHeld t) hs
-    → Each (λ (h : Held). (p : Call) × (h.put ≡ Some p)) hs → IsSequentialRun m (all_calls hs)
+-- the calls of stages that all have a put are legal from any state
+rest_runs : (t : ℕ) (m : ℕ → ℕ) (hs : List StageView) → Each (IsHeld t) hs
+    → Each (λ (h : StageView). (p : Call) × (h.put ≡ Some p)) hs → IsLegalHistory m (all_calls hs)
 rest_runs t m [] h p = tt
 rest_runs t m (a ∷ hs) h p =
     held_runs m a.value a.moment t a.put a.gets (all_calls hs) h.0.put h.0.gets
     (λ e. absurd (let no : None ≡ Some p.0.0 = sym e ∙ p.0.1 in cc))
     (λ f. rest_runs t f hs h.1 p.1)
 
-pub runs : (t : ℕ) (m : ℕ → ℕ) (hs : List Held) → Each (IsHeld t) hs → EachPair Follows hs
-    → m 0 ≡ 0 → IsSequentialRun m (all_calls hs)
+pub runs : (t : ℕ) (m : ℕ → ℕ) (hs : List StageView) → Each (IsHeld t) hs → EachPair Follows hs
+    → m 0 ≡ 0 → IsLegalHistory m (all_calls hs)
 runs t m [] h f z = tt
 runs t m (a ∷ hs) h f z =
     held_runs m a.value a.moment t a.put a.gets (all_calls hs) h.0.put h.0.gets (λ e. z)
     (λ g. rest_runs t g hs h.1
-    (each_weaker (Follows a) (λ (b : Held). (p : Call) × (b.put ≡ Some p)) (λ b k. (k.put, k.is)) hs
+    (each_weaker (Follows a) (λ (b : StageView). (p : Call)
+    × (b.put ≡ Some p)) (λ b k. (k.put, k.is)) hs
     f.0))
 
 -- PENDING PUTS ARE ANSWERED
@@ -186,7 +188,7 @@ answered_puts t (o ∷ os) =
     ap (λ zs. answered_one t o (put_answer o) ++ zs) (answered_puts t os)
     ∙ answered_step t o (pending_puts os) (is_put o.op)
 
-current_once : (end : ℕ) (done : List Call) (stages : List Held) (now : Option Current)
+current_once : (end : ℕ) (done : List Call) (stages : List StageView) (now : Option Current)
     → IsCurrent end now → IsPermutation done (all_calls stages ++ current_gets now)
     → IsPermutation (map (completion end Done) (current_puts now) ++ done)
     (all_calls (stages ++ current now))
@@ -203,12 +205,12 @@ current_once end done stages (Some k) p h =
     ∙ ap (λ put. all_calls stages ++ ((put_calls put ++ k.stage.gets) ++ [])) (sym p)
     ∙ sym (all_calls_append stages (k.stage ∷ [])))))
 
-pub ordered : (end t : ℕ) (done : List Call) (os : List PendingCall) (stages : List Held)
+pub ordered : (end t : ℕ) (done : List Call) (os : List PendingCall) (stages : List StageView)
     (now : Option Current) → Each (IsHeld t) (stages ++ current now)
     → EachPair Follows (stages ++ current now) → IsCurrent end now
     → pending_puts os ≡ current_puts now
     → IsPermutation done (all_calls stages ++ current_gets now)
-    → IsLinearOrder (IsSequentialRun (λ i. 0)) done os end (all_calls (stages ++ current now))
+    → IsLinearOrder (IsLegalHistory (λ i. 0)) done os end (all_calls (stages ++ current now))
 ordered end t done os stages now each pairs put puts once = record {
   answer = put_answer;
   each_once = subst

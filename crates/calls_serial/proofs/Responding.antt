@@ -1,4 +1,4 @@
--- What each response leaves of the stages.
+-- The stages after each response.
 use Rattle.std.proofs.Common.{◌≡◌, ℕ, ◌+◌, ◌<◌, ◌≤◌, ◌⊎◌, inl, inr, true}
 use Rattle.std.proofs.Common.{cond, List, [], ◌∷◌, ◌++◌, length, Option, Some, None, refl, ap, sym}
 use Rattle.std.proofs.Common.{◌∙◌, arith, subst}
@@ -19,12 +19,12 @@ use Rattle.calls_core.proofs.Lists.{each_weaker, each_append, each_left, each_ri
 use Rattle.calls_core.proofs.Lists.{each_pair_right, each_kept, all_from_each}
 use Rattle.calls_serial.specs.declared.stage.Link.{Link}
 use Rattle.calls_serial.specs.Faults.{Leaves}
-use Rattle.calls_serial.specs.kept.Stages.{Held, held_calls, all_calls, is_put, IsGot}
-use Rattle.calls_serial.specs.kept.Stages.{IsPutAt, IsStored, IsHeld, IsOver, Follows, gathered}
+use Rattle.calls_serial.specs.kept.Stages.{StageView, held_calls, all_calls, is_put, IsGot}
+use Rattle.calls_serial.specs.kept.Stages.{IsPutAt, IsStored, IsHeld, IsOver, Follows, gets_of_link}
 use Rattle.calls_serial.specs.kept.Stages.{IsChain}
 use Rattle.calls_serial.specs.kept.Stages.{IsLinked, IsBacked, Current, current, current_gets}
-use Rattle.calls_serial.specs.kept.Stages.{current_puts, pending_puts, IsOverAt, Stands, bounded}
-use Rattle.calls_serial.specs.kept.Stages.{linked}
+use Rattle.calls_serial.specs.kept.Stages.{current_puts, pending_puts, IsOverAt, AreStages, moment_bound}
+use Rattle.calls_serial.specs.kept.Stages.{link_index}
 use Rattle.calls_serial.specs.kept.Stages.{links_with, with_get, with_late, with_response}
 use Rattle.calls_serial.specs.kept.Stages.{NextLater}
 use Rattle.calls_serial.proofs.Ordering.{all_calls_append}
@@ -34,15 +34,15 @@ use Rattle.calls_serial.proofs.Stepping.{stored_by, grows, got, sooner, later, o
 use Rattle.calls_serial.proofs.Stepping.{now_held, now_put, now_linked, changed}
 
 -- the moments of later stages are no earlier than the invocation of a get
-later_moments : (t f : ℕ) (h : Held) (rest : List Held) → Each (IsHeld t) rest
+later_moments : (t f : ℕ) (h : StageView) (rest : List StageView) → Each (IsHeld t) rest
     → Each (Follows h) rest → EachPair Follows rest
-    → ((IsOver f h.put → ⊥) ⊎ NextLater f rest) → Each (λ (b : Held). f ≤ b.moment) rest
+    → ((IsOver f h.put → ⊥) ⊎ NextLater f rest) → Each (λ (b : StageView). f ≤ b.moment) rest
 later_moments t f h rest held follow pairs (inl must) =
-    each_both (IsHeld t) (Follows h) (λ (b : Held). f ≤ b.moment)
+    each_both (IsHeld t) (Follows h) (λ (b : StageView). f ≤ b.moment)
     (λ b k g. by h.put refl b g.put (subst (IsStored b.value b.moment) g.is k.put) g.over) rest held
     follow
   where
-    by : (put : Option Call) → h.put ≡ put → (b : Held) → (q : Call)
+    by : (put : Option Call) → h.put ≡ put → (b : StageView) → (q : Call)
         → IsPutAt b.value b.moment q → IsOver q.first h.put → f ≤ b.moment
     by None is b q k over = absurd (must (subst (IsOver f) (sym is) tt))
     by (Some p) is b q k over =
@@ -55,7 +55,7 @@ later_moments t f h rest held follow pairs (inl must) =
 later_moments t f h [] held follow pairs (inr next) = tt
 later_moments t f h (b ∷ rest) held follow pairs (inr next) = (
   next,
-  each_weaker (Follows b) (λ (c : Held). f ≤ c.moment)
+  each_weaker (Follows b) (λ (c : StageView). f ≤ c.moment)
       (λ c k. (let m = k.moments in omega arith)) rest pairs.0,
 )
 
@@ -66,75 +66,76 @@ module _ (end t : ℕ) (done : List Call) (os : List PendingCall) (ls : List Lin
   own : Call
   own = completion at r o
 
-  -- a get of the value of a completed put, or of the value at first
-  module _ (front : List Held) (h : Held) (back : List Held) (now : Option Current) (x : ℕ)
+  -- a get of the value of a completed put, or of the initial value
+  module _ (prefix : List StageView) (h : StageView) (back : List StageView) (now : Option Current) (x : ℕ)
       (op : o.op ≡ Get) (is : r ≡ Number x) (value : h.value ≡ x)
       (may : (IsOver o.first h.put → ⊥) ⊎ NextLater o.first (back ++ current now))
-      (s : Stands end t done os (front ++ h ∷ back) now ls) where
-    changes : Held
+      (s : AreStages end t done os (prefix ++ h ∷ back) now ls) where
+    changes : StageView
     changes = with_get (completion at r o) h
 
-    all_is : (k : Held) → (front ++ k ∷ back) ++ current now ≡ front ++ k ∷ (back ++ current now)
-    all_is k = append_assoc front (k ∷ back) (current now)
+    all_is : (k : StageView) → (prefix ++ k ∷ back) ++ current now ≡ prefix
+        ++ k ∷ (back ++ current now)
+    all_is k = append_assoc prefix (k ∷ back) (current now)
 
-    set_each : (P : Held → Type 0) → (P h → P (with_get (completion at r o) h))
-        → Each P ((front ++ h ∷ back) ++ current now)
-        → Each P ((front ++ with_get (completion at r o) h ∷ back) ++ current now)
+    set_each : (P : StageView → Type 0) → (P h → P (with_get (completion at r o) h))
+        → Each P ((prefix ++ h ∷ back) ++ current now)
+        → Each P ((prefix ++ with_get (completion at r o) h ∷ back) ++ current now)
     set_each P f k =
         subst (Each P) (sym (all_is (with_get (completion at r o) h)))
-        (each_set P front h (with_get (completion at r o) h) (back ++ current now) f
+        (each_set P prefix h (with_get (completion at r o) h) (back ++ current now) f
         (subst (Each P) (all_is h) k))
 
     own_over : IsOver t h.put
-    own_over = (each_right (IsOverAt t) front (h ∷ back) s.over).0
+    own_over = (each_right (IsOverAt t) prefix (h ∷ back) s.over).0
 
     own_held : IsHeld (at + 1) h → IsHeld (at + 1) (with_get (completion at r o) h)
     own_held k =
-        (let old : IsHeld t h = (each_right (IsHeld t) front (h ∷ (back ++ current now))
+        (let old : IsHeld t h = (each_right (IsHeld t) prefix (h ∷ (back ++ current now))
         (subst (Each (IsHeld t)) (all_is h) s.each)).0 in
         let moment = stored_by h.value h.moment t h.put k.put own_over in
         record {
           put = k.put;
           gets = each_append (IsGot h.value h.moment (at + 1)) h.gets (completion at r o ∷ [])
               k.gets (
-                got end t done os (front ++ h ∷ back) ls w at r o ours early waiting le lt h.value
+                got end t done os (prefix ++ h ∷ back) ls w at r o ours early waiting le lt h.value
                     h.moment x op is value (omega arith),
                 tt,
               );
-          sorted = sooner end t done os (front ++ h ∷ back) ls w at r o ours early waiting le lt
+          sorted = sooner end t done os (prefix ++ h ∷ back) ls w at r o ours early waiting le lt
               h.value h.moment h.gets old.gets old.sorted;
         })
 
-    moments : Each (λ (b : Held). o.first ≤ b.moment) (back ++ current now)
+    moments : Each (λ (b : StageView). o.first ≤ b.moment) (back ++ current now)
     moments =
-        (let pairs = each_pair_right Follows front (h ∷ (back ++ current now))
+        (let pairs = each_pair_right Follows prefix (h ∷ (back ++ current now))
         (subst (EachPair Follows) (all_is h) s.pairs) in
-        let held = each_right (IsHeld t) front (h ∷ (back ++ current now))
+        let held = each_right (IsHeld t) prefix (h ∷ (back ++ current now))
         (subst (Each (IsHeld t)) (all_is h) s.each) in
         later_moments t o.first h (back ++ current now) held.1 pairs.0 pairs.1 may)
 
-    calls_are : all_calls (front ++ with_get (completion at r o) h ∷ back) ++ current_gets now
-        ≡ (all_calls front ++ held_calls h)
+    calls_are : all_calls (prefix ++ with_get (completion at r o) h ∷ back) ++ current_gets now
+        ≡ (all_calls prefix ++ held_calls h)
         ++ completion at r o ∷ (all_calls back ++ current_gets now)
     calls_are =
         ap (λ zs. zs ++ current_gets now)
-        (all_calls_append front (with_get (completion at r o) h ∷ back))
+        (all_calls_append prefix (with_get (completion at r o) h ∷ back))
         ∙ simp append_assoc
 
-    calls_were : all_calls (front ++ h ∷ back) ++ current_gets now
-        ≡ (all_calls front ++ held_calls h) ++ (all_calls back ++ current_gets now)
+    calls_were : all_calls (prefix ++ h ∷ back) ++ current_gets now
+        ≡ (all_calls prefix ++ held_calls h) ++ (all_calls back ++ current_gets now)
     calls_were =
-        ap (λ zs. zs ++ current_gets now) (all_calls_append front (h ∷ back)) ∙ simp append_assoc
+        ap (λ zs. zs ++ current_gets now) (all_calls_append prefix (h ∷ back)) ∙ simp append_assoc
 
-    pub placed : Stands end (at + 1) (completion at r o ∷ done) (without w os)
-        (front ++ with_get (completion at r o) h ∷ back) now ls
+    pub placed : AreStages end (at + 1) (completion at r o ∷ done) (without w os)
+        (prefix ++ with_get (completion at r o) h ∷ back) now ls
     placed = record {
-      begins = begins_set front h (with_get (completion at r o) h) back refl s.begins;
+      begins = begins_set prefix h (with_get (completion at r o) h) back refl s.begins;
       each = set_each (IsHeld (at + 1)) own_held
-          (later end t done os (front ++ h ∷ back) ls w at r o ours early waiting le lt
-          ((front ++ h ∷ back) ++ current now) s.each);
+          (later end t done os (prefix ++ h ∷ back) ls w at r o ours early waiting le lt
+          ((prefix ++ h ∷ back) ++ current now) s.each);
       pairs = subst (EachPair Follows) (sym (all_is (with_get (completion at r o) h)))
-          (pairs_set Follows front h (with_get (completion at r o) h) (back ++ current now)
+          (pairs_set Follows prefix h (with_get (completion at r o) h) (back ++ current now)
           (λ a k. record {
             put = k.put;
             is = k.is;
@@ -142,7 +143,7 @@ module _ (end t : ℕ) (done : List Call) (os : List PendingCall) (ls : List Lin
             moments = k.moments;
             gets = k.gets;
           })
-          (λ k. each_both (Follows h) (λ (b : Held). o.first ≤ b.moment)
+          (λ k. each_both (Follows h) (λ (b : StageView). o.first ≤ b.moment)
           (Follows (with_get (completion at r o) h))
           (λ b f m. record {
             put = f.put;
@@ -156,21 +157,21 @@ module _ (end t : ℕ) (done : List Call) (os : List PendingCall) (ls : List Lin
       backed = set_each (IsBacked (completion at r o ∷ done) (without w os) ls) (λ k. k)
           (each_weaker (IsBacked done os ls)
           (IsBacked (completion at r o ∷ done) (without w os) ls)
-          (λ a k. grows end t done os (front ++ h ∷ back) ls w at r o ours early waiting le lt a k)
-          ((front ++ h ∷ back) ++ current now) s.backed);
-      over = each_set (IsOverAt (at + 1)) front h (with_get (completion at r o) h) back (λ k. k)
-          (overs end t done os (front ++ h ∷ back) ls w at r o ours early waiting le lt s.over);
+          (λ a k. grows end t done os (prefix ++ h ∷ back) ls w at r o ours early waiting le lt a k)
+          ((prefix ++ h ∷ back) ++ current now) s.backed);
+      over = each_set (IsOverAt (at + 1)) prefix h (with_get (completion at r o) h) back (λ k. k)
+          (overs end t done os (prefix ++ h ∷ back) ls w at r o ours early waiting le lt s.over);
       put = s.put;
       puts = puts_without w os o ours (ap is_put op) ∙ s.puts;
       once = subst (IsPermutation (completion at r o ∷ done)) (sym calls_are)
-          (moves_into done (all_calls front ++ held_calls h) (all_calls back ++ current_gets now)
+          (moves_into done (all_calls prefix ++ held_calls h) (all_calls back ++ current_gets now)
           (completion at r o) (subst (IsPermutation done) calls_were s.once));
     }
 
   -- THE PENDING PUT
 
-  module _ (stages : List Held) (now : Current)
-      (s : Stands end t done os stages (Some now) ls) where
+  module _ (stages : List StageView) (now : Current)
+      (s : AreStages end t done os stages (Some now) ls) where
     before_first : now.call.first < t
     before_first =
         (let k : Each (Early t) (current_puts (Some now)) =
@@ -184,10 +185,10 @@ module _ (end t : ℕ) (done : List Call) (os : List PendingCall) (ls : List Lin
     link_is : IsLinked done os ls now.stage.moment (completion end Done now.call) now.stage.link
     link_is = now_linked end t done os stages ls now s
 
-    -- with no link there was no get
+    -- a stage without a link has no get yet
     moment_held : (l : Option ℕ) → IsLinked done os ls now.stage.moment
         (completion end Done now.call) l
-        → Each (IsGot now.stage.value (bounded l now.stage.moment at) (at + 1)) now.stage.gets
+        → Each (IsGot now.stage.value (moment_bound l now.stage.moment at) (at + 1)) now.stage.gets
     moment_held None k =
         each_weaker (IsGot now.stage.value now.stage.moment t)
         (IsGot now.stage.value at (at + 1))
@@ -204,9 +205,9 @@ module _ (end t : ℕ) (done : List Call) (os : List PendingCall) (ls : List Lin
           after = j.after;
         }) now.stage.gets held.gets
 
-    -- a get that a link has was completed
+    -- the get of a link is completed
     moment_early : (l : Option ℕ) → IsLinked done os ls now.stage.moment
-        (completion end Done now.call) l → bounded l now.stage.moment at ≤ at
+        (completion end Done now.call) l → moment_bound l now.stage.moment at ≤ at
     moment_early None k = omega arith
     moment_early (Some i) k =
         (let chain = k.1 in
@@ -215,12 +216,12 @@ module _ (end t : ℕ) (done : List Call) (os : List PendingCall) (ls : List Lin
         let m = chain.last in
         omega arith)
 
-    moment_first : (l : Option ℕ) → now.call.first < bounded l now.stage.moment at
+    moment_first : (l : Option ℕ) → now.call.first < moment_bound l now.stage.moment at
     moment_first None = (let k = before_first in omega arith)
     moment_first (Some i) = (now_put end t done os stages ls now s).first
 
-    moment_moves : (l : Option ℕ) → (t ≤ bounded l now.stage.moment at)
-        ⊎ (bounded l now.stage.moment at ≡ now.stage.moment)
+    moment_moves : (l : Option ℕ) → (t ≤ moment_bound l now.stage.moment at)
+        ⊎ (moment_bound l now.stage.moment at ≡ now.stage.moment)
     moment_moves None = inl le
     moment_moves (Some i) = inr refl
 
@@ -241,19 +242,19 @@ module _ (end t : ℕ) (done : List Call) (os : List PendingCall) (ls : List Lin
     stages_later = later end t done os stages ls w at r o ours early waiting le lt stages
         (each_left (IsHeld t) stages (now.stage ∷ []) s.each)
 
-    -- a get has its value from the pending put
+    -- a get returns the value of the pending put
     module _ (x : ℕ) (op : o.op ≡ Get) (is : r ≡ Number x) (value : now.stage.value ≡ x)
         (because : Option ℕ) (leaves : Leaves (completion at r o ∷ done) (without w os)
-        (completion at r o ∷ gathered because ls) (Some now.call.first)) where
+        (completion at r o ∷ gets_of_link because ls) (Some now.call.first)) where
       abbrev pub new_link : Link
       new_link = record { get = completion at r o; because = because }
 
-      abbrev pub late_stage : Held
+      abbrev pub late_stage : StageView
       late_stage = with_late (completion at r o) (length ls) now.stage
 
       late_held : IsHeld (at + 1) late_stage
       late_held = record {
-        put = subst (IsStored now.stage.value (bounded now.stage.link now.stage.moment at))
+        put = subst (IsStored now.stage.value (moment_bound now.stage.link now.stage.moment at))
             (sym s.put)
             (let old = now_put end t done os stages ls now s in
             let early' = moment_early now.stage.link link_is in
@@ -265,10 +266,10 @@ module _ (end t : ℕ) (done : List Call) (os : List PendingCall) (ls : List Lin
               last = omega arith;
             });
         gets = each_append
-            (IsGot now.stage.value (bounded now.stage.link now.stage.moment at) (at + 1))
+            (IsGot now.stage.value (moment_bound now.stage.link now.stage.moment at) (at + 1))
             now.stage.gets (completion at r o ∷ []) (moment_held now.stage.link link_is) (
               got end t done os stages ls w at r o ours early waiting le lt now.stage.value
-                  (bounded now.stage.link now.stage.moment at) x op is value
+                  (moment_bound now.stage.link now.stage.moment at) x op is value
                   (moment_early now.stage.link link_is),
               tt,
             );
@@ -276,7 +277,7 @@ module _ (end t : ℕ) (done : List Call) (os : List PendingCall) (ls : List Lin
             now.stage.moment now.stage.gets held.gets held.sorted;
       }
 
-      older : (l : Option ℕ) (h : Held)
+      older : (l : Option ℕ) (h : StageView)
           → IsBacked (completion at r o ∷ done) (without w os) ls h
           → IsBacked (completion at r o ∷ done) (without w os) (links_with l new_link ls) h
       older None h k =
@@ -286,21 +287,21 @@ module _ (end t : ℕ) (done : List Call) (os : List PendingCall) (ls : List Lin
       late_linked : (l : Option ℕ) → IsLinked (completion at r o ∷ done) (without w os) ls
           now.stage.moment (completion end Done now.call) l
           → IsLinked (completion at r o ∷ done) (without w os) (links_with l new_link ls)
-          (bounded l now.stage.moment at) (completion end Done now.call) (linked l (length ls))
+          (moment_bound l now.stage.moment at) (completion end Done now.call) (link_index l (length ls))
       late_linked None k = (
         omega arith,
         record {
           get = completion at r o;
-          rest = gathered because ls;
-          is = ap (λ b. cond b (completion at r o ∷ gathered because ls)
-              (gathered (Some (length ls)) ls)) (eq-eqb (length ls) (length ls) refl);
+          rest = gets_of_link because ls;
+          is = ap (λ b. cond b (completion at r o ∷ gets_of_link because ls)
+              (gets_of_link (Some (length ls)) ls)) (eq-eqb (length ls) (length ls) refl);
           leaves = leaves;
           last = refl;
         },
       )
       late_linked (Some i) k = k
 
-      pub late : Stands end (at + 1) (completion at r o ∷ done) (without w os) stages
+      pub late : AreStages end (at + 1) (completion at r o ∷ done) (without w os) stages
           (Some (record {
             call = now.call;
             stage = with_late (completion at r o) (length ls)
@@ -325,8 +326,8 @@ module _ (end t : ℕ) (done : List Call) (os : List PendingCall) (ls : List Lin
               (λ p e. subst
                   (λ (z : Call). IsLinked (completion at r o ∷ done) (without w os)
                   (links_with now.stage.link new_link ls)
-                  (bounded now.stage.link now.stage.moment at) z
-                  (linked now.stage.link (length ls)))
+                  (moment_bound now.stage.link now.stage.moment at) z
+                  (link_index now.stage.link (length ls)))
                   (same_Some (completion end Done now.call) p (sym s.put ∙ e))
                   (late_linked now.stage.link link_grown)),
               tt,
@@ -347,7 +348,7 @@ module _ (end t : ℕ) (done : List Call) (os : List PendingCall) (ls : List Lin
 
     -- the pending put is completed
     module _ (op : is_put o.op ≡ true) (is : r ≡ Done) where
-      abbrev pub full_stage : Held
+      abbrev pub full_stage : StageView
       full_stage = with_response (completion at r o) now.stage
 
       same : (o ≡ now.call) × (pending_puts (without w os) ≡ [])
@@ -374,16 +375,16 @@ module _ (end t : ℕ) (done : List Call) (os : List PendingCall) (ls : List Lin
       full_linked : (l : Option ℕ) → IsLinked (completion at r o ∷ done) (without w os) ls
           now.stage.moment (completion end Done now.call) l
           → IsLinked (completion at r o ∷ done) (without w os) ls
-          (bounded l now.stage.moment at) (completion at r o) l
+          (moment_bound l now.stage.moment at) (completion at r o) l
       full_linked None k = refl
       full_linked (Some i) k = (
         k.0,
         subst
-            (λ n. IsChain (completion at r o ∷ done) (without w os) (gathered (Some i) ls) n
+            (λ n. IsChain (completion at r o ∷ done) (without w os) (gets_of_link (Some i) ls) n
             now.stage.moment) (sym (ap (λ (p : PendingCall). p.first) same.0)) k.1,
       )
 
-      pub full : Stands end (at + 1) (completion at r o ∷ done) (without w os)
+      pub full : AreStages end (at + 1) (completion at r o ∷ done) (without w os)
           (stages ++ with_response (completion at r o) now.stage ∷ []) None ls
       full = record {
         begins = begins_more stages (full_stage ∷ []) s.begins;
@@ -401,7 +402,7 @@ module _ (end t : ℕ) (done : List Call) (os : List PendingCall) (ls : List Lin
             (now.stage ∷ []) stages_grown) (
               (λ p e. subst
                   (λ (z : Call). IsLinked (completion at r o ∷ done) (without w os) ls
-                  (bounded now.stage.link now.stage.moment at) z now.stage.link)
+                  (moment_bound now.stage.link now.stage.moment at) z now.stage.link)
                   (same_Some (completion at r o) p e) (full_linked now.stage.link link_grown)),
               tt,
             )) tt;

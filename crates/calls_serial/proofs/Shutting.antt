@@ -1,4 +1,4 @@
--- A get that no completed put leaves a value to.
+-- A get that can return the value of no completed put.
 use Rattle.std.proofs.Common.{◌≡◌, ℕ, zero, ◌<◌, ◌≤◌, ◌⊎◌, inl, inr, true, List}
 use Rattle.std.proofs.Common.{[]}
 use Rattle.std.proofs.Common.{◌∷◌, ◌++◌, Option, Some, None, refl, ap, sym, ◌∙◌, arith}
@@ -21,13 +21,13 @@ use Rattle.calls_core.proofs.Lists.{each_pair_right, each_pair_across, all_from_
 use Rattle.calls_core.proofs.Filters.{each_from_all}
 use Rattle.calls_serial.specs.declared.stage.Link.{Link}
 use Rattle.calls_serial.specs.Faults.{IsShut, IsGone, HasOnly, Binds}
-use Rattle.calls_serial.specs.kept.Stages.{Held, put_calls, held_calls, all_calls, is_put, IsGot}
+use Rattle.calls_serial.specs.kept.Stages.{StageView, put_calls, held_calls, all_calls, is_put, IsGot}
 use Rattle.calls_serial.specs.kept.Stages.{IsPutAt}
-use Rattle.calls_serial.specs.kept.Stages.{IsStored, IsHeld, IsOver, Follows, gathered}
+use Rattle.calls_serial.specs.kept.Stages.{IsStored, IsHeld, IsOver, Follows, gets_of_link}
 use Rattle.calls_serial.specs.kept.Stages.{IsLinked}
 use Rattle.calls_serial.specs.kept.Stages.{IsBacked, Current, current, current_gets, current_puts}
 use Rattle.calls_serial.specs.kept.Stages.{IsCurrent}
-use Rattle.calls_serial.specs.kept.Stages.{IsPassed, NextEarlier, IsReason, Stands}
+use Rattle.calls_serial.specs.kept.Stages.{IsPassed, NextEarlier, IsReason, AreStages}
 use Rattle.calls_core.proofs.Positions.{each_without}
 use Rattle.calls_serial.proofs.Growing.{each_put, contains_more}
 use Rattle.calls_serial.proofs.Growing.{only_responded, leaves_grow, gathered_none}
@@ -35,12 +35,12 @@ use Rattle.calls_serial.proofs.Growing.{only_responded, leaves_grow, gathered_no
 get_is_no_put : (v : ℕ) → Get ≡ Put v → ⊥
 get_is_no_put v e = cc
 
-same_put : (v w : ℕ) → Put v ≡ Put w → v ≡ w
+pub same_put : (v w : ℕ) → Put v ≡ Put w → v ≡ w
 same_put v w e = cc
 
 -- what holds of the puts of stages and of all gets holds of their calls
-stages_each : (Q : Call → Type 0) (t : ℕ) (hs : List Held)
-    → Each (λ (h : Held). (p : Call) → h.put ≡ Some p → Q p) hs
+stages_each : (Q : Call → Type 0) (t : ℕ) (hs : List StageView)
+    → Each (λ (h : StageView). (p : Call) → h.put ≡ Some p → Q p) hs
     → ((g : Call) → g.op ≡ Get → Q g) → Each (IsHeld t) hs → Each Q (all_calls hs)
 stages_each Q t [] h f k = tt
 stages_each Q t (a ∷ hs) h f k =
@@ -53,18 +53,19 @@ stages_each Q t (a ∷ hs) h f k =
     by None g = tt
     by (Some p) g = (g p refl, tt)
 
-put_within : (front : List Held) (e : Held) (back : List Held) (p : Call) → e.put ≡ Some p
-    → Contains (all_calls (front ++ e ∷ back)) p
+put_within : (prefix : List StageView) (e : StageView) (back : List StageView) (p : Call)
+    → e.put ≡ Some p
+    → Contains (all_calls (prefix ++ e ∷ back)) p
 put_within [] e back p is =
     Contains-append_left (held_calls e) (all_calls back) p
     (subst (λ put. Contains (put_calls put ++ e.gets) p) (sym is) (zero, omega arith, refl))
-put_within (a ∷ front) e back p is =
-    Contains-append_right (held_calls a) (all_calls (front ++ e ∷ back)) p
-    (put_within front e back p is)
+put_within (a ∷ prefix) e back p is =
+    Contains-append_right (held_calls a) (all_calls (prefix ++ e ∷ back)) p
+    (put_within prefix e back p is)
 
-module _ (end t : ℕ) (done : List Call) (os : List PendingCall) (front : List Held) (e : Held)
-    (mid : List Held) (now : Option Current) (ls : List Link)
-    (s : Stands end t done os (front ++ e ∷ mid) now ls)
+module _ (end t : ℕ) (done : List Call) (os : List PendingCall) (prefix : List StageView) (e : StageView)
+    (mid : List StageView) (now : Option Current) (ls : List Link)
+    (s : AreStages end t done os (prefix ++ e ∷ mid) now ls)
     (early : Each (λ (c : Call). c.last < t) done)
     (w at x : ℕ) (r : Reply) (o : PendingCall) (ours : pending_of w os ≡ Some o)
     (get : o.op ≡ Get) (returned : r ≡ Number x) (first : o.first < t) (later : t ≤ at)
@@ -80,39 +81,39 @@ module _ (end t : ℕ) (done : List Call) (os : List PendingCall) (front : List 
   abbrev pub less : List PendingCall
   less = without w os
 
-  rest : List Held
+  rest : List StageView
   rest = mid ++ current now
 
-  all_is : (front ++ e ∷ mid) ++ current now ≡ front ++ e ∷ (mid ++ current now)
-  all_is = append_assoc front (e ∷ mid) (current now)
+  all_is : (prefix ++ e ∷ mid) ++ current now ≡ prefix ++ e ∷ (mid ++ current now)
+  all_is = append_assoc prefix (e ∷ mid) (current now)
 
-  each_all : Each (IsHeld t) (front ++ e ∷ (mid ++ current now))
+  each_all : Each (IsHeld t) (prefix ++ e ∷ (mid ++ current now))
   each_all = subst (Each (IsHeld t)) all_is s.each
 
-  pairs_all : EachPair Follows (front ++ e ∷ (mid ++ current now))
+  pairs_all : EachPair Follows (prefix ++ e ∷ (mid ++ current now))
   pairs_all = subst (EachPair Follows) all_is s.pairs
 
-  backed_all : Each (IsBacked done os ls) (front ++ e ∷ (mid ++ current now))
+  backed_all : Each (IsBacked done os ls) (prefix ++ e ∷ (mid ++ current now))
   backed_all = subst (Each (IsBacked done os ls)) all_is s.backed
 
   e_held : IsHeld t e
-  e_held = (each_right (IsHeld t) front (e ∷ (mid ++ current now)) each_all).0
+  e_held = (each_right (IsHeld t) prefix (e ∷ (mid ++ current now)) each_all).0
 
   e_before : Each (Follows e) (mid ++ current now)
-  e_before = (each_pair_right Follows front (e ∷ (mid ++ current now)) pairs_all).0
+  e_before = (each_pair_right Follows prefix (e ∷ (mid ++ current now)) pairs_all).0
 
-  before_e : Each (λ (a : Held). Follows a e) front
-  before_e = each_weaker (λ (a : Held). Each (Follows a) (e ∷ (mid ++ current now)))
-      (λ (a : Held). Follows a e) (λ a k. k.0) front
-      (each_pair_across Follows front (e ∷ (mid ++ current now)) pairs_all)
+  before_e : Each (λ (a : StageView). Follows a e) prefix
+  before_e = each_weaker (λ (a : StageView). Each (Follows a) (e ∷ (mid ++ current now)))
+      (λ (a : StageView). Follows a e) (λ a k. k.0) prefix
+      (each_pair_across Follows prefix (e ∷ (mid ++ current now)) pairs_all)
 
   -- a put of the stages is among the calls
   known : (p : Call) → e.put ≡ Some p → Contains more p
   known p is = contains_more own p done
-      (Contains-permutation (all_calls (front ++ e ∷ mid) ++ current_gets now) done p
+      (Contains-permutation (all_calls (prefix ++ e ∷ mid) ++ current_gets now) done p
       (IsPermutation-sym _ _ s.once)
-      (Contains-append_left (all_calls (front ++ e ∷ mid)) (current_gets now) p
-      (put_within front e mid p is)))
+      (Contains-append_left (all_calls (prefix ++ e ∷ mid)) (current_gets now) p
+      (put_within prefix e mid p is)))
 
   put_of : (p : Call) → e.put ≡ Some p → IsPutAt e.value e.moment p
   put_of p is = subst (IsStored e.value e.moment) is e_held.put
@@ -120,11 +121,11 @@ module _ (end t : ℕ) (done : List Call) (os : List PendingCall) (front : List 
   over_of : (p : Call) → e.put ≡ Some p → p.last < o.first
   over_of p is = subst (IsOver o.first) is over
 
-  -- WHY THE VALUE THAT WAS THERE IS SHUT
+  -- WHY THE GET CANNOT RETURN THE VALUE AT ITS INVOCATION
 
   pub record IsClosing : Type 0 where
     pub bound : Option ℕ
-    pub binds : Binds more less (gathered because ls) own bound
+    pub binds : Binds more less (gets_of_link because ls) own bound
     pub shut : (p : Call) → e.put ≡ Some p → p.op ≡ Put x → IsShut more bound own p
     pub gone : x ≡ 0 → IsGone more bound own
 
@@ -132,7 +133,7 @@ module _ (end t : ℕ) (done : List Call) (os : List PendingCall) (front : List 
   by_value other none = record {
     bound = None;
     binds = subst (λ cs. Binds more less cs own None)
-        (sym (ap (λ i. gathered i ls) none ∙ gathered_none ls)) refl;
+        (sym (ap (λ i. gets_of_link i ls) none ∙ gathered_none ls)) refl;
     shut = λ p is op. absurd (other (same_put e.value x (sym (put_of p is).op ∙ op)));
     gone = λ z. by_put e.put refl z;
   }
@@ -144,7 +145,7 @@ module _ (end t : ℕ) (done : List Call) (os : List PendingCall) (front : List 
           absurd (other (stored.0 ∙ sym z)))
       by_put (Some p) is z = (p, e.value, known p is, (put_of p is).op, over_of p is)
 
-  by_chain : (n : Held) → Follows e n → n.moment < o.first
+  by_chain : (n : StageView) → Follows e n → n.moment < o.first
       → ((p : Call) → n.put ≡ Some p → p.last < o.first → ⊥) → IsBacked done os ls n
       → because ≡ n.link → IsClosing
   by_chain n f lt not_over backed is = by n.link refl (backed f.put f.is)
@@ -160,7 +161,7 @@ module _ (end t : ℕ) (done : List Call) (os : List PendingCall) (front : List 
           record {
             bound = Some f.put.first;
             binds = subst (λ cs. Binds more less cs own (Some f.put.first))
-                (sym (ap (λ j. gathered j ls) (is ∙ same) ∙ chain.is)) (
+                (sym (ap (λ j. gets_of_link j ls) (is ∙ same) ∙ chain.is)) (
                   refl,
                   (let last = chain.last in
                       let first : chain.get.last < o.first = omega arith in first),
@@ -175,10 +176,10 @@ module _ (end t : ℕ) (done : List Call) (os : List PendingCall) (front : List 
       elim reason [
         | inl v ↦ by_value v.0 v.1
         | inr v ↦ by_next mid passed e_before
-            (each_right (IsBacked done os ls) (front ++ e ∷ [])
+            (each_right (IsBacked done os ls) (prefix ++ e ∷ [])
             (mid ++ current now)
             (subst (Each (IsBacked done os ls))
-            (sym (append_assoc front (e ∷ []) (mid ++ current now))) backed_all)) v.1
+            (sym (append_assoc prefix (e ∷ []) (mid ++ current now))) backed_all)) v.1
       ]
     where
       by_now : (k : Option Current) → IsCurrent end k → Each (Follows e) (current k)
@@ -193,16 +194,16 @@ module _ (end t : ℕ) (done : List Call) (os : List PendingCall) (front : List 
               (let last : end ≡ p.last = ap (λ (z : Call). z.last) is in
               omega arith)
 
-      by_next : (hs : List Held) → Each (IsPassed o.first x) hs
+      by_next : (hs : List StageView) → Each (IsPassed o.first x) hs
           → Each (Follows e) (hs ++ current now) → Each (IsBacked done os ls) (hs ++ current now)
           → NextEarlier o.first (hs ++ current now) because → IsClosing
       by_next [] p f b v = by_now now s.put f b v
       by_next (n ∷ hs) p f b v =
           by_chain n f.0 v.0 (λ q is lt. p.0.over (subst (IsOver o.first) (sym is) lt)) b.0 v.1
 
-  -- WHAT IS LEFT
+  -- WHICH PUT IS LEFT
 
-  overwritten : (h : Held) → Follows h e → (p : Call) → h.put ≡ Some p → IsShut more None own p
+  overwritten : (h : StageView) → Follows h e → (p : Call) → h.put ≡ Some p → IsShut more None own p
   overwritten h f p is = inr (inl (record {
     put = f.put;
     value = e.value;
@@ -215,7 +216,7 @@ module _ (end t : ℕ) (done : List Call) (os : List PendingCall) (front : List 
   -- no completed put is left to the get
   pub left : (f : Option ℕ)
       → ((k : Current) → now ≡ Some k → k.call.op ≡ Put x → f ≡ Some k.call.first)
-      → (b : Option ℕ) × Binds more less (gathered because ls) own b × HasOnly more less b own f
+      → (b : Option ℕ) × Binds more less (gets_of_link because ls) own b × HasOnly more less b own f
   left f pending = (
     closing.bound,
     closing.binds,
@@ -253,22 +254,22 @@ module _ (end t : ℕ) (done : List Call) (os : List PendingCall) (front : List 
       wider b p (inr (inl h)) = inr (inl h)
       wider b p (inr (inr h)) = absurd h
 
-      Puts : (h : Held) → Type 0
+      Puts : (h : StageView) → Type 0
       Puts h = (p : Call) → h.put ≡ Some p → Q p
 
-      puts : Each (λ h. Puts h) (front ++ e ∷ mid)
+      puts : Each (λ h. Puts h) (prefix ++ e ∷ mid)
       puts =
-          each_append (λ h. Puts h) front (e ∷ mid)
-          (each_weaker (λ (a : Held). Follows a e) (λ h. Puts h)
-          (λ h k p is op. inl (wider closing.bound p (overwritten h k p is))) front before_e) (
+          each_append (λ h. Puts h) prefix (e ∷ mid)
+          (each_weaker (λ (a : StageView). Follows a e) (λ h. Puts h)
+          (λ h k p is op. inl (wider closing.bound p (overwritten h k p is))) prefix before_e) (
             (λ p is op. inl (closing.shut p is op)),
             each_both (IsPassed o.first x) (IsHeld t) (λ h. Puts h)
                 (λ h k g p is op. absurd (k.other (other h g p is op))) mid passed
                 (each_left (IsHeld t) mid (current now)
-                (each_right (IsHeld t) front (e ∷ (mid ++ current now)) each_all).1),
+                (each_right (IsHeld t) prefix (e ∷ (mid ++ current now)) each_all).1),
           )
         where
-          other : (h : Held) → IsHeld t h → (p : Call) → h.put ≡ Some p → p.op ≡ Put x
+          other : (h : StageView) → IsHeld t h → (p : Call) → h.put ≡ Some p → p.op ≡ Put x
               → h.value ≡ x
           other h g p is op =
               (let at : IsPutAt h.value h.moment p = subst (IsStored h.value h.moment) is g.put in
@@ -283,11 +284,11 @@ module _ (end t : ℕ) (done : List Call) (os : List PendingCall) (front : List 
       moved : Each (λ p. Q p) done
       moved =
           each_from_all (λ p. Q p) done
-          (All-permutation (λ p. Q p) (all_calls (front ++ e ∷ mid) ++ current_gets now) done
+          (All-permutation (λ p. Q p) (all_calls (prefix ++ e ∷ mid) ++ current_gets now) done
           (IsPermutation-sym _ _ s.once)
-          (all_from_each (λ p. Q p) (all_calls (front ++ e ∷ mid) ++ current_gets now)
-          (each_append (λ p. Q p) (all_calls (front ++ e ∷ mid)) (current_gets now)
-          (stages_each (λ p. Q p) t (front ++ e ∷ mid) puts
+          (all_from_each (λ p. Q p) (all_calls (prefix ++ e ∷ mid) ++ current_gets now)
+          (each_append (λ p. Q p) (all_calls (prefix ++ e ∷ mid)) (current_gets now)
+          (stages_each (λ p. Q p) t (prefix ++ e ∷ mid) puts
           (λ g op other. absurd (get_is_no_put x (sym op ∙ other)))
-          (each_left (IsHeld t) (front ++ e ∷ mid) (current now) s.each))
-          (gets now (each_right (IsHeld t) (front ++ e ∷ mid) (current now) s.each)))))
+          (each_left (IsHeld t) (prefix ++ e ∷ mid) (current now) s.each))
+          (gets now (each_right (IsHeld t) (prefix ++ e ∷ mid) (current now) s.each)))))

@@ -1,4 +1,4 @@
--- What a fault shows leaves no linearization: the put that a get returns the value of.
+-- A history that shows a fault has no linearization: where the value of each get comes from.
 use Rattle.std.proofs.Common.{◌≡◌, ℕ, zero, suc, ◌<◌, ◌≤◌, ◌⊎◌, inl, inr, List, [], ◌∷◌, ◌++◌}
 use Rattle.std.proofs.Common.{length, Option, Some, None, refl, ap, sym, ◌∙◌, arith, subst, get_or}
 use Rattle.std.specs.List.{Contains}
@@ -17,20 +17,21 @@ use Rattle.calls_core.specs.declared.history.PendingCall.{PendingCall}
 use Rattle.calls_core.specs.declared.history.Call.{Call}
 use Rattle.calls_core.specs.Lists.{Each}
 use Rattle.calls_core.specs.Histories.{Takes, completion}
-use Rattle.calls_core.specs.Linearizations.{Gives, after, IsSequentialRun}
+use Rattle.calls_core.specs.Linearizations.{Gives, after, IsLegalHistory}
 use Rattle.calls_core.specs.Linearizations.{answered_one, answered_calls, IsLinearOrder}
 use Rattle.calls_core.specs.Calls.{IsCallOf, Early, AreCallsOf}
 use Rattle.calls_core.proofs.Lists.{each_weaker, each_append, all_from_each}
 use Rattle.calls_core.proofs.Filters.{each_from_all}
 use Rattle.calls_serial.specs.Faults.{IsShut, IsGone, HasOnly, Binds}
 use Rattle.calls_serial.specs.Faults.{Leaves}
+use Rattle.calls_serial.proofs.Shutting.{same_put as put_is}
 
 abbrev pub Access : Call → Type 0
 Access c = Takes (Some Cell) c.op
 
--- A RUN
+-- LEGAL SEQUENTIAL HISTORIES
 
--- the get at index k returns the value at first, and no put is before it
+-- the get at index k returns the initial value m, and no put is before it
 record FromFirst (m v k : ℕ) (cs : List Call) (d : Call) : Type 0 where
   value : v ≡ m
   none : (j w : ℕ) → j < k → (get_or cs j d).op ≡ Put w → ⊥
@@ -44,9 +45,6 @@ record FromPut (v k : ℕ) (cs : List Call) (d : Call) : Type 0 where
 
 number_is : (m n : ℕ) → Number m ≡ Number n → m ≡ n
 number_is m n e = cc
-
-put_is : (m n : ℕ) → Put m ≡ Put n → m ≡ n
-put_is m n e = cc
 
 -- after a call there is its value, or what there was
 after_is : (m : ℕ → ℕ) (op : Op) (r : Reply) → Takes (Some Cell) op
@@ -62,7 +60,7 @@ after_is m (P i) r h = absurd h
 after_is m (V i) r h = absurd h
 after_is m (PBoth i j) r h = absurd h
 
-source : (m : ℕ → ℕ) (v k : ℕ) (cs : List Call) (d : Call) → Each Access cs → IsSequentialRun m cs
+source : (m : ℕ → ℕ) (v k : ℕ) (cs : List Call) (d : Call) → Each Access cs → IsLegalHistory m cs
     → k < length cs → (get_or cs k d).op ≡ Get → (get_or cs k d).reply ≡ Number v
     → FromFirst (m 0) v k cs d ⊎ FromPut v k cs d
 source m v k [] d h run lt op r = absurd (omega arith)
@@ -125,7 +123,7 @@ answered_each Q t answer (o ∷ os) h =
 
 module _ (done : List Call) (pending : List PendingCall) (u t : ℕ)
     (given : AreCallsOf Cell done pending u) (late : u ≤ t) (cs : List Call)
-    (m : ℕ → ℕ) (zero_first : m 0 ≡ 0) (l : IsLinearOrder (IsSequentialRun m) done pending t cs)
+    (m : ℕ → ℕ) (zero_first : m 0 ≡ 0) (l : IsLinearOrder (IsLegalHistory m) done pending t cs)
     (d : Call) where
   here : (c : Call) → Contains done c → Contains cs c
   here c k = Contains-permutation (answered_calls t l.answer pending ++ done) cs c l.each_once
@@ -204,7 +202,7 @@ module _ (done : List Call) (pending : List PendingCall) (u t : ℕ)
   Before None k = Unit {0}
   Before (Some b) k = IsBefore b k
 
-  -- what p was overwritten by, or a put that took effect after p, would be between them
+  -- no fault shuts c out from the put at index i, if no other put is between them in the order
   shut : (c : Call) (b : Option ℕ) (i k v : ℕ) → (at : k < length cs) → get_or cs k d ≡ c → i < k
       → Before b k → ((j w : ℕ) → i < j → j < k → (get_or cs j d).op ≡ Put w → ⊥)
       → IsShut done b c (get_or cs i d) → ⊥
@@ -227,7 +225,7 @@ module _ (done : List Call) (pending : List PendingCall) (u t : ℕ)
       (in_order i before.index (omega arith) within
       (let same = before.at in omega arith)) before.before before.put)
 
-  -- if the value at first is gone, some put is before
+  -- the initial value is not gone, if no put is before c in the order
   gone : (c : Call) (b : Option ℕ) (k : ℕ) → k < length cs → get_or cs k d ≡ c → Before b k
       → IsGone done b c → ((j w : ℕ) → j < k → (get_or cs j d).op ≡ Put w → ⊥) → ⊥
   gone c None k at is before g none =
@@ -316,7 +314,7 @@ no_call = record { worker = 0; object = 0; op = Get; reply = Done; first = 0; la
 
 pub no_order : (done : List Call) (pending : List PendingCall) (u t : ℕ)
     → AreCallsOf Cell done pending u → u ≤ t → (cs : List Call) (m : ℕ → ℕ) → m 0 ≡ 0
-    → IsLinearOrder (IsSequentialRun m) done pending t cs → (gets : List Call)
+    → IsLinearOrder (IsLegalHistory m) done pending t cs → (gets : List Call)
     → Leaves done pending gets None → ⊥
 no_order done pending u t given late cs m z l gets h =
     none_left done pending u t given late cs m z l no_call gets h

@@ -30,7 +30,7 @@ IsEarlier p (Some b) = p.last < b
 abbrev pub IsShut : List Call → Option ℕ → Call → Call → Type 0
 IsShut done b c p = Precedes c p ⊎ (IsOverwritten done p c ⊎ IsEarlier p b)
 
--- a put takes effect before c, so that the value at first is gone
+-- a put takes effect before c, so that the initial value is gone
 abbrev pub IsGone : List Call → Option ℕ → Call → Type 0
 IsGone done None c =
     (put : Call) × (v : ℕ) × Contains done put × (put.op ≡ Put v) × Precedes put c

@@ -1,4 +1,4 @@
--- Laws of cells whose puts do not overlap.
+-- Theorems about cells whose puts do not overlap.
 use Rattle.std.specs.Prelude.{ℕ, ◌≤◌, ◌⊎◌, List, [], ◌∷◌, ◌++◌}
 use Rattle.calls_core.specs.declared.history.Kind.TheVariants.{Cell, Database}
 use Rattle.calls_core.specs.declared.history.Event.{Event}

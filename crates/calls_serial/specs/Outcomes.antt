@@ -1,4 +1,4 @@
--- What is decided of a cell.
+-- What the outcome of a decision about a cell says.
 use Rattle.std.specs.Prelude.{◌≡◌, ℕ, ◌<◌, ◌≤◌, List, length, reverse}
 use Rattle.std.specs.List.{Contains}
 use Rattle.calls_core.specs.declared.history.Kind.{Kind}

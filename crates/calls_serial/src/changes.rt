@@ -1,13 +1,13 @@
-//! How stages change.
+//! The changes of stages.
 ghost use Rattle.std.specs.Prelude.{◌≡◌, ◌<◌, ◌++◌, [], ◌∷◌, length, IfOk};
-ghost use Rattle.calls_serial.specs.kept.Stages.{held, helds, opened, with_response};
+ghost use Rattle.calls_serial.specs.kept.Stages.{stage_view, helds, open_stage, with_response};
 ghost use Rattle.calls_serial.specs.kept.Passing.{AddsGet, Responds, IsLate, AddsLate};
 
 use crate::stage::{Link, Stage};
 use calls_core::{Call, PendingCall, Reply};
 use std::alloc::{AllocError, Global};
 
-/// Begins the stage of a put that was invoked. Its response counts as one at the end.
+/// Adds the stage of a put that was invoked, with a response at `end`.
 pub fn open_stage(
     alloc: Global,
     stages: &mut Vec<Stage>,
@@ -16,7 +16,7 @@ pub fn open_stage(
     end: usize,
 ) -> Result<(), AllocError>
     ensures { IfOk result (λ _. helds stages.new.items ≡ helds stages.old.items
-        ++ opened end value call ∷ []) }
+        ++ open_stage end value call ∷ []) }
 {
     let put = Call {
         worker: call.worker,
@@ -36,7 +36,7 @@ pub fn open_stage(
     Ok(())
 }
 
-/// Puts a get after those that return the value at index `i`.
+/// Adds a get that returns the value of the stage at index `i`.
 pub fn add_get(stages: &mut Vec<Stage>, i: usize, get: Call) -> Result<(), AllocError>
     requires { i < length stages.old.items }
     ensures { IfOk result (λ _. AddsGet stages.old.items stages.new.items i get) }
@@ -45,10 +45,12 @@ pub fn add_get(stages: &mut Vec<Stage>, i: usize, get: Call) -> Result<(), Alloc
     Ok(())
 }
 
-/// Puts a get after those that return the value of a pending put, if there are `n` links. Says
-/// whether it is the first of them, by which the put took effect.
+/// Adds a get that returns the value of a pending put, if there are `n` links.
+///
+/// Returns whether it is the first such get: it shows that the put took effect by its response.
 fn add_to_pending(stage: &mut Stage, get: Call, n: usize) -> Result<bool, AllocError>
-    ensures { IfOk result (λ first. IsLate (held stage.old) (held stage.new) get n first) }
+    ensures { IfOk result
+        (λ first. IsLate (stage_view stage.old) (stage_view stage.new) get n first) }
 {
     stage.gets.push(get)?;
     if stage.link.is_some() {
@@ -59,7 +61,7 @@ fn add_to_pending(stage: &mut Stage, get: Call, n: usize) -> Result<bool, AllocE
     Ok(true)
 }
 
-/// Adds to the last stage in the same way, with the link that is needed.
+/// Adds a get to the last stage, of a pending put, and its link if it is the first such get.
 pub fn add_late(
     stages: &mut Vec<Stage>,
     links: &mut Vec<Link>,
@@ -77,9 +79,9 @@ pub fn add_late(
     Ok(())
 }
 
-/// Notes the response of a pending put.
+/// Completes the pending put of a stage.
 fn complete(stage: &mut Stage, put: Call)
-    ensures { held stage.new ≡ with_response put (held stage.old) }
+    ensures { stage_view stage.new ≡ with_response put (stage_view stage.old) }
 {
     stage.put = Some(put);
     if stage.link.is_none() {
@@ -87,7 +89,7 @@ fn complete(stage: &mut Stage, put: Call)
     }
 }
 
-/// Does the same for the last stage.
+/// Completes the pending put of the last stage.
 pub fn end_put(stages: &mut Vec<Stage>, put: Call)
     ensures { Responds stages.old.items stages.new.items put }
 {

@@ -1,4 +1,4 @@
-//! Histories of the calls of one cell, or database, whose puts do not overlap.
+//! Decides whether the calls of one cell or database, whose puts don't overlap, are linearizable.
 #![tactic(auto)]
 
 mod changes;

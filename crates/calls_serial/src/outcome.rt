@@ -1,17 +1,17 @@
-//! What is said of a history of a cell.
+//! The outcome of a decision about a cell.
 
 use calls_core::{Call, PendingCall, PlacedCalls};
 
 /// Why the calls have no linearization.
 #[derive(Debug, Drop)]
 pub struct Fault {
-    /// Gets, the latest first. Each but the latest can return its value from only one put. So that
-    /// put took effect by its response, and the next get, which was invoked later, cannot return
-    /// the value before it. For the latest get no put is left.
+    /// Gets, the latest first. Each but the latest can return the value of only one put. So that
+    /// put took effect by the get's response, and the next get, which was invoked later, cannot
+    /// return the value before it. The latest get can return the value of no put.
     pub gets: Vec<Call>,
 }
 
-/// What is decided of a history.
+/// Whether a history has a linearization.
 #[derive(Debug, Drop)]
 pub enum Outcome {
     /// The calls in the order of a linearization.

@@ -2,7 +2,8 @@
 ghost use Rattle.std.specs.Prelude.{◌≡◌, ◌≤◌, ◌++◌, [], ◌∷◌, reverse, IfOk};
 ghost use Rattle.calls_core.specs.declared.history.Kind.TheVariants.{Cell};
 ghost use Rattle.calls_core.specs.Histories.{IsHistoryOf, clock};
-ghost use Rattle.calls_serial.specs.kept.Stages.{held, helds, held_calls, all_calls, first_stage};
+ghost use Rattle.calls_serial.specs.kept.Stages.{stage_view, helds, held_calls, all_calls};
+ghost use Rattle.calls_serial.specs.kept.Stages.{first_stage};
 ghost use Rattle.calls_serial.specs.kept.Passing.{Invokes, TakesIn, outcome_of};
 ghost use Rattle.calls_serial.specs.Outcomes.{IsOutcome};
 
@@ -14,7 +15,7 @@ use crate::stage::{Pass, Stage, Stop};
 use calls_core::{Action, Call, Event, Part, PendingCall, PlacedCalls};
 use std::alloc::{AllocError, Global};
 
-/// Takes in an invocation, or gives two puts that overlap.
+/// Adds an invocation, or returns two puts that overlap.
 fn invoke(
     alloc: Global,
     pass: &mut Pass,
@@ -35,7 +36,7 @@ fn invoke(
     Ok(None)
 }
 
-/// Takes in an event.
+/// Adds an event, or returns why the pass ends with it.
 fn take_in(
     alloc: Global,
     pass: &mut Pass,
@@ -75,7 +76,7 @@ fn take_in(
     }
 }
 
-/// Makes the pass of no events, with the value at first.
+/// Returns the pass over no events, which has the stage of the initial value.
 fn begin(alloc: Global) -> Result<Pass, AllocError>
     ensures pending { IfOk result (λ pass. pass.pending.items ≡ []) }
     ensures stages { IfOk result (λ pass. helds pass.stages.items ≡ first_stage ∷ []) }
@@ -96,9 +97,9 @@ fn begin(alloc: Global) -> Result<Pass, AllocError>
     })
 }
 
-/// Puts the calls of a stage after others.
+/// Appends the calls of a stage: its put, then its gets.
 fn add_calls(calls: &mut PlacedCalls, stage: &Stage) -> Result<(), AllocError>
-    ensures { IfOk result (λ _. calls.new ≡ calls.old ++ held_calls (held stage.now)) }
+    ensures { IfOk result (λ _. calls.new ≡ calls.old ++ held_calls (stage_view stage.now)) }
 {
     if let Some(put) = stage.put {
         calls.push(put)?;
@@ -109,7 +110,7 @@ fn add_calls(calls: &mut PlacedCalls, stage: &Stage) -> Result<(), AllocError>
     Ok(())
 }
 
-/// Gives the calls of the stages in their order.
+/// Returns the calls of the stages in their order.
 fn order(alloc: Global, stages: &[Stage]) -> Result<PlacedCalls, AllocError>
     ensures { IfOk result (λ v. v ≡ all_calls (helds stages.now)) }
 {
@@ -120,7 +121,7 @@ fn order(alloc: Global, stages: &[Stage]) -> Result<PlacedCalls, AllocError>
     Ok(calls)
 }
 
-/// Gives what a stop at the event with index `i` decides.
+/// Returns the outcome of a stop at the event with index `i`.
 fn outcome_of(i: usize, stop: Stop) -> Outcome
     ensures { result ≡ outcome_of i stop }
 {
@@ -130,8 +131,10 @@ fn outcome_of(i: usize, stop: Stop) -> Outcome
     }
 }
 
-/// Says whether a history of a cell has a linearization: gives one, or why there is none. If two
-/// of its puts overlap, it may give these instead.
+/// Decides whether a history of a cell has a linearization.
+///
+/// It returns one, or why there is none. If two of the puts overlap, it may return these instead.
+/// In a linearization a pending put has its response at `end`.
 pub fn decide(alloc: Global, events: &Part<'_, '_>, end: usize) -> Result<Outcome, AllocError>
     requires history { IsHistoryOf Cell (reverse events.now) }
     requires late { clock (reverse events.now) ≤ end }

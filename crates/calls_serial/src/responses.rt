@@ -1,23 +1,23 @@
-//! Responses.
+//! The responses of gets and puts.
 ghost use Rattle.std.specs.Prelude.{◌≡◌, ◌∷◌, reverse, IfOk};
-ghost use Rattle.calls_serial.specs.kept.Stages.{pending_puts, gathered};
+ghost use Rattle.calls_serial.specs.kept.Stages.{pending_puts, gets_of_link};
 ghost use Rattle.calls_serial.specs.kept.Passing.{first_of, completed_of, EndsGet, EndsCall};
 
 use crate::changes::{add_get, add_late, end_put};
 use crate::outcome::Fault;
-use crate::search::{Found, pending_put, search};
+use crate::search::{PutChoice, pending_put, search};
 use crate::stage::{Link, Pass};
 use calls_core::{Call, PendingCall, Reply};
 use std::alloc::{AllocError, Global};
 
-/// Gives a get with those by which it can return no value, the latest first.
+/// Returns a get, and the gets of the links by which it can return no value, the latest first.
 fn chain(
     alloc: Global,
     links: &[Link],
     get: Call,
     because: Option<usize>,
 ) -> Result<Vec<Call>, AllocError>
-    ensures { IfOk result (λ v. v.items ≡ get ∷ gathered because (reverse links.now)) }
+    ensures { IfOk result (λ v. v.items ≡ get ∷ gets_of_link because (reverse links.now)) }
 {
     let mut gets = Vec::new(alloc);
     gets.push(get)?;
@@ -33,8 +33,8 @@ fn chain(
     Ok(gets)
 }
 
-/// Gives how many of `n` stages have a completed put, or none.
-fn completed(pending: &[PendingCall], n: usize) -> usize
+/// Returns how many of `n` stages have a completed put, or the initial value.
+fn completed_stages(pending: &[PendingCall], n: usize) -> usize
     ensures { result ≡ completed_of (first_of (pending_puts pending.now)) n }
 {
     match pending_put(pending) {
@@ -43,7 +43,7 @@ fn completed(pending: &[PendingCall], n: usize) -> usize
     }
 }
 
-/// Takes in the response of a get.
+/// Adds the response of a get, or returns the fault that it shows.
 fn end_get(
     alloc: Global,
     pass: &mut Pass,
@@ -53,13 +53,13 @@ fn end_get(
     ensures { IfOk result (EndsGet pass.old pass.new get value) }
 {
     let n = pass.stages.len();
-    let m = completed(&pass.pending, n);
+    let m = completed_stages(&pass.pending, n);
     match search(&pass.stages, m, get.first, value) {
-        Found::At(i) => {
+        PutChoice::At(i) => {
             add_get(&mut pass.stages, i, get)?;
             Ok(None)
         }
-        Found::Shut(because) => {
+        PutChoice::Shut(because) => {
             if m < n && pass.stages[m].value == value {
                 add_late(&mut pass.stages, &mut pass.links, Link { get, because })?;
                 return Ok(None);
@@ -70,7 +70,7 @@ fn end_get(
     }
 }
 
-/// Takes in the response of a call that was taken from the pending ones.
+/// Adds the response of a call that was removed from the pending ones, or returns its fault.
 pub fn respond(alloc: Global, pass: &mut Pass, call: Call) -> Result<Option<Fault>, AllocError>
     ensures { IfOk result (EndsCall pass.old pass.new call) }
 {

@@ -1,4 +1,4 @@
-//! Searches in what the pass keeps.
+//! Searches in the state of the pass.
 ghost use Rattle.std.specs.Prelude.{◌≡◌, ◌<◌, ◌≤◌, ◌↔◌, length, take, MatchOption, IsTrue, false};
 ghost use Rattle.calls_core.specs.Histories.{pending_of};
 ghost use Rattle.calls_serial.specs.kept.Stages.{helds, is_put, pending_puts, Begins, IsOver};
@@ -8,23 +8,23 @@ ghost use Rattle.calls_serial.specs.kept.Passing.{first_of, IsCallAt};
 use crate::stage::Stage;
 use calls_core::{Call, Op, PendingCall};
 
-/// What the completed puts leave to a get.
+/// Which completed put a get may return the value of.
 #[derive(Clone, Copy, Debug)]
-pub enum Found {
+pub enum PutChoice {
     /// The get may return the value of the stage at this index.
     At(usize),
-    /// It can return no value of a completed put. The link shows it, if one is needed.
+    /// The get can return the value of no completed put. The link shows it, if one is needed.
     Shut(Option<usize>),
 }
 
-/// Says whether an operation is a put.
+/// Returns whether an operation is a put.
 fn is_put(op: Op) -> bool
     ensures { result ≡ is_put op }
 {
     matches!(op, Op::Put(_))
 }
 
-/// Gives the value that a put stores.
+/// Returns the value that a put stores, or `None` for another operation.
 pub fn put_value(op: Op) -> Option<usize>
     ensures { MatchOption result (is_put op ≡ false) (λ v. op ≡ Op.Put v) }
 {
@@ -34,7 +34,7 @@ pub fn put_value(op: Op) -> Option<usize>
     }
 }
 
-/// Gives the first put among pending calls.
+/// Returns the first put among pending calls.
 pub fn pending_put(pending: &[PendingCall]) -> Option<PendingCall>
     ensures { result ≡ first_of (pending_puts pending.now) }
 {
@@ -46,7 +46,7 @@ pub fn pending_put(pending: &[PendingCall]) -> Option<PendingCall>
     None
 }
 
-/// Gives the index of a worker's pending call.
+/// Returns the index of a worker's pending call.
 pub fn find(pending: &[PendingCall], worker: usize) -> Option<usize>
     ensures { MatchOption result (pending_of worker pending.now ≡ None)
         (IsCallAt pending.now worker) }
@@ -59,7 +59,8 @@ pub fn find(pending: &[PendingCall], worker: usize) -> Option<usize>
     None
 }
 
-/// Says whether a put was completed before a position. The value at first was there before all.
+/// Returns whether a put was completed before a position. The initial value has no put and counts
+/// as completed.
 fn is_over(put: Option<Call>, at: usize) -> bool
     ensures { IsTrue result ↔ IsOver at put }
 {
@@ -69,24 +70,24 @@ fn is_over(put: Option<Call>, at: usize) -> bool
     }
 }
 
-/// Says whether a get that was invoked at `first` may return the value that was there then, which
-/// is the one at index `i`.
-fn early(stages: &[Stage], i: usize, first: usize, value: usize) -> Found
+/// Returns whether a get that was invoked at `first` may return the value of stage `i`, the last
+/// stage whose put was completed by then.
+fn early(stages: &[Stage], i: usize, first: usize, value: usize) -> PutChoice
     requires { i < length stages.now }
     ensures within { IsWithin (length stages.now) result }
     ensures found { IsEarly (helds stages.now) first value i result }
 {
     if stages[i].value != value {
-        return Found::Shut(None);
+        return PutChoice::Shut(None);
     }
     if i + 1 < stages.len() && stages[i + 1].moment < first {
-        return Found::Shut(stages[i + 1].link);
+        return PutChoice::Shut(stages[i + 1].link);
     }
-    Found::At(i)
+    PutChoice::At(i)
 }
 
-/// Seeks the value that a get invoked at `first` returns, among the first `completed` stages.
-pub fn search(stages: &[Stage], completed: usize, first: usize, value: usize) -> Found
+/// Finds a put whose value a get invoked at `first` may return, among the first `completed` stages.
+pub fn search(stages: &[Stage], completed: usize, first: usize, value: usize) -> PutChoice
     requires { completed ≤ length stages.now }
     ensures within { IsWithin (length stages.now) result }
     ensures found { Begins (take completed (helds stages.now))
@@ -99,8 +100,8 @@ pub fn search(stages: &[Stage], completed: usize, first: usize, value: usize) ->
             return early(stages, i, first, value);
         }
         if stages[i].value == value {
-            return Found::At(i);
+            return PutChoice::At(i);
         }
     }
-    Found::Shut(None)
+    PutChoice::Shut(None)
 }

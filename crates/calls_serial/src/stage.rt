@@ -1,4 +1,4 @@
-//! What the pass keeps of the calls so far.
+//! The state of the pass after the events so far.
 
 use crate::outcome::Fault;
 use calls_core::{Call, PendingCall};
@@ -6,13 +6,13 @@ use calls_core::{Call, PendingCall};
 /// A value of the cell, from its put to the next one.
 #[derive(Debug, Drop)]
 pub struct Stage {
-    /// The put that stored the value. The value at first has none.
+    /// The put that stored the value; the initial value has none.
     pub put: Option<Call>,
     /// The value.
     pub value: usize,
     /// The latest moment at which the put can take effect.
     pub moment: usize,
-    /// The link that shows it, if it is earlier than the put's response.
+    /// The link that shows this moment, if it is earlier than the put's response.
     pub link: Option<usize>,
     /// The gets that return the value, in the order of their responses.
     pub gets: Vec<Call>,
@@ -23,17 +23,17 @@ pub struct Stage {
 pub struct Link {
     /// The get.
     pub get: Call,
-    /// The link that shows that it cannot return the value before the put that was pending at its
-    /// invocation, if that matters.
+    /// The link that shows that a put pending at the get's invocation took effect before it, if one
+    /// is needed.
     pub because: Option<usize>,
 }
 
-/// What the pass keeps.
+/// The state of the pass.
 #[derive(Debug, Drop)]
 pub struct Pass {
     /// The pending calls.
     pub pending: Vec<PendingCall>,
-    /// The values in the order of their puts, of which the last may be pending.
+    /// The values in the order of their puts; the last put may be pending.
     pub stages: Vec<Stage>,
     /// The links, in the order of the responses of their gets.
     pub links: Vec<Link>,

@@ -30,7 +30,7 @@ here_not k i m p ps is =
     ap (λ b. cond b (step m i p ∷ steps_of k i (after m p.call.op p.call.reply) ps)
     (steps_of k i m ps)) is
 
--- a call of the object is a step more
+-- a call of the object adds a step
 step_more : (k i : ℕ) (m : ℕ → ℕ) (order : List Placed) (n : ℕ) (d : Placed)
     (done all : List Step) → n < length order → ((get_or order n d).call.object == k) ≡ true
     → done ++ steps_of k i m (drop n order) ≡ all
@@ -43,7 +43,7 @@ step_more k i m order n d done all lt is so_far =
     ∙ ap (λ zs. done ++ steps_of k i m zs) (sym (from_here order n d lt))
     ∙ so_far
 
--- a call of another object is none
+-- a call of another object adds none
 step_same : (k i : ℕ) (m : ℕ → ℕ) (order : List Placed) (n : ℕ) (d : Placed)
     (done all : List Step) → n < length order → ((get_or order n d).call.object == k) ≡ false
     → done ++ steps_of k i m (drop n order) ≡ all
@@ -53,8 +53,8 @@ step_same k i m order n d done all lt is so_far =
     ∙ ap (λ zs. done ++ steps_of k i m zs) (sym (from_here order n d lt))
     ∙ so_far
 
--- the numbers of the object have this value at the index, and the steps so far and those that come
--- are all
+-- the object's number at the index has this value, and the steps so far and those of the rest of
+-- the order are all steps
 abbrev pub SoFar : ℕ → ℕ → List Placed → ℕ → List Step → ℕ → List Step → Type 0
 SoFar k i order n steps value all =
     (m : ℕ → ℕ) × (m i ≡ value) × (steps ++ steps_of k i m (drop n order) ≡ all)

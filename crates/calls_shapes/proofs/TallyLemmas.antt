@@ -2,18 +2,10 @@
 use Rattle.std.proofs.Common.{◌≡◌, ℕ, ◌+◌, ◌<◌, List, [], ◌∷◌, ◌++◌, length, Some, slice_get}
 use Rattle.calls_shapes.specs.declared.tallies.Tally.{Tally}
 use Rattle.std.proofs.Common.{zero, suc, refl, arith, ap, ◌∙◌, subst, below_more}
+use Rattle.ec_core.proofs.shared.Joining.{get_front as get_left}
+use Rattle.ec_heading.proofs.shared.AddedObjects.{at_end as get_last}
 
-get_left : {X : Type 0} (xs ys : List X) (i : ℕ) → i < length xs
-    → slice_get (xs ++ ys) i ≡ slice_get xs i
-get_left [] ys i lt = absurd (omega arith)
-get_left (x ∷ xs) ys zero lt = refl
-get_left (x ∷ xs) ys (suc i) lt = get_left xs ys i (omega arith)
-
-get_last : {X : Type 0} (xs : List X) (x : X) → slice_get (xs ++ x ∷ []) (length xs) ≡ Some x
-get_last [] x = refl
-get_last (y ∷ xs) x = get_last xs x
-
--- each element is what it should be, and so is one more
+-- if each element is what it should be, so is each one after one more is added
 each_more : {X : Type 0} (P : ℕ → X) (xs : List X) (n : ℕ) (x : X) → length xs ≡ n
     → ((p : ℕ) → p < n → slice_get xs p ≡ Some (P p)) → x ≡ P n
     → (p : ℕ) → p < n + 1 → slice_get (xs ++ x ∷ []) p ≡ Some (P p)
@@ -28,7 +20,7 @@ tally_is t u e f =
     ap (λ n. let x : Tally = record { called = n; returned = t.returned } in x) e
     ∙ ap (λ n. let x : Tally = record { called = u.called; returned = n } in x) f
 
--- each tally is that of its moment, and so is one more
+-- if each tally is that of its moment, so is each one after one more is added
 pub tallies_more : (P : ℕ → Tally) (old new : List Tally) (n : ℕ) (t : Tally)
     → new ≡ old ++ t ∷ [] → length old ≡ n
     → ((p : ℕ) → p < n → slice_get old p ≡ Some (P p)) → t.called ≡ (P n).called

@@ -1,4 +1,4 @@
--- What shows a fault, as shapes.
+-- The evidence of a fault: the calls that it names, and the courses of its stairs.
 use Rattle.std.specs.Prelude.{ℕ, Bool, true, false, List, [], ◌∷◌, if◌then◌else◌}
 use Rattle.calls_core.specs.declared.history.Kind.{Kind}
 use Rattle.calls_core.specs.declared.history.Call.{Call}
@@ -17,9 +17,10 @@ use Rattle.calls_distinct.specs.declared.cell.Fault as distincts
 use Rattle.calls_distinct.specs.declared.cell.Fault.TheVariants as distinct
 use Rattle.calls_verdict.specs.declared.verdict.Fault.{Fault}
 use Rattle.calls_verdict.specs.declared.verdict.Fault.TheVariants as faults
-use Rattle.calls_shapes.specs.declared.tallies.Counted.TheVariants.{Advances, Taking, Adding}
+use Rattle.calls_shapes.specs.declared.tallies.CountFilter.TheVariants.{Advances, Taking, Adding}
 use Rattle.calls_shapes.specs.declared.stairs.Portion.TheVariants.{Called, Returned, Between}
-use Rattle.calls_shapes.specs.declared.stairs.Course.{Course}
+use Rattle.calls_shapes.specs.declared.stairs.StairSpan.{StairSpan}
+use Rattle.calls_report.specs.Certificates.{is_timeout}
 
 -- THE CALLS THAT A FAULT NAMES
 
@@ -51,9 +52,10 @@ faulty_calls (faults.Value f) = stored_calls f
 
 -- THE COURSES OF ITS STAIRS
 
--- the advances of the eventcount k, of which start is the count at first, up to the response of c
-abbrev pub few_course : ℕ → ℕ → Call → Course
-few_course start k c = record {
+-- the advances of the eventcount k, whose initial count is start, that were invoked before the
+-- response of c
+abbrev pub few_span : ℕ → ℕ → Call → StairSpan
+few_span start k c = record {
   counted = Advances k;
   portion = Called;
   from = 0;
@@ -62,8 +64,8 @@ few_course start k c = record {
 }
 
 -- those that had returned before the invocation of c
-abbrev pub many_course : ℕ → ℕ → Call → Course
-many_course start k c = record {
+abbrev pub many_span : ℕ → ℕ → Call → StairSpan
+many_span start k c = record {
   counted = Advances k;
   portion = Between 0 c.first;
   from = 0;
@@ -71,14 +73,10 @@ many_course start k c = record {
   to = c.first;
 }
 
-abbrev pub is_timeout : Reply → Bool
-is_timeout Timeout = true
-is_timeout _ = false
-
 -- those between s and c, from what s says on; an await that gave up says nothing of a least count
-abbrev pub since_course : ℕ → ℕ → Call → Call → Course
-since_course start k c s =
-    if is_timeout s.reply then many_course start k c
+abbrev pub since_span : ℕ → ℕ → Call → Call → StairSpan
+since_span start k c s =
+    if is_timeout s.reply then many_span start k c
     else record {
       counted = Advances k;
       portion = Between s.last c.first;
@@ -87,15 +85,15 @@ since_course start k c s =
       to = c.first;
     }
 
-abbrev pub count_courses : ℕ → ℕ → counts.Fault → List Course
-count_courses start k (count.Below c) = []
-count_courses start k (count.Few c) = few_course start k c ∷ []
-count_courses start k (count.Many c) = many_course start k c ∷ []
-count_courses start k (count.Since c s) = since_course start k c s ∷ []
+abbrev pub count_spans : ℕ → ℕ → counts.Fault → List StairSpan
+count_spans start k (count.Below c) = []
+count_spans start k (count.Few c) = few_span start k c ∷ []
+count_spans start k (count.Many c) = many_span start k c ∷ []
+count_spans start k (count.Since c s) = since_span start k c s ∷ []
 
--- the units that were given, and those that were taken
-abbrev pub unit_courses : ℕ → units.Fault → List Course
-unit_courses n f =
+-- the units that were added, and those that were taken
+abbrev pub unit_spans : ℕ → units.Fault → List StairSpan
+unit_spans n f =
     record {
       counted = Adding f.index;
       portion = Called;
@@ -110,8 +108,8 @@ unit_courses n f =
       to = f.call.last;
     } ∷ []
 
-abbrev pub courses_of : List Kind → ℕ → Fault → List Course
-courses_of kinds k (faults.Count f) = count_courses (start kinds k 0) k f
-courses_of kinds k (faults.Units f) = unit_courses (start kinds k f.index) f
-courses_of kinds k (faults.Ticket f) = []
-courses_of kinds k (faults.Value f) = []
+abbrev pub spans_of : List Kind → ℕ → Fault → List StairSpan
+spans_of kinds k (faults.Count f) = count_spans (start kinds k 0) k f
+spans_of kinds k (faults.Units f) = unit_spans (start kinds k f.index) f
+spans_of kinds k (faults.Ticket f) = []
+spans_of kinds k (faults.Value f) = []

@@ -1,12 +1,12 @@
--- The numbers of an object along an order of the calls.
+-- The numbers of an object along a linearization.
 use Rattle.std.specs.Prelude.{ℕ, ◌==◌, List, [], ◌∷◌, if◌then◌else◌}
 use Rattle.calls_core.specs.declared.history.Call.{Call}
 use Rattle.calls_core.specs.declared.history.Placed.{Placed}
 use Rattle.calls_core.specs.Linearizations.{after}
 use Rattle.calls_shapes.specs.declared.steps.Step.{Step}
 
--- number i of object k after each call of it, by the sequential specification: m are its numbers
--- before these calls
+-- number i of object k after each call of it, by the sequential specification; m are the object's
+-- numbers before these calls
 abbrev pub steps_of : ℕ → ℕ → (ℕ → ℕ) → List Placed → List Step
 steps_of k i m [] = []
 steps_of k i m (p ∷ ps) =

@@ -1,4 +1,4 @@
--- How many calls had been called and had returned, at each moment.
+-- How many calls had been invoked and had returned, at each moment.
 use Rattle.std.specs.Prelude.{ℕ, ◌==◌, Bool, true, false, ◌&&◌, List, count_by, reverse, take}
 use Rattle.calls_core.specs.declared.history.Op.{Op}
 use Rattle.calls_core.specs.declared.history.Op.TheVariants.{Ticket}
@@ -11,9 +11,9 @@ use Rattle.calls_core.specs.declared.history.Call.{Call}
 use Rattle.calls_core.specs.Histories.{completed_calls}
 use Rattle.calls_counts.specs.Faults.{is_advance}
 use Rattle.calls_semaphores.specs.Banks.{takes, adds}
-use Rattle.calls_shapes.specs.declared.tallies.Counted.{Counted}
-use Rattle.calls_shapes.specs.declared.tallies.Counted.TheVariants.{Advances, Tickets}
-use Rattle.calls_shapes.specs.declared.tallies.Counted.TheVariants.{Taking, Adding}
+use Rattle.calls_shapes.specs.declared.tallies.CountFilter.{CountFilter}
+use Rattle.calls_shapes.specs.declared.tallies.CountFilter.TheVariants.{Advances, Tickets}
+use Rattle.calls_shapes.specs.declared.tallies.CountFilter.TheVariants.{Taking, Adding}
 use Rattle.calls_shapes.specs.declared.tallies.Tally.{Tally}
 
 abbrev pub is_ticket : Op → Bool
@@ -21,7 +21,7 @@ is_ticket Ticket = true
 is_ticket _ = false
 
 -- whether calls of object j with this operation are counted
-abbrev pub counts : Counted → ℕ → Op → Bool
+abbrev pub counts : CountFilter → ℕ → Op → Bool
 counts (Advances k) j op = (j == k) && is_advance op
 counts (Tickets k) j op = (j == k) && is_ticket op
 counts (Taking i) j op = takes i op
@@ -32,20 +32,20 @@ has_effect Timeout = false
 has_effect _ = true
 
 -- whether a completed call is counted
-abbrev pub is_counted : Counted → Call → Bool
+abbrev pub is_counted : CountFilter → Call → Bool
 is_counted c call = counts c call.object call.op && has_effect call.reply
 
-abbrev pub invokes_counted : Counted → Action → Bool
+abbrev pub invokes_counted : CountFilter → Action → Bool
 invokes_counted c (Invoke k op) = counts c k op
 invokes_counted c (Respond r) = false
 
 -- whether an event is the invocation of a call that is counted
-abbrev pub calls_counted : Counted → Event → Bool
-calls_counted c x = invokes_counted c x.action
+abbrev pub invokes_counted_call : CountFilter → Event → Bool
+invokes_counted_call c x = invokes_counted c x.action
 
--- how many had been called, and how many had returned, after the first p events
-abbrev pub tally_at : Counted → List Event → ℕ → Tally
+-- how many counted calls had been invoked, and how many had returned, after the first p events
+abbrev pub tally_at : CountFilter → List Event → ℕ → Tally
 tally_at c events p = record {
-  called = count_by (calls_counted c) (take p events);
+  called = count_by (invokes_counted_call c) (take p events);
   returned = count_by (is_counted c) (completed_calls (reverse (take p events)));
 }

@@ -3,7 +3,7 @@ ghost use Rattle.std.specs.Prelude.{IfOk};
 ghost use Rattle.calls_shapes.specs.Bars.{AreBars};
 
 use calls_core::{Call, Event, PendingCall};
-use calls_report::completed;
+use calls_report::completed_call;
 use calls_verdict::follow;
 use std::alloc::{AllocError, Global};
 
@@ -25,7 +25,7 @@ pub fn bars_of(alloc: Global, events: &[Event]) -> Result<Bars, AllocError>
         pending: Vec::new(alloc),
     };
     for event in events {
-        if let Some(call) = completed(&bars.pending, event) {
+        if let Some(call) = completed_call(&bars.pending, event) {
             bars.completed.push(call)?;
         }
         let _object = follow(&mut bars.pending, event)?;

@@ -1,18 +1,18 @@
-//! What shows a fault, as shapes: the calls that it names, and the courses of its stairs.
+//! The evidence of a fault: the calls that it names, and the courses of its stairs.
 ghost use Rattle.std.specs.Prelude.{◌≡◌, IfOk};
 ghost use Rattle.calls_counts.specs.Faults.{least};
-ghost use Rattle.calls_shapes.specs.Evidence.{faulty_calls, courses_of};
-ghost use Rattle.calls_shapes.specs.Evidence.{count_courses, unit_courses};
-ghost use Rattle.calls_shapes.specs.Evidence.{few_course, many_course, since_course};
+ghost use Rattle.calls_shapes.specs.Evidence.{faulty_calls, spans_of};
+ghost use Rattle.calls_shapes.specs.Evidence.{count_spans, unit_spans};
+ghost use Rattle.calls_shapes.specs.Evidence.{few_span, many_span, since_span};
 
-use crate::stairs::{Course, Portion};
+use crate::stairs::{Portion, StairSpan};
 use crate::steps::{Track, start_of};
-use crate::tallies::Counted;
+use crate::tallies::CountFilter;
 use calls_core::{Call, Kind, Op, Reply};
 use calls_verdict::Fault;
 use std::alloc::{AllocError, Global};
 
-/// Returns the least count at which an eventcount gives a reply.
+/// Returns the least count of an eventcount with which a call can have a reply.
 fn least(op: Op, reply: Reply) -> usize
     ensures { result ≡ least op reply }
 {
@@ -25,7 +25,7 @@ fn least(op: Op, reply: Reply) -> usize
 }
 
 /// Returns a list of these calls.
-fn listed(alloc: Global, calls: &[Call]) -> Result<Vec<Call>, AllocError>
+fn list_calls(alloc: Global, calls: &[Call]) -> Result<Vec<Call>, AllocError>
     ensures { IfOk result (λ v. v.items ≡ calls.now) }
 {
     calls.iter().copied().collect(alloc)
@@ -37,34 +37,34 @@ pub fn faulty_calls(alloc: Global, fault: &Fault) -> Result<Vec<Call>, AllocErro
 {
     match fault {
         Fault::Count(fault) => match *fault {
-            calls_counts::Fault::Below(c) => listed(alloc, &[c]),
-            calls_counts::Fault::Few(c) => listed(alloc, &[c]),
-            calls_counts::Fault::Many(c) => listed(alloc, &[c]),
-            calls_counts::Fault::Since(c, earlier) => listed(alloc, &[c, earlier]),
+            calls_counts::Fault::Below(c) => list_calls(alloc, &[c]),
+            calls_counts::Fault::Few(c) => list_calls(alloc, &[c]),
+            calls_counts::Fault::Many(c) => list_calls(alloc, &[c]),
+            calls_counts::Fault::Since(c, earlier) => list_calls(alloc, &[c, earlier]),
         },
         Fault::Ticket(fault) => match *fault {
-            calls_tickets::Fault::Twice(c, d) => listed(alloc, &[c, d]),
-            calls_tickets::Fault::Turned(c, d) => listed(alloc, &[c, d]),
-            calls_tickets::Fault::Drawn(c) => listed(alloc, &[c]),
+            calls_tickets::Fault::Twice(c, d) => list_calls(alloc, &[c, d]),
+            calls_tickets::Fault::Turned(c, d) => list_calls(alloc, &[c, d]),
+            calls_tickets::Fault::Drawn(c) => list_calls(alloc, &[c]),
         },
-        Fault::Units(fault) => listed(alloc, &[fault.call]),
+        Fault::Units(fault) => list_calls(alloc, &[fault.call]),
         Fault::Value(fault) => match fault {
-            calls_cells::Fault::Serial(fault) => listed(alloc, &fault.gets),
+            calls_cells::Fault::Serial(fault) => list_calls(alloc, &fault.gets),
             calls_cells::Fault::Distinct(fault) => match *fault {
-                calls_distinct::Fault::Nowhere(c) => listed(alloc, &[c]),
-                calls_distinct::Fault::Stale(c, d) => listed(alloc, &[c, d]),
-                calls_distinct::Fault::Alternate(a, b, c, d) => listed(alloc, &[a, b, c, d]),
+                calls_distinct::Fault::Nowhere(c) => list_calls(alloc, &[c]),
+                calls_distinct::Fault::Stale(c, d) => list_calls(alloc, &[c, d]),
+                calls_distinct::Fault::Alternate(a, b, c, d) => list_calls(alloc, &[a, b, c, d]),
             },
         },
     }
 }
 
-/// Returns the course of the advances that had returned before a call.
-fn of_many(start: usize, object: usize, call: &Call) -> Course
-    ensures { result ≡ many_course start object call.now }
+/// Returns the course of the advances that had returned before the invocation of a call.
+fn of_many(start: usize, object: usize, call: &Call) -> StairSpan
+    ensures { result ≡ many_span start object call.now }
 {
-    Course {
-        counted: Counted::Advances(object),
+    StairSpan {
+        counted: CountFilter::Advances(object),
         portion: Portion::Between(0, call.first),
         from: 0,
         base: start,
@@ -72,12 +72,12 @@ fn of_many(start: usize, object: usize, call: &Call) -> Course
     }
 }
 
-/// Returns the course of the advances that were called before a call returned.
-fn of_few(start: usize, object: usize, call: &Call) -> Course
-    ensures { result ≡ few_course start object call.now }
+/// Returns the course of the advances that were invoked before the response of a call.
+fn of_few(start: usize, object: usize, call: &Call) -> StairSpan
+    ensures { result ≡ few_span start object call.now }
 {
-    Course {
-        counted: Counted::Advances(object),
+    StairSpan {
+        counted: CountFilter::Advances(object),
         portion: Portion::Called,
         from: 0,
         base: start,
@@ -85,16 +85,16 @@ fn of_few(start: usize, object: usize, call: &Call) -> Course
     }
 }
 
-/// Returns the course of the advances between two calls, from what the earlier one says on. One
-/// that gave up says nothing of a least count.
-fn of_since(start: usize, object: usize, call: &Call, earlier: &Call) -> Course
-    ensures { result ≡ since_course start object call.now earlier.now }
+/// Returns the course of the advances between two calls, from the count that the earlier one says.
+/// An await that gave up says no least count: then all advances before the later call are counted.
+fn of_since(start: usize, object: usize, call: &Call, earlier: &Call) -> StairSpan
+    ensures { result ≡ since_span start object call.now earlier.now }
 {
     if matches!(earlier.reply, Reply::Timeout) {
         return of_many(start, object, call);
     }
-    Course {
-        counted: Counted::Advances(object),
+    StairSpan {
+        counted: CountFilter::Advances(object),
         portion: Portion::Between(earlier.last, call.first),
         from: earlier.last,
         base: least(earlier.op, earlier.reply),
@@ -103,68 +103,68 @@ fn of_since(start: usize, object: usize, call: &Call, earlier: &Call) -> Course
 }
 
 /// Returns the courses of a fault of an eventcount that is `start` at first.
-fn count_courses(
+fn count_spans(
     alloc: Global,
     start: usize,
     object: usize,
     fault: &calls_counts::Fault,
-) -> Result<Vec<Course>, AllocError>
-    ensures { IfOk result (λ v. v.items ≡ count_courses start object fault.now) }
+) -> Result<Vec<StairSpan>, AllocError>
+    ensures { IfOk result (λ v. v.items ≡ count_spans start object fault.now) }
 {
-    let mut courses = Vec::new(alloc);
+    let mut spans = Vec::new(alloc);
     match fault {
         calls_counts::Fault::Below(_) => {}
-        calls_counts::Fault::Few(c) => courses.push(of_few(start, object, c))?,
-        calls_counts::Fault::Many(c) => courses.push(of_many(start, object, c))?,
-        calls_counts::Fault::Since(c, s) => courses.push(of_since(start, object, c, s))?,
+        calls_counts::Fault::Few(c) => spans.push(of_few(start, object, c))?,
+        calls_counts::Fault::Many(c) => spans.push(of_many(start, object, c))?,
+        calls_counts::Fault::Since(c, s) => spans.push(of_since(start, object, c, s))?,
     }
-    Ok(courses)
+    Ok(spans)
 }
 
-/// Returns the courses of a fault of a semaphore with so many units at first: of those that were
-/// given, and of those that were taken.
-fn unit_courses(
+/// Returns the courses of a fault of a semaphore with `units` units at first: of those that were
+/// added, and of those that were taken.
+fn unit_spans(
     alloc: Global,
     units: usize,
     fault: &calls_semaphores::Fault,
-) -> Result<Vec<Course>, AllocError>
-    ensures { IfOk result (λ v. v.items ≡ unit_courses units fault.now) }
+) -> Result<Vec<StairSpan>, AllocError>
+    ensures { IfOk result (λ v. v.items ≡ unit_spans units fault.now) }
 {
-    let mut courses = Vec::new(alloc);
-    courses.push(Course {
-        counted: Counted::Adding(fault.index),
+    let mut spans = Vec::new(alloc);
+    spans.push(StairSpan {
+        counted: CountFilter::Adding(fault.index),
         portion: Portion::Called,
         from: 0,
         base: units,
         to: fault.call.last,
     })?;
-    courses.push(Course {
-        counted: Counted::Taking(fault.index),
+    spans.push(StairSpan {
+        counted: CountFilter::Taking(fault.index),
         portion: Portion::Returned,
         from: 0,
         base: 0,
         to: fault.call.last,
     })?;
-    Ok(courses)
+    Ok(spans)
 }
 
 /// Returns the courses of the stairs that show a fault of an object.
-pub fn courses_of(
+pub fn spans_of(
     alloc: Global,
     kinds: &[Kind],
     object: usize,
     fault: &Fault,
-) -> Result<Vec<Course>, AllocError>
-    ensures { IfOk result (λ v. v.items ≡ courses_of kinds.now object fault.now) }
+) -> Result<Vec<StairSpan>, AllocError>
+    ensures { IfOk result (λ v. v.items ≡ spans_of kinds.now object fault.now) }
 {
     match fault {
         Fault::Count(fault) => {
             let start = start_of(kinds, Track { object, index: 0 });
-            count_courses(alloc, start, object, fault)
+            count_spans(alloc, start, object, fault)
         }
         Fault::Units(fault) => {
             let index = fault.index;
-            unit_courses(alloc, start_of(kinds, Track { object, index }), fault)
+            unit_spans(alloc, start_of(kinds, Track { object, index }), fault)
         }
         Fault::Ticket(_) | Fault::Value(_) => Ok(Vec::new(alloc)),
     }

@@ -8,7 +8,7 @@ mod steps;
 mod tallies;
 
 pub use bars::{Bars, bars_of};
-pub use evidence::{courses_of, faulty_calls};
-pub use stairs::{Course, Portion, Stair, stair_of};
+pub use evidence::{faulty_calls, spans_of};
+pub use stairs::{Portion, Stair, StairSpan, stair_of};
 pub use steps::{Step, Track, start_of, steps_of};
-pub use tallies::{Counted, Tally, is_counted, tallies_of};
+pub use tallies::{CountFilter, Tally, is_counted, tallies_of};

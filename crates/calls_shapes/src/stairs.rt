@@ -4,13 +4,13 @@ ghost use Rattle.calls_shapes.specs.declared.stairs.Portion.TheVariants.{Called}
 ghost use Rattle.calls_shapes.specs.Stairs.{has_completed, has_pending, rises_of, responses_in};
 ghost use Rattle.calls_shapes.specs.Stairs.{IsStair};
 
-use crate::tallies::{Counted, calls_counted, counts, is_counted};
+use crate::tallies::{CountFilter, counts, invokes_counted_call, is_counted};
 use calls_core::{Call, Event, PendingCall};
-use calls_report::completed;
+use calls_report::completed_call;
 use calls_verdict::follow;
 use std::alloc::{AllocError, Global};
 
-/// Which of the counted calls a stair rises with, and when.
+/// Which of the counted calls raise a stair, and when.
 #[derive(Clone, Copy, Debug, PartialEq, Eq)]
 pub enum Portion {
     /// With each at its invocation.
@@ -24,9 +24,9 @@ pub enum Portion {
 
 /// Where a stair begins and ends, and what it counts.
 #[derive(Clone, Copy, Debug, PartialEq, Eq)]
-pub struct Course {
+pub struct StairSpan {
     /// Which calls are counted.
-    pub counted: Counted,
+    pub counted: CountFilter,
     /// With which of them it rises.
     pub portion: Portion,
     /// The position where it begins.
@@ -41,12 +41,12 @@ pub struct Course {
 #[derive(Debug, Drop)]
 pub struct Stair {
     /// Where it begins and ends.
-    pub course: Course,
+    pub span: StairSpan,
     /// The positions at which it rises by one, in ascending order.
     pub rises: Vec<usize>,
 }
 
-impl Course {
+impl StairSpan {
     /// Returns whether it rises with a completed call.
     pub fn has_completed(&self, call: &Call) -> bool
         ensures { result ≡ has_completed self.now.counted self.now.portion call.now }
@@ -72,29 +72,28 @@ impl Course {
 fn invocations_of(
     alloc: Global,
     events: &[Event],
-    counted: Counted,
+    counted: CountFilter,
 ) -> Result<Vec<usize>, AllocError>
     ensures { IfOk result (λ v. v.items ≡ rises_of counted Called events.now) }
 {
     let mut positions = Vec::new(alloc);
     for event in events {
-        if calls_counted(counted, event) {
+        if invokes_counted_call(counted, event) {
             positions.push(event.at)?;
         }
     }
     Ok(positions)
 }
 
-/// Returns the positions of the responses of the calls with which a course rises that goes by
-/// responses.
-fn responses_of(alloc: Global, events: &[Event], course: Course) -> Result<Vec<usize>, AllocError>
-    ensures { IfOk result (λ v. v.items ≡ responses_in course.counted course.portion events.now) }
+/// Returns the positions of the responses of the completed calls with which a course rises.
+fn responses_of(alloc: Global, events: &[Event], span: StairSpan) -> Result<Vec<usize>, AllocError>
+    ensures { IfOk result (λ v. v.items ≡ responses_in span.counted span.portion events.now) }
 {
     let mut pending = Vec::new(alloc);
     let mut positions = Vec::new(alloc);
     for event in events {
-        if let Some(call) = completed(&pending, event) {
-            if course.has_completed(&call) {
+        if let Some(call) = completed_call(&pending, event) {
+            if span.has_completed(&call) {
                 positions.push(call.last)?;
             }
         }
@@ -104,13 +103,13 @@ fn responses_of(alloc: Global, events: &[Event], course: Course) -> Result<Vec<u
 }
 
 /// Returns the stair of a course over these events.
-pub fn stair_of(alloc: Global, events: &[Event], course: Course) -> Result<Stair, AllocError>
-    ensures { IfOk result (IsStair events.now course) }
+pub fn stair_of(alloc: Global, events: &[Event], span: StairSpan) -> Result<Stair, AllocError>
+    ensures { IfOk result (IsStair events.now span) }
 {
-    let rises = match course.portion {
-        Portion::Called => invocations_of(alloc, events, course.counted)?,
-        Portion::Returned => responses_of(alloc, events, course)?,
-        Portion::Between(_, _) => responses_of(alloc, events, course)?,
+    let rises = match span.portion {
+        Portion::Called => invocations_of(alloc, events, span.counted)?,
+        Portion::Returned => responses_of(alloc, events, span)?,
+        Portion::Between(_, _) => responses_of(alloc, events, span)?,
     };
-    Ok(Stair { course, rises })
+    Ok(Stair { span, rises })
 }

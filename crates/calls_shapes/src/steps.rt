@@ -1,4 +1,4 @@
-//! The numbers of an object along an order of the calls.
+//! The numbers of an object along a linearization.
 ghost use Rattle.std.specs.Prelude.{◌≡◌, ℕ, ◌+◌, IfOk};
 ghost use Rattle.calls_core.specs.Linearizations.{after, start};
 ghost use Rattle.calls_shapes.specs.Steps.{steps_of};
@@ -6,7 +6,8 @@ ghost use Rattle.calls_shapes.specs.Steps.{steps_of};
 use calls_core::{Kind, Op, Placed, Reply};
 use std::alloc::{AllocError, Global};
 
-/// A number of an object. Semaphores have one each; of other objects it is the one at index 0.
+/// A number of an object. A bank of semaphores has one for each; any other object has one, at index
+/// 0.
 #[derive(Clone, Copy, Debug, PartialEq, Eq)]
 pub struct Track {
     /// The index of the object.
@@ -15,16 +16,16 @@ pub struct Track {
     pub index: usize,
 }
 
-/// What the number is from the point of a call on.
+/// A number from the linearization point of a call on.
 #[derive(Clone, Copy, Debug, PartialEq, Eq)]
 pub struct Step {
-    /// The point of the call.
+    /// The linearization point of the call.
     pub point: usize,
     /// The number after the call.
     pub value: usize,
 }
 
-/// Returns the number of a track at first.
+/// Returns the initial number of a track.
 pub fn start_of(kinds: &[Kind], track: Track) -> usize
     ensures { result ≡ start kinds.now track.object track.index }
 {
@@ -38,8 +39,8 @@ pub fn start_of(kinds: &[Kind], track: Track) -> usize
     }
 }
 
-/// Returns a number that is raised by one.
-fn raised(value: usize) -> Result<usize, AllocError>
+/// Returns a number plus one; an error if that overflows.
+fn succ(value: usize) -> Result<usize, AllocError>
     ensures { IfOk result (λ n. n ≡ value + 1) }
 {
     match value.checked_add(1) {
@@ -48,13 +49,13 @@ fn raised(value: usize) -> Result<usize, AllocError>
     }
 }
 
-/// Returns the number at an index after a call, if it was this before.
+/// Returns the number at an index after a call, if it was `value` before.
 fn next(value: usize, index: usize, op: Op, reply: Reply) -> Result<usize, AllocError>
     ensures { IfOk result (λ n. (m : ℕ → ℕ) → m index ≡ value → n ≡ after m op reply index) }
 {
     match (op, reply) {
-        (Op::Advance | Op::Ticket, _) => { if index == 0 { raised(value) } else { Ok(value) } }
-        (Op::V(i), _) => { if index == i { raised(value) } else { Ok(value) } }
+        (Op::Advance | Op::Ticket, _) => { if index == 0 { succ(value) } else { Ok(value) } }
+        (Op::V(i), _) => { if index == i { succ(value) } else { Ok(value) } }
         (Op::P(i), Reply::Done) => {
             if index == i {
                 Ok(value.saturating_sub(1))

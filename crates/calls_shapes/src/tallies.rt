@@ -1,17 +1,17 @@
-//! How many calls had been called and had returned, at each moment.
+//! How many calls had been invoked and had returned, at each moment.
 ghost use Rattle.std.specs.Prelude.{◌≡◌, ℕ, ◌+◌, ◌≤◌, Some, IfOk, length, slice_get};
 ghost use Rattle.std.specs.List.{cons_option};
 ghost use Rattle.std.specs.Prelude.{[], ◌∷◌, count_by};
-ghost use Rattle.calls_shapes.specs.Tallies.{counts, calls_counted, is_counted, tally_at};
+ghost use Rattle.calls_shapes.specs.Tallies.{counts, invokes_counted_call, is_counted, tally_at};
 
 use calls_core::{Action, Call, Event, Op, Reply};
-use calls_report::completed;
+use calls_report::completed_call;
 use calls_verdict::follow;
 use std::alloc::{AllocError, Global};
 
 /// Which calls are counted.
 #[derive(Clone, Copy, Debug, PartialEq, Eq)]
-pub enum Counted {
+pub enum CountFilter {
     /// The advances of the eventcount with this index.
     Advances(usize),
     /// The tickets of the sequencer with this index.
@@ -25,25 +25,25 @@ pub enum Counted {
 /// How many calls are counted at a moment.
 #[derive(Clone, Copy, Debug, PartialEq, Eq)]
 pub struct Tally {
-    /// Those that had been called.
+    /// Those that had been invoked.
     pub called: usize,
-    /// Those that had returned, but for those that gave up.
+    /// Those that had returned, except those that gave up.
     pub returned: usize,
 }
 
 /// Returns whether calls of this object with this operation are counted.
-pub(crate) fn counts(counted: Counted, object: usize, op: Op) -> bool
+pub(crate) fn counts(counted: CountFilter, object: usize, op: Op) -> bool
     ensures { result ≡ counts counted object op }
 {
     match counted {
-        Counted::Advances(k) => object == k && matches!(op, Op::Advance),
-        Counted::Tickets(k) => object == k && matches!(op, Op::Ticket),
-        Counted::Taking(i) => match op {
+        CountFilter::Advances(k) => object == k && matches!(op, Op::Advance),
+        CountFilter::Tickets(k) => object == k && matches!(op, Op::Ticket),
+        CountFilter::Taking(i) => match op {
             Op::P(j) => j == i,
             Op::PBoth(j, l) => j == i || l == i,
             _ => false,
         },
-        Counted::Adding(i) => match op {
+        CountFilter::Adding(i) => match op {
             Op::V(j) => j == i,
             _ => false,
         },
@@ -51,15 +51,15 @@ pub(crate) fn counts(counted: Counted, object: usize, op: Op) -> bool
 }
 
 /// Returns whether a completed call is counted.
-pub fn is_counted(counted: Counted, call: &Call) -> bool
+pub fn is_counted(counted: CountFilter, call: &Call) -> bool
     ensures { result ≡ is_counted counted call.now }
 {
     counts(counted, call.object, call.op) && !matches!(call.reply, Reply::Timeout)
 }
 
 /// Returns whether an event is the invocation of a call that is counted.
-pub(crate) fn calls_counted(counted: Counted, event: &Event) -> bool
-    ensures { result ≡ calls_counted counted event.now }
+pub(crate) fn invokes_counted_call(counted: CountFilter, event: &Event) -> bool
+    ensures { result ≡ invokes_counted_call counted event.now }
 {
     match event.action {
         Action::Invoke(object, op) => counts(counted, object, op),
@@ -67,8 +67,8 @@ pub(crate) fn calls_counted(counted: Counted, event: &Event) -> bool
     }
 }
 
-/// Returns how many of one call or none are counted.
-fn count_one(counted: Counted, call: Option<Call>) -> usize
+/// Returns 1 if there is a call and it is counted, otherwise 0.
+fn count_one(counted: CountFilter, call: Option<Call>) -> usize
     ensures count { result ≡ count_by (is_counted counted) (cons_option call []) }
     ensures few { result ≤ 1 }
 {
@@ -78,19 +78,23 @@ fn count_one(counted: Counted, call: Option<Call>) -> usize
     }
 }
 
-/// Returns 1 if an event is the invocation of a call that is counted, else 0.
-fn count_call(counted: Counted, event: &Event) -> usize
-    ensures count { result ≡ count_by (calls_counted counted) (event.now ∷ []) }
+/// Returns 1 if an event is the invocation of a call that is counted, otherwise 0.
+fn count_call(counted: CountFilter, event: &Event) -> usize
+    ensures count { result ≡ count_by (invokes_counted_call counted) (event.now ∷ []) }
     ensures few { result ≤ 1 }
 {
-    if calls_counted(counted, event) { 1 } else { 0 }
+    if invokes_counted_call(counted, event) {
+        1
+    } else {
+        0
+    }
 }
 
 /// Returns the tallies at all moments: the one at index p is that of the first p events.
 pub fn tallies_of(
     alloc: Global,
     events: &[Event],
-    counted: Counted,
+    counted: CountFilter,
 ) -> Result<Vec<Tally>, AllocError>
     ensures count { IfOk result (λ v. length v.items ≡ length events.now + 1) }
     ensures each { IfOk result (λ v. (p : ℕ) → p ≤ length events.now
@@ -105,7 +109,7 @@ pub fn tallies_of(
     for event in events {
         tallies.push(tally)?;
         tally.called += count_call(counted, event);
-        tally.returned += count_one(counted, completed(&pending, event));
+        tally.returned += count_one(counted, completed_call(&pending, event));
         let _object = follow(&mut pending, event)?;
     }
     tallies.push(tally)?;

@@ -1,4 +1,4 @@
-//! What is found of each history.
+//! Judges histories.
 use crate::reading::{History, Line, read_line};
 use crate::writing::{write_misuse, write_stop, write_verdict};
 use calls_core::Event;
@@ -13,12 +13,12 @@ use std::io::Write;
 pub enum Mode {
     /// The verdict.
     Decide,
-    /// Where the monitor stops.
+    /// The position at which the monitor stops.
     Monitor,
 }
 
 impl Mode {
-    /// Reads it of a word.
+    /// Returns the mode that a word names.
     pub fn of(word: &str) -> Option<Self> {
         match word {
             "decide" => Some(Mode::Decide),
@@ -28,7 +28,7 @@ impl Mode {
     }
 }
 
-/// Judges a history, and writes what is found.
+/// Judges a history, and writes the result.
 fn judge<W: Write + Drop>(
     alloc: Global,
     mode: Mode,
@@ -55,7 +55,7 @@ fn judge<W: Write + Drop>(
     }
 }
 
-/// Judges each history of a text, and returns whether all of it was read.
+/// Judges each history of a text, and returns whether the whole text was read.
 pub fn judge_all<W: Write + Drop>(
     alloc: Global,
     mode: Mode,

@@ -1,4 +1,4 @@
-//! Reads histories of calls from standard input, and writes what the libraries find of each, for
+//! Reads histories of calls from standard input, and writes the verdicts of the libraries, for
 //! tests: `calls_tests decide` and `calls_tests monitor`. A history is the lines of its objects,
 //! a line `run`, its events, and a line `end`.
 #![tactic(auto)]

@@ -1,36 +1,36 @@
-//! Histories, from lines.
+//! Reads the lines of histories.
 use calls_core::{Action, Event, Kind, Op, Reply};
 use std::alloc::{AllocError, Global};
 
 /// One history of the input.
 #[derive(Debug, Drop)]
 pub struct History {
-    /// What each object is.
+    /// The kind of each object.
     pub kinds: Vec<Kind>,
-    /// Its events.
+    /// The events in order.
     pub events: Vec<Event>,
 }
 
-/// What a line is.
+/// A line of a history.
 #[derive(Debug, Drop)]
 pub enum Line {
     /// An object.
     Object(Kind),
     /// The end of the objects.
     Run,
-    /// An event; its position is that among the events.
+    /// An event: its worker and its action.
     Event(usize, Action),
     /// The end of the history.
     End,
 }
 
-/// Reads a number.
+/// Reads the number at an index.
 fn number(words: &[&str], place: usize) -> Option<usize> {
     let word = words.get(place)?;
     word.parse().ok()
 }
 
-/// Reads the numbers from a place on.
+/// Reads words that are all numbers.
 fn numbers(alloc: Global, words: &[&str]) -> Result<Option<Vec<usize>>, AllocError> {
     let mut list = Vec::new(alloc);
     for word in words {

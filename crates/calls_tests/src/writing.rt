@@ -1,10 +1,10 @@
-//! What is written of a history.
+//! Writes the result for a history.
 use calls_core::{Call, Op, Placed, Reply};
 use calls_verdict::{Fault, Misuse, Refusal, Verdict};
 use std::io;
 use std::io::Write;
 
-/// Writes if a monitor stopped.
+/// Writes the position at which a monitor stopped, or `-`.
 pub fn write_stop<W: Write>(out: &mut W, at: Option<usize>) -> io::Result<()> {
     match at {
         Some(at) => writeln!(out, "{at}"),
@@ -24,7 +24,7 @@ pub fn write_misuse<W: Write>(out: &mut W, index: usize, misuse: Misuse) -> io::
     writeln!(out, "misuse {index} {name}")
 }
 
-/// Writes what is asked for.
+/// Writes the operation of a call.
 fn write_op<W: Write>(out: &mut W, op: Op) -> io::Result<()> {
     match op {
         Op::Advance => write!(out, "advance"),

@@ -1,4 +1,4 @@
--- Objects are added in turn.
+-- Objects are added, one sort after another.
 use Rattle.std.proofs.Common.{◌≡◌, ◌<◌, ◌≤◌, ℕ, zero, suc, ◌+◌, List, [], ◌∷◌, ◌++◌, length, map}
 use Rattle.std.proofs.Common.{Some, slice_get, refl, ap, sym, ◌∙◌, subst, arith, ⊎_elim}
 use Rattle.std.proofs.Common.{length-append}
@@ -9,32 +9,21 @@ use Rattle.ec_heading.specs.declared.group.Group.{Group}
 use Rattle.calls_core.specs.declared.history.Kind.{Kind}
 use Rattle.calls_core.specs.declared.history.Kind.TheVariants.{Eventcount, Sequencer, Cell}
 use Rattle.calls_core.specs.declared.history.Kind.TheVariants.{Database, Semaphores}
-use Rattle.ec_heading.specs.Headed.{Headed}
+use Rattle.ec_heading.specs.HeadingModel.{HeadingModel}
 use Rattle.calls_text.specs.Recordings.{HasFrom, HasUnits, HasGroups, cells_of, initial_of}
-use Rattle.calls_text.specs.Recordings.{AreKinds, start_of, first_sequencer, first_cell}
+use Rattle.calls_text.specs.Recordings.{AreKinds, start_count, first_sequencer, first_cell}
 use Rattle.calls_text.specs.Recordings.{semaphores, first_group}
 use Rattle.calls_text.specs.kept.Adding.{Grows}
+use Rattle.ec_core.proofs.shared.Joining.{get_front}
+use Rattle.ec_heading.proofs.shared.AddedObjects.{at_end as get_end}
 
 -- ELEMENTS
-
-pub get_front : {A : Type 0} (xs ys : List A) (i : ℕ) → i < length xs
-    → slice_get (xs ++ ys) i ≡ slice_get xs i
-get_front [] ys i lt = absurd (omega arith)
-get_front (x ∷ xs) ys zero lt = refl
-get_front (x ∷ xs) ys (suc i) lt = get_front xs ys i (omega arith)
-
-get_end : {A : Type 0} (xs : List A) (x : A) → slice_get (xs ++ x ∷ []) (length xs) ≡ Some x
-get_end [] x = refl
-get_end (y ∷ xs) x = get_end xs x
 
 pub get_last : {A : Type 0} (xs : List A) (x : A) (i : ℕ) → i ≡ length xs
     → slice_get (xs ++ x ∷ []) i ≡ Some x
 get_last xs x i is = ap (slice_get (xs ++ x ∷ [])) is ∙ get_end xs x
 
 -- MORE
-
-pub grows_none : {A : Type 0} (xs : List A) → Grows xs xs 0
-grows_none xs = record { longer = omega arith; same = λ i lt. refl }
 
 pub grows_push : {A : Type 0} (old new : List A) (n : ℕ) (x : A) → Grows old new n
     → Grows old (new ++ x ∷ []) (n + 1)
@@ -57,9 +46,6 @@ grows_on xs ys zs m n one other =
 
 -- ONE SORT
 
-pub from_none : (kinds : List Kind) (n : ℕ) (kind : ℕ → Kind) → HasFrom kinds n 0 kind
-from_none kinds n kind = λ i lt. absurd (omega arith)
-
 pub from_push : (kinds : List Kind) (n count : ℕ) (kind : ℕ → Kind) (one : Kind)
     → length kinds ≡ n + count → one ≡ kind count → HasFrom kinds n count kind
     → HasFrom (kinds ++ one ∷ []) n (count + 1) kind
@@ -70,7 +56,7 @@ from_push kinds n count kind one long is has = λ i lt.
     get_last kinds one (n + i) (omega arith) ∙ ap Some (is ∙ ap kind (sym same))))
     (cases_lt i count)
 
--- what was there stays
+-- these kinds are unchanged after objects are added
 pub from_grows : (old new : List Kind) (n count more : ℕ) (kind : ℕ → Kind)
     → n + count ≤ length old → HasFrom old n count kind → Grows old new more
     → HasFrom new n count kind
@@ -83,9 +69,6 @@ from_grows old new n count more kind long has grows = λ i lt.
 abbrev pub HasGroupsTo : List Kind → ℕ → List Group → ℕ → Type 0
 HasGroupsTo kinds n gs k = (i : ℕ) (g : Group) → i < k → slice_get gs i ≡ Some g
     → slice_get kinds (n + i) ≡ Some (Database (cells_of g))
-
-pub groups_none : (kinds : List Kind) (n : ℕ) (gs : List Group) → HasGroupsTo kinds n gs 0
-groups_none kinds n gs = λ i g lt is. absurd (omega arith)
 
 pub groups_push : (kinds : List Kind) (n k : ℕ) (gs : List Group) (h : Group)
     → length kinds ≡ n + k → slice_get gs k ≡ Some h → HasGroupsTo kinds n gs k
@@ -122,10 +105,10 @@ from_is : (kinds : List Kind) (m n c d : ℕ) (kind : ℕ → Kind) → m ≡ n 
 from_is kinds m n c d kind start count has = λ i lt.
     ap (λ (k : ℕ). slice_get kinds (k + i)) (sym start) ∙ has i (omega arith)
 
-pub are_kinds : (h : Headed) (from : List (ℕ × ℕ)) (k0 k1 k2 k3 k4 k5 : List Kind) (e q x : ℕ)
+pub are_kinds : (h : HeadingModel) (from : List (ℕ × ℕ)) (k0 k1 k2 k3 k4 k5 : List Kind) (e q x : ℕ)
     (gs hs : List Group) → length k0 ≡ 0 → e ≡ length h.setup.events → q ≡ length h.setup.takers
     → x ≡ length h.setup.cells → gs ≡ h.groups → hs ≡ h.groups
-    → Grows k0 k1 e → HasFrom k1 (length k0) e (λ k. Eventcount (start_of from k))
+    → Grows k0 k1 e → HasFrom k1 (length k0) e (λ k. Eventcount (start_count from k))
     → Grows k1 k2 q → HasFrom k2 (length k1) q (λ k. Sequencer)
     → Grows k2 k3 x → HasFrom k3 (length k2) x (λ k. Cell)
     → Grows k3 k4 1 → HasUnits k4 (length k3) gs
@@ -146,8 +129,8 @@ are_kinds h from k0 k1 k2 k3 k4 k5 e q x gs hs empty ie iq ix ig ih g1 a1 g2 a2 
     record {
       count = omega arith;
       events = from_is k5 (length k0) 0 e (length h.setup.events)
-          (λ k. Eventcount (start_of from k))
-          empty ie (from_grows k1 k5 (length k0) e _ (λ k. Eventcount (start_of from k))
+          (λ k. Eventcount (start_count from k))
+          empty ie (from_grows k1 k5 (length k0) e _ (λ k. Eventcount (start_count from k))
           (omega arith) a1 g25);
       sequencers = from_is k5 (length k1) (first_sequencer h) q (length h.setup.takers)
           (λ k. Sequencer)

@@ -1,4 +1,4 @@
--- The words of a call are those that spell it.
+-- The words that are read as a call are its text.
 use Rattle.std.proofs.Common.{◌≡◌, ℕ, ◌+◌, ◌-◌, ◌<◌, List, [], ◌∷◌, ◌++◌, length, Bool, true}
 use Rattle.std.proofs.Common.{false, eqb, nat_lt, not, Option, Some, None}
 use Rattle.std.proofs.Common.{refl, sym, ap, ap₂, ◌∙◌, subst, arith, codes, decimal, append-nil}
@@ -10,28 +10,30 @@ use Rattle.ec_text.specs.Words.{is_number_form}
 use Rattle.ec_database.specs.Shapes as databases
 use Rattle.ec_semaphore.specs.Shapes.{Semaphore}
 use Rattle.ec_heading.specs.declared.group.Group.TheVariants as groups
-use Rattle.ec_heading.specs.Headed.{Headed}
-use Rattle.ec_heading.specs.Outlined.{HasOutline}
-use Rattle.ec_heading.specs.Recalled.{spaced as spaced_words}
-use Rattle.ec_heading.specs.Spelled.{event_in, sequencer_in, cell_in_word}
-use Rattle.calls_text.specs.declared.verb.Verb.{Verb}
-use Rattle.calls_text.specs.declared.verb.Verb.TheVariants as verbs
+use Rattle.ec_heading.specs.HeadingModel.{HeadingModel}
+use Rattle.ec_heading.specs.HeadingInvariant.{HasHeaderTree}
+use Rattle.ec_heading.specs.Recalled.{with_spaces as spaced_words}
+use Rattle.ec_heading.specs.EntryWords.{event_in, sequencer_in, cell_in_word}
+use Rattle.calls_text.specs.declared.verb.OpWord.{OpWord}
+use Rattle.calls_text.specs.declared.verb.OpWord.TheVariants as verbs
 use Rattle.calls_text.specs.declared.verb.Tail.TheVariants as tails
 use Rattle.calls_text.specs.declared.object.Object.{Object}
 use Rattle.calls_text.specs.declared.object.Object.TheVariants as objects
 use Rattle.calls_text.specs.Verbs.{verb_word, tail_of}
 use Rattle.calls_text.specs.Forms.{is_tail, only_in}
-use Rattle.calls_text.specs.Objects.{object_in, as_semaphore, as_database, pair_of, both_of}
+use Rattle.calls_text.specs.Objects.{object_in, as_semaphore, as_database, semaphore_pair}
+use Rattle.ec_heading.specs.Groups.{both_of}
 use Rattle.calls_text.specs.Objects.{semaphore_in, database_in}
 use Rattle.calls_text.specs.Lists.{list_number, lists_after}
 use Rattle.calls_text.specs.Recordings.{first_sequencer, first_cell, first_group}
 use Rattle.calls_text.specs.Reading.{is_no_number, only_number, numbers_in, is_bad_tail}
-use Rattle.calls_text.specs.Reading.{index_of, op_of, number_in, lists_of, other_word}
+use Rattle.calls_text.specs.Reading.{index_of, op_of_word, number_in, lists_of, other_word}
 use Rattle.calls_text.specs.Spelling.{event_word, sequencer_word, cell_name, group_word, store_word}
-use Rattle.calls_text.specs.Spelling.{list_of, value_of, spaced, put_word, get_word, call_text}
+use Rattle.calls_text.specs.Spelling.{numbers_of_list, numbers_of_value, numbers_after_spaces, put_word, get_word, call_text}
 use Rattle.calls_text.proofs.Values.{words_spaced, one_spaced, list_found}
 use Rattle.calls_text.proofs.ObjectWords.{event_spelled, sequencer_spelled, cell_below, cell_again}
-use Rattle.calls_text.proofs.ObjectWords.{map_back, IsSemaphoreAt, semaphore_named}
+use Rattle.calls_text.proofs.ObjectWords.{IsSemaphoreAt, semaphore_named}
+use Rattle.calls_text.proofs.Fitting.{mapped as map_back}
 use Rattle.calls_text.proofs.ObjectWords.{IsDatabaseAt, database_named}
 
 -- PIECES
@@ -46,26 +48,26 @@ one_only [] is = cc
 one_only (w ∷ []) is = refl
 one_only (w ∷ v ∷ ws) is = cc
 
-alone : (front o word s : List ℕ) → word ≡ o → s ≡ [] → front ++ (o ++ s) ≡ front ++ word
-alone front o word s same none =
-    ap (λ (r : List ℕ). front ++ (o ++ r)) none
-    ∙ ap (λ (r : List ℕ). front ++ r) (append-nil o ∙ sym same)
+alone : (prefix o word s : List ℕ) → word ≡ o → s ≡ [] → prefix ++ (o ++ s) ≡ prefix ++ word
+alone prefix o word s same none =
+    ap (λ (r : List ℕ). prefix ++ (o ++ r)) none
+    ∙ ap (λ (r : List ℕ). prefix ++ r) (append-nil o ∙ sym same)
 
-followed : (front o word s t : List ℕ) → word ≡ o → s ≡ t
-    → front ++ (o ++ s) ≡ front ++ (word ++ t)
-followed front o word s t same tail =
-    ap₂ (λ (x : List ℕ) (y : List ℕ). front ++ (x ++ y)) (sym same) tail
+followed : (prefix o word s t : List ℕ) → word ≡ o → s ≡ t
+    → prefix ++ (o ++ s) ≡ prefix ++ (word ++ t)
+followed prefix o word s t same tail =
+    ap₂ (λ (x : List ℕ) (y : List ℕ). prefix ++ (x ++ y)) (sym same) tail
 
 -- CELLS AND DATABASES BY THEIR INDEX
 
--- how calls of a cell are spelled
-record IsCellAt (h : Headed) (k x : ℕ) : Type 0 where
+-- the text of the calls of a cell
+record IsCellAt (h : HeadingModel) (k x : ℕ) : Type 0 where
   put : put_word h k ≡ codes "put "
   get : get_word h k ≡ codes "get "
   word : store_word h k ≡ cell_name h x
-  value : (lists : List (List ℕ)) (n : ℕ) → value_of h lists k n ≡ n ∷ []
+  value : (lists : List (List ℕ)) (n : ℕ) → numbers_of_value h lists k n ≡ n ∷ []
 
-cell_at : (h : Headed) (x : ℕ) → x < length h.setup.cells → IsCellAt h (first_cell h + x) x
+cell_at : (h : HeadingModel) (x : ℕ) → x < length h.setup.cells → IsCellAt h (first_cell h + x) x
 cell_at h x small =
     let before : nat_lt (first_cell h + x) (first_group h) ≡ true =
     lt-ltb _ _ (omega (arith, small)) in
@@ -77,14 +79,15 @@ cell_at h x small =
       value = λ lists n. rw before refl;
     }
 
--- how calls of a database are spelled
-pub record IsStoreAt (h : Headed) (k i cells : ℕ) : Type 0 where
+-- the text of the calls of a database
+pub record IsStoreAt (h : HeadingModel) (k i cells : ℕ) : Type 0 where
   pub put : put_word h k ≡ codes "write "
   pub get : get_word h k ≡ codes "snapshot "
   pub word : store_word h k ≡ group_word h i
-  pub value : (lists : List (List ℕ)) (n : ℕ) → value_of h lists k n ≡ list_of lists cells n
+  pub value : (lists : List (List ℕ)) (n : ℕ)
+      → numbers_of_value h lists k n ≡ numbers_of_list lists cells n
 
-database_at : (h : Headed) (i : ℕ) (d : databases.Database)
+database_at : (h : HeadingModel) (i : ℕ) (d : databases.Database)
     → slice_get h.groups i ≡ Some (groups.Database d)
     → IsStoreAt h (first_group h + i) i d.cells
 database_at h i d there =
@@ -97,24 +100,25 @@ database_at h i d there =
       value = λ lists n. rw (after, place, there) refl;
     }
 
--- CALLS IN TURN
+-- THE OPERATIONS, ONE BY ONE
 
 -- the words of the call, joined, are its text
-abbrev pub IsCallText : Headed → List (List ℕ) → Verb → List ℕ → List (List ℕ) → Object → ℕ
+abbrev pub IsCallText : HeadingModel → List (List ℕ) → OpWord → List ℕ → List (List ℕ) → Object
+    → ℕ
     → Type 0
 IsCallText h lists v o ws obj n =
     verb_word v ++ 32 ∷ (o ++ spaced_words ws)
-    ≡ call_text h lists (index_of h obj) (op_of v obj n)
+    ≡ call_text h lists (index_of h obj) (op_of_word v obj n)
 
--- the call names this object, and its tail is in order
-record Names (h : Headed) (v : Verb) (o : List ℕ) (ws : List (List ℕ)) (obj : Object)
+-- the call names this object, and its tail has no fault
+record Names (h : HeadingModel) (v : OpWord) (o : List ℕ) (ws : List (List ℕ)) (obj : Object)
     : Type 0 where
-  heading : HasOutline h
+  heading : HasHeaderTree h
   object : object_in h v o (other_word v ws) ≡ Some obj
   tail : is_tail (tail_of v) ws ≡ true
   good : is_bad_tail (tail_of v) ws obj ≡ false
 
-advance_is : (h : Headed) (lists : List (List ℕ)) (o : List ℕ) (ws : List (List ℕ))
+advance_is : (h : HeadingModel) (lists : List (List ℕ)) (o : List ℕ) (ws : List (List ℕ))
     (obj : Object) (n : ℕ) → Names h verbs.Advance o ws obj
     → IsCallText h lists verbs.Advance o ws obj n
 advance_is h lists o ws obj n c =
@@ -123,7 +127,7 @@ advance_is h lists o ws obj n c =
     (alone (codes "advance ") o (event_word h m.0) (spaced_words ws)
     (event_spelled h o m.0 c.heading m.1) (none_spaced ws c.tail))
 
-read_is : (h : Headed) (lists : List (List ℕ)) (o : List ℕ) (ws : List (List ℕ))
+read_is : (h : HeadingModel) (lists : List (List ℕ)) (o : List ℕ) (ws : List (List ℕ))
     (obj : Object) (n : ℕ) → Names h verbs.Read o ws obj
     → IsCallText h lists verbs.Read o ws obj n
 read_is h lists o ws obj n c =
@@ -138,7 +142,7 @@ one_tail : (ws : List (List ℕ)) → option_map_or is_number_form (only_in ws) 
 one_tail ws tail good =
     one_spaced ws (one_only ws tail) good ∙ append-nil (32 ∷ decimal (only_number ws))
 
-await_is : (h : Headed) (lists : List (List ℕ)) (o : List ℕ) (ws : List (List ℕ))
+await_is : (h : HeadingModel) (lists : List (List ℕ)) (o : List ℕ) (ws : List (List ℕ))
     (obj : Object) → Names h verbs.Await o ws obj
     → IsCallText h lists verbs.Await o ws obj (only_number ws)
 await_is h lists o ws obj c =
@@ -149,7 +153,7 @@ await_is h lists o ws obj c =
     (32 ∷ decimal (only_number ws)) (event_spelled h o m.0 c.heading m.1)
     (one_tail ws c.tail good))
 
-ticket_is : (h : Headed) (lists : List (List ℕ)) (o : List ℕ) (ws : List (List ℕ))
+ticket_is : (h : HeadingModel) (lists : List (List ℕ)) (o : List ℕ) (ws : List (List ℕ))
     (obj : Object) (n : ℕ) → Names h verbs.Ticket o ws obj
     → IsCallText h lists verbs.Ticket o ws obj n
 ticket_is h lists o ws obj n c =
@@ -161,7 +165,7 @@ ticket_is h lists o ws obj n c =
     (alone (codes "ticket ") o (sequencer_word h (first_sequencer h + m.0 - first_sequencer h))
     (spaced_words ws) word (none_spaced ws c.tail))
 
-put_is : (h : Headed) (lists : List (List ℕ)) (o : List ℕ) (ws : List (List ℕ))
+put_is : (h : HeadingModel) (lists : List (List ℕ)) (o : List ℕ) (ws : List (List ℕ))
     (obj : Object) → Names h verbs.Put o ws obj
     → IsCallText h lists verbs.Put o ws obj (only_number ws)
 put_is h lists o ws obj c =
@@ -169,14 +173,14 @@ put_is h lists o ws obj c =
     let k : IsCellAt h (first_cell h + m.0) m.0 =
     cell_at h m.0 (cell_below h o m.0 c.heading m.1) in
     let good : option_map_or is_no_number (only_in ws) false ≡ false = c.good in
-    let tail : spaced_words ws ≡ spaced (only_number ws ∷ []) =
+    let tail : spaced_words ws ≡ numbers_after_spaces (only_number ws ∷ []) =
     one_spaced ws (one_only ws c.tail) good in
     subst (λ (x : Object). IsCallText h lists verbs.Put o ws x (only_number ws)) m.2
-    (followed (codes "put ") o (cell_name h m.0) (spaced_words ws) (spaced (only_number ws ∷ []))
+    (followed (codes "put ") o (cell_name h m.0) (spaced_words ws) (numbers_after_spaces (only_number ws ∷ []))
     (cell_again h o m.0 c.heading m.1) tail
     ∙ sym (rw (k.put, k.word, k.value lists (only_number ws)) refl))
 
-get_is : (h : Headed) (lists : List (List ℕ)) (o : List ℕ) (ws : List (List ℕ))
+get_is : (h : HeadingModel) (lists : List (List ℕ)) (o : List ℕ) (ws : List (List ℕ))
     (obj : Object) (n : ℕ) → Names h verbs.Get o ws obj
     → IsCallText h lists verbs.Get o ws obj n
 get_is h lists o ws obj n c =
@@ -188,7 +192,7 @@ get_is h lists o ws obj n c =
     (cell_again h o m.0 c.heading m.1) (none_spaced ws c.tail)
     ∙ sym (rw (k.get, k.word) refl))
 
-p_is : (h : Headed) (lists : List (List ℕ)) (o : List ℕ) (ws : List (List ℕ))
+p_is : (h : HeadingModel) (lists : List (List ℕ)) (o : List ℕ) (ws : List (List ℕ))
     (obj : Object) (n : ℕ) → Names h verbs.P o ws obj → IsCallText h lists verbs.P o ws obj n
 p_is h lists o ws obj n c =
     let m = map_back as_semaphore (semaphore_in h o) obj c.object in
@@ -196,7 +200,7 @@ p_is h lists o ws obj n c =
     subst (λ (x : Object). IsCallText h lists verbs.P o ws x n) m.2
     (alone (codes "p ") o (group_word h m.0.0) (spaced_words ws) s.word (none_spaced ws c.tail))
 
-v_is : (h : Headed) (lists : List (List ℕ)) (o : List ℕ) (ws : List (List ℕ))
+v_is : (h : HeadingModel) (lists : List (List ℕ)) (o : List ℕ) (ws : List (List ℕ))
     (obj : Object) (n : ℕ) → Names h verbs.V o ws obj → IsCallText h lists verbs.V o ws obj n
 v_is h lists o ws obj n c =
     let m = map_back as_semaphore (semaphore_in h o) obj c.object in
@@ -205,10 +209,10 @@ v_is h lists o ws obj n c =
     (alone (codes "v ") o (group_word h m.0.0) (spaced_words ws) s.word (none_spaced ws c.tail))
 
 -- two semaphores
-pair_text : (h : Headed) (lists : List (List ℕ)) (o : List ℕ) (ws : List (List ℕ)) (obj : Object)
-    (n : ℕ) (a : Option Semaphore) (b d : Option (ℕ × Semaphore)) → HasOutline h
+pair_text : (h : HeadingModel) (lists : List (List ℕ)) (o : List ℕ) (ws : List (List ℕ)) (obj : Object)
+    (n : ℕ) (a : Option Semaphore) (b d : Option (ℕ × Semaphore)) → HasHeaderTree h
     → eqb (length ws) 1 ≡ true → semaphore_in h o ≡ b
-    → option_and_then (semaphore_in h) (only_in ws) ≡ d → pair_of a b d ≡ Some obj
+    → option_and_then (semaphore_in h) (only_in ws) ≡ d → semaphore_pair a b d ≡ Some obj
     → IsCallText h lists verbs.PBoth o ws obj n
 pair_text h lists o [] obj n a b d has one first second is =
     absurd (omega (arith, eqb-true 0 1 one))
@@ -226,14 +230,14 @@ pair_text h lists o (w ∷ []) obj n None b d has one first second is = cc
 pair_text h lists o (w ∷ []) obj n (Some common) None d has one first second is = cc
 pair_text h lists o (w ∷ []) obj n (Some common) (Some p) None has one first second is = cc
 
-pboth_is : (h : Headed) (lists : List (List ℕ)) (o : List ℕ) (ws : List (List ℕ))
+pboth_is : (h : HeadingModel) (lists : List (List ℕ)) (o : List ℕ) (ws : List (List ℕ))
     (obj : Object) (n : ℕ) → Names h verbs.PBoth o ws obj
     → IsCallText h lists verbs.PBoth o ws obj n
 pboth_is h lists o ws obj n c =
     pair_text h lists o ws obj n (both_of h.groups) (semaphore_in h o)
     (option_and_then (semaphore_in h) (only_in ws)) c.heading c.tail refl refl c.object
 
-snapshot_is : (h : Headed) (lists : List (List ℕ)) (o : List ℕ) (ws : List (List ℕ))
+snapshot_is : (h : HeadingModel) (lists : List (List ℕ)) (o : List ℕ) (ws : List (List ℕ))
     (obj : Object) (n : ℕ) → Names h verbs.Snapshot o ws obj
     → IsCallText h lists verbs.Snapshot o ws obj n
 snapshot_is h lists o ws obj n c =
@@ -254,7 +258,7 @@ pub not_back : (b : Bool) → not b ≡ false → b ≡ true
 not_back true e = refl
 not_back false e = cc
 
-write_to : (h : Headed) (lists more : List (List ℕ)) (o : List ℕ) (ws : List (List ℕ))
+write_to : (h : HeadingModel) (lists more : List (List ℕ)) (o : List ℕ) (ws : List (List ℕ))
     (i : ℕ) (d : databases.Database) → IsDatabaseAt h o (i, d)
     → is_bad_tail tails.ManyDigits ws (objects.Database i d) ≡ false
     → IsCallText h (lists_after lists (numbers_in ws) ++ more) verbs.Write o ws
@@ -264,15 +268,15 @@ write_to h lists more o ws i d at good =
     let many : length ws ≡ d.cells = eqb-true _ _ (not_back _ p.1) in
     let k : IsStoreAt h (first_group h + i) i d.cells = database_at h i d at.there in
     let lists' : List (List ℕ) = lists_after lists (numbers_in ws) ++ more in
-    let value : value_of h (lists_after lists (numbers_in ws) ++ more) (first_group h + i)
+    let value : numbers_of_value h (lists_after lists (numbers_in ws) ++ more) (first_group h + i)
     (list_number lists (numbers_in ws)) ≡ numbers_in ws =
     k.value (lists_after lists (numbers_in ws) ++ more) (list_number lists (numbers_in ws))
     ∙ list_found (numbers_in ws) d.cells lists more (numbers_length ws ∙ many) in
-    followed (codes "write ") o (group_word h i) (spaced_words ws) (spaced (numbers_in ws)) at.word
+    followed (codes "write ") o (group_word h i) (spaced_words ws) (numbers_after_spaces (numbers_in ws)) at.word
     (words_spaced ws p.0)
     ∙ sym (rw (k.put, k.word, value) refl)
 
-write_is : (h : Headed) (lists more : List (List ℕ)) (o : List ℕ) (ws : List (List ℕ))
+write_is : (h : HeadingModel) (lists more : List (List ℕ)) (o : List ℕ) (ws : List (List ℕ))
     (obj : Object) → Names h verbs.Write o ws obj
     → IsCallText h (lists_after lists (numbers_in ws) ++ more) verbs.Write o ws obj
     (list_number lists (numbers_in ws))
@@ -285,7 +289,7 @@ write_is h lists more o ws obj c =
     ws x (list_number lists (numbers_in ws))) m.2
     (write_to h lists more o ws m.0.0 m.0.1 d good)
 
-named_is : (h : Headed) (lists more : List (List ℕ)) (v : Verb) (o : List ℕ)
+named_is : (h : HeadingModel) (lists more : List (List ℕ)) (v : OpWord) (o : List ℕ)
     (ws : List (List ℕ)) (obj : Object) → Names h v o ws obj
     → IsCallText h (lists_of lists v ws ++ more) v o ws obj (number_in lists v ws)
 named_is h lists more verbs.Advance o ws obj c =
@@ -306,9 +310,9 @@ named_is h lists more verbs.Write o ws obj c = write_is h lists more o ws obj c
 named_is h lists more verbs.Snapshot o ws obj c =
     snapshot_is h (lists ++ more) o ws obj (only_number ws) c
 
--- whatever lists are added after the call
-pub call_is : (h : Headed) (lists more : List (List ℕ)) (v : Verb) (o : List ℕ)
-    (ws : List (List ℕ)) (obj : Object) → HasOutline h
+-- the words of a call are its text, whatever lists are added after it
+pub call_is : (h : HeadingModel) (lists more : List (List ℕ)) (v : OpWord) (o : List ℕ)
+    (ws : List (List ℕ)) (obj : Object) → HasHeaderTree h
     → object_in h v o (other_word v ws) ≡ Some obj → is_tail (tail_of v) ws ≡ true
     → is_bad_tail (tail_of v) ws obj ≡ false
     → IsCallText h (lists_of lists v ws ++ more) v o ws obj (number_in lists v ws)

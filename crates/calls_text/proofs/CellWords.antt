@@ -1,4 +1,4 @@
--- A word that spells a cell is the one that spells it.
+-- A word that is read as a cell is the word of that cell.
 use Rattle.std.proofs.Common.{◌≡◌, ℕ, ◌+◌, ◌<◌, List, [], ◌∷◌, ◌++◌, cond, eqb, true, false, Option}
 use Rattle.std.proofs.Common.{None, Some, refl, sym, ap, ◌∙◌, decimal, append_assoc, nat_lt}
 use Rattle.std.specs.Prelude.{option_map}
@@ -7,11 +7,11 @@ use Rattle.std.proofs.lemmas.Bool.{eqb-true, ltb-true}
 use Rattle.ec_count.specs.Names.{find_name}
 use Rattle.ec_count.specs.declared.target.Target.{Target}
 use Rattle.ec_count.specs.declared.target.Target.TheVariants.{Cells}
-use Rattle.ec_text.specs.Words.{number_of}
+use Rattle.ec_text.specs.Words.{number_in_word}
 use Rattle.ec_text.proofs.shared.NumberLemmas.{number_takes, guarded}
 use Rattle.ec_heading.specs.Spelling.{cell_word}
-use Rattle.ec_heading.specs.Spelled.{Named, cut_at, closed_number, block_of, cell_at, cell_of}
-use Rattle.ec_heading.specs.Spelled.{cell_by, cell_in_word}
+use Rattle.ec_heading.specs.EntryWords.{NameTable, cut_at, closed_number, block_of, cell_at, cell_of}
+use Rattle.ec_heading.specs.EntryWords.{cell_by, cell_in_word}
 use Rattle.ec_heading.proofs.shared.ReadNames.{AreApart, bracketed, cell_back}
 
 pub and_then_back : {A B : Type 0} (f : A → Option B) (o : Option A) (y : B)
@@ -24,12 +24,12 @@ and_then_back f (Some x) y e = (x, refl, e)
 abbrev onto_front : ℕ → List ℕ × List ℕ → List ℕ × List ℕ
 onto_front b p = (b ∷ p.0, p.1)
 
-front_back : (b : ℕ) (o : Option (List ℕ × List ℕ)) (front rest : List ℕ)
-    → option_map (onto_front b) o ≡ Some (front, rest)
-    → (mid : List ℕ) × (o ≡ Some (mid, rest)) × (front ≡ b ∷ mid)
-front_back b None front rest e = cc
-front_back b (Some p) front rest e =
-    let same : (b ∷ p.0, p.1) ≡ (front, rest) = cc in
+front_back : (b : ℕ) (o : Option (List ℕ × List ℕ)) (prefix rest : List ℕ)
+    → option_map (onto_front b) o ≡ Some (prefix, rest)
+    → (mid : List ℕ) × (o ≡ Some (mid, rest)) × (prefix ≡ b ∷ mid)
+front_back b None prefix rest e = cc
+front_back b (Some p) prefix rest e =
+    let same : (b ∷ p.0, p.1) ≡ (prefix, rest) = cc in
     let tail : p.1 ≡ rest = ap (λ (q : List ℕ × List ℕ). q.1) same in (
       p.0,
       ap (λ (r : List ℕ). Some (p.0, r)) tail,
@@ -37,20 +37,20 @@ front_back b (Some p) front rest e =
     )
 
 -- the pieces, with the byte between them, are the word
-cut_joins : (c : ℕ) (word front rest : List ℕ) → cut_at c word ≡ Some (front, rest)
-    → word ≡ front ++ c ∷ rest
+cut_joins : (c : ℕ) (word prefix rest : List ℕ) → cut_at c word ≡ Some (prefix, rest)
+    → word ≡ prefix ++ c ∷ rest
 unfolding cut_at
-cut_joins c [] front rest e = cc
-cut_joins c (b ∷ word) front rest e =
+cut_joins c [] prefix rest e = cc
+cut_joins c (b ∷ word) prefix rest e =
     elim (eqb b c) as (λ t. eqb b c ≡ t
-    → cond t (Some ([], word)) (option_map (onto_front b) (cut_at c word)) ≡ Some (front, rest)
-    → b ∷ word ≡ front ++ c ∷ rest) [
+    → cond t (Some ([], word)) (option_map (onto_front b) (cut_at c word)) ≡ Some (prefix, rest)
+    → b ∷ word ≡ prefix ++ c ∷ rest) [
       | true ↦ λ q g.
-          (let same : ([], word) ≡ (front, rest) = cc in
+          (let same : ([], word) ≡ (prefix, rest) = cc in
           ap (λ (x : ℕ). x ∷ word) (eqb-true b c q)
           ∙ ap (λ (p : List ℕ × List ℕ). p.0 ++ c ∷ p.1) same)
       | false ↦ λ q g.
-          (let k = front_back b (cut_at c word) front rest g in
+          (let k = front_back b (cut_at c word) prefix rest g in
           ap (λ (r : List ℕ). b ∷ r) (cut_joins c word k.0 rest k.1)
           ∙ ap (λ (r : List ℕ). r ++ c ∷ rest) (sym k.2))
     ] refl e
@@ -69,12 +69,12 @@ inside_back i first n x e =
 
 -- the number before the bracket
 closed_back : (p : Option (List ℕ × List ℕ)) (i : ℕ) → closed_number p ≡ Some i
-    → (digits : List ℕ) × (p ≡ Some (digits, [])) × (number_of digits ≡ Some i)
+    → (digits : List ℕ) × (p ≡ Some (digits, [])) × (number_in_word digits ≡ Some i)
 closed_back None i e = cc
 closed_back (Some (digits, [])) i e = (digits, refl, e)
 closed_back (Some (digits, b ∷ bs)) i e = cc
 
-pub record IsCell (names : Named) (word : List ℕ) (x : ℕ) : Type 0 where
+pub record IsCell (names : NameTable) (word : List ℕ) (x : ℕ) : Type 0 where
   pub block : List ℕ
   pub first : ℕ
   pub count : ℕ
@@ -84,7 +84,7 @@ pub record IsCell (names : Named) (word : List ℕ) (x : ℕ) : Type 0 where
   pub is : first + place ≡ x
   pub spelled : word ≡ bracketed block place
 
-cell_parts : (names : Named) (word : List ℕ) (p : Option (List ℕ × List ℕ)) (x : ℕ)
+cell_parts : (names : NameTable) (word : List ℕ) (p : Option (List ℕ × List ℕ)) (x : ℕ)
     → cut_at 91 word ≡ p → cell_by names p ≡ Some x → IsCell names word x
 cell_parts names word None x at e = cc
 cell_parts names word (Some (name, rest)) x at e =
@@ -111,12 +111,12 @@ cell_parts names word (Some (name, rest)) x at e =
       spelled = outer ∙ ap (λ (r : List ℕ). name ++ 91 ∷ r) inner ∙ sym shape;
     }
 
-pub cell_is : (names : Named) (word : List ℕ) (x : ℕ) → cell_in_word names word ≡ Some x
+pub cell_is : (names : NameTable) (word : List ℕ) (x : ℕ) → cell_in_word names word ≡ Some x
     → IsCell names word x
 unfolding cell_in_word
 cell_is names word x e = cell_parts names word (cut_at 91 word) x refl e
 
-pub cell_spelled : (names : Named) (word : List ℕ) (x : ℕ) → AreApart names
+pub cell_spelled : (names : NameTable) (word : List ℕ) (x : ℕ) → AreApart names
     → cell_in_word names word ≡ Some x → cell_word names x ≡ word
 cell_spelled names word x apart e =
     let c = cell_is names word x e in

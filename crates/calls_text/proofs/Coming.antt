@@ -13,7 +13,7 @@ use Rattle.ec_count.specs.Members as members
 use Rattle.ec_count.specs.declared.setup.Rights.{Rights}
 use Rattle.ec_semaphore.specs.Shapes.{Semaphore}
 use Rattle.ec_heading.specs.declared.group.Group.TheVariants as groups
-use Rattle.ec_heading.specs.Headed.{Headed}
+use Rattle.ec_heading.specs.HeadingModel.{HeadingModel}
 use Rattle.calls_core.specs.declared.history.Kind as sorts
 use Rattle.calls_core.specs.declared.history.Kind.TheVariants.{Eventcount, Sequencer, Cell}
 use Rattle.calls_core.specs.declared.history.Kind.TheVariants.{Database, Semaphores}
@@ -24,29 +24,30 @@ use Rattle.calls_core.specs.declared.history.Action.TheVariants.{Invoke}
 use Rattle.calls_core.specs.declared.history.Event.{Event}
 use Rattle.calls_core.specs.Histories.{Takes, IsNext, pending_after}
 use Rattle.calls_counts.specs.Faults.{is_advance}
-use Rattle.calls_text.specs.declared.fault.Kind.{Kind}
-use Rattle.calls_text.specs.declared.fault.Kind.TheVariants as faults
-use Rattle.calls_text.specs.declared.verb.Verb.{Verb}
-use Rattle.calls_text.specs.declared.verb.Verb.TheVariants as verbs
+use Rattle.calls_text.specs.declared.fault.FaultKind.{FaultKind}
+use Rattle.calls_text.specs.declared.fault.FaultKind.TheVariants as faults
+use Rattle.calls_text.specs.declared.verb.OpWord.{OpWord}
+use Rattle.calls_text.specs.declared.verb.OpWord.TheVariants as verbs
 use Rattle.calls_text.specs.declared.object.Object.{Object}
 use Rattle.calls_text.specs.declared.object.Object.TheVariants as objects
 use Rattle.calls_text.specs.Objects.{has_right, is_owned}
-use Rattle.calls_text.specs.Verbs.{is_giving, tail_of}
-use Rattle.calls_text.specs.Recordings.{Recorded, AreKinds, start_of}
+use Rattle.calls_text.specs.Verbs.{is_update, tail_of}
+use Rattle.calls_text.specs.Recordings.{RecordingModel, AreKinds, start_count}
 use Rattle.calls_text.specs.Recordings.{first_sequencer, first_cell, semaphores, first_group}
-use Rattle.calls_text.specs.Reading.{is_bad_tail, call_fault_by, has_two_roles, index_of, op_of}
+use Rattle.calls_text.specs.Reading.{is_bad_tail, call_fault_by, has_two_roles, index_of, op_of_word}
 use Rattle.calls_text.specs.Reading.{number_in, lists_of}
 use Rattle.calls_text.specs.declared.running.Running.{Running}
 use Rattle.calls_text.specs.declared.tally.Tally.{Tally}
 use Rattle.calls_text.specs.Tallies.{tally_at, IsCountedFurther}
 use Rattle.calls_text.specs.kept.Judging.{pending_by, spent_at, spent_by, fault_by}
-use Rattle.calls_text.specs.kept.Judging.{invocation, Happening}
+use Rattle.calls_text.specs.kept.Judging.{invocation, NextEvent}
 use Rattle.calls_text.specs.kept.Judging.{TallyAfter, IsTallied, Answers}
 use Rattle.calls_text.specs.kept.Runs.{Fits}
+use Rattle.ec_heading.proofs.shared.Declarable.{is_none_from as none_of}
 
 -- FAULTS
 
-passes : (b : Bool) (k : Kind) (xs : List (Bool × Kind)) → first_that ((b, k) ∷ xs) ≡ None
+passes : (b : Bool) (k : FaultKind) (xs : List (Bool × FaultKind)) → first_that ((b, k) ∷ xs) ≡ None
     → (b ≡ false) × (first_that xs ≡ None)
 passes true k xs is = cc
 passes false k xs is = (refl, is)
@@ -55,24 +56,20 @@ held : (b : Bool) → not b ≡ false → b ≡ true
 held true is = refl
 held false is = cc
 
-none_of : {A : Type 0} (o : Option A) → is_some o ≡ false → o ≡ None
-none_of None is = refl
-none_of (Some x) is = cc
-
-record NoFault (h : Headed) (w : ℕ) (v : Verb) (o : Object) (busy spent : Bool) : Type 0 where
+record NoFault (h : HeadingModel) (w : ℕ) (v : OpWord) (o : Object) (busy spent : Bool) : Type 0 where
   roles : has_two_roles o ≡ false
-  right : has_right h.setup w (is_giving v) o ≡ true
+  right : has_right h.setup w (is_update v) o ≡ true
   idle : busy ≡ false
   more : spent ≡ false
 
-no_fault : (h : Headed) (w : ℕ) (v : Verb) (o : Object) (ws : List (List ℕ)) (busy spent : Bool)
+no_fault : (h : HeadingModel) (w : ℕ) (v : OpWord) (o : Object) (ws : List (List ℕ)) (busy spent : Bool)
     → call_fault_by h w v o ws busy spent ≡ None → NoFault h w v o busy spent
 no_fault h w v o ws busy spent is =
-    let t : List (Bool × Kind) = (spent, faults.AtLimit) ∷ [] in
-    let s : List (Bool × Kind) = (busy, faults.Busy) ∷ t in
-    let right : Bool = not (has_right h.setup w (is_giving v) o) in
-    let p : List (Bool × Kind) = (right, faults.NoRight) ∷ s in
-    let q : List (Bool × Kind) = (has_two_roles o, faults.TwoRoles) ∷ p in
+    let t : List (Bool × FaultKind) = (spent, faults.AtLimit) ∷ [] in
+    let s : List (Bool × FaultKind) = (busy, faults.Busy) ∷ t in
+    let right : Bool = not (has_right h.setup w (is_update v) o) in
+    let p : List (Bool × FaultKind) = (right, faults.NoRight) ∷ s in
+    let q : List (Bool × FaultKind) = (has_two_roles o, faults.TwoRoles) ∷ p in
     let owned : Bool = is_owned h.groups o in
     let a = passes (is_bad_tail (tail_of v) ws o) faults.BadNumber ((owned, faults.Hidden) ∷ q) is
     in
@@ -92,7 +89,7 @@ declared f (x ∷ xs) zero is = omega arith
 declared f (x ∷ xs) (suc i) is = let r : i < length xs = declared f xs i is in omega arith
 
 pub signs : (w : ℕ) (events : List Rights) (e : ℕ)
-    → is_some (members.place_of w (option_map_or (λ (r : Rights). r.signal) (slice_get events e)
+    → is_some (members.index_of w (option_map_or (λ (r : Rights). r.signal) (slice_get events e)
     [])) ≡ true
     → e < length events
 signs w [] e is = cc
@@ -105,9 +102,9 @@ both_true false b is = cc
 
 -- KINDS
 
-event_at : (h : Headed) (from : List (ℕ × ℕ)) (kinds : List sorts.Kind) (e : ℕ)
+event_at : (h : HeadingModel) (from : List (ℕ × ℕ)) (kinds : List sorts.Kind) (e : ℕ)
     → AreKinds h from kinds → e < length h.setup.events
-    → slice_get kinds e ≡ Some (Eventcount (start_of from e))
+    → slice_get kinds e ≡ Some (Eventcount (start_count from e))
 event_at h from kinds e are lt =
     let z : e ≡ 0 + e = omega arith in ap (slice_get kinds) z ∙ are.events e lt
 
@@ -115,7 +112,8 @@ by_kind : (kinds : List sorts.Kind) (k : ℕ) (kind : sorts.Kind) (op : Op)
     → slice_get kinds k ≡ Some kind → Takes (Some kind) op → Takes (slice_get kinds k) op
 by_kind kinds k kind op is takes = subst (λ o. Takes o op) (sym is) takes
 
-unit_at : (h : Headed) (from : List (ℕ × ℕ)) (kinds : List sorts.Kind) (are : AreKinds h from kinds)
+unit_at : (h : HeadingModel) (from : List (ℕ
+    × ℕ)) (kinds : List sorts.Kind) (are : AreKinds h from kinds)
     (i : ℕ) (s : Semaphore) → slice_get h.groups i ≡ Some (groups.Semaphore s)
     → i < length are.units.0.items
 unit_at h from kinds are i s at =
@@ -127,9 +125,10 @@ unit_at h from kinds are i s at =
 apart : (i j : ℕ) → (i == j) ≡ false → i ≡ j → ⊥
 apart i j is e = cc (eq-eqb i j e)
 
-takes : (h : Headed) (from : List (ℕ × ℕ)) (kinds : List sorts.Kind) (w : ℕ) (v : Verb) (o : Object)
-    (n : ℕ) → AreKinds h from kinds → Fits h v o → has_right h.setup w (is_giving v) o ≡ true
-    → has_two_roles o ≡ false → Takes (slice_get kinds (index_of h o)) (op_of v o n)
+takes : (h : HeadingModel) (from : List (ℕ
+    × ℕ)) (kinds : List sorts.Kind) (w : ℕ) (v : OpWord) (o : Object)
+    (n : ℕ) → AreKinds h from kinds → Fits h v o → has_right h.setup w (is_update v) o ≡ true
+    → has_two_roles o ≡ false → Takes (slice_get kinds (index_of h o)) (op_of_word v o n)
 takes h from kinds w verbs.Advance (objects.Event e) n are fits right roles =
     by_kind kinds e _ ops.Advance (event_at h from kinds e are (signs w h.setup.events e right)) tt
 takes h from kinds w verbs.Read (objects.Event e) n are fits right roles =
@@ -166,7 +165,7 @@ takes h from kinds w verbs.Snapshot (objects.Database i d) n are fits right role
     (are.databases i (groups.Database d) fits) tt
 takes h from kinds w v o n are fits right roles = absurd fits
 
-pub may_call : (run : Running) (w : ℕ) (v : Verb) (o : Object) (ws : List (List ℕ))
+pub may_call : (run : Running) (w : ℕ) (v : OpWord) (o : Object) (ws : List (List ℕ))
     → Fits run.recording.heading v o → fault_by run w v o ws ≡ None
     → (ks : List sorts.Kind) → AreKinds run.recording.heading run.recording.from ks
     → IsNext ks (invocation run w v o ws).action (pending_by run w)
@@ -174,33 +173,34 @@ may_call run w v o ws fits none ks are =
     let h = run.recording.heading in
     let n = number_in run.recording.lists v ws in
     let f = no_fault h w v o ws (is_some (pending_by run w)) (spent_by run w v o) none in
-    subst (IsNext ks (Invoke (index_of h o) (op_of v o n))) (sym (none_of _ f.idle))
+    subst (IsNext ks (Invoke (index_of h o) (op_of_word v o n))) (sym (none_of _ f.idle))
     (takes h run.recording.from ks w v o n are fits f.right f.roles)
 
 -- one more advance fits
-pub may_add : (run : Running) (w e : ℕ) (v : Verb) (o : Object) → v ≡ verbs.Advance
+pub may_add : (run : Running) (w e : ℕ) (v : OpWord) (o : Object) → v ≡ verbs.Advance
     → o ≡ objects.Event e → spent_by run w v o ≡ false → IsDeclared run.recording.heading.setup
     → tally_at run.tally w e + 1 < 2 ^ 64
 may_add run w e v o is of none declared =
     let more : spent_by run w verbs.Advance (objects.Event e) ≡ false =
-    sym (ap (λ (x : Verb). spent_by run w x o) is ∙ ap (spent_by run w verbs.Advance) of) ∙ none in
+    sym (ap (λ (x : OpWord). spent_by run w x o) is ∙ ap (spent_by run w verbs.Advance) of)
+    ∙ none in
     let below : tally_at run.tally w e < run.recording.heading.setup.limit = leb-false _ _ more in
     omega (arith, declared.limit.1)
 
--- the call is not one too many
-not_spent : (run : Running) (w : ℕ) (v : Verb) (o : Object) (ws : List (List ℕ))
+-- a call without a fault is below the limit
+not_spent : (run : Running) (w : ℕ) (v : OpWord) (o : Object) (ws : List (List ℕ))
     → fault_by run w v o ws ≡ None → spent_by run w v o ≡ false
 not_spent run w v o ws none =
     (no_fault run.recording.heading w v o ws (is_some (pending_by run w)) (spent_by run w v o)
     none).more
 
--- of the lists that takes nothing
-pub still_not_spent : (old new : Running) (mid : Recorded) (w : ℕ) (v : Verb) (o : Object)
+-- this does not depend on the lists
+pub still_not_spent : (old new : Running) (mid : RecordingModel) (w : ℕ) (v : OpWord) (o : Object)
     (ws lists : List (List ℕ)) → mid ≡ record old.recording { lists = lists }
     → new.recording ≡ mid → new.tally ≡ old.tally → fault_by old w v o ws ≡ None
     → spent_by new w v o ≡ false
 still_not_spent old new mid w v o ws lists mid_is is same none =
-    ap (λ (r : Recorded). spent_at r.heading.setup.limit new.tally w v o) (is ∙ mid_is)
+    ap (λ (r : RecordingModel). spent_at r.heading.setup.limit new.tally w v o) (is ∙ mid_is)
     ∙ ap (λ (t : Tally). spent_at old.recording.heading.setup.limit t w v o) same
     ∙ not_spent old w v o ws none
 
@@ -238,11 +238,12 @@ advanced old new w e after u f few some =
     ∙ ap (λ (b : Bool). cond ((w == u) && b) (tally_at old u f + 1) (tally_at old u f))
     (swapped f e)
 
-tallied : (h : Headed) (old new : Tally) (w : ℕ) (v : Verb) (o : Object) (n at : ℕ) → Fits h v o
+tallied : (h : HeadingModel) (old new : Tally) (w : ℕ) (v : OpWord) (o : Object) (n at : ℕ)
+    → Fits h v o
     → TallyAfter old new w v o → IsTallied old new (record {
       at = at;
       worker = w;
-      action = Invoke (index_of h o) (op_of v o n);
+      action = Invoke (index_of h o) (op_of_word v o n);
     })
 tallied h old new w verbs.Advance (objects.Event e) n at fits after =
     λ u f few some. advanced old new w e after u f few some
@@ -258,36 +259,36 @@ tallied h old new w verbs.Put o n at fits after =
 tallied h old new w verbs.Get o n at fits after =
     λ u f few some. other_call old new w (index_of h o) ops.Get refl after u f
 tallied h old new w verbs.P o n at fits after =
-    λ u f few some. other_call old new w (index_of h o) (op_of verbs.P o n) refl after u f
+    λ u f few some. other_call old new w (index_of h o) (op_of_word verbs.P o n) refl after u f
 tallied h old new w verbs.V o n at fits after =
-    λ u f few some. other_call old new w (index_of h o) (op_of verbs.V o n) refl after u f
+    λ u f few some. other_call old new w (index_of h o) (op_of_word verbs.V o n) refl after u f
 tallied h old new w verbs.PBoth o n at fits after =
-    λ u f few some. other_call old new w (index_of h o) (op_of verbs.PBoth o n) refl after u f
+    λ u f few some. other_call old new w (index_of h o) (op_of_word verbs.PBoth o n) refl after u f
 tallied h old new w verbs.Write o n at fits after =
     λ u f few some. other_call old new w (index_of h o) (ops.Put n) refl after u f
 tallied h old new w verbs.Snapshot o n at fits after =
     λ u f few some. other_call old new w (index_of h o) ops.Get refl after u f
 
--- WHAT A CALL LEAVES
+-- THE STATE AFTER A CALL
 
-abbrev pub happening : ℕ → Action → List (List ℕ) → Happening
+abbrev pub happening : ℕ → Action → List (List ℕ) → NextEvent
 happening w a lists = record { worker = w; action = a; lists = lists }
 
 -- what is known of a call that was made
-pub record IsMade (old : Running) (w : ℕ) (v : Verb) (o : Object) (ws : List (List ℕ))
-    (mid : Recorded) (new : Running) (n k : ℕ) (op : Op) (x : Event) : Type 0 where
+pub record IsMade (old : Running) (w : ℕ) (v : OpWord) (o : Object) (ws : List (List ℕ))
+    (mid : RecordingModel) (new : Running) (n k : ℕ) (op : Op) (x : Event) : Type 0 where
   pub mid_is : mid ≡ record old.recording { lists = lists_of old.recording.lists v ws }
   pub number : n ≡ number_in old.recording.lists v ws
   pub index : k ≡ index_of mid.heading o
-  pub op_is : op ≡ op_of v o n
+  pub op_is : op ≡ op_of_word v o n
   pub event : x ≡ record { at = old.count; worker = w; action = Invoke k op }
   pub recording : new.recording ≡ mid
   pub count : new.count ≡ old.count + 1
   pub pending : new.pending.items ≡ pending_after x x.action old.pending.items
   pub tally : TallyAfter old.tally new.tally w v o
 
-pub call_made : (old : Running) (w : ℕ) (v : Verb) (o : Object) (ws : List (List ℕ))
-    (mid : Recorded) (new : Running) (n k : ℕ) (op : Op) (x : Event)
+pub call_made : (old : Running) (w : ℕ) (v : OpWord) (o : Object) (ws : List (List ℕ))
+    (mid : RecordingModel) (new : Running) (n k : ℕ) (op : Op) (x : Event)
     → IsMade old w v o ws mid new n k op x → Fits old.recording.heading v o
     → fault_by old w v o ws ≡ None
     → Answers old new (Ok x) (Ok (invocation old w v o ws))
@@ -296,8 +297,8 @@ call_made old w v o ws mid new n k op x is fits none =
     let lists = lists_of old.recording.lists v ws in
     let last : new.recording ≡ record old.recording { lists = lists } = is.recording ∙ is.mid_is in
     let action : Invoke k op ≡ (invocation old w v o ws).action =
-    ap (λ i. Invoke i op) (is.index ∙ ap (λ (r : Recorded). index_of r.heading o) is.mid_is)
-    ∙ ap (λ (p : Op). Invoke (index_of h o) p) (is.op_is ∙ ap (op_of v o) is.number) in
+    ap (λ i. Invoke i op) (is.index ∙ ap (λ (r : RecordingModel). index_of r.heading o) is.mid_is)
+    ∙ ap (λ (p : Op). Invoke (index_of h o) p) (is.op_is ∙ ap (op_of_word v o) is.number) in
     let event : x ≡ record {
       at = old.count;
       worker = w;
@@ -307,7 +308,7 @@ call_made old w v o ws mid new n k op x is fits none =
     action in
     let all : happening x.worker x.action new.recording.lists ≡ invocation old w v o ws =
     ap (λ (y : Event). happening y.worker y.action new.recording.lists) event
-    ∙ ap (λ (r : Recorded). happening w (invocation old w v o ws).action r.lists) last in (
+    ∙ ap (λ (r : RecordingModel). happening w (invocation old w v o ws).action r.lists) last in (
       ap Ok (sym all),
       record {
         at = ap (λ (y : Event). y.at) event;
@@ -315,8 +316,9 @@ call_made old w v o ws mid new n k op x is fits none =
         pending = is.pending;
         tally = subst (IsTallied old.tally new.tally) (sym event)
             (tallied h old.tally new.tally w v o _ old.count fits is.tally);
-        recording = last ∙ ap (λ (ls : List (List ℕ)). (let r : Recorded = record old.recording
-            { lists = ls } in r)) (sym (ap (λ (r : Recorded). r.lists) last));
+        recording =
+            last ∙ ap (λ (ls : List (List ℕ)). (let r : RecordingModel = record old.recording
+            { lists = ls } in r)) (sym (ap (λ (r : RecordingModel). r.lists) last));
         next = λ ks are. subst (λ (y : Event). IsNext ks y.action (pending_by old y.worker))
             (sym event) (may_call old w v o ws fits none ks are);
       },

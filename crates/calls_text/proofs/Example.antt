@@ -1,12 +1,12 @@
 -- Two histories, one after another: their text, and what is read.
 use Rattle.std.proofs.Common.{◌≡◌, ℕ, List, [], ◌∷◌, ◌++◌, Ok, codes, refl, ap, ◌∙◌, decimal, arith}
 use Rattle.std.proofs.lemmas.Fmt.{decimal_digit, decimal_step}
-use Rattle.ec_heading.specs.declared.sort.Sort.{Sort}
-use Rattle.ec_heading.specs.declared.sort.Sort.TheVariants as sorts
+use Rattle.ec_heading.specs.declared.decl_kind.DeclKind.{DeclKind}
+use Rattle.ec_heading.specs.declared.decl_kind.DeclKind.TheVariants as sorts
 use Rattle.ec_heading.specs.declared.version.Version.TheVariants.{Two}
 use Rattle.ec_heading.specs.Form.{parts_in, split_words}
 use Rattle.ec_heading.specs.Heading.{head_step}
-use Rattle.ec_heading.specs.Outline.{Declaration, headed}
+use Rattle.ec_heading.specs.HeaderTree.{Declaration, heading_of_tree}
 use Rattle.ec_text.specs.Words.{digits_from}
 use Rattle.ec_count.specs.Reserved.{is_name}
 use Rattle.calls_core.specs.declared.history.Op.TheVariants as ops
@@ -14,17 +14,17 @@ use Rattle.calls_core.specs.declared.history.Reply.TheVariants as replies
 use Rattle.calls_core.specs.declared.history.Action.{Action}
 use Rattle.calls_core.specs.declared.history.Action.TheVariants.{Invoke, Respond}
 use Rattle.calls_core.specs.declared.history.Event.{Event}
-use Rattle.calls_text.specs.Recordings.{Recorded}
+use Rattle.calls_text.specs.Recordings.{RecordingModel}
 use Rattle.calls_text.specs.Reading.{Opening, step, limit_step, from_step, event_step}
 use Rattle.calls_text.specs.Forms.{phrase_in}
-use Rattle.calls_text.specs.declared.fault.Kind.TheVariants as kinds
-use Rattle.calls_text.specs.Outcomes.{parts_of, goes, fault_in}
+use Rattle.calls_text.specs.declared.fault.FaultKind.TheVariants as kinds
+use Rattle.calls_text.specs.Outcomes.{lines_of_text, parse_from, fault_in}
 use Rattle.calls_text.specs.Grammar.{history_text}
 
 event : ℕ → ℕ → Action → Event
 event at worker action = record { at = at; worker = worker; action = action }
 
--- NUMBERS, SPELLED BY THEIR DIGITS
+-- THE DIGITS OF NUMBERS
 
 hundred : decimal 100 ≡ codes "100"
 hundred =
@@ -58,9 +58,9 @@ nine = decimal_digit 9 (omega arith)
 
 -- PRESSES, COUNTED FROM 7
 
-presses : Recorded
+presses : RecordingModel
 presses = record {
-  heading = headed (record {
+  heading = heading_of_tree (record {
     version = Two;
     limit = 100;
     workers = codes "a" ∷ codes "b" ∷ codes "c" ∷ [];
@@ -92,26 +92,26 @@ unfolding presses presses_text event history_text
 presses_spelled = rw (hundred, seven, eight, nine) refl
 
 -- read before another history
-presses_read : goes 1 Opening (parts_of (presses_text ++ codes "evc-calls 1\n"))
+presses_read : parse_from 1 Opening (lines_of_text (presses_text ++ codes "evc-calls 1\n"))
     ≡ Ok (record {
       recorded = presses;
       number = 14;
       rest = codes "evc-calls 1" ∷ [] ∷ [];
     })
-unfolding presses presses_text event goes step limit_step from_step event_step head_step parts_in
+unfolding presses presses_text event parse_from step limit_step from_step event_step head_step parts_in
     split_words phrase_in digits_from is_name
 presses_read = refl
 
 -- A DATABASE AND TWO SEMAPHORES
 
-declared : Sort → List ℕ → ℕ → List ℕ → List ℕ → Declaration
+declared : DeclKind → List ℕ → ℕ → List ℕ → List ℕ → Declaration
 declared sort name number first second =
     record { sort = sort; name = name; number = number; first = first; second = second }
 
--- the list 4 5 goes by 1, and the list of zeros by 0
-pairs : Recorded
+-- the list 4 5 has the number 1, and the list of zeros 0
+pairs : RecordingModel
 pairs = record {
-  heading = headed (record {
+  heading = heading_of_tree (record {
     version = Two;
     limit = 9;
     workers = codes "a" ∷ codes "b" ∷ [];
@@ -142,25 +142,25 @@ pairs_spelled : history_text pairs ≡ pairs_text
 unfolding pairs pairs_text declared event history_text
 pairs_spelled = rw (zero_is, one, two, four, five, nine) refl
 
-pairs_read : goes 14 Opening (parts_of pairs_text)
+pairs_read : parse_from 14 Opening (lines_of_text pairs_text)
     ≡ Ok (record { recorded = pairs; number = 32; rest = [] ∷ [] })
-unfolding pairs pairs_text declared event goes step limit_step from_step event_step head_step
+unfolding pairs pairs_text declared event parse_from step limit_step from_step event_step head_step
     parts_in split_words phrase_in digits_from is_name
 pairs_read = refl
 
 -- TEXTS THAT ARE CUT OFF
 
-cut_in_a_line : goes 1 Opening (parts_of (codes "evc-calls 1\nlimit 1\nwork"))
+cut_in_a_line : parse_from 1 Opening (lines_of_text (codes "evc-calls 1\nlimit 1\nwork"))
     ≡ fault_in 3 kinds.BadLine (codes "work")
-unfolding goes step limit_step head_step parts_in digits_from
+unfolding parse_from step limit_step head_step parts_in digits_from
 cut_in_a_line = refl
 
-cut_before_its_lf : goes 1 Opening (parts_of (codes "evc-calls 1\nlimit 1"))
+cut_before_its_lf : parse_from 1 Opening (lines_of_text (codes "evc-calls 1\nlimit 1"))
     ≡ fault_in 2 kinds.Unfinished (codes "limit 1")
-unfolding goes step limit_step digits_from
+unfolding parse_from step limit_step digits_from
 cut_before_its_lf = refl
 
-cut_after_an_lf : goes 1 Opening (parts_of (codes "evc-calls 1\nlimit 1\n"))
+cut_after_an_lf : parse_from 1 Opening (lines_of_text (codes "evc-calls 1\nlimit 1\n"))
     ≡ fault_in 3 kinds.Unfinished []
-unfolding goes step limit_step digits_from
+unfolding parse_from step limit_step digits_from
 cut_after_an_lf = refl

@@ -1,4 +1,4 @@
--- The words of what is declared are found as what they spell.
+-- The word of each declared worker, object and group names it.
 use Rattle.std.proofs.Common.{◌≡◌, ℕ, ◌+◌, ◌-◌, ◌<◌, List, [], ◌∷◌, ◌++◌, length, true, false, eqb}
 use Rattle.std.proofs.Common.{nat_lt, Some, refl, sym, ap, ◌∙◌, subst, arith, decimal}
 use Rattle.std.proofs.Common.{append_assoc, slice_get, length-append, eq-eqb, ne_eqb}
@@ -14,17 +14,17 @@ use Rattle.ec_database.specs.Shapes.{Database}
 use Rattle.ec_semaphore.specs.Shapes.{Semaphore}
 use Rattle.ec_text.proofs.shared.NumberLemmas.{number_again}
 use Rattle.ec_heading.specs.declared.group.Group.TheVariants as groups
-use Rattle.ec_heading.specs.Headed.{Headed}
-use Rattle.ec_heading.specs.Lists.{worker_of, worker_in}
-use Rattle.ec_heading.specs.Outlined.{HasOutline}
-use Rattle.ec_heading.specs.Spelled.{Named, event_of, sequencer_of, event_in, sequencer_in}
-use Rattle.ec_heading.specs.Spelled.{cut_at, cell_in_word}
-use Rattle.ec_heading.specs.Spelling.{cell_word, word_of}
+use Rattle.ec_heading.specs.HeadingModel.{HeadingModel}
+use Rattle.ec_heading.specs.Lists.{target_worker, worker_in}
+use Rattle.ec_heading.specs.HeadingInvariant.{HasHeaderTree}
+use Rattle.ec_heading.specs.EntryWords.{NameTable, target_event, target_sequencer, event_in, sequencer_in}
+use Rattle.ec_heading.specs.EntryWords.{cut_at, cell_in_word}
+use Rattle.ec_heading.specs.Spelling.{cell_word, target_name}
 use Rattle.ec_heading.proofs.shared.NameWords.{IsNamed, named}
 use Rattle.ec_heading.proofs.shared.ReadHeadings.{IsSound}
 use Rattle.ec_heading.proofs.shared.ReadNames.{HasName, HasBlock, has_block, IsNamedBy, named_by}
 use Rattle.ec_heading.proofs.shared.ReadNames.{block_by, bracketed, word_lacks}
-use Rattle.ec_heading.proofs.shared.SortFacts.{name_called}
+use Rattle.ec_heading.proofs.shared.DeclKindFacts.{name_called}
 use Rattle.ec_heading.proofs.shared.SpelledWords.{IsPlainWord, found_word, plain_word}
 use Rattle.calls_text.specs.Objects.{semaphore_in, database_in}
 use Rattle.calls_text.specs.Spelling.{worker_word, event_word, sequencer_word, cell_name}
@@ -35,12 +35,12 @@ use Rattle.calls_text.proofs.ObjectWords.{sound_of}
 
 -- WORDS BY NAMES
 
--- the word is found as the target, and can stand in a line
-pub record IsFound (words : Named) (t : Target) (word : List ℕ) : Type 0 where
+-- the word names the target, and may be a word of a line
+pub record IsFound (words : NameTable) (t : Target) (word : List ℕ) : Type 0 where
   pub found : find_name word words ≡ Some t
   pub fine : IsFine word
 
-plain_fine : (words : Named) (t : Target) (w : List ℕ) → AllByRecursion HasBytes words
+plain_fine : (words : NameTable) (t : Target) (w : List ℕ) → AllByRecursion HasBytes words
     → IsNamedBy words t w → IsFound words t w
 plain_fine words t w bytes by = record {
   found = by.found;
@@ -52,47 +52,47 @@ plain_fine words t w bytes by = record {
   };
 }
 
-word_found : (h : Headed) (t : Target) → HasOutline h → HasName h.words t
-    → IsFound h.words t (word_of h.words t)
+word_found : (h : HeadingModel) (t : Target) → HasHeaderTree h → HasName h.words t
+    → IsFound h.words t (target_name h.words t)
 word_found h t has name =
-    plain_fine h.words t (word_of h.words t) (words_have_bytes h has)
+    plain_fine h.words t (target_name h.words t) (words_have_bytes h has)
     (named_by h.words t (sound_of h has).words name)
 
-pub worker_found : (h : Headed) (w : ℕ) → HasOutline h → w < h.setup.workers
+pub worker_found : (h : HeadingModel) (w : ℕ) → HasHeaderTree h → w < h.setup.workers
     → (worker_in h.words (worker_word h w) ≡ Some w) × IsFine (worker_word h w)
 worker_found h w has lt =
     let s : IsSound h = sound_of h has in
-    let f : IsFound h.words (target.Worker w) (word_of h.words (target.Worker w)) =
+    let f : IsFound h.words (target.Worker w) (target_name h.words (target.Worker w)) =
     word_found h (target.Worker w) has (s.workers w lt) in
     let small : nat_lt w 16 ≡ true = lt-ltb _ _ (omega (arith, s.kept.few_workers)) in
-    rw small (ap (option_and_then worker_of) f.found, f.fine)
+    rw small (ap (option_and_then target_worker) f.found, f.fine)
 
-pub event_found : (h : Headed) (e : ℕ) → HasOutline h → e < length h.setup.events
+pub event_found : (h : HeadingModel) (e : ℕ) → HasHeaderTree h → e < length h.setup.events
     → (event_in h.words (event_word h e) ≡ Some e) × IsFine (event_word h e)
 event_found h e has lt =
     let s : IsSound h = sound_of h has in
-    let f : IsFound h.words (target.Event e) (word_of h.words (target.Event e)) =
+    let f : IsFound h.words (target.Event e) (target_name h.words (target.Event e)) =
     word_found h (target.Event e) has (s.events e lt) in
     let small : nat_lt e 32 ≡ true = lt-ltb _ _ (omega (arith, s.bounds.events)) in
-    rw small (ap (option_and_then event_of) f.found, f.fine)
+    rw small (ap (option_and_then target_event) f.found, f.fine)
 
-pub sequencer_found : (h : Headed) (q : ℕ) → HasOutline h → q < length h.setup.takers
+pub sequencer_found : (h : HeadingModel) (q : ℕ) → HasHeaderTree h → q < length h.setup.takers
     → (sequencer_in h.words (sequencer_word h q) ≡ Some q) × IsFine (sequencer_word h q)
 sequencer_found h q has lt =
     let s : IsSound h = sound_of h has in
-    let f : IsFound h.words (target.Sequencer q) (word_of h.words (target.Sequencer q)) =
+    let f : IsFound h.words (target.Sequencer q) (target_name h.words (target.Sequencer q)) =
     word_found h (target.Sequencer q) has (s.sequencers q lt) in
     let small : nat_lt q 32 ≡ true = lt-ltb _ _ (omega (arith, s.bounds.sequencers)) in
-    rw small (ap (option_and_then sequencer_of) f.found, f.fine)
+    rw small (ap (option_and_then target_sequencer) f.found, f.fine)
 
 -- CELLS
 
--- a word is cut at a byte that does not stand before
-cut_there : (c : ℕ) (front rest : List ℕ) → Lacks c front
-    → cut_at c (front ++ c ∷ rest) ≡ Some (front, rest)
+-- a word is cut at the first such byte
+cut_there : (c : ℕ) (prefix rest : List ℕ) → Lacks c prefix
+    → cut_at c (prefix ++ c ∷ rest) ≡ Some (prefix, rest)
 unfolding cut_at
 cut_there c [] rest all = let e : eqb c c ≡ true = eq-eqb c c refl in rw e refl
-cut_there c (b ∷ front) rest all = rw (all.0, cut_there c front rest all.1) refl
+cut_there c (b ∷ prefix) rest all = rw (all.0, cut_there c prefix rest all.1) refl
 
 bracketed_shape : (block : List ℕ) (i : ℕ)
     → bracketed block i ≡ block ++ 91 ∷ (decimal i ++ 93 ∷ [])
@@ -100,18 +100,18 @@ bracketed_shape block i =
     append_assoc (block ++ 91 ∷ []) (decimal i) (93 ∷ [])
     ∙ append_assoc block (91 ∷ []) (decimal i ++ 93 ∷ [])
 
-bracketed_found : (names : Named) (block : List ℕ) (first n i : ℕ)
+bracketed_found : (names : NameTable) (block : List ℕ) (first n i : ℕ)
     → IsNamedBy names (target.Cells first n) block → i < n → i < 1000000000000000000
     → cell_in_word names (bracketed block i) ≡ Some (first + i)
 unfolding cell_in_word
 bracketed_found names block first n i by inside small =
-    let front : cut_at 91 (bracketed block i) ≡ Some (block, decimal i ++ 93 ∷ []) =
+    let prefix : cut_at 91 (bracketed block i) ≡ Some (block, decimal i ++ 93 ∷ []) =
     ap (cut_at 91) (bracketed_shape block i)
     ∙ cut_there 91 block (decimal i ++ 93 ∷ []) (word_lacks 91 block refl by.plain) in
     let back : cut_at 93 (decimal i ++ 93 ∷ []) ≡ Some (decimal i, []) =
     cut_there 93 (decimal i) [] (decimal_lacks 93 i small (λ r. omega arith)) in
     let below : nat_lt i n ≡ true = lt-ltb _ _ inside in
-    rw front (rw back (rw (number_again i small) (rw by.found (rw below refl))))
+    rw prefix (rw back (rw (number_again i small) (rw by.found (rw below refl))))
 
 bracketed_lacks : (c : ℕ) (block : List ℕ) (i : ℕ) → Lacks c block → Lacks c (decimal i)
     → eqb 91 c ≡ false → eqb 93 c ≡ false → Lacks c (bracketed block i)
@@ -141,7 +141,7 @@ bracketed_fine block i plain small = record {
   short = omega (arith, plain.short, digits_length i small, bracketed_length block i);
 }
 
-block_cell : (h : Headed) (x : ℕ) → HasOutline h → x < 256 → HasBlock h.words x
+block_cell : (h : HeadingModel) (x : ℕ) → HasHeaderTree h → x < 256 → HasBlock h.words x
     → (cell_in_word h.words (cell_word h.words x) ≡ Some x) × IsFine (cell_word h.words x)
 block_cell h x has few b =
     let s : IsSound h = sound_of h has in
@@ -154,7 +154,7 @@ block_cell h x has few b =
       bracketed_fine b.block (x - b.first) by.plain (omega (arith, few)),
     )
 
-pub cell_found : (h : Headed) (x : ℕ) → HasOutline h → x < length h.setup.cells
+pub cell_found : (h : HeadingModel) (x : ℕ) → HasHeaderTree h → x < length h.setup.cells
     → (cell_in_word h.words (cell_name h x) ≡ Some x) × IsFine (cell_name h x)
 cell_found h x has lt =
     let s : IsSound h = sound_of h has in
@@ -175,14 +175,15 @@ name_fine w is =
       short = omega (arith, n.short);
     }
 
-group_fine : (h : Headed) (w : List ℕ) (t : Target) → HasOutline h → find_name w h.names ≡ Some t
+group_fine : (h : HeadingModel) (w : List ℕ) (t : Target) → HasHeaderTree h
+    → find_name w h.names ≡ Some t
     → IsFine w
 group_fine h w t has found =
     name_fine w (found_word (λ v. is_name v ≡ true) h.names w t
     (recursion_from_All (λ (e : List ℕ × Target). is_name e.0 ≡ true) h.names
     (sound_of h has).names.each) found)
 
-pub semaphore_found : (h : Headed) (i : ℕ) (s : Semaphore) → HasOutline h
+pub semaphore_found : (h : HeadingModel) (i : ℕ) (s : Semaphore) → HasHeaderTree h
     → slice_get h.groups i ≡ Some (groups.Semaphore s)
     → (semaphore_in h (group_word h i) ≡ Some (i, s)) × IsFine (group_word h i)
 semaphore_found h i s has there =
@@ -190,7 +191,7 @@ semaphore_found h i s has there =
     group_found h i (groups.Semaphore s) has there refl in
     (rw found (rw there refl), group_fine h (group_word h i) (target.Group i) has found)
 
-pub database_found : (h : Headed) (i : ℕ) (d : Database) → HasOutline h
+pub database_found : (h : HeadingModel) (i : ℕ) (d : Database) → HasHeaderTree h
     → slice_get h.groups i ≡ Some (groups.Database d)
     → (database_in h (group_word h i) ≡ Some (i, d)) × IsFine (group_word h i)
 database_found h i d has there =

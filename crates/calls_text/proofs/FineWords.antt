@@ -13,7 +13,7 @@ use Rattle.ec_text.specs.Words.{words_of, AreWords}
 use Rattle.ec_text.proofs.shared.WordLemmas.{words_join}
 use Rattle.ec_text.proofs.shared.NumberLemmas.{own}
 use Rattle.ec_heading.specs.Heading.{is_no_line}
-use Rattle.ec_heading.specs.Recalled.{spaced as spaced_words}
+use Rattle.ec_heading.specs.Recalled.{with_spaces as spaced_words}
 use Rattle.calls_text.specs.Rules.{AreSmall}
 use Rattle.calls_text.proofs.TextParts.{IsPart}
 use Rattle.calls_text.proofs.Values.{join_spaced}

@@ -1,4 +1,4 @@
--- The object of a call is of the sort that the call asks for.
+-- The object of a call is of the sort that the call needs.
 use Rattle.std.proofs.Common.{◌≡◌, ℕ, List, Option, Some, None, slice_get, refl, subst}
 use Rattle.std.proofs.lemmas.Option.{slice_get_within}
 use Rattle.std.specs.Prelude.{option_map}
@@ -8,37 +8,34 @@ use Rattle.ec_database.specs.Shapes as databases
 use Rattle.ec_semaphore.specs.Shapes.{Semaphore}
 use Rattle.ec_heading.specs.declared.group.Group.{Group}
 use Rattle.ec_heading.specs.declared.group.Group.TheVariants as groups
-use Rattle.ec_heading.specs.Headed.{Headed}
-use Rattle.ec_heading.specs.Spelled.{event_in, sequencer_in, cell_in_word}
-use Rattle.calls_text.specs.declared.verb.Verb.{Verb}
-use Rattle.calls_text.specs.declared.verb.Verb.TheVariants as verbs
+use Rattle.ec_heading.specs.HeadingModel.{HeadingModel}
+use Rattle.ec_heading.specs.EntryWords.{event_in, sequencer_in, cell_in_word}
+use Rattle.calls_text.specs.declared.verb.OpWord.{OpWord}
+use Rattle.calls_text.specs.declared.verb.OpWord.TheVariants as verbs
 use Rattle.calls_text.specs.declared.object.Object.{Object}
 use Rattle.calls_text.specs.declared.object.Object.TheVariants as objects
-use Rattle.calls_text.specs.Objects.{place_of, group_at, group_in, placed_semaphore}
-use Rattle.calls_text.specs.Objects.{placed_database, semaphore_in, database_in, both_of}
-use Rattle.calls_text.specs.Objects.{pair_of, as_semaphore, as_database, object_in}
+use Rattle.calls_text.specs.Objects.{group_place, group_at, group_in, placed_semaphore}
+use Rattle.calls_text.specs.Objects.{placed_database, semaphore_in, database_in}
+use Rattle.ec_heading.specs.Groups.{both_of}
+use Rattle.calls_text.specs.Objects.{semaphore_pair, as_semaphore, as_database, object_in}
 use Rattle.calls_text.specs.kept.Runs.{Fits, IsPlaced}
+use Rattle.calls_text.proofs.CellWords.{and_then_back as bound}
 
-bound : {A B : Type 0} (f : A → Option B) (o : Option A) (y : B) → option_and_then f o ≡ Some y
-    → (x : A) × (o ≡ Some x) × (f x ≡ Some y)
-bound f None y is = cc
-bound f (Some x) y is = (x, refl, is)
-
-mapped : {A B : Type 0} (f : A → B) (o : Option A) (y : B) → option_map f o ≡ Some y
+pub mapped : {A B : Type 0} (f : A → B) (o : Option A) (y : B) → option_map f o ≡ Some y
     → (x : A) × (o ≡ Some x) × (f x ≡ y)
 mapped f None y is = cc
 mapped f (Some x) y is = (x, refl, cc)
 
 -- GROUPS
 
-group_found : (h : Headed) (w : List ℕ) (p : ℕ × Group) → group_in h w ≡ Some p
+group_found : (h : HeadingModel) (w : List ℕ) (p : ℕ × Group) → group_in h w ≡ Some p
     → slice_get h.groups p.0 ≡ Some p.1
 group_found h w p is =
-    let b = bound (group_at h.groups) (option_and_then place_of (find_name w h.names)) p is in
+    let b = bound (group_at h.groups) (option_and_then group_place (find_name w h.names)) p is in
     let m = mapped (λ (g : Group). (b.0, g)) (slice_get h.groups b.0) p b.2 in
     subst (λ (q : ℕ × Group). slice_get h.groups q.0 ≡ Some q.1) m.2 m.1
 
-as_one : (h : Headed) (i : ℕ) (g : Group) (p : ℕ × Semaphore) → slice_get h.groups i ≡ Some g
+as_one : (h : HeadingModel) (i : ℕ) (g : Group) (p : ℕ × Semaphore) → slice_get h.groups i ≡ Some g
     → placed_semaphore (i, g) ≡ Some p → slice_get h.groups p.0 ≡ Some (groups.Semaphore p.1)
 as_one h i (groups.Semaphore s) p at is =
     let e : (let q : ℕ × Semaphore = (i, s) in q) ≡ p = cc in
@@ -47,7 +44,7 @@ as_one h i (groups.Both s) p at is = cc
 as_one h i (groups.Buffer b) p at is = cc
 as_one h i (groups.Database d) p at is = cc
 
-as_data : (h : Headed) (i : ℕ) (g : Group) (p : ℕ × databases.Database)
+as_data : (h : HeadingModel) (i : ℕ) (g : Group) (p : ℕ × databases.Database)
     → slice_get h.groups i ≡ Some g → placed_database (i, g) ≡ Some p
     → slice_get h.groups p.0 ≡ Some (groups.Database p.1)
 as_data h i (groups.Database d) p at is =
@@ -57,13 +54,13 @@ as_data h i (groups.Semaphore s) p at is = cc
 as_data h i (groups.Both s) p at is = cc
 as_data h i (groups.Buffer b) p at is = cc
 
-semaphore_found : (h : Headed) (w : List ℕ) (p : ℕ × Semaphore) → semaphore_in h w ≡ Some p
+semaphore_found : (h : HeadingModel) (w : List ℕ) (p : ℕ × Semaphore) → semaphore_in h w ≡ Some p
     → slice_get h.groups p.0 ≡ Some (groups.Semaphore p.1)
 semaphore_found h w p is =
     let b = bound placed_semaphore (group_in h w) p is in
     as_one h b.0.0 b.0.1 p (group_found h w b.0 b.1) b.2
 
-database_found : (h : Headed) (w : List ℕ) (p : ℕ × databases.Database)
+database_found : (h : HeadingModel) (w : List ℕ) (p : ℕ × databases.Database)
     → database_in h w ≡ Some p → slice_get h.groups p.0 ≡ Some (groups.Database p.1)
 database_found h w p is =
     let b = bound placed_database (group_in h w) p is in
@@ -71,9 +68,10 @@ database_found h w p is =
 
 -- OBJECTS
 
-pair_fits : (h : Headed) (w : List ℕ) (other : Option (List ℕ)) (a : Option Semaphore)
+pair_fits : (h : HeadingModel) (w : List ℕ) (other : Option (List ℕ)) (a : Option Semaphore)
     (b c : Option (ℕ × Semaphore)) (o : Object) → semaphore_in h w ≡ b
-    → option_and_then (semaphore_in h) other ≡ c → pair_of a b c ≡ Some o → Fits h verbs.PBoth o
+    → option_and_then (semaphore_in h) other ≡ c → semaphore_pair a b c ≡ Some o
+    → Fits h verbs.PBoth o
 pair_fits h w other (Some s) (Some p) (Some q) o one two is =
     let m = bound (semaphore_in h) other q two in
     let e : objects.Pair p.0 p.1 q.0 q.1 s ≡ o = cc in
@@ -82,19 +80,19 @@ pair_fits h w other None b c o one two is = cc
 pair_fits h w other (Some s) None c o one two is = cc
 pair_fits h w other (Some s) (Some p) None o one two is = cc
 
-event_fits : (h : Headed) (v : Verb) (w : List ℕ) (o : Object)
+event_fits : (h : HeadingModel) (v : OpWord) (w : List ℕ) (o : Object)
     → ((e : ℕ) → Fits h v (objects.Event e))
     → option_map objects.Event (event_in h.words w) ≡ Some o → Fits h v o
 event_fits h v w o all is =
     let m = mapped objects.Event (event_in h.words w) o is in subst (Fits h v) m.2 (all m.0)
 
-cell_fits : (h : Headed) (v : Verb) (w : List ℕ) (o : Object)
+cell_fits : (h : HeadingModel) (v : OpWord) (w : List ℕ) (o : Object)
     → ((x : ℕ) → Fits h v (objects.Cell x))
     → option_map objects.Cell (cell_in_word h.words w) ≡ Some o → Fits h v o
 cell_fits h v w o all is =
     let m = mapped objects.Cell (cell_in_word h.words w) o is in subst (Fits h v) m.2 (all m.0)
 
-pub object_fits : (h : Headed) (v : Verb) (w : List ℕ) (other : Option (List ℕ)) (o : Object)
+pub object_fits : (h : HeadingModel) (v : OpWord) (w : List ℕ) (other : Option (List ℕ)) (o : Object)
     → object_in h v w other ≡ Some o → Fits h v o
 object_fits h verbs.Advance w other o is = event_fits h verbs.Advance w o (λ e. tt) is
 object_fits h verbs.Read w other o is = event_fits h verbs.Read w o (λ e. tt) is
@@ -121,7 +119,7 @@ object_fits h verbs.Snapshot w other o is =
     subst (Fits h verbs.Snapshot) m.2 (database_found h w m.0 m.1)
 
 -- a database is among the groups
-pub fits_placed : (h : Headed) (v : Verb) (o : Object) → Fits h v o → IsPlaced h o
+pub fits_placed : (h : HeadingModel) (v : OpWord) (o : Object) → Fits h v o → IsPlaced h o
 fits_placed h verbs.Write (objects.Database i d) fits =
     slice_get_within h.groups i (groups.Database d) fits
 fits_placed h verbs.Snapshot (objects.Database i d) fits =

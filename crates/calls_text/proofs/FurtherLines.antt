@@ -1,39 +1,40 @@
--- A history whose events come: what it is in the end.
+-- A history after some events and at its end: the same header, and perhaps more events.
 use Rattle.std.proofs.Common.{◌≡◌, ℕ, ◌+◌, true, false, cond, List, [], ◌∷◌, ◌++◌, Result, Ok, Err}
 use Rattle.std.proofs.Common.{refl, ap, sym, ◌∙◌, append_assoc, append-nil, bytes_eq, codes}
 use Rattle.calls_core.specs.declared.history.Event.{Event}
-use Rattle.calls_text.specs.declared.fault.Kind.{Kind}
-use Rattle.calls_text.specs.declared.fault.Kind.TheVariants as kinds
-use Rattle.calls_text.specs.Recordings.{Recorded}
-use Rattle.calls_text.specs.Reading.{Stage, Running, Ended, step, is_ended, event_step, ran_on}
-use Rattle.calls_text.specs.Outcomes.{OneRead, Parsed, goes, taken, ended, fault_in}
-use Rattle.calls_text.proofs.TextParts.{by_line, by_rest}
+use Rattle.calls_text.specs.declared.fault.FaultKind.{FaultKind}
+use Rattle.calls_text.specs.declared.fault.FaultKind.TheVariants as kinds
+use Rattle.calls_text.specs.Recordings.{RecordingModel}
+use Rattle.calls_text.specs.Reading.{Stage, Running, Ended, step, is_ended, event_step, map_running}
+use Rattle.calls_text.specs.Outcomes.{OneRead, ParseResult, parse_from, after_line, parse_end, fault_in}
+use Rattle.calls_text.proofs.TextParts.{not_at_end as rest_ends, by_line, by_rest}
 use Rattle.calls_text.proofs.FollowingLines.{IsGrown, event_grown}
 
--- the same heading, and the events with perhaps more after them
-pub record GoesFurther (r t : Recorded) : Type 0 where
+-- the same header, and the events with perhaps more after them
+pub record GoesFurther (r t : RecordingModel) : Type 0 where
   pub heading : r.heading ≡ t.heading
   pub from : r.from ≡ t.from
   pub late : List Event
   pub events : t.events ≡ r.events ++ late
 
-ended_same : (n : ℕ) (r : Recorded) (ps : List (List ℕ)) (o : OneRead)
-    → goes n (Ended r) ps ≡ Ok o → r ≡ o.recorded
-unfolding goes
+ended_same : (n : ℕ) (r : RecordingModel) (ps : List (List ℕ)) (o : OneRead)
+    → parse_from n (Ended r) ps ≡ Ok o → r ≡ o.recorded
+unfolding parse_from
 ended_same n r ps o is =
-    let same : ◌≡◌ {A = Parsed} (Ok (record { recorded = r; number = n; rest = ps })) (Ok o) = is in
+    let same : ◌≡◌ {A = ParseResult} (Ok (record { recorded = r; number = n; rest = ps })) (Ok o) =
+    is in
     let read : record { recorded = r; number = n; rest = ps } ≡ o = cc in
     ap (λ (x : OneRead). x.recorded) read
 
-no_further : (r t : Recorded) → r ≡ t → GoesFurther r t
+no_further : (r t : RecordingModel) → r ≡ t → GoesFurther r t
 no_further r t same = record {
-  heading = ap (λ (x : Recorded). x.heading) same;
-  from = ap (λ (x : Recorded). x.from) same;
+  heading = ap (λ (x : RecordingModel). x.heading) same;
+  from = ap (λ (x : RecordingModel). x.from) same;
   late = [];
-  events = sym (ap (λ (x : Recorded). x.events) same) ∙ sym (append-nil r.events);
+  events = sym (ap (λ (x : RecordingModel). x.events) same) ∙ sym (append-nil r.events);
 }
 
-one_further : (r q t : Recorded) → IsGrown r q → GoesFurther q t → GoesFurther r t
+one_further : (r q t : RecordingModel) → IsGrown r q → GoesFurther q t → GoesFurther r t
 one_further r q t one more = record {
   heading = one.heading ∙ more.heading;
   from = one.from ∙ more.from;
@@ -42,46 +43,39 @@ one_further r q t one more = record {
       ∙ append_assoc r.events (one.event ∷ []) more.late;
 }
 
-rest_ends : (n : ℕ) (s : Stage) (rest : List ℕ) (o : OneRead) → ended n s rest ≡ Ok o → ⊥
-rest_ends n s [] o is = cc
-rest_ends n s (b ∷ bs) o is = by_step (step s (b ∷ bs)) is
-  where
-    by_step : (r : Result Stage Kind)
-        → taken n (b ∷ bs) r (λ t. fault_in n kinds.Unfinished (b ∷ bs)) ≡ Ok o → ⊥
-    by_step (Ok t) is = cc
-    by_step (Err kind) is = cc
-
-open_running : (r : Recorded) → is_ended (Running r) ≡ false
+open_running : (r : RecordingModel) → is_ended (Running r) ≡ false
 unfolding is_ended
 open_running r = refl
 
-ran_further : (n : ℕ) (line : List ℕ) (x : Result Recorded Kind) (others : Stage → Parsed)
-    (o : OneRead) (P : Type 0) → ((q : Recorded) → x ≡ Ok q → others (Running q) ≡ Ok o → P)
-    → taken n line (ran_on x) others ≡ Ok o → P
+ran_further : (n : ℕ) (line : List ℕ) (x : Result RecordingModel FaultKind) (others : Stage
+    → ParseResult)
+    (o : OneRead) (P : Type 0) → ((q : RecordingModel) → x ≡ Ok q → others (Running q) ≡ Ok o → P)
+    → after_line n line (map_running x) others ≡ Ok o → P
 ran_further n line (Ok q) others o P more is = more q refl is
 ran_further n line (Err kind) others o P more is = absurd (let never : ⊥ = cc in never)
 
-line_further : (n : ℕ) (r : Recorded) (line : List ℕ) (others : Stage → Parsed) (o : OneRead)
+line_further : (n : ℕ) (r : RecordingModel) (line : List ℕ) (others : Stage
+    → ParseResult) (o : OneRead)
     (P : Type 0) → (others (Ended r) ≡ Ok o → P)
-    → ((q : Recorded) → IsGrown r q → others (Running q) ≡ Ok o → P)
-    → taken n line (step (Running r) line) others ≡ Ok o → P
+    → ((q : RecordingModel) → IsGrown r q → others (Running q) ≡ Ok o → P)
+    → after_line n line (step (Running r) line) others ≡ Ok o → P
 unfolding step
 line_further n r line others o P over more is =
     elim (bytes_eq line (codes "end")) as (λ b.
-    taken n line (cond b (Ok (Ended r)) (ran_on (event_step r line))) others ≡ Ok o → P) [
+    after_line n line (cond b (Ok (Ended r)) (map_running (event_step r line))) others ≡ Ok o → P) [
       | true ↦ λ e. over e
       | false ↦ λ e. ran_further n line (event_step r line) others o P
           (λ q steps goes_on. more q (event_grown r line q steps) goes_on) e
     ] is
 
-pub goes_further : (ps : List (List ℕ)) (n : ℕ) (r : Recorded) (o : OneRead)
-    → goes n (Running r) ps ≡ Ok o → GoesFurther r o.recorded
-unfolding goes
+pub goes_further : (ps : List (List ℕ)) (n : ℕ) (r : RecordingModel) (o : OneRead)
+    → parse_from n (Running r) ps ≡ Ok o → GoesFurther r o.recorded
+unfolding parse_from
 goes_further [] n r o is = absurd (rest_ends n (Running r) [] o is)
 goes_further (rest ∷ []) n r o is =
     absurd (rest_ends n (Running r) rest o (sym (by_rest n (Running r) rest (open_running r)) ∙ is))
 goes_further (line ∷ next ∷ others) n r o is =
-    line_further n r line (λ t. goes (n + 1) t (next ∷ others)) o (GoesFurther r o.recorded)
+    line_further n r line (λ t. parse_from (n + 1) t (next ∷ others)) o (GoesFurther r o.recorded)
     (λ e. no_further r o.recorded (ended_same (n + 1) r (next ∷ others) o e))
     (λ q one e. one_further r q o.recorded one (goes_further (next ∷ others) (n + 1) q o e))
     (sym (by_line n (Running r) line next others (open_running r)) ∙ is)

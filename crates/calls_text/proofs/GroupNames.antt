@@ -1,4 +1,4 @@
--- Each semaphore and each database of a heading has a name, and no word is empty.
+-- Each semaphore and each database of a header has a name, and no word is empty.
 use Rattle.std.proofs.Common.{◌≡◌, ◌⊎◌, inl, inr, ℕ, zero, suc, ◌+◌, ◌<◌, ◌≤◌, List, [], ◌∷◌, ◌++◌}
 use Rattle.std.proofs.Common.{length}
 use Rattle.std.proofs.Common.{Bool, true, false, cond, eqb, if◌then◌else◌, Option, Some, None, refl}
@@ -19,28 +19,30 @@ use Rattle.ec_count.specs.declared.target.Target.TheVariants as target
 use Rattle.ec_database.specs.Shapes.{Database, next_database}
 use Rattle.ec_heading.specs.declared.group.Group.{Group}
 use Rattle.ec_heading.specs.declared.group.Group.TheVariants as groups
-use Rattle.ec_heading.specs.declared.sort.Sort.{Sort}
-use Rattle.ec_heading.specs.declared.sort.Sort.TheVariants as sorts
-use Rattle.ec_heading.specs.Sorts.{has_name, is_in_range}
-use Rattle.ec_heading.specs.Objects.{Next, target_of, group_of, objects_of, spelling}
+use Rattle.ec_heading.specs.declared.decl_kind.DeclKind.{DeclKind}
+use Rattle.ec_heading.specs.declared.decl_kind.DeclKind.TheVariants as sorts
+use Rattle.ec_heading.specs.DeclKinds.{has_name, is_in_range}
+use Rattle.ec_heading.specs.Objects.{Next, target_of, group_of_declaration, objects_of, spelling}
 use Rattle.ec_heading.specs.Objects.{spelled_objects}
 use Rattle.ec_count.specs.Tables.{Tables}
-use Rattle.ec_heading.specs.Headed.{Headed}
-use Rattle.ec_heading.specs.Outline.{Declaration, Outline, IsOutline, AreDeclarable, IsDeclarable}
-use Rattle.ec_heading.specs.Outline.{next_of, numbered, opened, declared_by, declared_all}
-use Rattle.ec_heading.specs.Outlined.{HasOutline}
-use Rattle.ec_heading.specs.Spelled.{Named}
+use Rattle.ec_heading.specs.HeadingModel.{HeadingModel}
+use Rattle.ec_heading.specs.HeaderTree.{Declaration, HeaderTree, IsHeaderTree, AreDeclarable, IsDeclarable}
+use Rattle.ec_heading.specs.HeaderTree.{next_ids, number_names, empty_heading, with_declaration, with_declarations}
+use Rattle.ec_heading.specs.HeadingInvariant.{HasHeaderTree}
+use Rattle.ec_heading.specs.EntryWords.{NameTable}
 use Rattle.ec_heading.proofs.shared.Each.{each_append, each_weaker}
 use Rattle.ec_heading.proofs.shared.ReadHeadings.{IsSound, sound, sound_all}
-use Rattle.ec_heading.proofs.shared.SortFacts.{called, name_called}
+use Rattle.ec_heading.proofs.shared.DeclKindFacts.{called, name_called}
 use Rattle.ec_heading.proofs.shared.SpelledWords.{found_word, find-append_none, each_spelled}
 use Rattle.calls_text.specs.Recordings.{cells_of}
 use Rattle.calls_text.specs.Spelling.{group_word}
 use Rattle.calls_text.proofs.Groups.{group_back}
+use Rattle.ec_heading.proofs.shared.Phrases.{is_itself as bytes_same}
+use Rattle.ec_core.proofs.shared.Joining.{get_front as get_before}
 
 -- A LONGER LIST
 
-find_kept : (w : List ℕ) (names more : Named) (t : Target) → find_name w names ≡ Some t
+find_kept : (w : List ℕ) (names more : NameTable) (t : Target) → find_name w names ≡ Some t
     → find_name w (names ++ more) ≡ Some t
 find_kept w [] more t is = cc
 find_kept w (e ∷ names) more t is =
@@ -49,12 +51,6 @@ find_kept w (e ∷ names) more t is =
       | true ↦ λ here. here
       | false ↦ λ later. find_kept w names more t later
     ] is
-
-get_before : {A : Type 0} (xs ys : List A) (i : ℕ) → i < length xs
-    → slice_get (xs ++ ys) i ≡ slice_get xs i
-get_before [] ys i lt = absurd (omega (arith, lt))
-get_before (x ∷ xs) ys zero lt = refl
-get_before (x ∷ xs) ys (suc i) lt = get_before xs ys i (omega (arith, lt))
 
 get_after : {A : Type 0} (xs : List A) (o : Option A)
     → slice_get (xs ++ cons_option o []) (length xs) ≡ o
@@ -68,8 +64,8 @@ abbrev pub is_named : Group → Bool
 is_named (groups.Both s) = false
 is_named g = true
 
--- the group at this place has a name
-record IsCalledBy (names : Named) (i : ℕ) : Type 0 where
+-- the group at this index has a name
+record IsCalledBy (names : NameTable) (i : ℕ) : Type 0 where
   word : List ℕ
   found : find_name word names ≡ Some (target.Group i)
 
@@ -81,15 +77,15 @@ Fits g = Unit {0}
 abbrev pub HasBytes : List ℕ × Target → Type 0
 HasBytes e = eqb (length e.0) 0 ≡ false
 
-record IsNamedWell (h : Headed) : Type 0 where
+record IsNamedWell (h : HeadingModel) : Type 0 where
   names : (i : ℕ) (g : Group) → slice_get h.groups i ≡ Some g → is_named g ≡ true
       → IsCalledBy h.names i
   fits : (i : ℕ) (g : Group) → slice_get h.groups i ≡ Some g → Fits g
   words : AllByRecursion HasBytes h.words
 
 -- what a declaration adds
-new_group : (s : Sort) (k : Next) (t : Tables) (n : ℕ) (g : Group)
-    → group_of s t n ≡ Some g → is_named g ≡ true
+new_group : (s : DeclKind) (k : Next) (t : Tables) (n : ℕ) (g : Group)
+    → group_of_declaration s t n ≡ Some g → is_named g ≡ true
     → (has_name s ≡ true) × (target_of s k n ≡ target.Group k.group)
 new_group sorts.EventCount k t n g is named = cc
 new_group sorts.Sequencer k t n g is named = cc
@@ -102,8 +98,8 @@ new_group sorts.Both k t n (groups.Semaphore s) is named = cc
 new_group sorts.Both k t n (groups.Buffer s) is named = cc
 new_group sorts.Both k t n (groups.Database s) is named = cc
 
-new_fits : (s : Sort) (t : Tables) (n : ℕ) (g : Group) → is_in_range s n ≡ true
-    → group_of s t n ≡ Some g → Fits g
+new_fits : (s : DeclKind) (t : Tables) (n : ℕ) (g : Group) → is_in_range s n ≡ true
+    → group_of_declaration s t n ≡ Some g → Fits g
 new_fits sorts.EventCount t n g range is = cc
 new_fits sorts.Sequencer t n g range is = cc
 new_fits sorts.Cells t n g range is = cc
@@ -126,7 +122,7 @@ new_fits sorts.Both t n (groups.Database s) range is = cc
 new_fits sorts.Both t n (groups.Buffer s) range is = cc
 new_fits sorts.Both t n (groups.Semaphore s) range is = cc
 
-no_name_yet : (h : Headed) (name : List ℕ) (o : Option Target) → IsSound h
+no_name_yet : (h : HeadingModel) (name : List ℕ) (o : Option Target) → IsSound h
     → find_name name h.words ≡ None → find_name name h.names ≡ o → o ≡ None
 no_name_yet h name None s none is = refl
 no_name_yet h name (Some t) s none is =
@@ -134,56 +130,55 @@ no_name_yet h name (Some t) s none is =
     found_word (λ w. is_some (find_name w h.words) ≡ true) h.names name t s.known is in
     absurd (true≢false (sym there ∙ ap is_some none))
 
-bytes_same : (w : List ℕ) → bytes_eq w w ≡ true
-bytes_same w = (bytes_eq-Decides w w).1 refl
-
-name_added : (h : Headed) (d : Declaration) (i : ℕ) → IsSound h → IsDeclarable h d
-    → has_name d.sort ≡ true → target_of d.sort (next_of h) d.number ≡ target.Group i
-    → IsCalledBy (declared_by h d).names i
+name_added : (h : HeadingModel) (d : Declaration) (i : ℕ) → IsSound h → IsDeclarable h d
+    → has_name d.sort ≡ true → target_of d.sort (next_ids h) d.number ≡ target.Group i
+    → IsCalledBy (with_declaration h d).names i
 name_added h d i s may has at =
-    let t = target_of d.sort (next_of h) d.number in
+    let t = target_of d.sort (next_ids h) d.number in
     let none : find_name d.name h.names ≡ None =
     no_name_yet h d.name (find_name d.name h.names) s may.new refl in
     record {
       word = d.name;
       found =
           ap (λ (b : Bool). find_name d.name
-          (h.names ++ (if b then (d.name, target_of d.sort (next_of h) d.number) ∷ [] else []))) has
+          (h.names ++ (if b then (d.name, target_of d.sort (next_ids h) d.number) ∷ [] else []))) has
           ∙ find-append_none d.name h.names
-          ((d.name, target_of d.sort (next_of h) d.number) ∷ []) none
-          ∙ ap (λ (b : Bool). cond b (Some (target_of d.sort (next_of h) d.number)) None)
+          ((d.name, target_of d.sort (next_ids h) d.number) ∷ []) none
+          ∙ ap (λ (b : Bool). cond b (Some (target_of d.sort (next_ids h) d.number)) None)
           (bytes_same d.name)
           ∙ ap Some at;
     }
 
-group_cases : (h : Headed) (d : Declaration) (i : ℕ) (g : Group)
-    → slice_get (declared_by h d).groups i ≡ Some g
+group_cases : (h : HeadingModel) (d : Declaration) (i : ℕ) (g : Group)
+    → slice_get (with_declaration h d).groups i ≡ Some g
     → (slice_get h.groups i ≡ Some g)
-    ⊎ ((i ≡ length h.groups) × (group_of d.sort h.setup d.number ≡ Some g))
+    ⊎ ((i ≡ length h.groups) × (group_of_declaration d.sort h.setup d.number ≡ Some g))
 group_cases h d i g is =
-    let added : List Group = cons_option (group_of d.sort h.setup d.number) [] in
+    let added : List Group = cons_option (group_of_declaration d.sort h.setup d.number) [] in
     elim (cases_lt i (length h.groups)) [
       | inl before ↦
-          inl (sym (get_before h.groups (cons_option (group_of d.sort h.setup d.number) []) i
+          inl (sym (get_before h.groups (cons_option (group_of_declaration d.sort h.setup d.number) []) i
           before)
           ∙ is)
       | inr after ↦
-          (let within : i < length (h.groups ++ cons_option (group_of d.sort h.setup d.number) []) =
-          slice_get_within (h.groups ++ cons_option (group_of d.sort h.setup d.number) []) i g is in
-          let one : length (cons_option (group_of d.sort h.setup d.number) []) ≤ 1 =
-          at_most_one (group_of d.sort h.setup d.number) in
+          (let within : i < length (h.groups
+          ++ cons_option (group_of_declaration d.sort h.setup d.number) []) =
+          slice_get_within (h.groups
+          ++ cons_option (group_of_declaration d.sort h.setup d.number) []) i g is in
+          let one : length (cons_option (group_of_declaration d.sort h.setup d.number) []) ≤ 1 =
+          at_most_one (group_of_declaration d.sort h.setup d.number) in
           let at : i ≡ length h.groups =
           omega (
             arith,
             after,
             within,
             one,
-            length-append h.groups (cons_option (group_of d.sort h.setup d.number) []),
+            length-append h.groups (cons_option (group_of_declaration d.sort h.setup d.number) []),
           ) in
           inr (
             at,
-            sym (get_after h.groups (group_of d.sort h.setup d.number))
-                ∙ ap (slice_get (declared_by h d).groups) (sym at) ∙ is,
+            sym (get_after h.groups (group_of_declaration d.sort h.setup d.number))
+                ∙ ap (slice_get (with_declaration h d).groups) (sym at) ∙ is,
           ))
     ]
   where
@@ -204,23 +199,24 @@ spelling_bytes name (b ∷ bs) some =
       length-append name (codes "."),
     )))
 
-each_bytes : (name : List ℕ) (os : Named) → 1 ≤ length name
+each_bytes : (name : List ℕ) (os : NameTable) → 1 ≤ length name
     → AllByRecursion (λ (o : List ℕ × Target). HasBytes (spelling name o.0, o.1)) os
 each_bytes name [] some = tt
 each_bytes name (o ∷ os) some = (spelling_bytes name o.0 some, each_bytes name os some)
 
-words_more : (h : Headed) (d : Declaration) → IsDeclarable h d → AllByRecursion HasBytes h.words
-    → AllByRecursion HasBytes (declared_by h d).words
+words_more : (h : HeadingModel) (d : Declaration) → IsDeclarable h d
+    → AllByRecursion HasBytes h.words
+    → AllByRecursion HasBytes (with_declaration h d).words
 words_more h d may words =
-    each_append HasBytes h.words (spelled_objects d.name (objects_of d.sort (next_of h) d.number))
-    words (each_spelled HasBytes d.name (objects_of d.sort (next_of h) d.number)
-    (each_bytes d.name (objects_of d.sort (next_of h) d.number)
+    each_append HasBytes h.words (spelled_objects d.name (objects_of d.sort (next_ids h) d.number))
+    words (each_spelled HasBytes d.name (objects_of d.sort (next_ids h) d.number)
+    (each_bytes d.name (objects_of d.sort (next_ids h) d.number)
     (called d.sort d.name may.word).some))
 
 -- ALL DECLARATIONS
 
-well_more : (h : Headed) (d : Declaration) → IsSound h → IsDeclarable h d → IsNamedWell h
-    → IsNamedWell (declared_by h d)
+well_more : (h : HeadingModel) (d : Declaration) → IsSound h → IsDeclarable h d → IsNamedWell h
+    → IsNamedWell (with_declaration h d)
 well_more h d s may well = record {
   names = λ i g is named. elim (group_cases h d i g is) [
     | inl old ↦
@@ -230,7 +226,7 @@ well_more h d s may well = record {
           found = find_kept c.word h.names _ (target.Group i) c.found;
         })
     | inr new ↦
-        (let n = new_group d.sort (next_of h) h.setup d.number g new.1 named in
+        (let n = new_group d.sort (next_ids h) h.setup d.number g new.1 named in
         name_added h d i s may n.0 (n.1 ∙ ap target.Group (sym new.0)))
   ];
   fits = λ i g is. elim (group_cases h d i g is) [
@@ -240,20 +236,22 @@ well_more h d s may well = record {
   words = words_more h d may well.words;
 }
 
-well_all : (h : Headed) (ds : List Declaration) → IsSound h → AreDeclarable h ds → IsNamedWell h
-    → IsNamedWell (declared_all h ds)
+well_all : (h : HeadingModel) (ds : List Declaration) → IsSound h → AreDeclarable h ds
+    → IsNamedWell h
+    → IsNamedWell (with_declarations h ds)
 well_all h [] s may well = well
 well_all h (d ∷ ds) s may well =
-    well_all (declared_by h d) ds (sound_all h (d ∷ []) s (may.0, tt)) may.1
+    well_all (with_declaration h d) ds (sound_all h (d ∷ []) s (may.0, tt)) may.1
     (well_more h d s may.0 well)
 
 worker_bytes : (n : ℕ) (ws : List (List ℕ)) → AllByRecursion (λ w. 1 ≤ length w) ws
-    → AllByRecursion HasBytes (numbered n ws)
+    → AllByRecursion HasBytes (number_names n ws)
 worker_bytes n [] all = tt
 worker_bytes n (w ∷ ws) all =
     (ne_eqb _ _ (λ e. (omega (arith, e, all.0))), worker_bytes (n + 1) ws all.1)
 
-opened_well : (o : Outline) → IsOutline o → IsNamedWell (opened o.version o.limit o.workers)
+opened_well : (o : HeaderTree) → IsHeaderTree o
+    → IsNamedWell (empty_heading o.version o.limit o.workers)
 opened_well o is = record {
   names = λ i g none named. absurd (nothing i g none);
   fits = λ i g none. absurd (nothing i g none);
@@ -265,32 +263,34 @@ opened_well o is = record {
     nothing : (i : ℕ) (g : Group) → slice_get [] i ≡ Some g → ⊥
     nothing i g none = cc
 
-workers_alone : (o : Outline) → IsOutline o → IsOutline (record o { declarations = [] })
+workers_alone : (o : HeaderTree) → IsHeaderTree o → IsHeaderTree (record o { declarations = [] })
 workers_alone o is =
     record { low = is.low; high = is.high; workers = is.workers; declarations = tt }
 
-well_named : (h : Headed) → HasOutline h → IsNamedWell h
+well_named : (h : HeadingModel) → HasHeaderTree h → IsNamedWell h
 well_named h has =
-    let o : Outline = has.outline in
+    let o : HeaderTree = has.outline in
     subst IsNamedWell has.declares
-    (well_all (opened o.version o.limit o.workers) o.declarations
+    (well_all (empty_heading o.version o.limit o.workers) o.declarations
     (sound (record o { declarations = [] }) (workers_alone has.outline has.is)) has.is.declarations
     (opened_well has.outline has.is))
 
 -- the word of a semaphore or a database names it
-pub group_found : (h : Headed) (i : ℕ) (g : Group) → HasOutline h → slice_get h.groups i ≡ Some g
+pub group_found : (h : HeadingModel) (i : ℕ) (g : Group) → HasHeaderTree h
+    → slice_get h.groups i ≡ Some g
     → is_named g ≡ true → find_name (group_word h i) h.names ≡ Some (target.Group i)
 group_found h i g has there named =
     let c : IsCalledBy h.names i = (well_named h has).names i g there named in
     subst (λ (w : List ℕ). find_name w h.names ≡ Some (target.Group i))
     (sym (group_back h c.word i has c.found)) c.found
 
-pub database_fits : (h : Headed) (i : ℕ) (d : Database) → HasOutline h
+pub database_fits : (h : HeadingModel) (i : ℕ) (d : Database) → HasHeaderTree h
     → slice_get h.groups i ≡ Some (groups.Database d) → (1 ≤ d.cells) × (d.cells ≤ 256)
 database_fits h i d has there = (well_named h has).fits i (groups.Database d) there
 
 -- no group has more than 256 cells
-pub few_cells : (h : Headed) (i : ℕ) (o : Option Group) → HasOutline h → slice_get h.groups i ≡ o
+pub few_cells : (h : HeadingModel) (i : ℕ) (o : Option Group) → HasHeaderTree h
+    → slice_get h.groups i ≡ o
     → option_map_or cells_of o 0 ≤ 256
 few_cells h i None has there = omega arith
 few_cells h i (Some (groups.Database d)) has there = (database_fits h i d has there).1
@@ -298,5 +298,5 @@ few_cells h i (Some (groups.Semaphore s)) has there = omega arith
 few_cells h i (Some (groups.Both s)) has there = omega arith
 few_cells h i (Some (groups.Buffer b)) has there = omega arith
 
-pub words_have_bytes : (h : Headed) → HasOutline h → AllByRecursion HasBytes h.words
+pub words_have_bytes : (h : HeadingModel) → HasHeaderTree h → AllByRecursion HasBytes h.words
 words_have_bytes h has = (well_named h has).words

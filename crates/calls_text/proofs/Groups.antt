@@ -1,4 +1,4 @@
--- Each group of a heading that has a name has one.
+-- A group of a header has at most one name.
 use Rattle.std.proofs.Common.{◌≡◌, ◌⊎◌, inl, inr, ℕ, ◌+◌, ◌≤◌, List, [], ◌∷◌, ◌++◌, true}
 use Rattle.std.proofs.Common.{false, cond, if◌then◌else◌, Option, Some, None, unwrap_or, refl}
 use Rattle.std.proofs.Common.{sym, ap, ◌∙◌, subst, arith, bytes_eq, codes, ne_eqb, eq-eqb}
@@ -6,20 +6,18 @@ use Rattle.std.proofs.lemmas.Slice.Eq.{bytes_eq-Decides}
 use Rattle.ec_count.specs.Names.{find_name, name_of, same_target}
 use Rattle.ec_count.specs.declared.target.Target.{Target}
 use Rattle.ec_count.specs.declared.target.Target.TheVariants as target
-use Rattle.ec_heading.specs.declared.sort.Sort.{Sort}
-use Rattle.ec_heading.specs.declared.sort.Sort.TheVariants as sorts
-use Rattle.ec_heading.specs.Sorts.{has_name}
+use Rattle.ec_heading.specs.declared.decl_kind.DeclKind.{DeclKind}
+use Rattle.ec_heading.specs.declared.decl_kind.DeclKind.TheVariants as sorts
+use Rattle.ec_heading.specs.DeclKinds.{has_name}
 use Rattle.ec_heading.specs.Objects.{Next, target_of}
-use Rattle.ec_heading.specs.Headed.{Headed}
-use Rattle.ec_heading.specs.Outline.{Declaration, Outline, AreDeclarable, named_as, next_of}
-use Rattle.ec_heading.specs.Outline.{numbered, opened, declared_by, declared_all}
-use Rattle.ec_heading.specs.Outlined.{HasOutline}
-use Rattle.ec_heading.proofs.shared.OutlineNames.{IsOld, AreOld, old_after, workers_old}
-use Rattle.ec_heading.proofs.shared.OutlineGrows.{name_of-append_none}
+use Rattle.ec_heading.specs.HeadingModel.{HeadingModel}
+use Rattle.ec_heading.specs.HeaderTree.{Declaration, HeaderTree, AreDeclarable, named_as, next_ids}
+use Rattle.ec_heading.specs.HeaderTree.{number_names, empty_heading, with_declaration, with_declarations}
+use Rattle.ec_heading.specs.HeadingInvariant.{HasHeaderTree}
+use Rattle.ec_heading.proofs.shared.TreeNames.{IsOld, AreOld, old_after, workers_old}
+use Rattle.ec_heading.proofs.shared.TreeGrows.{name_of-append_none}
 use Rattle.calls_text.specs.Spelling.{group_word}
-
-abbrev Named : Type 0
-Named = List (List ℕ × Target)
+use Rattle.ec_heading.proofs.shared.Listed.{Named}
 
 -- NAMES IN A LONGER LIST
 
@@ -55,7 +53,7 @@ only_name w name t u is =
 
 -- THE GROUP OF A DECLARATION
 
-next_group : (s : Sort) (k : Next) (n i : ℕ) → target_of s k n ≡ target.Group i → i ≡ k.group
+next_group : (s : DeclKind) (k : Next) (n i : ℕ) → target_of s k n ≡ target.Group i → i ≡ k.group
 next_group sorts.EventCount k n i is = cc
 next_group sorts.Sequencer k n i is = cc
 next_group sorts.Cells k n i is = cc
@@ -81,7 +79,7 @@ abbrev IsNamedOnce : Named → Type 0
 IsNamedOnce names = (w : List ℕ) (i : ℕ) → find_name w names ≡ Some (target.Group i)
     → name_of (target.Group i) names ≡ Some w
 
-new_named : (s : Sort) (k : Next) (n : ℕ) (name w : List ℕ) (i : ℕ) (names : Named)
+new_named : (s : DeclKind) (k : Next) (n : ℕ) (name w : List ℕ) (i : ℕ) (names : Named)
     → AreOld k names
     → find_name w (named_as s name (target_of s k n)) ≡ Some (target.Group i)
     → name_of (target.Group i) (names ++ named_as s name (target_of s k n)) ≡ Some w
@@ -102,44 +100,45 @@ new_named s k n name w i names old is =
       | false ↦ λ none. cc
     ] is
 
-once_more : (h : Headed) (d : Declaration) → AreOld (next_of h) h.names → IsNamedOnce h.names
-    → IsNamedOnce (declared_by h d).names
+once_more : (h : HeadingModel) (d : Declaration) → AreOld (next_ids h) h.names → IsNamedOnce h.names
+    → IsNamedOnce (with_declaration h d).names
 once_more h d old once = λ w i is.
-    elim (find_cases w h.names (named_as d.sort d.name (target_of d.sort (next_of h) d.number))
+    elim (find_cases w h.names (named_as d.sort d.name (target_of d.sort (next_ids h) d.number))
     (target.Group i) is) [
       | inl before ↦ name_kept (target.Group i) h.names _ w (once w i before)
-      | inr new ↦ new_named d.sort (next_of h) d.number d.name w i h.names old new
+      | inr new ↦ new_named d.sort (next_ids h) d.number d.name w i h.names old new
     ]
 
-all_once : (h : Headed) (ds : List Declaration) → AreDeclarable h ds → AreOld (next_of h) h.names
-    → IsNamedOnce h.names → IsNamedOnce (declared_all h ds).names
+all_once : (h : HeadingModel) (ds : List Declaration) → AreDeclarable h ds
+    → AreOld (next_ids h) h.names
+    → IsNamedOnce h.names → IsNamedOnce (with_declarations h ds).names
 all_once h [] may old once = once
 all_once h (d ∷ ds) may old once =
-    all_once (declared_by h d) ds may.1 (old_after h d may.0.range old) (once_more h d old once)
+    all_once (with_declaration h d) ds may.1 (old_after h d may.0.range old) (once_more h d old once)
 
 no_group : (n : ℕ) (ws : List (List ℕ)) (w : List ℕ) (i : ℕ)
-    → find_name w (numbered n ws) ≡ Some (target.Group i) → ⊥
+    → find_name w (number_names n ws) ≡ Some (target.Group i) → ⊥
 no_group n [] w i is = cc
 no_group n (v ∷ ws) w i is =
-    elim (bytes_eq w v) as (λ b. cond b (Some (target.Worker n)) (find_name w (numbered (n + 1) ws))
+    elim (bytes_eq w v) as (λ b. cond b (Some (target.Worker n)) (find_name w (number_names (n + 1) ws))
     ≡ Some (target.Group i) → ⊥) [
       | true ↦ λ here. cc
       | false ↦ λ later. no_group (n + 1) ws w i later
     ] is
 
-opened_once : (ws : List (List ℕ)) → IsNamedOnce (numbered 0 ws)
+opened_once : (ws : List (List ℕ)) → IsNamedOnce (number_names 0 ws)
 opened_once ws = λ w i is. absurd (no_group 0 ws w i is)
 
-outlined_once : (h : Headed) → HasOutline h → IsNamedOnce h.names
+outlined_once : (h : HeadingModel) → HasHeaderTree h → IsNamedOnce h.names
 outlined_once h has =
-    let o : Outline = has.outline in
-    subst (λ (g : Headed). IsNamedOnce g.names) has.declares
-    (all_once (opened o.version o.limit o.workers) o.declarations has.is.declarations
-    (workers_old (next_of (opened o.version o.limit o.workers)) 0 o.workers)
+    let o : HeaderTree = has.outline in
+    subst (λ (g : HeadingModel). IsNamedOnce g.names) has.declares
+    (all_once (empty_heading o.version o.limit o.workers) o.declarations has.is.declarations
+    (workers_old (next_ids (empty_heading o.version o.limit o.workers)) 0 o.workers)
     (opened_once o.workers))
 
 -- a word that names a group is the word of that group
-pub group_back : (h : Headed) (w : List ℕ) (i : ℕ) → HasOutline h
+pub group_back : (h : HeadingModel) (w : List ℕ) (i : ℕ) → HasHeaderTree h
     → find_name w h.names ≡ Some (target.Group i) → group_word h i ≡ w
 group_back h w i has is =
     ap (λ (o : Option (List ℕ)). unwrap_or o (codes "both")) (outlined_once h has w i is)

@@ -14,7 +14,7 @@ mod CallLines
 mod ReplyLines
 mod EventLines
 mod OpeningLines
-mod TextParts
+pub mod TextParts
 mod Histories
 mod Prefixes
 mod FineWords

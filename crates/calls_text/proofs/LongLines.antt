@@ -6,22 +6,22 @@ use Rattle.std.specs.List.{list_any}
 use Rattle.std.proofs.lemmas.Bool.{lt-ltb}
 use Rattle.std.proofs.lemmas.Slice.Eq.{bytes_eq-Decides}
 use Rattle.ec_heading.specs.Heading.{head_step, is_no_line, words_step}
-use Rattle.ec_heading.specs.Headed.{Headed}
+use Rattle.ec_heading.specs.HeadingModel.{HeadingModel}
 use Rattle.ec_heading.specs.declared.heading.HeadFault.TheVariants as heads
 use Rattle.ec_text.specs.Words.{words_of}
 use Rattle.calls_core.specs.declared.history.Event.{Event}
-use Rattle.calls_text.specs.declared.fault.Kind.TheVariants as kinds
+use Rattle.calls_text.specs.declared.fault.FaultKind.TheVariants as kinds
 use Rattle.calls_text.specs.declared.fault.Cause.TheVariants as causes
 use Rattle.calls_text.specs.declared.fault.TextFault.TheVariants as faults
 use Rattle.calls_text.specs.declared.stage.Stage as held
 use Rattle.calls_text.specs.declared.stage.Stage.TheVariants as holds
 use Rattle.calls_text.specs.Causes.{line_cause, header_cause}
 use Rattle.calls_text.specs.Forms.{phrase_in}
-use Rattle.calls_text.specs.Recordings.{Recorded}
+use Rattle.calls_text.specs.Recordings.{RecordingModel}
 use Rattle.calls_text.specs.Reading.{Opening, Limiting, Declaring, Running, Ended, step, is_ended}
 use Rattle.calls_text.specs.Reading.{Draft, limit_step, limit_or, limit_digits, draft_step, is_from}
-use Rattle.calls_text.specs.Reading.{from_step, from_or, from_words, headed_on, event_step, ran_on, drafted_on}
-use Rattle.calls_text.specs.Reading.{phrased, recorded_of, with_events}
+use Rattle.calls_text.specs.Reading.{from_step, from_or, from_words, map_heading, event_step, map_running, map_draft}
+use Rattle.calls_text.specs.Reading.{after_phrase, recorded_of, with_events}
 use Rattle.calls_text.specs.kept.Stages.{seen_with}
 use Rattle.calls_text.specs.Following.{IsFaulty, long_kind}
 
@@ -60,41 +60,41 @@ module _ (line : List ℕ) (long : 8192 < length line) where
 
   at_limit : step Limiting line ≡ Err kinds.BadLine
   unfolding step
-  at_limit = ap drafted_on limited
+  at_limit = ap map_draft limited
 
   from_long : (d : Draft) → from_step d line ≡ Err kinds.BadLine
   unfolding from_step
   from_long d = ap (λ b. cond b (Err kinds.BadLine) (from_or d (from_words (words_of line)))) no_line
 
-  head_long : (h : Headed) → head_step h line ≡ Err heads.BadLine
+  head_long : (h : HeadingModel) → head_step h line ≡ Err heads.BadLine
   unfolding head_step
   head_long h = ap (λ b. cond b (Err heads.BadLine) (words_step h (words_of line))) no_line
 
   drafted : (d : Draft) → draft_step d line ≡ Err kinds.BadLine
   drafted d =
-      elim (is_from d line) as (λ b. cond b (from_step d line) (headed_on d (head_step d.heading line))
+      elim (is_from d line) as (λ b. cond b (from_step d line) (map_heading d (head_step d.heading line))
       ≡ Err kinds.BadLine) [
         | true ↦ from_long d
-        | false ↦ ap (headed_on d) (head_long d.heading)
+        | false ↦ ap (map_heading d) (head_long d.heading)
       ]
 
   at_heading : (d : Draft) → step (Declaring d) line ≡ Err kinds.BadLine
   unfolding step
   at_heading d =
       ap (λ b. cond (b && nat_lt 0 d.heading.setup.workers) (Ok (Running (recorded_of d)))
-      (drafted_on (draft_step d line))) (other (codes "run") (lit< tt))
-      ∙ ap drafted_on (drafted d)
+      (map_draft (draft_step d line))) (other (codes "run") (lit< tt))
+      ∙ ap map_draft (drafted d)
 
-  event_long : (r : Recorded) → event_step r line ≡ Err kinds.BadLine
+  event_long : (r : RecordingModel) → event_step r line ≡ Err kinds.BadLine
   unfolding event_step
   event_long r =
-      ap (λ b. cond b (Err kinds.BadLine) (phrased r (phrase_in (words_of line)))) no_line
+      ap (λ b. cond b (Err kinds.BadLine) (after_phrase r (phrase_in (words_of line)))) no_line
 
-  at_events : (r : Recorded) → step (Running r) line ≡ Err kinds.BadLine
+  at_events : (r : RecordingModel) → step (Running r) line ≡ Err kinds.BadLine
   unfolding step
   at_events r =
-      ap (λ b. cond b (Ok (Ended r)) (ran_on (event_step r line))) (other (codes "end") (lit< tt))
-      ∙ ap ran_on (event_long r)
+      ap (λ b. cond b (Ok (Ended r)) (map_running (event_step r line))) (other (codes "end") (lit< tt))
+      ∙ ap map_running (event_long r)
 
   pub long_faulty : (n : ℕ) (events : List Event) (s : held.Stage)
       → is_ended (seen_with events s) ≡ false

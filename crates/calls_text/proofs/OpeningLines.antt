@@ -1,4 +1,4 @@
--- The lines before `run` are those that spell what they declare.
+-- The lines that are read before `run` are the text of what they declare.
 use Rattle.std.proofs.Common.{◌≡◌, ◌⊎◌, inl, inr, ℕ, ◌<◌, ◌≤◌, List, [], ◌∷◌, ◌++◌, length}
 use Rattle.std.proofs.Common.{Bool, true, false, cond, nat_lt, nat_le, not, ◌&&◌, ◌||◌, Option}
 use Rattle.std.proofs.Common.{Some}
@@ -7,32 +7,32 @@ use Rattle.std.proofs.Common.{decimal, append-nil, append_assoc, bytes_eq, lengt
 use Rattle.std.specs.List.{join_with_byte}
 use Rattle.std.proofs.lemmas.Bool.{and_parts, ltb-true, lt-ltb}
 use Rattle.std.proofs.lemmas.Slice.Eq.{bytes_eq-Decides}
-use Rattle.ec_text.specs.Words.{words_of, number_of, is_number_form}
+use Rattle.ec_text.specs.Words.{words_of, number_in_word, is_number_form}
 use Rattle.ec_text.proofs.shared.WordLemmas.{split_join}
 use Rattle.ec_text.proofs.shared.NumberLemmas.{number_takes, guarded}
 use Rattle.ec_heading.specs.declared.heading.HeadFault.{HeadFault}
 use Rattle.ec_heading.specs.declared.version.Version.TheVariants.{Two}
 use Rattle.ec_heading.specs.Versions.{is_limit, greatest_limit}
-use Rattle.ec_heading.specs.Headed.{Headed}
+use Rattle.ec_heading.specs.HeadingModel.{HeadingModel}
 use Rattle.ec_heading.specs.Heading.{head_step, is_no_line}
 use Rattle.ec_heading.specs.HeadingLaws.{LinesLead, Outlines}
-use Rattle.ec_heading.specs.Outline.{opened}
-use Rattle.ec_heading.specs.Outlined.{HasOutline}
+use Rattle.ec_heading.specs.HeaderTree.{empty_heading}
+use Rattle.ec_heading.specs.HeadingInvariant.{HasHeaderTree}
 use Rattle.ec_heading.specs.Recalled.{outline_of}
-use Rattle.ec_heading.specs.Spelled.{event_in}
+use Rattle.ec_heading.specs.EntryWords.{event_in}
 use Rattle.ec_heading.specs.Spelling.{limit_line, heading_lines}
 use Rattle.ec_heading.proofs.shared.LeadLines.{leads_outline}
-use Rattle.ec_heading.proofs.shared.OutlineFound.{outline_found, version_found}
+use Rattle.ec_heading.proofs.shared.TreeFound.{outline_found, version_found}
 use Rattle.ec_heading.proofs.shared.VersionFacts.{limit_parts}
-use Rattle.calls_text.specs.declared.fault.Kind.{Kind}
-use Rattle.calls_text.specs.declared.fault.Kind.TheVariants as kinds
-use Rattle.calls_text.specs.Recordings.{Recorded}
+use Rattle.calls_text.specs.declared.fault.FaultKind.{FaultKind}
+use Rattle.calls_text.specs.declared.fault.FaultKind.TheVariants as kinds
+use Rattle.calls_text.specs.Recordings.{RecordingModel}
 use Rattle.calls_text.specs.Reading.{Draft, Stage, Declaring, Running, Ended, step, is_run}
-use Rattle.calls_text.specs.Reading.{draft_of, limit_digits, limited, limit_or, limit_step}
+use Rattle.calls_text.specs.Reading.{draft_of, limit_digits, after_limit, limit_or, limit_step}
 use Rattle.calls_text.specs.Reading.{from_words}
-use Rattle.calls_text.specs.Reading.{start_in, from_fault, with_start, started_at, started, from_or}
-use Rattle.calls_text.specs.Reading.{from_step, opens_from, is_from, headed_on, draft_step}
-use Rattle.calls_text.specs.Reading.{recorded_of, drafted_on}
+use Rattle.calls_text.specs.Reading.{start_in, from_fault, with_start, with_start_or_fault, after_start, from_or}
+use Rattle.calls_text.specs.Reading.{from_step, opens_from, is_from, map_heading, draft_step}
+use Rattle.calls_text.specs.Reading.{recorded_of, map_draft}
 use Rattle.calls_text.specs.Grammar.{from_line, from_lines}
 use Rattle.calls_text.specs.kept.Leading.{Leads}
 use Rattle.calls_text.proofs.ObjectWords.{event_spelled, event_below}
@@ -50,13 +50,13 @@ same_word v w same = (bytes_eq-Decides v w).0 same
 
 -- THE LIMIT
 
--- the line says this limit, which texts may have
+-- the line says this limit, which is in range
 pub record SaysLimit (line : List ℕ) (d : Draft) : Type 0 where
   pub limit : ℕ
   pub low : 1 ≤ limit
   pub high : limit ≤ greatest_limit Two
   pub spelled : line ≡ limit_line limit
-  pub opens : d ≡ draft_of (opened Two limit [])
+  pub opens : d ≡ draft_of (empty_heading Two limit [])
 
 digits_back : (ws : List (List ℕ)) (n : List ℕ) → limit_digits ws ≡ Some n
     → ws ≡ codes "limit" ∷ n ∷ []
@@ -69,13 +69,14 @@ digits_back (w ∷ m ∷ []) n is =
     ap₂ (λ (x : List ℕ) (y : List ℕ). x ∷ y ∷ []) (same_word w (codes "limit") p.0) same
 digits_back (w ∷ m ∷ v ∷ ws) n is = cc
 
-limited_back : (o : Option ℕ) (d : Draft) → limited o ≡ Ok d
-    → (n : ℕ) × (o ≡ Some n) × (is_limit Two n ≡ true) × (draft_of (opened Two n []) ≡ d)
+limited_back : (o : Option ℕ) (d : Draft) → after_limit o ≡ Ok d
+    → (n : ℕ) × (o ≡ Some n) × (is_limit Two n ≡ true) × (draft_of (empty_heading Two n []) ≡ d)
 limited_back None d is = cc
 limited_back (Some n) d is =
     elim (is_limit Two n) as (λ b. is_limit Two n ≡ b
-    → cond b (Ok (draft_of (opened Two n []))) (Err kinds.BadNumber) ≡ Ok d
-    → (m : ℕ) × (Some n ≡ Some m) × (is_limit Two m ≡ true) × (draft_of (opened Two m []) ≡ d)) [
+    → cond b (Ok (draft_of (empty_heading Two n []))) (Err kinds.BadNumber) ≡ Ok d
+    → (m : ℕ) × (Some n ≡ Some m) × (is_limit Two m ≡ true)
+    × (draft_of (empty_heading Two m []) ≡ d)) [
       | true ↦ λ q here. (n, refl, q, cc)
       | false ↦ λ q none. cc
     ] refl is
@@ -84,7 +85,7 @@ said : (line : List ℕ) (o : Option (List ℕ)) (d : Draft) → limit_digits (w
     → limit_or o ≡ Ok d → SaysLimit line d
 said line None d words is = cc
 said line (Some digits) d words is =
-    let n = limited_back (number_of digits) d is in
+    let n = limited_back (number_in_word digits) d is in
     let p = limit_parts Two n.0 n.2 in
     let are : words_of line ≡ codes "limit" ∷ digits ∷ [] =
     digits_back (words_of line) digits words in
@@ -108,15 +109,15 @@ limit_said line d is =
       | false ↦ λ good. said line (limit_digits (words_of line)) d refl good
     ] is
 
--- A COUNT AT THE BEGINNING
+-- AN INITIAL COUNT
 
--- the line says this count
+-- the line says this initial count
 pub record SaysStart (d : Draft) (line : List ℕ) (e : Draft) : Type 0 where
   pub event : ℕ
   pub count : ℕ
   pub adds : e ≡ with_start d event count
-  pub spelled : HasOutline d.heading → line ≡ from_line d.heading (event, count)
-  pub kept : HasOutline d.heading → IsStart d.heading d.from (event, count)
+  pub spelled : HasHeaderTree d.heading → line ≡ from_line d.heading (event, count)
+  pub kept : HasHeaderTree d.heading → IsStart d.heading d.from (event, count)
 
 from_words_back : (ws : List (List ℕ)) (p : List ℕ × List ℕ) → from_words ws ≡ Some p
     → ws ≡ codes "from" ∷ p.0 ∷ p.1 ∷ []
@@ -137,13 +138,13 @@ from_words_back (w ∷ e ∷ n ∷ []) p is =
     ] refl is
 from_words_back (w ∷ e ∷ n ∷ v ∷ ws) p is = cc
 
--- the count is one that may be at the beginning
-record IsStartOf (h : Headed) (o : Option ℕ) (n : ℕ) : Type 0 where
+-- the number may be an initial count
+record IsStartOf (h : HeadingModel) (o : Option ℕ) (n : ℕ) : Type 0 where
   is : o ≡ Some n
   low : 1 ≤ n
   high : n ≤ h.setup.limit
 
-start_back : (h : Headed) (o : Option ℕ) (n : ℕ) → start_in h o ≡ Some n → IsStartOf h o n
+start_back : (h : HeadingModel) (o : Option ℕ) (n : ℕ) → start_in h o ≡ Some n → IsStartOf h o n
 start_back h None n is = cc
 start_back h (Some m) n is =
     let g = guarded (nat_le 1 m && nat_le m h.setup.limit) (Some m) n is in
@@ -152,13 +153,13 @@ start_back h (Some m) n is =
     subst (IsStartOf h (Some m)) same
     (record { is = refl; low = leb-true _ _ p.0; high = leb-true _ _ p.1 })
 
-count_back : (d e : Draft) (k : ℕ) (o : Option ℕ) → started_at d k o ≡ Ok e
+count_back : (d e : Draft) (k : ℕ) (o : Option ℕ) → with_start_or_fault d k o ≡ Ok e
     → (n : ℕ) × (o ≡ Some n) × (with_start d k n ≡ e) × (from_fault d k ≡ None)
 count_back d e k None is = cc
 count_back d e k (Some n) is =
     let f = no_fault (from_fault d k) (with_start d k n) e is in (n, refl, f.1, f.0)
 
--- the eventcount may have a count at the beginning, after those before it
+-- the eventcount may have an initial count, after those before it
 free_back : (d : Draft) (k : ℕ) → from_fault d k ≡ None
     → (is_owned d.heading.groups (objects.Event k) ≡ false) × (is_later d.from k ≡ true)
 free_back d k none =
@@ -168,12 +169,12 @@ free_back d k none =
 
 started_so : (d e : Draft) (line w digits : List ℕ) (k : Option ℕ)
     → words_of line ≡ codes "from" ∷ w ∷ digits ∷ [] → event_in d.heading.words w ≡ k
-    → started d k digits ≡ Ok e → SaysStart d line e
+    → after_start d k digits ≡ Ok e → SaysStart d line e
 started_so d e line w digits None words named is = cc
 started_so d e line w digits (Some k) words named is =
-    let n = count_back d e k (start_in d.heading (number_of digits)) is in
-    let start : IsStartOf d.heading (number_of digits) n.0 =
-    start_back d.heading (number_of digits) n.0 n.1 in
+    let n = count_back d e k (start_in d.heading (number_in_word digits)) is in
+    let start : IsStartOf d.heading (number_in_word digits) n.0 =
+    start_back d.heading (number_in_word digits) n.0 n.1 in
     let number : digits ≡ decimal n.0 = (number_takes digits n.0 start.is).0 in
     let free = free_back d k n.3 in
     record {
@@ -211,14 +212,14 @@ start_said d e line is =
 
 -- ALL LINES BEFORE `run`
 
--- lines of counts, each in its turn
+-- lines of initial counts, one after another
 abbrev pub StartsLead : Draft → List (List ℕ) → Draft → Type 0
 StartsLead d [] e = d ≡ e
 StartsLead d (line ∷ lines) e =
     (next : Draft) × (from_step d line ≡ Ok next) × StartsLead next lines e
 
--- lines of counts, `run`, and what follows
-record StartsRun (d : Draft) (lines : List (List ℕ)) (t : Recorded) : Type 0 where
+-- lines of initial counts, `run`, and what follows
+record StartsRun (d : Draft) (lines : List (List ℕ)) (t : RecordingModel) : Type 0 where
   starts : List (List ℕ)
   rest : List (List ℕ)
   last : Draft
@@ -227,12 +228,12 @@ record StartsRun (d : Draft) (lines : List (List ℕ)) (t : Recorded) : Type 0 w
   some : 0 < last.heading.setup.workers
   runs : Leads (Running (recorded_of last)) rest (Ended t)
 
--- lines of a heading, lines of counts, `run`, and what follows
-pub record HeadsRun (h : Headed) (lines : List (List ℕ)) (t : Recorded) : Type 0 where
+-- lines of a header, lines of initial counts, `run`, and what follows
+pub record HeadsRun (h : HeadingModel) (lines : List (List ℕ)) (t : RecordingModel) : Type 0 where
   pub heads : List (List ℕ)
   pub starts : List (List ℕ)
   pub rest : List (List ℕ)
-  pub heading : Headed
+  pub heading : HeadingModel
   pub last : Draft
   pub are : lines ≡ heads ++ (starts ++ codes "run" ∷ rest)
   pub head_lead : LinesLead h heads heading
@@ -240,18 +241,18 @@ pub record HeadsRun (h : Headed) (lines : List (List ℕ)) (t : Recorded) : Type
   pub some : 0 < last.heading.setup.workers
   pub runs : Leads (Running (recorded_of last)) rest (Ended t)
 
--- what a line does if it is not `run`
-pub drafted_back : (r : Result Draft Kind) (s : Stage) → drafted_on r ≡ Ok s
+-- a line that is not `run` leads to another draft
+pub drafted_back : (r : Result Draft FaultKind) (s : Stage) → map_draft r ≡ Ok s
     → (e : Draft) × (r ≡ Ok e) × (s ≡ Declaring e)
 drafted_back (Ok e) s is = (e, refl, cc)
 drafted_back (Err kind) s is = cc
 
-headed_back : (d e : Draft) (r : Result Headed HeadFault) → headed_on d r ≡ Ok e
-    → (h : Headed) × (r ≡ Ok h) × (e ≡ record d { heading = h })
+headed_back : (d e : Draft) (r : Result HeadingModel HeadFault) → map_heading d r ≡ Ok e
+    → (h : HeadingModel) × (r ≡ Ok h) × (e ≡ record d { heading = h })
 headed_back d e (Ok h) is = (h, refl, cc)
 headed_back d e (Err fault) is = cc
 
-ok_is : (x y : Stage) → ◌≡◌ {A = Result Stage Kind} (Ok x) (Ok y) → y ≡ x
+ok_is : (x y : Stage) → ◌≡◌ {A = Result Stage FaultKind} (Ok x) (Ok y) → y ≡ x
 ok_is x y e = cc
 
 run_is : (d : Draft) (line : List ℕ) → is_run d line ≡ true
@@ -260,14 +261,14 @@ run_is d line is =
     let p = and_parts (bytes_eq line (codes "run")) (nat_lt 0 d.heading.setup.workers) is in
     (same_word line (codes "run") p.0, ltb-true _ _ p.1)
 
--- `run` here, or a line of the draft
+-- the line is `run`, or it leads to another draft
 step_cases : (d : Draft) (line : List ℕ) (s : Stage) → step (Declaring d) line ≡ Ok s
     → ((line ≡ codes "run") × (0 < d.heading.setup.workers) × (s ≡ Running (recorded_of d)))
     ⊎ ((e : Draft) × (draft_step d line ≡ Ok e) × (s ≡ Declaring e))
 unfolding step
 step_cases d line s is =
     elim (is_run d line) as (λ b. is_run d line ≡ b
-    → cond b (Ok (Running (recorded_of d))) (drafted_on (draft_step d line)) ≡ Ok s
+    → cond b (Ok (Running (recorded_of d))) (map_draft (draft_step d line)) ≡ Ok s
     → ((line ≡ codes "run") × (0 < d.heading.setup.workers) × (s ≡ Running (recorded_of d)))
     ⊎ ((e : Draft) × (draft_step d line ≡ Ok e) × (s ≡ Declaring e))) [
       | true ↦ λ q runs.
@@ -275,15 +276,15 @@ step_cases d line s is =
       | false ↦ λ q drafts. inr (drafted_back (draft_step d line) s drafts)
     ] refl is
 
--- a line of a count here, or one of the heading
+-- the line is that of an initial count, or one of the header
 draft_cases : (d e : Draft) (line : List ℕ) → draft_step d line ≡ Ok e
     → (from_step d line ≡ Ok e)
-    ⊎ ((h : Headed) × (head_step d.heading line ≡ Ok h) × (e ≡ record d { heading = h }))
+    ⊎ ((h : HeadingModel) × (head_step d.heading line ≡ Ok h) × (e ≡ record d { heading = h }))
 draft_cases d e line is =
     elim (is_from d line) as (λ b.
-    cond b (from_step d line) (headed_on d (head_step d.heading line)) ≡ Ok e
+    cond b (from_step d line) (map_heading d (head_step d.heading line)) ≡ Ok e
     → (from_step d line ≡ Ok e)
-    ⊎ ((h : Headed) × (head_step d.heading line ≡ Ok h) × (e ≡ record d { heading = h }))) [
+    ⊎ ((h : HeadingModel) × (head_step d.heading line ≡ Ok h) × (e ≡ record d { heading = h }))) [
       | true ↦ λ from. inl from
       | false ↦ λ head. inr (headed_back d e (head_step d.heading line) head)
     ] is
@@ -295,7 +296,7 @@ draft_starts d e line some is =
     let first : is_from d line ≡ true =
     ap (λ (b : Bool). b || (opens_from (words_of line) && nat_lt 0 d.heading.setup.workers)) long in
     sym (ap (λ (b : Bool).
-    cond b (from_step d line) (headed_on d (head_step d.heading line))) first)
+    cond b (from_step d line) (map_heading d (head_step d.heading line))) first)
     ∙ is
 
 more_starts : (d e : Draft) (line : List ℕ) → from_step d line ≡ Ok e → 0 < length e.from
@@ -307,7 +308,7 @@ more_starts d e line is =
       length-append d.from ((s.event, s.count) ∷ []),
     )
 
-run_here : (d : Draft) (line : List ℕ) (lines : List (List ℕ)) (t : Recorded)
+run_here : (d : Draft) (line : List ℕ) (lines : List (List ℕ)) (t : RecordingModel)
     → line ≡ codes "run" → 0 < d.heading.setup.workers
     → Leads (Running (recorded_of d)) lines (Ended t) → StartsRun d (line ∷ lines) t
 run_here d line lines t is some leads = record {
@@ -320,7 +321,7 @@ run_here d line lines t is some leads = record {
   runs = leads;
 }
 
-start_here : (d e : Draft) (line : List ℕ) (lines : List (List ℕ)) (t : Recorded)
+start_here : (d e : Draft) (line : List ℕ) (lines : List (List ℕ)) (t : RecordingModel)
     → from_step d line ≡ Ok e → StartsRun e lines t → StartsRun d (line ∷ lines) t
 start_here d e line lines t is rest = record {
   starts = line ∷ rest.starts;
@@ -332,8 +333,8 @@ start_here d e line lines t is rest = record {
   runs = rest.runs;
 }
 
--- after a line of a count
-starts_back : (d : Draft) (lines : List (List ℕ)) (t : Recorded) → 0 < length d.from
+-- after a line of an initial count
+starts_back : (d : Draft) (lines : List (List ℕ)) (t : RecordingModel) → 0 < length d.from
     → Leads (Declaring d) lines (Ended t) → StartsRun d lines t
 starts_back d [] t some leads = cc
 starts_back d (line ∷ lines) t some (next, taken, leads) =
@@ -349,7 +350,8 @@ starts_back d (line ∷ lines) t some (next, taken, leads) =
           (subst (λ (s : Stage). Leads s lines (Ended t)) drafts.2 leads)))
     ]
 
-no_heads : (h : Headed) (lines : List (List ℕ)) (t : Recorded) → StartsRun (draft_of h) lines t
+no_heads : (h : HeadingModel) (lines : List (List ℕ)) (t : RecordingModel)
+    → StartsRun (draft_of h) lines t
     → HeadsRun h lines t
 no_heads h lines t s = record {
   heads = [];
@@ -364,7 +366,7 @@ no_heads h lines t s = record {
   runs = s.runs;
 }
 
-head_here : (h g : Headed) (line : List ℕ) (lines : List (List ℕ)) (t : Recorded)
+head_here : (h g : HeadingModel) (line : List ℕ) (lines : List (List ℕ)) (t : RecordingModel)
     → head_step h line ≡ Ok g → HeadsRun g lines t → HeadsRun h (line ∷ lines) t
 head_here h g line lines t is rest = record {
   heads = line ∷ rest.heads;
@@ -379,7 +381,7 @@ head_here h g line lines t is rest = record {
   runs = rest.runs;
 }
 
-pub heads_back : (h : Headed) (lines : List (List ℕ)) (t : Recorded)
+pub heads_back : (h : HeadingModel) (lines : List (List ℕ)) (t : RecordingModel)
     → Leads (Declaring (draft_of h)) lines (Ended t) → HeadsRun h lines t
 heads_back h [] t leads = cc
 heads_back h (line ∷ lines) t (next, taken, leads) =
@@ -399,9 +401,9 @@ heads_back h (line ∷ lines) t (next, taken, leads) =
       ]
     ]
 
--- WHAT THEY SPELL
+-- THEIR TEXT
 
--- the lines of counts are those of these counts
+-- the lines are those of these initial counts
 pub record StartsSpelled (d : Draft) (lines : List (List ℕ)) (e : Draft) : Type 0 where
   pub counts : List (ℕ × ℕ)
   pub heading : e.heading ≡ d.heading
@@ -409,7 +411,7 @@ pub record StartsSpelled (d : Draft) (lines : List (List ℕ)) (e : Draft) : Typ
   pub spelled : lines ≡ from_lines d.heading counts
   pub are : AreStarts d.heading d.from counts
 
-start_spelled : (d n e : Draft) (line : List ℕ) (lines : List (List ℕ)) → HasOutline d.heading
+start_spelled : (d n e : Draft) (line : List ℕ) (lines : List (List ℕ)) → HasHeaderTree d.heading
     → SaysStart d line n → StartsSpelled n lines e → StartsSpelled d (line ∷ lines) e
 start_spelled d n e line lines has one rest =
     let same : n.heading ≡ d.heading = ap (λ (x : Draft). x.heading) one.adds in
@@ -419,14 +421,14 @@ start_spelled d n e line lines has one rest =
       from = rest.from ∙ ap (λ (x : Draft). x.from ++ rest.counts) one.adds
           ∙ append_assoc d.from ((one.event, one.count) ∷ []) rest.counts;
       spelled = ap₂ (λ (x : List ℕ) (xs : List (List ℕ)). x ∷ xs) (one.spelled has)
-          (rest.spelled ∙ ap (λ (h : Headed). from_lines h rest.counts) same);
+          (rest.spelled ∙ ap (λ (h : HeadingModel). from_lines h rest.counts) same);
       are = (
         one.kept has,
         subst (λ (x : Draft). AreStarts x.heading x.from rest.counts) one.adds rest.are,
       );
     }
 
-pub starts_spelled : (d e : Draft) (lines : List (List ℕ)) → HasOutline d.heading
+pub starts_spelled : (d e : Draft) (lines : List (List ℕ)) → HasHeaderTree d.heading
     → StartsLead d lines e → StartsSpelled d lines e
 starts_spelled d e [] has leads = record {
   counts = [];
@@ -439,9 +441,9 @@ starts_spelled d e (line ∷ lines) has (next, taken, leads) =
     let one : SaysStart d line next = start_said d next line taken in
     let same : d.heading ≡ next.heading = sym (ap (λ (x : Draft). x.heading) one.adds) in
     start_spelled d next e line lines has one
-    (starts_spelled next e lines (subst HasOutline same has) leads)
+    (starts_spelled next e lines (subst HasHeaderTree same has) leads)
 
--- counts leave the heading as it is
+-- lines of initial counts leave the header as it is
 pub starts_heading : (d e : Draft) (lines : List (List ℕ)) → StartsLead d lines e
     → e.heading ≡ d.heading
 starts_heading d e [] leads = ap (λ (x : Draft). x.heading) (sym leads)
@@ -449,30 +451,32 @@ starts_heading d e (line ∷ lines) (next, taken, leads) =
     starts_heading next e lines leads
     ∙ ap (λ (x : Draft). x.heading) (start_said d next line taken).adds
 
--- the lines of a heading are those of its outline
-pub record HeadingSpelled (limit : ℕ) (lines : List (List ℕ)) (h : Headed) : Type 0 where
-  pub has : HasOutline h
+-- the lines of a header are those of its syntax tree
+pub record HeadingSpelled (limit : ℕ) (lines : List (List ℕ)) (h : HeadingModel) : Type 0 where
+  pub has : HasHeaderTree h
   pub version : h.version ≡ Two
   pub spelled : limit_line limit ∷ lines ≡ heading_lines (outline_of h)
 
-outline_spelled : (limit : ℕ) (lines : List (List ℕ)) (h : Headed) → Outlines Two limit lines h
+outline_spelled : (limit : ℕ) (lines : List (List ℕ)) (h : HeadingModel)
+    → Outlines Two limit lines h
     → HeadingSpelled limit lines h
 outline_spelled limit lines h o =
     let recalled : outline_of h ≡ o.outline =
     ap outline_of o.end_is ∙ outline_found o.outline o.is in
     record {
       has = record { outline = o.outline; is = o.is; declares = sym o.end_is };
-      version = ap (λ (g : Headed). g.version) o.end_is ∙ version_found o.outline ∙ o.version_is;
+      version = ap (λ (g : HeadingModel). g.version) o.end_is ∙ version_found o.outline
+          ∙ o.version_is;
       spelled = ap₂ (λ (x : List ℕ) (xs : List (List ℕ)). x ∷ xs)
           (ap limit_line (sym o.limit_is)) o.lines_are
           ∙ ap heading_lines (sym recalled);
     }
 
-pub heading_spelled : (limit : ℕ) (lines : List (List ℕ)) (h : Headed) → 1 ≤ limit
+pub heading_spelled : (limit : ℕ) (lines : List (List ℕ)) (h : HeadingModel) → 1 ≤ limit
     → limit ≤ greatest_limit Two → 0 < h.setup.workers
-    → LinesLead (opened Two limit []) lines h → HeadingSpelled limit lines h
+    → LinesLead (empty_heading Two limit []) lines h → HeadingSpelled limit lines h
 heading_spelled limit [] h low high some leads =
-    let none : h.setup.workers ≡ 0 = ap (λ (g : Headed). g.setup.workers) (sym leads) in
+    let none : h.setup.workers ≡ 0 = ap (λ (g : HeadingModel). g.setup.workers) (sym leads) in
     absurd (omega (arith, some, none))
 heading_spelled limit (line ∷ lines) h low high some leads =
     outline_spelled limit (line ∷ lines) h (leads_outline Two limit line lines h low high leads)

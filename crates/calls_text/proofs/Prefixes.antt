@@ -6,16 +6,16 @@ use Rattle.std.specs.Prelude.{count_by}
 use Rattle.std.specs.List.{AllByRecursion, join_with_byte}
 use Rattle.std.proofs.lemmas.List.Splits.{length-slice_split}
 use Rattle.std.proofs.lemmas.List.Elements.{recursion_from_All, All-from_recursion}
-use Rattle.ec_heading.specs.Spelling.{text_of, ended_line}
-use Rattle.calls_text.specs.declared.fault.Kind.{Kind}
-use Rattle.calls_text.specs.declared.fault.Kind.TheVariants as kinds
-use Rattle.calls_text.specs.Recordings.{Recorded}
+use Rattle.ec_heading.specs.Spelling.{lines_text, ended_line}
+use Rattle.calls_text.specs.declared.fault.FaultKind.{FaultKind}
+use Rattle.calls_text.specs.declared.fault.FaultKind.TheVariants as kinds
+use Rattle.calls_text.specs.Recordings.{RecordingModel}
 use Rattle.calls_text.specs.Reading.{Stage, Opening, Limiting, Declaring, Running, Ended, step}
 use Rattle.calls_text.specs.Reading.{is_ended}
-use Rattle.calls_text.specs.Outcomes.{OneRead, Parsed, parts_of, goes, taken, ended, fault_in}
+use Rattle.calls_text.specs.Outcomes.{OneRead, ParseResult, lines_of_text, parse_from, after_line, parse_end, fault_in}
 use Rattle.calls_text.specs.Grammar.{history_lines, history_text}
 use Rattle.calls_text.specs.kept.Leading.{Leads}
-use Rattle.calls_text.specs.Laws.{SpelledIsRead, NoTextBeginsAnother}
+use Rattle.calls_text.specs.Laws.{SpelledIsRead, TextsArePrefixFree}
 use Rattle.calls_text.specs.Laws.{PrefixIsRefused}
 use Rattle.calls_text.specs.Rules.{KeepsRules}
 use Rattle.calls_text.proofs.Rules.{Lead, all_taken}
@@ -27,7 +27,7 @@ use Rattle.calls_text.proofs.Histories.{lines_back}
 -- LINES THAT ARE READ
 
 -- a stage that takes a line is not over
-is_open : (s t : Stage) (line : List ℕ) → step s line ≡ Ok t → is_ended s ≡ false
+pub is_open : (s t : Stage) (line : List ℕ) → step s line ≡ Ok t → is_ended s ≡ false
 unfolding step is_ended
 is_open Opening t line is = refl
 is_open Limiting t line is = refl
@@ -36,89 +36,90 @@ is_open (Running r) t line is = refl
 is_open (Ended r) t line is = cc
 
 goes_line : (n : ℕ) (s t : Stage) (line more : List ℕ) → IsPart line → step s line ≡ Ok t
-    → goes n s (parts_of (line ++ 10 ∷ more)) ≡ goes (n + 1) t (parts_of more)
+    → parse_from n s (lines_of_text (line ++ 10 ∷ more)) ≡ parse_from (n + 1) t (lines_of_text more)
 goes_line n s t line more part is =
     let f : HasFirst more = has_first more in
-    ap (goes n s) (parts_line line more part ∙ ap (λ (ps : List (List ℕ)). line ∷ ps) f.is)
+    ap (parse_from n s) (parts_line line more part ∙ ap (λ (ps : List (List ℕ)). line ∷ ps) f.is)
     ∙ by_line n s line f.first f.others (is_open s t line is)
-    ∙ ap (λ r. taken n line r (λ u. goes (n + 1) u (f.first ∷ f.others))) is
-    ∙ ap (goes (n + 1) t) (sym f.is)
+    ∙ ap (λ r. after_line n line r (λ u. parse_from (n + 1) u (f.first ∷ f.others))) is
+    ∙ ap (parse_from (n + 1) t) (sym f.is)
 
 -- lines that lead to a stage are read, whatever follows
 pub goes_lines : (n : ℕ) (s t : Stage) (lines : List (List ℕ)) (more : List ℕ)
     → AllByRecursion IsPart lines → Leads s lines t
-    → goes n s (parts_of (text_of lines ++ more)) ≡ goes (n + length lines) t (parts_of more)
+    → parse_from n s (lines_of_text (lines_text lines ++ more))
+    ≡ parse_from (n + length lines) t (lines_of_text more)
 goes_lines n s t [] more each leads =
-    ap (λ (k : ℕ). goes k s (parts_of more)) (omega arith)
-    ∙ ap (λ (k : Stage). goes (n + 0) k (parts_of more)) leads
+    ap (λ (k : ℕ). parse_from k s (lines_of_text more)) (omega arith)
+    ∙ ap (λ (k : Stage). parse_from (n + 0) k (lines_of_text more)) leads
 goes_lines n s t (line ∷ lines) more each (next, is, leads) =
-    let grouped : (ended_line line ++ text_of lines) ++ more
-    ≡ line ++ 10 ∷ (text_of lines ++ more) =
-    append_assoc (ended_line line) (text_of lines) more
-    ∙ append_assoc line (10 ∷ []) (text_of lines ++ more) in
+    let grouped : (ended_line line ++ lines_text lines) ++ more
+    ≡ line ++ 10 ∷ (lines_text lines ++ more) =
+    append_assoc (ended_line line) (lines_text lines) more
+    ∙ append_assoc line (10 ∷ []) (lines_text lines ++ more) in
     let count : n + 1 + length lines ≡ n + length (line ∷ lines) = omega arith in
-    ap (λ (bytes : List ℕ). goes n s (parts_of bytes)) grouped
-    ∙ goes_line n s next line (text_of lines ++ more) each.0 is
+    ap (λ (bytes : List ℕ). parse_from n s (lines_of_text bytes)) grouped
+    ∙ goes_line n s next line (lines_text lines ++ more) each.0 is
     ∙ goes_lines (n + 1) next t lines more each.1 leads
-    ∙ ap (λ (k : ℕ). goes k t (parts_of more)) count
+    ∙ ap (λ (k : ℕ). parse_from k t (lines_of_text more)) count
 
-pub goes_ended : (n : ℕ) (r : Recorded) (parts : List (List ℕ))
-    → goes n (Ended r) parts ≡ Ok (record { recorded = r; number = n; rest = parts })
-unfolding goes
+pub goes_ended : (n : ℕ) (r : RecordingModel) (parts : List (List ℕ))
+    → parse_from n (Ended r) parts ≡ Ok (record { recorded = r; number = n; rest = parts })
+unfolding parse_from
 goes_ended n r parts = refl
 
 -- its lines lead to the history, and have no LF
-pub record IsLed (r : Recorded) : Type 0 where
+pub record IsLed (r : RecordingModel) : Type 0 where
   pub each : AllByRecursion IsPart (history_lines r)
   pub leads : Leads Opening (history_lines r) (Ended r)
 
-led_by : (r : Recorded) (lines : List (List ℕ)) → lines ≡ history_lines r
+led_by : (r : RecordingModel) (lines : List (List ℕ)) → lines ≡ history_lines r
     → AllByRecursion IsPart lines → Leads Opening lines (Ended r) → IsLed r
 led_by r lines same each leads = record {
   each = subst (AllByRecursion IsPart) same each;
   leads = subst (λ (ls : List (List ℕ)). Leads Opening ls (Ended r)) same leads;
 }
 
-pub is_led : (r : Recorded) → KeepsRules r → IsLed r
+pub is_led : (r : RecordingModel) → KeepsRules r → IsLed r
 is_led r keeps =
     let l : Lead Opening (Ended r) = all_taken r keeps in
     led_by r l.lines (lines_back l.lines r l.taken.leads) l.taken.each l.taken.leads
 
--- WHAT IS SPELLED IS READ
+-- THE TEXT OF A HISTORY IS READ
 
-pub led_is_read : (r : Recorded) (n : ℕ) (rest : List ℕ) → IsLed r
-    → goes n Opening (parts_of (history_text r ++ rest))
-    ≡ Ok (record { recorded = r; number = n + length (history_lines r); rest = parts_of rest })
+pub led_is_read : (r : RecordingModel) (n : ℕ) (rest : List ℕ) → IsLed r
+    → parse_from n Opening (lines_of_text (history_text r ++ rest))
+    ≡ Ok (record { recorded = r; number = n + length (history_lines r); rest = lines_of_text rest })
 unfolding history_text
 led_is_read r n rest led =
     goes_lines n Opening (Ended r) (history_lines r) rest led.each led.leads
-    ∙ goes_ended (n + length (history_lines r)) r (parts_of rest)
+    ∙ goes_ended (n + length (history_lines r)) r (lines_of_text rest)
 
 pub spelled_is_read : SpelledIsRead
 spelled_is_read r n rest keeps = led_is_read r n rest (is_led r keeps)
 
--- NO TEXT BEGINS ANOTHER
+-- NO TEXT IS A PROPER PREFIX OF ANOTHER
 
-one_read : (r s : Recorded) (m n : ℕ) (x y : List (List ℕ))
-    → ◌≡◌ {A = Parsed} (Ok (record { recorded = r; number = m; rest = x }))
+one_read : (r s : RecordingModel) (m n : ℕ) (x y : List (List ℕ))
+    → ◌≡◌ {A = ParseResult} (Ok (record { recorded = r; number = m; rest = x }))
     (Ok (record { recorded = s; number = n; rest = y })) → (r ≡ s) × (x ≡ y)
 one_read r s m n x y is =
     let same : record { recorded = r; number = m; rest = x }
     ≡ record { recorded = s; number = n; rest = y } = cc in
     (ap (λ (o : OneRead). o.recorded) same, ap (λ (o : OneRead). o.rest) same)
 
-pub no_text_begins_another : NoTextBeginsAnother
-no_text_begins_another r s x y one other same =
+pub texts_are_prefix_free : TextsArePrefixFree
+texts_are_prefix_free r s x y one other same =
     let both = one_read r s (1 + length (history_lines r)) (1 + length (history_lines s))
-    (parts_of x) (parts_of y)
+    (lines_of_text x) (lines_of_text y)
     (sym (spelled_is_read r 1 x one)
-    ∙ ap (λ (bytes : List ℕ). goes 1 Opening (parts_of bytes)) same
+    ∙ ap (λ (bytes : List ℕ). parse_from 1 Opening (lines_of_text bytes)) same
     ∙ spelled_is_read s 1 y other) in
     (both.0, sym (parts_joined x) ∙ ap (join_with_byte 10) both.1 ∙ parts_joined y)
 
 -- WHERE A TEXT IS CUT
 
--- one of two lists with one ending begins the other
+-- of two prefixes of one list, one is a prefix of the other
 append_cases : (xs ys zs ws : List ℕ) → xs ++ ys ≡ zs ++ ws
     → ((t : List ℕ) × (zs ≡ xs ++ t) × (ys ≡ t ++ ws))
     ⊎ ((t : List ℕ) × (xs ≡ zs ++ t) × (ws ≡ t ++ ys) × (t ≢ []))
@@ -139,32 +140,32 @@ append_cases (x ∷ xs) ys (z ∷ zs) ws is =
           )
     ]
 
--- what is left of a line with its LF, if some bytes follow
-short_of : (line front t : List ℕ) → line ++ 10 ∷ [] ≡ front ++ t → t ≢ []
-    → (tail : List ℕ) × (line ≡ front ++ tail)
+-- a proper prefix of a line with its LF is a prefix of the line
+short_of : (line prefix t : List ℕ) → line ++ 10 ∷ [] ≡ prefix ++ t → t ≢ []
+    → (tail : List ℕ) × (line ≡ prefix ++ tail)
 short_of line [] t is some = (line, refl)
 short_of [] (b ∷ []) t is some = absurd (some (cc))
-short_of [] (b ∷ c ∷ front) t is some = cc
-short_of (a ∷ line) (b ∷ front) t is some =
+short_of [] (b ∷ c ∷ prefix) t is some = cc
+short_of (a ∷ line) (b ∷ prefix) t is some =
     let head : a ≡ b = cc in
-    let tail : line ++ 10 ∷ [] ≡ front ++ t = cc in
-    let k = short_of line front t tail some in
+    let tail : line ++ 10 ∷ [] ≡ prefix ++ t = cc in
+    let k = short_of line prefix t tail some in
     (k.0, ap₂ (λ (x : ℕ) (xs : List ℕ). x ∷ xs) head k.1)
 
--- whole lines, and a part of the next one
-record IsCut (lines : List (List ℕ)) (front : List ℕ) : Type 0 where
+-- whole lines, and a prefix of the next one
+record IsCut (lines : List (List ℕ)) (prefix : List ℕ) : Type 0 where
   whole : List (List ℕ)
   line : List ℕ
   others : List (List ℕ)
   part : List ℕ
   tail : List ℕ
   are : lines ≡ whole ++ line ∷ others
-  text : front ≡ text_of whole ++ part
+  text : prefix ≡ lines_text whole ++ part
   begins : line ≡ part ++ tail
 
-cut_after : (line : List ℕ) (lines : List (List ℕ)) (front t : List ℕ)
-    → front ≡ ended_line line ++ t → IsCut lines t → IsCut (line ∷ lines) front
-cut_after line lines front t is c = record {
+cut_after : (line : List ℕ) (lines : List (List ℕ)) (prefix t : List ℕ)
+    → prefix ≡ ended_line line ++ t → IsCut lines t → IsCut (line ∷ lines) prefix
+cut_after line lines prefix t is c = record {
   whole = line ∷ c.whole;
   line = c.line;
   others = c.others;
@@ -172,25 +173,25 @@ cut_after line lines front t is c = record {
   tail = c.tail;
   are = ap (λ (ls : List (List ℕ)). line ∷ ls) c.are;
   text = is ∙ ap (λ (bytes : List ℕ). ended_line line ++ bytes) c.text
-      ∙ sym (append_assoc (ended_line line) (text_of c.whole) c.part);
+      ∙ sym (append_assoc (ended_line line) (lines_text c.whole) c.part);
   begins = c.begins;
 }
 
-cut : (lines : List (List ℕ)) (front more : List ℕ) → text_of lines ≡ front ++ more → more ≢ []
-    → IsCut lines front
+cut : (lines : List (List ℕ)) (prefix more : List ℕ) → lines_text lines ≡ prefix ++ more → more ≢ []
+    → IsCut lines prefix
 cut [] [] more is some = absurd (some (sym is))
-cut [] (b ∷ front) more is some = cc
-cut (line ∷ lines) front more is some =
-    elim (append_cases (ended_line line) (text_of lines) front more is) [
+cut [] (b ∷ prefix) more is some = cc
+cut (line ∷ lines) prefix more is some =
+    elim (append_cases (ended_line line) (lines_text lines) prefix more is) [
       | inl longer ↦
-          cut_after line lines front longer.0 longer.1 (cut lines longer.0 more longer.2 some)
+          cut_after line lines prefix longer.0 longer.1 (cut lines longer.0 more longer.2 some)
       | inr shorter ↦
-          (let k = short_of line front shorter.0 shorter.1 shorter.3 in
+          (let k = short_of line prefix shorter.0 shorter.1 shorter.3 in
           record {
             whole = [];
             line = line;
             others = lines;
-            part = front;
+            part = prefix;
             tail = k.0;
             are = refl;
             text = refl;
@@ -227,15 +228,15 @@ each_there : (xs : List (List ℕ)) (y : List ℕ) (ys : List (List ℕ))
 each_there [] y ys all = all.0
 each_there (x ∷ xs) y ys all = each_there xs y ys all.1
 
--- what stands after the last LF is at fault, as unfinished if nothing does
-taken_refused : (n : ℕ) (line : List ℕ) (r : Result Stage Kind)
-    → (kind : Kind)
-    × (taken n line r (λ t. fault_in n kinds.Unfinished line) ≡ fault_in n kind line)
+-- the bytes after the last LF are at fault, as unfinished if there are none
+taken_refused : (n : ℕ) (line : List ℕ) (r : Result Stage FaultKind)
+    → (kind : FaultKind)
+    × (after_line n line r (λ t. fault_in n kinds.Unfinished line) ≡ fault_in n kind line)
 taken_refused n line (Ok t) = (kinds.Unfinished, refl)
 taken_refused n line (Err kind) = (kind, refl)
 
 end_refused : (n : ℕ) (s : Stage) (part : List ℕ)
-    → (kind : Kind) × (ended n s part ≡ fault_in n kind part)
+    → (kind : FaultKind) × (parse_end n s part ≡ fault_in n kind part)
     × (part ≡ [] → kind ≡ kinds.Unfinished)
 end_refused n s [] = (kinds.Unfinished, refl, λ none. refl)
 end_refused n s (b ∷ bs) =
@@ -245,60 +246,60 @@ end_refused n s (b ∷ bs) =
 -- LFS
 
 parts_lines : (lines : List (List ℕ)) (part : List ℕ) → AllByRecursion IsPart lines → IsPart part
-    → parts_of (text_of lines ++ part) ≡ lines ++ part ∷ []
+    → lines_of_text (lines_text lines ++ part) ≡ lines ++ part ∷ []
 parts_lines [] part each none = parts_alone part none
 parts_lines (line ∷ lines) part each none =
-    ap parts_of (append_assoc (ended_line line) (text_of lines) part
-    ∙ append_assoc line (10 ∷ []) (text_of lines ++ part))
-    ∙ parts_line line (text_of lines ++ part) each.0
+    ap lines_of_text (append_assoc (ended_line line) (lines_text lines) part
+    ∙ append_assoc line (10 ∷ []) (lines_text lines ++ part))
+    ∙ parts_line line (lines_text lines ++ part) each.0
     ∙ ap (λ (ps : List (List ℕ)). line ∷ ps) (parts_lines lines part each.1 none)
 
 lfs : (lines : List (List ℕ)) (part : List ℕ) → AllByRecursion IsPart lines → IsPart part
-    → count_by (λ b. eqb b 10) (text_of lines ++ part) ≡ length lines
+    → count_by (λ b. eqb b 10) (lines_text lines ++ part) ≡ length lines
 lfs lines part each none =
     omega (
       arith,
-      length-slice_split (λ b. eqb b 10) (text_of lines ++ part),
+      length-slice_split (λ b. eqb b 10) (lines_text lines ++ part),
       ap length (parts_lines lines part each none),
       length-append lines (part ∷ []),
     )
 
 -- A PROPER PREFIX
 
-cut_refused : (n : ℕ) (s t : Stage) (front line : List ℕ) (whole others : List (List ℕ))
-    (part tail : List ℕ) (u : Stage) → front ≡ text_of whole ++ part → line ≡ part ++ tail
+cut_refused : (n : ℕ) (s t : Stage) (prefix line : List ℕ) (whole others : List (List ℕ))
+    (part tail : List ℕ) (u : Stage) → prefix ≡ lines_text whole ++ part → line ≡ part ++ tail
     → AllByRecursion IsPart (whole ++ line ∷ others) → Leads s whole t → step t line ≡ Ok u
-    → (kind : Kind)
-    × (goes n s (parts_of front)
-    ≡ fault_in (n + count_by (λ b. eqb b 10) front) kind part)
+    → (kind : FaultKind)
+    × (parse_from n s (lines_of_text prefix)
+    ≡ fault_in (n + count_by (λ b. eqb b 10) prefix) kind part)
     × (part ≡ [] → kind ≡ kinds.Unfinished)
-cut_refused n s t front line whole others part tail u text begins each leads is =
+cut_refused n s t prefix line whole others part tail u text begins each leads is =
     let before : AllByRecursion IsPart whole = each_front whole (line ∷ others) each in
     let none : IsPart part =
     part_begins line part tail begins (each_there whole line others each) in
     let e = end_refused (n + length whole) t part in
-    let count : length whole ≡ count_by (λ b. eqb b 10) front =
+    let count : length whole ≡ count_by (λ b. eqb b 10) prefix =
     sym (lfs whole part before none) ∙ ap (count_by (λ b. eqb b 10)) (sym text) in
-    let reads : goes n s (parts_of front) ≡ fault_in (n + length whole) e.0 part =
-    ap (λ (bytes : List ℕ). goes n s (parts_of bytes)) text
+    let reads : parse_from n s (lines_of_text prefix) ≡ fault_in (n + length whole) e.0 part =
+    ap (λ (bytes : List ℕ). parse_from n s (lines_of_text bytes)) text
     ∙ goes_lines n s t whole part before leads
-    ∙ ap (goes (n + length whole) t) (parts_alone part none)
+    ∙ ap (parse_from (n + length whole) t) (parts_alone part none)
     ∙ by_rest (n + length whole) t part (is_open t u line is) ∙ e.1 in
     (e.0, reads ∙ ap (λ (k : ℕ). fault_in (n + k) e.0 part) count, e.2)
 
 pub prefix_is_refused : PrefixIsRefused
 unfolding history_text
-prefix_is_refused r n front more keeps is some =
+prefix_is_refused r n prefix more keeps is some =
     let led : IsLed r = is_led r keeps in
-    let c : IsCut (history_lines r) front = cut (history_lines r) front more is some in
+    let c : IsCut (history_lines r) prefix = cut (history_lines r) prefix more is some in
     let k = lead_parts Opening (Ended r) c.whole (c.line ∷ c.others)
     (subst (λ (ls : List (List ℕ)). Leads Opening ls (Ended r)) c.are led.leads) in
-    let f = cut_refused n Opening k.0 front c.line c.whole c.others c.part c.tail k.2.0 c.text
+    let f = cut_refused n Opening k.0 prefix c.line c.whole c.others c.part c.tail k.2.0 c.text
     c.begins (subst (AllByRecursion IsPart) c.are led.each) k.1 k.2.1 in
     record {
       line = c.part;
       kind = f.0;
       refused = f.1;
-      ends = (text_of c.whole, c.text);
+      ends = (lines_text c.whole, c.text);
       whole = f.2;
     }

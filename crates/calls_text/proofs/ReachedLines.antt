@@ -1,13 +1,13 @@
--- Where a text has been read to, and what it comes to.
+-- How far a text has been read, and its outcome.
 use Rattle.std.proofs.Common.{◌≡◌, ℕ, ◌+◌, true, false, List, [], ◌∷◌, ◌++◌, length, Result, Ok, Err}
 use Rattle.std.proofs.Common.{refl, ap, sym, ◌∙◌, subst, arith, append_assoc, length-append, bytes_eq, codes, cond}
-use Rattle.calls_text.specs.declared.fault.Kind.{Kind}
-use Rattle.calls_text.specs.declared.fault.Kind.TheVariants as kinds
-use Rattle.calls_text.specs.Recordings.{Recorded}
+use Rattle.calls_text.specs.declared.fault.FaultKind.{FaultKind}
+use Rattle.calls_text.specs.declared.fault.FaultKind.TheVariants as kinds
+use Rattle.calls_text.specs.Recordings.{RecordingModel}
 use Rattle.calls_text.specs.Reading.{Stage, Opening, Limiting, Declaring, Running, Ended, step, is_ended}
-use Rattle.calls_text.specs.Reading.{Draft, limit_step, draft_step, is_run, event_step, ran_on, drafted_on}
+use Rattle.calls_text.specs.Reading.{Draft, limit_step, draft_step, is_run, event_step, map_running, map_draft}
 use Rattle.calls_text.specs.Reading.{recorded_of}
-use Rattle.calls_text.specs.Outcomes.{goes, taken, ended, fault_in}
+use Rattle.calls_text.specs.Outcomes.{parse_from, after_line, parse_end, fault_in}
 use Rattle.calls_text.specs.Following.{IsReached}
 use Rattle.calls_text.specs.declared.stage.Stage as held
 use Rattle.calls_text.specs.declared.stage.Stage.TheVariants as holds
@@ -15,16 +15,9 @@ use Rattle.calls_text.specs.kept.Stages.{seen_with, IsFollowing}
 use Rattle.calls_core.specs.declared.history.Event.{Event}
 use Rattle.calls_text.specs.kept.Leading.{Leads}
 use Rattle.calls_text.proofs.TextParts.{by_line, by_rest}
+use Rattle.calls_text.proofs.Prefixes.{is_open as open_before}
 
 -- LINE BY LINE
-
-pub open_before : (s t : Stage) (line : List ℕ) → step s line ≡ Ok t → is_ended s ≡ false
-unfolding step is_ended
-open_before Opening t line is = refl
-open_before Limiting t line is = refl
-open_before (Declaring d) t line is = refl
-open_before (Running r) t line is = refl
-open_before (Ended r) t line is = cc
 
 record IsCons (ps : List (List ℕ)) : Type 0 where
   first : List ℕ
@@ -36,30 +29,31 @@ cons_there [] q qs = record { first = q; others = qs; is = refl }
 cons_there (l ∷ ls) q qs = record { first = l; others = ls ++ q ∷ qs; is = refl }
 
 line_goes : (n : ℕ) (s t : Stage) (line : List ℕ) (ps : List (List ℕ)) → IsCons ps
-    → step s line ≡ Ok t → goes n s (line ∷ ps) ≡ goes (n + 1) t ps
+    → step s line ≡ Ok t → parse_from n s (line ∷ ps) ≡ parse_from (n + 1) t ps
 line_goes n s t line ps c steps =
-    ap (λ (x : List (List ℕ)). goes n s (line ∷ x)) c.is
+    ap (λ (x : List (List ℕ)). parse_from n s (line ∷ x)) c.is
     ∙ by_line n s line c.first c.others (open_before s t line steps)
-    ∙ ap (λ r. taken n line r (λ u. goes (n + 1) u (c.first ∷ c.others))) steps
-    ∙ ap (goes (n + 1) t) (sym c.is)
+    ∙ ap (λ r. after_line n line r (λ u. parse_from (n + 1) u (c.first ∷ c.others))) steps
+    ∙ ap (parse_from (n + 1) t) (sym c.is)
 
 lines_go : (n : ℕ) (s t : Stage) (lines : List (List ℕ)) (q : List ℕ) (qs : List (List ℕ))
-    → Leads s lines t → goes n s (lines ++ q ∷ qs) ≡ goes (n + length lines) t (q ∷ qs)
+    → Leads s lines t → parse_from n s (lines ++ q ∷ qs) ≡ parse_from (n + length lines) t (q ∷ qs)
 lines_go n s t [] q qs leads =
     let same : n ≡ n + 0 = omega arith in
-    ap (λ (u : Stage). goes n u (q ∷ qs)) leads ∙ ap (λ (k : ℕ). goes k t (q ∷ qs)) same
+    ap (λ (u : Stage). parse_from n u (q ∷ qs)) leads ∙ ap (λ (k : ℕ). parse_from k t (q ∷ qs)) same
 lines_go n s t (line ∷ lines) q qs (next, steps, leads) =
     let same : (n + 1) + length lines ≡ n + length (line ∷ lines) = omega arith in
     line_goes n s next line (lines ++ q ∷ qs) (cons_there lines q qs) steps
     ∙ lines_go (n + 1) next t lines q qs leads
-    ∙ ap (λ (k : ℕ). goes k t (q ∷ qs)) same
+    ∙ ap (λ (k : ℕ). parse_from k t (q ∷ qs)) same
 
--- what is left says what the text comes to
+-- the outcome of what is left is that of the text
 pub reached_goes : (n : ℕ) (ps : List (List ℕ)) (s : Stage) (m : ℕ) (q : List ℕ)
-    (qs : List (List ℕ)) → IsReached n ps s m (q ∷ qs) → goes n Opening ps ≡ goes m s (q ∷ qs)
+    (qs : List (List ℕ)) → IsReached n ps s m (q ∷ qs)
+    → parse_from n Opening ps ≡ parse_from m s (q ∷ qs)
 reached_goes n ps s m q qs at =
-    ap (goes n Opening) at.are ∙ lines_go n Opening s at.lines q qs at.leads
-    ∙ ap (λ (k : ℕ). goes k s (q ∷ qs)) (sym at.number)
+    ap (parse_from n Opening) at.are ∙ lines_go n Opening s at.lines q qs at.leads
+    ∙ ap (λ (k : ℕ). parse_from k s (q ∷ qs)) (sym at.number)
 
 pub reached_none : (n : ℕ) (ps : List (List ℕ)) → IsReached n ps Opening n ps
 reached_none n ps = record {
@@ -76,7 +70,7 @@ leads_more s t u [] line leads steps =
 leads_more s t u (l ∷ ls) line (next, is, leads) steps =
     (next, is, leads_more next t u ls line leads steps)
 
--- a line that is taken
+-- an accepted line
 pub reached_more : (n : ℕ) (ps : List (List ℕ)) (s t : Stage) (m : ℕ) (line : List ℕ)
     (qs : List (List ℕ)) → IsReached n ps s m (line ∷ qs) → step s line ≡ Ok t
     → IsReached n ps t (m + 1) qs
@@ -91,45 +85,47 @@ reached_more n ps s t m line qs at steps =
       number = count;
     }
 
--- WHAT A TEXT COMES TO
+-- THE OUTCOME OF A TEXT
 
 -- the end of a history
-pub reached_end : (n : ℕ) (ps : List (List ℕ)) (r : Recorded) (m : ℕ) (q : List ℕ)
+pub reached_end : (n : ℕ) (ps : List (List ℕ)) (r : RecordingModel) (m : ℕ) (q : List ℕ)
     (qs : List (List ℕ)) → IsReached n ps (Ended r) m (q ∷ qs)
-    → goes n Opening ps ≡ Ok (record { recorded = r; number = m; rest = q ∷ qs })
-unfolding goes
+    → parse_from n Opening ps ≡ Ok (record { recorded = r; number = m; rest = q ∷ qs })
+unfolding parse_from
 reached_end n ps r m q qs at = reached_goes n ps (Ended r) m q qs at
 
 -- the end of the text
 pub reached_cut : (n : ℕ) (ps : List (List ℕ)) (s : Stage) (m : ℕ) (rest : List ℕ)
-    → IsReached n ps s m (rest ∷ []) → is_ended s ≡ false → goes n Opening ps ≡ ended m s rest
+    → IsReached n ps s m (rest ∷ []) → is_ended s ≡ false
+    → parse_from n Opening ps ≡ parse_end m s rest
 reached_cut n ps s m rest at going = reached_goes n ps s m rest [] at ∙ by_rest m s rest going
 
-fault_goes : (m : ℕ) (s : Stage) (line : List ℕ) (qs : List (List ℕ)) (kind : Kind)
+fault_goes : (m : ℕ) (s : Stage) (line : List ℕ) (qs : List (List ℕ)) (kind : FaultKind)
     → (line ≡ [] → qs ≡ [] → ⊥) → is_ended s ≡ false → step s line ≡ Err kind
-    → goes m s (line ∷ qs) ≡ fault_in m kind line
+    → parse_from m s (line ∷ qs) ≡ fault_in m kind line
 fault_goes m s line (q ∷ qs) kind some going fails =
-    by_line m s line q qs going ∙ ap (λ r. taken m line r (λ t. goes (m + 1) t (q ∷ qs))) fails
+    by_line m s line q qs going
+    ∙ ap (λ r. after_line m line r (λ t. parse_from (m + 1) t (q ∷ qs))) fails
 fault_goes m s [] [] kind some going fails = absurd (some refl refl)
 fault_goes m s (b ∷ bs) [] kind some going fails =
     by_rest m s (b ∷ bs) going
-    ∙ ap (λ r. taken m (b ∷ bs) r (λ t. fault_in m kinds.Unfinished (b ∷ bs))) fails
+    ∙ ap (λ r. after_line m (b ∷ bs) r (λ t. fault_in m kinds.Unfinished (b ∷ bs))) fails
 
--- a line at fault
+-- a faulty line
 pub reached_fault : (n : ℕ) (ps : List (List ℕ)) (s : Stage) (m : ℕ) (line : List ℕ)
-    (qs : List (List ℕ)) (kind : Kind) → IsReached n ps s m (line ∷ qs)
+    (qs : List (List ℕ)) (kind : FaultKind) → IsReached n ps s m (line ∷ qs)
     → (line ≡ [] → qs ≡ [] → ⊥) → is_ended s ≡ false → step s line ≡ Err kind
-    → goes n Opening ps ≡ fault_in m kind line
+    → parse_from n Opening ps ≡ fault_in m kind line
 reached_fault n ps s m line qs kind at some going fails =
     reached_goes n ps s m line qs at ∙ fault_goes m s line qs kind some going fails
 
--- NOTHING CAME
+-- NO LINE WAS READ
 
-no_opening : {P : Type 0} (x : Result Draft Kind) → drafted_on x ≡ Ok Opening → P
+no_opening : {P : Type 0} (x : Result Draft FaultKind) → map_draft x ≡ Ok Opening → P
 no_opening (Ok d) is = absurd (let never : ⊥ = cc in never)
 no_opening (Err kind) is = absurd (let never : ⊥ = cc in never)
 
-ran_no_opening : {P : Type 0} (x : Result Recorded Kind) → ran_on x ≡ Ok Opening → P
+ran_no_opening : {P : Type 0} (x : Result RecordingModel FaultKind) → map_running x ≡ Ok Opening → P
 ran_no_opening (Ok d) is = absurd (let never : ⊥ = cc in never)
 ran_no_opening (Err kind) is = absurd (let never : ⊥ = cc in never)
 
@@ -140,13 +136,13 @@ never_opens Opening line is =
     ≡ Ok Opening → ⊥) [ true ↦ λ e. (cc) | false ↦ λ e. (cc) ] is
 never_opens Limiting line is = no_opening (limit_step line) is
 never_opens (Declaring d) line is =
-    elim (is_run d line) as (λ b. cond b (Ok (Running (recorded_of d))) (drafted_on (draft_step d line))
+    elim (is_run d line) as (λ b. cond b (Ok (Running (recorded_of d))) (map_draft (draft_step d line))
     ≡ Ok Opening → ⊥) [
       | true ↦ λ e. (cc)
       | false ↦ λ e. no_opening (draft_step d line) e
     ] is
 never_opens (Running r) line is =
-    elim (bytes_eq line (codes "end")) as (λ b. cond b (Ok (Ended r)) (ran_on (event_step r line))
+    elim (bytes_eq line (codes "end")) as (λ b. cond b (Ok (Ended r)) (map_running (event_step r line))
     ≡ Ok Opening → ⊥) [
       | true ↦ λ e. (cc)
       | false ↦ λ e. ran_no_opening (event_step r line) e
@@ -162,7 +158,7 @@ none_lead : (s : Stage) (lines : List (List ℕ)) → Leads s lines Opening → 
 none_lead s [] leads = refl
 none_lead s (line ∷ lines) leads = absurd (leads_never s line lines leads)
 
--- if no line came, nothing was read
+-- at the first stage no line was read
 pub reached_opening : (n : ℕ) (ps : List (List ℕ)) (m : ℕ) (qs : List (List ℕ))
     → IsReached n ps Opening m qs → (n ≡ m) × (ps ≡ qs)
 reached_opening n ps m qs at =

@@ -1,21 +1,21 @@
--- The words of a reply are those that spell it.
+-- The words that are read as a reply are its text.
 use Rattle.std.proofs.Common.{◌≡◌, ℕ, ◌-◌, ◌<◌, ◌≤◌, List, [], ◌∷◌, ◌++◌, length, Bool, true, false}
 use Rattle.std.proofs.Common.{cond}
 use Rattle.std.proofs.Common.{eqb, nat_lt, nat_le, refl, sym, ap, ◌∙◌, arith, slice_get}
 use Rattle.std.specs.Option.{option_map_or}
 use Rattle.std.proofs.lemmas.Bool.{eqb-true, ltb-true, ltb-false, lt-leb, le-leb}
-use Rattle.ec_heading.specs.Headed.{Headed}
-use Rattle.ec_heading.specs.Recalled.{spaced as spaced_words}
+use Rattle.ec_heading.specs.HeadingModel.{HeadingModel}
+use Rattle.ec_heading.specs.Recalled.{with_spaces as spaced_words}
 use Rattle.calls_core.specs.declared.history.Op.{Op}
 use Rattle.calls_core.specs.declared.history.Op.TheVariants as ops
 use Rattle.calls_core.specs.declared.history.PendingCall.{PendingCall}
-use Rattle.calls_text.specs.declared.form.Answer.{Answer}
-use Rattle.calls_text.specs.declared.form.Answer.TheVariants as answers
+use Rattle.calls_text.specs.declared.form.ReplyWord.{ReplyWord}
+use Rattle.calls_text.specs.declared.form.ReplyWord.TheVariants as answers
 use Rattle.calls_text.specs.Lists.{list_number, lists_after}
-use Rattle.calls_text.specs.Recordings.{Recorded, first_group, numbers_of, cells_of}
+use Rattle.calls_text.specs.Recordings.{RecordingModel, first_group, numbers_of, cells_of}
 use Rattle.calls_text.specs.Reading.{only_number, numbers_in, takes_numbers}
-use Rattle.calls_text.specs.Reading.{gives_list, is_suited, is_bad_answer, reply_of, lists_with}
-use Rattle.calls_text.specs.Spelling.{list_of, value_of, spaced, returned_value, spaced_reply}
+use Rattle.calls_text.specs.Reading.{gives_list, is_suited, is_bad_reply, reply_of_word, lists_with}
+use Rattle.calls_text.specs.Spelling.{numbers_of_list, numbers_of_value, numbers_after_spaces, returned_value, spaced_reply}
 use Rattle.calls_text.proofs.PhraseWords.{SaysAnswer}
 use Rattle.calls_text.proofs.Values.{words_spaced, list_found}
 use Rattle.calls_text.proofs.CallLines.{numbers_length}
@@ -36,9 +36,9 @@ got is_list lists ws = cond is_list (list_number lists (numbers_in ws)) (only_nu
 abbrev got_lists : Bool → List (List ℕ) → List (List ℕ) → List (List ℕ)
 got_lists is_list lists ws = cond is_list (lists_after lists (numbers_in ws)) lists
 
-value_got : (h : Headed) (lists more ws : List (List ℕ)) (k : ℕ) (b : Bool)
+value_got : (h : HeadingModel) (lists more ws : List (List ℕ)) (k : ℕ) (b : Bool)
     → nat_lt k (first_group h) ≡ b → eqb (length ws) (numbers_of h k) ≡ true
-    → value_of h (got_lists (nat_le (first_group h) k) lists ws ++ more) k
+    → numbers_of_value h (got_lists (nat_le (first_group h) k) lists ws ++ more) k
     (got (nat_le (first_group h) k) lists ws) ≡ numbers_in ws
 value_got h lists more ws k true before many =
     let small : k < first_group h = ltb-true _ _ before in
@@ -52,28 +52,25 @@ value_got h lists more ws k false after many =
     let above : nat_le (first_group h) k ≡ true = le-leb _ _ large in
     let long : length (numbers_in ws) ≡ numbers_of h k =
     numbers_length ws ∙ eqb-true (length ws) (numbers_of h k) many in
-    ap (λ (b : Bool). value_of h (got_lists b lists ws ++ more) k (got b lists ws)) above
+    ap (λ (b : Bool). numbers_of_value h (got_lists b lists ws ++ more) k (got b lists ws)) above
     ∙ ap (λ (b : Bool). cond b (list_number lists (numbers_in ws) ∷ [])
-    (list_of (lists_after lists (numbers_in ws) ++ more) (numbers_of h k)
+    (numbers_of_list (lists_after lists (numbers_in ws) ++ more) (numbers_of h k)
     (list_number lists (numbers_in ws)))) after
     ∙ list_found (numbers_in ws) (numbers_of h k) lists more long
 
 -- NUMBERS
 
-abbrev number_given : Headed → PendingCall → List (List ℕ) → List (List ℕ) → ℕ
+abbrev number_given : HeadingModel → PendingCall → List (List ℕ) → List (List ℕ) → ℕ
 number_given h o lists ws = got (gives_list h o o.op) lists ws
 
-abbrev lists_given : Headed → PendingCall → List (List ℕ) → List (List ℕ) → List (List ℕ)
-lists_given h o lists ws = got_lists (gives_list h o o.op) lists ws
-
 -- the numbers of the reply are those of the words
-abbrev IsGiven : Headed → PendingCall → Op → List (List ℕ) → List (List ℕ) → List (List ℕ)
+abbrev IsGiven : HeadingModel → PendingCall → Op → List (List ℕ) → List (List ℕ) → List (List ℕ)
     → Type 0
 IsGiven h o op lists more ws =
     returned_value h (got_lists (gives_list h o op) lists ws ++ more) o.object op
     (got (gives_list h o op) lists ws) ≡ numbers_in ws
 
-given : (h : Headed) (o : PendingCall) (op : Op) (lists more ws : List (List ℕ))
+given : (h : HeadingModel) (o : PendingCall) (op : Op) (lists more ws : List (List ℕ))
     → takes_numbers h o op (length ws) ≡ true → IsGiven h o op lists more ws
 given h o ops.Read lists more ws suits = sym (one_number ws suits)
 given h o (ops.Await v) lists more ws suits = sym (one_number ws suits)
@@ -89,11 +86,11 @@ given h o (ops.Put v) lists more ws suits = cc
 -- REPLIES
 
 -- the words of a reply, each after a space, are its text, whatever lists are added after it
-pub reply_is : (r : Recorded) (o : PendingCall) (a : Answer) (more ws : List (List ℕ))
-    → SaysAnswer a ws → is_bad_answer a ws ≡ false → is_suited r.heading o a ws ≡ true
+pub reply_is : (r : RecordingModel) (o : PendingCall) (a : ReplyWord) (more ws : List (List ℕ))
+    → SaysAnswer a ws → is_bad_reply a ws ≡ false → is_suited r.heading o a ws ≡ true
     → spaced_words ws
-    ≡ spaced_reply r.heading (lists_with r o a ws ++ more) o.object o.op (reply_of r o a ws)
+    ≡ spaced_reply r.heading (lists_with r o a ws ++ more) o.object o.op (reply_of_word r o a ws)
 reply_is r o answers.Done more ws says good suits = ap spaced_words says
 reply_is r o answers.Timeout more ws says good suits = ap spaced_words says
 reply_is r o answers.Numbers more ws says good suits =
-    words_spaced ws good ∙ sym (ap spaced (given r.heading o o.op r.lists more ws suits))
+    words_spaced ws good ∙ sym (ap numbers_after_spaces (given r.heading o o.op r.lists more ws suits))

@@ -1,4 +1,4 @@
--- Each event that the rules allow has a line that is taken as it.
+-- Each event that the rules allow has a line that is accepted as it.
 use Rattle.std.proofs.Common.{◌≡◌, ℕ, ◌-◌, ◌<◌, ◌≤◌, List, [], ◌∷◌, length, map}
 use Rattle.std.proofs.Common.{Bool, true, false, cond, eqb, nat_lt, nat_le, not, ◌&&◌, ◌||◌, Option}
 use Rattle.std.proofs.Common.{Some, None, Ok, refl, sym, ap, ap₂, ◌∙◌, arith, codes}
@@ -12,31 +12,31 @@ use Rattle.std.proofs.lemmas.Bool.{false_from_ne_true}
 use Rattle.std.proofs.lemmas.Slice.Eq.{bytes_eq-Decides}
 use Rattle.ec_text.specs.Words.{words_of, is_number_form}
 use Rattle.ec_text.proofs.shared.NumberLemmas.{number_again, number_is_form, number_is_other}
-use Rattle.ec_heading.specs.Headed.{Headed}
-use Rattle.ec_heading.specs.Outlined.{HasOutline}
-use Rattle.ec_heading.specs.Recalled.{spaced as spaced_words}
+use Rattle.ec_heading.specs.HeadingModel.{HeadingModel}
+use Rattle.ec_heading.specs.HeadingInvariant.{HasHeaderTree}
+use Rattle.ec_heading.specs.Recalled.{with_spaces as spaced_words}
 use Rattle.calls_core.specs.declared.history.Op.{Op}
 use Rattle.calls_core.specs.declared.history.Op.TheVariants as ops
 use Rattle.calls_core.specs.declared.history.Reply.TheVariants as replies
 use Rattle.calls_core.specs.declared.history.Action.TheVariants.{Invoke, Respond}
 use Rattle.calls_core.specs.declared.history.PendingCall.{PendingCall}
-use Rattle.calls_text.specs.declared.verb.Verb.{Verb}
-use Rattle.calls_text.specs.declared.verb.Verb.TheVariants as verbs
-use Rattle.calls_text.specs.declared.form.Answer.{Answer}
-use Rattle.calls_text.specs.declared.form.Answer.TheVariants as answers
+use Rattle.calls_text.specs.declared.verb.OpWord.{OpWord}
+use Rattle.calls_text.specs.declared.verb.OpWord.TheVariants as verbs
+use Rattle.calls_text.specs.declared.form.ReplyWord.{ReplyWord}
+use Rattle.calls_text.specs.declared.form.ReplyWord.TheVariants as answers
 use Rattle.calls_text.specs.declared.object.Object.{Object}
 use Rattle.calls_text.specs.declared.object.Object.TheVariants as objects
-use Rattle.calls_text.specs.Verbs.{verb_word, verb_of, tail_of}
-use Rattle.calls_text.specs.Forms.{Phrase, Calls, Returns, phrase_in, is_tail, answer_of}
+use Rattle.calls_text.specs.Verbs.{verb_word, parse_op_word, tail_of}
+use Rattle.calls_text.specs.Forms.{Phrase, Calls, Returns, phrase_in, is_tail, parse_reply_word}
 use Rattle.calls_text.specs.Forms.{is_word}
 use Rattle.calls_text.specs.Objects.{object_in, as_semaphore}
 use Rattle.calls_text.specs.Objects.{as_database}
 use Rattle.calls_text.specs.Lists.{list_number, lists_after}
-use Rattle.calls_text.specs.Recordings.{Recorded, numbers_of, first_group, cells_of}
+use Rattle.calls_text.specs.Recordings.{RecordingModel, numbers_of, first_group, cells_of}
 use Rattle.calls_text.specs.Reading.{is_no_number, number_or_0, only_number, numbers_in}
 use Rattle.calls_text.specs.Reading.{is_bad_tail, call_fault}
 use Rattle.calls_text.specs.Reading.{index_of, with_event, with_call}
-use Rattle.calls_text.specs.Reading.{other_word, phrased, event_step, is_bad_answer}
+use Rattle.calls_text.specs.Reading.{other_word, after_phrase, event_step, is_bad_reply}
 use Rattle.calls_text.specs.Reading.{is_over, suit_fault, takes_numbers, gives_list}
 use Rattle.calls_text.specs.Reading.{with_reply}
 use Rattle.calls_text.specs.Spelling.{worker_word, event_word, sequencer_word, cell_name}
@@ -91,7 +91,7 @@ numbers_long (n ∷ ns) = omega (arith, numbers_long ns)
 -- CALLS
 
 -- words by which a call names its object and its numbers
-record Names (r : Recorded) (v : Verb) (o : Object) (ns : List ℕ) : Type 0 where
+record Names (r : RecordingModel) (v : OpWord) (o : Object) (ns : List ℕ) : Type 0 where
   object : List ℕ
   tail : List (List ℕ)
   fine : IsFine object
@@ -102,7 +102,7 @@ record Names (r : Recorded) (v : Verb) (o : Object) (ns : List ℕ) : Type 0 whe
   good : is_bad_tail (tail_of v) tail o ≡ false
   gives : (w : ℕ) → with_call r w v o tail ≡ after_call r w v o ns
 
-alone : (r : Recorded) (v : Verb) (o : Object) (ns : List ℕ) (w : List ℕ) → IsFine w
+alone : (r : RecordingModel) (v : OpWord) (o : Object) (ns : List ℕ) (w : List ℕ) → IsFine w
     → object_in r.heading v w (other_word v []) ≡ Some o → is_tail (tail_of v) [] ≡ true
     → is_bad_tail (tail_of v) [] o ≡ false
     → ((i : ℕ) → with_call r i v o [] ≡ after_call r i v o ns) → Names r v o ns
@@ -118,7 +118,7 @@ alone r v o ns w fine named formed good gives = record {
   gives = gives;
 }
 
-one_number : (r : Recorded) (v : Verb) (o : Object) (ns : List ℕ) (w : List ℕ) → IsFine w
+one_number : (r : RecordingModel) (v : OpWord) (o : Object) (ns : List ℕ) (w : List ℕ) → IsFine w
     → length ns ≡ 1 → AreSmall ns
     → object_in r.heading v w (other_word v (map decimal ns)) ≡ Some o
     → ((n : ℕ) → n < 1000000000000000000 → is_tail (tail_of v) (decimal n ∷ []) ≡ true)
@@ -141,7 +141,7 @@ one_number r v o (n ∷ []) w fine one small named formed good gives = record {
   gives = gives n small.0;
 }
 
-names : (r : Recorded) (v : Verb) (o : Object) (ns : List ℕ) → HasOutline r.heading
+names : (r : RecordingModel) (v : OpWord) (o : Object) (ns : List ℕ) → HasHeaderTree r.heading
     → IsDeclaredIn r.heading o → TakesNumbers v o ns → AreSmall ns → Names r v o ns
 names r verbs.Advance (objects.Event e) ns has there takes small =
     let f = event_found r.heading e has there in
@@ -218,14 +218,14 @@ names r verbs.Snapshot (objects.Database i d) ns has there takes small =
     (ap (option_map as_database) f.0) refl refl (λ i. refl)
 names r v o ns has there takes small = absurd takes
 
--- a line that is taken
-pub record IsTaken (r s : Recorded) : Type 0 where
+-- an accepted line
+pub record IsTaken (r s : RecordingModel) : Type 0 where
   pub line : List ℕ
   pub part : IsPart line
   pub going : bytes_eq line (codes "end") ≡ false
   pub steps : event_step r line ≡ Ok s
 
-verb_back : (v : Verb) → verb_of (verb_word v) ≡ Some v
+verb_back : (v : OpWord) → parse_op_word (verb_word v) ≡ Some v
 verb_back verbs.Advance = refl
 verb_back verbs.Read = refl
 verb_back verbs.Await = refl
@@ -238,7 +238,7 @@ verb_back verbs.PBoth = refl
 verb_back verbs.Write = refl
 verb_back verbs.Snapshot = refl
 
-verb_fine : (v : Verb) → IsFine (verb_word v)
+verb_fine : (v : OpWord) → IsFine (verb_word v)
 verb_fine verbs.Advance = literal_fine (codes "advance") refl refl refl refl
 verb_fine verbs.Read = literal_fine (codes "read") refl refl refl refl
 verb_fine verbs.Await = literal_fine (codes "await") refl refl refl refl
@@ -251,12 +251,12 @@ verb_fine verbs.PBoth = literal_fine (codes "pboth") refl refl refl refl
 verb_fine verbs.Write = literal_fine (codes "write") refl refl refl refl
 verb_fine verbs.Snapshot = literal_fine (codes "snapshot") refl refl refl refl
 
-call_read : (w o : List ℕ) (v : Verb) (ws : List (List ℕ)) → is_tail (tail_of v) ws ≡ true
+call_read : (w o : List ℕ) (v : OpWord) (ws : List (List ℕ)) → is_tail (tail_of v) ws ≡ true
     → phrase_in (w ∷ codes "calls" ∷ verb_word v ∷ o ∷ ws) ≡ Some (Calls w v o ws)
 unfolding phrase_in
 call_read w o v ws formed = rw (verb_back v) (rw formed refl)
 
-no_call_fault : (r : Recorded) (w : ℕ) (v : Verb) (o : Object) (ns : List ℕ)
+no_call_fault : (r : RecordingModel) (w : ℕ) (v : OpWord) (o : Object) (ns : List ℕ)
     (ws : List (List ℕ)) → MayCall r w v o ns → is_bad_tail (tail_of v) ws o ≡ false
     → call_fault r w v o ws ≡ None
 no_call_fault r w v o ns ws may good =
@@ -272,9 +272,9 @@ not_end line w v ws words =
     let two : w ∷ v ∷ ws ≡ codes "end" ∷ [] = sym words ∙ one in
     cc))
 
-line_taken : (r s : Recorded) (line w v : List ℕ) (ws : List (List ℕ)) (p : Phrase)
+line_taken : (r s : RecordingModel) (line w v : List ℕ) (ws : List (List ℕ)) (p : Phrase)
     → IsLineOf line (w ∷ v ∷ ws) → phrase_in (w ∷ v ∷ ws) ≡ Some p
-    → phrased r (Some p) ≡ Ok s → IsTaken r s
+    → after_phrase r (Some p) ≡ Ok s → IsTaken r s
 unfolding event_step
 line_taken r s line w v ws p is phrase takes = record {
   line = line;
@@ -283,8 +283,8 @@ line_taken r s line w v ws p is phrase takes = record {
   steps = rw (is.good, is.words, phrase) takes;
 }
 
-pub call_taken : (r : Recorded) (w : ℕ) (v : Verb) (o : Object) (ns : List ℕ)
-    → HasOutline r.heading → MayCall r w v o ns → IsTaken r (after_call r w v o ns)
+pub call_taken : (r : RecordingModel) (w : ℕ) (v : OpWord) (o : Object) (ns : List ℕ)
+    → HasHeaderTree r.heading → MayCall r w v o ns → IsTaken r (after_call r w v o ns)
 call_taken r w v o ns has may =
     let n : Names r v o ns = names r v o ns has may.declared may.takes may.small in
     let who = worker_found r.heading w has may.worker in
@@ -305,7 +305,7 @@ call_taken r w v o ns has may =
       length-append (32 ∷ codes "calls") (spaced_words (verb_word v ∷ n.object ∷ n.tail)),
     ) in
     let none : call_fault r w v o n.tail ≡ None = no_call_fault r w v o ns n.tail may n.good in
-    let takes : phrased r (Some (Calls (worker_word r.heading w) v n.object n.tail))
+    let takes : after_phrase r (Some (Calls (worker_word r.heading w) v n.object n.tail))
     ≡ Ok (after_call r w v o ns) =
     rw (who.0, n.named, none) (ap Ok (n.gives w)) in
     line_taken r (after_call r w v o ns)
@@ -318,26 +318,26 @@ call_taken r w v o ns has may =
 
 -- RETURNS
 
--- words by which a return says its answer
-record Says (r : Recorded) (c : PendingCall) (a : Answer) (ns : List ℕ) : Type 0 where
+-- words of the reply in a response
+record Says (r : RecordingModel) (c : PendingCall) (a : ReplyWord) (ns : List ℕ) : Type 0 where
   first : List ℕ
   others : List (List ℕ)
   fine : IsFine first
   each : AllByRecursion IsFine others
   short : length (spaced_words (first ∷ others)) ≤ 4864
-  said : answer_of (first ∷ others) ≡ Some a
-  good : is_bad_answer a (first ∷ others) ≡ false
+  said : parse_reply_word (first ∷ others) ≡ Some a
+  good : is_bad_reply a (first ∷ others) ≡ false
   fault : suit_fault r.heading c a (first ∷ others) ≡ None
   gives : (w : ℕ) → with_reply r w c a (first ∷ others) ≡ after_return r w c a ns
 
-return_read : (w first : List ℕ) (others : List (List ℕ)) (a : Answer)
-    → answer_of (first ∷ others) ≡ Some a
+return_read : (w first : List ℕ) (others : List (List ℕ)) (a : ReplyWord)
+    → parse_reply_word (first ∷ others) ≡ Some a
     → phrase_in (w ∷ codes "returns" ∷ first ∷ others) ≡ Some (Returns w a (first ∷ others))
 unfolding phrase_in
 return_read w first others a said = rw said refl
 
-said_taken : (r : Recorded) (w : ℕ) (c : PendingCall) (a : Answer) (ns : List ℕ)
-    → HasOutline r.heading → MayReturn r w c a ns → Says r c a ns
+said_taken : (r : RecordingModel) (w : ℕ) (c : PendingCall) (a : ReplyWord) (ns : List ℕ)
+    → HasHeaderTree r.heading → MayReturn r w c a ns → Says r c a ns
     → IsTaken r (after_return r w c a ns)
 said_taken r w c a ns has may s =
     let who = worker_found r.heading w has may.worker in
@@ -350,7 +350,7 @@ said_taken r w c a ns has may s =
       s.short,
       length-append (32 ∷ codes "returns") (spaced_words (s.first ∷ s.others)),
     ) in
-    let takes : phrased r (Some (Returns (worker_word r.heading w) a (s.first ∷ s.others)))
+    let takes : after_phrase r (Some (Returns (worker_word r.heading w) a (s.first ∷ s.others)))
     ≡ Ok (after_return r w c a ns) =
     rw (who.0, s.good, may.pending, s.fault) (ap Ok (s.gives w)) in
     line_taken r (after_return r w c a ns)
@@ -367,7 +367,7 @@ no_word n [] word small other = number_is_other n word small other
 no_word n (m ∷ ms) word small other = refl
 
 numbers_said : (n : ℕ) (ms : List ℕ) → AreSmall (n ∷ ms)
-    → answer_of (map decimal (n ∷ ms)) ≡ Some answers.Numbers
+    → parse_reply_word (map decimal (n ∷ ms)) ≡ Some answers.Numbers
 numbers_said n ms small =
     let some : nat_le 1 (length (map decimal (n ∷ ms))) ≡ true = le-leb _ _ (omega arith) in
     let all : (nat_le 1 (length (map decimal (n ∷ ms)))
@@ -386,7 +386,8 @@ numbers_said n ms small =
 
 -- HOW MANY NUMBERS
 
-pub one_given : (h : Headed) (c : PendingCall) (op : Op) (n : ℕ) → takes_numbers h c op n ≡ true
+pub one_given : (h : HeadingModel) (c : PendingCall) (op : Op) (n : ℕ)
+    → takes_numbers h c op n ≡ true
     → gives_list h c op ≡ false → n ≡ 1
 one_given h c ops.Read n takes list = eqb-true _ _ takes
 one_given h c (ops.Await v) n takes list = eqb-true _ _ takes
@@ -402,7 +403,7 @@ one_given h c (ops.V i) n takes list = cc
 one_given h c (ops.PBoth i j) n takes list = cc
 one_given h c (ops.Put v) n takes list = cc
 
-few_of : (h : Headed) (k : ℕ) → HasOutline h → numbers_of h k ≤ 256
+few_of : (h : HeadingModel) (k : ℕ) → HasHeaderTree h → numbers_of h k ≤ 256
 few_of h k has =
     elim (nat_lt k (first_group h)) as (λ b.
     cond b 1 (option_map_or cells_of (slice_get h.groups (k - first_group h)) 0) ≤ 256) [
@@ -410,7 +411,7 @@ few_of h k has =
       | false ↦ few_cells h (k - first_group h) (slice_get h.groups (k - first_group h)) has refl
     ]
 
-few_given : (h : Headed) (c : PendingCall) (op : Op) (n : ℕ) → HasOutline h
+few_given : (h : HeadingModel) (c : PendingCall) (op : Op) (n : ℕ) → HasHeaderTree h
     → takes_numbers h c op n ≡ true → n ≤ 256
 few_given h c ops.Read n has takes = omega (arith, eqb-true n 1 takes)
 few_given h c (ops.Await v) n has takes = omega (arith, eqb-true n 1 takes)
@@ -425,7 +426,7 @@ few_given h c (ops.Put v) n has takes = cc
 
 -- THE LIMIT
 
-not_over : (limit : ℕ) (h : Headed) (c : PendingCall) (op : Op) (ns : List ℕ) → AreSmall ns
+not_over : (limit : ℕ) (h : HeadingModel) (c : PendingCall) (op : Op) (ns : List ℕ) → AreSmall ns
     → takes_numbers h c op (length ns) ≡ true → KeepsLimit limit op ns
     → is_over limit op answers.Numbers (map decimal ns) ≡ false
 not_over limit h c ops.Ticket [] small takes keeps = absurd (omega (arith, eqb-true 0 1 takes))
@@ -454,9 +455,9 @@ never_over limit (ops.PBoth i j) ws = (refl, refl)
 never_over limit (ops.Put v) ws = (refl, refl)
 never_over limit ops.Get ws = (refl, refl)
 
--- ANSWERS IN TURN
+-- THE REPLIES, ONE BY ONE
 
-reply_given : (r : Recorded) (w : ℕ) (b : Bool) (ns : List ℕ) → AreSmall ns
+reply_given : (r : RecordingModel) (w : ℕ) (b : Bool) (ns : List ℕ) → AreSmall ns
     → (b ≡ false → length ns ≡ 1)
     → with_event r w (Respond (replies.Number (cond b
     (list_number r.lists (numbers_in (map decimal ns))) (only_number (map decimal ns)))))
@@ -470,7 +471,8 @@ reply_given r w false ns small one =
     ap (λ (k : ℕ). with_event r w (Respond (replies.Number k)) r.lists)
     (only_back ns small (omega (arith, one refl)))
 
-says : (r : Recorded) (w : ℕ) (c : PendingCall) (a : Answer) (ns : List ℕ) → HasOutline r.heading
+says : (r : RecordingModel) (w : ℕ) (c : PendingCall) (a : ReplyWord) (ns : List ℕ)
+    → HasHeaderTree r.heading
     → MayReturn r w c a ns → Says r c a ns
 says r w c answers.Done ns has may =
     let over = (never_over r.heading.setup.limit c.op (codes "done" ∷ [])).0 in
@@ -520,6 +522,6 @@ says r w c answers.Numbers (n ∷ ms) has may =
           (one_given r.heading c c.op (length (n ∷ ms)) may.suits.0);
     }
 
-pub return_taken : (r : Recorded) (w : ℕ) (c : PendingCall) (a : Answer) (ns : List ℕ)
-    → HasOutline r.heading → MayReturn r w c a ns → IsTaken r (after_return r w c a ns)
+pub return_taken : (r : RecordingModel) (w : ℕ) (c : PendingCall) (a : ReplyWord) (ns : List ℕ)
+    → HasHeaderTree r.heading → MayReturn r w c a ns → IsTaken r (after_return r w c a ns)
 return_taken r w c a ns has may = said_taken r w c a ns has may (says r w c a ns has may)

@@ -1,4 +1,4 @@
--- The lines before `run` of a history that keeps the rules are taken.
+-- The lines before `run` of a history that keeps the rules are accepted.
 use Rattle.std.proofs.Common.{◌≡◌, ℕ, zero, suc, ◌<◌, ◌≤◌, List, [], ◌∷◌, ◌++◌, length, map, Bool}
 use Rattle.std.proofs.Common.{true}
 use Rattle.std.proofs.Common.{false, cond, eqb, nat_lt, nat_le, ◌&&◌, Option, Some, None}
@@ -12,32 +12,32 @@ use Rattle.std.proofs.lemmas.Bool.{false_from_ne_true, ltb-true, and_left}
 use Rattle.std.proofs.lemmas.List.Elements.{All-from_recursion, recursion_from_All}
 use Rattle.std.proofs.lemmas.Slice.Eq.{bytes_eq-Decides}
 use Rattle.ec_count.specs.Reserved.{is_name, is_name_byte, is_reserved}
-use Rattle.ec_text.specs.Words.{words_of, number_of, is_number_form}
+use Rattle.ec_text.specs.Words.{words_of, number_in_word, is_number_form}
 use Rattle.ec_text.proofs.shared.NumberLemmas.{number_again, number_is_form}
-use Rattle.ec_heading.specs.declared.sort.Sort.{Sort}
+use Rattle.ec_heading.specs.declared.decl_kind.DeclKind.{DeclKind}
 use Rattle.ec_heading.specs.declared.version.Version.TheVariants.{Two}
 use Rattle.ec_heading.specs.declared.heading.HeadFault.TheVariants as heads
 use Rattle.ec_heading.specs.Versions.{is_limit, greatest_limit}
 use Rattle.ec_heading.specs.Form.{parts_in}
-use Rattle.ec_heading.specs.Headed.{Headed}
+use Rattle.ec_heading.specs.HeadingModel.{HeadingModel}
 use Rattle.ec_heading.specs.Heading.{head_step, is_no_line, words_step, opened_by, declared_or}
 use Rattle.ec_heading.specs.Heading.{workers_in}
 use Rattle.ec_heading.specs.HeadingLaws.{LinesLead, outline_lines}
-use Rattle.ec_heading.specs.Outline.{Declaration, Outline, IsOutline, IsDeclarable, AreDeclarable}
-use Rattle.ec_heading.specs.Outline.{opened}
-use Rattle.ec_heading.specs.Outline.{declared_by}
-use Rattle.ec_heading.specs.Outlined.{HasOutline}
-use Rattle.ec_heading.specs.Sorts.{sort_word, has_name, has_number, opener, second_opener}
-use Rattle.ec_heading.specs.Sorts.{is_called}
-use Rattle.ec_heading.specs.Spelled.{event_in}
+use Rattle.ec_heading.specs.HeaderTree.{Declaration, HeaderTree, IsHeaderTree, IsDeclarable, AreDeclarable}
+use Rattle.ec_heading.specs.HeaderTree.{empty_heading}
+use Rattle.ec_heading.specs.HeaderTree.{with_declaration}
+use Rattle.ec_heading.specs.HeadingInvariant.{HasHeaderTree}
+use Rattle.ec_heading.specs.DeclKinds.{sort_word, has_name, has_number, opener, second_opener}
+use Rattle.ec_heading.specs.DeclKinds.{is_called}
+use Rattle.ec_heading.specs.EntryWords.{event_in}
 use Rattle.ec_heading.specs.Spelling.{limit_line, declaration_line, declaration_words, list_words}
 use Rattle.ec_heading.specs.Spelling.{name_words, number_words, second_words}
 use Rattle.ec_heading.proofs.shared.Each.{each_append, each_weaker}
-use Rattle.ec_heading.proofs.shared.SortFacts.{is_literal, literal, literal_lacks as letters_lack}
-use Rattle.ec_heading.proofs.shared.SortFacts.{is_stop}
-use Rattle.ec_heading.proofs.shared.SortFacts.{other_stop, sort_literal, opener_literal}
-use Rattle.ec_heading.proofs.shared.SortFacts.{number_small}
-use Rattle.ec_heading.proofs.shared.SortFacts.{name_called, called}
+use Rattle.ec_heading.proofs.shared.DeclKindFacts.{is_literal, literal, literal_lacks as letters_lack}
+use Rattle.ec_heading.proofs.shared.DeclKindFacts.{is_stop}
+use Rattle.ec_heading.proofs.shared.DeclKindFacts.{other_stop, sort_literal, opener_literal}
+use Rattle.ec_heading.proofs.shared.DeclKindFacts.{number_small}
+use Rattle.ec_heading.proofs.shared.DeclKindFacts.{name_called, called}
 use Rattle.ec_heading.proofs.shared.VersionFacts.{limit_from}
 use Rattle.calls_text.specs.Reading.{Draft, Stage, Opening, Limiting, Declaring, Running, step}
 use Rattle.calls_text.specs.Reading.{draft_of, limit_step}
@@ -53,7 +53,7 @@ use Rattle.calls_text.proofs.FineWords.{Lacks, lacks_join, decimal_lacks, litera
 use Rattle.calls_text.proofs.FineWords.{IsFine, literal_fine, number_fine, IsLineOf, fine_line}
 use Rattle.calls_text.proofs.Finding.{event_found}
 
--- LINES THAT ARE TAKEN
+-- LINES THAT ARE ACCEPTED
 
 -- lines without an LF lead from one stage to another
 pub record AreTaken (s : Stage) (lines : List (List ℕ)) (t : Stage) : Type 0 where
@@ -106,22 +106,22 @@ pub limit_part : (n : ℕ) → n < 1000000000000000000 → IsPart (limit_line n)
 limit_part n small = (limit_words n small).part
 
 pub limit_taken : (n : ℕ) → 1 ≤ n → n ≤ greatest_limit Two
-    → step Limiting (limit_line n) ≡ Ok (Declaring (draft_of (opened Two n [])))
+    → step Limiting (limit_line n) ≡ Ok (Declaring (draft_of (empty_heading Two n [])))
 unfolding step limit_step
 limit_taken n low high =
     let small : n < 1000000000000000000 = omega (arith, high) in
     let l : IsLineOf (limit_line n) (codes "limit" ∷ decimal n ∷ []) = limit_words n small in
     let short : nat_lt 8192 (length (limit_line n)) ≡ false =
     (or_parts (nat_lt 8192 (length (limit_line n))) _ l.good).0 in
-    let number : number_of (decimal n) ≡ Some n = number_again n small in
+    let number : number_in_word (decimal n) ≡ Some n = number_again n small in
     let form : is_number_form (decimal n) ≡ true = (number_is_form (decimal n) n number).0 in
     let may : is_limit Two n ≡ true = limit_from Two n low high in
     rw short (rw l.words (rw form (rw number (rw may refl))))
 
--- THE HEADING
+-- THE HEADER
 
--- `run` is no line of a heading
-not_heading : (h : Headed) → head_step h (codes "run") ≡ Err heads.BadLine
+-- `run` is no line of a header
+not_heading : (h : HeadingModel) → head_step h (codes "run") ≡ Err heads.BadLine
 unfolding head_step parts_in
 not_heading h =
     elim (eqb h.setup.workers 0) as (λ b.
@@ -130,7 +130,7 @@ not_heading h =
       | false ↦ refl
     ]
 
-not_run : (h next : Headed) (line : List ℕ) → head_step h line ≡ Ok next
+not_run : (h next : HeadingModel) (line : List ℕ) → head_step h line ≡ Ok next
     → bytes_eq line (codes "run") ≡ false
 not_run h next line e =
     false_from_ne_true _ (λ same. (
@@ -138,8 +138,8 @@ not_run h next line e =
     sym (not_heading h) ∙ ap (head_step h) (sym ((bytes_eq-Decides line (codes "run")).0 same)) ∙ e
     in cc))
 
--- nor is a line that begins with `from`, if the workers came
-words_fail : (h : Headed) (ws : List (List ℕ)) → opens_from ws ≡ true → 0 < h.setup.workers
+-- nor is a line that begins with `from`, once the workers are declared
+words_fail : (h : HeadingModel) (ws : List (List ℕ)) → opens_from ws ≡ true → 0 < h.setup.workers
     → words_step h ws ≡ Err heads.BadLine
 unfolding parts_in
 words_fail h [] opens some = cc
@@ -150,7 +150,7 @@ words_fail h (w ∷ ws) opens some =
     ∙ ap (λ (b : Bool). cond b (opened_by h.version h.setup.limit (workers_in (codes "from" ∷ ws)))
     (declared_or h (parts_in (codes "from" ∷ ws)))) other
 
-head_fails : (h : Headed) (line : List ℕ) → words_step h (words_of line) ≡ Err heads.BadLine
+head_fails : (h : HeadingModel) (line : List ℕ) → words_step h (words_of line) ≡ Err heads.BadLine
     → head_step h line ≡ Err heads.BadLine
 unfolding head_step
 head_fails h line fails =
@@ -160,7 +160,7 @@ head_fails h line fails =
       | false ↦ fails
     ]
 
-not_from : (h next : Headed) (line : List ℕ) → head_step h line ≡ Ok next
+not_from : (h next : HeadingModel) (line : List ℕ) → head_step h line ≡ Ok next
     → (opens_from (words_of line) && nat_lt 0 h.setup.workers) ≡ false
 not_from h next line e =
     false_from_ne_true _ (λ both. (
@@ -169,7 +169,7 @@ not_from h next line e =
     sym (head_fails h line (words_fail h (words_of line) p.0 (ltb-true _ _ p.1))) ∙ e in
     cc))
 
-heading_step : (h next : Headed) (line : List ℕ) → head_step h line ≡ Ok next
+heading_step : (h next : HeadingModel) (line : List ℕ) → head_step h line ≡ Ok next
     → step (Declaring (draft_of h)) line ≡ Ok (Declaring (draft_of next))
 unfolding step
 heading_step h next line is =
@@ -179,13 +179,13 @@ heading_step h next line is =
     not_from h next line is in
     rw other (rw own (rw is refl))
 
-pub heading_leads : (h end : Headed) (lines : List (List ℕ)) → LinesLead h lines end
+pub heading_leads : (h end : HeadingModel) (lines : List (List ℕ)) → LinesLead h lines end
     → Leads (Declaring (draft_of h)) lines (Declaring (draft_of end))
-heading_leads h end [] leads = ap (λ (g : Headed). Declaring (draft_of g)) leads
+heading_leads h end [] leads = ap (λ (g : HeadingModel). Declaring (draft_of g)) leads
 heading_leads h end (line ∷ lines) (next, is, leads) =
     (Declaring (draft_of next), heading_step h next line is, heading_leads next end lines leads)
 
--- none of its lines has an LF
+-- no line of a header has an LF
 
 bytes_clean : (word : List ℕ) → AllByRecursion (λ b. is_name_byte b ≡ true) word → Lacks 10 word
 bytes_clean [] all = tt
@@ -206,7 +206,7 @@ list_clean workers (i ∷ ids) all = (one_clean workers i all, list_clean worker
 text_clean : (w : List ℕ) → is_literal w ≡ true → Lacks 10 w
 text_clean w is = letters_lack 10 w refl (literal w is).letters
 
-name_words_clean : (s : Sort) (name : List ℕ) → is_called s name ≡ true
+name_words_clean : (s : DeclKind) (name : List ℕ) → is_called s name ≡ true
     → AllByRecursion (Lacks 10) (name_words s name)
 name_words_clean s name is =
     elim (has_name s) as (λ b. AllByRecursion (Lacks 10) (if b then name ∷ [] else [])) [
@@ -214,7 +214,7 @@ name_words_clean s name is =
       | false ↦ tt
     ]
 
-number_words_clean : (s : Sort) (n : ℕ) → n < 1000000000000000000
+number_words_clean : (s : DeclKind) (n : ℕ) → n < 1000000000000000000
     → AllByRecursion (Lacks 10) (number_words s n)
 number_words_clean s n small =
     elim (has_number s) as (λ b. AllByRecursion (Lacks 10) (if b then decimal n ∷ [] else [])) [
@@ -231,7 +231,7 @@ second_clean (Some stop) workers (i ∷ ids) stops all = (
   list_clean workers (i ∷ ids) all,
 )
 
-declaration_clean : (workers : List (List ℕ)) (h : Headed) (d : Declaration)
+declaration_clean : (workers : List (List ℕ)) (h : HeadingModel) (d : Declaration)
     → AllByRecursion (Lacks 10) workers → IsDeclarable h d
     → Lacks 10 (declaration_line workers d)
 declaration_clean workers h d all may =
@@ -250,16 +250,16 @@ declaration_clean workers h d all may =
     (text_clean (opener d.sort) (opener_literal d.sort), list_clean workers d.first all))
     (second_clean (second_opener d.sort) workers d.second (other_stop d.sort) all))
 
-declarations_clean : (workers : List (List ℕ)) (h : Headed) (ds : List Declaration)
+declarations_clean : (workers : List (List ℕ)) (h : HeadingModel) (ds : List Declaration)
     → AllByRecursion (Lacks 10) workers → AreDeclarable h ds
     → AllByRecursion IsPart (map (declaration_line workers) ds)
 declarations_clean workers h [] all may = tt
 declarations_clean workers h (d ∷ ds) all may = (
   lacks_part (declaration_line workers d) (declaration_clean workers h d all may.0),
-  declarations_clean workers (declared_by h d) ds all may.1,
+  declarations_clean workers (with_declaration h d) ds all may.1,
 )
 
-pub outline_parts : (o : Outline) → IsOutline o → AllByRecursion IsPart (outline_lines o)
+pub outline_parts : (o : HeaderTree) → IsHeaderTree o → AllByRecursion IsPart (outline_lines o)
 outline_parts o is =
     let all : AllByRecursion (Lacks 10) o.workers =
     each_weaker (λ w. is_name w ≡ true) (Lacks 10)
@@ -268,13 +268,13 @@ outline_parts o is =
       lacks_part (join_with_byte 32 (codes "workers" ∷ o.workers))
           (lacks_join (codes "workers" ∷ o.workers)
           (literal_lacks 10 (codes "workers") refl, all)),
-      declarations_clean o.workers (opened o.version o.limit o.workers) o.declarations all
+      declarations_clean o.workers (empty_heading o.version o.limit o.workers) o.declarations all
           is.declarations,
     )
 
--- COUNTS
+-- INITIAL COUNTS
 
-start_words : (h : Headed) (p : ℕ × ℕ) → HasOutline h → p.0 < length h.setup.events
+start_words : (h : HeadingModel) (p : ℕ × ℕ) → HasHeaderTree h → p.0 < length h.setup.events
     → p.1 < 1000000000000000000
     → IsLineOf (from_line h p) (codes "from" ∷ event_word h p.0 ∷ decimal p.1 ∷ [])
 start_words h p has declared small =
@@ -290,12 +290,12 @@ start_words h p has declared small =
       length-append (32 ∷ event_word h p.0) ((32 ∷ decimal p.1) ++ []),
     ))
 
-start_steps : (d : Draft) (p : ℕ × ℕ) → HasOutline d.heading → p.1 < 1000000000000000000
+start_steps : (d : Draft) (p : ℕ × ℕ) → HasHeaderTree d.heading → p.1 < 1000000000000000000
     → IsStart d.heading d.from p → from_step d (from_line d.heading p) ≡ Ok (with_start d p.0 p.1)
 unfolding from_step
 start_steps d p has small is =
     let l = start_words d.heading p has is.declared small in
-    let number : number_of (decimal p.1) ≡ Some p.1 = number_again p.1 small in
+    let number : number_in_word (decimal p.1) ≡ Some p.1 = number_again p.1 small in
     let form : is_number_form (decimal p.1) ≡ true = (number_is_form (decimal p.1) p.1 number).0 in
     let found : event_in d.heading.words (event_word d.heading p.0) ≡ Some p.0 =
     (event_found d.heading p.0 has is.declared).0 in
@@ -314,7 +314,7 @@ not_run_line line w v ws words =
     let two : w ∷ v ∷ ws ≡ codes "run" ∷ [] = sym words ∙ one in
     cc))
 
-start_taken : (d : Draft) (p : ℕ × ℕ) → HasOutline d.heading → p.1 < 1000000000000000000
+start_taken : (d : Draft) (p : ℕ × ℕ) → HasHeaderTree d.heading → p.1 < 1000000000000000000
     → 0 < d.heading.setup.workers → IsStart d.heading d.from p
     → step (Declaring d) (from_line d.heading p) ≡ Ok (Declaring (with_start d p.0 p.1))
 unfolding step
@@ -332,11 +332,7 @@ start_taken d p has small some is =
     or_right _ _ opens in
     rw other (rw from (rw (start_steps d p has small is) refl))
 
--- the draft with these counts
-abbrev pub with_starts : Draft → List (ℕ × ℕ) → Draft
-with_starts d ps = record { heading = d.heading; from = d.from ++ ps }
-
-pub starts_taken : (h : Headed) (from ps : List (ℕ × ℕ)) → HasOutline h
+pub starts_taken : (h : HeadingModel) (from ps : List (ℕ × ℕ)) → HasHeaderTree h
     → h.setup.limit < 1000000000000000000 → 0 < h.setup.workers → AreStarts h from ps
     → AreTaken (Declaring (record { heading = h; from = from })) (from_lines h ps)
     (Declaring (record { heading = h; from = from ++ ps }))

@@ -1,7 +1,7 @@
--- What is read is spelled.
+-- A history is read from its own text.
 use Rattle.std.proofs.Common.{◌≡◌, ℕ, ◌+◌, sym, List, ◌++◌, length, ap, ◌∙◌}
 use Rattle.std.specs.List.{join_with_byte}
-use Rattle.ec_heading.specs.Spelling.{text_of}
+use Rattle.ec_heading.specs.Spelling.{lines_text}
 use Rattle.calls_text.specs.Reading.{Opening}
 use Rattle.calls_text.specs.Outcomes.{OneRead}
 use Rattle.calls_text.specs.Grammar.{history_lines, history_text}
@@ -18,7 +18,7 @@ spelled bytes n read r =
     record {
       keeps = h.keeps;
       rest = r.rest;
-      text = r.text ∙ ap (λ (ls : List (List ℕ)). text_of ls ++ r.rest) same;
+      text = r.text ∙ ap (λ (ls : List (List ℕ)). lines_text ls ++ r.rest) same;
       left = r.left;
       same = λ others is. sym (parts_joined others) ∙ ap (join_with_byte 10) (sym is ∙ r.left)
           ∙ parts_joined r.rest;

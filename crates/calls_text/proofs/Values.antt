@@ -1,4 +1,4 @@
--- Numbers and lists of numbers are found again.
+-- Words that are read as numbers are their digits, and a list is found by its number.
 use Rattle.std.proofs.Common.{◌≡◌, ℕ, suc, ◌+◌, ◌-◌, List, [], ◌∷◌, ◌++◌, length, map, Bool, true}
 use Rattle.std.proofs.Common.{false, cond, eqb, not, ◌||◌, Option, Some, None, refl, sym, ap, ◌∙◌}
 use Rattle.std.proofs.Common.{arith, decimal, replicate, get_or, append-nil, ap₂}
@@ -7,24 +7,24 @@ use Rattle.std.specs.Option.{option_map_or}
 use Rattle.std.specs.List.{list_any, position_or_len, join_with_byte}
 use Rattle.std.proofs.lemmas.Bool.{and_parts, or_parts, eqb-true, ne_eqb}
 use Rattle.std.proofs.lemmas.Slice.Eq.{bytes_eq-Decides}
-use Rattle.ec_text.specs.Words.{number_of}
+use Rattle.ec_text.specs.Words.{number_in_word}
 use Rattle.ec_text.proofs.shared.NumberLemmas.{number_takes}
-use Rattle.ec_heading.specs.Recalled.{spaced as spaced_words}
+use Rattle.ec_heading.specs.Recalled.{with_spaces as spaced_words}
 use Rattle.calls_text.specs.Forms.{only_in}
 use Rattle.calls_text.specs.Lists.{is_zeros, list_number, lists_after}
 use Rattle.calls_text.specs.Reading.{is_no_number, number_or_0, only_number, numbers_in}
-use Rattle.calls_text.specs.Spelling.{list_of, spaced}
+use Rattle.calls_text.specs.Spelling.{numbers_of_list, numbers_after_spaces}
 
 -- WORDS AND NUMBERS
 
-some_number : (w : List ℕ) (o : Option ℕ) → number_of w ≡ o → is_none o ≡ false
+some_number : (w : List ℕ) (o : Option ℕ) → number_in_word w ≡ o → is_none o ≡ false
     → w ≡ decimal (unwrap_or o 0)
 some_number w None is some = cc
 some_number w (Some n) is some = (number_takes w n is).0
 
 -- a word that spells a number is its digits
 pub word_number : (w : List ℕ) → is_no_number w ≡ false → w ≡ decimal (number_or_0 w)
-word_number w some = some_number w (number_of w) refl some
+word_number w some = some_number w (number_in_word w) refl some
 
 -- words that spell numbers are the digits of each
 pub words_numbers : (ws : List (List ℕ)) → list_any is_no_number ws ≡ false
@@ -35,18 +35,18 @@ words_numbers (w ∷ ws) all =
     ap₂ (λ (x : List ℕ) (xs : List (List ℕ)). x ∷ xs) (word_number w n.0) (words_numbers ws n.1)
 
 -- the digits of each number, each after a space
-pub spaced_numbers : (ns : List ℕ) → spaced_words (map decimal ns) ≡ spaced ns
+pub spaced_numbers : (ns : List ℕ) → spaced_words (map decimal ns) ≡ numbers_after_spaces ns
 spaced_numbers [] = refl
 spaced_numbers (n ∷ ns) = ap (λ (r : List ℕ). (32 ∷ decimal n) ++ r) (spaced_numbers ns)
 
 pub words_spaced : (ws : List (List ℕ)) → list_any is_no_number ws ≡ false
-    → spaced_words ws ≡ spaced (numbers_in ws)
+    → spaced_words ws ≡ numbers_after_spaces (numbers_in ws)
 words_spaced ws all = ap spaced_words (words_numbers ws all) ∙ spaced_numbers (numbers_in ws)
 
 -- the only word, after a space
 pub one_spaced : (ws : List (List ℕ)) → length ws ≡ 1
     → option_map_or is_no_number (only_in ws) false ≡ false
-    → spaced_words ws ≡ spaced (only_number ws ∷ [])
+    → spaced_words ws ≡ numbers_after_spaces (only_number ws ∷ [])
 one_spaced [] one some = absurd (omega (arith, one))
 one_spaced (w ∷ []) one some =
     ap (λ (x : List ℕ). (32 ∷ x) ++ []) (word_number w some)
@@ -70,7 +70,7 @@ next_at : {A : Type 0} (x : A) (xs : List A) (i : ℕ) (d : A)
     → get_or (x ∷ xs) (1 + i) d ≡ get_or xs i d
 next_at x xs i d = let next : 1 + i ≡ suc i = omega arith in ap (λ j. get_or (x ∷ xs) j d) next
 
--- a list that is there stands at its place, whatever lists are added
+-- a stored list is found at its index, whatever lists are added
 there_at : (l : List ℕ) (lists more : List (List ℕ)) → list_any (bytes_eq l) lists ≡ true
     → get_or (lists ++ more) (position_or_len (bytes_eq l) lists) [] ≡ l
 there_at l [] more there = cc
@@ -85,7 +85,7 @@ there_at l (x ∷ lists) more there =
           ∙ there_at l lists more g
     ] refl there
 
--- a list that is not there stands at its place once it is added
+-- a new list is found at its index once it is added
 new_at : (l : List ℕ) (lists more : List (List ℕ)) → list_any (bytes_eq l) lists ≡ false
     → get_or ((lists ++ l ∷ []) ++ more) (position_or_len (bytes_eq l) lists) [] ≡ l
 new_at l [] more none = refl
@@ -103,7 +103,7 @@ placed l lists more true is = there_at l lists more is
 placed l lists more false is = new_at l lists more is
 
 numbered : (cells i : ℕ) (lists : List (List ℕ))
-    → list_of lists cells (i + 1) ≡ get_or lists i []
+    → numbers_of_list lists cells (i + 1) ≡ get_or lists i []
 numbered cells i lists =
     let some : eqb (i + 1) 0 ≡ false = ne_eqb (i + 1) 0 (λ e. (omega (arith, e))) in
     let one : i + 1 - 1 ≡ i = omega arith in
@@ -111,7 +111,8 @@ numbered cells i lists =
 
 found : (l : List ℕ) (cells : ℕ) (lists more : List (List ℕ)) (b : Bool) → is_zeros l ≡ b
     → length l ≡ cells
-    → list_of (cond b lists (cond (list_any (bytes_eq l) lists) lists (lists ++ l ∷ [])) ++ more)
+    → numbers_of_list (cond b lists (cond (list_any (bytes_eq l) lists) lists (lists ++ l ∷ []))
+    ++ more)
     cells (cond b 0 (position_or_len (bytes_eq l) lists + 1)) ≡ l
 found l cells lists more true is long =
     ap (λ (n : ℕ). replicate n 0) (sym long) ∙ zeros_are l is
@@ -120,7 +121,7 @@ found l cells lists more false is long =
     (cond (list_any (bytes_eq l) lists) lists (lists ++ l ∷ []) ++ more)
     ∙ placed l lists more (list_any (bytes_eq l) lists) refl
 
--- a list goes by its number, whatever lists are added after it
+-- a list is found by its number, whatever lists are added after it
 pub list_found : (l : List ℕ) (cells : ℕ) (lists more : List (List ℕ)) → length l ≡ cells
-    → list_of (lists_after lists l ++ more) cells (list_number lists l) ≡ l
+    → numbers_of_list (lists_after lists l ++ more) cells (list_number lists l) ≡ l
 list_found l cells lists more long = found l cells lists more (is_zeros l) refl long

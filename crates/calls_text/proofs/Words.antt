@@ -5,28 +5,7 @@ use Rattle.std.specs.List.{onto_first}
 use Rattle.ec_text.specs.Words.{words_of}
 use Rattle.calls_text.specs.Forms.{only_in}
 use Rattle.calls_text.specs.Reading.{limit_digits, from_words}
-
-pub record HasFirst (line : List ℕ) : Type 0 where
-  pub first : List ℕ
-  pub others : List (List ℕ)
-  pub is : words_of line ≡ first ∷ others
-
-onto_has : (b : ℕ) (parts : List (List ℕ))
-    → (first : List ℕ) × (others : List (List ℕ)) × (onto_first b parts ≡ first ∷ others)
-onto_has b [] = (b ∷ [], [], refl)
-onto_has b (part ∷ parts) = (b ∷ part, parts, refl)
-
-pub has_first : (line : List ℕ) → HasFirst line
-has_first [] = record { first = []; others = []; is = refl }
-has_first (b ∷ line) =
-    let P : Bool → Type 0 =
-    λ t. (first : List ℕ) × (others : List (List ℕ)) ×
-    (cond t ([] ∷ words_of line) (onto_first b (words_of line)) ≡ first ∷ others) in
-    let w : P (eqb b 32) = elim (eqb b 32) as P [
-      | true ↦ ([], words_of line, refl)
-      | false ↦ onto_has b (words_of line)
-    ] in
-    record { first = w.0; others = w.1; is = w.2 }
+use Rattle.ec_text.proofs.shared.WordLemmas.{onto_has, has_first, HasFirst}
 
 pub some_words : (line : List ℕ) → 1 ≤ length (words_of line)
 some_words line = let r : HasFirst line = has_first line in rw r.is (omega arith)

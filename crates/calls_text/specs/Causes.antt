@@ -4,8 +4,8 @@ use Rattle.std.specs.Prelude.{bytes_eq, codes, unwrap_or}
 use Rattle.std.specs.List.{list_any}
 use Rattle.ec_count.specs.Tables.{first_that}
 use Rattle.ec_text.specs.Words.{words_of}
-use Rattle.calls_text.specs.declared.fault.Kind.{Kind}
-use Rattle.calls_text.specs.declared.fault.Kind.TheVariants as kinds
+use Rattle.calls_text.specs.declared.fault.FaultKind.{FaultKind}
+use Rattle.calls_text.specs.declared.fault.FaultKind.TheVariants as kinds
 use Rattle.calls_text.specs.declared.fault.Cause.{Cause}
 use Rattle.calls_text.specs.declared.fault.Cause.TheVariants as causes
 
@@ -21,7 +21,7 @@ has_space line = list_any (λ w. length w == 0) (words_of line)
 abbrev pub last_byte : List ℕ → List ℕ
 last_byte line = drop (length line - 1) line
 
--- what is wrong with the form of a line, wherever it stands
+-- what is wrong with the form of a line, whichever line is expected
 abbrev pub line_cause : List ℕ → Cause
 line_cause line = unwrap_or (first_that (
     (nat_lt 8192 (length line), causes.Long)
@@ -32,7 +32,7 @@ line_cause line = unwrap_or (first_that (
     ∷ (has_space line, causes.Space)
     ∷ [])) causes.Other
 
--- what is wrong with a line in the place of the first one
+-- what is wrong with a line that must be `evc-calls 1`
 abbrev pub header_cause : List ℕ → Cause
 header_cause line = unwrap_or (first_that (
     (bytes_eq line (codes "evc-trace 1") || bytes_eq line (codes "evc-trace 2"), causes.Trace)
@@ -40,7 +40,7 @@ header_cause line = unwrap_or (first_that (
     ∷ [])) (line_cause line)
 
 -- what is wrong with the form of a line with a fault of this kind
-abbrev pub cause_of : Kind → List ℕ → Cause
+abbrev pub cause_of : FaultKind → List ℕ → Cause
 cause_of kinds.BadHeader line = header_cause line
 cause_of kinds.BadLine line = line_cause line
 cause_of _ line = causes.Other

@@ -1,13 +1,13 @@
--- The kinds of faults, by number and by name, and those of headings among them.
+-- The kinds of faults, by number and by name, and those of headers among them.
 use Rattle.std.specs.Prelude.{ℕ, List, codes}
-use Rattle.calls_text.specs.declared.fault.Kind.{Kind}
-use Rattle.calls_text.specs.declared.fault.Kind.TheVariants as kinds
+use Rattle.calls_text.specs.declared.fault.FaultKind.{FaultKind}
+use Rattle.calls_text.specs.declared.fault.FaultKind.TheVariants as kinds
 use Rattle.calls_text.specs.declared.fault.LineFault.{LineFault}
 use Rattle.calls_text.specs.declared.fault.LineFault.TheVariants as faults
 use Rattle.ec_heading.specs.declared.heading.HeadFault.{HeadFault}
 use Rattle.ec_heading.specs.declared.heading.HeadFault.TheVariants as heads
 
-abbrev pub kind_number : Kind → ℕ
+abbrev pub kind_number : FaultKind → ℕ
 kind_number kinds.BadHeader = 1
 kind_number kinds.BadLine = 2
 kind_number kinds.BadName = 3
@@ -25,7 +25,7 @@ kind_number kinds.Idle = 14
 kind_number kinds.Unsuited = 15
 kind_number kinds.AtLimit = 16
 
-abbrev pub kind_name : Kind → List ℕ
+abbrev pub kind_name : FaultKind → List ℕ
 kind_name kinds.BadHeader = codes "BadHeader"
 kind_name kinds.BadLine = codes "BadLine"
 kind_name kinds.BadName = codes "BadName"
@@ -43,9 +43,9 @@ kind_name kinds.Idle = codes "Idle"
 kind_name kinds.Unsuited = codes "Unsuited"
 kind_name kinds.AtLimit = codes "AtLimit"
 
--- the kind of a fault of a line of a heading. No line is at fault if memory runs out, of which the
--- last case speaks
-abbrev pub kind_of_head : HeadFault → Kind
+-- the kind of a fault of a header line. `line_fault` passes no `Memory`, which is no fault of a
+-- line
+abbrev pub kind_of_head : HeadFault → FaultKind
 kind_of_head heads.BadLine = kinds.BadLine
 kind_of_head heads.BadName = kinds.BadName
 kind_of_head heads.NameTaken = kinds.NameTaken
@@ -55,7 +55,7 @@ kind_of_head heads.TooMany = kinds.TooMany
 kind_of_head heads.TwoRoles = kinds.TwoRoles
 kind_of_head heads.Memory = kinds.BadLine
 
--- why a line was not taken that a heading rejected
+-- the error of a line, given that of the header
 abbrev pub line_fault : HeadFault → LineFault
 line_fault heads.Memory = faults.Memory
 line_fault fault = faults.Of (kind_of_head fault)

@@ -1,5 +1,5 @@
--- The lists of numbers that databases store, each by a number: a list of zeros has 0, and the list
--- at index i has i + 1.
+-- Interned lists of numbers, the values of databases: a list of zeros has the number 0, and the
+-- list at index i has i + 1.
 use Rattle.std.specs.Prelude.{ℕ, ◌+◌, ◌==◌, Bool, List, [], ◌∷◌, ◌++◌, if◌then◌else◌, bytes_eq}
 use Rattle.std.specs.List.{list_all, list_any, position_or_len}
 

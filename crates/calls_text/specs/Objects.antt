@@ -1,4 +1,4 @@
--- What the word of an object stands for, which objects belong to groups, and who may call what.
+-- Which object a word names, which objects belong to groups, and who may call what.
 use Rattle.std.specs.Prelude.{ℕ, ◌+◌, Bool, false, ◌&&◌, ◌||◌, ◌==◌, nat_le, nat_lt, List, [], ◌∷◌}
 use Rattle.std.specs.Prelude.{Option, Some, None, option_map, is_some, slice_get, if◌then◌else◌}
 use Rattle.std.specs.Option.{option_and_then}
@@ -11,34 +11,28 @@ use Rattle.ec_database.specs.Shapes as databases
 use Rattle.ec_semaphore.specs.Shapes.{Semaphore}
 use Rattle.ec_heading.specs.declared.group.Group as kinds
 use Rattle.ec_heading.specs.declared.group.Group.TheVariants as groups
-use Rattle.ec_heading.specs.Headed.{Headed}
-use Rattle.ec_heading.specs.Spelled.{event_in, sequencer_in, cell_in_word}
-use Rattle.calls_text.specs.declared.verb.Verb.{Verb}
-use Rattle.calls_text.specs.declared.verb.Verb.TheVariants as verbs
+use Rattle.ec_heading.specs.Groups.{database_of, semaphore_of, both_of, has_event, has_sequencer, has_cell}
+use Rattle.ec_heading.specs.HeadingModel.{HeadingModel}
+use Rattle.ec_heading.specs.EntryWords.{event_in, sequencer_in, cell_in_word}
+use Rattle.calls_text.specs.declared.verb.OpWord.{OpWord}
+use Rattle.calls_text.specs.declared.verb.OpWord.TheVariants as verbs
 use Rattle.calls_text.specs.declared.object.Object.{Object}
 use Rattle.calls_text.specs.declared.object.Object.TheVariants as objects
 
 -- GROUPS BY NAME
 
-abbrev pub place_of : targets.Target → Option ℕ
-place_of (target.Group i) = Some i
-place_of _ = None
+abbrev pub group_place : targets.Target → Option ℕ
+group_place (target.Group i) = Some i
+group_place _ = None
 
--- the group at a place, with the place
+-- the group at an index, with the index
 abbrev pub group_at : List kinds.Group → ℕ → Option (ℕ × kinds.Group)
 group_at gs i = option_map (λ g. (i, g)) (slice_get gs i)
 
--- the group of this name, with its place among the groups
-abbrev pub group_in : Headed → List ℕ → Option (ℕ × kinds.Group)
-group_in h w = option_and_then (group_at h.groups) (option_and_then place_of (find_name w h.names))
-
-abbrev pub semaphore_of : kinds.Group → Option Semaphore
-semaphore_of (groups.Semaphore s) = Some s
-semaphore_of _ = None
-
-abbrev pub database_of : kinds.Group → Option databases.Database
-database_of (groups.Database d) = Some d
-database_of _ = None
+-- the group of this name, with its index among the groups
+abbrev pub group_in : HeadingModel → List ℕ → Option (ℕ × kinds.Group)
+group_in h w =
+    option_and_then (group_at h.groups) (option_and_then group_place (find_name w h.names))
 
 abbrev pub placed_semaphore : ℕ × kinds.Group → Option (ℕ × Semaphore)
 placed_semaphore p = option_map (λ s. (p.0, s)) (semaphore_of p.1)
@@ -46,26 +40,20 @@ placed_semaphore p = option_map (λ s. (p.0, s)) (semaphore_of p.1)
 abbrev pub placed_database : ℕ × kinds.Group → Option (ℕ × databases.Database)
 placed_database p = option_map (λ d. (p.0, d)) (database_of p.1)
 
--- a semaphore by its name, with its place: `both` has none
-abbrev pub semaphore_in : Headed → List ℕ → Option (ℕ × Semaphore)
+-- the semaphore of this name, with its index among the groups; `both` has no name
+abbrev pub semaphore_in : HeadingModel → List ℕ → Option (ℕ × Semaphore)
 semaphore_in h w = option_and_then placed_semaphore (group_in h w)
 
-abbrev pub database_in : Headed → List ℕ → Option (ℕ × databases.Database)
+abbrev pub database_in : HeadingModel → List ℕ → Option (ℕ × databases.Database)
 database_in h w = option_and_then placed_database (group_in h w)
-
--- the common semaphore, if one is declared
-abbrev pub both_of : List kinds.Group → Option Semaphore
-both_of [] = None
-both_of (groups.Both s ∷ gs) = Some s
-both_of (g ∷ gs) = both_of gs
 
 -- THE OBJECT OF A CALL
 
-abbrev pub pair_of : Option Semaphore → Option (ℕ × Semaphore) → Option (ℕ × Semaphore)
+abbrev pub semaphore_pair : Option Semaphore → Option (ℕ × Semaphore) → Option (ℕ × Semaphore)
     → Option Object
-pair_of (Some common) (Some one) (Some other) =
+semaphore_pair (Some common) (Some one) (Some other) =
     Some (objects.Pair one.0 one.1 other.0 other.1 common)
-pair_of _ _ _ = None
+semaphore_pair _ _ _ = None
 
 abbrev pub as_semaphore : ℕ × Semaphore → Object
 as_semaphore s = objects.Semaphore s.0 s.1
@@ -73,9 +61,9 @@ as_semaphore s = objects.Semaphore s.0 s.1
 abbrev pub as_database : ℕ × databases.Database → Object
 as_database d = objects.Database d.0 d.1
 
--- what a call is of: the declared object, of the sort that the call asks for, that the word spells;
--- the other word is that of the second semaphore of a pair
-abbrev pub object_in : Headed → Verb → List ℕ → Option (List ℕ) → Option Object
+-- the declared object that the word of a call names, if it is of the sort that the call needs; the
+-- other word is that of the second semaphore of a pair
+abbrev pub object_in : HeadingModel → OpWord → List ℕ → Option (List ℕ) → Option Object
 object_in h verbs.Advance w other = option_map objects.Event (event_in h.words w)
 object_in h verbs.Read w other = option_map objects.Event (event_in h.words w)
 object_in h verbs.Await w other = option_map objects.Event (event_in h.words w)
@@ -84,35 +72,17 @@ object_in h verbs.Put w other = option_map objects.Cell (cell_in_word h.words w)
 object_in h verbs.Get w other = option_map objects.Cell (cell_in_word h.words w)
 object_in h verbs.P w other = option_map as_semaphore (semaphore_in h w)
 object_in h verbs.V w other = option_map as_semaphore (semaphore_in h w)
-object_in h verbs.PBoth w other = pair_of (both_of h.groups) (semaphore_in h w)
+object_in h verbs.PBoth w other = semaphore_pair (both_of h.groups) (semaphore_in h w)
     (option_and_then (semaphore_in h) other)
 object_in h verbs.Write w other = option_map as_database (database_in h w)
 object_in h verbs.Snapshot w other = option_map as_database (database_in h w)
 
 -- OBJECTS OF GROUPS
 
-abbrev pub has_count : kinds.Group → ℕ → Bool
-has_count (groups.Buffer b) e = b.in_count == e || b.out_count == e
-has_count (groups.Database d) e = d.start == e || d.done == e
-has_count (groups.Semaphore s) e = s.count == e
-has_count (groups.Both s) e = s.count == e
-
-abbrev pub has_line : kinds.Group → ℕ → Bool
-has_line (groups.Buffer b) q = b.put_seq == q || b.take_seq == q
-has_line (groups.Database d) q = d.turn == q
-has_line (groups.Semaphore s) q = s.line == q
-has_line (groups.Both s) q = s.line == q
-
-abbrev pub has_cell : kinds.Group → ℕ → Bool
-has_cell (groups.Buffer b) x = nat_le b.first_cell x && nat_lt x (b.first_cell + b.cells)
-has_cell (groups.Database d) x = nat_le d.first_cell x && nat_lt x (d.first_cell + d.cells)
-has_cell (groups.Semaphore s) x = false
-has_cell (groups.Both s) x = false
-
 -- whether an eventcount, a sequencer or a cell belongs to the group
 abbrev pub owns : Object → kinds.Group → Bool
-owns (objects.Event e) g = has_count g e
-owns (objects.Sequencer q) g = has_line g q
+owns (objects.Event e) g = has_event g e
+owns (objects.Sequencer q) g = has_sequencer g q
 owns (objects.Cell x) g = has_cell g x
 owns _ g = false
 
@@ -121,15 +91,15 @@ is_owned gs o = list_any (owns o) gs
 
 -- RIGHTS
 
--- whether a worker may make a call of the object: one that advances or writes, or else one that
--- observes or reads. Who uses a group may draw from its sequencer
+-- whether the declarations allow a worker a call of the object; giving: whether it is an advance, a
+-- put or a write. A worker that uses a semaphore may draw from its sequencer
 abbrev pub has_right : Tables → ℕ → Bool → Object → Bool
-has_right t w giving (objects.Event e) =
-    if giving then is_some (component_of t e w) else may_observe t e w
-has_right t w giving (objects.Sequencer q) = may_take t q w
-has_right t w giving (objects.Cell x) = if giving then may_write t x w else may_read t x w
-has_right t w giving (objects.Semaphore i s) = may_take t s.line w
-has_right t w giving (objects.Pair i one j other common) =
+has_right t w update (objects.Event e) =
+    if update then is_some (component_of t e w) else may_observe t e w
+has_right t w update (objects.Sequencer q) = may_take t q w
+has_right t w update (objects.Cell x) = if update then may_write t x w else may_read t x w
+has_right t w update (objects.Semaphore i s) = may_take t s.line w
+has_right t w update (objects.Pair i one j other common) =
     may_take t common.line w && may_take t one.line w && may_take t other.line w
-has_right t w giving (objects.Database i d) =
-    if giving then may_take t d.turn w else may_observe t d.start w
+has_right t w update (objects.Database i d) =
+    if update then may_take t d.turn w else may_observe t d.start w

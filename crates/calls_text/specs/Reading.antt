@@ -1,4 +1,4 @@
--- What the lines of a history build, line by line.
+-- How a history is read, line by line: the stage after each line.
 use Rattle.std.specs.Prelude.{◌≡◌, ℕ, ◌+◌, Bool, true, false, ◌&&◌, ◌||◌, ◌==◌, not, nat_le, nat_lt}
 use Rattle.std.specs.Prelude.{List, [], ◌∷◌, ◌++◌, length, map, reverse, Option, Some, None}
 use Rattle.std.specs.Prelude.{is_none, is_some}
@@ -6,15 +6,15 @@ use Rattle.std.specs.Prelude.{unwrap_or, Result, Ok, Err, if◌then◌else◌, b
 use Rattle.std.specs.Option.{option_map_or}
 use Rattle.std.specs.List.{list_any}
 use Rattle.ec_count.specs.Tables.{first_that}
-use Rattle.ec_text.specs.Words.{words_of, number_of, is_number_form}
+use Rattle.ec_text.specs.Words.{words_of, number_in_word, is_number_form}
 use Rattle.ec_heading.specs.declared.version.Version.TheVariants.{Two}
 use Rattle.ec_heading.specs.declared.heading.HeadFault.{HeadFault}
 use Rattle.ec_heading.specs.Versions.{is_limit}
-use Rattle.ec_heading.specs.Headed.{Headed}
-use Rattle.ec_heading.specs.Outline.{opened}
+use Rattle.ec_heading.specs.HeadingModel.{HeadingModel}
+use Rattle.ec_heading.specs.HeaderTree.{empty_heading}
 use Rattle.ec_heading.specs.Heading.{head_step, is_no_line}
 use Rattle.ec_heading.specs.Lists.{worker_in}
-use Rattle.ec_heading.specs.Spelled.{event_in}
+use Rattle.ec_heading.specs.EntryWords.{event_in}
 use Rattle.calls_core.specs.declared.history.Op.{Op}
 use Rattle.calls_core.specs.declared.history.Op.TheVariants as ops
 use Rattle.calls_core.specs.declared.history.Reply.{Reply}
@@ -24,36 +24,36 @@ use Rattle.calls_core.specs.declared.history.Action.TheVariants.{Invoke, Respond
 use Rattle.calls_core.specs.declared.history.Event.{Event}
 use Rattle.calls_core.specs.declared.history.PendingCall.{PendingCall}
 use Rattle.calls_core.specs.Histories.{pending_of, pending_calls}
-use Rattle.calls_text.specs.declared.fault.Kind.{Kind}
-use Rattle.calls_text.specs.declared.fault.Kind.TheVariants as kinds
+use Rattle.calls_text.specs.declared.fault.FaultKind.{FaultKind}
+use Rattle.calls_text.specs.declared.fault.FaultKind.TheVariants as kinds
 use Rattle.calls_text.specs.declared.fault.LineFault.{LineFault}
 use Rattle.calls_text.specs.declared.fault.LineFault.TheVariants as faults
-use Rattle.calls_text.specs.declared.verb.Verb.{Verb}
-use Rattle.calls_text.specs.declared.verb.Verb.TheVariants as verbs
+use Rattle.calls_text.specs.declared.verb.OpWord.{OpWord}
+use Rattle.calls_text.specs.declared.verb.OpWord.TheVariants as verbs
 use Rattle.calls_text.specs.declared.verb.Tail.{Tail}
 use Rattle.calls_text.specs.declared.verb.Tail.TheVariants as tails
-use Rattle.calls_text.specs.declared.form.Answer.{Answer}
-use Rattle.calls_text.specs.declared.form.Answer.TheVariants as answers
+use Rattle.calls_text.specs.declared.form.ReplyWord.{ReplyWord}
+use Rattle.calls_text.specs.declared.form.ReplyWord.TheVariants as answers
 use Rattle.calls_text.specs.declared.object.Object.{Object}
 use Rattle.calls_text.specs.declared.object.Object.TheVariants as objects
 use Rattle.calls_text.specs.Faults.{kind_of_head}
-use Rattle.calls_text.specs.Verbs.{tail_of, is_giving}
+use Rattle.calls_text.specs.Verbs.{tail_of, is_update}
 use Rattle.calls_text.specs.Forms.{Phrase, Calls, Returns, phrase_in, only_in}
 use Rattle.calls_text.specs.Objects.{object_in, is_owned, has_right}
 use Rattle.calls_text.specs.Lists.{list_number, lists_after}
 use Rattle.calls_text.specs.Tallies.{advances_by}
-use Rattle.calls_text.specs.Recordings.{Recorded, first_sequencer, first_cell, semaphores}
+use Rattle.calls_text.specs.Recordings.{RecordingModel, first_sequencer, first_cell, semaphores}
 use Rattle.calls_text.specs.Recordings.{first_group, numbers_of}
 
 -- NUMBERS
 
 -- whether a word spells no number up to 999999999999999999
 abbrev pub is_no_number : List ℕ → Bool
-is_no_number w = is_none (number_of w)
+is_no_number w = is_none (number_in_word w)
 
 -- the number that a word spells, 0 if it spells none
 abbrev pub number_or_0 : List ℕ → ℕ
-number_or_0 w = unwrap_or (number_of w) 0
+number_or_0 w = unwrap_or (number_in_word w) 0
 
 -- the number that the only word spells
 abbrev pub only_number : List (List ℕ) → ℕ
@@ -85,29 +85,30 @@ has_two_roles (objects.Pair i one j other common) = i == j
 has_two_roles _ = false
 
 -- whether the worker has called as many advances of the eventcount as the limit allows
-abbrev pub is_spent : Recorded → ℕ → Verb → Object → Bool
+abbrev pub is_spent : RecordingModel → ℕ → OpWord → Object → Bool
 is_spent r w verbs.Advance (objects.Event e) = nat_le r.heading.setup.limit
     (advances_by w e r.events)
 is_spent r w _ _ = false
 
--- the least fault of an invocation by a worker, of an object; busy: whether its call is pending;
--- spent: whether it may call no more
-abbrev pub call_fault_by : Headed → ℕ → Verb → Object → List (List ℕ) → Bool → Bool → Option Kind
+-- the lowest kind of fault of an invocation of worker w, of an object. busy: whether the worker has
+-- a pending call; spent: whether it may call no more advances of the object
+abbrev pub call_fault_by : HeadingModel → ℕ → OpWord → Object → List (List ℕ) → Bool → Bool
+    → Option FaultKind
 call_fault_by h w v o ws busy spent = first_that (
     (is_bad_tail (tail_of v) ws o, kinds.BadNumber)
     ∷ (is_owned h.groups o, kinds.Hidden)
     ∷ (has_two_roles o, kinds.TwoRoles)
-    ∷ (not (has_right h.setup w (is_giving v) o), kinds.NoRight)
+    ∷ (not (has_right h.setup w (is_update v) o), kinds.NoRight)
     ∷ (busy, kinds.Busy)
     ∷ (spent, kinds.AtLimit)
     ∷ [])
 
-abbrev pub call_fault : Recorded → ℕ → Verb → Object → List (List ℕ) → Option Kind
+abbrev pub call_fault : RecordingModel → ℕ → OpWord → Object → List (List ℕ) → Option FaultKind
 call_fault r w v o ws =
     call_fault_by r.heading w v o ws (is_some (pending_in r.events w)) (is_spent r w v o)
 
 -- the index of an object
-abbrev pub index_of : Headed → Object → ℕ
+abbrev pub index_of : HeadingModel → Object → ℕ
 index_of h (objects.Event e) = e
 index_of h (objects.Sequencer q) = first_sequencer h + q
 index_of h (objects.Cell x) = first_cell h + x
@@ -115,7 +116,7 @@ index_of h (objects.Semaphore i s) = semaphores h
 index_of h (objects.Pair i one j other common) = semaphores h
 index_of h (objects.Database i d) = first_group h + i
 
--- the place of the group, and that of the second one
+-- the index of a semaphore among the groups, and that of the second one of a pair
 abbrev pub place_in : Object → ℕ
 place_in (objects.Semaphore i s) = i
 place_in (objects.Pair i one j other common) = i
@@ -125,69 +126,69 @@ abbrev pub second_place_in : Object → ℕ
 second_place_in (objects.Pair i one j other common) = j
 second_place_in _ = 0
 
--- what is asked for; n is the number that is given, or that of the list
-abbrev pub op_of : Verb → Object → ℕ → Op
-op_of verbs.Advance o n = ops.Advance
-op_of verbs.Read o n = ops.Read
-op_of verbs.Await o n = ops.Await n
-op_of verbs.Ticket o n = ops.Ticket
-op_of verbs.Put o n = ops.Put n
-op_of verbs.Get o n = ops.Get
-op_of verbs.P o n = ops.P (place_in o)
-op_of verbs.V o n = ops.V (place_in o)
-op_of verbs.PBoth o n = ops.PBoth (place_in o) (second_place_in o)
-op_of verbs.Write o n = ops.Put n
-op_of verbs.Snapshot o n = ops.Get
+-- the operation of a call; n is its number, or that of its list
+abbrev pub op_of_word : OpWord → Object → ℕ → Op
+op_of_word verbs.Advance o n = ops.Advance
+op_of_word verbs.Read o n = ops.Read
+op_of_word verbs.Await o n = ops.Await n
+op_of_word verbs.Ticket o n = ops.Ticket
+op_of_word verbs.Put o n = ops.Put n
+op_of_word verbs.Get o n = ops.Get
+op_of_word verbs.P o n = ops.P (place_in o)
+op_of_word verbs.V o n = ops.V (place_in o)
+op_of_word verbs.PBoth o n = ops.PBoth (place_in o) (second_place_in o)
+op_of_word verbs.Write o n = ops.Put n
+op_of_word verbs.Snapshot o n = ops.Get
 
--- the number that is given
-abbrev pub number_in : List (List ℕ) → Verb → List (List ℕ) → ℕ
+-- the number in a call, or that of its list; and the lists after it
+abbrev pub number_in : List (List ℕ) → OpWord → List (List ℕ) → ℕ
 number_in lists verbs.Write ws = list_number lists (numbers_in ws)
 number_in lists _ ws = only_number ws
 
-abbrev pub lists_of : List (List ℕ) → Verb → List (List ℕ) → List (List ℕ)
+abbrev pub lists_of : List (List ℕ) → OpWord → List (List ℕ) → List (List ℕ)
 lists_of lists verbs.Write ws = lists_after lists (numbers_in ws)
 lists_of lists _ ws = lists
 
 -- the history with these events
-abbrev pub with_events : Recorded → List Event → Recorded
+abbrev pub with_events : RecordingModel → List Event → RecordingModel
 with_events r events = record r { events = events }
 
 -- the event that comes after these
-abbrev pub event_of : List Event → ℕ → Action → Event
-event_of events w a = record { at = length events; worker = w; action = a }
+abbrev pub next_event : List Event → ℕ → Action → Event
+next_event events w a = record { at = length events; worker = w; action = a }
 
 -- the history with one more event
-abbrev pub with_event : Recorded → ℕ → Action → List (List ℕ) → Recorded
+abbrev pub with_event : RecordingModel → ℕ → Action → List (List ℕ) → RecordingModel
 with_event r w a lists = record {
   heading = r.heading;
   from = r.from;
-  events = r.events ++ event_of r.events w a ∷ [];
+  events = r.events ++ next_event r.events w a ∷ [];
   lists = lists;
 }
 
 -- the history with one more invocation
-abbrev pub with_call : Recorded → ℕ → Verb → Object → List (List ℕ) → Recorded
+abbrev pub with_call : RecordingModel → ℕ → OpWord → Object → List (List ℕ) → RecordingModel
 with_call r w v o ws =
-    with_event r w (Invoke (index_of r.heading o) (op_of v o (number_in r.lists v ws)))
+    with_event r w (Invoke (index_of r.heading o) (op_of_word v o (number_in r.lists v ws)))
     (lists_of r.lists v ws)
 
-abbrev pub fault_or : {A : Type 0} → Option Kind → A → Result A Kind
+abbrev pub fault_or : {A : Type 0} → Option FaultKind → A → Result A FaultKind
 fault_or None x = Ok x
 fault_or (Some kind) x = Err kind
 
-abbrev pub called : Recorded → Option ℕ → Verb → Option Object → List (List ℕ)
-    → Result Recorded Kind
-called r (Some w) v (Some o) ws = fault_or (call_fault r w v o ws) (with_call r w v o ws)
-called r _ v _ ws = Err kinds.UnknownName
+abbrev pub after_invocation : RecordingModel → Option ℕ → OpWord → Option Object → List (List ℕ)
+    → Result RecordingModel FaultKind
+after_invocation r (Some w) v (Some o) ws = fault_or (call_fault r w v o ws) (with_call r w v o ws)
+after_invocation r _ v _ ws = Err kinds.UnknownName
 
 -- RESPONSES
 
 -- whether a number is out of range
-abbrev pub is_bad_answer : Answer → List (List ℕ) → Bool
-is_bad_answer answers.Numbers ws = list_any is_no_number ws
-is_bad_answer _ ws = false
+abbrev pub is_bad_reply : ReplyWord → List (List ℕ) → Bool
+is_bad_reply answers.Numbers ws = list_any is_no_number ws
+is_bad_reply _ ws = false
 
--- whether what is asked for takes this for an answer: nothing, that it gave up, or so many numbers
+-- whether this is a reply to the operation: `done`, `timeout`, or n numbers
 abbrev pub takes_done : Op → Bool
 takes_done ops.Read = false
 takes_done ops.Ticket = false
@@ -200,114 +201,117 @@ takes_timeout (ops.P i) = true
 takes_timeout (ops.PBoth i j) = true
 takes_timeout _ = false
 
-abbrev pub takes_numbers : Headed → PendingCall → Op → ℕ → Bool
+abbrev pub takes_numbers : HeadingModel → PendingCall → Op → ℕ → Bool
 takes_numbers h o ops.Read n = n == 1
 takes_numbers h o (ops.Await v) n = n == 1
 takes_numbers h o ops.Ticket n = n == 1
 takes_numbers h o ops.Get n = n == numbers_of h o.object
 takes_numbers h o _ n = false
 
-abbrev pub is_suited : Headed → PendingCall → Answer → List (List ℕ) → Bool
+abbrev pub is_suited : HeadingModel → PendingCall → ReplyWord → List (List ℕ) → Bool
 is_suited h o answers.Done ws = takes_done o.op
 is_suited h o answers.Timeout ws = takes_timeout o.op
 is_suited h o answers.Numbers ws = takes_numbers h o o.op (length ws)
 
 -- whether a ticket returns the limit or more
-abbrev pub is_over : ℕ → Op → Answer → List (List ℕ) → Bool
+abbrev pub is_over : ℕ → Op → ReplyWord → List (List ℕ) → Bool
 is_over limit ops.Ticket answers.Numbers ws = nat_le limit (only_number ws)
 is_over limit _ _ ws = false
 
-abbrev pub suit_fault : Headed → PendingCall → Answer → List (List ℕ) → Option Kind
+abbrev pub suit_fault : HeadingModel → PendingCall → ReplyWord → List (List ℕ) → Option FaultKind
 suit_fault h o a ws = first_that (
     (not (is_suited h o a ws), kinds.Unsuited)
     ∷ (is_over h.setup.limit o.op a ws, kinds.AtLimit)
     ∷ [])
 
--- whether a get of this object returns a list
-abbrev pub gives_list : Headed → PendingCall → Op → Bool
+-- whether this is a snapshot, whose reply is a list of numbers
+abbrev pub gives_list : HeadingModel → PendingCall → Op → Bool
 gives_list h o ops.Get = nat_le (first_group h) o.object
 gives_list h o _ = false
 
 -- the reply, and the lists after it
-abbrev pub reply_of : Recorded → PendingCall → Answer → List (List ℕ) → Reply
-reply_of r o answers.Done ws = replies.Done
-reply_of r o answers.Timeout ws = replies.Timeout
-reply_of r o answers.Numbers ws =
+abbrev pub reply_of_word : RecordingModel → PendingCall → ReplyWord → List (List ℕ) → Reply
+reply_of_word r o answers.Done ws = replies.Done
+reply_of_word r o answers.Timeout ws = replies.Timeout
+reply_of_word r o answers.Numbers ws =
     replies.Number (if gives_list r.heading o o.op then list_number r.lists (numbers_in ws)
     else only_number ws)
 
-abbrev pub lists_with : Recorded → PendingCall → Answer → List (List ℕ) → List (List ℕ)
+abbrev pub lists_with : RecordingModel → PendingCall → ReplyWord → List (List ℕ) → List (List ℕ)
 lists_with r o answers.Numbers ws =
     if gives_list r.heading o o.op then lists_after r.lists (numbers_in ws) else r.lists
 lists_with r o _ ws = r.lists
 
-abbrev pub with_reply : Recorded → ℕ → PendingCall → Answer → List (List ℕ) → Recorded
-with_reply r w o a ws = with_event r w (Respond (reply_of r o a ws)) (lists_with r o a ws)
+abbrev pub with_reply : RecordingModel → ℕ → PendingCall → ReplyWord → List (List ℕ)
+    → RecordingModel
+with_reply r w o a ws = with_event r w (Respond (reply_of_word r o a ws)) (lists_with r o a ws)
 
-abbrev pub answered : Recorded → ℕ → Option PendingCall → Answer → List (List ℕ)
-    → Result Recorded Kind
-answered r w None a ws = Err kinds.Idle
-answered r w (Some o) a ws = fault_or (suit_fault r.heading o a ws) (with_reply r w o a ws)
+abbrev pub after_reply : RecordingModel → ℕ → Option PendingCall → ReplyWord → List (List ℕ)
+    → Result RecordingModel FaultKind
+after_reply r w None a ws = Err kinds.Idle
+after_reply r w (Some o) a ws = fault_or (suit_fault r.heading o a ws) (with_reply r w o a ws)
 
-abbrev pub returned : Recorded → Option ℕ → Answer → List (List ℕ) → Result Recorded Kind
-returned r None a ws = Err kinds.UnknownName
-returned r (Some w) a ws =
-    if is_bad_answer a ws then Err kinds.BadNumber else answered r w (pending_in r.events w) a ws
+abbrev pub after_response : RecordingModel → Option ℕ → ReplyWord → List (List ℕ)
+    → Result RecordingModel FaultKind
+after_response r None a ws = Err kinds.UnknownName
+after_response r (Some w) a ws =
+    if is_bad_reply a ws then Err kinds.BadNumber else after_reply r w (pending_in r.events w) a ws
 
 -- ANY EVENT
 
 -- the other word for an object, that of the second semaphore of a pair
-abbrev pub other_word : Verb → List (List ℕ) → Option (List ℕ)
+abbrev pub other_word : OpWord → List (List ℕ) → Option (List ℕ)
 other_word verbs.PBoth ws = only_in ws
 other_word _ ws = None
 
-abbrev pub phrased : Recorded → Option Phrase → Result Recorded Kind
-phrased r None = Err kinds.BadLine
-phrased r (Some (Calls w v o ws)) =
-    called r (worker_in r.heading.words w) v (object_in r.heading v o (other_word v ws)) ws
-phrased r (Some (Returns w a ws)) = returned r (worker_in r.heading.words w) a ws
+abbrev pub after_phrase : RecordingModel → Option Phrase → Result RecordingModel FaultKind
+after_phrase r None = Err kinds.BadLine
+after_phrase r (Some (Calls w v o ws)) =
+    after_invocation r (worker_in r.heading.words w) v (object_in r.heading v o (other_word v ws)) ws
+after_phrase r (Some (Returns w a ws)) = after_response r (worker_in r.heading.words w) a ws
 
--- the history after a line of an event, or the least kind of fault of the line
-unfoldable pub event_step : Recorded → List ℕ → Result Recorded Kind
+-- the history after a line of an event, or the lowest kind of fault of the line
+unfoldable pub event_step : RecordingModel → List ℕ → Result RecordingModel FaultKind
 event_step r line = if is_no_line line then Err kinds.BadLine
-    else phrased r (phrase_in (words_of line))
+    else after_phrase r (phrase_in (words_of line))
 
 -- BEFORE THE EVENTS
 
--- what is declared, and the counts at the beginning so far
+-- what is declared so far, and the initial counts
 pub record Draft : Type 0 where
-  pub heading : Headed
+  pub heading : HeadingModel
   pub from : List (ℕ × ℕ)
 
--- what the lines so far have built: nothing; the first line came; a heading; a history; all of one
+-- the stages of reading: before the first line, after it, after the limit, after `run`, after `end`
 pub data Stage : Type 0 where
   Opening : Stage
   Limiting : Stage
   Declaring : Draft → Stage
-  Running : Recorded → Stage
-  Ended : Recorded → Stage
+  Running : RecordingModel → Stage
+  Ended : RecordingModel → Stage
 
-abbrev pub draft_of : Headed → Draft
+abbrev pub draft_of : HeadingModel → Draft
 draft_of h = record { heading = h; from = [] }
 
--- the digits after the word `limit`, and nothing else
+-- the digits of a line `limit n`
 abbrev pub limit_digits : List (List ℕ) → Option (List ℕ)
 limit_digits (w ∷ n ∷ []) = if bytes_eq w (codes "limit") && is_number_form n then Some n else None
 limit_digits _ = None
 
-abbrev pub limited : Option ℕ → Result Draft Kind
-limited None = Err kinds.BadNumber
-limited (Some n) = if is_limit Two n then Ok (draft_of (opened Two n [])) else Err kinds.BadNumber
+abbrev pub after_limit : Option ℕ → Result Draft FaultKind
+after_limit None = Err kinds.BadNumber
+after_limit (Some n) =
+    if is_limit Two n then Ok (draft_of (empty_heading Two n [])) else Err kinds.BadNumber
 
-abbrev pub limit_or : Option (List ℕ) → Result Draft Kind
+abbrev pub limit_or : Option (List ℕ) → Result Draft FaultKind
 limit_or None = Err kinds.BadLine
-limit_or (Some digits) = limited (number_of digits)
+limit_or (Some digits) = after_limit (number_in_word digits)
 
-unfoldable pub limit_step : List ℕ → Result Draft Kind
+unfoldable pub limit_step : List ℕ → Result Draft FaultKind
 limit_step line = if nat_lt 8192 (length line) then Err kinds.BadLine
     else limit_or (limit_digits (words_of line))
 
--- THE COUNTS AT THE BEGINNING
+-- THE INITIAL COUNTS
 
 -- the words of a line `from E n`: an eventcount, and digits
 abbrev pub from_words : List (List ℕ) → Option (List ℕ × List ℕ)
@@ -315,18 +319,18 @@ from_words (w ∷ e ∷ n ∷ []) = if bytes_eq w (codes "from") && is_number_fo
     else None
 from_words _ = None
 
--- the count, if it may be one at the beginning: from 1 to the limit
-abbrev pub start_in : Headed → Option ℕ → Option ℕ
+-- the number, if it may be an initial count: from 1 to the limit
+abbrev pub start_in : HeadingModel → Option ℕ → Option ℕ
 start_in h None = None
 start_in h (Some n) = if nat_le 1 n && nat_le n h.setup.limit then Some n else None
 
--- whether an eventcount is declared after those that have a count already
+-- whether an eventcount is declared after those that have an initial count already
 abbrev pub is_later : List (ℕ × ℕ) → ℕ → Bool
 is_later [] e = true
 is_later (p ∷ []) e = nat_lt p.0 e
 is_later (p ∷ q ∷ ps) e = is_later (q ∷ ps) e
 
-abbrev pub from_fault : Draft → ℕ → Option Kind
+abbrev pub from_fault : Draft → ℕ → Option FaultKind
 from_fault d e = first_that (
     (is_owned d.heading.groups (objects.Event e), kinds.Hidden)
     ∷ (not (is_later d.from e), kinds.BadOrder)
@@ -335,19 +339,19 @@ from_fault d e = first_that (
 abbrev pub with_start : Draft → ℕ → ℕ → Draft
 with_start d e n = record d { from = d.from ++ (e, n) ∷ [] }
 
-abbrev pub started_at : Draft → ℕ → Option ℕ → Result Draft Kind
-started_at d e None = Err kinds.BadNumber
-started_at d e (Some n) = fault_or (from_fault d e) (with_start d e n)
+abbrev pub with_start_or_fault : Draft → ℕ → Option ℕ → Result Draft FaultKind
+with_start_or_fault d e None = Err kinds.BadNumber
+with_start_or_fault d e (Some n) = fault_or (from_fault d e) (with_start d e n)
 
-abbrev pub started : Draft → Option ℕ → List ℕ → Result Draft Kind
-started d None digits = Err kinds.UnknownName
-started d (Some e) digits = started_at d e (start_in d.heading (number_of digits))
+abbrev pub after_start : Draft → Option ℕ → List ℕ → Result Draft FaultKind
+after_start d None digits = Err kinds.UnknownName
+after_start d (Some e) digits = with_start_or_fault d e (start_in d.heading (number_in_word digits))
 
-abbrev pub from_or : Draft → Option (List ℕ × List ℕ) → Result Draft Kind
+abbrev pub from_or : Draft → Option (List ℕ × List ℕ) → Result Draft FaultKind
 from_or d None = Err kinds.BadLine
-from_or d (Some (e, n)) = started d (event_in d.heading.words e) n
+from_or d (Some (e, n)) = after_start d (event_in d.heading.words e) n
 
-unfoldable pub from_step : Draft → List ℕ → Result Draft Kind
+unfoldable pub from_step : Draft → List ℕ → Result Draft FaultKind
 from_step d line = if is_no_line line then Err kinds.BadLine
     else from_or d (from_words (words_of line))
 
@@ -356,55 +360,56 @@ abbrev pub opens_from : List (List ℕ) → Bool
 opens_from [] = false
 opens_from (w ∷ ws) = bytes_eq w (codes "from")
 
--- whether it is a line on counts at the beginning: it begins with `from` and the workers came, or
--- such a line came before
+-- whether a line must be of the form `from E n`: it begins with `from` and the workers are
+-- declared, or such a line came before
 abbrev pub is_from : Draft → List ℕ → Bool
 is_from d line =
     nat_lt 0 (length d.from) || (opens_from (words_of line) && nat_lt 0 d.heading.setup.workers)
 
-abbrev pub headed_on : Draft → Result Headed HeadFault → Result Draft Kind
-headed_on d (Ok h) = Ok (record d { heading = h })
-headed_on d (Err fault) = Err (kind_of_head fault)
+abbrev pub map_heading : Draft → Result HeadingModel HeadFault → Result Draft FaultKind
+map_heading d (Ok h) = Ok (record d { heading = h })
+map_heading d (Err fault) = Err (kind_of_head fault)
 
--- the draft after a line, or the least kind of fault of the line
-abbrev pub draft_step : Draft → List ℕ → Result Draft Kind
+-- the draft after a line, or the lowest kind of fault of the line
+abbrev pub draft_step : Draft → List ℕ → Result Draft FaultKind
 draft_step d line = if is_from d line then from_step d line
-    else headed_on d (head_step d.heading line)
+    else map_heading d (head_step d.heading line)
 
 -- ANY LINE
 
--- a history of this heading, before its events
-abbrev pub recorded_of : Draft → Recorded
+-- a history of this draft, before its first event
+abbrev pub recorded_of : Draft → RecordingModel
 recorded_of d = record { heading = d.heading; from = d.from; events = []; lists = [] }
 
--- the line may be the last before the events
+-- whether the line is `run`, and the workers are declared
 abbrev pub is_run : Draft → List ℕ → Bool
 is_run d line = bytes_eq line (codes "run") && nat_lt 0 d.heading.setup.workers
 
-abbrev pub drafted_on : Result Draft Kind → Result Stage Kind
-drafted_on (Ok d) = Ok (Declaring d)
-drafted_on (Err kind) = Err kind
+abbrev pub map_draft : Result Draft FaultKind → Result Stage FaultKind
+map_draft (Ok d) = Ok (Declaring d)
+map_draft (Err kind) = Err kind
 
-abbrev pub ran_on : Result Recorded Kind → Result Stage Kind
-ran_on (Ok r) = Ok (Running r)
-ran_on (Err kind) = Err kind
+abbrev pub map_running : Result RecordingModel FaultKind → Result Stage FaultKind
+map_running (Ok r) = Ok (Running r)
+map_running (Err kind) = Err kind
 
--- the stage after a line, or the least kind of fault of the line
-unfoldable pub step : Stage → List ℕ → Result Stage Kind
+-- the stage after a line, or the lowest kind of fault of the line
+unfoldable pub step : Stage → List ℕ → Result Stage FaultKind
 step Opening line = if bytes_eq line (codes "evc-calls 1") then Ok Limiting else Err kinds.BadHeader
-step Limiting line = drafted_on (limit_step line)
+step Limiting line = map_draft (limit_step line)
 step (Declaring d) line = if is_run d line then Ok (Running (recorded_of d))
-    else drafted_on (draft_step d line)
+    else map_draft (draft_step d line)
 step (Running r) line = if bytes_eq line (codes "end") then Ok (Ended r)
-    else ran_on (event_step r line)
+    else map_running (event_step r line)
 step (Ended r) line = Err kinds.BadLine
 
--- what a call answered and left is what the step gives, unless memory ran out
-abbrev pub StepFails : {S : Type 0} → LineFault → Result S Kind → Type 0
+-- a function returned, and left, what the step gives; if memory ran out, nothing is said of the
+-- step
+abbrev pub StepFails : {S : Type 0} → LineFault → Result S FaultKind → Type 0
 StepFails faults.Memory stepped = Unit {0}
 StepFails (faults.Of kind) stepped = stepped ≡ Err kind
 
-abbrev pub Steps : {S : Type 0} → Result (Unit {0}) LineFault → Result S Kind → S → Type 0
+abbrev pub Steps : {S : Type 0} → Result (Unit {0}) LineFault → Result S FaultKind → S → Type 0
 Steps (Ok x) stepped new = stepped ≡ Ok new
 Steps (Err e) stepped new = StepFails e stepped
 

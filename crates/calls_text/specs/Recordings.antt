@@ -1,10 +1,10 @@
--- A history of calls under a heading.
+-- A history of calls: what its header declares, and its events.
 use Rattle.std.specs.Prelude.{◌≡◌, ℕ, ◌+◌, ◌-◌, ◌<◌, ◌==◌, nat_lt, List, [], ◌∷◌, length, map}
 use Rattle.std.specs.Prelude.{reverse}
 use Rattle.std.specs.Prelude.{Some, slice_get, if◌then◌else◌}
 use Rattle.std.specs.Option.{option_map_or}
 use Rattle.std.specs.Global.{Vec}
-use Rattle.ec_heading.specs.Headed.{Headed}
+use Rattle.ec_heading.specs.HeadingModel.{HeadingModel}
 use Rattle.ec_heading.specs.declared.group.Group.{Group}
 use Rattle.ec_heading.specs.declared.group.Group.TheVariants as groups
 use Rattle.calls_core.specs.declared.history.Kind.{Kind}
@@ -13,49 +13,49 @@ use Rattle.calls_core.specs.declared.history.Kind.TheVariants.{Cell, Database}
 use Rattle.calls_core.specs.declared.history.Event.{Event}
 use Rattle.calls_core.specs.Histories.{IsHistory, clock}
 
--- what is declared, the eventcounts with a count at the beginning and these counts, the events in
--- order, and the lists of numbers by which the values of databases go
-pub record Recorded : Type 0 where
-  pub heading : Headed
+-- what is declared, the initial counts by eventcount, the events in order, and the lists of numbers
+-- that databases store
+pub record RecordingModel : Type 0 where
+  pub heading : HeadingModel
   pub from : List (ℕ × ℕ)
   pub events : List Event
   pub lists : List (List ℕ)
 
 -- THE OBJECTS: first the eventcounts, then the sequencers, the cells, the semaphores as one object,
--- and the groups, of which databases take calls
+-- and the groups. Of the groups only databases are called
 
-abbrev pub first_sequencer : Headed → ℕ
+abbrev pub first_sequencer : HeadingModel → ℕ
 first_sequencer h = length h.setup.events
 
-abbrev pub first_cell : Headed → ℕ
+abbrev pub first_cell : HeadingModel → ℕ
 first_cell h = length h.setup.events + length h.setup.takers
 
-abbrev pub semaphores : Headed → ℕ
+abbrev pub semaphores : HeadingModel → ℕ
 semaphores h = length h.setup.events + length h.setup.takers + length h.setup.cells
 
-abbrev pub first_group : Headed → ℕ
+abbrev pub first_group : HeadingModel → ℕ
 first_group h = semaphores h + 1
 
--- the count of an eventcount at the beginning
-abbrev pub start_of : List (ℕ × ℕ) → ℕ → ℕ
-start_of [] e = 0
-start_of (p ∷ ps) e = if p.0 == e then p.1 else start_of ps e
+-- the initial count of an eventcount
+abbrev pub start_count : List (ℕ × ℕ) → ℕ → ℕ
+start_count [] e = 0
+start_count (p ∷ ps) e = if p.0 == e then p.1 else start_count ps e
 
--- the units of a semaphore at first
+-- the initial units of a semaphore
 abbrev pub initial_of : Group → ℕ
 initial_of (groups.Semaphore s) = s.initial
 initial_of _ = 0
 
--- the cells of a database
+-- how many cells a database has
 abbrev pub cells_of : Group → ℕ
 cells_of (groups.Database d) = d.cells
 cells_of _ = 0
 
--- from index n on this is what each of so many objects is
+-- count objects from index n on are of these kinds
 abbrev pub HasFrom : List Kind → ℕ → ℕ → (ℕ → Kind) → Type 0
 HasFrom kinds n count kind = (i : ℕ) → i < count → slice_get kinds (n + i) ≡ Some (kind i)
 
--- the semaphores go by the places of their groups
+-- the semaphores are one object, with their units by the indices of their groups
 abbrev pub HasUnits : List Kind → ℕ → List Group → Type 0
 HasUnits kinds n gs =
     (units : Vec ℕ) × (slice_get kinds n ≡ Some (Semaphores units))
@@ -66,23 +66,23 @@ HasGroups kinds n gs =
     (i : ℕ) (g : Group) → slice_get gs i ≡ Some g
     → slice_get kinds (n + i) ≡ Some (Database (cells_of g))
 
--- these are the objects of the heading
-pub record AreKinds (h : Headed) (from : List (ℕ × ℕ)) (kinds : List Kind) : Type 0 where
+-- these are the kinds of the objects that are declared
+pub record AreKinds (h : HeadingModel) (from : List (ℕ × ℕ)) (kinds : List Kind) : Type 0 where
   pub count : length kinds ≡ first_group h + length h.groups
-  pub events : HasFrom kinds 0 (length h.setup.events) (λ e. Eventcount (start_of from e))
+  pub events : HasFrom kinds 0 (length h.setup.events) (λ e. Eventcount (start_count from e))
   pub sequencers : HasFrom kinds (first_sequencer h) (length h.setup.takers) (λ q. Sequencer)
   pub cells : HasFrom kinds (first_cell h) (length h.setup.cells) (λ x. Cell)
   pub units : HasUnits kinds (semaphores h) h.groups
   pub databases : HasGroups kinds (first_group h) h.groups
 
 -- how many numbers a get of the object with this index returns
-abbrev pub numbers_of : Headed → ℕ → ℕ
+abbrev pub numbers_of : HeadingModel → ℕ → ℕ
 numbers_of h k =
     if nat_lt k (first_group h) then 1
     else option_map_or cells_of (slice_get h.groups (k - first_group h)) 0
 
 -- the events are a history of these objects, the event at index i at position i
-pub record IsRecording (r : Recorded) (kinds : List Kind) : Type 0 where
+pub record IsRecording (r : RecordingModel) (kinds : List Kind) : Type 0 where
   pub objects : AreKinds r.heading r.from kinds
   pub history : IsHistory kinds (reverse r.events)
   pub positions : clock (reverse r.events) ≡ length r.events

@@ -23,8 +23,8 @@ abbrev pub tally_at : Tally → ℕ → ℕ → ℕ
 tally_at t w e = slice_index_or (slice_index_or t.counts w []) e 0
 
 -- these are the numbers of the advances among these events
-abbrev pub IsCounted : Tally → List Event → Type 0
-IsCounted t events = (w e : ℕ) → w < 16 → e < 32 → tally_at t w e ≡ advances_by w e events
+abbrev pub IsTallyOf : Tally → List Event → Type 0
+IsTallyOf t events = (w e : ℕ) → w < 16 → e < 32 → tally_at t w e ≡ advances_by w e events
 
 -- one more for this worker and this eventcount, and the same for others
 abbrev pub IsCountedFurther : Tally → Tally → ℕ → ℕ → Type 0

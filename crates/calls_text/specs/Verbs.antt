@@ -1,13 +1,13 @@
--- The words for calls, as a table.
+-- The words for operations, as a table.
 use Rattle.std.specs.Prelude.{ℕ, Bool, true, false, List, Option, Some, None, if◌then◌else◌}
 use Rattle.std.specs.Prelude.{bytes_eq, codes}
-use Rattle.calls_text.specs.declared.verb.Verb.{Verb}
-use Rattle.calls_text.specs.declared.verb.Verb.TheVariants as verbs
+use Rattle.calls_text.specs.declared.verb.OpWord.{OpWord}
+use Rattle.calls_text.specs.declared.verb.OpWord.TheVariants as verbs
 use Rattle.calls_text.specs.declared.verb.Tail.{Tail}
 use Rattle.calls_text.specs.declared.verb.Tail.TheVariants as tails
 
--- the word for a call
-abbrev pub verb_word : Verb → List ℕ
+-- the word for an operation
+abbrev pub verb_word : OpWord → List ℕ
 verb_word verbs.Advance = codes "advance"
 verb_word verbs.Read = codes "read"
 verb_word verbs.Await = codes "await"
@@ -20,8 +20,8 @@ verb_word verbs.PBoth = codes "pboth"
 verb_word verbs.Write = codes "write"
 verb_word verbs.Snapshot = codes "snapshot"
 
--- the call of an object of no group that a word stands for
-abbrev pub object_verb_of : List ℕ → Option Verb
+-- the operation on an object of no group that a word names
+abbrev pub object_verb_of : List ℕ → Option OpWord
 object_verb_of w =
     if bytes_eq w (codes "advance") then Some verbs.Advance
     else (if bytes_eq w (codes "read") then Some verbs.Read
@@ -30,8 +30,8 @@ object_verb_of w =
     else (if bytes_eq w (codes "put") then Some verbs.Put
     else (if bytes_eq w (codes "get") then Some verbs.Get else None)))))
 
--- the call of a group that a word stands for
-abbrev pub group_verb_of : List ℕ → Option Verb
+-- the operation on a group that a word names
+abbrev pub group_verb_of : List ℕ → Option OpWord
 group_verb_of w =
     if bytes_eq w (codes "p") then Some verbs.P
     else (if bytes_eq w (codes "v") then Some verbs.V
@@ -39,25 +39,26 @@ group_verb_of w =
     else (if bytes_eq w (codes "write") then Some verbs.Write
     else (if bytes_eq w (codes "snapshot") then Some verbs.Snapshot else None))))
 
-abbrev pub or_else : Option Verb → Option Verb → Option Verb
+abbrev pub or_else : Option OpWord → Option OpWord → Option OpWord
 or_else None other = other
 or_else (Some v) other = Some v
 
--- the call that a word stands for
-abbrev pub verb_of : List ℕ → Option Verb
-verb_of w = or_else (object_verb_of w) (group_verb_of w)
+-- the operation that a word names
+abbrev pub parse_op_word : List ℕ → Option OpWord
+parse_op_word w = or_else (object_verb_of w) (group_verb_of w)
 
--- what stands after the object
-abbrev pub tail_of : Verb → Tail
+-- the form of what follows the object
+abbrev pub tail_of : OpWord → Tail
 tail_of verbs.Await = tails.Digits
 tail_of verbs.Put = tails.Digits
 tail_of verbs.Write = tails.ManyDigits
 tail_of verbs.PBoth = tails.Word
 tail_of _ = tails.Nothing
 
--- whether it advances or writes; else it observes or reads
-abbrev pub is_giving : Verb → Bool
-is_giving verbs.Advance = true
-is_giving verbs.Put = true
-is_giving verbs.Write = true
-is_giving _ = false
+-- whether it is an advance, a put or a write, which need another right than the other calls of
+-- their object
+abbrev pub is_update : OpWord → Bool
+is_update verbs.Advance = true
+is_update verbs.Put = true
+is_update verbs.Write = true
+is_update _ = false

@@ -1,4 +1,4 @@
-//! Why a text is no history.
+//! Why a text is not a history.
 ghost use Rattle.std.specs.Prelude.{◌≡◌};
 ghost use Rattle.calls_text.specs.Faults.{kind_number, kind_name, kind_of_head, line_fault};
 ghost use Rattle.calls_text.specs.Causes.{cause_of, header_cause, line_cause, has_tab, has_space};
@@ -6,23 +6,24 @@ ghost use Rattle.calls_text.specs.Causes.{cause_of, header_cause, line_cause, ha
 use ec_heading::{HeadFault, LINE_MAX};
 use thiserror::Error;
 
-/// Why a line is rejected: the least of these that holds of it. The numbers of those that scripts
-/// have too are the same there.
+/// Why a line is rejected: the first of these that holds.
+///
+/// A kind that scripts also have has the same number there.
 #[derive(Clone, Copy, Debug, PartialEq, Eq, Error)]
-pub enum Kind {
-    /// The line in the place of the first one is not `evc-calls 1`.
+pub enum FaultKind {
+    /// The first line of the history is not `evc-calls 1`.
     #[error("evc-calls 1 is expected")]
     BadHeader,
-    /// The line has more than 8192 bytes or none of the forms allowed in its place.
+    /// The line has more than 8192 bytes, or none of the forms that may come next.
     #[error("no line of this form may stand here")]
     BadLine,
-    /// A word in the place of a new name is not a name.
+    /// A word that must be a new name is not a name.
     #[error("a word is no name")]
     BadName,
     /// A new name was used before, or a list names a worker twice.
     #[error("a name was used before")]
     NameTaken,
-    /// A word in the place of a worker or object spells none of the right sort.
+    /// A word that must name a worker or an object names none of the right sort.
     #[error("a name is not declared")]
     UnknownName,
     /// A number is outside its range, or there are not as many values as cells.
@@ -34,7 +35,7 @@ pub enum Kind {
     /// An object of a group is called by its own name.
     #[error("the object belongs to a group")]
     Hidden,
-    /// A worker stands in both lists of a group, or P on two semaphores names one twice.
+    /// A worker is in both lists of a group, or `pboth` names one semaphore twice.
     #[error("one stands in both roles")]
     TwoRoles,
     /// The worker lacks the right.
@@ -46,10 +47,10 @@ pub enum Kind {
     /// The text ends before an `end` line, or without its last LF.
     #[error("the text ends too early")]
     Unfinished,
-    /// The worker calls, and its call is pending.
+    /// The line is an invocation, and the worker has a pending call.
     #[error("the call of the worker is pending")]
     Busy,
-    /// The worker returns, and has no pending call.
+    /// The line is a response, and the worker has no pending call.
     #[error("the worker has no pending call")]
     Idle,
     /// The reply does not suit the pending call.
@@ -61,28 +62,28 @@ pub enum Kind {
     AtLimit,
 }
 
-impl Kind {
-    /// Returns its place in the order, from 1 to 16.
+impl FaultKind {
+    /// Returns the number of the kind, from 1 to 16.
     pub fn number(self) -> u64
         ensures { result ≡ kind_number self }
     {
         match self {
-            Kind::BadHeader => 1,
-            Kind::BadLine => 2,
-            Kind::BadName => 3,
-            Kind::NameTaken => 4,
-            Kind::UnknownName => 5,
-            Kind::BadNumber => 6,
-            Kind::TooMany => 7,
-            Kind::Hidden => 8,
-            Kind::TwoRoles => 9,
-            Kind::NoRight => 10,
-            Kind::BadOrder => 11,
-            Kind::Unfinished => 12,
-            Kind::Busy => 13,
-            Kind::Idle => 14,
-            Kind::Unsuited => 15,
-            Kind::AtLimit => 16,
+            FaultKind::BadHeader => 1,
+            FaultKind::BadLine => 2,
+            FaultKind::BadName => 3,
+            FaultKind::NameTaken => 4,
+            FaultKind::UnknownName => 5,
+            FaultKind::BadNumber => 6,
+            FaultKind::TooMany => 7,
+            FaultKind::Hidden => 8,
+            FaultKind::TwoRoles => 9,
+            FaultKind::NoRight => 10,
+            FaultKind::BadOrder => 11,
+            FaultKind::Unfinished => 12,
+            FaultKind::Busy => 13,
+            FaultKind::Idle => 14,
+            FaultKind::Unsuited => 15,
+            FaultKind::AtLimit => 16,
         }
     }
 
@@ -91,27 +92,27 @@ impl Kind {
         ensures { result.now ≡ kind_name self }
     {
         match self {
-            Kind::BadHeader => "BadHeader",
-            Kind::BadLine => "BadLine",
-            Kind::BadName => "BadName",
-            Kind::NameTaken => "NameTaken",
-            Kind::UnknownName => "UnknownName",
-            Kind::BadNumber => "BadNumber",
-            Kind::TooMany => "TooMany",
-            Kind::Hidden => "Hidden",
-            Kind::TwoRoles => "TwoRoles",
-            Kind::NoRight => "NoRight",
-            Kind::BadOrder => "BadOrder",
-            Kind::Unfinished => "Unfinished",
-            Kind::Busy => "Busy",
-            Kind::Idle => "Idle",
-            Kind::Unsuited => "Unsuited",
-            Kind::AtLimit => "AtLimit",
+            FaultKind::BadHeader => "BadHeader",
+            FaultKind::BadLine => "BadLine",
+            FaultKind::BadName => "BadName",
+            FaultKind::NameTaken => "NameTaken",
+            FaultKind::UnknownName => "UnknownName",
+            FaultKind::BadNumber => "BadNumber",
+            FaultKind::TooMany => "TooMany",
+            FaultKind::Hidden => "Hidden",
+            FaultKind::TwoRoles => "TwoRoles",
+            FaultKind::NoRight => "NoRight",
+            FaultKind::BadOrder => "BadOrder",
+            FaultKind::Unfinished => "Unfinished",
+            FaultKind::Busy => "Busy",
+            FaultKind::Idle => "Idle",
+            FaultKind::Unsuited => "Unsuited",
+            FaultKind::AtLimit => "AtLimit",
         }
     }
 }
 
-/// What is wrong with a line that has no form of its place: the first of these that holds of it.
+/// What is wrong with the form of a rejected line: the first of these that holds.
 #[derive(Clone, Copy, Debug, PartialEq, Eq)]
 pub enum Cause {
     /// It has more than 8192 bytes.
@@ -126,9 +127,9 @@ pub enum Cause {
     Empty,
     /// It begins or ends with a space, or has two in a row.
     Space,
-    /// It is the first line of a trace, if that of a history is expected.
+    /// It is the first line of a trace, and not of a history.
     Trace,
-    /// It is the first line of a script, if that of a history is expected.
+    /// It is the first line of a script, and not of a history.
     Script,
     /// None of these.
     Other,
@@ -137,37 +138,41 @@ pub enum Cause {
 /// Why no history was read.
 #[derive(Clone, Copy, Debug, PartialEq, Eq, Error)]
 pub enum TextFault {
-    /// The first faulty line, counted from 1, its least kind, and what is wrong with its form.
+    /// The first faulty line, counted from 1, its lowest kind, and what is wrong with its form.
     #[error("line {line}: {kind}")]
-    At { line: u64, kind: Kind, cause: Cause },
+    At {
+        line: u64,
+        kind: FaultKind,
+        cause: Cause,
+    },
     /// An allocation failed.
     #[error("out of memory")]
     Memory,
 }
 
-/// Why a line was not taken.
+/// The error of a line: the kind of its fault, or that an allocation failed.
 #[derive(Clone, Copy, Debug, PartialEq, Eq)]
 pub(crate) enum LineFault {
-    Of(Kind),
+    Of(FaultKind),
     Memory,
 }
 
-/// Returns the kind of a fault of a line of a heading.
-fn kind_of_head(fault: HeadFault) -> Kind
+/// Returns the kind of a fault of a header line. (`line_fault` passes no `Memory`.)
+fn kind_of_head(fault: HeadFault) -> FaultKind
     ensures { result ≡ kind_of_head fault }
 {
     match fault {
-        HeadFault::BadLine | HeadFault::Memory => Kind::BadLine,
-        HeadFault::BadName => Kind::BadName,
-        HeadFault::NameTaken => Kind::NameTaken,
-        HeadFault::UnknownName => Kind::UnknownName,
-        HeadFault::BadNumber => Kind::BadNumber,
-        HeadFault::TooMany => Kind::TooMany,
-        HeadFault::TwoRoles => Kind::TwoRoles,
+        HeadFault::BadLine | HeadFault::Memory => FaultKind::BadLine,
+        HeadFault::BadName => FaultKind::BadName,
+        HeadFault::NameTaken => FaultKind::NameTaken,
+        HeadFault::UnknownName => FaultKind::UnknownName,
+        HeadFault::BadNumber => FaultKind::BadNumber,
+        HeadFault::TooMany => FaultKind::TooMany,
+        HeadFault::TwoRoles => FaultKind::TwoRoles,
     }
 }
 
-/// Returns why a line was not taken that a heading rejected.
+/// Returns the error of a line, given that of the header.
 pub(crate) fn line_fault(fault: HeadFault) -> LineFault
     ensures { result ≡ line_fault fault }
 {
@@ -191,7 +196,7 @@ fn has_space(line: &[u8]) -> bool
     ec_text::has_blank(line)
 }
 
-/// Returns what is wrong with the form of a line, wherever it stands.
+/// Returns what is wrong with the form of a line, whichever line is expected.
 fn line_cause(line: &[u8]) -> Cause
     ensures { result ≡ line_cause line.now }
 {
@@ -216,7 +221,7 @@ fn line_cause(line: &[u8]) -> Cause
     Cause::Other
 }
 
-/// Returns what is wrong with a line in the place of the first one.
+/// Returns what is wrong with a line that must be `evc-calls 1`.
 fn header_cause(line: &[u8]) -> Cause
     ensures { result ≡ header_cause line.now }
 {
@@ -230,12 +235,12 @@ fn header_cause(line: &[u8]) -> Cause
 }
 
 /// Returns what is wrong with the form of a line with a fault of this kind.
-pub(crate) fn cause_of(kind: Kind, line: &[u8]) -> Cause
+pub(crate) fn cause_of(kind: FaultKind, line: &[u8]) -> Cause
     ensures { result ≡ cause_of kind line.now }
 {
     match kind {
-        Kind::BadHeader => header_cause(line),
-        Kind::BadLine => line_cause(line),
+        FaultKind::BadHeader => header_cause(line),
+        FaultKind::BadLine => line_cause(line),
         _ => Cause::Other,
     }
 }

@@ -1,34 +1,34 @@
-//! The form of a line of an event.
+//! Splits the line of an event into its words, if it has the form of one.
 ghost use Rattle.std.specs.Prelude.{◌≡◌, option_map};
 ghost use Rattle.std.specs.List.{list_all};
 ghost use Rattle.ec_text.specs.Words.{words_of, is_number_form};
 ghost use Rattle.calls_text.specs.Forms.{is_tail, is_word, rest_words, call_in, return_in};
-ghost use Rattle.calls_text.specs.Forms.{answer_of, phrase_in, shown};
+ghost use Rattle.calls_text.specs.Forms.{parse_reply_word, phrase_in, phrase_of_parts};
 
-use crate::verb::{Tail, Verb, verb_of};
+use crate::verb::{OpWord, Tail, parse_op_word};
 use ec_text::{cut_word, is_number_form};
 
-/// What a response says.
+/// The form of the reply in a response.
 #[derive(Clone, Copy, Debug, PartialEq, Eq)]
-pub(crate) enum Answer {
+pub(crate) enum ReplyWord {
     Done,
     Timeout,
     /// One number or more.
     Numbers,
 }
 
-/// A line of one of the forms, by its words.
+/// The words of the line of an event.
 #[derive(Clone, Copy)]
 pub(crate) enum Parts<'a> {
     Calls {
         worker: &'a [u8],
-        verb: Verb,
+        verb: OpWord,
         object: &'a [u8],
         rest: Option<&'a [u8]>,
     },
     Returns {
         worker: &'a [u8],
-        answer: Answer,
+        answer: ReplyWord,
         list: &'a [u8],
     },
 }
@@ -47,7 +47,7 @@ fn are_number_forms(list: &[u8]) -> bool
     }
 }
 
-/// Returns whether this is one word.
+/// Returns whether the list is one word.
 #[tactic(auto, using(crate::proofs::Words::some_words))]
 fn is_one_word(list: &[u8]) -> bool
     ensures { result ≡ is_tail Tail.Word (words_of list.now) }
@@ -56,7 +56,7 @@ fn is_one_word(list: &[u8]) -> bool
     rest.is_none()
 }
 
-/// Returns whether this is one word that has the form of a number.
+/// Returns whether the list is one word that has the form of a number.
 #[tactic(auto, using(crate::proofs::Words::two_words))]
 fn is_one_number(list: &[u8]) -> bool
     ensures { result ≡ is_tail Tail.Digits (words_of list.now) }
@@ -65,7 +65,7 @@ fn is_one_number(list: &[u8]) -> bool
     rest.is_none() && is_number_form(word)
 }
 
-/// Returns whether this is such a tail.
+/// Returns whether the rest of a line has this form.
 #[tactic(auto, using(crate::proofs::Words::some_words))]
 fn is_tail(tail: Tail, rest: Option<&[u8]>) -> bool
     ensures { result ≡ is_tail tail (rest_words rest.entry) }
@@ -79,14 +79,14 @@ fn is_tail(tail: Tail, rest: Option<&[u8]>) -> bool
     }
 }
 
-/// Returns the parts of an invocation, from the word of the call on.
+/// Returns the parts of an invocation, given its line after `calls`.
 fn call_of<'a>(worker: &'a [u8], line: &'a [u8]) -> Option<Parts<'a>>
-    ensures { option_map shown result ≡ call_in worker.now (words_of line.now) }
+    ensures { option_map phrase_of_parts result ≡ call_in worker.now (words_of line.now) }
 {
     let (word, Some(line)) = cut_word(line) else {
         return None;
     };
-    let verb = verb_of(word)?;
+    let verb = parse_op_word(word)?;
     let (object, rest) = cut_word(line);
     if !is_tail(verb.tail(), rest) {
         return None;
@@ -99,7 +99,7 @@ fn call_of<'a>(worker: &'a [u8], line: &'a [u8]) -> Option<Parts<'a>>
     })
 }
 
-/// Returns whether this is this one word.
+/// Returns whether the list is this one word.
 #[tactic(auto, using(crate::proofs::Words::two_words))]
 fn is_word(word: &[u8], list: &[u8]) -> bool
     ensures { result ≡ is_word word.now (words_of list.now) }
@@ -108,28 +108,28 @@ fn is_word(word: &[u8], list: &[u8]) -> bool
     rest.is_none() && first == word
 }
 
-/// Returns what a response says.
+/// Returns the form of a reply, given the line after `returns`.
 #[tactic(auto, using(crate::proofs::Words::some_words))]
-fn answer_of(list: &[u8]) -> Option<Answer>
-    ensures { result ≡ answer_of (words_of list.now) }
+fn parse_reply_word(list: &[u8]) -> Option<ReplyWord>
+    ensures { result ≡ parse_reply_word (words_of list.now) }
 {
     if is_word(b"done".as_slice(), list) {
-        return Some(Answer::Done);
+        return Some(ReplyWord::Done);
     }
     if is_word(b"timeout".as_slice(), list) {
-        return Some(Answer::Timeout);
+        return Some(ReplyWord::Timeout);
     }
     if are_number_forms(list) {
-        return Some(Answer::Numbers);
+        return Some(ReplyWord::Numbers);
     }
     None
 }
 
-/// Returns the parts of a response, from what it says on.
+/// Returns the parts of a response, given its line after `returns`.
 fn return_of<'a>(worker: &'a [u8], list: &'a [u8]) -> Option<Parts<'a>>
-    ensures { option_map shown result ≡ return_in worker.now (words_of list.now) }
+    ensures { option_map phrase_of_parts result ≡ return_in worker.now (words_of list.now) }
 {
-    let answer = answer_of(list)?;
+    let answer = parse_reply_word(list)?;
     Some(Parts::Returns {
         worker,
         answer,
@@ -137,10 +137,10 @@ fn return_of<'a>(worker: &'a [u8], list: &'a [u8]) -> Option<Parts<'a>>
     })
 }
 
-/// Returns the parts of a line of one of the forms.
+/// Returns the parts of the line of an event, or `None` if it has not the form of one.
 #[tactic(auto, unfolding(crate::specs::Forms::phrase_in))]
-pub(crate) fn parts_of(line: &[u8]) -> Option<Parts<'_>>
-    ensures { option_map shown result ≡ phrase_in (words_of line.now) }
+pub(crate) fn split_event(line: &[u8]) -> Option<Parts<'_>>
+    ensures { option_map phrase_of_parts result ≡ phrase_in (words_of line.now) }
 {
     let (worker, Some(line)) = cut_word(line) else {
         return None;

@@ -18,7 +18,7 @@ pub fn first_cell(heading: &Heading) -> usize
     ensures { result ≡ first_cell heading.now }
 {
     let setup = heading.setup();
-    setup.known();
+    setup.invariant();
     setup.events() + setup.sequencers()
 }
 
@@ -27,11 +27,11 @@ pub fn first_group(heading: &Heading) -> usize
     ensures { result ≡ first_group heading.now }
 {
     let setup = heading.setup();
-    setup.known();
+    setup.invariant();
     first_cell(heading) + setup.cells() + 1
 }
 
-/// Returns how many cells a database has, 0 of another group.
+/// Returns how many cells a database has, or 0 for another group.
 pub(crate) fn cells_of(group: &Group) -> usize
     ensures { result ≡ cells_of group.now }
 {

@@ -16,11 +16,10 @@ mod stage;
 mod tally;
 mod verb;
 
-pub use fault::{Cause, Kind, TextFault};
-pub use following::{Followed, Follower};
+pub use fault::{Cause, FaultKind, TextFault};
+pub use following::{Follower, HistoryLine};
 pub use index::{first_cell, first_group, first_sequencer, numbers_of};
-pub use laws::{no_text_begins_another, prefix_is_refused, read_is_spelled, spelled_is_read};
+pub use laws::{prefix_is_refused, read_is_spelled, spelled_is_read, texts_are_prefix_free};
 pub use lists::Lists;
-pub use object::{has_cell, has_count, has_line};
 pub use reading::{Read, read_history};
 pub use recording::Recording;

@@ -1,4 +1,4 @@
-//! The lists of numbers that databases store, each by a number.
+//! Interns the lists of numbers that databases store: equal lists have one number.
 ghost use Rattle.std.specs.Prelude.{◌≡◌, [], IfOk, OnErr, OnOk, option_map, slice_get};
 ghost use Rattle.calls_text.specs.Lists.{is_zeros, lists_after, list_number};
 
@@ -6,8 +6,9 @@ use indexmap::IndexSet;
 use std::alloc::{AllocError, Global};
 use std::marker::Model;
 
-/// Different lists of numbers, of which not all are 0, in the order in which they were added. The
-/// list at index i has the number i + 1, and a list of zeros has 0.
+/// Interned lists of numbers, in the order in which they were added.
+///
+/// The list at index i has the number i + 1. A list of zeros has the number 0 and is not stored.
 #[derive(Drop)]
 pub struct Lists {
     table: IndexSet<Vec<u64>>,
@@ -30,7 +31,7 @@ fn is_zeros(list: &[u64]) -> bool
 }
 
 impl Lists {
-    /// Returns none.
+    /// Returns a table without lists.
     pub(crate) fn new(alloc: Global) -> Lists
         ensures { result ≡ [] }
     {

@@ -1,29 +1,30 @@
-//! What the word of an object stands for.
+//! Finds the object that the words of a call name, and says who may call it.
 ghost use Rattle.std.specs.Prelude.{◌≡◌, option_map};
 ghost use Rattle.std.specs.Option.{option_and_then};
-ghost use Rattle.calls_text.specs.Objects.{group_in, semaphore_of, database_of, semaphore_in};
-ghost use Rattle.calls_text.specs.Objects.{database_in, both_of, pair_of, object_in, has_count};
-ghost use Rattle.calls_text.specs.Objects.{has_line, has_cell, owns, is_owned, has_right};
+ghost use Rattle.ec_heading.specs.Groups.{both_of};
+ghost use Rattle.calls_text.specs.Objects.{group_in, semaphore_in, database_in, semaphore_pair};
+ghost use Rattle.calls_text.specs.Objects.{object_in};
+ghost use Rattle.calls_text.specs.Objects.{owns, is_owned, has_right};
 
-use crate::verb::Verb;
+use crate::verb::OpWord;
 use ec_count::{CellId, EventId, SeqId, Setup, Target, WorkerId};
 use ec_database::DatabaseShape;
-use ec_heading::{Group, Heading};
+use ec_heading::{Group, Heading, both_of};
 use ec_semaphore::SemaphoreShape;
 
-/// What a call is of. Groups go by their places among the groups, too.
+/// The object of a call. A semaphore or a database comes with its index among the groups.
 #[derive(Clone, Copy)]
 pub(crate) enum Object {
     Event(EventId),
     Sequencer(SeqId),
     Cell(CellId),
     Semaphore(usize, SemaphoreShape),
-    /// The two semaphores, and the common one.
+    /// The two semaphores of a `pboth`, and the semaphore `both`.
     Pair(usize, SemaphoreShape, usize, SemaphoreShape, SemaphoreShape),
     Database(usize, DatabaseShape),
 }
 
-/// Returns the place of the group of a name, and the group.
+/// Returns the group of this name, with its index among the groups.
 fn group_in(heading: &Heading, word: &[u8]) -> Option<(usize, Group)>
     ensures { result ≡ group_in heading.now word.now }
 {
@@ -34,58 +35,28 @@ fn group_in(heading: &Heading, word: &[u8]) -> Option<(usize, Group)>
     Some((place, group))
 }
 
-/// Returns the semaphore that a group is.
-fn semaphore_of(group: Group) -> Option<SemaphoreShape>
-    ensures { result ≡ semaphore_of group }
-{
-    match group {
-        Group::Semaphore(shape) => Some(shape),
-        _ => None,
-    }
-}
-
-/// Returns the database that a group is.
-fn database_of(group: Group) -> Option<DatabaseShape>
-    ensures { result ≡ database_of group }
-{
-    match group {
-        Group::Database(shape) => Some(shape),
-        _ => None,
-    }
-}
-
-/// Returns the semaphore of a name, with its place.
+/// Returns the semaphore of this name, with its index among the groups.
 fn semaphore_in(heading: &Heading, word: &[u8]) -> Option<(usize, SemaphoreShape)>
     ensures { result ≡ semaphore_in heading.now word.now }
 {
     let (place, group) = group_in(heading, word)?;
-    let shape = semaphore_of(group)?;
+    let shape = group.semaphore()?;
     Some((place, shape))
 }
 
-/// Returns the database of a name, with its place.
+/// Returns the database of this name, with its index among the groups.
 fn database_in(heading: &Heading, word: &[u8]) -> Option<(usize, DatabaseShape)>
     ensures { result ≡ database_in heading.now word.now }
 {
     let (place, group) = group_in(heading, word)?;
-    let shape = database_of(group)?;
+    let shape = group.database()?;
     Some((place, shape))
 }
 
-/// Returns the common semaphore, if one is declared.
-fn both_of(groups: &[Group]) -> Option<SemaphoreShape>
-    ensures { result ≡ both_of groups.now }
-{
-    match groups {
-        [] => None,
-        [Group::Both(shape), ..] => Some(*shape),
-        [_, rest @ ..] => both_of(rest),
-    }
-}
-
-/// Returns the two semaphores that a call names, and the common one.
+/// Returns the two semaphores that a `pboth` names, and the semaphore `both`.
 fn pair_in(heading: &Heading, word: &[u8], other: Option<&[u8]>) -> Option<Object>
-    ensures { result ≡ pair_of (both_of heading.now.groups) (semaphore_in heading.now word.now)
+    ensures { result ≡ semaphore_pair (both_of heading.now.groups)
+        (semaphore_in heading.now word.now)
         (option_and_then (semaphore_in heading.now) (option_map (λ w. w.now) other.entry)) }
 {
     let common = both_of(heading.groups())?;
@@ -94,66 +65,31 @@ fn pair_in(heading: &Heading, word: &[u8], other: Option<&[u8]>) -> Option<Objec
     Some(Object::Pair(i, one, j, other, common))
 }
 
-/// Returns what a call is of: the declared object, of the sort that the call asks for, that its
-/// word spells. The second word is that of a pair's second semaphore.
+/// Returns the declared object that a call names, if it is of the sort that the call needs.
+///
+/// `other` is the name of the second semaphore of a `pboth`.
 pub(crate) fn object_in(
     heading: &Heading,
-    verb: Verb,
+    verb: OpWord,
     word: &[u8],
     other: Option<&[u8]>,
 ) -> Option<Object>
     ensures { result ≡ object_in heading.now verb word.now (option_map (λ w. w.now) other.entry) }
 {
     match verb {
-        Verb::Advance | Verb::Read | Verb::Await => Some(Object::Event(heading.event(word)?)),
-        Verb::Ticket => Some(Object::Sequencer(heading.sequencer(word)?)),
-        Verb::Put | Verb::Get => Some(Object::Cell(heading.cell(word)?)),
-        Verb::P | Verb::V => {
+        OpWord::Advance | OpWord::Read | OpWord::Await => Some(Object::Event(heading.event(word)?)),
+        OpWord::Ticket => Some(Object::Sequencer(heading.sequencer(word)?)),
+        OpWord::Put | OpWord::Get => Some(Object::Cell(heading.cell(word)?)),
+        OpWord::P | OpWord::V => {
             let (place, shape) = semaphore_in(heading, word)?;
             Some(Object::Semaphore(place, shape))
         }
-        Verb::PBoth => pair_in(heading, word, other),
-        Verb::Write | Verb::Snapshot => {
+        OpWord::PBoth => pair_in(heading, word, other),
+        OpWord::Write | OpWord::Snapshot => {
             let (place, shape) = database_in(heading, word)?;
             Some(Object::Database(place, shape))
         }
     }
-}
-
-/// Returns whether an eventcount belongs to the group.
-pub fn has_count(group: &Group, event: EventId) -> bool
-    ensures { result ≡ has_count group.now event }
-{
-    match *group {
-        Group::Buffer(shape) => shape.in_count() == event || shape.out_count() == event,
-        Group::Database(shape) => shape.start() == event || shape.done() == event,
-        Group::Semaphore(shape) => shape.count() == event,
-        Group::Both(shape) => shape.count() == event,
-    }
-}
-
-/// Returns whether a sequencer belongs to the group.
-pub fn has_line(group: &Group, sequencer: SeqId) -> bool
-    ensures { result ≡ has_line group.now sequencer }
-{
-    match *group {
-        Group::Buffer(shape) => shape.put_seq() == sequencer || shape.take_seq() == sequencer,
-        Group::Database(shape) => shape.turn() == sequencer,
-        Group::Semaphore(shape) => shape.line() == sequencer,
-        Group::Both(shape) => shape.line() == sequencer,
-    }
-}
-
-/// Returns whether a cell belongs to the group.
-pub fn has_cell(group: &Group, cell: CellId) -> bool
-    ensures { result ≡ has_cell group.now cell }
-{
-    let (first, cells) = match *group {
-        Group::Buffer(shape) => (shape.first_cell(), shape.cells()),
-        Group::Database(shape) => (shape.first_cell(), shape.cells()),
-        Group::Semaphore(_) | Group::Both(_) => return false,
-    };
-    first.get() <= cell.get() && cell.get() < first.get() + cells
 }
 
 /// Returns whether an eventcount, a sequencer or a cell belongs to the group.
@@ -161,9 +97,9 @@ fn owns(object: &Object, group: &Group) -> bool
     ensures { result ≡ owns object.now group.now }
 {
     match *object {
-        Object::Event(event) => has_count(group, event),
-        Object::Sequencer(sequencer) => has_line(group, sequencer),
-        Object::Cell(cell) => has_cell(group, cell),
+        Object::Event(event) => group.has_event(event),
+        Object::Sequencer(sequencer) => group.has_sequencer(sequencer),
+        Object::Cell(cell) => group.has_cell(cell),
         _ => false,
     }
 }
@@ -175,13 +111,15 @@ pub(crate) fn is_owned(groups: &[Group], object: &Object) -> bool
     groups.iter().any(|group| owns(object, group))
 }
 
-/// Returns whether a worker may make such a call of the object.
-pub(crate) fn has_right(setup: &Setup, worker: WorkerId, giving: bool, object: &Object) -> bool
-    ensures { result ≡ has_right setup.now worker giving object.now }
+/// Returns whether the declarations allow a worker such a call of the object.
+///
+/// `giving` says whether the call is an advance, a put or a write.
+pub(crate) fn has_right(setup: &Setup, worker: WorkerId, update: bool, object: &Object) -> bool
+    ensures { result ≡ has_right setup.now worker update object.now }
 {
     match *object {
         Object::Event(event) => {
-            if giving {
+            if update {
                 setup.component_of(event, worker).is_some()
             } else {
                 setup.may_observe(event, worker)
@@ -189,7 +127,7 @@ pub(crate) fn has_right(setup: &Setup, worker: WorkerId, giving: bool, object: &
         }
         Object::Sequencer(sequencer) => setup.may_take(sequencer, worker),
         Object::Cell(cell) => {
-            if giving {
+            if update {
                 setup.may_write(cell, worker)
             } else {
                 setup.may_read(cell, worker)
@@ -202,7 +140,7 @@ pub(crate) fn has_right(setup: &Setup, worker: WorkerId, giving: bool, object: &
                 && setup.may_take(other.line(), worker)
         }
         Object::Database(_, shape) => {
-            if giving {
+            if update {
                 setup.may_take(shape.turn(), worker)
             } else {
                 setup.may_observe(shape.start(), worker)

@@ -1,15 +1,15 @@
-//! What the lines of a history declare, up to its line `run`.
+//! What the lines of a history before `run` declare.
 ghost use Rattle.std.specs.Prelude.{◌≡◌, ◌≤◌, [], IfOk, option_map, Some};
 ghost use Rattle.ec_heading.specs.Heading.{head_step};
-ghost use Rattle.ec_heading.specs.Outline.{opened};
+ghost use Rattle.ec_heading.specs.HeaderTree.{empty_heading};
 ghost use Rattle.ec_heading.specs.Versions.{greatest_limit};
-ghost use Rattle.ec_text.specs.Words.{words_of, number_of};
+ghost use Rattle.ec_text.specs.Words.{words_of, number_in_word};
 ghost use Rattle.calls_text.specs.Reading.{Steps, limit_digits, limit_step, from_words, is_later};
-ghost use Rattle.calls_text.specs.Reading.{from_step, started, start_in, opens_from, is_from};
-ghost use Rattle.calls_text.specs.Reading.{headed_on, draft_step, is_run};
+ghost use Rattle.calls_text.specs.Reading.{from_step, after_start, start_in, opens_from, is_from};
+ghost use Rattle.calls_text.specs.Reading.{map_heading, draft_step, is_run};
 ghost use Rattle.calls_text.specs.kept.Results.{IsLimit, Opens};
 
-use crate::fault::{Kind, LineFault, line_fault};
+use crate::fault::{FaultKind, LineFault, line_fault};
 use crate::object::{Object, is_owned};
 use ec_count::{EventId, Limit};
 use ec_heading::{Heading, LINE_MAX, Version};
@@ -17,10 +17,10 @@ use ec_text::{cut_word, has_blank, is_number_form, number};
 use std::alloc::{AllocError, Global};
 use std::marker::Model;
 
-/// What is declared, and the counts at the beginning so far.
+/// What is declared so far, and the initial counts.
 #[derive(Drop)]
 pub(crate) struct Draft {
-    /// In a box, since a heading is large and a draft is moved.
+    /// Boxed, since a `Heading` is large and a draft is moved.
     pub(crate) heading: Box<Heading>,
     pub(crate) from: Vec<(EventId, u64)>,
 }
@@ -33,7 +33,7 @@ impl Model for Draft {
     ghost view = { λ d. record { heading = d.heading.value; from = d.from.items } };
 }
 
-/// Returns the digits after the word `limit`, if nothing else stands there.
+/// Returns the digits of a line `limit n`, or `None` if the line has not this form.
 #[tactic(auto, using(crate::proofs::Words::third_word))]
 fn limit_digits(line: &[u8]) -> Option<&[u8]>
     ensures { option_map (λ w. w.now) result ≡ limit_digits (words_of line.now) }
@@ -51,27 +51,28 @@ fn limit_digits(line: &[u8]) -> Option<&[u8]>
     }
 }
 
-/// Returns the limit that a line gives.
+/// Returns the limit of a line `limit n`.
 #[tactic(auto, unfolding(crate::specs::Reading::limit_step))]
-fn limit_of(line: &[u8]) -> Result<Limit, Kind>
+fn parse_limit(line: &[u8]) -> Result<Limit, FaultKind>
     ensures { IsLimit result (limit_step line.now) }
 {
     if line.len() > LINE_MAX {
-        return Err(Kind::BadLine);
+        return Err(FaultKind::BadLine);
     }
     let Some(digits) = limit_digits(line) else {
-        return Err(Kind::BadLine);
+        return Err(FaultKind::BadLine);
     };
     let Some(n) = number(digits) else {
-        return Err(Kind::BadNumber);
+        return Err(FaultKind::BadNumber);
     };
     match Version::Two.limit(n) {
         Some(limit) => Ok(limit),
-        None => Err(Kind::BadNumber),
+        None => Err(FaultKind::BadNumber),
     }
 }
 
-/// Returns the eventcount and the digits of a line `from E n`.
+/// Returns the eventcount and the digits of a line `from E n`, or `None` if the line has not this
+/// form.
 #[tactic(auto, using(crate::proofs::Words::fourth_word))]
 fn from_words(line: &[u8]) -> Option<(&[u8], &[u8])>
     ensures { option_map (λ p. (p.0.now, p.1.now)) result ≡ from_words (words_of line.now) }
@@ -100,7 +101,7 @@ fn opens_from(line: &[u8]) -> bool
     word == b"from".as_slice()
 }
 
-/// Returns whether an eventcount is declared after those that have a count already.
+/// Returns whether an eventcount is declared after those that have an initial count already.
 fn is_later(from: &[(EventId, u64)], event: EventId) -> bool
     ensures { result ≡ is_later from.now event }
 {
@@ -111,21 +112,21 @@ fn is_later(from: &[(EventId, u64)], event: EventId) -> bool
     }
 }
 
-/// Returns a heading with this limit, and nothing else.
+/// Returns a header with this limit and no declarations.
 #[inline(never)]
 fn no_declarations(alloc: Global, limit: Limit) -> Result<Box<Heading>, AllocError>
     requires { limit ≤ greatest_limit Version.Two }
-    ensures { IfOk result (λ heading. heading.value ≡ opened Version.Two limit []) }
+    ensures { IfOk result (λ heading. heading.value ≡ empty_heading Version.Two limit []) }
 {
     Ok(Box::new(alloc, Heading::new(alloc, Version::Two, limit)?)?)
 }
 
 impl Draft {
-    /// Returns a draft with the limit that a line gives, and nothing else.
+    /// Returns a draft with the limit of a line `limit n` and no declarations.
     pub(crate) fn open(alloc: Global, line: &[u8]) -> Result<Draft, LineFault>
         ensures { Opens result (limit_step line.now) }
     {
-        let limit = match limit_of(line) {
+        let limit = match parse_limit(line) {
             Ok(limit) => limit,
             Err(kind) => return Err(LineFault::Of(kind)),
         };
@@ -138,9 +139,9 @@ impl Draft {
         }
     }
 
-    /// Returns the count that digits give, if it may be one at the beginning.
+    /// Returns the number that digits spell, if it may be an initial count: from 1 to the limit.
     fn start(&self, digits: &[u8]) -> Option<u64>
-        ensures { result ≡ start_in self.now.heading (number_of digits.now) }
+        ensures { result ≡ start_in self.now.heading (number_in_word digits.now) }
     {
         let n = number(digits)?;
         if 1 <= n && n <= self.heading.setup().limit().get() {
@@ -150,18 +151,18 @@ impl Draft {
         }
     }
 
-    /// Takes the count of an eventcount at the beginning.
+    /// Adds the initial count of an eventcount.
     fn take_start(&mut self, event: EventId, digits: &[u8]) -> Result<(), LineFault>
-        ensures { Steps result (started self.old (Some event) digits.now) self.new }
+        ensures { Steps result (after_start self.old (Some event) digits.now) self.new }
     {
         let Some(n) = self.start(digits) else {
-            return Err(LineFault::Of(Kind::BadNumber));
+            return Err(LineFault::Of(FaultKind::BadNumber));
         };
         if is_owned(self.heading.groups(), &Object::Event(event)) {
-            return Err(LineFault::Of(Kind::Hidden));
+            return Err(LineFault::Of(FaultKind::Hidden));
         }
         if !is_later(&self.from, event) {
-            return Err(LineFault::Of(Kind::BadOrder));
+            return Err(LineFault::Of(FaultKind::BadOrder));
         }
         match self.from.push((event, n)) {
             Ok(()) => Ok(()),
@@ -169,33 +170,36 @@ impl Draft {
         }
     }
 
-    /// Takes a line on a count at the beginning.
+    /// Reads a line `from E n`.
     #[tactic(auto, unfolding(crate::specs::Reading::from_step))]
     fn take_from(&mut self, line: &[u8]) -> Result<(), LineFault>
         ensures { Steps result (from_step self.old line.now) self.new }
     {
         if line.len() > LINE_MAX || has_blank(line) {
-            return Err(LineFault::Of(Kind::BadLine));
+            return Err(LineFault::Of(FaultKind::BadLine));
         }
         let Some((word, digits)) = from_words(line) else {
-            return Err(LineFault::Of(Kind::BadLine));
+            return Err(LineFault::Of(FaultKind::BadLine));
         };
         let Some(event) = self.heading.event(word) else {
-            return Err(LineFault::Of(Kind::UnknownName));
+            return Err(LineFault::Of(FaultKind::UnknownName));
         };
         self.take_start(event, digits)
     }
 
-    /// Returns whether this is a line on a count at the beginning.
+    /// Returns whether a line must be of the form `from E n`.
+    ///
+    /// It must if such a line came before, or if it begins with `from` and the workers are
+    /// declared.
     fn is_from(&self, line: &[u8]) -> bool
         ensures { result ≡ is_from self.now line.now }
     {
         !self.from.is_empty() || (opens_from(line) && self.heading.setup().workers() > 0)
     }
 
-    /// Takes a line of a heading.
+    /// Reads a line of the header.
     fn take_heading(&mut self, line: &[u8]) -> Result<(), LineFault>
-        ensures { Steps result (headed_on self.old (head_step self.old.heading line.now)) self.new }
+        ensures { Steps result (map_heading self.old (head_step self.old.heading line.now)) self.new }
     {
         match self.heading.line(line) {
             Ok(()) => Ok(()),
@@ -203,7 +207,7 @@ impl Draft {
         }
     }
 
-    /// Takes the next line, without its LF.
+    /// Reads the next line, given without its LF.
     #[inline(never)]
     pub(crate) fn line(&mut self, line: &[u8]) -> Result<(), LineFault>
         ensures { Steps result (draft_step self.old line.now) self.new }
@@ -215,7 +219,7 @@ impl Draft {
         }
     }
 
-    /// Returns whether the line may be the last before the events.
+    /// Returns whether the line is `run`, and the workers are declared.
     pub(crate) fn is_run(&self, line: &[u8]) -> bool
         ensures { result ≡ is_run self.now line.now }
     {

@@ -1,11 +1,11 @@
-//! A history of calls under a heading.
+//! A history of calls: what its header declares, and its events.
 ghost use Rattle.std.specs.Prelude.{◌≡◌, ◌≤◌, ◌<◌, ◌+◌, ◌++◌, ◌∷◌, [], ℕ, length, map, slice_get};
 ghost use Rattle.std.specs.Prelude.{IfOk};
 ghost use Rattle.std.specs.Prelude.{OnOk, Some};
 ghost use Rattle.calls_core.specs.declared.history.Kind.TheVariants.{Eventcount, Sequencer, Cell};
 ghost use Rattle.calls_core.specs.declared.history.Kind.TheVariants.{Database, Semaphores};
 ghost use Rattle.calls_text.specs.Recordings.{AreKinds, IsRecording, HasFrom, HasUnits, HasGroups};
-ghost use Rattle.calls_text.specs.Recordings.{start_of, initial_of, cells_of};
+ghost use Rattle.calls_text.specs.Recordings.{start_count, initial_of, cells_of};
 ghost use Rattle.calls_text.specs.kept.Adding.{Grows};
 ghost use Rattle.calls_text.specs.kept.Runs.{IsNextOf};
 ghost use Rattle.calls_text.specs.Reading.{with_events, recorded_of};
@@ -21,7 +21,7 @@ use std::marker::Model;
 /// A history of calls: what is declared, and the events.
 #[derive(Drop)]
 pub struct Recording {
-    /// In a box, since a heading is large and a history is moved.
+    /// Boxed, since a `Heading` is large and a history is moved.
     pub(crate) heading: Box<Heading>,
     pub(crate) from: Vec<(EventId, u64)>,
     pub(crate) kinds: Vec<Kind>,
@@ -30,9 +30,9 @@ pub struct Recording {
 }
 
 impl Model for Recording {
-    ghost use Rattle.calls_text.specs.Recordings.{Recorded, IsRecording};
+    ghost use Rattle.calls_text.specs.Recordings.{RecordingModel, IsRecording};
 
-    ghost Value = { Recorded };
+    ghost Value = { RecordingModel };
 
     ghost view = { λ r. record {
       heading = r.heading.value;
@@ -49,9 +49,9 @@ impl Model for Recording {
     }) r.kinds.items };
 }
 
-/// Returns the count of an eventcount at the beginning.
-fn start_of(from: &[(EventId, u64)], event: usize) -> u64
-    ensures { result ≡ start_of from.now event }
+/// Returns the initial count of an eventcount.
+fn start_count(from: &[(EventId, u64)], event: usize) -> u64
+    ensures { result ≡ start_count from.now event }
 {
     match from {
         [] => 0,
@@ -59,13 +59,13 @@ fn start_of(from: &[(EventId, u64)], event: usize) -> u64
             if other.get() == event {
                 *n
             } else {
-                start_of(rest, event)
+                start_count(rest, event)
             }
         }
     }
 }
 
-/// Adds so many eventcounts, with their counts at the beginning.
+/// Adds `count` eventcounts, with their initial counts.
 fn add_events(
     kinds: &mut Vec<Kind>,
     from: &[(EventId, u64)],
@@ -73,15 +73,15 @@ fn add_events(
 ) -> Result<(), AllocError>
     ensures grows { OnOk result (Grows kinds.old.items kinds.new.items count) }
     ensures are { OnOk result (HasFrom kinds.new.items (length kinds.old.items) count
-        (λ e. Eventcount (start_of from.now e))) }
+        (λ e. Eventcount (start_count from.now e))) }
 {
     for event in 0..count {
-        kinds.push(Kind::Eventcount(start_of(from, event) as usize))?;
+        kinds.push(Kind::Eventcount(start_count(from, event) as usize))?;
     }
     Ok(())
 }
 
-/// Adds so many sequencers.
+/// Adds `count` sequencers.
 fn add_sequencers(kinds: &mut Vec<Kind>, count: usize) -> Result<(), AllocError>
     ensures grows { OnOk result (Grows kinds.old.items kinds.new.items count) }
     ensures are { OnOk result (HasFrom kinds.new.items (length kinds.old.items) count
@@ -93,7 +93,7 @@ fn add_sequencers(kinds: &mut Vec<Kind>, count: usize) -> Result<(), AllocError>
     Ok(())
 }
 
-/// Adds so many cells.
+/// Adds `count` cells.
 fn add_cells(kinds: &mut Vec<Kind>, count: usize) -> Result<(), AllocError>
     ensures grows { OnOk result (Grows kinds.old.items kinds.new.items count) }
     ensures are { OnOk result (HasFrom kinds.new.items (length kinds.old.items) count (λ x. Cell)) }
@@ -104,7 +104,7 @@ fn add_cells(kinds: &mut Vec<Kind>, count: usize) -> Result<(), AllocError>
     Ok(())
 }
 
-/// Returns the units of a semaphore at first, 0 of another group.
+/// Returns the initial units of a semaphore, or 0 for another group.
 fn initial_of(group: &Group) -> usize
     ensures { result ≡ initial_of group.now }
 {
@@ -114,24 +114,24 @@ fn initial_of(group: &Group) -> usize
     }
 }
 
-/// Returns the units of the semaphores at first, by the places of their groups.
-fn units_of(alloc: Global, groups: &[Group]) -> Result<Vec<usize>, AllocError>
+/// Returns the initial units of the semaphores, by the indices of their groups.
+fn start_units(alloc: Global, groups: &[Group]) -> Result<Vec<usize>, AllocError>
     ensures { IfOk result (λ units. units.items ≡ map initial_of groups.now) }
 {
     groups.iter().map(|group| initial_of(group)).collect(alloc)
 }
 
-/// Adds the semaphores.
+/// Adds the semaphores, as one object.
 fn add_semaphores(alloc: Global, kinds: &mut Vec<Kind>, groups: &[Group]) -> Result<(), AllocError>
     ensures grows { OnOk result (Grows kinds.old.items kinds.new.items 1) }
     ensures are { OnOk result (HasUnits kinds.new.items (length kinds.old.items) groups.now) }
 {
-    let units = units_of(alloc, groups)?;
+    let units = start_units(alloc, groups)?;
     kinds.push(Kind::Semaphores(units))?;
     Ok(())
 }
 
-/// Adds the groups.
+/// Adds the groups, each as a database; one that is none has 0 cells.
 fn add_groups(kinds: &mut Vec<Kind>, groups: &[Group]) -> Result<(), AllocError>
     ensures grows { OnOk result (Grows kinds.old.items kinds.new.items (length groups.now)) }
     ensures are { OnOk result (HasGroups kinds.new.items (length kinds.old.items) groups.now) }
@@ -142,7 +142,7 @@ fn add_groups(kinds: &mut Vec<Kind>, groups: &[Group]) -> Result<(), AllocError>
     Ok(())
 }
 
-/// Returns the objects of a heading.
+/// Returns the kinds of the objects that a header declares, by index.
 fn kinds_of(
     alloc: Global,
     heading: &Heading,
@@ -197,15 +197,17 @@ impl Recording {
         &self.heading
     }
 
-    /// Returns the count of an eventcount at the beginning.
+    /// Returns the initial count of an eventcount.
     pub fn start(&self, event: EventId) -> u64
-        ensures { result ≡ start_of self.now.from event }
+        ensures { result ≡ start_count self.now.from event }
     {
-        start_of(&self.from, event.get())
+        start_count(&self.from, event.get())
     }
 
-    /// Returns the objects: the eventcounts, the sequencers, the cells, the semaphores as one, and
-    /// the groups, of which databases take calls.
+    /// Returns the kinds of the objects, by index.
+    ///
+    /// These are the eventcounts, the sequencers, the cells, the semaphores as one object, and the
+    /// groups. Of the groups only databases are called.
     pub fn kinds(&self) -> &[Kind]
         ensures { IsRecording self.now result.now }
     {
@@ -219,7 +221,7 @@ impl Recording {
         self.events.as_slice()
     }
 
-    /// Returns the lists by whose numbers databases go.
+    /// Returns the lists of numbers that databases store.
     pub fn lists(&self) -> &Lists
         ensures { result.now ≡ self.now.lists }
     {

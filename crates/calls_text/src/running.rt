@@ -1,33 +1,35 @@
-//! The events of a history, as their lines come.
+//! Reads the lines of the events of a history.
 ghost use Rattle.std.specs.Prelude.{◌≡◌, ◌+◌, ◌++◌, ◌==◌, ◌||◌, [], not, length, map, None, Some, false};
 ghost use Rattle.std.specs.Prelude.{Ok, IfOk, OnOk, option_map};
 ghost use Rattle.std.specs.List.{list_any};
 ghost use Rattle.ec_text.specs.Words.{words_of};
 ghost use Rattle.calls_core.specs.Histories.{pending_after};
-ghost use Rattle.calls_text.specs.Forms.{only_in, rest_words, shown};
+ghost use Rattle.calls_text.specs.Forms.{only_in, rest_words, phrase_of_parts};
 ghost use Rattle.calls_text.specs.Lists.{list_number, lists_after};
 ghost use Rattle.calls_text.specs.Objects.{object_in};
 ghost use Rattle.calls_text.specs.Recordings.{first_group};
 ghost use Rattle.calls_text.specs.Reading.{is_no_number, number_or_0, only_number, numbers_in};
 ghost use Rattle.calls_text.specs.Reading.{cells_in, is_bad_tail, has_two_roles, call_fault_by};
-ghost use Rattle.calls_text.specs.Reading.{index_of, place_in, second_place_in, op_of, number_in};
+ghost use Rattle.calls_text.specs.Reading.{index_of, place_in, second_place_in, op_of_word};
+ghost use Rattle.calls_text.specs.Reading.{number_in};
 ghost use Rattle.calls_text.specs.Reading.{lists_of, takes_done, takes_timeout, takes_numbers};
-ghost use Rattle.calls_text.specs.Reading.{is_suited, is_over, suit_fault, gives_list, reply_of};
+ghost use Rattle.calls_text.specs.Reading.{is_suited, is_over, suit_fault, gives_list};
+ghost use Rattle.calls_text.specs.Reading.{reply_of_word};
 ghost use Rattle.calls_text.specs.Reading.{lists_with, other_word};
 ghost use Rattle.calls_text.specs.kept.Judging.{pending_by, spent_by, fault_by, invocation};
-ghost use Rattle.calls_text.specs.kept.Judging.{called_by, response, returned_by, event_by, Answers};
+ghost use Rattle.calls_text.specs.kept.Judging.{invocation_result, response, response_result, event_by, Answers};
 ghost use Rattle.calls_text.specs.kept.Judging.{TallyAfter};
 ghost use Rattle.calls_text.specs.kept.Runs.{IsRunning, IsPlaced, Fits};
 ghost use Rattle.calls_text.specs.Verbs.{tail_of};
 
-use crate::fault::{Kind, LineFault};
-use crate::form::{Answer, Parts, parts_of};
+use crate::fault::{FaultKind, LineFault};
+use crate::form::{Parts, ReplyWord, split_event};
 use crate::index::{first_group, numbers_of};
 use crate::lists::Lists;
 use crate::object::{Object, has_right, is_owned, object_in};
 use crate::recording::Recording;
 use crate::tally::Tally;
-use crate::verb::{Tail, Verb};
+use crate::verb::{OpWord, Tail};
 use calls_core::{Action, Event, Op, PendingCall, Reply};
 use calls_verdict::{find, follow};
 use ec_count::WorkerId;
@@ -35,10 +37,10 @@ use ec_heading::{Heading, LINE_MAX, count_words};
 use ec_text::{cut_word, has_blank, number};
 use std::alloc::{AllocError, Global};
 
-/// A history while its events come. Whoever reads it may keep them, or not.
+/// A history while its events are read. Its user may store them in the recording, or not.
 #[derive(Drop)]
 pub(crate) struct Running {
-    /// What is declared, the lists so far, and the events that are kept.
+    /// What is declared, the lists so far, and the events that are stored.
     pub(crate) recording: Recording,
     pending: Vec<PendingCall>,
     tally: Tally,
@@ -100,7 +102,7 @@ fn push_numbers(list: &[u8], numbers: &mut Vec<u64>) -> Result<(), AllocError>
     }
 }
 
-/// Returns the number of the list that words spell.
+/// Returns the number of the list that words spell, which is added if it is new.
 fn list_number(alloc: Global, lists: &mut Lists, list: &[u8]) -> Result<usize, AllocError>
     ensures number { IfOk result (λ n. n ≡ list_number lists.old (numbers_in (words_of list.now))) }
     ensures after { OnOk result
@@ -121,7 +123,7 @@ fn cells_in(object: &Object) -> usize
     }
 }
 
-/// Returns whether numbers are out of range, or not so many.
+/// Returns whether a number is out of range, or there are not as many numbers as cells.
 fn are_bad_numbers(rest: Option<&[u8]>, cells: usize) -> bool
     ensures { result ≡ list_any is_no_number (rest_words rest.entry)
         || not (length (rest_words rest.entry) == cells) }
@@ -132,7 +134,7 @@ fn are_bad_numbers(rest: Option<&[u8]>, cells: usize) -> bool
     }
 }
 
-/// Returns whether a number is out of range, or numbers are not as many as the cells.
+/// Returns whether a number of a call is out of range, or a write has not one number for each cell.
 fn is_bad_tail(tail: Tail, rest: Option<&[u8]>, object: &Object) -> bool
     ensures { result ≡ is_bad_tail tail (rest_words rest.entry) object.now }
 {
@@ -162,7 +164,7 @@ fn index_of(recording: &Recording, object: &Object) -> usize
     ensures { result ≡ index_of recording.now.heading object.now }
 {
     let setup = recording.heading().setup();
-    setup.known();
+    setup.invariant();
     // there is a kind for each index, so the sums fit
     let _kinds = recording.kinds().len();
     let first_cell = setup.events() + setup.sequencers();
@@ -176,7 +178,7 @@ fn index_of(recording: &Recording, object: &Object) -> usize
     }
 }
 
-/// Returns the place of the group, and that of the second one.
+/// Returns the index of a semaphore among the groups, and that of the second one of a pair.
 fn places_in(object: &Object) -> (usize, usize)
     ensures first { result.0 ≡ place_in object.now }
     ensures second { result.1 ≡ second_place_in object.now }
@@ -188,29 +190,29 @@ fn places_in(object: &Object) -> (usize, usize)
     }
 }
 
-/// Returns what is asked for, with the number that is given, or that of the list.
-fn op_of(verb: Verb, object: &Object, n: usize) -> Op
-    ensures { result ≡ op_of verb object.now n }
+/// Returns the operation of a call. `n` is its number, or that of its list.
+fn op_of_word(verb: OpWord, object: &Object, n: usize) -> Op
+    ensures { result ≡ op_of_word verb object.now n }
 {
     let (i, j) = places_in(object);
     match verb {
-        Verb::Advance => Op::Advance,
-        Verb::Read => Op::Read,
-        Verb::Await => Op::Await(n),
-        Verb::Ticket => Op::Ticket,
-        Verb::Put | Verb::Write => Op::Put(n),
-        Verb::Get | Verb::Snapshot => Op::Get,
-        Verb::P => Op::P(i),
-        Verb::V => Op::V(i),
-        Verb::PBoth => Op::PBoth(i, j),
+        OpWord::Advance => Op::Advance,
+        OpWord::Read => Op::Read,
+        OpWord::Await => Op::Await(n),
+        OpWord::Ticket => Op::Ticket,
+        OpWord::Put | OpWord::Write => Op::Put(n),
+        OpWord::Get | OpWord::Snapshot => Op::Get,
+        OpWord::P => Op::P(i),
+        OpWord::V => Op::V(i),
+        OpWord::PBoth => Op::PBoth(i, j),
     }
 }
 
-/// Returns the number that is given to a call, or that of its list.
+/// Returns the number in a call, or that of its list, which is added if it is new.
 fn number_in(
     alloc: Global,
     recording: &mut Recording,
-    verb: Verb,
+    verb: OpWord,
     rest: Option<&[u8]>,
 ) -> Result<usize, AllocError>
     ensures number { IfOk result
@@ -219,27 +221,27 @@ fn number_in(
         { lists = lists_of recording.old.lists verb (rest_words rest.entry) }) }
 {
     match (verb, rest) {
-        (Verb::Write, Some(list)) => list_number(alloc, &mut recording.lists, list),
-        (Verb::Write, None) => recording.lists.number(Vec::new(alloc)),
+        (OpWord::Write, Some(list)) => list_number(alloc, &mut recording.lists, list),
+        (OpWord::Write, None) => recording.lists.number(Vec::new(alloc)),
         _ => Ok(only_number(rest) as usize),
     }
 }
 
-/// Returns whether what is asked for takes no number for a reply.
+/// Returns whether `done` is a reply to the operation.
 fn takes_done(op: Op) -> bool
     ensures { result ≡ takes_done op }
 {
     !matches!(op, Op::Read | Op::Ticket | Op::Get)
 }
 
-/// Returns whether the call may give up.
+/// Returns whether `timeout` is a reply to the operation.
 fn takes_timeout(op: Op) -> bool
     ensures { result ≡ takes_timeout op }
 {
     matches!(op, Op::Await(_) | Op::P(_) | Op::PBoth(_, _))
 }
 
-/// Returns whether the call takes so many numbers for a reply.
+/// Returns whether `n` numbers are a reply to the call.
 fn takes_numbers(heading: &Heading, call: &PendingCall, n: usize) -> bool
     ensures { result ≡ takes_numbers heading.now call.now call.now.op n }
 {
@@ -251,40 +253,45 @@ fn takes_numbers(heading: &Heading, call: &PendingCall, n: usize) -> bool
 }
 
 /// Returns whether a reply suits a call.
-fn is_suited(heading: &Heading, call: &PendingCall, answer: Answer, list: &[u8]) -> bool
+fn is_suited(heading: &Heading, call: &PendingCall, answer: ReplyWord, list: &[u8]) -> bool
     ensures { result ≡ is_suited heading.now call.now answer (words_of list.now) }
 {
     match answer {
-        Answer::Done => takes_done(call.op),
-        Answer::Timeout => takes_timeout(call.op),
-        Answer::Numbers => takes_numbers(heading, call, count_words(list)),
+        ReplyWord::Done => takes_done(call.op),
+        ReplyWord::Timeout => takes_timeout(call.op),
+        ReplyWord::Numbers => takes_numbers(heading, call, count_words(list)),
     }
 }
 
 /// Returns whether a ticket returns the limit or more.
-fn is_over(limit: u64, op: Op, answer: Answer, list: &[u8]) -> bool
+fn is_over(limit: u64, op: Op, answer: ReplyWord, list: &[u8]) -> bool
     ensures { result ≡ is_over limit op answer (words_of list.now) }
 {
     match (op, answer) {
-        (Op::Ticket, Answer::Numbers) => limit <= only_number(Some(list)),
+        (Op::Ticket, ReplyWord::Numbers) => limit <= only_number(Some(list)),
         _ => false,
     }
 }
 
-/// Returns the least fault of a reply to a call.
-fn suit_fault(heading: &Heading, call: &PendingCall, answer: Answer, list: &[u8]) -> Option<Kind>
+/// Returns the lowest kind of fault of a reply to a call.
+fn suit_fault(
+    heading: &Heading,
+    call: &PendingCall,
+    answer: ReplyWord,
+    list: &[u8],
+) -> Option<FaultKind>
     ensures { result ≡ suit_fault heading.now call.now answer (words_of list.now) }
 {
     if !is_suited(heading, call, answer, list) {
-        return Some(Kind::Unsuited);
+        return Some(FaultKind::Unsuited);
     }
     if is_over(heading.setup().limit().get(), call.op, answer, list) {
-        return Some(Kind::AtLimit);
+        return Some(FaultKind::AtLimit);
     }
     None
 }
 
-/// Returns whether the call returns a list.
+/// Returns whether the call is a snapshot, whose reply is a list of numbers.
 fn gives_list(heading: &Heading, call: &PendingCall) -> bool
     ensures { result ≡ gives_list heading.now call.now call.now.op }
 {
@@ -295,22 +302,22 @@ fn gives_list(heading: &Heading, call: &PendingCall) -> bool
 }
 
 /// Returns the reply to a call.
-fn reply_of(
+fn reply_of_word(
     alloc: Global,
     recording: &mut Recording,
     call: &PendingCall,
-    answer: Answer,
+    answer: ReplyWord,
     list: &[u8],
 ) -> Result<Reply, AllocError>
     ensures reply { IfOk result
-        (λ reply. reply ≡ reply_of recording.old call.now answer (words_of list.now)) }
+        (λ reply. reply ≡ reply_of_word recording.old call.now answer (words_of list.now)) }
     ensures after { OnOk result (recording.new ≡ record recording.old
         { lists = lists_with recording.old call.now answer (words_of list.now) }) }
 {
     match answer {
-        Answer::Done => Ok(Reply::Done),
-        Answer::Timeout => Ok(Reply::Timeout),
-        Answer::Numbers => {
+        ReplyWord::Done => Ok(Reply::Done),
+        ReplyWord::Timeout => Ok(Reply::Timeout),
+        ReplyWord::Numbers => {
             if gives_list(recording.heading(), call) {
                 Ok(Reply::Number(list_number(alloc, &mut recording.lists, list)?))
             } else {
@@ -320,49 +327,51 @@ fn reply_of(
     }
 }
 
-/// Returns the least fault of an invocation, by a worker whose call is pending or not, and who may
-/// call no more advances or may.
+/// Returns the lowest kind of fault of an invocation.
+///
+/// `is_busy` says whether the worker has a pending call, and `is_spent` whether it may call no more
+/// advances of the object.
 fn call_fault(
     heading: &Heading,
     worker: WorkerId,
-    verb: Verb,
+    verb: OpWord,
     object: &Object,
     rest: Option<&[u8]>,
     is_busy: bool,
     is_spent: bool,
-) -> Option<Kind>
+) -> Option<FaultKind>
     ensures { result ≡ call_fault_by heading.now worker verb object.now (rest_words rest.entry)
         is_busy is_spent }
 {
     if is_bad_tail(verb.tail(), rest, object) {
-        return Some(Kind::BadNumber);
+        return Some(FaultKind::BadNumber);
     }
     if is_owned(heading.groups(), object) {
-        return Some(Kind::Hidden);
+        return Some(FaultKind::Hidden);
     }
     if has_two_roles(object) {
-        return Some(Kind::TwoRoles);
+        return Some(FaultKind::TwoRoles);
     }
-    if !has_right(heading.setup(), worker, verb.is_giving(), object) {
-        return Some(Kind::NoRight);
+    if !has_right(heading.setup(), worker, verb.is_update(), object) {
+        return Some(FaultKind::NoRight);
     }
     if is_busy {
-        return Some(Kind::Busy);
+        return Some(FaultKind::Busy);
     }
     if is_spent {
-        return Some(Kind::AtLimit);
+        return Some(FaultKind::AtLimit);
     }
     None
 }
 
 impl Running {
-    /// Returns a history before its events.
+    /// Returns a history before its first event.
     pub(crate) fn new(alloc: Global, recording: Recording) -> Running
         requires { recording.events ≡ [] }
         ensures recording { result.recording ≡ recording }
         ensures run { IsRunning [] result }
     {
-        recording.heading().setup().known();
+        recording.heading().setup().invariant();
         Running {
             recording,
             pending: Vec::new(alloc),
@@ -388,19 +397,20 @@ impl Running {
         }
     }
 
-    /// Returns whether the worker has called as many advances of it as the limit allows.
-    fn is_spent(&self, worker: WorkerId, verb: Verb, object: &Object) -> bool
+    /// Returns whether the call is an advance, and the worker has called as many as the limit
+    /// allows.
+    fn is_spent(&self, worker: WorkerId, verb: OpWord, object: &Object) -> bool
         ensures { result ≡ spent_by self.now worker verb object.now }
     {
         match (verb, *object) {
-            (Verb::Advance, Object::Event(event)) => {
+            (OpWord::Advance, Object::Event(event)) => {
                 self.recording.heading.setup().limit().get() <= self.tally.at(worker, event)
             }
             _ => false,
         }
     }
 
-    /// Returns the next event, after which other calls are pending.
+    /// Returns the next event, and updates the pending calls.
     fn event(&mut self, worker: WorkerId, action: Action) -> Result<Event, AllocError>
         ensures at { IfOk result (λ x. x ≡ record {
           at = self.old.count;
@@ -425,25 +435,25 @@ impl Running {
     }
 
     /// Counts the call, if it is an advance.
-    fn count(&mut self, worker: WorkerId, verb: Verb, object: &Object)
+    fn count(&mut self, worker: WorkerId, verb: OpWord, object: &Object)
         requires { spent_by self.old worker verb object.now ≡ false }
         ensures tally { TallyAfter self.old.tally self.new.tally worker verb object.now }
         ensures pending { self.new.pending ≡ self.old.pending }
         ensures count { self.new.count ≡ self.old.count }
         ensures recording { self.new.recording ≡ self.old.recording }
     {
-        self.recording.heading().setup().known();
-        if let (Verb::Advance, Object::Event(event)) = (verb, *object) {
+        self.recording.heading().setup().invariant();
+        if let (OpWord::Advance, Object::Event(event)) = (verb, *object) {
             self.tally.add(worker, event);
         }
     }
 
-    /// Returns an invocation.
+    /// Returns the event of an invocation without a fault, and counts it.
     fn call(
         &mut self,
         alloc: Global,
         worker: WorkerId,
-        verb: Verb,
+        verb: OpWord,
         object: &Object,
         rest: Option<&[u8]>,
     ) -> Result<Event, AllocError>
@@ -454,33 +464,33 @@ impl Running {
     {
         let n = number_in(alloc, &mut self.recording, verb, rest)?;
         let index = index_of(&self.recording, object);
-        let action = Action::Invoke(index, op_of(verb, object, n));
+        let action = Action::Invoke(index, op_of_word(verb, object, n));
         let event = self.event(worker, action)?;
         self.count(worker, verb, object);
         Ok(event)
     }
 
-    /// Takes an invocation.
+    /// Judges an invocation, and returns its event.
     fn take_call(
         &mut self,
         alloc: Global,
         worker: Option<WorkerId>,
-        verb: Verb,
+        verb: OpWord,
         word: &[u8],
         rest: Option<&[u8]>,
     ) -> Result<Event, LineFault>
-        ensures { Answers self.old self.new result (called_by self.old worker verb
+        ensures { Answers self.old self.new result (invocation_result self.old worker verb
             (object_in self.old.recording.heading verb word.now
             (other_word verb (rest_words rest.entry))) (rest_words rest.entry)) }
     {
         let other = match verb {
-            Verb::PBoth => only_word(rest),
+            OpWord::PBoth => only_word(rest),
             _ => None,
         };
         let heading = self.recording.heading();
         let object = object_in(heading, verb, word, other);
         let (Some(worker), Some(object)) = (worker, object) else {
-            return Err(LineFault::Of(Kind::UnknownName));
+            return Err(LineFault::Of(FaultKind::UnknownName));
         };
         let is_busy = self.pending_call(worker).is_some();
         let is_spent = self.is_spent(worker, verb, &object);
@@ -493,13 +503,13 @@ impl Running {
         }
     }
 
-    /// Returns a response.
+    /// Returns the event of a response without a fault.
     fn respond(
         &mut self,
         alloc: Global,
         worker: WorkerId,
         call: &PendingCall,
-        answer: Answer,
+        answer: ReplyWord,
         list: &[u8],
     ) -> Result<Event, AllocError>
         requires pending { pending_by self.old worker ≡ Some call.now }
@@ -508,29 +518,29 @@ impl Running {
         ensures { IfOk result (λ x. Answers self.old self.new (Ok x)
             (Ok (response self.old worker call.now answer (words_of list.now)))) }
     {
-        let reply = reply_of(alloc, &mut self.recording, call, answer, list)?;
+        let reply = reply_of_word(alloc, &mut self.recording, call, answer, list)?;
         self.event(worker, Action::Respond(reply))
     }
 
-    /// Takes a response.
+    /// Judges a response, and returns its event.
     fn take_return(
         &mut self,
         alloc: Global,
         worker: Option<WorkerId>,
-        answer: Answer,
+        answer: ReplyWord,
         list: &[u8],
     ) -> Result<Event, LineFault>
         ensures { Answers self.old self.new result
-            (returned_by self.old worker answer (words_of list.now)) }
+            (response_result self.old worker answer (words_of list.now)) }
     {
         let Some(worker) = worker else {
-            return Err(LineFault::Of(Kind::UnknownName));
+            return Err(LineFault::Of(FaultKind::UnknownName));
         };
-        if matches!(answer, Answer::Numbers) && has_no_number(list) {
-            return Err(LineFault::Of(Kind::BadNumber));
+        if matches!(answer, ReplyWord::Numbers) && has_no_number(list) {
+            return Err(LineFault::Of(FaultKind::BadNumber));
         }
         let Some(call) = self.pending_call(worker) else {
-            return Err(LineFault::Of(Kind::Idle));
+            return Err(LineFault::Of(FaultKind::Idle));
         };
         if let Some(kind) = suit_fault(self.recording.heading(), &call, answer, list) {
             return Err(LineFault::Of(kind));
@@ -541,16 +551,16 @@ impl Running {
         }
     }
 
-    /// Takes the line of an event, without its LF, and returns the event.
+    /// Reads the line of an event, given without its LF, and returns the event.
     #[tactic(auto, unfolding(crate::specs::kept::Judging::event_by))]
     pub(crate) fn line(&mut self, alloc: Global, line: &[u8]) -> Result<Event, LineFault>
         ensures { Answers self.old self.new result (event_by self.old line.now) }
     {
         if line.len() > LINE_MAX || has_blank(line) {
-            return Err(LineFault::Of(Kind::BadLine));
+            return Err(LineFault::Of(FaultKind::BadLine));
         }
-        let Some(parts) = parts_of(line) else {
-            return Err(LineFault::Of(Kind::BadLine));
+        let Some(parts) = split_event(line) else {
+            return Err(LineFault::Of(FaultKind::BadLine));
         };
         match parts {
             Parts::Calls {

@@ -1,13 +1,14 @@
-//! What the lines of a history so far have built.
+//! The stages of reading a history line by line.
 ghost use Rattle.std.specs.Prelude.{◌≡◌, [], List, Ok, IfOk, OnOk, true};
 ghost use Rattle.calls_core.specs.declared.history.Event.{Event};
 ghost use Rattle.calls_text.specs.Reading.{step, recorded_of, is_ended};
 ghost use Rattle.calls_text.specs.Reading as reading;
-ghost use Rattle.calls_text.specs.kept.Stages.{seen, IsSound, Takes, kept_events, IsNextIn, Keeps};
+ghost use Rattle.calls_text.specs.kept.Stages.{stage_with_all, IsSound, Takes, kept_events};
+ghost use Rattle.calls_text.specs.kept.Stages.{IsNextIn, Keeps};
 ghost use Rattle.calls_text.specs.kept.Stages.{seen_with, IsFollowing, Follows, turns, GoesTo};
 ghost use Rattle.calls_text.specs.kept.Stages.{TurnsTo};
 
-use crate::fault::{Kind, LineFault};
+use crate::fault::{FaultKind, LineFault};
 use crate::opening::Draft;
 use crate::recording::Recording;
 use crate::running::Running;
@@ -15,22 +16,22 @@ use calls_core::Event;
 use std::alloc::{AllocError, Global};
 use std::mem;
 
-/// What the lines so far have built.
+/// The state of reading a history, after the lines so far.
 #[derive(Drop)]
 pub(crate) enum Stage {
-    /// Nothing.
+    /// No line was read.
     Opening,
-    /// The first line came.
+    /// The first line was read.
     Limiting,
-    /// The limit came, and the lines of a heading may.
+    /// The limit was read. Declarations and `from` lines may follow.
     Declaring(Draft),
-    /// The line `run` came, and events may.
+    /// The line `run` was read. Events may follow.
     Running(Running),
-    /// The line `end` came.
+    /// The line `end` was read.
     Ended(Recording),
 }
 
-/// Takes the first line.
+/// Returns the stage after the first line.
 #[tactic(auto, unfolding(crate::specs::Reading::step))]
 fn after_first(line: &[u8]) -> Result<Stage, LineFault>
     ensures goes { GoesTo result (step reading.Opening line.now) [] }
@@ -39,11 +40,11 @@ fn after_first(line: &[u8]) -> Result<Stage, LineFault>
     if line == b"evc-calls 1".as_slice() {
         Ok(Stage::Limiting)
     } else {
-        Err(LineFault::Of(Kind::BadHeader))
+        Err(LineFault::Of(FaultKind::BadHeader))
     }
 }
 
-/// Takes the line of the limit.
+/// Returns the stage after the line of the limit.
 #[tactic(auto, unfolding(crate::specs::Reading::step))]
 fn after_limit(alloc: Global, line: &[u8]) -> Result<Stage, LineFault>
     ensures goes { GoesTo result (step reading.Limiting line.now) [] }
@@ -55,7 +56,7 @@ fn after_limit(alloc: Global, line: &[u8]) -> Result<Stage, LineFault>
     }
 }
 
-/// Goes on from the declarations to the events.
+/// Returns the stage after the line `run`, given the declarations.
 fn running(alloc: Global, draft: Draft) -> Result<Stage, LineFault>
     ensures goes { GoesTo result (Ok (reading.Running (recorded_of draft))) [] }
     ensures kept { IfOk result (λ s. kept_events s ≡ []) }
@@ -68,10 +69,9 @@ fn running(alloc: Global, draft: Draft) -> Result<Stage, LineFault>
 }
 
 impl Stage {
-    /// Takes a line, given without its LF, and returns the event if it is one. The event is not
-    /// kept.
+    /// Reads a line, given without its LF, and returns the event if it is one.
     ///
-    /// A stage is large, and most lines leave it if it is.
+    /// The event is not stored. A stage is large, so it is changed in place: only `turn` moves it.
     #[tactic(auto, unfolding(crate::specs::Reading::step))]
     pub(crate) fn follow(&mut self, alloc: Global, line: &[u8]) -> Result<Option<Event>, LineFault>
         ensures follows { (events : List Event) → IsFollowing events self.old
@@ -97,7 +97,7 @@ impl Stage {
         }
     }
 
-    /// Keeps the event that came.
+    /// Stores an event, while events may come.
     fn keep(&mut self, event: Event) -> Result<(), AllocError>
         requires { IsNextIn self.old event }
         ensures { OnOk result (Keeps self.old self.new event) }
@@ -108,10 +108,10 @@ impl Stage {
         }
     }
 
-    /// Takes a line, given without its LF, and keeps the event if it is one.
+    /// Reads a line, given without its LF, and stores the event if it is one.
     pub(crate) fn take(&mut self, alloc: Global, line: &[u8]) -> Result<(), LineFault>
         requires { IsSound self.old }
-        ensures { Takes result (step (seen self.old) line.now) self.new }
+        ensures { Takes result (step (stage_with_all self.old) line.now) self.new }
     {
         match self.follow(alloc, line) {
             Err(fault) => Err(fault),
@@ -134,8 +134,8 @@ impl Stage {
         }
     }
 
-    /// Goes on to the next stage. What it moves is large, and takes no room in the callers, which
-    /// mostly turn nothing.
+    /// Replaces the stage by the next one. The value that it moves is large: out of line, it takes
+    /// no room in the stack frames of the callers, which rarely come here.
     #[cold]
     #[inline(never)]
     fn turn(&mut self, alloc: Global, line: &[u8]) -> Result<(), LineFault>
@@ -145,7 +145,7 @@ impl Stage {
         ensures kept { OnOk result (kept_events self.new ≡ kept_events self.old) }
     {
         let before = mem::replace(self, Stage::Opening);
-        match before.turned(alloc, line) {
+        match before.next_stage(alloc, line) {
             Ok(next) => {
                 *self = next;
                 Ok(())
@@ -156,7 +156,7 @@ impl Stage {
 
     /// Returns the next stage, after the line that ends this one.
     #[tactic(auto, unfolding(crate::specs::Reading::step))]
-    fn turned(self, alloc: Global, line: &[u8]) -> Result<Stage, LineFault>
+    fn next_stage(self, alloc: Global, line: &[u8]) -> Result<Stage, LineFault>
         requires { turns self line.now ≡ true }
         ensures goes { (events : List Event) → IsFollowing events self
             → GoesTo result (step (seen_with events self) line.now) events }
@@ -167,14 +167,14 @@ impl Stage {
             Stage::Limiting => after_limit(alloc, line),
             Stage::Declaring(draft) => running(alloc, draft),
             Stage::Running(running) => Ok(Stage::Ended(running.recording)),
-            Stage::Ended(_) => Err(LineFault::Of(Kind::BadLine)),
+            Stage::Ended(_) => Err(LineFault::Of(FaultKind::BadLine)),
         }
     }
 
-    /// Returns whether the line `end` came.
+    /// Returns whether the line `end` was read.
     #[tactic(auto, unfolding(crate::specs::Reading::is_ended))]
     pub(crate) fn is_ended(&self) -> bool
-        ensures { result ≡ is_ended (seen self.now) }
+        ensures { result ≡ is_ended (stage_with_all self.now) }
     {
         matches!(self, Stage::Ended(_))
     }

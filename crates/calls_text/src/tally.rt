@@ -1,19 +1,19 @@
 //! How many advances each worker has called of each eventcount.
 ghost use Rattle.std.specs.Prelude.{◌≡◌, ◌+◌, ◌<◌, ◌^◌, []};
-ghost use Rattle.calls_text.specs.Tallies.{tally_at, IsCounted, IsCountedFurther};
+ghost use Rattle.calls_text.specs.Tallies.{tally_at, IsTallyOf, IsCountedFurther};
 
 use ec_count::{EventId, WorkerId};
 
-/// A number for each worker and eventcount.
+/// The number of advances that each worker has called of each eventcount.
 #[derive(Drop)]
 pub(crate) struct Tally {
     counts: [[u64; 32]; 16],
 }
 
 impl Tally {
-    /// Returns zeros.
+    /// Returns a tally of zeros.
     pub(crate) fn zeros() -> Tally
-        ensures { IsCounted result [] }
+        ensures { IsTallyOf result [] }
     {
         Tally {
             counts: [[0; 32]; 16],
@@ -27,7 +27,7 @@ impl Tally {
         self.counts[worker.get()][event.get()]
     }
 
-    /// Adds one to it.
+    /// Adds one to the number for a worker and an eventcount.
     pub(crate) fn add(&mut self, worker: WorkerId, event: EventId)
         requires { worker < 16 → event < 32 → tally_at self.old worker event + 1 < 2 ^ 64 }
         ensures { IsCountedFurther self.old self.new worker event }

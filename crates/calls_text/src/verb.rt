@@ -1,11 +1,11 @@
-//! The words for calls.
+//! The words for operations, such as `advance`.
 ghost use Rattle.std.specs.Prelude.{◌≡◌};
-ghost use Rattle.calls_text.specs.Verbs.{object_verb_of, group_verb_of, verb_of, tail_of};
-ghost use Rattle.calls_text.specs.Verbs.{is_giving};
+ghost use Rattle.calls_text.specs.Verbs.{object_verb_of, group_verb_of, parse_op_word, tail_of};
+ghost use Rattle.calls_text.specs.Verbs.{is_update};
 
-/// What a call does.
+/// The operation of a call.
 #[derive(Clone, Copy, Debug, PartialEq, Eq)]
-pub(crate) enum Verb {
+pub(crate) enum OpWord {
     Advance,
     Read,
     Await,
@@ -19,7 +19,7 @@ pub(crate) enum Verb {
     Snapshot,
 }
 
-/// What stands after the object of a call.
+/// The form of what follows the object of a call.
 #[derive(Clone, Copy, Debug, PartialEq, Eq)]
 pub(crate) enum Tail {
     Nothing,
@@ -31,56 +31,56 @@ pub(crate) enum Tail {
     Word,
 }
 
-/// Returns the call of an object of no group that a word stands for.
-fn object_verb_of(word: &[u8]) -> Option<Verb>
+/// Returns the operation on an object of no group that a word names.
+fn object_verb_of(word: &[u8]) -> Option<OpWord>
     ensures { result ≡ object_verb_of word.now }
 {
     if word == b"advance".as_slice() {
-        return Some(Verb::Advance);
+        return Some(OpWord::Advance);
     }
     if word == b"read".as_slice() {
-        return Some(Verb::Read);
+        return Some(OpWord::Read);
     }
     if word == b"await".as_slice() {
-        return Some(Verb::Await);
+        return Some(OpWord::Await);
     }
     if word == b"ticket".as_slice() {
-        return Some(Verb::Ticket);
+        return Some(OpWord::Ticket);
     }
     if word == b"put".as_slice() {
-        return Some(Verb::Put);
+        return Some(OpWord::Put);
     }
     if word == b"get".as_slice() {
-        return Some(Verb::Get);
+        return Some(OpWord::Get);
     }
     None
 }
 
-/// Returns the call of a group that a word stands for.
-fn group_verb_of(word: &[u8]) -> Option<Verb>
+/// Returns the operation on a group that a word names.
+fn group_verb_of(word: &[u8]) -> Option<OpWord>
     ensures { result ≡ group_verb_of word.now }
 {
     if word == b"p".as_slice() {
-        return Some(Verb::P);
+        return Some(OpWord::P);
     }
     if word == b"v".as_slice() {
-        return Some(Verb::V);
+        return Some(OpWord::V);
     }
     if word == b"pboth".as_slice() {
-        return Some(Verb::PBoth);
+        return Some(OpWord::PBoth);
     }
     if word == b"write".as_slice() {
-        return Some(Verb::Write);
+        return Some(OpWord::Write);
     }
     if word == b"snapshot".as_slice() {
-        return Some(Verb::Snapshot);
+        return Some(OpWord::Snapshot);
     }
     None
 }
 
-/// Returns the call that a word stands for.
-pub(crate) fn verb_of(word: &[u8]) -> Option<Verb>
-    ensures { result ≡ verb_of word.now }
+/// Returns the operation that a word names.
+pub(crate) fn parse_op_word(word: &[u8]) -> Option<OpWord>
+    ensures { result ≡ parse_op_word word.now }
 {
     match object_verb_of(word) {
         Some(verb) => Some(verb),
@@ -88,23 +88,24 @@ pub(crate) fn verb_of(word: &[u8]) -> Option<Verb>
     }
 }
 
-impl Verb {
-    /// Returns what stands after the object.
+impl OpWord {
+    /// Returns the form of what follows the object.
     pub(crate) fn tail(self) -> Tail
         ensures { result ≡ tail_of self }
     {
         match self {
-            Verb::Await | Verb::Put => Tail::Digits,
-            Verb::Write => Tail::ManyDigits,
-            Verb::PBoth => Tail::Word,
+            OpWord::Await | OpWord::Put => Tail::Digits,
+            OpWord::Write => Tail::ManyDigits,
+            OpWord::PBoth => Tail::Word,
             _ => Tail::Nothing,
         }
     }
 
-    /// Returns whether it advances or writes, and else observes or reads.
-    pub(crate) fn is_giving(self) -> bool
-        ensures { result ≡ is_giving self }
+    /// Returns whether it is an advance, a put or a write, which need another right than the other
+    /// calls of their object.
+    pub(crate) fn is_update(self) -> bool
+        ensures { result ≡ is_update self }
     {
-        matches!(self, Verb::Advance | Verb::Put | Verb::Write)
+        matches!(self, OpWord::Advance | OpWord::Put | OpWord::Write)
     }
 }

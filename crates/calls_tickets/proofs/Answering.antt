@@ -1,4 +1,4 @@
--- What is answered at an event, for both monitors.
+-- The verdict on an event, for `Monitor` and `RecordedTickets`.
 use Rattle.std.proofs.Common.{◌≡◌, ℕ, ◌≤◌, Bool, true, List, ◌∷◌, length, get_or, Some, slice_get}
 use Rattle.std.proofs.Common.{ap, sym, ◌∙◌, arith, subst}
 use Rattle.std.specs.List.{remove}
@@ -14,7 +14,7 @@ use Rattle.calls_core.specs.Outcomes.{HasOrderOf}
 use Rattle.calls_tickets.specs.declared.fault.Fault.{Fault}
 use Rattle.calls_tickets.specs.declared.pending.PendingTicket.{PendingTicket}
 use Rattle.calls_tickets.specs.declared.monitor.Monitor.{Monitor}
-use Rattle.calls_tickets.specs.Faults.{number_of, Shows}
+use Rattle.calls_tickets.specs.Faults.{ticket_number, Shows}
 use Rattle.calls_tickets.specs.Monitors.{Watches, IsAccepted, IsRefused}
 use Rattle.calls_tickets.specs.kept.Watching.{Paired, Unpaired, Following, Watching, IsPendingAt}
 use Rattle.calls_tickets.specs.kept.Watching.{CannotTake, IsTaken, IsPaired}
@@ -49,23 +49,24 @@ module _ (past : List Event) (x : Event) (r : Reply) (top : ℕ) (holes : List �
   call_ended = ended past x r top holes us rest i u e k at is history w.follows
 
   follows : (later : ℕ) (more : List ℕ) → x.at ≤ 18446744073709551615
-      → IsTaken top later holes more (length rest) u.noted (number_of r) true
+      → IsTaken top later holes more (length rest) u.noted (ticket_number r) true
       → Following (x ∷ past) later more rest
   follows later more fits t = taken past x r top holes us rest i u e k at is history w.follows later
       more fits t
 
   pub goes_on : (later : ℕ) (more : List ℕ) → x.at ≤ 18446744073709551615
-      → IsTaken top later holes more (length rest) u.noted (number_of r) true → Paired more rest
+      → IsTaken top later holes more (length rest) u.noted (ticket_number r) true → Paired more rest
       → Watching (x ∷ past) later more rest
   goes_on later more fits t p = record { follows = follows later more fits t; paired = p }
 
   pub lacks : (later : ℕ) (more : List ℕ) → x.at ≤ 18446744073709551615
-      → IsTaken top later holes more (length rest) u.noted (number_of r) true → Unpaired more rest
+      → IsTaken top later holes more (length rest) u.noted (ticket_number r) true
+      → Unpaired more rest
       → (g : Fault) × Shows (x ∷ past) g
   lacks later more fits t p = unpaired_shows (x ∷ past) history later more rest
       (follows later more fits t) p
 
-  pub cannot : CannotTake top holes (length rest) u.noted (number_of r) → (g : Fault)
+  pub cannot : CannotTake top holes (length rest) u.noted (ticket_number r) → (g : Fault)
       × Shows (x ∷ past) g
   cannot c = not_taken past x r top holes us rest i u e k at is history w.follows c
 

@@ -1,4 +1,4 @@
--- The calls so far are gathered.
+-- The recorded tickets represent the history so far.
 use Rattle.std.proofs.Common.{◌≡◌, ℕ, ◌≤◌, Bool, true, false, List, [], ◌∷◌, ◌++◌, length, reverse}
 use Rattle.std.proofs.Common.{get_or, ap, sym, ◌∙◌, subst}
 use Rattle.std.specs.List.{remove}
@@ -12,14 +12,14 @@ use Rattle.calls_core.specs.declared.history.Call.{Call}
 use Rattle.calls_core.specs.Histories.{completion, invoked_by, pending_of, pending_calls}
 use Rattle.calls_core.specs.Histories.{pending_after, completed_calls, ended_call, IsHistoryOf}
 use Rattle.calls_tickets.specs.declared.pending.PendingTicket.{PendingTicket}
-use Rattle.calls_tickets.specs.declared.recorded.Recorded.{Recorded}
-use Rattle.calls_tickets.specs.Faults.{number_of}
+use Rattle.calls_tickets.specs.declared.recorded.RecordedTickets.{RecordedTickets}
+use Rattle.calls_tickets.specs.Faults.{ticket_number}
 use Rattle.calls_tickets.specs.kept.Watching.{calls_in, IsPaired, IsPendingAt, IsTaken, Watching}
 use Rattle.calls_tickets.specs.kept.Recording.{AreGathered, Records, IsFaulty, IsFollowed}
 use Rattle.calls_tickets.proofs.Stepping.{invoked, left}
 use Rattle.calls_tickets.proofs.Answering.{read_at, call_ended, goes_on, lacks, cannot}
 
-pub records_invoked : (past : List Event) (x : Event) (k : ℕ) (op : Op) (old new : Recorded)
+pub records_invoked : (past : List Event) (x : Event) (k : ℕ) (op : Op) (old new : RecordedTickets)
     → x.action ≡ Invoke k op → new.done.items ≡ old.done.items → new.top ≡ old.top
     → new.holes.items ≡ old.holes.items
     → new.pending.items ≡ old.pending.items ++ record {
@@ -43,7 +43,7 @@ records_invoked past x k op old new e done top holes is history r = record {
       r.watching));
 }
 
-module _ (past : List Event) (x : Event) (r : Reply) (old new : Recorded)
+module _ (past : List Event) (x : Event) (r : Reply) (old new : RecordedTickets)
     (rest : List PendingTicket) (i : ℕ) (u : PendingTicket) (e : x.action ≡ Respond r)
     (k : IsPendingAt old.pending.items x.worker i) (read : u ≡ get_or old.pending.items i u)
     (is : rest ≡ remove old.pending.items i) (history : IsHistoryOf Sequencer (x ∷ past))
@@ -60,7 +60,7 @@ module _ (past : List Event) (x : Event) (r : Reply) (old new : Recorded)
   }
 
   pub faulty : IsTaken old.top new.top old.holes.items new.holes.items (length rest) u.noted
-      (number_of r) false → IsFaulty (x ∷ past) new
+      (ticket_number r) false → IsFaulty (x ∷ past) new
   faulty t =
       let g = cannot past x r old.top old.holes.items old.pending.items rest i u e k read is history
       o.watching t in
@@ -68,7 +68,7 @@ module _ (past : List Event) (x : Event) (r : Reply) (old new : Recorded)
 
   pub followed : (b : Bool) → x.at ≤ 18446744073709551615
       → IsTaken old.top new.top old.holes.items new.holes.items (length rest) u.noted
-      (number_of r) true → IsPaired new.holes.items rest b → IsFollowed (x ∷ past) new b
+      (ticket_number r) true → IsPaired new.holes.items rest b → IsFollowed (x ∷ past) new b
   followed true fits t p = record {
     gathered = gathered;
     watching = subst (λ us. Watching (x ∷ past) new.top new.holes.items us) (sym same)

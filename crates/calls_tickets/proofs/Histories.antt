@@ -1,4 +1,4 @@
--- Histories of tickets, and their beginnings.
+-- Histories of tickets, and their prefixes.
 use Rattle.std.proofs.Common.{◌≡◌, ℕ, ◌+◌, ◌<◌, ◌≤◌, ◌==◌, cond, true, false, List, [], ◌∷◌, ◌++◌}
 use Rattle.std.proofs.Common.{length, take, drop, get_or, reverse, Option, Some, None, refl, ap}
 use Rattle.std.proofs.Common.{◌∙◌, arith, subst, length-append}
@@ -43,7 +43,7 @@ history_next events i d lt h =
 
 -- NO MORE CALLS THAN POSITIONS
 
-without_long : (w : ℕ) (os : List PendingCall) (o : PendingCall) → pending_of w os ≡ Some o
+pub without_long : (w : ℕ) (os : List PendingCall) (o : PendingCall) → pending_of w os ≡ Some o
     → length (without w os) + 1 ≡ length os
 without_long w [] o e = absurd cc
 without_long w (p ∷ os) o e =
@@ -103,9 +103,3 @@ response x r past o e found h = record {
       IsNextOf Sequencer a (pending_of x.worker (pending_calls past))) e h.1);
   later = h.0;
 }
-
-pub no_response : (x : Event) (r : Reply) (past : List Event) → x.action ≡ Respond r
-    → pending_of x.worker (pending_calls past) ≡ None → IsHistoryOf Sequencer (x ∷ past) → ⊥
-no_response x r past e none h =
-    subst (IsNextOf Sequencer (Respond r)) none (subst (λ a.
-    IsNextOf Sequencer a (pending_of x.worker (pending_calls past))) e h.1)

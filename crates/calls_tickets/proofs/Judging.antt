@@ -1,4 +1,4 @@
--- What is kept of the events so far decides whether they have a linearization.
+-- The state of a monitor decides whether the events so far have a linearization.
 use Rattle.std.proofs.Common.{◌≡◌, ℕ, ◌+◌, ◌<◌, ◌≤◌, ◌⊎◌, inl, inr, ◌==◌, Bool, true, false, nat_le}
 use Rattle.std.proofs.Common.{List, [], ◌∷◌, map, refl, ap, sym, arith, subst, count_by}
 use Rattle.std.specs.List.{Contains}
@@ -145,7 +145,7 @@ module _ (past : List Event) (history : IsHistoryOf Sequencer past) (top : ℕ) 
     high : h < number call
     first : Each (λ (d : Call). h < number d → call.last ≤ d.last) cs
 
-  -- the first ticket that returned a number above h
+  -- the first ticket that returned a number above h, if one did
   first_above : (h : ℕ) (cs : List Call) → EachPair (λ (a b : Call). b.last < a.last) cs
       → First h cs ⊎ Each (λ (d : Call). number d ≤ h) cs
   first_above h [] falls = inr tt

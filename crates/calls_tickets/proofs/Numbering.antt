@@ -1,4 +1,4 @@
--- Numbers that were returned, and those that are missing.
+-- The numbers that were returned, and the missing ones.
 use Rattle.std.proofs.Common.{◌≡◌, ℕ, zero, suc, ◌+◌, ◌-◌, ◌<◌, ◌≤◌, ◌⊎◌, inl, inr, ◌==◌, Bool}
 use Rattle.std.proofs.Common.{true, false, nat_le, List, [], ◌∷◌, ◌++◌, length, Some, slice_get}
 use Rattle.std.proofs.Common.{refl, ap, sym, ◌∙◌, arith, subst, count_by, length-append}
@@ -76,7 +76,7 @@ count_contains p xs x h e =
     omega (
       arith,
       ap (count_by p) s.is,
-      count_append p s.front (x ∷ s.back),
+      count_append p s.prefix (x ∷ s.back),
       count_cons p x s.back,
       one_yes (p x) e,
     )
@@ -85,16 +85,16 @@ pub count_two : {X : Type 0} (p : X → Bool) (xs : List X) (x y : X) → Contai
     → p x ≡ true → p y ≡ true → (x ≡ y → ⊥) → 2 ≤ count_by p xs
 count_two p xs x y h k e f other =
     let s = split_at xs x h in
-    let whole : count_by p xs ≡ count_by p s.front + (one (p x) + count_by p s.back) =
-    ap (count_by p) s.is ∙ count_append p s.front (x ∷ s.back) ∙ ap (λ n. count_by p s.front + n)
+    let whole : count_by p xs ≡ count_by p s.prefix + (one (p x) + count_by p s.back) =
+    ap (count_by p) s.is ∙ count_append p s.prefix (x ∷ s.back) ∙ ap (λ n. count_by p s.prefix + n)
     (count_cons p x s.back) in
-    elim (in_either s.front x s.back y (subst (λ zs. Contains zs y) s.is k)) [
+    elim (in_either s.prefix x s.back y (subst (λ zs. Contains zs y) s.is k)) [
       | inl r ↦ omega (
         arith,
         whole,
         one_yes (p x) e,
         ap (count_by p) r.is,
-        count_append p r.front
+        count_append p r.prefix
             (y ∷ r.back),
         count_cons p y r.back,
         one_yes (p y) f,
@@ -106,7 +106,7 @@ count_two p xs x y h k e f other =
         one_yes (p x) e,
         ap (count_by p) r.is,
         count_append p
-            r.front (y ∷ r.back),
+            r.prefix (y ∷ r.back),
         count_cons p y r.back,
         one_yes (p y) f,
       )
@@ -201,14 +201,14 @@ each_to done top holes a (suc k) lt =
       each_to done top holes a k (omega arith),
     )
 
--- none with this number
+-- no element has this number
 pub none_is : {X : Type 0} (f : X → ℕ) (k : ℕ) (xs : List X) → Each (λ x. f x ≡ k → ⊥) xs
     → count_by (λ x. f x == k) xs ≡ 0
 none_is f k xs h =
     count_none (λ x. f x == k) xs (all_from_each (λ x. (f x == k) ≡ false) xs (each_weaker (λ x.
     f x ≡ k → ⊥) (λ x. (f x == k) ≡ false) (λ x n. ne_eqb (f x) k n) xs h))
 
--- PLACES
+-- RANGES OF NUMBERS
 
 pub places_long : (p n : ℕ) → length (places p n) ≡ n
 places_long p zero = refl

@@ -1,4 +1,4 @@
--- The whole decision, by what is gathered.
+-- The whole decision, by the recorded tickets.
 use Rattle.std.proofs.Common.{◌≡◌, ℕ, ◌+◌, ◌<◌, ◌≤◌, List, ◌∷◌, length, reverse, get_or, sym, arith}
 use Rattle.std.proofs.Common.{subst, below_more}
 use Rattle.calls_core.specs.declared.history.Kind.TheVariants.{Sequencer}
@@ -9,7 +9,7 @@ use Rattle.calls_core.specs.Beginnings.{past_at}
 use Rattle.calls_core.specs.Outcomes.{IsOrderOf, HasOrderOf, IsFirstFault}
 use Rattle.calls_tickets.specs.declared.fault.Fault.{Fault}
 use Rattle.calls_tickets.specs.declared.table.Decision.{Decision}
-use Rattle.calls_tickets.specs.declared.recorded.Recorded.{Recorded}
+use Rattle.calls_tickets.specs.declared.recorded.RecordedTickets.{RecordedTickets}
 use Rattle.calls_tickets.specs.Faults.{Shows}
 use Rattle.calls_tickets.specs.kept.Tables.{AreTickets, IsDecided}
 use Rattle.calls_tickets.specs.kept.Watching.{calls_in}
@@ -18,8 +18,9 @@ use Rattle.calls_tickets.proofs.Histories.{tickets_until, past_next, past_all, h
 use Rattle.calls_tickets.proofs.Refuting.{no_order}
 use Rattle.calls_tickets.proofs.Answering.{watching_order, shown_no_order}
 
--- what is gathered are the calls of the past
-pub tickets_gathered : (past : List Event) (r : Recorded) (t : ℕ) → IsHistoryOf Sequencer past
+-- the recorded tickets are the calls of the history so far
+pub tickets_gathered : (past : List Event) (r : RecordedTickets) (t : ℕ)
+    → IsHistoryOf Sequencer past
     → clock past ≤ t + 1 → AreGathered past r → AreTickets (reverse r.done.items)
     (calls_in r.pending.items) t
 tickets_gathered past r t h le g =
@@ -27,7 +28,8 @@ tickets_gathered past r t h le g =
     (subst (λ os. AreTickets (completed_calls past) os t) (sym g.pending_are)
     (tickets_until past t h le))
 
-pub decided_of : (past : List Event) (r : Recorded) (t : ℕ) (d e : Decision) → AreGathered past r
+pub decided_of : (past : List Event) (r : RecordedTickets) (t : ℕ) (d e : Decision)
+    → AreGathered past r
     → d ≡ e → IsDecided (reverse r.done.items) (calls_in r.pending.items) t d
     → IsDecided (completed_calls past) (pending_calls past) t e
 decided_of past r t d e g is h =
@@ -36,12 +38,13 @@ decided_of past r t d e g is h =
     (subst (λ os. IsDecided (reverse r.done.items) os t d) g.pending_are h))
 
 pub not_ordered : (past : List Event) (t : ℕ) (cs : List Call) → IsHistoryOf Sequencer past
-    → clock past ≤ t + 1 → (r : Recorded) → IsFaulty past r → IsOrderOf Sequencer past t cs → ⊥
+    → clock past ≤ t + 1 → (r : RecordedTickets) → IsFaulty past r → IsOrderOf Sequencer past t cs
+    → ⊥
 not_ordered past t cs h le r f l =
     no_order (completed_calls past) (pending_calls past) t (tickets_until past t h le) cs l f.fault
     f.shows
 
-pub not_faulty : (past : List Event) (r : Recorded) (g : Fault) → IsHistoryOf Sequencer past
+pub not_faulty : (past : List Event) (r : RecordedTickets) (g : Fault) → IsHistoryOf Sequencer past
     → Records past r → Shows past g → ⊥
 not_faulty past r g h k s = shown_no_order past g h s (watching_order past r.top r.holes.items
     r.pending.items h k.watching)
@@ -54,12 +57,12 @@ module _ (events : List Event) (i : ℕ) (d : Event) (lt : i < length events)
   pub history_here : IsHistoryOf Sequencer (get_or events i d ∷ past_at i events)
   history_here = history_next events i d lt history
 
-  pub has_order : (r : Recorded) → Records (past_at i events) r
+  pub has_order : (r : RecordedTickets) → Records (past_at i events) r
       → HasOrderOf Sequencer (past_at i events)
   has_order r k = watching_order (past_at i events) r.top r.holes.items r.pending.items
       history_here.2 k.watching
 
-  pub first_fault : (old : Recorded) (g : Fault) → Records (past_at i events) old
+  pub first_fault : (old : RecordedTickets) (g : Fault) → Records (past_at i events) old
       → ((j : ℕ) → j < i → HasOrderOf Sequencer (past_at j events))
       → Shows (get_or events i d ∷ past_at i events) g → IsFirstFault (λ past.
       Shows past g) Sequencer events i
@@ -70,7 +73,7 @@ module _ (events : List Event) (i : ℕ) (d : Event) (lt : i < length events)
         (has_order old k) j (omega arith);
   }
 
-  pub records_next : (old new : Recorded) → Records (past_at i events) old
+  pub records_next : (old new : RecordedTickets) → Records (past_at i events) old
       → ((j : ℕ) → j < i → HasOrderOf Sequencer (past_at j events))
       → Records (get_or events i d ∷ past_at i events) new
       → Records (past_at (i + 1) events) new × ((j : ℕ) → j < i + 1
@@ -80,6 +83,6 @@ module _ (events : List Event) (i : ℕ) (d : Event) (lt : i < length events)
     below_more (λ k. HasOrderOf Sequencer (past_at k events)) i before (has_order old k),
   )
 
-pub records_all : (events : List Event) (i : ℕ) (r : Recorded) → length events ≤ i
+pub records_all : (events : List Event) (i : ℕ) (r : RecordedTickets) → length events ≤ i
     → Records (past_at i events) r → Records (reverse events) r
 records_all events i r le k = subst (λ p. Records p r) (past_all events i le) k

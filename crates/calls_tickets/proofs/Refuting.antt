@@ -15,10 +15,10 @@ use Rattle.calls_tickets.specs.declared.fault.Fault.{Fault}
 use Rattle.calls_tickets.specs.declared.fault.Fault.TheVariants.{Twice, Turned, Drawn}
 use Rattle.calls_core.specs.Lists.{Each}
 use Rattle.calls_core.specs.Histories.{completion}
-use Rattle.calls_core.specs.Linearizations.{Gives, after, IsSequentialRun, KeepsOrder, answered_one}
+use Rattle.calls_core.specs.Linearizations.{Gives, after, IsLegalHistory, KeepsOrder, answered_one}
 use Rattle.calls_core.specs.Linearizations.{answered_calls, initial}
 use Rattle.calls_core.specs.declared.history.Kind.TheVariants.{Sequencer}
-use Rattle.calls_tickets.specs.Faults.{number_of, number, FromTwice, FromTurned, FromDrawn, ShowsIn}
+use Rattle.calls_tickets.specs.Faults.{ticket_number, number, FromTwice, FromTurned, FromDrawn, ShowsIn}
 use Rattle.calls_tickets.specs.kept.Tables.{ReturnedTicket, InvokedTicket, AreTickets}
 use Rattle.calls_tickets.specs.kept.Tables.{IsTicketOrder}
 use Rattle.calls_core.proofs.Lists.{each_weaker, each_both, each_append, all_from_each}
@@ -30,19 +30,20 @@ use Rattle.calls_core.proofs.Counting.{in_either, pairs_left}
 abbrev pub IsTicket : Call → Type 0
 IsTicket c = c.op ≡ Ticket
 
--- A RUN OF TICKETS
+-- LEGAL SEQUENTIAL HISTORIES OF TICKETS
 
 abbrev empty : ℕ → ℕ
 empty = initial (Some Sequencer)
 
-number_given : (m : ℕ → ℕ) (op : Op) (r : Reply) → op ≡ Ticket → Gives m op r → number_of r ≡ m 0
-number_given m op r e g = ap number_of (subst (λ k. Gives m k r) e g)
+number_given : (m : ℕ → ℕ) (op : Op) (r : Reply) → op ≡ Ticket → Gives m op r
+    → ticket_number r ≡ m 0
+number_given m op r e g = ap ticket_number (subst (λ k. Gives m k r) e g)
 
 after_ticket : (m : ℕ → ℕ) (op : Op) (r : Reply) → op ≡ Ticket → after m op r 0 ≡ m 0 + 1
 after_ticket m op r e = ap (λ k. after m k r 0) e
 
 pub run_number : (m : ℕ → ℕ) (xs : List Call) (c : Call) (ys : List Call)
-    → Each IsTicket (xs ++ c ∷ ys) → IsSequentialRun m (xs ++ c ∷ ys) → number c ≡ m 0 + length xs
+    → Each IsTicket (xs ++ c ∷ ys) → IsLegalHistory m (xs ++ c ∷ ys) → number c ≡ m 0 + length xs
 run_number m [] c ys t run = number_given m c.op c.reply t.0 run.0 ∙ omega arith
 run_number m (x ∷ xs) c ys t run = omega (
   arith,
@@ -52,7 +53,7 @@ run_number m (x ∷ xs) c ys t run = omega (
 )
 
 run_below : (m : ℕ → ℕ) (xs ys : List Call) → Each IsTicket (xs ++ ys)
-    → IsSequentialRun m (xs ++ ys) → Each (λ x. number x < m 0 + length xs) xs
+    → IsLegalHistory m (xs ++ ys) → Each (λ x. number x < m 0 + length xs) xs
 run_below m [] ys t run = tt
 run_below m (x ∷ xs) ys t run =
     let e = after_ticket m x.op x.reply t.0 in
@@ -79,7 +80,7 @@ answered_tickets t answer (o ∷ os) h = each_append IsTicket (answered_one t o 
 -- COUNTS
 
 module _ (k m : ℕ) where
-  -- may be among the first k + 1, if the last of these was returned at m
+  -- a call that may be among the first k + 1, if the last of these was returned at m
   abbrev pub early_number : Call → Bool
   early_number x = nat_le (number x) k && nat_le x.first m
 
@@ -91,7 +92,7 @@ module _ (k m : ℕ) where
     count_cons early_number (completion t r o) [],
     one_less
         (early_number (completion t r o)) (nat_le o.first m) (λ e.
-        (and_parts (nat_le (number_of r) k) (nat_le o.first m) e).1),
+        (and_parts (nat_le (ticket_number r) k) (nat_le o.first m) e).1),
   )
 
   answered_early : (t : ℕ) (answer : PendingCall → Option Reply) (os : List PendingCall)
@@ -134,36 +135,36 @@ module _ (done : List Call) (pending : List PendingCall) (t : ℕ) (given : AreT
       → number c ≡ length xs
   number_at xs c ys is =
       run_number empty xs c ys (subst (Each IsTicket) is tickets)
-      (subst (IsSequentialRun empty) is l.run) ∙ omega arith
+      (subst (IsLegalHistory empty) is l.run) ∙ omega arith
 
-  -- b is before a, or they are the same, or b is after a
+  -- in the order b is before a, or they are the same, or b is after a
   standing : (a b : Call) → Contains done a → Contains done b
       → ((number b < number a) × KeepsOrder b a) ⊎ ((a ≡ b) ⊎ (number a < number b))
   standing a b ka kb =
       let s = split_at cs a (known_in a ka) in
-      let na = number_at s.front a s.back s.is in
-      elim (in_either s.front a s.back b (subst (λ zs. Contains zs b) s.is (known_in b kb))) [
+      let na = number_at s.prefix a s.back s.is in
+      elim (in_either s.prefix a s.back b (subst (λ zs. Contains zs b) s.is (known_in b kb))) [
         | inl r ↦
-            let whole : cs ≡ r.front ++ b ∷ (r.back ++ a ∷ s.back) =
-            s.is ∙ ap (λ zs. zs ++ a ∷ s.back) r.is ∙ append_assoc r.front (b ∷ r.back)
+            let whole : cs ≡ r.prefix ++ b ∷ (r.back ++ a ∷ s.back) =
+            s.is ∙ ap (λ zs. zs ++ a ∷ s.back) r.is ∙ append_assoc r.prefix (b ∷ r.back)
             (a ∷ s.back) in
-            let nb = number_at r.front b (r.back ++ a ∷ s.back) whole in
-            let longer : length s.front ≡ length (r.front ++ b ∷ r.back) = ap length r.is in
-            let before : All (λ x. KeepsOrder x a) s.front =
-            pairs_left KeepsOrder s.front a s.back (subst (AllPairs KeepsOrder) s.is l.in_order)
+            let nb = number_at r.prefix b (r.back ++ a ∷ s.back) whole in
+            let longer : length s.prefix ≡ length (r.prefix ++ b ∷ r.back) = ap length r.is in
+            let before : All (λ x. KeepsOrder x a) s.prefix =
+            pairs_left KeepsOrder s.prefix a s.back (subst (AllPairs KeepsOrder) s.is l.in_order)
             in
             inl (
-              omega (arith, na, nb, longer, length_of r.front b r.back),
+              omega (arith, na, nb, longer, length_of r.prefix b r.back),
               All-contains (λ x.
-                  KeepsOrder x a) s.front b before (contains_split s.front b r),
+                  KeepsOrder x a) s.prefix b before (contains_split s.prefix b r),
             )
         | inr (inl e) ↦ inr (inl e)
         | inr (inr r) ↦
-            let whole : cs ≡ (s.front ++ a ∷ r.front) ++ b ∷ r.back =
-            s.is ∙ ap (λ zs. s.front ++ a ∷ zs) r.is ∙ sym (append_assoc s.front (a ∷ r.front)
+            let whole : cs ≡ (s.prefix ++ a ∷ r.prefix) ++ b ∷ r.back =
+            s.is ∙ ap (λ zs. s.prefix ++ a ∷ zs) r.is ∙ sym (append_assoc s.prefix (a ∷ r.prefix)
             (b ∷ r.back)) in
-            let nb = number_at (s.front ++ a ∷ r.front) b r.back whole in
-            inr (inr (omega (arith, na, nb, length_of s.front a r.front)))
+            let nb = number_at (s.prefix ++ a ∷ r.prefix) b r.back whole in
+            inr (inr (omega (arith, na, nb, length_of s.prefix a r.prefix)))
       ]
     where
       length_of : (xs : List Call) (x : Call) (ys : List Call)
@@ -172,7 +173,7 @@ module _ (done : List Call) (pending : List PendingCall) (t : ℕ) (given : AreT
       length_of (y ∷ xs) x ys = omega (arith, length_of xs x ys)
 
       contains_split : (xs : List Call) (x : Call) → Split xs x → Contains xs x
-      contains_split xs x r = subst (λ zs. Contains zs x) (sym r.is) (Contains-append_right r.front
+      contains_split xs x r = subst (λ zs. Contains zs x) (sym r.is) (Contains-append_right r.prefix
           (x ∷ r.back) x (zero, omega arith, refl))
 
   not_twice : (a b : Call) → FromTwice done a b → ⊥
@@ -196,34 +197,34 @@ module _ (done : List Call) (pending : List PendingCall) (t : ℕ) (given : AreT
   not_drawn c f =
       let s = split_at cs c (known_in c f.known) in
       let k = number c in
-      let nc : k ≡ length s.front = number_at s.front c s.back s.is in
+      let nc : k ≡ length s.prefix = number_at s.prefix c s.back s.is in
       let own : ReturnedTicket t c = All-contains (ReturnedTicket t) done c
       (all_from_each (ReturnedTicket t) done given.returned) f.known in
-      let below : Each (λ x. number x < 0 + length s.front) s.front =
-      run_below empty s.front (c ∷ s.back) (subst (Each IsTicket) s.is tickets)
-      (subst (IsSequentialRun empty) s.is l.run) in
-      let before : All (λ x. KeepsOrder x c) s.front = pairs_left KeepsOrder s.front c s.back
+      let below : Each (λ x. number x < 0 + length s.prefix) s.prefix =
+      run_below empty s.prefix (c ∷ s.back) (subst (Each IsTicket) s.is tickets)
+      (subst (IsLegalHistory empty) s.is l.run) in
+      let before : All (λ x. KeepsOrder x c) s.prefix = pairs_left KeepsOrder s.prefix c s.back
       (subst (AllPairs KeepsOrder) s.is l.in_order) in
-      let front : count_by (early_number k c.last) s.front ≡ length s.front =
-      count_every (early_number k c.last) s.front (all_from_each (λ x.
-      early_number k c.last x ≡ true) s.front
-      (each_both (λ x. number x < 0 + length s.front) (λ x. KeepsOrder x c) (λ x.
-      early_number k c.last x ≡ true) (λ x lt h. front_one x lt h nc) s.front below
-      (each_from_all (λ x. KeepsOrder x c) s.front before))) in
+      let prefix : count_by (early_number k c.last) s.prefix ≡ length s.prefix =
+      count_every (early_number k c.last) s.prefix (all_from_each (λ x.
+      early_number k c.last x ≡ true) s.prefix
+      (each_both (λ x. number x < 0 + length s.prefix) (λ x. KeepsOrder x c) (λ x.
+      early_number k c.last x ≡ true) (λ x lt h. front_one x lt h nc) s.prefix below
+      (each_from_all (λ x. KeepsOrder x c) s.prefix before))) in
       let here : one (early_number k c.last c) ≡ 1 = one_yes (early_number k c.last c)
       (and_from (nat_le (number c) k) (nat_le c.first c.last)
       (le-leb (number c) k (omega arith)) (le-leb c.first c.last own.lasts)) in
-      let whole : count_by (early_number k c.last) cs ≡ count_by (early_number k c.last) s.front +
+      let whole : count_by (early_number k c.last) cs ≡ count_by (early_number k c.last) s.prefix +
       (one (early_number k c.last c) + count_by (early_number k c.last) s.back) =
-      ap (count_by (early_number k c.last)) s.is ∙ count_append (early_number k c.last) s.front
-      (c ∷ s.back) ∙ ap (λ n. count_by (early_number k c.last) s.front + n)
+      ap (count_by (early_number k c.last)) s.is ∙ count_append (early_number k c.last) s.prefix
+      (c ∷ s.back) ∙ ap (λ n. count_by (early_number k c.last) s.prefix + n)
       (count_cons (early_number k c.last) c s.back) in
       let moved = count_moved (early_number k c.last) (answered_calls t l.answer pending ++ done) cs
       l.each_once in
       omega (
         arith,
         nc,
-        front,
+        prefix,
         here,
         whole,
         moved,
@@ -233,8 +234,8 @@ module _ (done : List Call) (pending : List PendingCall) (t : ℕ) (given : AreT
         f.few,
       )
     where
-      front_one : (x : Call) → number x < 0 + length (split_at cs c (known_in c f.known)).front
-          → KeepsOrder x c → number c ≡ length (split_at cs c (known_in c f.known)).front
+      front_one : (x : Call) → number x < 0 + length (split_at cs c (known_in c f.known)).prefix
+          → KeepsOrder x c → number c ≡ length (split_at cs c (known_in c f.known)).prefix
           → early_number (number c) c.last x ≡ true
       front_one x lt h e =
           and_from (nat_le (number x) (number c)) (nat_le x.first c.last)

@@ -9,7 +9,7 @@ use Rattle.calls_tickets.specs.declared.pending.PendingTicket.{PendingTicket}
 use Rattle.calls_tickets.specs.kept.Watching.{calls_in, IsPendingAt, IsHoleAt, NoHole, Paired}
 use Rattle.calls_tickets.specs.kept.Watching.{Unpaired}
 
--- A WORKER'S TICKET
+-- THE PENDING TICKET OF A WORKER
 
 abbrev pub NotHis : List PendingTicket → ℕ → ℕ → Type 0
 NotHis us w k = (u : PendingTicket) → slice_get us k ≡ Some u → (u.call.worker == w) ≡ false

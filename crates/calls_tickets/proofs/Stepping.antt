@@ -1,4 +1,4 @@
--- One event more.
+-- The state after one more event.
 use Rattle.std.proofs.Common.{◌≡◌, ℕ, zero, suc, ◌+◌, ◌<◌, ◌≤◌, ◌⊎◌, inl, inr, ◌==◌, true, List, []}
 use Rattle.std.proofs.Common.{◌∷◌, ◌++◌, length, Some, slice_get, refl, ap, sym, ◌∙◌, arith, subst}
 use Rattle.std.proofs.Common.{count_by}
@@ -24,7 +24,7 @@ use Rattle.calls_core.proofs.Positions.{are_calls_of}
 use Rattle.calls_tickets.specs.declared.fault.Fault.{Fault}
 use Rattle.calls_tickets.specs.declared.fault.Fault.TheVariants.{Twice, Turned, Drawn}
 use Rattle.calls_tickets.specs.declared.pending.PendingTicket.{PendingTicket}
-use Rattle.calls_tickets.specs.Faults.{number_of, number, FromTurned, ShowsIn, Shows}
+use Rattle.calls_tickets.specs.Faults.{ticket_number, number, FromTurned, ShowsIn, Shows}
 use Rattle.calls_tickets.specs.kept.Watching.{calls_in, IsTop, AreHoles, Paired, Following}
 use Rattle.calls_tickets.specs.kept.Watching.{Watching, IsPendingAt, IsHoleAt, NoHole, Fills}
 use Rattle.calls_tickets.specs.kept.Watching.{Raises, CannotTake, IsTaken}
@@ -35,26 +35,9 @@ use Rattle.calls_tickets.proofs.Numbering.{holes_start, holes_filled, holes_rais
 use Rattle.calls_tickets.proofs.Numbering.{tops_rise}
 use Rattle.calls_tickets.proofs.Judging.{each_unmap}
 
--- NO EVENTS
-
-pub watching_start : Watching [] 0 [] []
-watching_start = record {
-  follows = record {
-    pending_is = refl;
-    holes_are = holes_start;
-    top_is = record { above = tt; reached = inl refl };
-    noted = tt;
-    straight = λ a b f. absurd (nothing a f.first);
-  };
-  paired = tt;
-}
-  where
-    nothing : (a : Call) → Contains [] a → ⊥
-    nothing a (k, lt, e) = absurd (omega arith)
-
 -- TOPS
 
--- what was returned before p was returned before q
+-- the top at position p is the top at q, if all tickets returned before p
 top_later : (done : List Call) (p q n : ℕ) → Each (λ (d : Call). d.last < p) done → p ≤ q
     → IsTop done p n → IsTop done q n
 top_later done p q n early le t = record {
@@ -68,7 +51,7 @@ top_later done p q n early le t = record {
     go (inl e) = inl e
     go (inr (d, known, lt, e)) = inr (d, known, omega arith, e)
 
--- a response from p on changes nothing
+-- a response from p on doesn't change the top at p
 top_kept : (done : List Call) (c : Call) (p n : ℕ) → p ≤ c.last → IsTop done p n
     → IsTop (c ∷ done) p n
 top_kept done c p n le t = record {
@@ -178,8 +161,8 @@ module _ (past : List Event) (x : Event) (r : Reply) (top : ℕ) (holes : List �
   last_early d h = each_contains (λ (d : Call). d.last < clock past) (completed_calls past) d early
       h
 
-  -- it was not invoked after a greater number was returned
-  straight_more : u.noted ≤ number_of r → (a b : Call) → FromTurned
+  -- no greater number was returned before the ticket's invocation
+  straight_more : u.noted ≤ ticket_number r → (a b : Call) → FromTurned
       (completion x.at r u.call ∷ completed_calls past) a b → ⊥
   straight_more low a b t = go t.first t.second
     where
@@ -214,7 +197,7 @@ module _ (past : List Event) (x : Event) (r : Reply) (top : ℕ) (holes : List �
           absurd (omega (arith, t.before, last_early b kb, is_response.later)))
       apart (inr ka) (inl sb) =
           (let first : u.call.first ≡ b.first = ap (λ (c : Call). c.first) sb in
-          let same : number_of r ≡ number b = ap number sb in
+          let same : ticket_number r ≡ number b = ap number sb in
           let less : number a < u.noted = each_contains (λ (d : Call). d.last < u.call.first
           → number d < u.noted) (completed_calls past) a u_noted.above ka
           (omega (arith, t.before)) in
@@ -228,7 +211,7 @@ module _ (past : List Event) (x : Event) (r : Reply) (top : ℕ) (holes : List �
       later more
       → (later ≡ 0) ⊎ ((d : Call) × Contains (completion x.at r u.call ∷ completed_calls past) d
       × (d.last < x.at + 1) × (later ≡ number d + 1))
-      → u.noted ≤ number_of r → Following (x ∷ past) later more rest
+      → u.noted ≤ ticket_number r → Following (x ∷ past) later more rest
   follow later more a reached low = record {
     pending_is = left;
     holes_are = subst (λ ds. AreHoles ds later more) (sym ended) a;
@@ -255,16 +238,16 @@ module _ (past : List Event) (x : Event) (r : Reply) (top : ℕ) (holes : List �
   rest_long : length rest + 1 ≡ length us
   rest_long = ap (λ zs. length zs + 1) is ∙ remove_long us i u read
 
-  -- THE NUMBER IS TAKEN
+  -- THE NUMBER IS POSSIBLE
 
-  filled : (later : ℕ) (more : List ℕ) → number_of r < top → later ≡ top
-      → Fills holes more u.noted (number_of r) → Following (x ∷ past) later more rest
+  filled : (later : ℕ) (more : List ℕ) → ticket_number r < top → later ≡ top
+      → Fills holes more u.noted (ticket_number r) → Following (x ∷ past) later more rest
   filled later more lt same (j, at, low, gone) =
       follow later more
       (subst (λ n. AreHoles (completion x.at r u.call ∷ completed_calls past) n more) (sym same)
       (subst (AreHoles (completion x.at r u.call ∷ completed_calls past) top) (sym gone)
       (holes_filled (completed_calls past) top holes (completion x.at r u.call) j
-      (number_of r) f.holes_are refl at)))
+      (ticket_number r) f.holes_are refl at)))
       (go f.top_is.reached) low
     where
       go : (top ≡ 0) ⊎ ((d : Call) × Contains (completed_calls past) d × (d.last < clock past)
@@ -284,9 +267,9 @@ module _ (past : List Event) (x : Event) (r : Reply) (top : ℕ) (holes : List �
   u_low = tops_rise (completed_calls past) u.call.first (clock past) u.noted top u_noted f.top_is
       (omega (arith, u_early))
 
-  -- no number is greater than the positions
-  small : top ≤ number_of r → length holes + number_of r ≤ length rest + top
-      → number_of r + 1 ≤ x.at
+  -- the number is less than the position of its response
+  small : top ≤ ticket_number r → length holes + ticket_number r ≤ length rest + top
+      → ticket_number r + 1 ≤ x.at
   small high few =
       omega (
         arith,
@@ -299,16 +282,16 @@ module _ (past : List Event) (x : Event) (r : Reply) (top : ℕ) (holes : List �
       )
 
   raised : (later : ℕ) (more : List ℕ) → x.at ≤ 18446744073709551615
-      → Raises top later holes more (length rest) (number_of r)
+      → Raises top later holes more (length rest) (ticket_number r)
       → Following (x ∷ past) later more rest
   raised later more fits m =
-      let next : later ≡ number_of r + 1 = omega (arith, m.later_is, small m.high m.few) in
+      let next : later ≡ ticket_number r + 1 = omega (arith, m.later_is, small m.high m.few) in
       follow later more
       (subst (λ n. AreHoles (completion x.at r u.call ∷ completed_calls past) n more) (sym next)
-      (subst (AreHoles (completion x.at r u.call ∷ completed_calls past) (number_of r + 1))
+      (subst (AreHoles (completion x.at r u.call ∷ completed_calls past) (ticket_number r + 1))
       (sym m.more_is)
       (holes_raised (completed_calls past) top holes (completion x.at r u.call)
-      (number_of r) f.holes_are refl m.high)))
+      (ticket_number r) f.holes_are refl m.high)))
       (inr (
         completion x.at r u.call,
         contains_first (completion x.at r u.call)
@@ -319,38 +302,38 @@ module _ (past : List Event) (x : Event) (r : Reply) (top : ℕ) (holes : List �
       (omega (arith, u_low, m.high))
 
   pub taken : (later : ℕ) (more : List ℕ) → x.at ≤ 18446744073709551615
-      → IsTaken top later holes more (length rest) u.noted (number_of r) true
+      → IsTaken top later holes more (length rest) u.noted (ticket_number r) true
       → Following (x ∷ past) later more rest
   taken later more fits (inl (lt, same, g)) = filled later more lt same g
   taken later more fits (inr m) = raised later more fits m
 
-  -- IT CAN'T BE
+  -- THE NUMBER IS IMPOSSIBLE
 
   shows_here : (g : Fault) → ShowsIn (completion x.at r u.call ∷ completed_calls past)
       (calls_in rest) g → Shows (x ∷ past) g
   shows_here g s = subst (λ ds. ShowsIn ds (pending_calls (x ∷ past)) g) (sym ended)
       (subst (λ os. ShowsIn (completion x.at r u.call ∷ completed_calls past) os g) (sym left) s)
 
-  twice : number_of r < top → NoHole holes (number_of r) → (g : Fault) × Shows (x ∷ past) g
+  twice : ticket_number r < top → NoHole holes (ticket_number r) → (g : Fault) × Shows (x ∷ past) g
   twice lt none =
-      let some = count_some (λ (d : Call). number d == number_of r) (completed_calls past)
+      let some = count_some (λ (d : Call). number d == ticket_number r) (completed_calls past)
       (omega (
         arith,
-        f.holes_are.each_once (number_of r) lt,
+        f.holes_are.each_once (ticket_number r) lt,
         none_is (λ h.
-            h) (number_of r) holes none,
+            h) (ticket_number r) holes none,
       )) in
       let a = some.0 in (
         Twice (completion x.at r u.call) a,
         shows_here (Twice (completion x.at r u.call) a) (record {
           first = contains_first (completion x.at r u.call) (completed_calls past);
           second = contains_later (completion x.at r u.call) (completed_calls past) a some.1;
-          same = sym (eqb-true (number a) (number_of r) some.2);
+          same = sym (eqb-true (number a) (ticket_number r) some.2);
           apart = λ s. absurd (omega (arith, last_early a some.1, is_response.later));
         }),
       )
 
-  turned : (j : ℕ) → IsHoleAt holes (number_of r) j → number_of r < u.noted → (g : Fault)
+  turned : (j : ℕ) → IsHoleAt holes (ticket_number r) j → ticket_number r < u.noted → (g : Fault)
       × Shows (x ∷ past) g
   turned j at lt = go u_noted.reached
     where
@@ -363,25 +346,25 @@ module _ (past : List Event) (x : Event) (r : Reply) (top : ℕ) (holes : List �
           first = contains_later (completion x.at r u.call) (completed_calls past) d known;
           second = contains_first (completion x.at r u.call) (completed_calls past);
           before = before;
-          more = elim (cases_lt (number_of r) (number d)) [
+          more = elim (cases_lt (ticket_number r) (number d)) [
             | inl less ↦ less
-            | inr le ↦ absurd (hole_free (completed_calls past) top holes (number_of r) f.holes_are
-                (contains_at holes j (number_of r) at) d known (omega arith))
+            | inr le ↦ absurd (hole_free (completed_calls past) top holes (ticket_number r) f.holes_are
+                (contains_at holes j (ticket_number r) at) d known (omega arith))
           ];
         }),
       )
 
-  drawn : top ≤ number_of r → length rest + top < length holes + number_of r → (g : Fault)
+  drawn : top ≤ ticket_number r → length rest + top < length holes + ticket_number r → (g : Fault)
       × Shows (x ∷ past) g
   drawn high few = (
     Drawn (completion x.at r u.call),
     shows_here (Drawn (completion x.at r u.call)) (record {
       known = contains_first (completion x.at r u.call) (completed_calls past);
       few =
-          (let all : count_by (λ (d : Call). nat_le (number d) (number_of r))
+          (let all : count_by (λ (d : Call). nat_le (number d) (ticket_number r))
           (completion x.at r u.call ∷ completed_calls past) ≤ suc
           (length (completed_calls past)) =
-          count_by-le-length (λ (d : Call). nat_le (number d) (number_of r))
+          count_by-le-length (λ (d : Call). nat_le (number d) (ticket_number r))
           (completion x.at r u.call ∷ completed_calls past) in
           omega (
             arith,
@@ -393,7 +376,7 @@ module _ (past : List Event) (x : Event) (r : Reply) (top : ℕ) (holes : List �
     }),
   )
 
-  pub not_taken : CannotTake top holes (length rest) u.noted (number_of r) → (g : Fault)
+  pub not_taken : CannotTake top holes (length rest) u.noted (ticket_number r) → (g : Fault)
       × Shows (x ∷ past) g
   not_taken (inl (lt, none)) = twice lt none
   not_taken (inr (inl (j, at, lt))) = turned j at lt

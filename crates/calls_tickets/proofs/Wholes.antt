@@ -1,4 +1,4 @@
--- The same without code: tickets have a linearization or show a fault.
+-- Tickets have a linearization or show a fault, whatever the code.
 use Rattle.std.proofs.Common.{◌≡◌, ℕ, zero, suc, ◌+◌, ◌-◌, ◌<◌, ◌≤◌, ◌⊎◌, inl, inr, List, [], ◌∷◌}
 use Rattle.std.proofs.Common.{◌++◌, length, take, get_or, set, replicate, Option, Some, None, refl}
 use Rattle.std.proofs.Common.{sym, ◌∙◌, arith, subst, length-set}
@@ -20,7 +20,7 @@ use Rattle.calls_core.specs.Calls.{AreCallsOf, IsCallOf, Early}
 use Rattle.calls_core.proofs.Lists.{each_weaker, each_both}
 use Rattle.calls_tickets.specs.declared.fault.Fault.{Fault}
 use Rattle.calls_tickets.specs.declared.fault.Fault.TheVariants.{Twice, Turned, Drawn}
-use Rattle.calls_tickets.specs.Faults.{number_of, number, ShowsIn}
+use Rattle.calls_tickets.specs.Faults.{ticket_number, number, ShowsIn}
 use Rattle.calls_tickets.specs.kept.Tables.{IsReturnedNumber, ReturnedTicket, InvokedTicket}
 use Rattle.calls_tickets.specs.kept.Tables.{AreTickets, IsTicketOrder, IsTable, IsBroken, IsWritten}
 use Rattle.calls_tickets.specs.kept.Tables.{fault_of}
@@ -42,13 +42,13 @@ ticket_taken (PBoth i j) h = absurd h
 ticket_taken (Put v) h = absurd h
 ticket_taken Get h = absurd h
 
-number_suits : (r : Reply) → Suits Ticket r → r ≡ Number (number_of r)
+number_suits : (r : Reply) → Suits Ticket r → r ≡ Number (ticket_number r)
 number_suits Done h = absurd h
 number_suits (Number n) h = refl
 number_suits Timeout h = absurd h
 
 pub ticket_suits : (op : Op) (r : Reply) → Takes (Some Sequencer) op → Suits op r
-    → r ≡ Number (number_of r)
+    → r ≡ Number (ticket_number r)
 ticket_suits op r h k = number_suits r (subst (λ o. Suits o r) (ticket_taken op h) k)
 
 pub tickets_of : (done : List Call) (pending : List PendingCall) (t u : ℕ) → t ≤ u + 1

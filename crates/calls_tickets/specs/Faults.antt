@@ -11,14 +11,14 @@ use Rattle.calls_core.specs.Linearizations.{Precedes}
 use Rattle.calls_tickets.specs.declared.fault.Fault.{Fault}
 use Rattle.calls_tickets.specs.declared.fault.Fault.TheVariants.{Twice, Turned, Drawn}
 
-abbrev pub number_of : Reply → ℕ
-number_of Done = 0
-number_of (Number n) = n
-number_of Timeout = 0
+abbrev pub ticket_number : Reply → ℕ
+ticket_number Done = 0
+ticket_number (Number n) = n
+ticket_number Timeout = 0
 
 -- the number that a ticket returned
 abbrev pub number : Call → ℕ
-number c = number_of c.reply
+number c = ticket_number c.reply
 
 -- two calls returned one number
 pub record FromTwice (done : List Call) (a b : Call) : Type 0 where

@@ -1,4 +1,4 @@
--- Theorems of every history of tickets.
+-- Theorems about every history of tickets.
 use Rattle.std.specs.Prelude.{◌⊎◌, ℕ, ◌≤◌, List}
 use Rattle.calls_core.specs.declared.history.Kind.TheVariants.{Sequencer}
 use Rattle.calls_core.specs.declared.history.Event.{Event}

@@ -1,4 +1,4 @@
--- What a monitor says.
+-- What a monitor represents, and its verdicts.
 use Rattle.std.specs.Prelude.{◌≡◌, ℕ, ◌<◌, List, ◌∷◌, Result, Ok, Err}
 use Rattle.calls_core.specs.declared.history.TheConstants.{WORKERS}
 use Rattle.calls_core.specs.declared.history.Kind.TheVariants.{Sequencer}
@@ -14,7 +14,7 @@ use Rattle.calls_tickets.specs.declared.monitor.Refused.{Refused}
 use Rattle.calls_tickets.specs.Faults.{Shows}
 use Rattle.calls_tickets.specs.kept.Watching.{Watching}
 
--- the monitor represents a past
+-- the monitor represents the history so far
 abbrev pub Watches : List Event → Monitor → Type 0
 Watches past m = Watching past m.top m.holes.items m.pending.items
 
@@ -23,12 +23,12 @@ abbrev pub HasRoom : Action → ℕ → Type 0
 HasRoom (Invoke k op) n = n < WORKERS
 HasRoom (Respond r) n = Unit {0}
 
--- it represents the longer past, and that has a linearization
+-- the monitor represents this history, and it has a linearization
 pub record IsAccepted (past : List Event) (new : Monitor) : Type 0 where
   pub watches : Watches past new
   pub order : HasOrderOf Sequencer past
 
--- with the event a fault is shown, so there is no linearization; and the event is the response of
+-- the event shows a fault, so the history has no linearization; and the event is the response of
 -- this call
 pub record IsRefused (past : List Event) (x : Event) (call : Call) : Type 0 where
   pub fault : Fault
@@ -40,7 +40,7 @@ abbrev pub Verdict : List Event → Event → Monitor → Result Unit Refused �
 Verdict past x new (Ok u) = IsAccepted (x ∷ past) new
 Verdict past x new (Err r) = IsRefused past x r.call
 
--- of every past that the old monitor represents
+-- the verdict on the event, for every history that the old monitor represents
 abbrev pub Judges : Monitor → Monitor → Event → Result Unit Refused → Type 0
 Judges old new x result =
     (past : List Event) → IsHistoryOf Sequencer (x ∷ past) → Watches past old

@@ -1,4 +1,4 @@
--- What is decided of a history.
+-- What the outcome of a decision says.
 use Rattle.std.specs.Prelude.{ℕ, List, reverse}
 use Rattle.calls_core.specs.declared.history.Kind.TheVariants.{Sequencer}
 use Rattle.calls_core.specs.declared.history.Event.{Event}

@@ -1,4 +1,4 @@
--- What only the code's own representation needs.
+-- How the code represents tickets. Of this, public contracts use only `Watching`.
 pub mod Tables
 pub mod Watching
 pub mod Recording

@@ -1,11 +1,11 @@
-//! The decision for a whole history.
+//! Decides a whole history of tickets.
 ghost use Rattle.std.specs.Prelude.{◌≡◌, ◌+◌, ◌≤◌, length, reverse, IfOk};
 ghost use Rattle.calls_core.specs.declared.history.Kind.TheVariants.{Sequencer};
 ghost use Rattle.calls_core.specs.Histories.{IsHistoryOf, clock};
 ghost use Rattle.calls_tickets.specs.Outcomes.{IsOutcome};
 
 use crate::Fault;
-use crate::recorded::Recorded;
+use crate::recorded::RecordedTickets;
 use crate::table::Decision;
 use calls_core::{Part, PlacedCalls};
 use std::alloc::{AllocError, Global};
@@ -20,14 +20,15 @@ pub enum Outcome {
     Refused(usize, Fault),
 }
 
-/// Decides whether the tickets of a history have a linearization, if the responses that pending
-/// tickets get are at position `end`.
+/// Decides whether the tickets of a history have a linearization.
+///
+/// In a linearization, pending tickets that took effect have their responses at position `end`.
 pub fn decide(alloc: Global, events: &Part<'_, '_>, end: usize) -> Result<Outcome, AllocError>
     requires history { IsHistoryOf Sequencer (reverse events.now) }
     requires ends { clock (reverse events.now) ≤ end }
     ensures { IfOk result (IsOutcome events.now end) }
 {
-    let mut calls = Recorded::new(alloc);
+    let mut calls = RecordedTickets::new(alloc);
     for i in 0..events.len() {
         let event = events.at(i);
         if !calls.event(*event)? {

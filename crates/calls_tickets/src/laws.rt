@@ -1,4 +1,4 @@
-//! Theorems of every history of tickets, each the contract of a function that does nothing.
+//! Theorems about every history of tickets, each the contract of an empty function.
 ghost use Rattle.calls_tickets.specs.Laws.{AFaultLeavesNoOrder, EveryHistoryIsDecided};
 
 /// States that a history that shows a fault has no linearization.

@@ -1,4 +1,4 @@
-//! Decides whether the tickets of a sequencer have a linearization.
+//! Decides and monitors whether the tickets of a sequencer are linearizable.
 #![tactic(auto)]
 
 mod deciding;

@@ -1,20 +1,20 @@
-//! A monitor: it takes in a history event by event and says at once whether it has a linearization.
+//! A monitor of one sequencer: it judges a history event by event, in constant memory.
 ghost use Rattle.std.specs.Prelude.{◌≡◌, ◌+◌, ◌-◌, ◌<◌, ◌≤◌, ◌++◌, ◌∷◌, [], length};
 ghost use Rattle.arrayvec.specs.ArrayVec.{array_vec_len};
 ghost use Rattle.calls_core.specs.Histories.{completion, invoked_by};
 ghost use Rattle.calls_tickets.specs.Monitors.{Watches, HasRoom, Judges};
 ghost use Rattle.calls_tickets.specs.kept.Watching.{places, IsTaken};
 
-use crate::pending::{PendingTicket, are_paired, completed, hole_index, number, pending_index};
+use crate::pending::{PendingTicket, are_paired, hole_index, number, pending_index};
 use arrayvec::ArrayVec;
 use calls_core::{Action, Call, Event, PendingCall, Reply, WORKERS};
 
-/// What is kept of the events so far. It does not grow with their number.
+/// The state after the events so far, with at most `WORKERS` pending tickets.
 #[derive(Drop)]
 pub struct Monitor {
     /// One more than the greatest number returned, 0 at first.
     pub top: usize,
-    /// The numbers below it that no ticket returned, ascending. Pending tickets have to return
+    /// The numbers below `top` that no ticket returned, ascending. Pending tickets have to return
     /// them.
     pub holes: ArrayVec<usize, WORKERS>,
     /// The pending tickets, in the order of their invocations.
@@ -24,11 +24,11 @@ pub struct Monitor {
 /// The events so far have no linearization.
 #[derive(Clone, Copy, Debug, PartialEq, Eq)]
 pub struct Refused {
-    /// The call whose response the last of them is.
+    /// The call that the last event completes.
     pub call: Call,
 }
 
-/// Adds the numbers from `from` up to `upto`, as far as there is room.
+/// Adds the numbers from `from` to below `upto`, as far as there is room.
 fn raise(holes: &mut ArrayVec<usize, WORKERS>, from: usize, upto: usize)
     ensures { (from < upto → length holes.old.items + (upto - from) ≤ WORKERS) →
         holes.new.items ≡ holes.old.items ++ places from (upto - from) }
@@ -55,8 +55,9 @@ impl Monitor {
         }
     }
 
-    /// Takes in an event. Returns `Err` if the events up to it have no linearization. After that
-    /// the monitor has no use.
+    /// Adds an event, or returns `Err` if the events up to it have no linearization.
+    ///
+    /// After an `Err` the monitor represents no history.
     pub fn event(&mut self, event: Event) -> Result<(), Refused>
         requires workers { HasRoom event.action (array_vec_len self.old.pending) }
         ensures { Judges self.old self.new event result }
@@ -78,7 +79,7 @@ impl Monitor {
                     return Ok(());
                 };
                 let ticket = self.pending.remove(i);
-                let call = completed(ticket.call, reply, event.at);
+                let call = ticket.call.complete(reply, event.at);
                 if !self.take(number(reply), ticket.noted) {
                     return Err(Refused { call });
                 }
@@ -91,8 +92,8 @@ impl Monitor {
         }
     }
 
-    /// Returns whether a ticket whose `noted` is this may return `n`. Then that number is no longer
-    /// missing.
+    /// Returns whether a ticket with this `noted` may return `n`. If it may, records that `n` was
+    /// returned.
     fn take(&mut self, n: usize, noted: usize) -> bool
         requires few { array_vec_len self.old.pending ≤ WORKERS }
         ensures pending { self.new.pending.items ≡ self.old.pending.items }

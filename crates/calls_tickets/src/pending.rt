@@ -1,11 +1,11 @@
-//! Pending tickets, and searches among them and among the numbers that are missing.
+//! Pending tickets, and searches among them and among the missing numbers.
 ghost use Rattle.std.specs.Prelude.{◌≡◌, None, MatchOption};
-ghost use Rattle.calls_core.specs.Histories.{completion, pending_of};
-ghost use Rattle.calls_tickets.specs.Faults.{number_of};
+ghost use Rattle.calls_core.specs.Histories.{pending_of};
+ghost use Rattle.calls_tickets.specs.Faults.{ticket_number};
 ghost use Rattle.calls_tickets.specs.kept.Watching.{calls_in, IsPendingAt, IsHoleAt, NoHole};
 ghost use Rattle.calls_tickets.specs.kept.Watching.{IsPaired};
 
-use calls_core::{Call, PendingCall, Reply};
+use calls_core::{PendingCall, Reply};
 
 /// A pending ticket.
 #[derive(Clone, Copy, Debug, Default, PartialEq, Eq)]
@@ -18,26 +18,12 @@ pub struct PendingTicket {
 
 /// Returns the number of a reply.
 pub fn number(reply: Reply) -> usize
-    ensures { result ≡ number_of reply }
+    ensures { result ≡ ticket_number reply }
 {
     match reply {
         Reply::Done => 0,
         Reply::Number(n) => n,
         Reply::Timeout => 0,
-    }
-}
-
-/// Completes a pending call with a reply at a position.
-pub fn completed(pending: PendingCall, reply: Reply, at: usize) -> Call
-    ensures { result ≡ completion at reply pending }
-{
-    Call {
-        worker: pending.worker,
-        object: pending.object,
-        op: pending.op,
-        reply,
-        first: pending.first,
-        last: at,
     }
 }
 
@@ -66,7 +52,7 @@ pub fn hole_index(holes: &[usize], n: usize) -> Option<usize>
     None
 }
 
-/// Returns whether there is a pending ticket for each missing number, in turn, that may return it.
+/// Returns whether each missing number may be returned by the pending ticket with the same index.
 pub fn are_paired(holes: &[usize], pending: &[PendingTicket]) -> bool
     ensures { IsPaired holes.now pending.now result }
 {

@@ -1,29 +1,29 @@
-//! The tickets of a history, gathered event by event.
+//! The tickets of a history, collected event by event.
 ghost use Rattle.std.specs.Prelude.{◌≡◌, ◌+◌, ◌-◌, ◌<◌, ◌≤◌, ◌++◌, ◌∷◌, [], length, reverse, IfOk};
 ghost use Rattle.std.specs.Prelude.{OnOk};
 ghost use Rattle.calls_tickets.specs.kept.Tables.{AreTickets, IsDecided};
 ghost use Rattle.calls_tickets.specs.kept.Watching.{calls_in, places, IsTaken};
 ghost use Rattle.calls_tickets.specs.kept.Recording.{Records, TakesIn};
 
-use crate::pending::{PendingTicket, are_paired, completed, hole_index, number, pending_index};
+use crate::pending::{PendingTicket, are_paired, hole_index, number, pending_index};
 use crate::table::{Decision, Tickets};
 use calls_core::{Action, Call, Event, PendingCall, Reply};
 use std::alloc::{AllocError, Global};
 
-/// The calls so far, and what a monitor of any number of workers keeps of them.
+/// The calls so far, and the state of a monitor of any number of workers.
 #[derive(Drop)]
-pub struct Recorded {
+pub struct RecordedTickets {
     /// The completed tickets, in the order of their responses.
     pub done: Vec<Call>,
     /// One more than the greatest number returned, 0 at first.
     pub top: usize,
-    /// The numbers below it that no ticket returned, ascending.
+    /// The numbers below `top` that no ticket returned, ascending.
     pub holes: Vec<usize>,
     /// The pending tickets, in the order of their invocations.
     pub pending: Vec<PendingTicket>,
 }
 
-/// Adds the numbers from `from` up to `upto`.
+/// Adds the numbers from `from` to below `upto`.
 fn raise(holes: &mut Vec<usize>, from: usize, upto: usize) -> Result<(), AllocError>
     ensures { OnOk result (holes.new.items ≡ holes.old.items ++ places from (upto - from)) }
 {
@@ -33,12 +33,12 @@ fn raise(holes: &mut Vec<usize>, from: usize, upto: usize) -> Result<(), AllocEr
     Ok(())
 }
 
-impl Recorded {
-    /// Begins with no events.
+impl RecordedTickets {
+    /// Returns the tickets of no events.
     pub fn new(alloc: Global) -> Self
         ensures { Records [] result }
     {
-        Recorded {
+        RecordedTickets {
             done: Vec::new(alloc),
             top: 0,
             holes: Vec::new(alloc),
@@ -46,7 +46,7 @@ impl Recorded {
         }
     }
 
-    /// Takes in an event. Returns `false` if the events up to it have no linearization.
+    /// Adds an event. Returns `false` if the events up to it have no linearization.
     pub fn event(&mut self, event: Event) -> Result<bool, AllocError>
         ensures { IfOk result (TakesIn self.old self.new event) }
     {
@@ -67,7 +67,7 @@ impl Recorded {
                     return Ok(true);
                 };
                 let ticket = self.pending.remove(i);
-                self.done.push(completed(ticket.call, reply, event.at))?;
+                self.done.push(ticket.call.complete(reply, event.at))?;
                 if !self.take(number(reply), ticket.noted)? {
                     return Ok(false);
                 }
@@ -76,8 +76,8 @@ impl Recorded {
         }
     }
 
-    /// Decides whether the calls have a linearization, if the responses that pending ones get are
-    /// at position `end`.
+    /// Decides whether the calls have a linearization, in which pending ones respond at position
+    /// `end`.
     pub fn decide(mut self, alloc: Global, end: usize) -> Result<Decision, AllocError>
         requires tickets { AreTickets (reverse self.done.items) (calls_in self.pending.items) end }
         ensures { IfOk result (IsDecided (reverse self.done.items) (calls_in self.pending.items)
@@ -92,8 +92,8 @@ impl Recorded {
         tickets.decide(alloc)
     }
 
-    /// Returns whether a ticket with the greatest number `noted` at its invocation may return `n`.
-    /// Then that number is no longer missing.
+    /// Returns whether a ticket with this `noted` may return `n`. If it may, records that `n` was
+    /// returned.
     fn take(&mut self, n: usize, noted: usize) -> Result<bool, AllocError>
         ensures pending { self.new.pending.items ≡ self.old.pending.items }
         ensures done { self.new.done.items ≡ self.old.done.items }

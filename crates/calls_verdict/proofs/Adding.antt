@@ -1,4 +1,4 @@
--- The events of each object, with one event more of all.
+-- The events of each object, with one more event of the history.
 use Rattle.std.proofs.Common.{◌≡◌, ℕ, ◌+◌, ◌<◌, List, length, get_or, take, reverse}
 use Rattle.std.proofs.Common.{Option, Some, None, ap, sym, ◌∙◌, subst}
 use Rattle.calls_core.specs.declared.history.Event.{Event}

@@ -7,7 +7,7 @@ use Rattle.std.proofs.lemmas.Option.{slice_get_within, same_Some}
 use Rattle.calls_core.specs.declared.history.Kind.{Kind}
 use Rattle.calls_core.specs.declared.history.Event.{Event}
 use Rattle.calls_core.specs.Histories.{clock, part, pending_calls, completed_calls, IsHistory}
-use Rattle.calls_core.specs.Linearizations.{IsSequentialRun, initial, IsLinearOrder, calls_on}
+use Rattle.calls_core.specs.Linearizations.{IsLegalHistory, initial, IsLinearOrder, calls_on}
 use Rattle.calls_core.specs.Beginnings.{until}
 use Rattle.calls_core.specs.Completions.{IsLinearizable, known_at}
 use Rattle.calls_core.specs.Outcomes.{IsOrderOf, HasOrderOf}
@@ -31,11 +31,11 @@ a_fault_leaves_no_linearization = λ kinds late past k h fault l.
       responses_become_answers kinds
           (late ++ past) l.0 h l.1,
     ) in
-    let there = order_of_part (IsSequentialRun (initial (slice_get kinds k))) kinds k t past
+    let there = order_of_part (IsLegalHistory (initial (slice_get kinds k))) kinds k t past
     (calls_on k whole.0) before
     (parts_are_linearized kinds past whole.0 whole.1 k) in
     let order : IsOrderOf fault.kind (part k past) t (calls_on k whole.0) =
-    subst (λ (z : Option Kind). IsLinearOrder (IsSequentialRun (initial z))
+    subst (λ (z : Option Kind). IsLinearOrder (IsLegalHistory (initial z))
     (completed_calls (part k past))
     (pending_calls (part k past)) t (calls_on k whole.0)) fault.is there in
     fault_leaves_no_order fault.kind (part k past) t (calls_on k whole.0)
@@ -106,7 +106,7 @@ pub what_is_shown_is_a_fault : WhatIsShownIsAFault
 what_is_shown_is_a_fault = λ kinds past k f h.
     record { kind = h.kind; is = h.is; faulty = shown h.kind (part k past) f h.shows }
 
--- what stands before an earlier position stands before a later one
+-- the events before an earlier position are among those before a later one
 until_twice : (n m : ℕ) (past : List Event) → n ≤ m → until n (until m past) ≡ until n past
 until_twice n m [] le = refl
 until_twice n m (x ∷ past) le =

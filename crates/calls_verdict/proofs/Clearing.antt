@@ -1,4 +1,4 @@
--- What is decided of one object, before each position.
+-- What a decision on one object says before each position.
 use Rattle.std.proofs.Common.{◌≡◌, ℕ, ◌+◌, ◌<◌, ◌≤◌, ◌⊎◌, inl, inr, List, [], ◌∷◌, ◌++◌, length}
 use Rattle.std.proofs.Common.{ap, sym, ◌∙◌, arith, subst, reverse, drop, get_or}
 use Rattle.std.proofs.lemmas.Bool.{cases_lt}
@@ -36,8 +36,7 @@ module _ (kind : Kind) (events : List Event) (i : ℕ) (d : Event)
   history : IsHistoryOf kind (reverse (drop (i + 1) events) ++ e ∷ past_at i events)
   history = subst (IsHistoryOf kind) split h
 
-  -- the events before a position have the event at index i, or are those before a position of the
-  -- ones before it
+  -- the events before a position contain the event at index i, or are among the events before it
   cases_until : (m : ℕ) → ((more : List Event) × (until m (reverse events) ≡ more ++ e
       ∷ past_at i events))
       ⊎ (until m (reverse events) ≡ until m (past_at i events))

@@ -12,31 +12,7 @@ use Rattle.calls_core.specs.Outcomes.{IsFirstFault}
 use Rattle.calls_verdict.specs.declared.verdict.Decision.{Decision}
 use Rattle.calls_verdict.specs.declared.verdict.Decision.TheVariants.{Ordered, Refused, Open}
 use Rattle.calls_verdict.specs.Verdicts.{IsDecision}
-
-next_of_cell : (n : ℕ) (action : Action) (o : Option PendingCall)
-    → IsNextOf (Database n) action o → IsNextOf Cell action o
-next_of_cell n (Invoke k (Put v)) None h = h
-next_of_cell n (Invoke k Get) None h = h
-next_of_cell n (Invoke k Advance) None h = h
-next_of_cell n (Invoke k Read) None h = h
-next_of_cell n (Invoke k (Await v)) None h = h
-next_of_cell n (Invoke k Ticket) None h = h
-next_of_cell n (Invoke k (P i)) None h = h
-next_of_cell n (Invoke k (V i)) None h = h
-next_of_cell n (Invoke k (PBoth i j)) None h = h
-next_of_cell n (Invoke k op) (Some o) h = h
-next_of_cell n (Respond r) None h = h
-next_of_cell n (Respond r) (Some o) h = h
-
--- a history of a database is one of a cell
-pub cell_history : (n : ℕ) (past : List Event) → IsHistoryOf (Database n) past
-    → IsHistoryOf Cell past
-cell_history n [] h = tt
-cell_history n (x ∷ past) h = (
-  h.0,
-  next_of_cell n x.action (pending_of x.worker (pending_calls past)) h.1,
-  cell_history n past h.2,
-)
+use Rattle.calls_serial.proofs.Databases.{next as next_of_cell}
 
 first_fault : (Shows : List Event → Type 0) (n : ℕ) (events : List Event) (i : ℕ)
     → IsFirstFault Shows Cell events i → IsFirstFault Shows (Database n) events i

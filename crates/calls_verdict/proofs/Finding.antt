@@ -1,4 +1,4 @@
--- A worker's call among the pending ones.
+-- The search for a worker's pending call.
 use Rattle.std.proofs.Common.{◌≡◌, ℕ, zero, suc, ◌+◌, ◌<◌, true, false, ◌==◌, cond}
 use Rattle.std.proofs.Common.{List, [], ◌∷◌, length, get_or, take, reverse}
 use Rattle.std.proofs.Common.{Option, Some, None, refl, ap, sym, ◌∙◌, arith}
@@ -78,15 +78,6 @@ followed_none os x r is e = record {
   pending = without_none os x.worker e ∙ sym (ap (λ k. pending_after x k os) is);
   object_is = sym (ap (λ k. object_of k (pending_of x.worker os)) is ∙ ap (object_of (Respond r))
       e);
-}
-
-pub followed_some : (os new : List PendingCall) (x : Event) (r : Reply) (i : ℕ) (o : PendingCall)
-    → x.action ≡ Respond r → IsPendingOf os x.worker i → o ≡ get_or os i o → new ≡ remove os i
-    → IsFollowed os new x (Some o.object)
-followed_some os new x r i o is f at left = record {
-  pending = left ∙ sym f.others ∙ sym (ap (λ k. pending_after x k os) is);
-  object_is = sym (ap (λ k. object_of k (pending_of x.worker os)) is ∙ ap (object_of (Respond r))
-      (f.first o ∙ ap Some (sym at)));
 }
 
 -- ALL EVENTS

@@ -1,4 +1,4 @@
--- What is found of the objects, with one object more, and the verdict at the end.
+-- The findings with one more object, and the verdict at the end.
 use Rattle.std.proofs.Common.{◌≡◌, ℕ, ◌+◌, ◌<◌, ◌≤◌, ◌⊎◌, inl, inr, true}
 use Rattle.std.proofs.Common.{List, [], ◌++◌, length, Option, Some, None, refl, ap, sym}
 use Rattle.std.proofs.Common.{◌∙◌, arith, subst, slice_get, reverse, get_or}
@@ -28,7 +28,7 @@ use Rattle.calls_verdict.specs.declared.verdict.Undecided.{Undecided}
 use Rattle.calls_verdict.specs.declared.verdict.Verdict.TheVariants.{Linearizable, Refused}
 use Rattle.calls_verdict.specs.declared.verdict.Verdict.TheVariants.{NotDecided}
 use Rattle.calls_verdict.specs.declared.verdict.Decision.TheVariants as decision
-use Rattle.calls_verdict.specs.declared.findings.Found.{Found}
+use Rattle.calls_verdict.specs.declared.findings.Findings.{Findings}
 use Rattle.calls_verdict.specs.Faults.{Shows, ShowsUndecided}
 use Rattle.calls_verdict.specs.Verdicts.{IsDecision, IsCleanBefore, IsOrderedBefore}
 use Rattle.calls_verdict.specs.Verdicts.{IsVerdict}
@@ -79,7 +79,7 @@ module _ (kinds : List Kind) (past : List Event) (h : IsHistory kinds past) wher
       ]
 
   -- an object that is ordered
-  pub found_ordered : (n : ℕ) (kind : Kind) (own : List Event) (cs : List Call) (old new : Found)
+  pub found_ordered : (n : ℕ) (kind : Kind) (own : List Event) (cs : List Call) (old new : Findings)
       → slice_get kinds n ≡ Some kind → reverse own ≡ part n past
       → IsOrderOf kind (reverse own) (clock past) cs
       → new.refusal ≡ old.refusal → new.undecided ≡ old.undecided
@@ -107,9 +107,9 @@ module _ (kinds : List Kind) (past : List Event) (h : IsHistory kinds past) wher
   abbrev refusal_at : ℕ → Event → Fault → Refusal
   refusal_at n x fault = record { at = x.at; object = n; fault = fault }
 
-  -- one that shows a fault
+  -- an object that shows a fault
   pub found_refused : (n : ℕ) (kind : Kind) (own : List Event) (i : ℕ) (d : Event) (fault : Fault)
-      (old new : Found) (before : Option Refusal) (kept : Refusal)
+      (old new : Findings) (before : Option Refusal) (kept : Refusal)
       → before ≡ old.refusal → slice_get kinds n ≡ Some kind → reverse own ≡ part n past
       → IsDecision kind own (clock past) (decision.Refused i fault)
       → new.refusal ≡ Some kept → new.undecided ≡ old.undecided
@@ -189,9 +189,9 @@ module _ (kinds : List Kind) (past : List Event) (h : IsHistory kinds past) wher
       lower (Some o) (inr e) of_kind = (let same : kept.at ≡ (get_or own i d).at =
           ap (λ (z : Refusal). z.at) e.0 in omega (arith, e.1))
 
-  -- one that isn't decided
+  -- an object that isn't decided
   pub found_open : (n : ℕ) (kind : Kind) (own : List Event) (i : ℕ) (d : Event)
-      (u : cause.Undecided) (old new : Found) (kept : Undecided)
+      (u : cause.Undecided) (old new : Findings) (kept : Undecided)
       → slice_get kinds n ≡ Some kind → reverse own ≡ part n past
       → IsDecision kind own (clock past) (decision.Open i u)
       → new.refusal ≡ old.refusal → new.undecided ≡ Some kept
@@ -224,7 +224,7 @@ module _ (kinds : List Kind) (past : List Event) (h : IsHistory kinds past) wher
 
   -- NO OBJECT, AND ALL
 
-  pub found_none : (found : Found) → found.refusal ≡ None → found.undecided ≡ None
+  pub found_none : (found : Findings) → found.refusal ≡ None → found.undecided ≡ None
       → found.placed.items ≡ []
       → AreFound kinds past 0 found
   found_none found refused undecided items = record {
@@ -251,7 +251,7 @@ module _ (kinds : List Kind) (past : List Event) (h : IsHistory kinds past) wher
       ordered kind own d (inl l) = l
       ordered kind own d (inr w) = absurd (d w.0 w.1)
 
-  pub verdict_refused : (found : Found) (r : Refusal) → found.refusal ≡ Some r
+  pub verdict_refused : (found : Findings) (r : Refusal) → found.refusal ≡ Some r
       → AreFound kinds past (length kinds) found
       → IsVerdict kinds past (Refused r)
   verdict_refused found r e f = record {
@@ -260,7 +260,7 @@ module _ (kinds : List Kind) (past : List Event) (h : IsHistory kinds past) wher
     before = clean r.at (subst (λ z. Clear (length kinds) (limit (clock past) z)) e f.clear);
   }
 
-  pub verdict_open : (found : Found) (u : Undecided) → found.refusal ≡ None
+  pub verdict_open : (found : Findings) (u : Undecided) → found.refusal ≡ None
       → found.undecided ≡ Some u
       → AreFound kinds past (length kinds) found → IsVerdict kinds past (NotDecided u)
   verdict_open found u none e f = record {
@@ -269,7 +269,7 @@ module _ (kinds : List Kind) (past : List Event) (h : IsHistory kinds past) wher
         f.clear);
   }
 
-  pub verdict_ordered : (found : Found) (v : Vec Placed) → found.refusal ≡ None
+  pub verdict_ordered : (found : Findings) (v : Vec Placed) → found.refusal ≡ None
       → found.undecided ≡ None
       → v.items ≡ by_points found.placed.items → AreFound kinds past (length kinds) found
       → IsVerdict kinds past (Linearizable v)

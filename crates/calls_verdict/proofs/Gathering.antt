@@ -7,7 +7,7 @@ use Rattle.calls_core.specs.declared.history.Event.{Event}
 use Rattle.calls_core.specs.declared.history.Call.{Call}
 use Rattle.calls_core.specs.declared.history.Placed.{Placed}
 use Rattle.calls_core.specs.Histories.{clock, pending_calls, completed_calls, part, IsHistory}
-use Rattle.calls_core.specs.Linearizations.{IsSequentialRun, IsRun, initial, start, IsLinearOrder}
+use Rattle.calls_core.specs.Linearizations.{IsLegalHistory, IsRun, initial, start, IsLinearOrder}
 use Rattle.calls_core.specs.Linearizations.{IsAnsweredLinearization, calls_on, pending_on}
 use Rattle.calls_core.specs.Points.{placed_one, by_points, calls_of, IsPlacedOrder}
 use Rattle.calls_core.specs.Outcomes.{IsOrderOf, HasOrderOf}
@@ -32,13 +32,13 @@ module _ (kinds : List Kind) (past : List Event) (h : IsHistory kinds past) wher
   -- an order of an object's part, among all calls
   order_on : (n : ℕ) (kind : Kind) (cs : List Call) → slice_get kinds n ≡ Some kind
       → IsOrderOf kind (part n past) (clock past) cs
-      → IsLinearOrder (IsSequentialRun (start kinds n)) (calls_on n (completed_calls past))
+      → IsLinearOrder (IsLegalHistory (start kinds n)) (calls_on n (completed_calls past))
       (pending_on n (pending_calls past)) (clock past) cs
   order_on n kind cs is l =
-      subst (λ (z : Option Kind). IsLinearOrder (IsSequentialRun (initial z))
+      subst (λ (z : Option Kind). IsLinearOrder (IsLegalHistory (initial z))
       (calls_on n (completed_calls past))
       (pending_on n (pending_calls past)) (clock past) cs) (sym is)
-      (order_from_part (IsSequentialRun (initial (Some kind))) kinds n (clock past) past cs h l)
+      (order_from_part (IsLegalHistory (initial (Some kind))) kinds n (clock past) past cs h l)
 
   pub placed_more : (n : ℕ) (kind : Kind) (ps : List Placed) (cs : List Call)
       → slice_get kinds n ≡ Some kind

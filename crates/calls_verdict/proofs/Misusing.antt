@@ -1,4 +1,4 @@
--- Whether events are a history still, with one event more.
+-- Whether events are still a history with one more event.
 use Rattle.std.proofs.Common.{◌≡◌, ℕ, zero, suc, ◌+◌, ◌-◌, ◌<◌, ◌≤◌, ◌↔◌, inl, inr, Bool, true}
 use Rattle.std.proofs.Common.{false}
 use Rattle.std.proofs.Common.{List, length, get_or, Option, Some, None, IsTrue, nat_le}

@@ -1,4 +1,4 @@
--- What the crates of the kinds of objects prove, of each kind.
+-- What the crates for the kinds of objects prove, for any kind.
 use Rattle.std.proofs.Common.{ℕ, ◌≤◌, ◌⊎◌, inl, inr, arith, List, [], ◌∷◌}
 use Rattle.calls_core.specs.declared.history.Kind.{Kind}
 use Rattle.calls_core.specs.declared.history.Kind.TheVariants.{Eventcount, Sequencer, Semaphores}
@@ -27,7 +27,7 @@ use Rattle.calls_verdict.specs.Faults.{Shows, ShowsUndecided, IsFaulty}
 cell_history : (n : ℕ) (past : List Event) → IsHistoryOf (Database n) past → IsHistoryOf Cell past
 cell_history n past h = (database_is_cell n []).history past h
 
--- what a fault shows is one
+-- a fault that is shown is a fault of the object
 pub shown : (kind : Kind) (past : List Event) (f : Fault) → Shows kind past f → IsFaulty kind past
 shown (Eventcount n) past (Count f) s = (f, s)
 shown Sequencer past (Ticket f) s = (f, s)
@@ -84,7 +84,7 @@ every_kind_is_decided (Semaphores units) past h =
 every_kind_is_decided Cell past h = stored.every_history past h
 every_kind_is_decided (Database n) past h = stored.every_history past (cell_history n past h)
 
--- what isn't decided stays so with one event more
+-- an undecided object stays undecided with one more event
 pub it_stays_undecided : (kind : Kind) (x : Event) (past : List Event) (u : Undecided)
     → IsHistoryOf kind (x ∷ past) → ShowsUndecided kind past u → ShowsUndecided kind (x ∷ past) u
 it_stays_undecided (Eventcount n) x past u h s = s

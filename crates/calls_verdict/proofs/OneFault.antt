@@ -1,4 +1,4 @@
--- The first faulty event is one.
+-- There is only one first faulty event.
 use Rattle.std.proofs.Common.{◌≡◌, ◌+◌, ◌≤◌, inl, inr, List, [], ◌∷◌, ◌++◌, cond}
 use Rattle.std.proofs.Common.{ap, sym, ◌∙◌, arith, subst}
 use Rattle.std.proofs.lemmas.Bool.{cases_lt, le-ltb}
@@ -15,7 +15,7 @@ use Rattle.calls_verdict.proofs.Alternatives.{a_refusal_is_final}
 use Rattle.calls_verdict.proofs.Untils.{until_all}
 
 -- a history ends no earlier than a beginning of it, and what follows is no earlier than its end
-ends_later : (kinds : List Kind) (late past : List Event) → IsHistory kinds (late ++ past)
+pub ends_later : (kinds : List Kind) (late past : List Event) → IsHistory kinds (late ++ past)
     → clock past ≤ clock (late ++ past)
 ends_later kinds [] past h = omega arith
 ends_later kinds (y ∷ late) past h =
@@ -24,7 +24,7 @@ ends_later kinds (y ∷ late) past h =
     omega arith)
 
 -- the events before the end of a past, in a longer one
-until_past : (kinds : List Kind) (late past : List Event) → IsHistory kinds (late ++ past)
+pub until_past : (kinds : List Kind) (late past : List Event) → IsHistory kinds (late ++ past)
     → until (clock past) (late ++ past) ≡ past
 until_past kinds [] past h = until_all (clock past) past (omega arith)
 until_past kinds (y ∷ late) past h =

@@ -12,7 +12,7 @@ use Rattle.calls_core.specs.Lists.{EachFrom}
 use Rattle.calls_core.specs.Histories.{pending_of, pending_calls, is_on, part}
 use Rattle.calls_verdict.specs.kept.Parts.{object_of, IsPart}
 
--- an event is of the object that it has
+-- an event is on the object that `object_of` gives
 on_object : (k j : ℕ) (a : Action) (o : Option PendingCall) → object_of a o ≡ Some j
     → is_on k a o ≡ (j == k)
 on_object k j (Invoke i op) o e = (let same : i ≡ j = cc in ap (λ n. n == k) same)
@@ -24,7 +24,7 @@ on_none k (Invoke i op) o e = cc
 on_none k (Respond r) None e = refl
 on_none k (Respond r) (Some o) e = cc
 
--- with an event of object j
+-- an event of object j leaves the parts of other objects as they are
 part_same : (k j : ℕ) (x : Event) (past : List Event) → object_of x.action
     (pending_of x.worker (pending_calls past)) ≡ Some j → (j ≡ k → ⊥)
     → part k (x ∷ past) ≡ part k past
@@ -48,7 +48,7 @@ others_same j k x past (own ∷ parts) e other h = (
   others_same j (k + 1) x past parts e (λ i lt is. other (suc i) (omega arith) (omega arith)) h.1,
 )
 
--- the event goes to the part at its object
+-- the event is added to the part of its object
 pub parts_more : (j k i : ℕ) (x : Event) (past : List Event) (parts : List (List Event))
     (own d : List Event) → object_of x.action (pending_of x.worker (pending_calls past)) ≡ Some j
     → k + i ≡ j → i < length parts
@@ -68,7 +68,7 @@ parts_more j k (suc i) x past (p ∷ parts) own d e at lt is h = (
       d e (omega arith) (omega arith) is h.1,
 )
 
--- an event of no object, or of one that has no part here
+-- an event of no object leaves all parts as they are
 pub parts_same : (k : ℕ) (x : Event) (past : List Event) (parts : List (List Event))
     → object_of x.action (pending_of x.worker (pending_calls past)) ≡ None
     → EachFrom (IsPart past) k parts → EachFrom (IsPart (x ∷ past)) k parts

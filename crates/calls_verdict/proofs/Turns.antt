@@ -1,4 +1,4 @@
--- What is known of an object when its turn comes.
+-- The requirements of the decision on the object with the next index.
 use Rattle.std.proofs.Common.{◌≡◌, ℕ, zero, suc, ◌+◌, ◌<◌, ◌≤◌, ◌^◌, List, [], ◌∷◌, length, reverse}
 use Rattle.std.proofs.Common.{get_or}
 use Rattle.std.proofs.Common.{Some, refl, ap, sym, ◌∙◌, arith, subst, slice_get}
@@ -27,7 +27,7 @@ each_at past i (suc k) (p ∷ parts) own lt is h =
     (let same : i + 1 + k ≡ i + suc k = omega arith in
     each_at past (i + 1) k parts own (omega arith) is h.1 ∙ ap (λ j. part j past) same)
 
--- the positions in a decision have room
+-- the index in a refusal is that of an event
 pub decision_room : (kind : Kind) (own : List Event) (t : ℕ) (d : Decision)
     → IsHistoryOf kind (reverse own)
     → clock (reverse own) ≤ t → t < 2 ^ 64 → IsDecision kind own t d → HasRoom own d

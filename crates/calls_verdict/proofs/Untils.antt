@@ -34,7 +34,7 @@ clock_later kind [] past h = omega arith
 clock_later kind (x ∷ late) past h =
     (let le : clock (late ++ past) ≤ x.at = h.0 in omega (arith, clock_later kind late past h.2))
 
--- the events before the first position after a beginning are that beginning
+-- the events before the first position after a prefix are that prefix
 pub until_at : (kind : Kind) (late past : List Event) → IsHistoryOf kind (late ++ past)
     → until (clock past) (late ++ past) ≡ past
 until_at kind [] past h = until_all (clock past) past (omega arith)
@@ -43,7 +43,7 @@ until_at kind (x ∷ late) past h =
     until_out (clock past) x (late ++ past) (omega (arith, clock_later kind late past h.2))
     ∙ until_at kind late past h.2)
 
--- they end among the later events, or in the beginning
+-- the events before a position contain the whole prefix, or are in it
 pub until_of : (m : ℕ) (late past : List Event)
     → ((more : List Event) × (until m (late ++ past) ≡ more ++ past))
     ⊎ (until m (late ++ past) ≡ until m past)

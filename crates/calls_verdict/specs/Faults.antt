@@ -1,4 +1,4 @@
--- What a fault says of the calls of one object, whatever its kind.
+-- What a fault says about the calls of one object, whatever its kind.
 use Rattle.std.specs.Prelude.{List}
 use Rattle.calls_core.specs.declared.history.Kind.{Kind}
 use Rattle.calls_core.specs.declared.history.Kind.TheVariants.{Eventcount, Sequencer, Semaphores}

@@ -1,4 +1,4 @@
--- Theorems on every history of calls.
+-- Theorems about every history of calls.
 use Rattle.std.specs.Prelude.{◌≡◌, ◌<◌, ◌∷◌, ◌⊎◌, ℕ, List, ◌++◌}
 use Rattle.calls_core.specs.declared.history.Kind.{Kind}
 use Rattle.calls_core.specs.declared.history.Event.{Event}
@@ -14,7 +14,7 @@ AFaultLeavesNoLinearization =
     (kinds : List Kind) (late past : List Event) (k : ℕ) → IsHistory kinds (late ++ past)
     → IsFaultyOn kinds past k → IsLinearizable kinds (late ++ past) → ⊥
 
--- what a refusal returns as a fault is one
+-- a fault that the events of an object show is a fault of the object
 abbrev pub WhatIsShownIsAFault : Type 0
 WhatIsShownIsAFault =
     (kinds : List Kind) (past : List Event) (k : ℕ) (f : Fault) → HasFault kinds past k f
@@ -27,14 +27,14 @@ EveryHistoryIsDecided =
     (kinds : List Kind) (past : List Event) → IsHistory kinds past → AreDecided kinds past
     → IsLinearizable kinds past ⊎ ((k : ℕ) × IsFaultyOn kinds past k)
 
--- the first faulty event is the last of no linearizable history, and of none that goes on
+-- no prefix that contains the first faulty event is linearizable
 abbrev pub ARefusalIsFinal : Type 0
 ARefusalIsFinal =
     (kinds : List Kind) (past : List Event) (at k : ℕ) (f : Fault) (m : ℕ) → IsHistory kinds past
     → IsFirstRefusal kinds past at k f → at < m → IsLinearizable kinds (until m past) → ⊥
 
 -- if the events up to x have no linearization and those before it have one, then x is the first
--- faulty event: so a monitor, which answers so after each event, stops at the one that is refused
+-- faulty event. So a monitor, which decides after each event, stops at the event that is refused
 abbrev pub TheFirstFaultIsOne : Type 0
 TheFirstFaultIsOne =
     (kinds : List Kind) (late past : List Event) (x : Event) (at k : ℕ) (f : Fault)

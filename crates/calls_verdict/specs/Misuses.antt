@@ -19,9 +19,9 @@ IsMisuseBy kinds (Respond r) None Idle = Unit {0}
 IsMisuseBy kinds (Respond r) (Some o) Unsuited = Suits o.op r → ⊥
 IsMisuseBy _ _ _ _ = ⊥
 
--- what is wrong with an event after these: its position is not behind theirs; it invokes while its
--- worker has a pending call; its object is not there or does not take this; it responds without a
--- pending call; its reply does not suit
+-- what is wrong with an event after these: its position is not after theirs; it invokes while its
+-- worker has a pending call; its object does not exist or does not have the operation; it responds
+-- without a pending call; its reply does not suit the operation
 abbrev pub IsMisuse : List Kind → List Event → Event → Misuse → Type 0
 IsMisuse kinds past x OutOfOrder = x.at < clock past
 IsMisuse kinds past x m = IsMisuseBy kinds x.action (pending_of x.worker (pending_calls past)) m

@@ -1,4 +1,4 @@
--- What is found of a history.
+-- What a verdict on a history says.
 use Rattle.std.specs.Prelude.{◌≡◌, ◌⊎◌, ℕ, ◌+◌, ◌≤◌, List, reverse, Some, slice_get}
 use Rattle.calls_core.specs.declared.history.Kind.{Kind}
 use Rattle.calls_core.specs.declared.history.Event.{Event}
@@ -18,7 +18,7 @@ use Rattle.calls_verdict.specs.declared.verdict.Decision.{Decision}
 use Rattle.calls_verdict.specs.declared.verdict.Decision.TheVariants as decision
 use Rattle.calls_verdict.specs.Faults.{Shows, ShowsUndecided, IsDecided, IsFaulty}
 
--- what is found of the calls of one object
+-- what a decision on the calls of one object says
 abbrev pub IsDecision : Kind → List Event → ℕ → Decision → Type 0
 IsDecision kind events t (decision.Ordered cs) = IsOrderOf kind (reverse events) t cs
 IsDecision kind events t (decision.Refused i f) = IsFirstFault (λ past.
@@ -53,19 +53,19 @@ AreDecided kinds past = (k : ℕ) (kind : Kind) → slice_get kinds k ≡ Some k
 abbrev pub IsClear : Kind → List Event → Type 0
 IsClear kind past = HasOrderOf kind past ⊎ ((u : cause.Undecided) × ShowsUndecided kind past u)
 
--- so it is with each object of the history
+-- the calls of each object have a linearization, or aren't decided
 abbrev pub AreClear : List Kind → List Event → Type 0
 AreClear kinds past =
     (k : ℕ) (kind : Kind) → slice_get kinds k ≡ Some kind → IsClear kind (part k past)
 
--- each beginning before position n is clear, and has a linearization if every object is decided
+-- each prefix before position n is clear, and has a linearization if every object is decided
 abbrev pub IsCleanBefore : List Kind → List Event → ℕ → Type 0
 IsCleanBefore kinds past n =
     (m : ℕ) → m ≤ n → AreClear kinds (until m past)
     × (AreDecided kinds (until m past)
     → (cs : List Call) × IsAnsweredLinearization kinds (until m past) cs)
 
--- each beginning of the calls of object k before position n has a linearization
+-- each prefix of the events of object k before position n has a linearization
 abbrev pub IsOrderedBefore : List Kind → List Event → ℕ → ℕ → Type 0
 IsOrderedBefore kinds past k n = (kind : Kind) (m : ℕ) → slice_get kinds k ≡ Some kind → m ≤ n
     → HasOrderOf kind (part k (until m past))

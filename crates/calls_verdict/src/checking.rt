@@ -1,4 +1,4 @@
-//! A test of events: whether they are a history.
+//! Tests whether events are a history.
 ghost use Rattle.std.specs.Prelude.{◌≡◌, ◌+◌, ◌<◌, ◌↔◌, IsTrue, IfOk, MatchOption, Some, length};
 ghost use Rattle.std.specs.Prelude.{reverse, slice_get};
 ghost use Rattle.calls_core.specs.declared.history.Event.{Event};
@@ -15,11 +15,11 @@ use std::alloc::{AllocError, Global};
 /// Why events are no history.
 #[derive(Clone, Copy, Debug, PartialEq, Eq)]
 pub enum Misuse {
-    /// The position is not behind those before it.
+    /// The position is not after those of earlier events.
     OutOfOrder,
     /// The worker invokes while it has a pending call.
     Busy,
-    /// The object is not there, or does not take this.
+    /// The object does not exist, or does not have the operation.
     NotTaken,
     /// The worker responds without a pending call.
     Idle,
@@ -27,7 +27,7 @@ pub enum Misuse {
     Unsuited,
 }
 
-/// Returns whether semaphores take this, one for each of these numbers of units.
+/// Returns whether this is an operation of semaphores, one for each number of units.
 fn takes_units(units: &Vec<usize>, op: Op) -> bool
     ensures { IsTrue result ↔ Takes (Some (Semaphores units.now)) op }
 {
@@ -39,7 +39,7 @@ fn takes_units(units: &Vec<usize>, op: Op) -> bool
     }
 }
 
-/// Returns whether an object of this kind takes this.
+/// Returns whether this is an operation of an object of this kind.
 fn takes(kind: &Kind, op: Op) -> bool
     ensures { IsTrue result ↔ Takes (Some kind.now) op }
 {
@@ -52,7 +52,7 @@ fn takes(kind: &Kind, op: Op) -> bool
     }
 }
 
-/// Returns whether the object at this index takes this.
+/// Returns whether this is an operation of the object at this index.
 fn is_taken(kinds: &[Kind], object: usize, op: Op) -> bool
     ensures { IsTrue result ↔ Takes (slice_get kinds.now object) op }
 {
@@ -84,7 +84,7 @@ fn pending_call(pending: &[PendingCall], worker: usize) -> Option<PendingCall>
     }
 }
 
-/// Returns whether the position of an event is not behind those before it.
+/// Returns whether the position of an event is not after that of the event before it.
 fn is_out_of_order(events: &[Event], i: usize) -> bool
     requires { i < length events.now }
     ensures { (x : Event) → slice_get events.now i ≡ Some x

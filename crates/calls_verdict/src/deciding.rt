@@ -3,7 +3,7 @@ ghost use Rattle.std.specs.Prelude.{◌≡◌, ◌<◌, ◌^◌, ◌↔◌, reve
 ghost use Rattle.calls_core.specs.Histories.{IsHistory, clock};
 ghost use Rattle.calls_verdict.specs.Verdicts.{IsVerdict};
 
-use crate::findings::{Found, add, conclude};
+use crate::findings::{Findings, add, conclude};
 use crate::objects::decide_object;
 use crate::splitting::split;
 use crate::verdict::Verdict;
@@ -21,7 +21,7 @@ fn end_of(events: &[Event]) -> usize
     }
 }
 
-/// Returns whether the first position after the events is a position too, as `decide` requires.
+/// Returns whether the first position after the events fits a `usize`, as `decide` requires.
 pub fn has_room(events: &[Event]) -> bool
     ensures { IsTrue result ↔ (clock (reverse events.now) < 2 ^ 64) }
 {
@@ -31,8 +31,10 @@ pub fn has_room(events: &[Event]) -> bool
     }
 }
 
-/// Decides whether a history has a linearization: returns one with points, or the first faulty
-/// event, or a cell or database that isn't decided.
+/// Decides whether a history has a linearization.
+///
+/// It returns one with its points, or the first faulty event, or a cell or database that isn't
+/// decided.
 pub fn decide(alloc: Global, kinds: &[Kind], events: &[Event]) -> Result<Verdict, AllocError>
     requires history { IsHistory kinds.now (reverse events.now) }
     requires room { clock (reverse events.now) < 2 ^ 64 }
@@ -40,7 +42,7 @@ pub fn decide(alloc: Global, kinds: &[Kind], events: &[Event]) -> Result<Verdict
 {
     let end = end_of(events);
     let parts = split(alloc, kinds, events)?;
-    let mut found = Found {
+    let mut found = Findings {
         placed: Vec::new(alloc),
         refusal: None,
         undecided: None,

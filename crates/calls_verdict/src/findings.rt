@@ -1,4 +1,4 @@
-//! What is found of the objects, one after another.
+//! The decisions on the objects, collected into a verdict.
 ghost use Rattle.std.specs.Prelude.{IfOk, OnOk};
 ghost use Rattle.calls_verdict.specs.kept.Findings.{HasRoom, IsAddedTo, IsEarlier, Gives};
 
@@ -7,18 +7,18 @@ use calls_core::{Part, Placed};
 use calls_local::merge;
 use std::alloc::AllocError;
 
-/// What is found of the objects that were decided.
+/// The decisions on the objects so far.
 #[derive(Debug, Drop)]
-pub struct Found {
-    /// The ordered calls of each, with their points.
+pub struct Findings {
+    /// The ordered calls of each object, with their linearization points.
     pub placed: Vec<Placed>,
-    /// The refusal with the least position, if any was refused.
+    /// The refusal with the least position, if there is any.
     pub refusal: Option<Refusal>,
-    /// The first that isn't decided.
+    /// The first object that isn't decided.
     pub undecided: Option<Undecided>,
 }
 
-/// Keeps the refusal with the lesser position.
+/// Returns the refusal with the lesser position.
 fn earlier(kept: Option<Refusal>, next: Refusal) -> Refusal
     ensures { IsEarlier kept next result }
 {
@@ -28,9 +28,9 @@ fn earlier(kept: Option<Refusal>, next: Refusal) -> Refusal
     }
 }
 
-/// Adds what is decided of an object, whose events these are.
+/// Adds the decision on an object, whose events are `own`.
 pub fn add(
-    found: &mut Found,
+    found: &mut Findings,
     object: usize,
     own: &Part<'_, '_>,
     decision: Decision,
@@ -58,11 +58,11 @@ pub fn add(
     }
 }
 
-/// Gives the verdict from what is found of all objects.
-pub fn conclude(found: Found) -> Result<Verdict, AllocError>
+/// Returns the verdict from the decisions on all objects.
+pub fn conclude(found: Findings) -> Result<Verdict, AllocError>
     ensures { IfOk result (Gives found) }
 {
-    let Found {
+    let Findings {
         mut placed,
         refusal,
         undecided,

@@ -1,4 +1,4 @@
-//! Decides whether a history of calls has a linearization.
+//! Decides whether a history of the calls of many objects has a linearization.
 #![tactic(auto)]
 
 mod checking;

@@ -1,4 +1,4 @@
-//! A decision on the calls of one object.
+//! Decides the calls of one object, by its kind.
 ghost use Rattle.std.specs.Prelude.{◌≤◌, reverse, IfOk};
 ghost use Rattle.calls_core.specs.declared.history.Kind.TheVariants.{Eventcount, Sequencer};
 ghost use Rattle.calls_core.specs.declared.history.Kind.TheVariants.{Semaphores, Cell};
@@ -9,7 +9,7 @@ use crate::verdict::{Decision, Fault};
 use calls_core::{Kind, Part};
 use std::alloc::{AllocError, Global};
 
-/// Decides the calls of an eventcount that is at `start` first.
+/// Decides the calls of an eventcount that is `start` at first.
 fn decide_count(
     alloc: Global,
     start: usize,
@@ -42,7 +42,7 @@ fn decide_sequencer(
     }
 }
 
-/// Decides the calls of semaphores that have these units first.
+/// Decides the calls of semaphores that have these units at first.
 fn decide_semaphores(
     alloc: Global,
     units: &Vec<usize>,

@@ -1,4 +1,4 @@
-//! The events of each object.
+//! Splits the events of a history by their objects.
 ghost use Rattle.std.specs.Prelude.{◌≡◌, [], length, reverse, IfOk, OnOk, MatchOption, None};
 ghost use Rattle.calls_core.specs.Histories.{pending_of};
 ghost use Rattle.calls_verdict.specs.kept.Parts.{IsPendingOf, IsFollowed, IsPart, IsAdded};
@@ -8,7 +8,7 @@ ghost use Rattle.calls_core.specs.Lists.{EachFrom};
 use calls_core::{Action, Event, Kind, PartList, PendingCall};
 use std::alloc::{AllocError, Global};
 
-/// Finds a worker's call among the pending ones.
+/// Returns the index of a worker's pending call, or `None` if it has none.
 pub fn find(pending: &[PendingCall], worker: usize) -> Option<usize>
     ensures { MatchOption result (pending_of worker pending.now ≡ None)
         (IsPendingOf pending.now worker) }
@@ -21,7 +21,9 @@ pub fn find(pending: &[PendingCall], worker: usize) -> Option<usize>
     None
 }
 
-/// Follows the pending calls past an event, and returns the index of the event's object.
+/// Updates the pending calls with an event, and returns the index of the event's object.
+///
+/// Returns `None` for a response of a worker without a pending call.
 pub fn follow(pending: &mut Vec<PendingCall>, event: &Event) -> Result<Option<usize>, AllocError>
     ensures { IfOk result (IsFollowed pending.old.items pending.new.items event.now) }
 {
@@ -42,7 +44,7 @@ pub fn follow(pending: &mut Vec<PendingCall>, event: &Event) -> Result<Option<us
     }
 }
 
-/// Makes so many empty lists.
+/// Returns `count` empty lists.
 fn empty_parts<'h>(alloc: Global, count: usize) -> Result<Vec<PartList<'h>>, AllocError>
     ensures count { IfOk result (λ v. length v.items ≡ count) }
     ensures empty { IfOk result (λ v. EachFrom (IsPart []) 0 v.items) }

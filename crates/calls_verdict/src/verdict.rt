@@ -1,4 +1,4 @@
-//! What is found of a history.
+//! The verdict on a history, and the decisions on its objects.
 use calls_core::{Placed, PlacedCalls};
 
 /// Why a history has no linearization: what its calls of one object show, by counting.
@@ -25,12 +25,12 @@ pub struct Refusal {
     pub fault: Fault,
 }
 
-/// A cell or a database of which it isn't decided whether its calls have a linearization.
+/// A cell or a database whose calls aren't decided.
 #[derive(Clone, Copy, Debug, PartialEq, Eq)]
 pub struct Undecided {
     /// Its index.
     pub object: usize,
-    /// Which of its calls stand in the way.
+    /// The calls that prevent a decision.
     pub cause: calls_cells::Undecided,
 }
 
@@ -42,18 +42,18 @@ pub enum Verdict {
     Linearizable(Vec<Placed>),
     /// It has none.
     Refused(Refusal),
-    /// It has one exactly if the calls of this cell or database have, and those of others that
-    /// aren't decided either.
+    /// It has one exactly if the calls of this cell or database have one, and those of the others
+    /// that aren't decided.
     NotDecided(Undecided),
 }
 
-/// What is found of the calls of one object.
+/// Whether the calls of one object have a linearization.
 #[derive(Debug, Drop)]
 pub enum Decision {
     /// They have this linearization.
     Ordered(PlacedCalls),
     /// They have none, since the event at this index shows this fault.
     Refused(usize, Fault),
-    /// They aren't decided, from the event at this index on.
+    /// They aren't decided from the event at this index on.
     Open(usize, calls_cells::Undecided),
 }

@@ -2,8 +2,8 @@
 use Rattle.std.proofs.Common.{◌≡◌, ◌⊎◌, inl, inr, ℕ, ◌+◌, ◌<◌, ◌≤◌, true, false, List, [], ◌∷◌, ◌++◌, length}
 use Rattle.std.proofs.Common.{reverse, Ok, ap, sym, ◌∙◌, subst, arith}
 use Rattle.std.proofs.lemmas.List.{reverse-append}
-use Rattle.ec_text.specs.Puts.{Outgoing}
-use Rattle.ec_heading.specs.Headed.{Headed}
+use Rattle.ec_text.specs.Puts.{OutputModel}
+use Rattle.ec_heading.specs.HeadingModel.{HeadingModel}
 use Rattle.calls_core.specs.declared.history.Kind.{Kind}
 use Rattle.calls_core.specs.declared.history.Kind.TheVariants.{Eventcount, Sequencer, Semaphores}
 use Rattle.calls_core.specs.declared.history.Kind.TheVariants.{Cell, Database}
@@ -17,7 +17,7 @@ use Rattle.calls_core.specs.Beginnings.{until}
 use Rattle.calls_core.specs.Completions.{IsLinearizable}
 use Rattle.calls_core.proofs.Beginnings.{history_earlier}
 use Rattle.calls_local.proofs.Parts.{a_part_is_a_history}
-use Rattle.calls_local.proofs.Wholes.{a_beginning_is_linearizable}
+use Rattle.calls_local.proofs.Wholes.{a_prefix_is_linearizable}
 use Rattle.calls_local.proofs.Responding.{answers_become_responses}
 use Rattle.calls_cells.specs.declared.outcome.Undecided as cells
 use Rattle.calls_verdict.specs.declared.verdict.Refusal.{Refusal}
@@ -26,19 +26,19 @@ use Rattle.calls_verdict.specs.Faults.{ShowsUndecided}
 use Rattle.calls_cells.specs.Faults as undecided
 use Rattle.calls_verdict.specs.Verdicts.{AreDecided, IsNotDecided, IsFirstRefusal, IsCleanBefore}
 use Rattle.calls_verdict.proofs.Alternatives.{a_refusal_is_final}
-use Rattle.calls_verdict.proofs.OneFault.{the_first_fault_is_one}
+use Rattle.calls_verdict.proofs.OneFault.{until_past as until_end, ends_later, the_first_fault_is_one}
 use Rattle.calls_verdict.proofs.Untils.{until_all, until_out}
 use Rattle.calls_monitor.specs.declared.monitor.Refused.{Refused as Report}
-use Rattle.calls_text.specs.Recordings.{Recorded, AreKinds, IsRecording}
+use Rattle.calls_text.specs.Recordings.{RecordingModel, AreKinds, IsRecording}
 use Rattle.calls_text.specs.Reading.{Opening, Running}
-use Rattle.calls_text.specs.Outcomes.{OneRead, Parsed, goes, fault_in, parts_of}
+use Rattle.calls_text.specs.Outcomes.{OneRead, ParseResult, parse_from, fault_in, lines_of_text}
 use Rattle.calls_text.proofs.ReachedLines.{reached_goes}
 use Rattle.calls_text.proofs.FurtherLines.{GoesFurther, goes_further}
 use Rattle.calls_report.specs.declared.status.Status.{Status}
 use Rattle.calls_report.specs.declared.status.Status.TheVariants.{Done, Refused, Usage}
 use Rattle.calls_report.specs.declared.status.Status.TheVariants.{InputOutput, Memory, NotDecided}
-use Rattle.calls_report.specs.Checks.{Outlets, Judged, AreJudged, IsJudged, HasOrder}
-use Rattle.calls_report.specs.Checks.{IsOpen, IsUnread, IsNoEnd, SaysUnread, SaysRefused, SaysOpen}
+use Rattle.calls_report.specs.Checks.{Outputs, JudgedHistory, AreJudged, IsJudged, HasOrder}
+use Rattle.calls_report.specs.Checks.{IsUndecided, IsUnread, IsNoEnd, SaysUnread, SaysRefused, SaysOpen}
 use Rattle.calls_report.specs.Checks as checks
 use Rattle.calls_watch.specs.Watches.{AreWatched, IsGood, AreGood, IsUpTo, IsStopped, IsWatchedTo}
 use Rattle.calls_watch.specs.Watches.{SaysStopped}
@@ -50,30 +50,33 @@ use Rattle.calls_watch.proofs.SameKinds.{all_alike, linearizable_alike, AllAlike
 use Rattle.calls_watch.proofs.Uncalled.{part_watched, uncalled, cell_begins}
 use Rattle.calls_watch.proofs.Uncalled.{database_begins}
 
--- WHERE BOTH HAVE COME TO
+-- HOW FAR BOTH HAVE READ
 
--- at one place, or `check` went on by one history, or `watch` did
+-- both are at the same line, or `check` went on by one history, or `watch` did
 abbrev Meets : ℕ → List (List ℕ) → ℕ → List (List ℕ) → Type 0
 Meets m qs k rs =
     ((m ≡ k) × (qs ≡ rs))
-    ⊎ (((j : Judged) × (goes m Opening qs ≡ Ok j.read) × HasOrder j.read.recorded j.order)
-    ⊎ ((r : OneRead) × (goes k Opening rs ≡ Ok r) × IsGood r.recorded))
+    ⊎ (((j : JudgedHistory) × (parse_from m Opening qs ≡ Ok j.read)
+    × HasOrder j.read.recorded j.order)
+    ⊎ ((r : OneRead) × (parse_from k Opening rs ≡ Ok r) × IsGood r.recorded))
 
-one_read : (x y : OneRead) → ◌≡◌ {A = Parsed} (Ok x) (Ok y) → x ≡ y
+one_read : (x y : OneRead) → ◌≡◌ {A = ParseResult} (Ok x) (Ok y) → x ≡ y
 one_read x y same = cc
 
 meets : (n : ℕ) (ps : List (List ℕ)) (reads : List OneRead) (m : ℕ) (qs : List (List ℕ))
-    (js : List Judged) (k : ℕ) (rs : List (List ℕ)) → AreGood n ps reads m qs
+    (js : List JudgedHistory) (k : ℕ) (rs : List (List ℕ)) → AreGood n ps reads m qs
     → AreJudged n ps js k rs → Meets m qs k rs
 meets n ps [] m qs [] k rs good judged = inl (sym good.0 ∙ judged.0, sym good.1 ∙ judged.1)
 meets n ps [] m qs (j ∷ js) k rs good judged = inr (inl (
   j,
-  sym (ap (λ (i : ℕ). goes i Opening ps) good.0 ∙ ap (goes m Opening) good.1) ∙ judged.0,
+  sym (ap (λ (i : ℕ). parse_from i Opening ps) good.0 ∙ ap (parse_from m Opening) good.1)
+      ∙ judged.0,
   judged.1,
 ))
 meets n ps (r ∷ reads) m qs [] k rs good judged = inr (inr (
   r,
-  sym (ap (λ (i : ℕ). goes i Opening ps) judged.0 ∙ ap (goes k Opening) judged.1) ∙ good.0,
+  sym (ap (λ (i : ℕ). parse_from i Opening ps) judged.0 ∙ ap (parse_from k Opening) judged.1)
+      ∙ good.0,
   good.1,
 ))
 meets n ps (r ∷ reads) m qs (j ∷ js) k rs good judged =
@@ -81,17 +84,18 @@ meets n ps (r ∷ reads) m qs (j ∷ js) k rs good judged =
     meets r.number r.rest reads m qs js k rs good.2
     (subst (λ (x : OneRead). AreJudged x.number x.rest js k rs) (sym same) judged.2)
 
--- no history is behind the last LF
-end_none : (m : ℕ) (o : OneRead) → goes m Opening ([] ∷ []) ≡ Ok o → ⊥
-unfolding goes
+-- there is no history after the last LF
+end_none : (m : ℕ) (o : OneRead) → parse_from m Opening ([] ∷ []) ≡ Ok o → ⊥
+unfolding parse_from
 end_none m o is = cc
 
-over_none : (m : ℕ) (qs : List (List ℕ)) (o : OneRead) → qs ≡ [] ∷ [] → goes m Opening qs ≡ Ok o → ⊥
-over_none m qs o none is = end_none m o (ap (goes m Opening) (sym none) ∙ is)
+over_none : (m : ℕ) (qs : List (List ℕ)) (o : OneRead) → qs ≡ [] ∷ []
+    → parse_from m Opening qs ≡ Ok o → ⊥
+over_none m qs o none is = end_none m o (ap (parse_from m Opening) (sym none) ∙ is)
 
 -- a text at fault is no history
 fault_none : (m : ℕ) (qs : List (List ℕ)) (note : List ℕ) (o : OneRead) → IsUnread m qs note
-    → goes m Opening qs ≡ Ok o → ⊥
+    → parse_from m Opening qs ≡ Ok o → ⊥
 fault_none m qs note o unread is =
     let fault : fault_in unread.0 unread.1 unread.2 ≡ Ok o = sym unread.3 ∙ is in
     cc
@@ -101,7 +105,7 @@ fault_none m qs note o unread is =
 far : (i : ℕ) (past : List Event) → until (i + 1 + clock past) past ≡ past
 far i past = until_all (i + 1 + clock past) past (omega arith)
 
-good_not_refused : (r : Recorded) → IsGood r → (x : Refusal) → checks.IsRefused r x → ⊥
+good_not_refused : (r : RecordingModel) → IsGood r → (x : Refusal) → checks.IsRefused r x → ⊥
 good_not_refused r g x refused =
     let past : List Event = reverse r.events in
     let same : AllAlike g.kinds refused.0 =
@@ -134,24 +138,24 @@ are_decided ks past h w = λ k kind is u shows.
     kind_decided kind (part k past) u ((a_part_is_a_history ks k past h).4 kind is)
     (part_watched k past w) shows
 
-good_not_open : (r : Recorded) → IsGood r → (u : Undecided) → IsOpen r u → ⊥
+good_not_open : (r : RecordingModel) → IsGood r → (u : Undecided) → IsUndecided r u → ⊥
 good_not_open r g u open_one =
     let shown = open_one.2.shows in
     are_decided open_one.0 (reverse r.events) open_one.1.history g.watched u.object shown.kind
     shown.is u.cause shown.shows
 
--- HISTORIES THAT ARE REFUSED
+-- HISTORIES THAT ARE REJECTED
 
--- a whole history that begins with the events up to the one that is refused
-record IsLonger (past : List Event) (x : Event) (r t : Recorded) : Type 0 where
+-- a whole history, whose prefix are the events up to the one at which it is rejected
+record IsLonger (past : List Event) (x : Event) (r t : RecordingModel) : Type 0 where
   late : List Event
   heading : r.heading ≡ t.heading
   from : r.from ≡ t.from
   are : reverse t.events ≡ late ++ x ∷ past
 
-longer : (n : ℕ) (ps : List (List ℕ)) (m : ℕ) (r : Recorded) (kinds : List Kind)
+longer : (n : ℕ) (ps : List (List ℕ)) (m : ℕ) (r : RecordingModel) (kinds : List Kind)
     (past : List Event) (x : Event) → IsUpTo n ps m r kinds past x → (o : OneRead)
-    → goes n Opening ps ≡ Ok o → IsLonger past x r o.recorded
+    → parse_from n Opening ps ≡ Ok o → IsLonger past x r o.recorded
 longer n ps m r kinds past x u o is =
     let f : GoesFurther r o.recorded = goes_further (u.next ∷ u.left) m r o
     (sym (reached_goes n ps (Running r) m u.next u.left u.reached) ∙ is) in
@@ -163,25 +167,8 @@ longer n ps m r kinds past x u o is =
           ∙ ap (λ (es : List Event). reverse f.late ++ es) u.last;
     }
 
--- a history ends no earlier than a beginning of it
-ends_later : (ks : List Kind) (late past : List Event) → IsHistory ks (late ++ past)
-    → clock past ≤ clock (late ++ past)
-ends_later ks [] past h = omega arith
-ends_later ks (y ∷ late) past h =
-    let before : clock past ≤ clock (late ++ past) = ends_later ks late past h.2 in
-    let next : clock (late ++ past) ≤ y.at = h.0 in
-    omega arith
-
-until_end : (ks : List Kind) (late past : List Event) → IsHistory ks (late ++ past)
-    → until (clock past) (late ++ past) ≡ past
-until_end ks [] past h = until_all (clock past) past (omega arith)
-until_end ks (y ∷ late) past h =
-    let before : clock past ≤ clock (late ++ past) = ends_later ks late past h.2 in
-    let next : clock (late ++ past) ≤ y.at = h.0 in
-    until_out (clock past) y (late ++ past) (omega arith) ∙ until_end ks late past h.2
-
-module _ (n : ℕ) (ps : List (List ℕ)) (m : ℕ) (r : Recorded) (x : Event) (report : Report)
-    (stop : IsStopped n ps m r x report) (o : OneRead) (is : goes n Opening ps ≡ Ok o)
+module _ (n : ℕ) (ps : List (List ℕ)) (m : ℕ) (r : RecordingModel) (x : Event) (report : Report)
+    (stop : IsStopped n ps m r x report) (o : OneRead) (is : parse_from n Opening ps ≡ Ok o)
     (ks : List Kind) (recording : IsRecording o.recorded ks) where
   more : IsLonger stop.past x r o.recorded
   more = longer n ps m r stop.kinds stop.past x stop.up_to o is
@@ -189,7 +176,7 @@ module _ (n : ℕ) (ps : List (List ℕ)) (m : ℕ) (r : Recorded) (x : Event) (
   objects : AreKinds r.heading r.from ks
   objects =
       subst (λ (f : List (ℕ × ℕ)). AreKinds r.heading f ks) (sym more.from)
-      (subst (λ (h : Headed). AreKinds h o.recorded.from ks) (sym more.heading) recording.objects)
+      (subst (λ (h : HeadingModel). AreKinds h o.recorded.from ks) (sym more.heading) recording.objects)
 
   there : AllAlike stop.kinds ks
   there = all_alike r.heading r.from stop.kinds ks stop.up_to.recording.objects objects
@@ -214,7 +201,7 @@ module _ (n : ℕ) (ps : List (List ℕ)) (m : ℕ) (r : Recorded) (x : Event) (
 
   not_whole : IsLinearizable ks (reverse o.recorded.events) → ⊥
   not_whole l =
-      none_with_x (a_beginning_is_linearizable ks more.late (x ∷ stop.past) history
+      none_with_x (a_prefix_is_linearizable ks more.late (x ∷ stop.past) history
       (subst (IsLinearizable ks) more.are l))
 
   same_event : (f : Refusal)
@@ -239,7 +226,7 @@ module _ (n : ℕ) (ps : List (List ℕ)) (m : ℕ) (r : Recorded) (x : Event) (
       none_with_x (late.0, late.1)
 
 -- an order of all calls is a linearization
-ordered : (ks : List Kind) (r : Recorded) (order : List Placed) → IsRecording r ks
+ordered : (ks : List Kind) (r : RecordingModel) (order : List Placed) → IsRecording r ks
     → IsPlacedOrder (IsRun (start ks)) (completed_calls (reverse r.events))
     (pending_calls (reverse r.events)) (clock (reverse r.events)) order
     → IsLinearizable ks (reverse r.events)
@@ -248,14 +235,14 @@ ordered ks r order recording placed =
     placed.legal in
     (late.0, late.1)
 
-stopped_no_order : (n : ℕ) (ps : List (List ℕ)) (m : ℕ) (r : Recorded) (x : Event)
-    (report : Report) → IsStopped n ps m r x report → (j : Judged)
-    → goes n Opening ps ≡ Ok j.read → HasOrder j.read.recorded j.order → ⊥
+stopped_no_order : (n : ℕ) (ps : List (List ℕ)) (m : ℕ) (r : RecordingModel) (x : Event)
+    (report : Report) → IsStopped n ps m r x report → (j : JudgedHistory)
+    → parse_from n Opening ps ≡ Ok j.read → HasOrder j.read.recorded j.order → ⊥
 stopped_no_order n ps m r x report stop j is has =
     not_whole n ps m r x report stop j.read is has.0 has.1
     (ordered has.0 j.read.recorded j.order has.1 has.2)
 
-stopped_some : (n : ℕ) (ps : List (List ℕ)) (m : ℕ) (r : Recorded) (x : Event) (report : Report)
+stopped_some : (n : ℕ) (ps : List (List ℕ)) (m : ℕ) (r : RecordingModel) (x : Event) (report : Report)
     → IsStopped n ps m r x report → ps ≡ [] ∷ [] → ⊥
 stopped_some n ps m r x report stop one =
     let u = stop.up_to in
@@ -283,15 +270,16 @@ some_read ps (r ∷ reads) m qs good some =
     omega arith
 
 moved : (m k : ℕ) (qs rs : List (List ℕ)) (o : OneRead) → m ≡ k → qs ≡ rs
-    → goes k Opening rs ≡ Ok o → goes m Opening qs ≡ Ok o
-moved m k qs rs o e f is = ap (λ (i : ℕ). goes i Opening qs) e ∙ ap (goes k Opening) f ∙ is
+    → parse_from k Opening rs ≡ Ok o → parse_from m Opening qs ≡ Ok o
+moved m k qs rs o e f is = ap (λ (i : ℕ). parse_from i Opening qs) e ∙ ap (parse_from k Opening) f
+    ∙ is
 
-good_read : (k : ℕ) (rs : List (List ℕ)) (r o : OneRead) → goes k Opening rs ≡ Ok r
-    → goes k Opening rs ≡ Ok o → IsGood r.recorded → IsGood o.recorded
+good_read : (k : ℕ) (rs : List (List ℕ)) (r o : OneRead) → parse_from k Opening rs ≡ Ok r
+    → parse_from k Opening rs ≡ Ok o → IsGood r.recorded → IsGood o.recorded
 good_read k rs r o one other good =
     subst (λ (x : OneRead). IsGood x.recorded) (one_read r o (sym one ∙ other)) good
 
-done_refused : (m : ℕ) (qs : List (List ℕ)) (k : ℕ) (rs : List (List ℕ)) (b a : Outgoing) → 1 < m
+done_refused : (m : ℕ) (qs : List (List ℕ)) (k : ℕ) (rs : List (List ℕ)) (b a : OutputModel) → 1 < m
     → qs ≡ [] ∷ [] → Meets m qs k rs → SaysUnread k rs b a ⊎ SaysRefused k rs b a → ⊥
 done_refused m qs k rs b a past none (inl (e, f)) (inl u) =
     u.2 (subst (λ (i : ℕ). 1 < i) e past) (sym f ∙ none)
@@ -301,14 +289,14 @@ done_refused m qs k rs b a past none (inr (inr g)) (inl u) = fault_none k rs u.0
 done_refused m qs k rs b a past none (inr (inr g)) (inr s) =
     good_not_refused s.0.recorded (good_read k rs g.0 s.0 g.1 s.2 g.2) s.1 s.3
 
-done_open : (m : ℕ) (qs : List (List ℕ)) (k : ℕ) (rs : List (List ℕ)) (b a : Outgoing)
+done_open : (m : ℕ) (qs : List (List ℕ)) (k : ℕ) (rs : List (List ℕ)) (b a : OutputModel)
     → qs ≡ [] ∷ [] → Meets m qs k rs → SaysOpen k rs b a → ⊥
 done_open m qs k rs b a none (inl (e, f)) s = over_none k rs s.0 (sym f ∙ none) s.2
 done_open m qs k rs b a none (inr (inl j)) s = over_none m qs j.0.read none j.1
 done_open m qs k rs b a none (inr (inr g)) s =
     good_not_open s.0.recorded (good_read k rs g.0 s.0 g.1 s.2 g.2) s.1 s.3
 
-refused_done : (m : ℕ) (qs : List (List ℕ)) (k : ℕ) (rs : List (List ℕ)) (old new : Outgoing)
+refused_done : (m : ℕ) (qs : List (List ℕ)) (k : ℕ) (rs : List (List ℕ)) (old new : OutputModel)
     → 1 < k → rs ≡ [] ∷ [] → Meets m qs k rs → SaysUnread m qs old new ⊎ SaysStopped m qs old new
     → ⊥
 refused_done m qs k rs old new past none (inl (e, f)) (inl u) =
@@ -320,7 +308,7 @@ refused_done m qs k rs old new past none (inr (inl j)) (inr s) =
     stopped_no_order m qs s.0 s.1 s.2 s.3 s.4 j.0 j.1 j.2
 refused_done m qs k rs old new past none (inr (inr g)) found = over_none k rs g.0 none g.1
 
-refused_open : (m : ℕ) (qs : List (List ℕ)) (k : ℕ) (rs : List (List ℕ)) (old new b a : Outgoing)
+refused_open : (m : ℕ) (qs : List (List ℕ)) (k : ℕ) (rs : List (List ℕ)) (old new b a : OutputModel)
     → Meets m qs k rs → SaysUnread m qs old new ⊎ SaysStopped m qs old new → SaysOpen k rs b a → ⊥
 refused_open m qs k rs old new b a (inl (e, f)) (inl u) s =
     fault_none m qs u.0 s.0 u.1 (moved m k qs rs s.0 e f s.2)
@@ -333,7 +321,7 @@ refused_open m qs k rs old new b a (inr (inr g)) found s =
     good_not_open s.0.recorded (good_read k rs g.0 s.0 g.1 s.2 g.2) s.1 s.3
 
 agree : (ps : List (List ℕ)) (watched checked : Status) (reads : List OneRead) (m : ℕ)
-    (qs : List (List ℕ)) (k : ℕ) (rs : List (List ℕ)) (old new : Outlets) (b a : Outgoing)
+    (qs : List (List ℕ)) (k : ℕ) (rs : List (List ℕ)) (old new : Outputs) (b a : OutputModel)
     → AreGood 1 ps reads m qs → Meets m qs k rs → watches.Ends watched reads m qs old new
     → checks.Ends checked k rs b a → Agree watched checked
 agree ps Done Done reads m qs k rs old new b a good at w c = tt
@@ -366,14 +354,14 @@ agree ps Usage checked reads m qs k rs old new b a good at w c = absurd w
 
 pub watch_agrees_with_check : WatchAgreesWithCheck
 watch_agrees_with_check = λ text watched checked old new judged before after w c.
-    agree (parts_of text) watched checked w.reads w.number w.rest c.number c.rest old new c.remarked
+    agree (lines_of_text text) watched checked w.reads w.number w.rest c.number c.rest old new c.remarked
     after w.good
-    (meets 1 (parts_of text) w.reads w.number w.rest judged c.number c.rest w.good c.judged_are)
+    (meets 1 (lines_of_text text) w.reads w.number w.rest judged c.number c.rest w.good c.judged_are)
     w.ends c.ends
 
-one_event : (n : ℕ) (ps : List (List ℕ)) (m : ℕ) (r : Recorded) (x : Event) (report : Report)
+one_event : (n : ℕ) (ps : List (List ℕ)) (m : ℕ) (r : RecordingModel) (x : Event) (report : Report)
     (k : ℕ) (qs : List (List ℕ)) (read : OneRead) (refusal : Refusal) → Meets n ps k qs
-    → IsStopped n ps m r x report → goes k Opening qs ≡ Ok read
+    → IsStopped n ps m r x report → parse_from k Opening qs ≡ Ok read
     → checks.IsRefused read.recorded refusal → (n ≡ k) × (x.at ≡ refusal.at)
 one_event n ps m r x report k qs read refusal (inl (e, f)) stop is refused = (
   e,
@@ -389,4 +377,4 @@ pub both_refuse_one_event : BothRefuseOneEvent
 both_refuse_one_event =
     λ text reads n ps m r x report judged k qs read refusal good stop judged_are is refused.
     one_event n ps m r x report k qs read refusal
-    (meets 1 (parts_of text) reads n ps judged k qs good judged_are) stop is refused
+    (meets 1 (lines_of_text text) reads n ps judged k qs good judged_are) stop is refused

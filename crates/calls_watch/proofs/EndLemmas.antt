@@ -2,27 +2,27 @@
 use Rattle.std.proofs.Common.{◌≡◌, ◌<◌, ℕ, List, [], ◌++◌, length, take, Option, Some, None}
 use Rattle.std.proofs.Common.{Result, Ok, Err, inl, inr, IfSome, ap, ◌∙◌, subst, arith, codes}
 use Rattle.std.specs.Io.KnownBytes.{Appends, Consumes, IsAtEnd}
-use Rattle.ec_text.specs.Puts.{Outgoing, Puts, AppendsPrefix}
+use Rattle.ec_text.specs.Puts.{OutputModel, Puts, AppendsPrefix}
 use Rattle.calls_core.specs.declared.history.Event.{Event}
 use Rattle.calls_monitor.specs.declared.monitor.Refused.{Refused as Report}
-use Rattle.calls_text.specs.Recordings.{Recorded}
+use Rattle.calls_text.specs.Recordings.{RecordingModel}
 use Rattle.calls_text.specs.Reading.{Running}
-use Rattle.calls_text.specs.Following.{built}
+use Rattle.calls_text.specs.Following.{stage_with_events}
 use Rattle.calls_text.specs.declared.fault.TextFault.{TextFault}
 use Rattle.calls_text.specs.declared.fault.TextFault.TheVariants as faults
-use Rattle.calls_text.specs.Outcomes.{OneRead, parts_of}
+use Rattle.calls_text.specs.Outcomes.{OneRead, lines_of_text}
 use Rattle.calls_report.specs.declared.status.Status.{Status}
 use Rattle.calls_report.specs.declared.status.Status.TheVariants.{Done, Refused, Usage}
 use Rattle.calls_report.specs.declared.status.Status.TheVariants.{InputOutput, Memory, NotDecided}
 use Rattle.calls_report.specs.Notes.{fault_note}
-use Rattle.calls_report.specs.Checks.{Outlets}
+use Rattle.calls_report.specs.Checks.{Outputs}
 use Rattle.calls_watch.specs.declared.feeder.Feeder.{Feeder}
 use Rattle.calls_watch.specs.declared.load.Load.{Load}
 use Rattle.calls_watch.specs.declared.stop.Stop.{Stop}
 use Rattle.calls_watch.specs.declared.stop.Stop.TheVariants as stops
 use Rattle.calls_watch.specs.declared.watcher.Watcher.{Watcher}
-use Rattle.calls_watch.specs.declared.watching.Cut.{Cut}
-use Rattle.calls_watch.specs.declared.watching.Cut.TheVariants as cuts
+use Rattle.calls_watch.specs.declared.watching.EarlyEnd.{EarlyEnd}
+use Rattle.calls_watch.specs.declared.watching.EarlyEnd.TheVariants as cuts
 use Rattle.calls_watch.specs.Loads.{IsLoad, load_text, summary_of, calls_in, others_in}
 use Rattle.calls_watch.specs.Watches.{Watches, refused_note, unwatched_note}
 use Rattle.calls_watch.specs.kept.Watching.{IsFed, EndsAs, FedFrom, Stops, IsOver}
@@ -33,26 +33,22 @@ use Rattle.calls_watch.proofs.PieceLemmas.{FedBy}
 -- READING
 
 pub fed_first : (o : Option (List ℕ)) (f : Feeder)
-    → ((bytes : List ℕ) → IsFed (parts_of bytes) bytes f) → FedFrom o o f
+    → ((bytes : List ℕ) → IsFed (lines_of_text bytes) bytes f) → FedFrom o o f
 fed_first None f fed = tt
 fed_first (Some bytes) f fed = fed bytes
-
-pub nothing_read : (o : Option (List ℕ)) (f : Feeder) → ReadsAll o (Err cuts.Read) f
-nothing_read None f = tt
-nothing_read (Some bytes) f = tt
 
 pub fed_stop : (o now : Option (List ℕ)) (stop : Stop) (f : Feeder) → FedBy (Err stop) o now f
     → ReadsAll o (Err (cuts.Stop stop)) f
 fed_stop None now stop f fed = tt
 fed_stop (Some bytes) now stop f fed = fed
 
--- what was answered to the end of the input
-abbrev pub ends_as : Result (Unit {0}) Stop → Result (Unit {0}) Cut
+-- what was returned at the end of the input
+abbrev pub ends_as : Result (Unit {0}) Stop → Result (Unit {0}) EarlyEnd
 ends_as (Ok u) = Ok u
 ends_as (Err stop) = Err (cuts.Stop stop)
 
 by_result : (bytes : List ℕ) (result : Result (Unit {0}) Stop) (g : Feeder)
-    → EndsAs result (parts_of bytes) g.watcher → ReadsAll (Some bytes) (ends_as result) g
+    → EndsAs result (lines_of_text bytes) g.watcher → ReadsAll (Some bytes) (ends_as result) g
 by_result bytes (Ok u) g ends = ends
 by_result bytes (Err stop) g ends = ends
 
@@ -69,8 +65,8 @@ end_read (Some bytes) None new buf f g result fed takes over ends = absurd fed
 end_read (Some bytes) (Some rest) None buf f g result fed takes over ends = absurd takes
 end_read (Some bytes) (Some rest) (Some left) buf f g result fed takes over ends =
     let none : rest ≡ [] = no_bytes rest buf left takes over in
-    by_result bytes result g (ends (parts_of bytes)
-    (subst (λ (r : List ℕ). IsFed (parts_of bytes) r f) none fed))
+    by_result bytes result g (ends (lines_of_text bytes)
+    (subst (λ (r : List ℕ). IsFed (lines_of_text bytes) r f) none fed))
 
 -- a piece of no bytes
 pub end_of : (o now new : Option (List ℕ)) (buf : List ℕ) (n : ℕ) (f g : Feeder)
@@ -94,8 +90,8 @@ summary reads l load =
     ∙ ap (λ (n : ℕ). load_text (length reads) n l.others) c
     ∙ ap (λ (n : ℕ). load_text (length reads) (calls_in reads) n) o
 
-over : (bytes : List ℕ) (w : Watcher) (status : Status) (old new : Outlets)
-    → IsOver (parts_of bytes) w
+over : (bytes : List ℕ) (w : Watcher) (status : Status) (old new : Outputs)
+    → IsOver (lines_of_text bytes) w
     → WritesLoad status (load_text w.load.histories w.load.calls w.load.others) old new
     → Watches bytes status old new
 over bytes w Done old new o writes = inl (record {
@@ -128,7 +124,7 @@ over bytes w Memory old new o writes = absurd writes
 over bytes w NotDecided old new o writes = absurd writes
 
 pub over_known : (o : Option (List ℕ)) (u : Unit {0}) (f : Feeder) (status : Status)
-    (old new : Outlets) → ReadsAll o (Ok u) f
+    (old new : Outputs) → ReadsAll o (Ok u) f
     → WritesLoad status (load_text f.watcher.load.histories f.watcher.load.calls
     f.watcher.load.others) old new
     → IfSome o (λ bytes. Watches bytes status old new)
@@ -136,8 +132,8 @@ over_known None u f status old new reads writes = tt
 over_known (Some bytes) u f status old new reads writes =
     over bytes f.watcher status old new reads writes
 
-stopped : (bytes : List ℕ) (status : Status) (old new : Outlets) → new.out ≡ old.out
-    → SaysStop (parts_of bytes) status old.notes new.notes → Watches bytes status old new
+stopped : (bytes : List ℕ) (status : Status) (old new : Outputs) → new.out ≡ old.out
+    → SaysStop (lines_of_text bytes) status old.notes new.notes → Watches bytes status old new
 stopped bytes Refused old new same s = inl (record {
   reads = s.reads;
   number = s.start;
@@ -164,22 +160,16 @@ stopped bytes Usage old new same s = absurd s.says
 stopped bytes InputOutput old new same s = absurd s.says
 
 pub stop_known : (o : Option (List ℕ)) (f : Feeder) (stop : Stop) (status : Status)
-    (old new : Outlets) → new.out ≡ old.out → ReadsAll o (Err (cuts.Stop stop)) f
+    (old new : Outputs) → new.out ≡ old.out → ReadsAll o (Err (cuts.Stop stop)) f
     → ((ps : List (List ℕ)) → Stops stop ps f.watcher → SaysStop ps status old.notes new.notes)
     → IfSome o (λ bytes. Watches bytes status old new)
 stop_known None f stop status old new same reads says = tt
 stop_known (Some bytes) f stop status old new same reads says =
-    stopped bytes status old new same (says (parts_of bytes) reads)
-
-pub cut_known : (o : Option (List ℕ)) (old new : Outlets) → new.out ≡ old.out
-    → Puts old.notes new.notes (codes "read fault\n")
-    → IfSome o (λ bytes. Watches bytes InputOutput old new)
-cut_known None old new same puts = tt
-cut_known (Some bytes) old new same puts = inr (same, puts)
+    stopped bytes status old new same (says (lines_of_text bytes) reads)
 
 -- NOTES
 
-pub unread_says : (ps : List (List ℕ)) (w : Watcher) (fault : TextFault) (old new : Outgoing)
+pub unread_says : (ps : List (List ℕ)) (w : Watcher) (fault : TextFault) (old new : OutputModel)
     → Stops (stops.Unread fault) ps w → Puts old new (fault_note fault)
     → SaysStop ps (fault_status fault) old new
 unread_says ps w (faults.At n kind cause) old new s puts = record {
@@ -208,29 +198,8 @@ unread_says ps w faults.Memory old new s puts = record {
   says = puts;
 }
 
-pub memory_says : (ps : List (List ℕ)) (w : Watcher) (old new : Outgoing)
-    → Stops stops.Memory ps w → Puts old new (codes "no memory\n") → SaysStop ps Memory old new
-memory_says ps w old new s puts = record {
-  reads = s.reads;
-  start = s.start;
-  begun = s.begun;
-  good = s.good;
-  says = puts;
-}
-
-pub unwatched_says : (ps : List (List ℕ)) (w : Watcher) (old new : Outgoing)
-    → Stops stops.NotWatched ps w → Puts old new (unwatched_note w.number)
-    → SaysStop ps NotDecided old new
-unwatched_says ps w old new s puts = record {
-  reads = s.reads;
-  start = s.start;
-  begun = s.begun;
-  good = s.good;
-  says = (w.number, s.stops, puts);
-}
-
 refused_by : (ps : List (List ℕ)) (w : Watcher) (x : Event) (report : Report) (status : Status)
-    (old new : Outgoing) (s : Stops (stops.Refused x report) ps w)
+    (old new : OutputModel) (s : Stops (stops.Refused x report) ps w)
     → SaysRefused status (refused_note w.number s.stops.0 x report) old new
     → SaysStop ps status old new
 refused_by ps w x report Refused old new s puts = record {
@@ -247,8 +216,8 @@ refused_by ps w x report Memory old new s puts = absurd puts
 refused_by ps w x report NotDecided old new s puts = absurd puts
 
 pub refused_says : (ps : List (List ℕ)) (w : Watcher) (x : Event) (report : Report)
-    (status : Status) (old new : Outgoing)
-    → ((events : List Event) (r : Recorded) → built events w.follower ≡ Running r
+    (status : Status) (old new : OutputModel)
+    → ((events : List Event) (r : RecordingModel) → stage_with_events events w.follower ≡ Running r
     → SaysRefused status (refused_note w.number r x report) old new)
     → Stops (stops.Refused x report) ps w → SaysStop ps status old new
 refused_says ps w x report status old new says s =

@@ -1,18 +1,22 @@
--- Histories in turn, and how they load.
+-- Histories one after another, and their load.
 use Rattle.std.proofs.Common.{◌≡◌, ℕ, ◌+◌, List, [], ◌∷◌, ◌++◌}
 use Rattle.std.proofs.Common.{Ok, refl, ap, ◌∙◌, arith}
 use Rattle.std.proofs.Common.{reverse}
-use Rattle.calls_text.specs.Outcomes.{OneRead, goes}
+use Rattle.calls_text.specs.Outcomes.{OneRead, parse_from}
 use Rattle.calls_text.specs.Reading.{Opening}
 use Rattle.calls_watch.specs.Loads.{calls_of, others_of, calls_in, others_in}
 use Rattle.calls_watch.specs.Watches.{IsGood, AreGood}
 
--- one more
+-- one history more
 pub good_more : (n : ℕ) (ps : List (List ℕ)) (rs : List OneRead) (m : ℕ) (qs : List (List ℕ))
-    (r : OneRead) → AreGood n ps rs m qs → goes m Opening qs ≡ Ok r → IsGood r.recorded
+    (r : OneRead) → AreGood n ps rs m qs → parse_from m Opening qs ≡ Ok r → IsGood r.recorded
     → AreGood n ps (rs ++ r ∷ []) r.number r.rest
-good_more n ps [] m qs r are reads good =
-    (ap (λ k. goes k Opening ps) are.0 ∙ ap (goes m Opening) are.1 ∙ reads, good, (refl, refl))
+good_more n ps [] m qs r are reads good = (
+  ap (λ k. parse_from k Opening ps) are.0 ∙ ap (parse_from m Opening) are.1
+      ∙ reads,
+  good,
+  (refl, refl),
+)
 good_more n ps (s ∷ rs) m qs r are reads good =
     (are.0, are.1, good_more s.number s.rest rs m qs r are.2 reads good)
 

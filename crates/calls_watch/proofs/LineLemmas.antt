@@ -1,9 +1,9 @@
--- What a line leaves of what is kept of a text.
+-- The state of `watch` after a line.
 use Rattle.std.proofs.Common.{◌≡◌, ◌<◌, ◌≤◌, inl, inr, ℕ, ◌+◌, true, false, List, [], ◌∷◌, ◌++◌, length}
 use Rattle.std.proofs.Common.{reverse, Option, Some, None, Result, Ok, Err, refl, ap, sym, ◌∙◌, subst, arith}
 use Rattle.std.proofs.Common.{length-append}
 use Rattle.std.proofs.lemmas.List.{reverse-append}
-use Rattle.ec_heading.specs.Headed.{Headed}
+use Rattle.ec_heading.specs.HeadingModel.{HeadingModel}
 use Rattle.calls_core.specs.declared.history.Event.{Event}
 use Rattle.calls_core.specs.Histories.{IsHistory, clock, pending_calls}
 use Rattle.calls_core.specs.Completions.{IsLinearizable}
@@ -14,15 +14,15 @@ use Rattle.calls_monitor.specs.Monitors.{Judges}
 use Rattle.calls_monitor.specs.kept.Watching as monitors
 use Rattle.calls_text.specs.declared.fault.TextFault.{TextFault}
 use Rattle.calls_text.specs.declared.fault.TextFault.TheVariants as faults
-use Rattle.calls_text.specs.declared.following.Followed.{Followed}
-use Rattle.calls_text.specs.declared.following.Followed.TheVariants as lines
+use Rattle.calls_text.specs.declared.following.HistoryLine.{HistoryLine}
+use Rattle.calls_text.specs.declared.following.HistoryLine.TheVariants as lines
 use Rattle.calls_text.specs.declared.following.Follower.{Follower}
-use Rattle.calls_text.specs.Recordings.{Recorded, AreKinds}
+use Rattle.calls_text.specs.Recordings.{RecordingModel, AreKinds}
 use Rattle.calls_text.specs.Reading.{Stage, Opening, Limiting, Declaring, Running, Ended, step, is_ended}
 use Rattle.calls_text.specs.Reading.{with_events}
 use Rattle.std.specs.Prelude.{OnOk, IfErr}
-use Rattle.calls_text.specs.Outcomes.{OneRead, goes, ended, fault_in, TellsFault}
-use Rattle.calls_text.specs.Following.{built, HasSeen, IsReached, IsHeading, IsRun, IsEvent, IsEnd}
+use Rattle.calls_text.specs.Outcomes.{OneRead, parse_from, parse_end, fault_in, ReturnsFault}
+use Rattle.calls_text.specs.Following.{stage_with_events, HasEvents, IsReached, IsHeading, IsRunLine, IsEvent, IsEnd}
 use Rattle.calls_text.specs.Following.{PassesIn, IsFaulty}
 use Rattle.calls_text.proofs.ReachedLines.{reached_none, reached_more, reached_end, reached_cut}
 use Rattle.calls_text.proofs.ReachedLines.{reached_fault, reached_opening, opening_none}
@@ -33,10 +33,10 @@ use Rattle.calls_watch.specs.declared.stop.Stop.{Stop}
 use Rattle.calls_watch.specs.declared.stop.Stop.TheVariants as stops
 use Rattle.calls_watch.specs.declared.watcher.Watcher.{Watcher}
 use Rattle.calls_watch.specs.Loads.{IsLoad, calls_of, others_of, others_at}
-use Rattle.calls_watch.specs.Loads.{invoked}
+use Rattle.calls_watch.specs.Loads.{invocation_count}
 use Rattle.calls_watch.specs.Watches.{IsGood, AreGood, IsUpTo}
 use Rattle.calls_watch.specs.Watches.{invokes_cells, AreWatched}
-use Rattle.calls_watch.specs.kept.Watching.{IsMonitoring, IsMonitored, IsWatching, StopsAt, Stops, GoesOn}
+use Rattle.calls_watch.specs.kept.Watching.{IsMonitoring, IsMonitored, IsWatching, StopsAt, Stops, StateAfterLine}
 use Rattle.calls_watch.specs.kept.Watching.{IsOver, IsOpened, IsLoadAfter, Begins, LoadGrows}
 use Rattle.calls_watch.specs.kept.Watching.{IsJudged, IsEventJudged, IsBegunAgain, GoesOnBy, MayEnd, GoesOnAt}
 use Rattle.calls_watch.proofs.Histories.{good_more, calls_more, others_more}
@@ -45,25 +45,25 @@ use Rattle.calls_watch.proofs.Uncalled.{all_linearizable, none_linearizable}
 -- MONITORS
 
 not_running : (s : Stage) (events : List Event) (o : Option Monitor)
-    → ((r : Recorded) → s ≡ Running r → ⊥) → IsMonitored s events o
+    → ((r : RecordingModel) → s ≡ Running r → ⊥) → IsMonitored s events o
 not_running Opening events o none = tt
 not_running Limiting events o none = tt
 not_running (Declaring d) events o none = tt
 not_running (Running r) events o none = absurd (none r refl)
 not_running (Ended r) events o none = tt
 
--- while events may come
-record HasMonitor (r : Recorded) (events : List Event) (o : Option Monitor) : Type 0 where
+-- while events may come, there is a monitor
+record HasMonitor (r : RecordingModel) (events : List Event) (o : Option Monitor) : Type 0 where
   monitor : Monitor
   is : o ≡ Some monitor
   monitoring : IsMonitoring r events monitor
 
-by_option : (r : Recorded) (events : List Event) (o : Option Monitor)
+by_option : (r : RecordingModel) (events : List Event) (o : Option Monitor)
     → IsMonitored (Running r) events o → HasMonitor r events o
 by_option r events (Some m) monitoring = record { monitor = m; is = refl; monitoring = monitoring }
 by_option r events None monitoring = absurd monitoring
 
-monitor_there : (s : Stage) (r : Recorded) (events : List Event) (o : Option Monitor) → s ≡ Running r
+monitor_there : (s : Stage) (r : RecordingModel) (events : List Event) (o : Option Monitor) → s ≡ Running r
     → IsMonitored s events o → HasMonitor r events o
 monitor_there s r events o is monitored =
     by_option r events o (subst (λ (t : Stage). IsMonitored t events o) is monitored)
@@ -73,8 +73,8 @@ monitor_there s r events o is monitored =
 -- the parts of a state, if the stage is known
 built_state : (ps qs : List (List ℕ)) (w : Watcher) (reads : List OneRead) (start : ℕ)
     (begun : List (List ℕ)) (events : List Event) (s : Stage) (n : ℕ) → AreGood 1 ps reads start begun
-    → built events w.follower ≡ s → w.number ≡ n → IsReached start begun s n qs
-    → is_ended s ≡ false → HasSeen events w.follower → IsMonitored s events w.monitor
+    → stage_with_events events w.follower ≡ s → w.number ≡ n → IsReached start begun s n qs
+    → is_ended s ≡ false → HasEvents events w.follower → IsMonitored s events w.monitor
     → IsLoad reads (reverse events) w.load → IsWatching ps qs w
 built_state ps qs w reads start begun events s n good is number reached going seen monitored load =
     record {
@@ -83,7 +83,7 @@ built_state ps qs w reads start begun events s n good is number reached going se
       begun = begun;
       good = good;
       events = events;
-      reached = subst (λ (k : ℕ). IsReached start begun (built events w.follower) k qs) (sym number)
+      reached = subst (λ (k : ℕ). IsReached start begun (stage_with_events events w.follower) k qs) (sym number)
           (subst (λ (t : Stage). IsReached start begun t n qs) (sym is) reached);
       going = subst (λ (t : Stage). is_ended t ≡ false) (sym is) going;
       seen = seen;
@@ -91,14 +91,14 @@ built_state ps qs w reads start begun events s n good is number reached going se
       load = load;
     }
 
--- the load before an event, if there is none
+-- the load before the first event
 none_loaded : (reads : List OneRead) (events : List Event) (l k : Load) → events ≡ [] → k ≡ l
     → IsLoad reads (reverse events) l → IsLoad reads [] k
 none_loaded reads events l k none same load =
     subst (IsLoad reads []) (sym same)
     (subst (λ (es : List Event). IsLoad reads (reverse es) l) none load)
 
-running_open : (r : Recorded) → is_ended (Running r) ≡ false
+running_open : (r : RecordingModel) → is_ended (Running r) ≡ false
 unfolding is_ended
 running_open r = refl
 
@@ -109,10 +109,10 @@ opening_open = refl
 module _ (ps qs : List (List ℕ)) (q line : List ℕ) (old mid new : Watcher)
     (w : IsWatching ps (line ∷ q ∷ qs) old) (number : mid.number ≡ old.number + 1)
     (monitor : mid.monitor ≡ old.monitor) (load : mid.load ≡ old.load) where
-  steps_on : (t : Stage) → step (built w.events old.follower) line ≡ Ok t
+  steps_on : (t : Stage) → step (stage_with_events w.events old.follower) line ≡ Ok t
       → IsReached w.start w.begun t (old.number + 1) (q ∷ qs)
   steps_on t steps =
-      reached_more w.start w.begun (built w.events old.follower) t old.number line (q ∷ qs) w.reached
+      reached_more w.start w.begun (stage_with_events w.events old.follower) t old.number line (q ∷ qs) w.reached
       steps
 
   stopped : (stop : Stop) → StopsAt stop w.start w.begun new → Stops stop ps new
@@ -130,22 +130,22 @@ module _ (ps qs : List (List ℕ)) (q line : List ℕ) (old mid new : Watcher)
       → IsWatching ps (q ∷ qs) new
   heading_goes h same =
       subst (IsWatching ps (q ∷ qs)) (sym same)
-      (built_state ps (q ∷ qs) mid w.reads w.start w.begun [] (built [] mid.follower) (old.number + 1)
-      w.good refl number (steps_on (built [] mid.follower) h.steps) h.going h.seen
-      (not_running (built [] mid.follower) [] mid.monitor h.no_run)
+      (built_state ps (q ∷ qs) mid w.reads w.start w.begun [] (stage_with_events [] mid.follower) (old.number + 1)
+      w.good refl number (steps_on (stage_with_events [] mid.follower) h.steps) h.going h.seen
+      (not_running (stage_with_events [] mid.follower) [] mid.monitor h.no_run)
       (none_loaded w.reads w.events old.load mid.load h.none load w.load))
 
   -- THE LINE RUN
 
-  run_goes : (h : IsRun line w.events old.follower.stage mid.follower.stage)
+  run_goes : (h : IsRunLine line w.events old.follower.stage mid.follower.stage)
       (result : Result (Unit {0}) Stop) → Begins h.begun mid new result
-      → GoesOn result ps (q ∷ qs) new
+      → StateAfterLine result ps (q ∷ qs) new
   run_goes h (Ok u) b =
       let o : IsOpened h.begun b.0 = b.2 in
       built_state ps (q ∷ qs) new w.reads w.start w.begun [] (Running h.begun) (old.number + 1) w.good
-      (ap (λ (f : Follower). built [] f) b.3 ∙ h.is) (b.4 ∙ number)
+      (ap (λ (f : Follower). stage_with_events [] f) b.3 ∙ h.is) (b.4 ∙ number)
       (steps_on (Running h.begun) h.steps) (running_open h.begun)
-      (subst (HasSeen []) (sym b.3) h.seen)
+      (subst (HasEvents []) (sym b.3) h.seen)
       (subst (IsMonitored (Running h.begun) []) (sym b.1) (record {
         kinds = o.kinds;
         are = o.are;
@@ -165,7 +165,7 @@ module _ (ps qs : List (List ℕ)) (q line : List ℕ) (old mid new : Watcher)
 
   module _ (x : Event) (e : IsEvent line w.events x old.follower.stage mid.follower.stage) where
     has : HasMonitor e.before w.events old.monitor
-    has = monitor_there (built w.events old.follower) e.before w.events old.monitor e.was w.monitored
+    has = monitor_there (stage_with_events w.events old.follower) e.before w.events old.monitor e.was w.monitored
 
     abbrev past : List Event
     past = reverse w.events
@@ -185,7 +185,7 @@ module _ (ps qs : List (List ℕ)) (q line : List ℕ) (old mid new : Watcher)
     are_now : AreKinds e.after.heading e.after.from has.monitoring.kinds
     are_now =
         subst (λ (f : List (ℕ × ℕ)). AreKinds e.after.heading f has.monitoring.kinds) e.from
-        (subst (λ (h : Headed). AreKinds h e.before.from has.monitoring.kinds) e.heading
+        (subst (λ (h : HeadingModel). AreKinds h e.before.from has.monitoring.kinds) e.heading
         has.monitoring.are)
 
     history_more : IsHistory has.monitoring.kinds (reverse (w.events ++ x ∷ []))
@@ -242,7 +242,7 @@ module _ (ps qs : List (List ℕ)) (q line : List ℕ) (old mid new : Watcher)
     event_stops report n judges same count plain = stopped (stops.Refused x report) (
       e.after,
       w.events ++ x ∷ [],
-      ap (λ (f : Follower). built (w.events ++ x ∷ []) f) same ∙ e.is,
+      ap (λ (f : Follower). stage_with_events (w.events ++ x ∷ []) f) same ∙ e.is,
       record {
         kinds = has.monitoring.kinds;
         past = past;
@@ -271,9 +271,10 @@ module _ (ps qs : List (List ℕ)) (q line : List ℕ) (old mid new : Watcher)
         let watched : AreWatched (x ∷ past) = (plain, has.monitoring.watched) in
         let fine = all_linearizable has.monitoring.kinds (x ∷ past) history_now watched verdict.0 in
         built_state ps (q ∷ qs) new w.reads w.start w.begun (w.events ++ x ∷ []) (Running e.after)
-        (old.number + 1) w.good (ap (λ (f : Follower). built (w.events ++ x ∷ []) f) same ∙ e.is)
+        (old.number + 1) w.good (ap (λ (f : Follower). stage_with_events (w.events
+        ++ x ∷ []) f) same ∙ e.is)
         (count ∙ number) reached_now (running_open e.after)
-        (subst (HasSeen (w.events ++ x ∷ [])) (sym same) e.seen)
+        (subst (HasEvents (w.events ++ x ∷ [])) (sym same) e.seen)
         (subst (IsMonitored (Running e.after) (w.events ++ x ∷ [])) (sym is) (record {
           kinds = has.monitoring.kinds;
           are = are_now;
@@ -287,7 +288,7 @@ module _ (ps qs : List (List ℕ)) (q line : List ℕ) (old mid new : Watcher)
         (loaded same grows)
 
     event_goes : (result : Result (Unit {0}) Stop) → IsEventJudged has.monitor x mid new result
-        → GoesOn result ps (q ∷ qs) new
+        → StateAfterLine result ps (q ∷ qs) new
     event_goes (Ok u) j = event_taken j.0 j.1 j.2 j.3 j.4 j.5 j.6
     event_goes (Err (stops.Refused y report)) j =
         subst (λ (z : Event). Stops (stops.Refused z report) ps new) (sym j.0)
@@ -303,7 +304,8 @@ module _ (ps qs : List (List ℕ)) (q line : List ℕ) (old mid new : Watcher)
     read = record { recorded = e.whole; number = old.number + 1; rest = q ∷ qs }
 
     monitor_last : HasMonitor e.whole w.events old.monitor
-    monitor_last = monitor_there (built w.events old.follower) e.whole w.events old.monitor e.was
+    monitor_last =
+        monitor_there (stage_with_events w.events old.follower) e.whole w.events old.monitor e.was
         w.monitored
 
     good_read : IsGood e.whole
@@ -344,7 +346,7 @@ module _ (ps qs : List (List ℕ)) (q line : List ℕ) (old mid new : Watcher)
         }
 
     end_goes : (result : Result (Unit {0}) Stop) → IsBegunAgain mid new result
-        → GoesOn result ps (q ∷ qs) new
+        → StateAfterLine result ps (q ∷ qs) new
     end_goes (Ok u) b =
         built_state ps (q ∷ qs) new (w.reads ++ read ∷ []) (old.number + 1) (q ∷ qs) [] Opening
         (old.number + 1) good_now b.0 (b.2 ∙ number) (reached_none (old.number + 1) (q ∷ qs))
@@ -358,20 +360,20 @@ module _ (ps qs : List (List ℕ)) (q line : List ℕ) (old mid new : Watcher)
 
   nothing_goes : (h : IsHeading line w.events old.follower.stage mid.follower.stage)
       (result : Result (Unit {0}) Stop) → GoesOnBy lines.Heading mid new result
-      → GoesOn result ps (q ∷ qs) new
+      → StateAfterLine result ps (q ∷ qs) new
   nothing_goes h (Ok u) same = heading_goes h same
   nothing_goes h (Err stop) same = absurd same
 
-  pub line_goes : (followed : Followed) (result : Result (Unit {0}) Stop)
+  pub line_goes : (followed : HistoryLine) (result : Result (Unit {0}) Stop)
       → PassesIn followed line w.events old.follower.stage mid.follower.stage
-      → GoesOnBy followed mid new result → GoesOn result ps (q ∷ qs) new
+      → GoesOnBy followed mid new result → StateAfterLine result ps (q ∷ qs) new
   line_goes lines.Heading result h by = nothing_goes h result by
   line_goes lines.Run result h by = run_goes h result (by h.begun h.is)
   line_goes (lines.Event x) result e by =
       event_goes x e result (by (has x e).monitor (monitor ∙ (has x e).is))
   line_goes lines.End result e by = end_goes e result by
 
--- A LINE AT FAULT
+-- A FAULTY LINE
 
 -- if the parts are one empty part, that is all that is left
 pub one_part : (n : ℕ) (ps : List (List ℕ)) (s : Stage) (m : ℕ) (line : List ℕ) (qs : List (List ℕ))
@@ -393,7 +395,7 @@ no_end n ps s m line qs at some = λ past one.
 
 pub fault_stops : (ps qs : List (List ℕ)) (line : List ℕ) (old new : Watcher)
     (w : IsWatching ps (line ∷ qs) old) (fault : TextFault) → (line ≡ [] → qs ≡ [] → ⊥)
-    → IsFaulty fault old.number line (built w.events old.follower)
+    → IsFaulty fault old.number line (stage_with_events w.events old.follower)
     → Stops (stops.Unread fault) ps new
 fault_stops ps qs line old new w (faults.At m kind cause) some faulty = record {
   reads = w.reads;
@@ -403,12 +405,12 @@ fault_stops ps qs line old new w (faults.At m kind cause) some faulty = record {
   stops = (
     (
       line,
-      subst (λ (k : ℕ). goes w.start Opening w.begun ≡ fault_in k kind line) (sym faulty.0)
-          (reached_fault w.start w.begun (built w.events old.follower) old.number line qs kind
+      subst (λ (k : ℕ). parse_from w.start Opening w.begun ≡ fault_in k kind line) (sym faulty.0)
+          (reached_fault w.start w.begun (stage_with_events w.events old.follower) old.number line qs kind
           w.reached some w.going faulty.1),
       faulty.2,
     ),
-    no_end w.start w.begun (built w.events old.follower) old.number line qs w.reached some,
+    no_end w.start w.begun (stage_with_events w.events old.follower) old.number line qs w.reached some,
   );
 }
 fault_stops ps qs line old new w faults.Memory some faulty = record {
@@ -418,18 +420,8 @@ fault_stops ps qs line old new w faults.Memory some faulty = record {
   good = w.good;
   stops = (
     tt,
-    no_end w.start w.begun (built w.events old.follower) old.number line qs w.reached some,
+    no_end w.start w.begun (stage_with_events w.events old.follower) old.number line qs w.reached some,
   );
-}
-
-pub memory_stops : (ps qs : List (List ℕ)) (old new : Watcher) → IsWatching ps qs old
-    → Stops stops.Memory ps new
-memory_stops ps qs old new w = record {
-  reads = w.reads;
-  start = w.start;
-  begun = w.begun;
-  good = w.good;
-  stops = tt;
 }
 
 -- THE END
@@ -444,18 +436,18 @@ none_read ps (r ∷ reads) n qs good none past = omega (arith, none)
 cut_no_end : (ps : List (List ℕ)) (rest : List ℕ) (old : Watcher) (w : IsWatching ps (rest ∷ []) old)
     → GoesOnAt rest old → IsNoEnd w.start w.begun
 cut_no_end ps rest old w (inl some) =
-    no_end w.start w.begun (built w.events old.follower) old.number rest [] w.reached
+    no_end w.start w.begun (stage_with_events w.events old.follower) old.number rest [] w.reached
     (λ none more. some none)
 cut_no_end ps rest old w (inr (inl none)) = λ past one.
     (let histories : old.load.histories ≡ length w.reads = w.load.histories in
     none_read ps w.reads w.start w.begun w.good (omega arith) past)
 cut_no_end ps rest old w (inr (inr opened)) = λ past one.
-    (let is = one_part w.start w.begun (built w.events old.follower) old.number rest [] w.reached one in
+    (let is = one_part w.start w.begun (stage_with_events w.events old.follower) old.number rest [] w.reached one in
     opened w.events (sym is.0))
 
 pub cut_stops : (ps : List (List ℕ)) (rest : List ℕ) (old new : Watcher)
     (w : IsWatching ps (rest ∷ []) old) (fault : TextFault) → GoesOnAt rest old
-    → TellsFault (ended old.number (built w.events old.follower) rest) fault
+    → ReturnsFault (parse_end old.number (stage_with_events w.events old.follower) rest) fault
     → Stops (stops.Unread fault) ps new
 cut_stops ps rest old new w fault goes_on tells = record {
   reads = w.reads;
@@ -463,8 +455,8 @@ cut_stops ps rest old new w fault goes_on tells = record {
   begun = w.begun;
   good = w.good;
   stops = (
-    subst (λ o. TellsFault o fault)
-        (sym (reached_cut w.start w.begun (built w.events old.follower) old.number rest w.reached
+    subst (λ o. ReturnsFault o fault)
+        (sym (reached_cut w.start w.begun (stage_with_events w.events old.follower) old.number rest w.reached
         w.going)) tells,
     cut_no_end ps rest old w goes_on,
   );
@@ -489,9 +481,9 @@ over_all ps rest old w may =
       load = none_loaded w.reads w.events old.load old.load none refl w.load;
     }
 
--- the beginning of a text
-pub begins : (ps : List (List ℕ)) (w : Watcher) → built [] w.follower ≡ Opening
-    → HasSeen [] w.follower → w.number ≡ 1 → w.monitor ≡ None → w.load.histories ≡ 0
+-- before the first line of a text
+pub begins : (ps : List (List ℕ)) (w : Watcher) → stage_with_events [] w.follower ≡ Opening
+    → HasEvents [] w.follower → w.number ≡ 1 → w.monitor ≡ None → w.load.histories ≡ 0
     → w.load.calls ≡ 0 → w.load.others ≡ 0 → IsWatching ps ps w
 begins ps w is seen number none histories calls others =
     built_state ps ps w [] 1 ps [] Opening 1 (refl, refl) is number (reached_none 1 ps) opening_open
@@ -503,14 +495,14 @@ begins ps w is seen number none histories calls others =
 
 -- OPENING A MONITOR
 
-running_same : (q r : Recorded) → Running q ≡ Running r → q ≡ r
+running_same : (q r : RecordingModel) → Running q ≡ Running r → q ≡ r
 running_same q r is = cc
 
 -- what is declared does not depend on the events
-pub opened_same : (q r : Recorded) (m : Monitor) → Running (with_events q []) ≡ Running r
+pub opened_same : (q r : RecordingModel) (m : Monitor) → Running (with_events q []) ≡ Running r
     → IsOpened q m → IsOpened r m
 opened_same q r m same o =
-    subst (λ (t : Recorded). IsOpened t m) (running_same (with_events q []) r same)
+    subst (λ (t : RecordingModel). IsOpened t m) (running_same (with_events q []) r same)
     (record { kinds = o.kinds; are = o.are; watches = o.watches })
 
 -- AN EVENT THAT WAS JUDGED
@@ -518,9 +510,10 @@ opened_same q r m same o =
 pub event_done : (m : Monitor) (x : Event) (old new : Watcher) (n : ℕ)
     (result : Result (Unit {0}) Stop) → IsJudged m x new.monitor (Ok tt)
     → invokes_cells x.action ≡ false → new.follower ≡ old.follower → new.number ≡ old.number
-    → ((events : List Event) (r : Recorded) → HasSeen events old.follower
-    → built events old.follower ≡ Running r → n ≡ length (pending_calls (reverse events)))
-    → OnOk result (new.load.calls ≡ old.load.calls + invoked x.action)
+    → ((events : List Event) (r : RecordingModel) → HasEvents events old.follower
+    → stage_with_events events old.follower ≡ Running r
+    → n ≡ length (pending_calls (reverse events)))
+    → OnOk result (new.load.calls ≡ old.load.calls + invocation_count x.action)
     → OnOk result (new.load.others ≡ old.load.others + others_at x.action n)
     → new.load.histories ≡ old.load.histories → IfErr result (λ stop. stop ≡ stops.Memory)
     → IsEventJudged m x old new result

@@ -1,10 +1,10 @@
--- The objects of one heading are the same, whichever list they are in: a list of units may be held in
--- two ways.
+-- The objects of one header are the same, whichever list they are in: a list of units may be
+-- represented in two ways.
 use Rattle.std.proofs.Common.{◌≡◌, ℕ, zero, suc, ◌+◌, ◌-◌, ◌<◌, ◌≤◌, inl, inr, List, [], ◌∷◌, ◌++◌, length}
 use Rattle.std.proofs.Common.{slice_get, slice_index, Option, Some, None, refl, ap, sym, ◌∙◌, subst, arith}
 use Rattle.std.proofs.lemmas.Bool.{cases_lt}
 use Rattle.std.specs.Global.{Vec}
-use Rattle.ec_heading.specs.Headed.{Headed}
+use Rattle.ec_heading.specs.HeadingModel.{HeadingModel}
 use Rattle.ec_heading.specs.declared.group.Group.{Group}
 use Rattle.calls_core.specs.declared.history.Kind.{Kind}
 use Rattle.calls_core.specs.declared.history.Kind.TheVariants.{Eventcount, Sequencer, Semaphores}
@@ -20,7 +20,7 @@ use Rattle.calls_core.specs.Histories.{pending_of, pending_calls, Takes, IsNext,
 use Rattle.calls_core.specs.Linearizations.{initial, start, IsRun}
 use Rattle.calls_core.specs.Completions.{IsLinearizable}
 use Rattle.calls_text.specs.Recordings.{AreKinds, first_sequencer, first_cell, semaphores, first_group}
-use Rattle.calls_text.specs.Recordings.{start_of, cells_of}
+use Rattle.calls_text.specs.Recordings.{start_count, cells_of}
 
 -- WHAT OBJECTS ARE
 
@@ -58,7 +58,7 @@ something_there [] i lt = absurd (omega (arith, lt))
 something_there (g ∷ gs) zero lt = (g, refl)
 something_there (g ∷ gs) (suc i) lt = something_there gs i (omega (arith, lt))
 
-module _ (h : Headed) (from : List (ℕ × ℕ)) (ks ls : List Kind) (one : AreKinds h from ks)
+module _ (h : HeadingModel) (from : List (ℕ × ℕ)) (ks ls : List Kind) (one : AreKinds h from ks)
     (other : AreKinds h from ls) where
   at_place : (n i k : ℕ) (kind : Kind) → n + i ≡ k → slice_get ks (n + i) ≡ Some kind
       → slice_get ls (n + i) ≡ Some kind → AreAlike (slice_get ks k) (slice_get ls k)
@@ -127,12 +127,12 @@ module _ (h : Headed) (from : List (ℕ × ℕ)) (ks ls : List Kind) (one : AreK
   pub all_alike : AllAlike ks ls
   all_alike k = elim (cases_lt k (first_sequencer h)) [
     | inl lt ↦
-        at_place 0 k k (Eventcount (start_of from k)) (omega arith) (one.events k lt)
+        at_place 0 k k (Eventcount (start_count from k)) (omega arith) (one.events k lt)
         (other.events k lt)
     | inr ge ↦ among_sequencers k ge
   ]
 
--- WHAT THEY TAKE, AND WHAT THEY ARE AT FIRST
+-- WHAT THEY TAKE, AND THEIR INITIAL STATE
 
 units_take : (u v : Vec ℕ) → u.items ≡ v.items → (op : Op) → Takes (Some (Semaphores u)) op
     → Takes (Some (Semaphores v)) op

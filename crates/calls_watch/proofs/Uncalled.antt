@@ -15,7 +15,7 @@ use Rattle.calls_core.specs.Completions.{IsLinearizable}
 use Rattle.calls_core.specs.Outcomes.{HasOrderOf}
 use Rattle.calls_local.proofs.Parts.{a_part_is_a_history}
 use Rattle.calls_local.proofs.Wholes.{linearizable_by_orders}
-use Rattle.calls_cells.proofs.Trying.{nothing_ordered}
+use Rattle.calls_distinct.proofs.Earlier.{order_of_none as nothing_ordered}
 use Rattle.calls_monitor.specs.Monitors.{IsWatched, IsFine}
 use Rattle.calls_watch.specs.Watches.{invokes_cells, AreWatched}
 
@@ -29,7 +29,7 @@ part_watched k (x ∷ past) w =
       | false ↦ part_watched k past w.1
     ]
 
--- no first event of the calls of a cell or a database
+-- the first event of the calls of such an object invokes a call of a cell or a database
 abbrev pub BeginsWithNone : Kind → Type 0
 BeginsWithNone kind = (a : Action) → IsNextOf kind a None → invokes_cells a ≡ false → ⊥
 

@@ -1,4 +1,4 @@
--- How many calls were watched, and how far they overlap.
+-- How many calls were watched, and how much they overlap.
 use Rattle.std.specs.Prelude.{◌≡◌, ℕ, ◌+◌, ◌-◌, ◌*◌, ◌/◌, ◌%◌, ◌==◌, ◌||◌, nat_lt, List, [], ◌∷◌, ◌++◌, length}
 use Rattle.std.specs.Prelude.{reverse, codes, decimal, if◌then◌else◌}
 use Rattle.calls_core.specs.declared.history.Action.{Action}
@@ -12,9 +12,9 @@ use Rattle.calls_watch.specs.declared.load.Load.{Load}
 -- COUNTING
 
 -- how many calls an event invokes
-abbrev pub invoked : Action → ℕ
-invoked (Invoke k op) = 1
-invoked (Respond r) = 0
+abbrev pub invocation_count : Action → ℕ
+invocation_count (Invoke k op) = 1
+invocation_count (Respond r) = 0
 
 -- how many other calls are pending after an invocation
 abbrev pub others_at : Action → ℕ → ℕ
@@ -24,9 +24,9 @@ others_at (Respond r) n = 0
 -- the calls that were invoked
 abbrev pub calls_of : List Event → ℕ
 calls_of [] = 0
-calls_of (x ∷ past) = calls_of past + invoked x.action
+calls_of (x ∷ past) = calls_of past + invocation_count x.action
 
--- the others, added up over all invocations
+-- the other pending calls, added up over all invocations
 abbrev pub others_of : List Event → ℕ
 others_of [] = 0
 others_of (x ∷ past) = others_of past + others_at x.action (length (pending_calls (x ∷ past)))
@@ -40,7 +40,7 @@ abbrev pub others_in : List OneRead → ℕ
 others_in [] = 0
 others_in (r ∷ rs) = others_of (reverse r.recorded.events) + others_in rs
 
--- so many histories, and so many calls in them and in the events that came after them
+-- the load of these histories, and of the events after them
 pub record IsLoad (reads : List OneRead) (past : List Event) (l : Load) : Type 0 where
   pub histories : l.histories ≡ length reads
   pub calls : l.calls ≡ calls_in reads + calls_of past
@@ -52,8 +52,8 @@ pub record IsLoad (reads : List OneRead) (past : List Event) (l : Load) : Type 0
 abbrev pub digit_text : ℕ → ℕ → List ℕ
 digit_text rest whole = decimal (rest * 10 / whole)
 
--- how many others are pending on average: two decimals, and no more are written. For more calls than
--- are counted it says nothing
+-- how many other calls are pending on average, with two decimals, cut off; for no calls, or more
+-- than CALLS_MAX, it is 0.00
 abbrev pub overlap_text : ℕ → ℕ → List ℕ
 overlap_text calls others =
     if (calls == 0) || nat_lt CALLS_MAX calls then codes "0.00"
@@ -65,6 +65,6 @@ load_text histories calls others =
     decimal histories ++ codes " histories, " ++ decimal calls
     ++ (codes " calls, overlap " ++ overlap_text calls others ++ codes "\n")
 
--- what is written of histories
+-- the line that is written after these histories
 abbrev pub summary_of : List OneRead → List ℕ
 summary_of reads = load_text (length reads) (calls_in reads) (others_in reads)

@@ -1,8 +1,8 @@
--- What `watch` answered and wrote, for an input whose bytes are known.
+-- What `watch` returned and wrote, for an input whose bytes are known.
 use Rattle.std.specs.Prelude.{◌≡◌, ◌<◌, ◌⊎◌, ℕ, ◌-◌, List, [], ◌∷◌, length, reverse}
 use Rattle.std.specs.Prelude.{Ok, Bool, true, false, codes, ◌++◌}
 use Rattle.std.specs.Io.KnownBytes.{Appends}
-use Rattle.ec_text.specs.Puts.{Outgoing, Puts, AppendsPrefix}
+use Rattle.ec_text.specs.Puts.{OutputModel, Puts, AppendsPrefix}
 use Rattle.calls_core.specs.declared.history.Kind.{Kind}
 use Rattle.calls_core.specs.declared.history.Op.{Op}
 use Rattle.calls_core.specs.declared.history.Op.TheVariants.{Put, Get}
@@ -15,9 +15,9 @@ use Rattle.calls_monitor.specs.declared.monitor.Refused.{Refused as Report}
 use Rattle.calls_monitor.specs.declared.object.Refusal.{Refusal}
 use Rattle.calls_monitor.specs.declared.object.Refusal.TheVariants as refusals
 use Rattle.calls_monitor.specs.Monitors.{IsRefused}
-use Rattle.calls_text.specs.Recordings.{Recorded, IsRecording}
+use Rattle.calls_text.specs.Recordings.{RecordingModel, IsRecording}
 use Rattle.calls_text.specs.Reading.{Opening, Running}
-use Rattle.calls_text.specs.Outcomes.{OneRead, goes, parts_of}
+use Rattle.calls_text.specs.Outcomes.{OneRead, parse_from, lines_of_text}
 use Rattle.calls_text.specs.Following.{IsReached}
 use Rattle.calls_report.specs.declared.certificate.Certificate.{Certificate}
 use Rattle.calls_report.specs.declared.certificate.Certificate.TheVariants as shows
@@ -25,8 +25,8 @@ use Rattle.calls_report.specs.declared.status.Status.{Status}
 use Rattle.calls_report.specs.declared.status.Status.TheVariants.{Done, Refused, Usage}
 use Rattle.calls_report.specs.declared.status.Status.TheVariants.{InputOutput, Memory, NotDecided}
 use Rattle.calls_report.specs.Certificates.{start_at}
-use Rattle.calls_report.specs.Notes.{line_words, scene_at, refusal_note}
-use Rattle.calls_report.specs.Checks.{Outlets, SaysUnread}
+use Rattle.calls_report.specs.Notes.{line_words, site_at, refusal_note}
+use Rattle.calls_report.specs.Checks.{Outputs, SaysUnread}
 use Rattle.calls_watch.specs.Loads.{summary_of}
 
 -- CALLS OF CELLS
@@ -47,27 +47,27 @@ abbrev pub AreWatched : List Event → Type 0
 AreWatched [] = Unit {0}
 AreWatched (x ∷ past) = (invokes_cells x.action ≡ false) × AreWatched past
 
--- HISTORIES IN TURN
+-- HISTORIES, ONE AFTER ANOTHER
 
 -- these are the objects of the history, no cell and no database is called, and it has a
 -- linearization
-pub record IsGood (r : Recorded) : Type 0 where
+pub record IsGood (r : RecordingModel) : Type 0 where
   pub kinds : List Kind
   pub recording : IsRecording r kinds
   pub watched : AreWatched (reverse r.events)
   pub linearizable : IsLinearizable kinds (reverse r.events)
 
--- from line n on, if the parts are these, the text has these histories, each linearizable, and
--- then come these parts, from line m on
+-- ps are the parts of the text from line n on: first these histories, each linearizable, and then
+-- the parts qs, from line m on
 abbrev pub AreGood : ℕ → List (List ℕ) → List OneRead → ℕ → List (List ℕ) → Type 0
 AreGood n ps [] m qs = (n ≡ m) × (ps ≡ qs)
 AreGood n ps (r ∷ rs) m qs =
-    (goes n Opening ps ≡ Ok r) × IsGood r.recorded × AreGood r.number r.rest rs m qs
+    (parse_from n Opening ps ≡ Ok r) × IsGood r.recorded × AreGood r.number r.rest rs m qs
 
 -- WHAT STOPS IT
 
--- what the calls of an object show, by what is kept of them
-abbrev pub shown_by : Recorded → ℕ → Refusal → Certificate
+-- the certificate of what the monitor of an object reports
+abbrev pub shown_by : RecordingModel → ℕ → Refusal → Certificate
 shown_by r k (refusals.Count (counts.Below c)) = shows.Below c
 shown_by r k (refusals.Count (counts.Few c low invoked)) = shows.Few c invoked (start_at r k)
 shown_by r k (refusals.Count (counts.Many c high made)) = shows.Sure c made (start_at r k)
@@ -79,14 +79,14 @@ shown_by r k (refusals.Units f) = shows.NoUnit f.index
 abbrev pub line_of_first : ℕ → ℕ → ℕ
 line_of_first m at = m - 1 - at
 
-abbrev pub refused_note : ℕ → Recorded → Event → Report → List ℕ
+abbrev pub refused_note : ℕ → RecordingModel → Event → Report → List ℕ
 refused_note m r x report =
-    refusal_note (scene_at r report.object (line_of_first m x.at) x.at)
+    refusal_note (site_at r report.object (line_of_first m x.at) x.at)
     (shown_by r report.object report.refusal)
 
 -- from line n on the lines lead to a history whose last event is x, and whose events before it have
 -- a linearization. Line m is the next
-pub record IsUpTo (n : ℕ) (ps : List (List ℕ)) (m : ℕ) (r : Recorded) (kinds : List Kind)
+pub record IsUpTo (n : ℕ) (ps : List (List ℕ)) (m : ℕ) (r : RecordingModel) (kinds : List Kind)
     (past : List Event) (x : Event) : Type 0 where
   pub next : List ℕ
   pub left : List (List ℕ)
@@ -97,7 +97,7 @@ pub record IsUpTo (n : ℕ) (ps : List (List ℕ)) (m : ℕ) (r : Recorded) (kin
   pub before : IsLinearizable kinds past
 
 -- with the event x there is none, and this is the report on it
-pub record IsStopped (n : ℕ) (ps : List (List ℕ)) (m : ℕ) (r : Recorded) (x : Event)
+pub record IsStopped (n : ℕ) (ps : List (List ℕ)) (m : ℕ) (r : RecordingModel) (x : Event)
     (report : Report) : Type 0 where
   pub kinds : List Kind
   pub past : List Event
@@ -105,14 +105,14 @@ pub record IsStopped (n : ℕ) (ps : List (List ℕ)) (m : ℕ) (r : Recorded) (
   pub watched : invokes_cells x.action ≡ false
   pub refused : IsRefused kinds past x report
 
-abbrev pub SaysStopped : ℕ → List (List ℕ) → Outgoing → Outgoing → Type 0
+abbrev pub SaysStopped : ℕ → List (List ℕ) → OutputModel → OutputModel → Type 0
 SaysStopped n ps old new =
-    (m : ℕ) × (r : Recorded) × (x : Event) × (report : Report) × IsStopped n ps m r x report
+    (m : ℕ) × (r : RecordingModel) × (x : Event) × (report : Report) × IsStopped n ps m r x report
     × Puts old new (refused_note m r x report)
 
 -- the event invokes a call of a cell or a database
 pub record IsUnwatched (n : ℕ) (ps : List (List ℕ)) (m : ℕ) : Type 0 where
-  pub recorded : Recorded
+  pub recorded : RecordingModel
   pub event : Event
   pub kinds : List Kind
   pub past : List Event
@@ -125,14 +125,14 @@ unwatched_note m =
     line_words (m - 1)
     ++ codes "cells and databases are not watched: evc-calls check decides them\n"
 
-abbrev pub SaysUnwatched : ℕ → List (List ℕ) → Outgoing → Outgoing → Type 0
+abbrev pub SaysUnwatched : ℕ → List (List ℕ) → OutputModel → OutputModel → Type 0
 SaysUnwatched n ps old new =
     (m : ℕ) × IsUnwatched n ps m × Puts old new (unwatched_note m)
 
 -- ALL OF IT
 
--- after these histories, at the parts from line m on
-abbrev pub Ends : Status → List OneRead → ℕ → List (List ℕ) → Outlets → Outlets → Type 0
+-- how `watch` ended after these histories, at the parts from line m on
+abbrev pub Ends : Status → List OneRead → ℕ → List (List ℕ) → Outputs → Outputs → Type 0
 Ends Done reads m qs old new =
     (0 < length reads) × (qs ≡ [] ∷ []) × Appends old.out new.out (summary_of reads)
     × (new.notes ≡ old.notes)
@@ -148,19 +148,19 @@ Ends InputOutput reads m qs old new =
     × Puts old.notes new.notes (codes "write fault\n")
 Ends Usage reads m qs old new = ⊥
 
--- the text was watched so: its first histories are linearizable, and then this came
-pub record IsWatchedTo (status : Status) (text : List ℕ) (old new : Outlets) : Type 0 where
+-- the text was watched so: its first histories are linearizable, and then it ended with this status
+pub record IsWatchedTo (status : Status) (text : List ℕ) (old new : Outputs) : Type 0 where
   pub reads : List OneRead
   pub number : ℕ
   pub rest : List (List ℕ)
-  pub good : AreGood 1 (parts_of text) reads number rest
+  pub good : AreGood 1 (lines_of_text text) reads number rest
   pub ends : Ends status reads number rest old new
 
 -- a read failed
-abbrev pub IsCutShort : Status → Outlets → Outlets → Type 0
-IsCutShort InputOutput old new =
+abbrev pub IsReadFault : Status → Outputs → Outputs → Type 0
+IsReadFault InputOutput old new =
     (new.out ≡ old.out) × Puts old.notes new.notes (codes "read fault\n")
-IsCutShort _ old new = ⊥
+IsReadFault _ old new = ⊥
 
-abbrev pub Watches : List ℕ → Status → Outlets → Outlets → Type 0
-Watches bytes status old new = IsWatchedTo status bytes old new ⊎ IsCutShort status old new
+abbrev pub Watches : List ℕ → Status → Outputs → Outputs → Type 0
+Watches bytes status old new = IsWatchedTo status bytes old new ⊎ IsReadFault status old new

@@ -1,6 +1,6 @@
-//! The lines of a text that comes in pieces.
+//! Cuts a text that comes in pieces into lines.
 ghost use Rattle.std.specs.Prelude.{◌≡◌, ◌≢◌, ◌∷◌, ◌++◌, [], All, List, ℕ, OnOk};
-ghost use Rattle.calls_text.specs.Outcomes.{parts_of};
+ghost use Rattle.calls_text.specs.Outcomes.{lines_of_text};
 ghost use Rattle.calls_watch.specs.kept.Watching.{IsFed, Feeds, EndsAs, GathersTo};
 
 use crate::stop::Stop;
@@ -9,7 +9,8 @@ use arrayvec::ArrayVec;
 use ec_text::cut_line;
 use std::alloc::Global;
 
-/// A text that comes in pieces: what is kept of its lines, and the beginning of the next one.
+/// The state of a text that comes in pieces: the watcher of its lines, and the prefix of the next
+/// line that was read.
 #[derive(Drop)]
 pub(crate) struct Feeder {
     pub(crate) watcher: Watcher,
@@ -17,9 +18,9 @@ pub(crate) struct Feeder {
 }
 
 impl Feeder {
-    /// Returns a text before its first byte.
+    /// Returns the state before the first byte.
     pub(crate) fn new() -> Feeder
-        ensures { (bytes : List ℕ) → IsFed (parts_of bytes) bytes result }
+        ensures { (bytes : List ℕ) → IsFed (lines_of_text bytes) bytes result }
     {
         Feeder {
             watcher: Watcher::new(),
@@ -27,7 +28,7 @@ impl Feeder {
         }
     }
 
-    /// Adds bytes to the beginning of a line, or returns why that is too long.
+    /// Appends bytes to the prefix of the next line, or reports that the line is too long.
     fn gather(&mut self, bytes: &[u8]) -> Result<(), Stop>
         ensures { GathersTo result bytes.now self.old self.new }
     {
@@ -37,7 +38,7 @@ impl Feeder {
         Ok(())
     }
 
-    /// Takes the line that was gathered, whose LF comes next.
+    /// Passes the gathered line to the watcher. Its LF is next in the text.
     fn take_line(&mut self, alloc: Global) -> Result<(), Stop>
         ensures feeds { (ps : List (List ℕ)) (rest : List ℕ) → IsFed ps (10 ∷ rest) self.old
             → Feeds result ps rest self.new }
@@ -48,7 +49,7 @@ impl Feeder {
         taken
     }
 
-    /// Takes the line whose beginning was gathered, and whose end are these bytes.
+    /// Passes a line to the watcher: the gathered prefix, and then these bytes.
     fn end_line(&mut self, alloc: Global, bytes: &[u8]) -> Result<(), Stop>
         ensures feeds { (ps : List (List ℕ)) (rest : List ℕ)
             → IsFed ps (bytes.now ++ 10 ∷ rest) self.old → All (λ b. b ≢ 10) bytes.now
@@ -61,7 +62,7 @@ impl Feeder {
         }
     }
 
-    /// Takes the lines of a piece, and gathers what stands after its last LF.
+    /// Passes the lines of a piece to the watcher, and gathers the bytes after its last LF.
     fn lines(&mut self, alloc: Global, piece: &[u8]) -> Result<(), Stop>
         requires { self.old.part.items ≡ [] }
         ensures { (ps : List (List ℕ)) (rest : List ℕ) → IsFed ps (piece.now ++ rest) self.old
@@ -77,7 +78,7 @@ impl Feeder {
         self.gather(left)
     }
 
-    /// Takes a piece.
+    /// Reads the next piece of the text.
     pub(crate) fn feed(&mut self, alloc: Global, piece: &[u8]) -> Result<(), Stop>
         ensures { (ps : List (List ℕ)) (rest : List ℕ) → IsFed ps (piece.now ++ rest) self.old
             → Feeds result ps rest self.new }

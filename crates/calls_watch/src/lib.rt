@@ -1,4 +1,4 @@
-//! Histories of calls, judged while their lines come.
+//! Judges histories of calls line by line, in bounded memory.
 #![tactic(auto)]
 
 mod feeder;
@@ -13,4 +13,4 @@ pub use laws::{both_refuse_one_event, watch_agrees_with_check};
 pub use load::Load;
 pub use stop::Stop;
 pub use watcher::Watcher;
-pub use watching::{say_stop, watch};
+pub use watching::{report_stop, watch};

@@ -1,18 +1,19 @@
-//! How many calls were watched, and how far they overlap.
+//! How many calls were watched, and how much they overlap.
 ghost use Rattle.std.specs.Prelude.{◌≡◌, ◌+◌, ◌*◌, ◌%◌, ◌≤◌, ◌++◌, codes, OnOk, IfErr};
 ghost use Rattle.ec_text.specs.Puts.{Puts};
 ghost use Rattle.calls_watch.specs.declared.stop.Stop.TheVariants.{Memory};
-ghost use Rattle.calls_watch.specs.Loads.{invoked, others_at, digit_text, overlap_text, load_text};
+ghost use Rattle.calls_watch.specs.Loads.{invocation_count, others_at, digit_text, overlap_text};
+ghost use Rattle.calls_watch.specs.Loads.{load_text};
 
 use crate::stop::Stop;
 use calls_core::Action;
-use ec_text::Out;
+use ec_text::Output;
 use std::io::Write;
 
-/// The most calls that are counted.
+/// The most calls for which an overlap is computed. For more calls it is written as 0.00.
 const CALLS_MAX: u64 = 1_000_000_000_000_000_000;
 
-/// Histories that were watched to their ends, and the calls so far.
+/// The numbers of histories and of calls so far, and how much the calls overlap.
 #[derive(Clone, Copy, Debug, PartialEq, Eq)]
 pub struct Load {
     /// How many histories have ended.
@@ -25,8 +26,8 @@ pub struct Load {
 }
 
 /// Returns how many calls an event invokes.
-fn invoked(action: Action) -> u64
-    ensures { result ≡ invoked action }
+fn invocation_count(action: Action) -> u64
+    ensures { result ≡ invocation_count action }
 {
     match action {
         Action::Invoke(_, _) => 1,
@@ -44,8 +45,8 @@ fn others_at(action: Action, pending: usize) -> u64
     }
 }
 
-/// Puts a digit of a fraction, and returns what is left of it. The rest is less than the whole.
-fn put_digit<W: Write>(out: &mut Out<'_, W>, rest: u64, whole: u64) -> u64
+/// Puts the next decimal digit of `rest / whole`, and returns the remainder.
+fn put_digit<W: Write>(out: &mut Output<'_, W>, rest: u64, whole: u64) -> u64
     requires some { 1 ≤ whole }
     requires less { rest + 1 ≤ whole }
     requires small { whole ≤ CALLS_MAX }
@@ -57,8 +58,8 @@ fn put_digit<W: Write>(out: &mut Out<'_, W>, rest: u64, whole: u64) -> u64
     rest * 10 % whole
 }
 
-/// Puts how many others are pending on average, with two decimals, cut off.
-fn put_overlap<W: Write>(out: &mut Out<'_, W>, calls: u64, others: u64)
+/// Puts how many other calls are pending on average at an invocation, with two decimals, cut off.
+fn put_overlap<W: Write>(out: &mut Output<'_, W>, calls: u64, others: u64)
     ensures { Puts out.old out.new (overlap_text calls others) }
 {
     if calls == 0 || calls > CALLS_MAX {
@@ -72,7 +73,7 @@ fn put_overlap<W: Write>(out: &mut Out<'_, W>, calls: u64, others: u64)
 }
 
 impl Load {
-    /// Returns nothing.
+    /// Returns a load of zeros.
     pub(crate) fn none() -> Load
         ensures histories { result.histories ≡ 0 }
         ensures calls { result.calls ≡ 0 }
@@ -85,14 +86,17 @@ impl Load {
         }
     }
 
-    /// Adds an event, after which so many calls are pending.
+    /// Adds an event. `pending` is the number of pending calls after it.
     pub(crate) fn add_event(&mut self, action: Action, pending: usize) -> Result<(), Stop>
-        ensures calls { OnOk result (self.new.calls ≡ self.old.calls + invoked action) }
+        ensures calls { OnOk result (self.new.calls ≡ self.old.calls + invocation_count action) }
         ensures others { OnOk result (self.new.others ≡ self.old.others + others_at action pending) }
         ensures histories { self.new.histories ≡ self.old.histories }
         ensures err { IfErr result (λ stop. stop ≡ Memory) }
     {
-        let calls = self.calls.checked_add(invoked(action)).ok_or(Stop::Memory)?;
+        let calls = self
+            .calls
+            .checked_add(invocation_count(action))
+            .ok_or(Stop::Memory)?;
         let others = self
             .others
             .checked_add(others_at(action, pending))
@@ -102,7 +106,7 @@ impl Load {
         Ok(())
     }
 
-    /// Adds a history.
+    /// Adds one to the number of histories.
     pub(crate) fn add_history(&mut self) -> Result<(), Stop>
         ensures histories { OnOk result (self.new.histories ≡ self.old.histories + 1) }
         ensures calls { self.new.calls ≡ self.old.calls }
@@ -113,8 +117,8 @@ impl Load {
         Ok(())
     }
 
-    /// Puts it as a line.
-    pub(crate) fn put<W: Write>(&self, out: &mut Out<'_, W>)
+    /// Puts the load as a line, such as `2 histories, 1200 calls, overlap 1.37`.
+    pub(crate) fn put<W: Write>(&self, out: &mut Output<'_, W>)
         ensures { Puts out.old out.new (load_text self.now.histories self.now.calls self.now.others) }
     {
         out.put_number(self.histories);
@@ -123,8 +127,8 @@ impl Load {
         self.put_rest(out);
     }
 
-    /// Puts what stands after the number of calls.
-    fn put_rest<W: Write>(&self, out: &mut Out<'_, W>)
+    /// Puts the rest of the line, after the number of calls.
+    fn put_rest<W: Write>(&self, out: &mut Output<'_, W>)
         ensures { Puts out.old out.new (codes " calls, overlap "
             ++ overlap_text self.now.calls self.now.others ++ codes "\n") }
     {

@@ -1,4 +1,4 @@
-//! What the calls of an object show, by what is kept of them.
+//! The certificates of what a monitor reports.
 ghost use Rattle.std.specs.Prelude.{◌≡◌};
 ghost use Rattle.calls_monitor.specs.declared.object.Refusal.TheVariants.{Count};
 ghost use Rattle.calls_watch.specs.Watches.{shown_by};
@@ -7,7 +7,7 @@ use calls_monitor::Refusal;
 use calls_report::{Certificate, start_at};
 use calls_text::Recording;
 
-/// Returns what an eventcount's calls show.
+/// Returns the certificate of what the monitor of an eventcount reports.
 fn count_shown<'a>(
     recording: &Recording,
     object: usize,
@@ -26,7 +26,7 @@ fn count_shown<'a>(
     }
 }
 
-/// Returns what the calls of an object show.
+/// Returns the certificate of what the monitor of an object reports.
 pub(crate) fn shown_by<'a>(
     recording: &Recording,
     object: usize,

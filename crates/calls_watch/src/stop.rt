@@ -12,6 +12,6 @@ pub enum Stop {
     Refused(Event, Refused),
     /// A cell or a database is called.
     NotWatched,
-    /// An allocation failed.
+    /// An allocation failed, or a number would overflow.
     Memory,
 }

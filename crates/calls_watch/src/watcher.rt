@@ -1,14 +1,14 @@
-//! Histories of a text, judged line by line.
+//! Judges the histories of a text line by line.
 ghost use Rattle.std.specs.Prelude.{◌≡◌, ◌<◌, ◌∷◌, [], List, ℕ, Some, length, true, false};
 ghost use Rattle.calls_core.specs.declared.history.Event.{Event};
 ghost use Rattle.calls_core.specs.Histories.{pending_calls};
 ghost use Rattle.calls_monitor.specs.declared.monitor.Monitor.{Monitor};
-ghost use Rattle.calls_text.specs.Outcomes.{parts_of};
+ghost use Rattle.calls_text.specs.Outcomes.{lines_of_text};
 ghost use Rattle.calls_text.specs.Reading.{Running};
-ghost use Rattle.calls_text.specs.Recordings.{Recorded};
-ghost use Rattle.calls_text.specs.Following.{built, HasSeen};
+ghost use Rattle.calls_text.specs.Recordings.{RecordingModel};
+ghost use Rattle.calls_text.specs.Following.{stage_with_events, HasEvents};
 ghost use Rattle.calls_watch.specs.Watches.{invokes_cells};
-ghost use Rattle.calls_watch.specs.kept.Watching.{IsWatching, GoesOn, EndsAs, Stops, Opens, IsJudged};
+ghost use Rattle.calls_watch.specs.kept.Watching.{IsWatching, StateAfterLine, EndsAs, Stops, Opens, IsJudged};
 ghost use Rattle.calls_watch.specs.kept.Watching.{Begins, IsEventJudged, IsBegunAgain, GoesOnBy};
 ghost use Rattle.calls_watch.specs.kept.Watching.{MayEnd, GoesOnAt};
 
@@ -16,11 +16,13 @@ use crate::load::Load;
 use crate::stop::Stop;
 use calls_core::{Action, Event, Op};
 use calls_monitor::{Monitor, Rejection};
-use calls_text::{Followed, Follower, Recording};
+use calls_text::{Follower, HistoryLine, Recording};
 use std::alloc::Global;
 
-/// What is kept of a text: its histories so far are linearizable, and so is the beginning of the
-/// next one. Nothing of it grows with the text.
+/// The state of `watch`, after some lines of a text.
+///
+/// The histories so far are linearizable, and so is the prefix of the next one that was read. The
+/// state does not grow with the text.
 #[derive(Drop)]
 pub struct Watcher {
     pub(crate) follower: Follower,
@@ -62,7 +64,7 @@ fn judge(monitor: &mut Option<Monitor>, event: Event) -> Result<(), Stop>
 }
 
 impl Watcher {
-    /// Returns what is kept of a text before its first line.
+    /// Returns the state before the first line.
     pub fn new() -> Watcher
         ensures { (ps : List (List ℕ)) → IsWatching ps ps result }
     {
@@ -74,7 +76,7 @@ impl Watcher {
         }
     }
 
-    /// Returns how many calls came, and how far they overlap.
+    /// Returns the numbers of histories and of calls so far, and how much the calls overlap.
     pub fn load(&self) -> Load
         ensures { result ≡ self.now.load }
     {
@@ -83,7 +85,7 @@ impl Watcher {
 
     /// Opens the monitor of a history.
     fn begin(&mut self, alloc: Global) -> Result<(), Stop>
-        ensures { (r : Recorded) → built [] self.old.follower ≡ Running r
+        ensures { (r : RecordingModel) → stage_with_events [] self.old.follower ≡ Running r
             → Begins r self.old self.new result }
     {
         let Some(recording) = self.follower.recording() else {
@@ -105,7 +107,7 @@ impl Watcher {
         self.load.add_event(event.action, self.follower.pending())
     }
 
-    /// Begins the next history.
+    /// Counts a history that has ended, and prepares for the next one.
     fn end_history(&mut self) -> Result<(), Stop>
         ensures { IsBegunAgain self.old self.new result }
     {
@@ -115,22 +117,23 @@ impl Watcher {
         Ok(())
     }
 
-    /// Goes on by what the line was.
-    fn go_on(&mut self, alloc: Global, followed: Followed) -> Result<(), Stop>
+    /// Updates the state by the kind of the line.
+    fn go_on(&mut self, alloc: Global, followed: HistoryLine) -> Result<(), Stop>
         ensures { GoesOnBy followed self.old self.new result }
     {
         match followed {
-            Followed::Heading => Ok(()),
-            Followed::Run => self.begin(alloc),
-            Followed::Event(event) => self.event(event),
-            Followed::End => self.end_history(),
+            HistoryLine::Heading => Ok(()),
+            HistoryLine::Run => self.begin(alloc),
+            HistoryLine::Event(event) => self.event(event),
+            HistoryLine::End => self.end_history(),
         }
     }
 
-    /// Takes the next line, given without its LF. After a stop it has no use.
+    /// Judges the next line, given without its LF. After an error no further line may be judged.
     pub fn line(&mut self, alloc: Global, line: &[u8]) -> Result<(), Stop>
         ensures { (ps qs : List (List ℕ)) (q : List ℕ)
-            → IsWatching ps (line.now ∷ q ∷ qs) self.old → GoesOn result ps (q ∷ qs) self.new }
+            → IsWatching ps (line.now ∷ q ∷ qs) self.old
+            → StateAfterLine result ps (q ∷ qs) self.new }
     {
         let followed = match self.follower.line(alloc, self.number, line) {
             Ok(followed) => followed,
@@ -143,7 +146,7 @@ impl Watcher {
         self.go_on(alloc, followed)
     }
 
-    /// Returns why the next line stops it, if that has more than 8192 bytes.
+    /// Returns the error of a next line that has more than 8192 bytes.
     pub fn long_line(&self) -> Stop
         ensures { (ps qs : List (List ℕ)) (line : List ℕ)
             → IsWatching ps (line ∷ qs) self.now → 8192 < length line → Stops result ps self.now }
@@ -165,7 +168,7 @@ impl Watcher {
         self.follower.is_opening()
     }
 
-    /// Ends the text, which has these bytes after its last LF.
+    /// Ends the text, with these bytes after its last LF.
     pub fn end(&mut self, alloc: Global, rest: &[u8]) -> Result<(), Stop>
         ensures { (ps : List (List ℕ)) → IsWatching ps (rest.now ∷ []) self.old
             → EndsAs result ps self.new }

@@ -1,10 +1,10 @@
-//! `watch`: histories of calls in, each judged while it comes.
+//! `watch`: reads histories of calls, and judges each event when its line comes.
 ghost use Rattle.std.specs.Prelude.{◌≡◌, ◌≤◌, ◌++◌, List, ℕ, Option, IfSome, length, take};
 ghost use Rattle.ec_text.specs.Puts.{Puts, IsWrittenOut};
 ghost use Rattle.calls_core.specs.declared.history.Event.{Event};
 ghost use Rattle.calls_text.specs.Reading.{Running};
-ghost use Rattle.calls_text.specs.Recordings.{Recorded};
-ghost use Rattle.calls_text.specs.Following.{built};
+ghost use Rattle.calls_text.specs.Recordings.{RecordingModel};
+ghost use Rattle.calls_text.specs.Following.{stage_with_events};
 ghost use Rattle.calls_report.specs.Notes.{fault_note};
 ghost use Rattle.calls_report.specs.declared.status.Status.TheVariants.{NotDecided};
 ghost use Rattle.calls_watch.specs.Loads.{load_text};
@@ -21,23 +21,23 @@ use crate::watcher::Watcher;
 use arrayvec::ArrayVec;
 use calls_core::Event;
 use calls_monitor::Refused;
-use calls_report::{Status, say_certificate, say_fault};
+use calls_report::{Status, report_certificate, report_fault};
 use calls_text::TextFault;
-use ec_text::{Out, read_piece};
+use ec_text::{Output, read_piece};
 use std::alloc::Global;
 use std::io::{Read, Write};
 
 /// Why a text is not read to its end.
 #[derive(Clone, Copy, Debug, PartialEq, Eq)]
-pub(crate) enum Cut {
+pub(crate) enum EarlyEnd {
     /// A read failed.
     Read,
     /// It is not watched further.
     Stop(Stop),
 }
 
-/// Takes the first bytes of the table.
-fn feed_front(
+/// Feeds the first `n` bytes of the table.
+fn feed_prefix(
     alloc: Global,
     table: &ArrayVec<u8, 8192>,
     n: usize,
@@ -51,35 +51,35 @@ fn feed_front(
     feeder.feed(alloc, &bytes[..n])
 }
 
-/// Reads a piece and takes it. Returns whether the text may go on.
+/// Reads a piece of the text and feeds it. Returns `false` at the end of the text.
 fn read_on<R: Read>(
     alloc: Global,
     reader: &mut R,
     table: &mut ArrayVec<u8, 8192>,
     feeder: &mut Feeder,
-) -> Result<bool, Cut>
+) -> Result<bool, EarlyEnd>
     requires { length table.old.items ≡ 8192 }
     ensures len { length table.new.items ≡ 8192 }
     ensures reads { (old : Option (List ℕ)) → FedFrom old (R.remaining reader.old) feeder.old
         → ReadsOn old result (R.remaining reader.new) feeder.new }
 {
     let Ok(n) = read_piece(reader, table) else {
-        return Err(Cut::Read);
+        return Err(EarlyEnd::Read);
     };
     if n == 0 {
         return match feeder.end(alloc) {
             Ok(()) => Ok(false),
-            Err(stop) => Err(Cut::Stop(stop)),
+            Err(stop) => Err(EarlyEnd::Stop(stop)),
         };
     }
-    match feed_front(alloc, table, n, feeder) {
+    match feed_prefix(alloc, table, n, feeder) {
         Ok(()) => Ok(true),
-        Err(stop) => Err(Cut::Stop(stop)),
+        Err(stop) => Err(EarlyEnd::Stop(stop)),
     }
 }
 
 /// Reads a text to its end, piece by piece.
-fn read_all<R: Read>(alloc: Global, reader: &mut R, feeder: &mut Feeder) -> Result<(), Cut>
+fn read_all<R: Read>(alloc: Global, reader: &mut R, feeder: &mut Feeder) -> Result<(), EarlyEnd>
     ensures { (old : Option (List ℕ)) → FedFrom old (R.remaining reader.old) feeder.old
         → ReadsAll old result feeder.new }
 {
@@ -92,17 +92,17 @@ fn read_all<R: Read>(alloc: Global, reader: &mut R, feeder: &mut Feeder) -> Resu
         }
     }
     // (so many pieces would take centuries)
-    Err(Cut::Stop(Stop::Memory))
+    Err(EarlyEnd::Stop(Stop::Memory))
 }
 
-/// Writes how many calls came.
-fn write_load<W: Write, N: Write>(load: Load, out: &mut W, notes: &mut Out<'_, N>) -> Status
+/// Writes the line of the load.
+fn write_load<W: Write, N: Write>(load: Load, out: &mut W, notes: &mut Output<'_, N>) -> Status
     ensures writes { WritesLoad result (load_text load.histories load.calls load.others)
         (record { out = W.contents out.old; notes = notes.old })
         (record { out = W.contents out.new; notes = notes.new }) }
     ensures written { IsWrittenOut notes.old → IsWrittenOut notes.new }
 {
-    let mut text = Out::new(out);
+    let mut text = Output::new(out);
     load.put(&mut text);
     let done = text.finish();
     text.into_writer();
@@ -115,22 +115,24 @@ fn write_load<W: Write, N: Write>(load: Load, out: &mut W, notes: &mut Out<'_, N
     }
 }
 
-/// Returns the number of the line of the event at position 0, by that of the line after another.
+/// Returns the number of the line of the event at position 0.
+///
+/// `number` is that of the line after the event at position `at`.
 fn line_of_first(number: u64, at: usize) -> u64
     ensures { result ≡ line_of_first number at }
 {
     number.saturating_sub(1).saturating_sub(at as u64)
 }
 
-/// Says that a history has no linearization from an event on.
-fn say_refused<N: Write>(
+/// Reports that a history has no linearization from an event on.
+fn report_refused<N: Write>(
     watcher: &Watcher,
     event: Event,
     refused: Refused,
-    notes: &mut Out<'_, N>,
+    notes: &mut Output<'_, N>,
 ) -> Status
-    ensures says { (events : List Event) (r : Recorded)
-        → built events watcher.now.follower ≡ Running r
+    ensures says { (events : List Event) (r : RecordingModel)
+        → stage_with_events events watcher.now.follower ≡ Running r
         → SaysRefused result (refused_note watcher.now.number r event refused) notes.old notes.new }
     ensures written { IsWrittenOut notes.new }
 {
@@ -141,25 +143,25 @@ fn say_refused<N: Write>(
     let Refused { object, refusal } = refused;
     let shown = shown_by(recording, object, refusal);
     let first = line_of_first(watcher.number, event.at);
-    say_certificate(notes, recording, object, first, event.at, shown);
+    report_certificate(notes, recording, object, first, event.at, shown);
     Status::Refused
 }
 
-/// Says why a line is at fault.
-fn say_unread<N: Write>(fault: TextFault, notes: &mut Out<'_, N>) -> Status
+/// Reports the error of a text.
+fn report_unread<N: Write>(fault: TextFault, notes: &mut Output<'_, N>) -> Status
     ensures status { result ≡ fault_status fault }
     ensures puts { Puts notes.old notes.new (fault_note fault) }
     ensures written { IsWrittenOut notes.new }
 {
-    say_fault(notes, fault);
+    report_fault(notes, fault);
     match fault {
         TextFault::At { .. } => Status::Refused,
         TextFault::Memory => Status::Memory,
     }
 }
 
-/// Says that a call is not watched, by the number of the line after it.
-fn say_unwatched<N: Write>(number: u64, notes: &mut Out<'_, N>) -> Status
+/// Reports that a call is not watched. `number` is that of the line after it.
+fn report_unwatched<N: Write>(number: u64, notes: &mut Output<'_, N>) -> Status
     ensures status { result ≡ NotDecided }
     ensures puts { Puts notes.old notes.new (unwatched_note number) }
     ensures written { IsWrittenOut notes.new }
@@ -171,16 +173,16 @@ fn say_unwatched<N: Write>(number: u64, notes: &mut Out<'_, N>) -> Status
     Status::NotDecided
 }
 
-/// Says why a text is not watched further.
-pub fn say_stop<N: Write>(watcher: &Watcher, stop: Stop, notes: &mut Out<'_, N>) -> Status
+/// Reports why a text is not watched further, and returns the status.
+pub fn report_stop<N: Write>(watcher: &Watcher, stop: Stop, notes: &mut Output<'_, N>) -> Status
     ensures says { (ps : List (List ℕ)) → Stops stop ps watcher.now
         → SaysStop ps result notes.old notes.new }
     ensures written { IsWrittenOut notes.new }
 {
     match stop {
-        Stop::Unread(fault) => say_unread(fault, notes),
-        Stop::Refused(event, refused) => say_refused(watcher, event, refused, notes),
-        Stop::NotWatched => say_unwatched(watcher.number, notes),
+        Stop::Unread(fault) => report_unread(fault, notes),
+        Stop::Refused(event, refused) => report_refused(watcher, event, refused, notes),
+        Stop::NotWatched => report_unwatched(watcher.number, notes),
         Stop::Memory => {
             notes.say(b"no memory\n");
             Status::Memory
@@ -188,17 +190,19 @@ pub fn say_stop<N: Write>(watcher: &Watcher, stop: Stop, notes: &mut Out<'_, N>)
     }
 }
 
-/// Reads histories of calls and judges each event when its line comes, up to the first history that
-/// has no linearization; then a note says why. At the end it writes how many histories and calls
-/// there were, and how many other calls are pending on average when one is invoked.
+/// Reads histories of calls, and judges each event when its line comes.
 ///
-/// What is kept does not grow with the text. Calls of cells and databases are not watched: the first
+/// It ends at the first event with which a history has no linearization, and a note says why. At
+/// the end of the text it writes how many histories and calls there were. It also writes how many
+/// other calls are pending on average when one is invoked.
+///
+/// The state does not grow with the text. Calls of cells and databases are not watched: the first
 /// one ends it. A read that fails is not tried again.
 pub fn watch<R: Read, W: Write, N: Write>(
     alloc: Global,
     reader: &mut R,
     out: &mut W,
-    notes: &mut Out<'_, N>,
+    notes: &mut Output<'_, N>,
 ) -> Status
     ensures ends { IfSome (R.remaining reader.old) (λ bytes. Watches bytes result
         (record { out = W.contents out.old; notes = notes.old })
@@ -208,10 +212,10 @@ pub fn watch<R: Read, W: Write, N: Write>(
     let mut feeder = Feeder::new();
     match read_all(alloc, reader, &mut feeder) {
         Ok(()) => write_load(feeder.watcher.load, out, notes),
-        Err(Cut::Read) => {
+        Err(EarlyEnd::Read) => {
             notes.say(b"read fault\n");
             Status::InputOutput
         }
-        Err(Cut::Stop(stop)) => say_stop(&feeder.watcher, stop, notes),
+        Err(EarlyEnd::Stop(stop)) => report_stop(&feeder.watcher, stop, notes),
     }
 }

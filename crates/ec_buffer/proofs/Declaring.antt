@@ -1,4 +1,4 @@
--- If nothing speaks against a buffer, each of its objects is added.
+-- If a buffer has no fault, each of its objects is added.
 use Rattle.std.proofs.Common.{◌≡◌, ℕ, ◌+◌, ◌≤◌, ◌==◌, nat_lt, true, false, ◌||◌, List, [], ◌∷◌, ◌++◌, length, None, sym, subst, arith, length-append}
 use Rattle.std.specs.Prelude.{Result, Ok, OnOk}
 use Rattle.std.proofs.lemmas.Bool.{or_parts, ltb-false}
@@ -8,7 +8,7 @@ use Rattle.ec_count.proofs.shared.Adding.{event_free, cells_free}
 use Rattle.ec_count.proofs.shared.Disjoint.{roles_of, joined_sound}
 use Rattle.ec_buffer.specs.Shapes.{lacks_room, buffer_fault}
 
--- nothing speaks against any object of the buffer, once those before it are added
+-- no object of the buffer has a fault, once those before it are added
 pub record IsFree (t : Tables) (n : ℕ) (produce consume : List ℕ) : Type 0 where
   pub in_count : event_fault t produce (produce ++ consume) ≡ None
   pub out_count : event_fault (with_fixed_event t produce (produce ++ consume)) consume (produce ++ consume) ≡ None

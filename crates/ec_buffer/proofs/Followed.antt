@@ -5,17 +5,17 @@ use Rattle.ec_core.specs.declared.act.Act.{Act}
 use Rattle.ec_core.specs.declared.act.Entry.{Entry}
 use Rattle.ec_core.specs.Counts.{total, issued}
 use Rattle.ec_core.specs.Acceptance.{IsAccepted}
-use Rattle.ec_core.specs.Following.{Told, block, Follow}
+use Rattle.ec_core.specs.Following.{CompletedCall, block, Follow}
 use Rattle.ec_core.proofs.shared.Following.{op_at, step_told, step_due, off_block}
-use Rattle.ec_core.proofs.shared.Queue.{Seat, IsQueue}
+use Rattle.ec_core.proofs.shared.Queue.{QueuePosition, IsQueue}
 use Rattle.ec_buffer.specs.Shapes.{Buffer}
 use Rattle.ec_buffer.specs.Follows.{is_on, produce_rule, consume_rule, role_rules}
 use Rattle.ec_buffer.proofs.Moves.{puts, gets}
 use Rattle.ec_buffer.specs.Shapes.{IsShape}
 use Rattle.ec_buffer.proofs.Handing.{seat_of, nobody, put_seat, get_seat, IsHanding, IsStep, quiet_off, quiet_same}
-use Rattle.ec_buffer.proofs.Moving.{produce_step, consume_step, seat_kept, get_seat_kept}
+use Rattle.ec_buffer.proofs.Moving.{produce_step, consume_step, position_kept, get_seat_kept}
 
-empty_queue : (seat : ℕ → Seat) → ((w : ℕ) → (seat w).stage ≡ 0) → IsQueue seat 0 0 0
+empty_queue : (seat : ℕ → QueuePosition) → ((w : ℕ) → (seat w).stage ≡ 0) → IsQueue seat 0 0 0
 empty_queue seat h = record {
   some = omega arith;
   few = omega arith;
@@ -33,11 +33,11 @@ if_nobody false = (refl, refl)
 
 no_put : (b : Buffer) (produces : ℕ → Bool) (w : ℕ) → (put_seat b produces [] w).stage ≡ 0
 unfolding block
-no_put b produces w = ap (λ (z : Seat). z.stage) (if_nobody (produces w)).0
+no_put b produces w = ap (λ (z : QueuePosition). z.stage) (if_nobody (produces w)).0
 
 no_get : (b : Buffer) (produces : ℕ → Bool) (w : ℕ) → (get_seat b produces [] w).stage ≡ 0
 unfolding block
-no_get b produces w = ap (λ (z : Seat). z.stage) (if_nobody (produces w)).1
+no_get b produces w = ap (λ (z : QueuePosition). z.stage) (if_nobody (produces w)).1
 
 at_first : (b : Buffer) (produces : ℕ → Bool) → IsHanding b produces []
 unfolding total issued puts gets
@@ -49,7 +49,7 @@ at_first b produces = record {
   stock = record { room = omega arith; order = omega arith; held = λ i lt. absurd (omega arith); taken = λ i lt. absurd (omega arith) };
 }
 
-pub on_of : (b : Buffer) (p : Bool) (calls : List Told) (op : Act) (a : Bool) → (cond p (produce_rule b) (consume_rule b)).concerns calls op ≡ a → is_on b op ≡ a
+pub on_of : (b : Buffer) (p : Bool) (calls : List CompletedCall) (op : Act) (a : Bool) → (cond p (produce_rule b) (consume_rule b)).concerns calls op ≡ a → is_on b op ≡ a
 on_of b true calls op a h = h
 on_of b false calls op a h = h
 
@@ -59,16 +59,16 @@ step b produces t x past shape d acc f before =
     let w = x.worker in
     let op = op_at x past in
     let s : IsStep b produces t x past = record { shape = shape; accepted = acc; before = before } in
-    let told = step_told t x past d acc in
+    let returned = step_told t x past d acc in
     elim (step_due t (role_rules b produces) x past d acc f) [
       | inl off ↦
           (let no : is_on b op ≡ false = on_of b (produces w) (block (role_rules b produces w) w past) op false off in
-          quiet_same b produces t x past op s refl (quiet_off b op no) (seat_kept b produces x past (off_block (produce_rule b) x past no)) (get_seat_kept b produces x past (off_block (consume_rule b) x past no)))
+          quiet_same b produces t x past op s refl (quiet_off b op no) (position_kept b produces x past (off_block (produce_rule b) x past no)) (get_seat_kept b produces x past (off_block (consume_rule b) x past no)))
       | inr k ↦
           (let on : is_on b op ≡ true = on_of b (produces w) (block (role_rules b produces w) w past) op true k.0 in
           elim (produces w) as (λ p. produces w ≡ p → (cond p (produce_rule b) (consume_rule b)).fits (block (cond p (produce_rule b) (consume_rule b)) w past) op ≡ true → IsHanding b produces (x ∷ past)) [
-            | true ↦ λ role due. produce_step b produces t x past (block (produce_rule b) w past) s d role refl on due told
-            | false ↦ λ role due. consume_step b produces t x past (block (consume_rule b) w past) s d role refl on due told
+            | true ↦ λ role due. produce_step b produces t x past (block (produce_rule b) w past) s d role refl on due returned
+            | false ↦ λ role due. consume_step b produces t x past (block (consume_rule b) w past) s d role refl on due returned
           ] refl k.1)
     ]
 

@@ -9,9 +9,9 @@ use Rattle.ec_core.specs.declared.act.Act.{Act}
 use Rattle.ec_core.specs.declared.act.Act.TheVariants.{Advance, Read, Await, Go, Ticket, Put, Get, Hand}
 use Rattle.ec_core.specs.declared.act.Entry.{Entry}
 use Rattle.ec_core.specs.Calls.{CallSoFar, under_way}
-use Rattle.ec_core.specs.CallLists.{number_of}
+use Rattle.ec_core.specs.CallLists.{reply_number}
 use Rattle.ec_core.specs.Counts.{past_at, put_in}
-use Rattle.ec_core.specs.Following.{opened}
+use Rattle.ec_core.specs.Following.{opening_act}
 use Rattle.ec_core.proofs.shared.Joining.{last_get}
 use Rattle.ec_core.proofs.shared.Moments.{past_next, past_end}
 use Rattle.ec_buffer.specs.declared.delivery.Delivery.{Delivery}
@@ -24,7 +24,7 @@ use Rattle.ec_buffer.proofs.Moves.{gets, Moved, standing}
 use Rattle.ec_buffer.proofs.Handing.{is_cell_at}
 use Rattle.ec_buffer.proofs.InTime.{gets_count, entry_at, get_told, get_next, finds}
 
--- WHO PUT WHAT STANDS IN A CELL
+-- THE LAST WRITER OF A CELL
 
 set_length : (o : Option ℕ) (w : ℕ) (writers : List ℕ) → length (writers_after o w writers) ≡ length writers
 set_length None w writers = refl
@@ -81,11 +81,11 @@ writer_stands b (x ∷ past) j s lt =
 
 -- GETS
 
--- an act that gets names a cell of the buffer, at this place
+-- an act that gets names a cell of the buffer, at this index
 record IsGet (b : Buffer) (act : Act) (o : Option CallSoFar) (place : ℕ) : Type 0 where
   on : is_get_on b act ≡ true
   within : place < b.cells
-  op : opened act o ≡ Get (b.first_cell + place)
+  op : opening_act act o ≡ Get (b.first_cell + place)
 
 got_cell : (b : Buffer) (y place : ℕ) (o : Option CallSoFar) → cond (is_cell b y) (Some (y - b.first_cell)) None ≡ Some place → IsGet b (Get y) o place
 got_cell b y place o e =
@@ -142,7 +142,7 @@ cell_in _ = 0
 
 -- the delivery of a get
 newest : (t : Tables) (b : Buffer) (h : List Entry) (k i place : ℕ) (x : Entry) → IsFollowed t b h → slice_get h k ≡ Some x → get_place b x.act ≡ Some place → gets b (past_at k h) ≡ i
-    → IsDelivery t b h i (record { number = i; producer = get_or (writers_of b (past_at k h)) place 0; consumer = x.worker; item = number_of x.reply })
+    → IsDelivery t b h i (record { number = i; producer = get_or (writers_of b (past_at k h)) place 0; consumer = x.worker; item = reply_number x.reply })
 newest t b h k i place x f at get turn =
     let past = past_at k h in
     let g = get_of b x.act (under_way x.worker past) place get in
@@ -152,11 +152,11 @@ newest t b h k i place x f at get turn =
     let number : gets b past % b.cells ≡ i % b.cells = ap (λ n. n % b.cells) turn in
     let where_it_is : place ≡ i % b.cells = omega arith in
     let writer : it.found.worker ≡ get_or (writers_of b past) place 0 =
-    ap (λ (m : Moved). m.worker) (sym it.stands) ∙ ap (λ n. (standing (b.first_cell + n) past).worker) (sym where_it_is) ∙ sym (writer_stands b past place f.shape g.within) in
+    ap (λ (m : Moved). m.worker) (sym it.represents) ∙ ap (λ n. (standing (b.first_cell + n) past).worker) (sym where_it_is) ∙ sym (writer_stands b past place f.shape g.within) in
     record {
       number = refl;
-      produced = (it.before.place, subst (λ v. PutsItem t b h it.before.place i v (number_of x.reply)) writer (subst (λ v. PutsItem t b h it.before.place i it.found.worker v) it.item it.before.puts));
-      delivered = (k, record { entry = x; is = at; by = refl; gets = g.on; told = get_told b t x past f.declared (entry_at t b h k x f at).accepted g.on; ticket = next.turn ∙ turn });
+      produced = (it.before.place, subst (λ v. PutsItem t b h it.before.place i v (reply_number x.reply)) writer (subst (λ v. PutsItem t b h it.before.place i it.found.worker v) it.item it.before.puts));
+      delivered = (k, record { entry = x; is = at; by = refl; gets = g.on; returned = get_told b t x past f.declared (entry_at t b h k x f at).accepted g.on; ticket = next.turn ∙ turn });
     }
 
 gathered_step : (t : Tables) (b : Buffer) (h : List Entry) (k i : ℕ) (x : Entry) (d : Delivery) (o : Option ℕ) → IsFollowed t b h → slice_get h k ≡ Some x → get_place b x.act ≡ o
@@ -170,7 +170,7 @@ gathered_step t b h k i x d (Some place) f at get e before =
           (let n = length (collected b (past_at k h)) in
           let turn : gets b (past_at k h) ≡ n = sym (collected_length b (past_at k h)) in
           let P : Delivery → Type 0 = λ z. IsDelivery t b h i z in
-          let Q : ℕ → Type 0 = λ j. IsDelivery t b h j (record { number = n; producer = get_or (writers_of b (past_at k h)) place 0; consumer = x.worker; item = number_of x.reply }) in
+          let Q : ℕ → Type 0 = λ j. IsDelivery t b h j (record { number = n; producer = get_or (writers_of b (past_at k h)) place 0; consumer = x.worker; item = reply_number x.reply }) in
           subst P last.1 (subst Q (sym last.0) (newest t b h k n place x f at get turn)))
     ]
 

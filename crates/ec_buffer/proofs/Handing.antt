@@ -1,4 +1,4 @@
--- A buffer that is followed hands over its items in the order of their numbers.
+-- A buffer that is followed delivers its items in the order of their numbers.
 use Rattle.std.proofs.Common.{◌≡◌, ℕ, ◌+◌, ◌<◌, ◌≤◌, Bool, true, false, List, [], ◌∷◌, length, Option, Some, None, is_some, nat_le, nat_lt, unwrap_or, refl, ap, sym, ◌∙◌, arith, subst, cond, ◌==◌}
 use Rattle.std.proofs.lemmas.Bool.{ne_eqb, or_parts, and_from, le-leb, lt-ltb}
 use Rattle.std.specs.Option.{option_map_or}
@@ -9,30 +9,30 @@ use Rattle.ec_core.specs.declared.act.Act.TheVariants.{Advance, Read, Await, Go,
 use Rattle.ec_core.specs.declared.act.Entry.{Entry}
 use Rattle.ec_core.specs.Counts.{total, issued, cell_value, is_advance, is_ticket, put_in}
 use Rattle.ec_core.specs.Acceptance.{IsAccepted}
-use Rattle.ec_core.specs.Following.{Told, block}
-use Rattle.ec_core.specs.CallLists.{number_of}
+use Rattle.ec_core.specs.Following.{CompletedCall, block}
+use Rattle.ec_core.specs.CallLists.{reply_number}
 use Rattle.ec_core.proofs.shared.Following.{other_block, same_test, op_at, step_opened, total_step, issued_step}
-use Rattle.ec_core.proofs.shared.Queue.{Seat, IsQueue, IsElsewhereSame, each, still}
+use Rattle.ec_core.proofs.shared.Queue.{QueuePosition, IsQueue, IsElsewhereSame, each, still}
 use Rattle.ec_buffer.specs.Shapes.{Buffer}
-use Rattle.ec_buffer.specs.CallLists.{turn_of}
+use Rattle.ec_buffer.specs.CallLists.{drawn_ticket}
 use Rattle.ec_buffer.specs.Follows.{is_cell, is_on, produce_rule, consume_rule, role_rules}
 use Rattle.ec_buffer.specs.Items.{put_on, is_get_on}
 use Rattle.ec_buffer.proofs.Moves.{puts, gets, Moved, moved_if, produced, delivered, standing}
 use Rattle.ec_buffer.specs.Shapes.{IsShape}
 use Rattle.ec_buffer.proofs.Stock.{IsStocked, stock_same}
 
--- SEATS
+-- POSITIONS IN THE QUEUES
 
-abbrev pub seat_of : List Told → Seat
-seat_of calls = record { stage = length calls; turn = turn_of calls }
+abbrev pub seat_of : List CompletedCall → QueuePosition
+seat_of calls = record { stage = length calls; turn = drawn_ticket calls }
 
-abbrev pub nobody : Seat
+abbrev pub nobody : QueuePosition
 nobody = record { stage = 0; turn = 0 }
 
-abbrev pub put_seat : Buffer → (ℕ → Bool) → List Entry → ℕ → Seat
+abbrev pub put_seat : Buffer → (ℕ → Bool) → List Entry → ℕ → QueuePosition
 put_seat b produces past w = cond (produces w) (seat_of (block (produce_rule b) w past)) nobody
 
-abbrev pub get_seat : Buffer → (ℕ → Bool) → List Entry → ℕ → Seat
+abbrev pub get_seat : Buffer → (ℕ → Bool) → List Entry → ℕ → QueuePosition
 get_seat b produces past w = cond (produces w) nobody (seat_of (block (consume_rule b) w past))
 
 pub put_elsewhere : (b : Buffer) (produces : ℕ → Bool) (x : Entry) (past : List Entry) → IsElsewhereSame x.worker (put_seat b produces past) (put_seat b produces (x ∷ past))
@@ -41,19 +41,19 @@ put_elsewhere b produces x past v h = ap (λ calls. cond (produces v) (seat_of c
 pub get_elsewhere : (b : Buffer) (produces : ℕ → Bool) (x : Entry) (past : List Entry) → IsElsewhereSame x.worker (get_seat b produces past) (get_seat b produces (x ∷ past))
 get_elsewhere b produces x past v h = ap (λ calls. cond (produces v) nobody (seat_of calls)) (other_block (consume_rule b) v x past h)
 
--- who has waited for the other count: its turn and one more is at most a limit
-abbrev pub IsReady : (ℕ → Seat) → ℕ → Type 0
+-- a worker that has waited for the other count: its turn and one more is at most a limit
+abbrev pub IsReady : (ℕ → QueuePosition) → ℕ → Type 0
 IsReady seat limit = (w : ℕ) → (seat w).stage ≡ 3 → (seat w).turn + 1 ≤ limit
 
-pub ready_next : (seat next : ℕ → Seat) (limit more w : ℕ) → IsElsewhereSame w seat next → IsReady seat limit → limit ≤ more
+pub ready_next : (seat next : ℕ → QueuePosition) (limit more w : ℕ) → IsElsewhereSame w seat next → IsReady seat limit → limit ≤ more
     → ((next w).stage ≡ 3 → (next w).turn + 1 ≤ more) → IsReady next more
 ready_next seat next limit more w other h le own =
     each (λ v s. s.stage ≡ 3 → s.turn + 1 ≤ more) seat next w other own (λ v k a. (let below : (seat v).turn + 1 ≤ limit = h v a in omega arith))
 
-ready_still : (seat next : ℕ → Seat) (limit more w : ℕ) → IsElsewhereSame w seat next → next w ≡ seat w → IsReady seat limit → limit ≤ more → IsReady next more
+ready_still : (seat next : ℕ → QueuePosition) (limit more w : ℕ) → IsElsewhereSame w seat next → next w ≡ seat w → IsReady seat limit → limit ≤ more → IsReady next more
 ready_still seat next limit more w other own h le =
     ready_next seat next limit more w other h le
-    (let P : Seat → Type 0 = λ s. s.stage ≡ 3 → s.turn + 1 ≤ more in subst P (sym own) (λ a. (let below : (seat w).turn + 1 ≤ limit = h w a in omega arith)))
+    (let P : QueuePosition → Type 0 = λ s. s.stage ≡ 3 → s.turn + 1 ≤ more in subst P (sym own) (λ a. (let below : (seat w).turn + 1 ≤ limit = h w a in omega arith)))
 
 -- WHAT IS TRUE OF A BUFFER
 
@@ -101,7 +101,7 @@ counted b t x past op a c d e f g acc is ea ec ed ee ef eg = record {
   gets_one = ap (λ v. cond v 1 0 + gets b past) (get_on_op b t x past acc ∙ ap (is_get_on b) is ∙ eg) ∙ plus_is g (gets b past);
 }
 
-moved_queue : (seat : ℕ → Seat) (drawn gone made drawn' gone' made' : ℕ) → drawn' ≡ drawn → gone' ≡ gone → made' ≡ made → IsQueue seat drawn gone made → IsQueue seat drawn' gone' made'
+moved_queue : (seat : ℕ → QueuePosition) (drawn gone made drawn' gone' made' : ℕ) → drawn' ≡ drawn → gone' ≡ gone → made' ≡ made → IsQueue seat drawn gone made → IsQueue seat drawn' gone' made'
 moved_queue seat drawn gone made drawn' gone' made' ed eg em q =
     let P : ℕ → Type 0 = λ n. IsQueue seat n gone' made' in
     let Q : ℕ → Type 0 = λ n. IsQueue seat drawn n made' in
@@ -113,15 +113,15 @@ pub produced_same : (b : Buffer) (produces : ℕ → Bool) (t : Tables) (x : Ent
     → put_on b op ≡ None → (i : ℕ) → produced b produces i (x ∷ past) ≡ produced b produces i past
 unfolding produced
 produced_same b produces t x past op acc is none i =
-    ap (λ o. moved_if (turn_of (block (role_rules b produces x.worker) x.worker past) == i) x.worker o (produced b produces i past)) (put_on_op b t x past acc ∙ ap (put_on b) is ∙ none)
+    ap (λ o. moved_if (drawn_ticket (block (role_rules b produces x.worker) x.worker past) == i) x.worker o (produced b produces i past)) (put_on_op b t x past acc ∙ ap (put_on b) is ∙ none)
 
 pub delivered_same : (b : Buffer) (produces : ℕ → Bool) (t : Tables) (x : Entry) (past : List Entry) (op : Act) → IsAccepted t (x ∷ past) → op_at x past ≡ op
     → is_get_on b op ≡ false → (i : ℕ) → delivered b produces i (x ∷ past) ≡ delivered b produces i past
 unfolding delivered
 delivered_same b produces t x past op acc is none i =
-    ap (λ g. moved_if (turn_of (block (role_rules b produces x.worker) x.worker past) == i) x.worker (cond g (Some (number_of x.reply)) None) (delivered b produces i past)) (get_on_op b t x past acc ∙ ap (is_get_on b) is ∙ none)
+    ap (λ g. moved_if (drawn_ticket (block (role_rules b produces x.worker) x.worker past) == i) x.worker (cond g (Some (reply_number x.reply)) None) (delivered b produces i past)) (get_on_op b t x past acc ∙ ap (is_get_on b) is ∙ none)
 
--- what stands in a cell after one more entry, by the act that began its call
+-- what is in a cell after one more entry, by the act that began its call
 pub standing_step : (t : Tables) (y : ℕ) (x : Entry) (past : List Entry) → IsAccepted t (x ∷ past)
     → standing y (x ∷ past) ≡ option_map_or (λ (v : ℕ). record { worker = x.worker; item = v }) (put_in y (op_at x past)) (standing y past)
 unfolding standing
@@ -136,7 +136,7 @@ standing_last : (x : Entry) (o : Option ℕ) (m : Moved) (c : ℕ) → m.item �
 standing_last x None m c h = h
 standing_last x (Some v) m c h = refl
 
--- it is what the cell holds
+-- its item is the value of the cell
 pub standing_item : (y : ℕ) (past : List Entry) → (standing y past).item ≡ cell_value y past
 unfolding standing cell_value
 standing_item y [] = refl
@@ -220,7 +220,7 @@ quiet_counted : (b : Buffer) (produces : ℕ → Bool) (t : Tables) (x : Entry) 
 quiet_counted b produces t x past op s is q =
     counted b t x past op false false false false false false s.accepted is q.ticket_put q.advance_in (ap is_some q.put_one) q.ticket_take q.advance_out q.get_one
 
--- a quiet call, if the seats are as they were but for a move of the worker's
+-- a quiet call, if the positions are unchanged except the worker's
 pub quiet_next : (b : Buffer) (produces : ℕ → Bool) (t : Tables) (x : Entry) (past : List Entry) (op : Act) → IsStep b produces t x past → op_at x past ≡ op → IsQuiet b op
     → IsQueue (put_seat b produces (x ∷ past)) (issued b.put_seq past) (total b.in_count past) (puts b past)
     → IsQueue (get_seat b produces (x ∷ past)) (issued b.take_seq past) (total b.out_count past) (gets b past)
@@ -232,7 +232,7 @@ quiet_next b produces t x past op s is q putting getting put_ready get_ready =
     built b produces x past false false false false false false n putting getting put_ready get_ready
     (stock_quiet b produces t x past op s.accepted is q.put_one q.get_one q.cells s.shape.some n.puts_one n.gets_one s.before)
 
--- a seat that stays
+-- a position that is unchanged
 pub put_still : (b : Buffer) (produces : ℕ → Bool) (t : Tables) (x : Entry) (past : List Entry) → IsStep b produces t x past → put_seat b produces (x ∷ past) x.worker ≡ put_seat b produces past x.worker
     → IsQueue (put_seat b produces (x ∷ past)) (issued b.put_seq past) (total b.in_count past) (puts b past)
 put_still b produces t x past s same = still _ _ _ _ _ x.worker s.before.putting (put_elsewhere b produces x past) same
@@ -249,7 +249,7 @@ pub get_ready_still : (b : Buffer) (produces : ℕ → Bool) (t : Tables) (x : E
     → total b.in_count past ≤ more → IsReady (get_seat b produces (x ∷ past)) more
 get_ready_still b produces t x past more s same le = ready_still _ _ (total b.in_count past) more x.worker (get_elsewhere b produces x past) same s.before.get_ready le
 
--- nothing moves
+-- no position changes
 pub quiet_same : (b : Buffer) (produces : ℕ → Bool) (t : Tables) (x : Entry) (past : List Entry) (op : Act) → IsStep b produces t x past → op_at x past ≡ op → IsQuiet b op
     → put_seat b produces (x ∷ past) x.worker ≡ put_seat b produces past x.worker → get_seat b produces (x ∷ past) x.worker ≡ get_seat b produces past x.worker
     → IsHanding b produces (x ∷ past)
@@ -257,11 +257,11 @@ quiet_same b produces t x past op s is q same same' =
     quiet_next b produces t x past op s is q (put_still b produces t x past s same) (get_still b produces t x past s same')
     (put_ready_still b produces t x past _ s same (omega arith)) (get_ready_still b produces t x past _ s same' (omega arith))
 
--- the seat of a producer, and of a consumer
-pub put_seat_is : (b : Buffer) (produces : ℕ → Bool) (past : List Entry) (w : ℕ) (calls : List Told) → produces w ≡ true → block (produce_rule b) w past ≡ calls → put_seat b produces past w ≡ seat_of calls
+-- the position of a producer, and of a consumer
+pub put_seat_is : (b : Buffer) (produces : ℕ → Bool) (past : List Entry) (w : ℕ) (calls : List CompletedCall) → produces w ≡ true → block (produce_rule b) w past ≡ calls → put_seat b produces past w ≡ seat_of calls
 put_seat_is b produces past w calls role is = rw role (ap seat_of is)
 
-pub get_seat_is : (b : Buffer) (produces : ℕ → Bool) (past : List Entry) (w : ℕ) (calls : List Told) → produces w ≡ false → block (consume_rule b) w past ≡ calls → get_seat b produces past w ≡ seat_of calls
+pub get_seat_is : (b : Buffer) (produces : ℕ → Bool) (past : List Entry) (w : ℕ) (calls : List CompletedCall) → produces w ≡ false → block (consume_rule b) w past ≡ calls → get_seat b produces past w ≡ seat_of calls
 get_seat_is b produces past w calls role is = rw role (ap seat_of is)
 
 pub no_put_seat : (b : Buffer) (produces : ℕ → Bool) (past : List Entry) (w : ℕ) → produces w ≡ false → put_seat b produces past w ≡ nobody

@@ -11,14 +11,14 @@ use Rattle.ec_core.specs.declared.act.Reply.TheVariants.{Number}
 use Rattle.ec_core.specs.declared.act.Entry.{Entry}
 use Rattle.ec_core.specs.Acceptance.{IsAccepted}
 use Rattle.ec_core.specs.Calls.{CallSoFar, under_way}
-use Rattle.ec_core.specs.CallLists.{number_of}
+use Rattle.ec_core.specs.CallLists.{reply_number}
 use Rattle.ec_core.specs.Counts.{past_at, cell_value}
-use Rattle.ec_core.specs.Following.{block, opened}
-use Rattle.ec_core.proofs.shared.Following.{IsTold, step_told}
+use Rattle.ec_core.specs.Following.{block, opening_act}
+use Rattle.ec_core.proofs.shared.Following.{IsReplyTo, step_told}
 use Rattle.ec_core.proofs.shared.Moments.{past_next, past_end, moment_before, accepted_of}
 use Rattle.ec_core.proofs.shared.Breaks.{follow_of}
 use Rattle.ec_buffer.specs.Shapes.{Buffer}
-use Rattle.ec_buffer.specs.CallLists.{turn_of}
+use Rattle.ec_buffer.specs.CallLists.{drawn_ticket}
 use Rattle.ec_buffer.specs.Follows.{buffer_rules, FollowsBuffer}
 use Rattle.ec_buffer.specs.Items.{put_on, is_get_on, PutsItem, GetsItem, puts_made, gets_made}
 use Rattle.ec_buffer.specs.Laws.{IsFollowed, PutsGoByNumber, GetsGoByNumber, ItemsArePutOnce, ItemsAreGotOnce, WhatIsGotWasPut, PutsWaitForRoom}
@@ -26,6 +26,7 @@ use Rattle.ec_buffer.proofs.Moves.{puts, gets, Moved, moved_if, produced, delive
 use Rattle.ec_buffer.proofs.Handing.{standing_item}
 use Rattle.ec_buffer.proofs.Followed.{handing}
 use Rattle.ec_buffer.proofs.Numbering.{IsNextGet, next_get, put_turn, put_after_get}
+use Rattle.ec_core.proofs.shared.Counting.{turned_count}
 
 -- COUNTS
 
@@ -38,9 +39,6 @@ gets_of : (b : Buffer) (past : List Entry) → gets b past ≡ gets_made b past
 unfolding gets
 gets_of b [] = refl
 gets_of b (x ∷ past) = ap (λ n. cond (is_get_on b x.act) 1 0 + n) (gets_of b past) ∙ sym (sum_by-cons (λ (y : Entry). cond (is_get_on b y.act) 1 0) x past)
-
-turned_count : (p : Entry → Bool) (h : List Entry) → count_by p (reverse h) ≡ count_by p h
-turned_count p h = sum_by-IsPermutation (λ x. cond (p x) 1 0) h (reverse h) (IsPermutation-reverse h)
 
 pub puts_count : (b : Buffer) (h : List Entry) → puts b (reverse h) ≡ puts_made b h
 puts_count b h = puts_of b (reverse h) ∙ turned_count (λ x. is_some (put_on b x.act)) h
@@ -88,8 +86,8 @@ entry_at t b h k x f at = record {
   followed = subst (FollowsBuffer t b) (past_next h k x at) (follow_of (buffer_rules t b) h (past_at (suc k) h) f.followed (moment_before h (suc k)));
 }
 
-told_get : (b : Buffer) (t : Tables) (past : List Entry) (act : Act) (o : Option CallSoFar) (reply : Reply) → IsTold t past (opened act o) reply → is_get_on b act ≡ true → reply ≡ Number (number_of reply)
-told_get b t past (Get y) o reply h on = h ∙ ap Number (sym (ap number_of h))
+told_get : (b : Buffer) (t : Tables) (past : List Entry) (act : Act) (o : Option CallSoFar) (reply : Reply) → IsReplyTo t past (opening_act act o) reply → is_get_on b act ≡ true → reply ≡ Number (reply_number reply)
+told_get b t past (Get y) o reply h on = h ∙ ap Number (sym (ap reply_number h))
 told_get b t past (Put y v) o reply h on = cc
 told_get b t past (Advance e) o reply h on = cc
 told_get b t past (Read e) o reply h on = cc
@@ -98,8 +96,8 @@ told_get b t past Go o reply h on = cc
 told_get b t past (Ticket q) o reply h on = cc
 told_get b t past (Hand e c) o reply h on = cc
 
--- a get is told a number
-pub get_told : (b : Buffer) (t : Tables) (x : Entry) (past : List Entry) → IsDeclared t → IsAccepted t (x ∷ past) → is_get_on b x.act ≡ true → x.reply ≡ Number (number_of x.reply)
+-- a get returns a number
+pub get_told : (b : Buffer) (t : Tables) (x : Entry) (past : List Entry) → IsDeclared t → IsAccepted t (x ∷ past) → is_get_on b x.act ≡ true → x.reply ≡ Number (reply_number x.reply)
 get_told b t x past d acc on = told_get b t past x.act (under_way x.worker past) x.reply (step_told t x past d acc) on
 
 -- BY NUMBER
@@ -109,7 +107,7 @@ puts_go t b h f k n worker item p =
     let e = entry_at t b h k p.entry f p.is in
     sym (puts_count b (take k h))
     ∙ sym (put_turn b (may_take t b.put_seq) t p.entry (past_at k h) f.shape f.declared e.accepted e.followed (ap is_some p.puts))
-    ∙ ap (λ (v : ℕ). turn_of (block (buffer_rules t b v) v (past_at k h))) p.by ∙ p.ticket
+    ∙ ap (λ (v : ℕ). drawn_ticket (block (buffer_rules t b v) v (past_at k h))) p.by ∙ p.ticket
 
 -- what is true of a get
 pub get_next : (t : Tables) (b : Buffer) (h : List Entry) (k : ℕ) (x : Entry) → IsFollowed t b h → slice_get h k ≡ Some x → is_get_on b x.act ≡ true → IsNextGet b (may_take t b.put_seq) x (past_at k h)
@@ -119,7 +117,7 @@ get_next t b h k x f at get =
 
 gets_number : (t : Tables) (b : Buffer) (h : List Entry) (k n worker item : ℕ) → IsFollowed t b h → GetsItem t b h k n worker item → gets b (past_at k h) ≡ n
 gets_number t b h k n worker item f p =
-    sym (get_next t b h k p.entry f p.is p.gets).turn ∙ ap (λ (v : ℕ). turn_of (block (buffer_rules t b v) v (past_at k h))) p.by ∙ p.ticket
+    sym (get_next t b h k p.entry f p.is p.gets).turn ∙ ap (λ (v : ℕ). drawn_ticket (block (buffer_rules t b v) v (past_at k h))) p.by ∙ p.ticket
 
 pub gets_go : GetsGoByNumber
 gets_go t b h f k n worker item p = sym (gets_count b (take k h)) ∙ gets_number t b h k n worker item f p
@@ -152,7 +150,7 @@ got_later : (t : Tables) (b : Buffer) (h : List Entry) (k n : ℕ) (m : Moved) �
 got_later t b h k n m p = (let lt : p.place < k = p.before in record { place = p.place; before = omega arith; gets = p.gets })
 
 put_here : (t : Tables) (b : Buffer) (h : List Entry) (k n v : ℕ) (x : Entry) (m : Moved) → slice_get h k ≡ Some x → put_on b x.act ≡ Some v → (mine : Bool)
-    → ((turn_of (block (buffer_rules t b x.worker) x.worker (past_at k h)) == n) ≡ mine)
+    → ((drawn_ticket (block (buffer_rules t b x.worker) x.worker (past_at k h)) == n) ≡ mine)
     → cond mine (Some (record { worker = x.worker; item = v })) (produced b (may_take t b.put_seq) n (past_at k h)) ≡ Some m
     → (produced b (may_take t b.put_seq) n (past_at k h) ≡ Some m → IsPutBefore t b h (suc k) n m) → IsPutBefore t b h (suc k) n m
 put_here t b h k n v x m at puts true is e before =
@@ -162,10 +160,10 @@ put_here t b h k n v x m at puts true is e before =
 put_here t b h k n v x m at puts false is e before = before e
 
 put_step : (t : Tables) (b : Buffer) (h : List Entry) (k n : ℕ) (x : Entry) (m : Moved) (o : Option ℕ) → slice_get h k ≡ Some x → put_on b x.act ≡ o
-    → moved_if (turn_of (block (buffer_rules t b x.worker) x.worker (past_at k h)) == n) x.worker o (produced b (may_take t b.put_seq) n (past_at k h)) ≡ Some m
+    → moved_if (drawn_ticket (block (buffer_rules t b x.worker) x.worker (past_at k h)) == n) x.worker o (produced b (may_take t b.put_seq) n (past_at k h)) ≡ Some m
     → (produced b (may_take t b.put_seq) n (past_at k h) ≡ Some m → IsPutBefore t b h (suc k) n m) → IsPutBefore t b h (suc k) n m
 put_step t b h k n x m None at puts e before = before e
-put_step t b h k n x m (Some v) at puts e before = put_here t b h k n v x m at puts (turn_of (block (buffer_rules t b x.worker) x.worker (past_at k h)) == n) refl e before
+put_step t b h k n x m (Some v) at puts e before = put_here t b h k n v x m at puts (drawn_ticket (block (buffer_rules t b x.worker) x.worker (past_at k h)) == n) refl e before
 
 pub produced_before : (t : Tables) (b : Buffer) (h : List Entry) (k n : ℕ) (m : Moved) → produced b (may_take t b.put_seq) n (past_at k h) ≡ Some m → IsPutBefore t b h k n m
 unfolding produced
@@ -177,21 +175,21 @@ produced_before t b h (suc k) n m e =
     ] refl
 
 got_here : (t : Tables) (b : Buffer) (h : List Entry) (k n : ℕ) (x : Entry) (m : Moved) → IsFollowed t b h → slice_get h k ≡ Some x → is_get_on b x.act ≡ true → (mine : Bool)
-    → ((turn_of (block (buffer_rules t b x.worker) x.worker (past_at k h)) == n) ≡ mine)
-    → cond mine (Some (record { worker = x.worker; item = number_of x.reply })) (delivered b (may_take t b.put_seq) n (past_at k h)) ≡ Some m
+    → ((drawn_ticket (block (buffer_rules t b x.worker) x.worker (past_at k h)) == n) ≡ mine)
+    → cond mine (Some (record { worker = x.worker; item = reply_number x.reply })) (delivered b (may_take t b.put_seq) n (past_at k h)) ≡ Some m
     → (delivered b (may_take t b.put_seq) n (past_at k h) ≡ Some m → IsGotBefore t b h (suc k) n m) → IsGotBefore t b h (suc k) n m
 got_here t b h k n x m f at get true is e before =
-    let made : Moved = record { worker = x.worker; item = number_of x.reply } in
+    let made : Moved = record { worker = x.worker; item = reply_number x.reply } in
     let same : made ≡ m = cc in
-    let told = get_told b t x (past_at k h) f.declared (entry_at t b h k x f at).accepted get in
-    subst (IsGotBefore t b h (suc k) n) same (record { place = k; before = omega arith; gets = record { entry = x; is = at; by = refl; gets = get; told = told; ticket = eqb-true _ n is } })
+    let returned = get_told b t x (past_at k h) f.declared (entry_at t b h k x f at).accepted get in
+    subst (IsGotBefore t b h (suc k) n) same (record { place = k; before = omega arith; gets = record { entry = x; is = at; by = refl; gets = get; returned = returned; ticket = eqb-true _ n is } })
 got_here t b h k n x m f at get false is e before = before e
 
 got_step : (t : Tables) (b : Buffer) (h : List Entry) (k n : ℕ) (x : Entry) (m : Moved) (get : Bool) → IsFollowed t b h → slice_get h k ≡ Some x → is_get_on b x.act ≡ get
-    → moved_if (turn_of (block (buffer_rules t b x.worker) x.worker (past_at k h)) == n) x.worker (cond get (Some (number_of x.reply)) None) (delivered b (may_take t b.put_seq) n (past_at k h)) ≡ Some m
+    → moved_if (drawn_ticket (block (buffer_rules t b x.worker) x.worker (past_at k h)) == n) x.worker (cond get (Some (reply_number x.reply)) None) (delivered b (may_take t b.put_seq) n (past_at k h)) ≡ Some m
     → (delivered b (may_take t b.put_seq) n (past_at k h) ≡ Some m → IsGotBefore t b h (suc k) n m) → IsGotBefore t b h (suc k) n m
 got_step t b h k n x m false f at get e before = before e
-got_step t b h k n x m true f at get e before = got_here t b h k n x m f at get (turn_of (block (buffer_rules t b x.worker) x.worker (past_at k h)) == n) refl e before
+got_step t b h k n x m true f at get e before = got_here t b h k n x m f at get (drawn_ticket (block (buffer_rules t b x.worker) x.worker (past_at k h)) == n) refl e before
 
 pub delivered_before : (t : Tables) (b : Buffer) (h : List Entry) (k n : ℕ) (m : Moved) → IsFollowed t b h → delivered b (may_take t b.put_seq) n (past_at k h) ≡ Some m → IsGotBefore t b h k n m
 unfolding delivered
@@ -204,11 +202,11 @@ delivered_before t b h (suc k) n m f e =
 
 -- DELIVERED IS PRODUCED
 
--- what a get finds: who put it stands in the cell that it names, and put it before
+-- what a get finds: what is in the cell that it names is its item, and was put before
 pub record FindsItem (t : Tables) (b : Buffer) (h : List Entry) (k n : ℕ) (x : Entry) : Type 0 where
   pub found : Moved
-  pub stands : standing (b.first_cell + n % b.cells) (past_at k h) ≡ found
-  pub item : found.item ≡ number_of x.reply
+  pub represents : standing (b.first_cell + n % b.cells) (past_at k h) ≡ found
+  pub item : found.item ≡ reply_number x.reply
   pub before : IsPutBefore t b h k n found
 
 pub finds : (t : Tables) (b : Buffer) (h : List Entry) (k n : ℕ) (x : Entry) → IsFollowed t b h → slice_get h k ≡ Some x → is_get_on b x.act ≡ true → gets b (past_at k h) ≡ n → FindsItem t b h k n x
@@ -217,23 +215,23 @@ finds t b h k n x f at get turn =
     let e = entry_at t b h k x f at in
     let next = get_next t b h k x f at get in
     let held = (handing b (may_take t b.put_seq) t past f.shape f.declared e.accepted.1 e.followed.1).stock.held (gets b past) next.put in
-    let P : Act → Type 0 = λ a. IsTold t past a x.reply in
-    let told : x.reply ≡ Number (cell_value (b.first_cell + gets b past % b.cells) past) = subst P next.op (step_told t x past f.declared e.accepted) in
-    let stands : standing (b.first_cell + gets b past % b.cells) past ≡ held.0 = held.2 (omega arith) in
-    let item : held.0.item ≡ number_of x.reply = ap (λ (m : Moved). m.item) (sym stands) ∙ standing_item (b.first_cell + gets b past % b.cells) past ∙ sym (ap number_of told) in
+    let P : Act → Type 0 = λ a. IsReplyTo t past a x.reply in
+    let returned : x.reply ≡ Number (cell_value (b.first_cell + gets b past % b.cells) past) = subst P next.op (step_told t x past f.declared e.accepted) in
+    let represents : standing (b.first_cell + gets b past % b.cells) past ≡ held.0 = held.2 (omega arith) in
+    let item : held.0.item ≡ reply_number x.reply = ap (λ (m : Moved). m.item) (sym represents) ∙ standing_item (b.first_cell + gets b past % b.cells) past ∙ sym (ap reply_number returned) in
     let Q : ℕ → Type 0 = λ i. FindsItem t b h k i x in
-    subst Q turn (record { found = held.0; stands = stands; item = item; before = produced_before t b h k (gets b past) held.0 held.1 })
+    subst Q turn (record { found = held.0; represents = represents; item = item; before = produced_before t b h k (gets b past) held.0 held.1 })
 
 pub got_was_put : WhatIsGotWasPut
 got_was_put t b h f k n consumer item p =
     let it = finds t b h k n p.entry f p.is p.gets (gets_number t b h k n consumer item f p) in
-    let same : it.found.item ≡ item = it.item ∙ ap number_of p.told in
+    let same : it.found.item ≡ item = it.item ∙ ap reply_number p.returned in
     (it.before.place, it.found.worker, it.before.before, subst (λ (v : ℕ). PutsItem t b h it.before.place n it.found.worker v) same it.before.puts)
 
 pub puts_wait : PutsWaitForRoom
 puts_wait t b h f j n producer item p =
     let e = entry_at t b h j p.entry f p.is in
-    let turn = ap (λ (v : ℕ). turn_of (block (buffer_rules t b v) v (past_at j h))) p.by ∙ p.ticket in
+    let turn = ap (λ (v : ℕ). drawn_ticket (block (buffer_rules t b v) v (past_at j h))) p.by ∙ p.ticket in
     let k = put_after_get b (may_take t b.put_seq) t p.entry (past_at j h) n f.shape f.declared e.accepted e.followed (ap is_some p.puts) turn in
     let got = delivered_before t b h j n k.0 f k.1 in
     (got.place, k.0.worker, k.0.item, got.before, got.gets)

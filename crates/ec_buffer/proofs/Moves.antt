@@ -1,13 +1,13 @@
--- Who put and who got what, as functions of a past.
+-- Who put and who got what, as functions of a history so far.
 use Rattle.std.proofs.Common.{ℕ, ◌+◌, Bool, ◌==◌, List, [], ◌∷◌, Option, Some, None, is_some}
 use Rattle.std.specs.Prelude.{if◌then◌else◌}
 use Rattle.std.specs.Option.{option_map_or}
 use Rattle.ec_core.specs.declared.act.Entry.{Entry}
-use Rattle.ec_core.specs.CallLists.{number_of}
+use Rattle.ec_core.specs.CallLists.{reply_number}
 use Rattle.ec_core.specs.Counts.{put_in}
 use Rattle.ec_core.specs.Following.{block}
 use Rattle.ec_buffer.specs.Shapes.{Buffer}
-use Rattle.ec_buffer.specs.CallLists.{turn_of}
+use Rattle.ec_buffer.specs.CallLists.{drawn_ticket}
 use Rattle.ec_buffer.specs.Follows.{role_rules}
 use Rattle.ec_buffer.specs.Items.{put_on, is_get_on}
 
@@ -33,14 +33,14 @@ moved_if mine w (Some v) others = if mine then Some (record { worker = w; item =
 unfoldable pub produced : Buffer → (ℕ → Bool) → ℕ → List Entry → Option Moved
 produced b produces i [] = None
 produced b produces i (x ∷ past) =
-    moved_if (turn_of (block (role_rules b produces x.worker) x.worker past) == i) x.worker (put_on b x.act) (produced b produces i past)
+    moved_if (drawn_ticket (block (role_rules b produces x.worker) x.worker past) == i) x.worker (put_on b x.act) (produced b produces i past)
 
 -- the item last got with ticket i
 unfoldable pub delivered : Buffer → (ℕ → Bool) → ℕ → List Entry → Option Moved
 delivered b produces i [] = None
 delivered b produces i (x ∷ past) =
-    moved_if (turn_of (block (role_rules b produces x.worker) x.worker past) == i) x.worker
-    (if is_get_on b x.act then Some (number_of x.reply) else None) (delivered b produces i past)
+    moved_if (drawn_ticket (block (role_rules b produces x.worker) x.worker past) == i) x.worker
+    (if is_get_on b x.act then Some (reply_number x.reply) else None) (delivered b produces i past)
 
 -- what was last put into a cell, and who put it
 unfoldable pub standing : ℕ → List Entry → Moved

@@ -1,18 +1,19 @@
--- What stands in the cells of a buffer.
+-- The items in the cells of a buffer.
 use Rattle.std.proofs.Common.{◌≡◌, ◌≢◌, ℕ, suc, ◌+◌, ◌*◌, ◌/◌, ◌%◌, ◌<◌, ◌≤◌, true, false, Option, Some, refl, ap, sym, ◌∙◌, arith, subst, ◌==◌, inl, inr}
 use Rattle.std.proofs.lemmas.Bool.{eqb-true, eqb-false, ne_eqb, cases_lt}
 use Rattle.std.proofs.lemmas.Nat.{div-add-mod', mul-le, mod_below}
 use Rattle.std.proofs.Math.Nat.{suc-mul}
 use Rattle.ec_buffer.proofs.Moves.{Moved}
 
--- n cells: so many puts and gets were made; the item put and the item got with each ticket; what each cell_value holds
+-- n cells: so many puts and gets were made; the item put and the item got with each ticket; what
+-- each cell holds
 pub record IsStocked (n made given : ℕ) (put got : ℕ → Option Moved) (item : ℕ → Moved) : Type 0 where
   pub room : made ≤ given + n
   pub order : given ≤ made
   pub held : (i : ℕ) → i < made → (m : Moved) × (put i ≡ Some m) × (given ≤ i → item (i % n) ≡ m)
   pub taken : (i : ℕ) → i < given → (c : Moved) × (m : Moved) × (got i ≡ Some c) × (put i ≡ Some m) × (c.item ≡ m.item)
 
--- two numbers less than n apart are at different places
+-- two numbers less than n apart have different cells
 apart_mod : (n i j : ℕ) → i < j → j < i + n → i % n ≡ j % n → ⊥
 apart_mod n i j lt near same =
     let a : i / n * n + i % n ≡ i = div-add-mod' i n in
@@ -24,7 +25,7 @@ apart_mod n i j lt near same =
       | inr down ↦ (let less : j / n * n ≤ i / n * n = mul-le (j / n) n (i / n) n down (omega arith) in omega arith)
     ]
 
--- one thing stands for another if nothing changes
+-- the stock is the same if nothing changes
 pub stock_same : (n made given made' given' : ℕ) (put got put' got' : ℕ → Option Moved) (item item' : ℕ → Moved)
     → made' ≡ made → given' ≡ given → ((i : ℕ) → put' i ≡ put i) → ((i : ℕ) → got' i ≡ got i) → ((j : ℕ) → j < n → item' j ≡ item j) → 0 < n
     → IsStocked n made given put got item → IsStocked n made' given' put' got' item'
@@ -40,7 +41,7 @@ stock_same n made given made' given' put got put' got' item item' em eg ep eq ei
           (k.0, k.1, eq i ∙ k.2, ep i ∙ k.3, k.4));
     }
 
--- the item that comes next is put if no item is that is still to be got
+-- the next item is put, if there is room for it
 pub stock_put : (n made given made' given' w v : ℕ) (put got put' got' : ℕ → Option Moved) (item item' : ℕ → Moved)
     → made' ≡ 1 + made → given' ≡ given → put' made ≡ Some (record { worker = w; item = v }) → ((i : ℕ) → (made == i) ≡ false → put' i ≡ put i) → ((i : ℕ) → got' i ≡ got i)
     → item' (made % n) ≡ record { worker = w; item = v } → ((j : ℕ) → j < n → (made % n == j) ≡ false → item' j ≡ item j) → 0 < n → made < given + n

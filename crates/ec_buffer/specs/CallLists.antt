@@ -2,11 +2,12 @@
 use Rattle.std.specs.Prelude.{ℕ, ◌+◌, ◌-◌, ◌%◌, List, [], ◌∷◌, length, Option, slice_get}
 use Rattle.ec_core.specs.declared.act.Act.{Act}
 use Rattle.ec_core.specs.declared.act.Act.TheVariants.{Advance, Await, Ticket, Put, Get}
-use Rattle.ec_core.specs.CallLists.{number_of}
-use Rattle.ec_core.specs.Following.{Told}
+use Rattle.ec_core.specs.CallLists.{reply_number}
+use Rattle.ec_core.specs.Following.{CompletedCall}
 use Rattle.ec_buffer.specs.Shapes.{Buffer}
 
--- one item is put: after the items of earlier tickets, and once the item that stood in its cell was got
+-- one item is put: after the items of earlier tickets, and once the item that was in its cell was
+-- got
 abbrev pub produce_list : Buffer → ℕ → ℕ → List Act
 produce_list b item t =
     Ticket b.put_seq
@@ -26,14 +27,14 @@ consume_list b t =
     ∷ Advance b.out_count
     ∷ []
 
--- the ticket that the first of these completed calls drew; 0 before any is finished
-abbrev pub turn_of : List Told → ℕ
-turn_of [] = 0
-turn_of (first ∷ others) = number_of first.reply
+-- the ticket that the first of these completed calls drew; 0 before any is completed
+abbrev pub drawn_ticket : List CompletedCall → ℕ
+drawn_ticket [] = 0
+drawn_ticket (first ∷ others) = reply_number first.reply
 
 -- the call that comes after these completed calls of the list, or none
-abbrev pub produce_call : Buffer → ℕ → List Told → Option Act
-produce_call b item calls = slice_get (produce_list b item (turn_of calls)) (length calls)
+abbrev pub produce_call : Buffer → ℕ → List CompletedCall → Option Act
+produce_call b item calls = slice_get (produce_list b item (drawn_ticket calls)) (length calls)
 
-abbrev pub consume_call : Buffer → List Told → Option Act
-consume_call b calls = slice_get (consume_list b (turn_of calls)) (length calls)
+abbrev pub consume_call : Buffer → List CompletedCall → Option Act
+consume_call b calls = slice_get (consume_list b (drawn_ticket calls)) (length calls)

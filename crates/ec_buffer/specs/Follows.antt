@@ -1,5 +1,6 @@
--- Which histories follow a buffer: each producer's calls on it are lists of producing one item, each consumer's
--- are lists of consuming one, joined end to end, and the last list may be unfinished. What a producer puts is free.
+-- Which histories follow a buffer: each producer's calls on it are lists of producing one item,
+-- each consumer's are lists of consuming one, joined end to end, and the last list may be
+-- incomplete. A producer may put any value.
 use Rattle.std.specs.Prelude.{ℕ, ◌+◌, Bool, ◌==◌, ◌&&◌, ◌||◌, nat_le, nat_lt, List, if◌then◌else◌}
 use Rattle.ec_count.specs.Tables.{Tables, may_take}
 use Rattle.ec_core.specs.declared.act.Act.{Act}
@@ -31,6 +32,6 @@ role_rules b produces w = if produces w then produce_rule b else consume_rule b
 abbrev pub buffer_rules : Tables → Buffer → ℕ → Rule
 buffer_rules t b = role_rules b (may_take t b.put_seq)
 
--- a past follows the buffer
+-- a history so far follows the buffer
 abbrev pub FollowsBuffer : Tables → Buffer → List Entry → Type 0
 FollowsBuffer t b past = Follow (buffer_rules t b) past

@@ -11,7 +11,7 @@ use Rattle.ec_core.specs.Counts.{past_at}
 use Rattle.ec_core.specs.Following.{block}
 use Rattle.ec_buffer.specs.declared.delivery.Delivery.{Delivery}
 use Rattle.ec_buffer.specs.Shapes.{Buffer}
-use Rattle.ec_buffer.specs.CallLists.{turn_of}
+use Rattle.ec_buffer.specs.CallLists.{drawn_ticket}
 use Rattle.ec_buffer.specs.Follows.{is_cell, buffer_rules}
 
 -- the value that an act puts into a cell of the buffer
@@ -26,7 +26,7 @@ is_get_on b _ = false
 
 -- the ticket of the list of calls that w is in at moment k
 abbrev pub ticket_at : Tables → Buffer → List Entry → ℕ → ℕ → ℕ
-ticket_at t b h k w = turn_of (block (buffer_rules t b w) w (past_at k h))
+ticket_at t b h k w = drawn_ticket (block (buffer_rules t b w) w (past_at k h))
 
 -- entry k puts this item, with number n
 pub record PutsItem (t : Tables) (b : Buffer) (h : List Entry) (k n worker item : ℕ) : Type 0 where
@@ -42,7 +42,7 @@ pub record GetsItem (t : Tables) (b : Buffer) (h : List Entry) (k n worker item 
   pub is : slice_get h k ≡ Some entry
   pub by : entry.worker ≡ worker
   pub gets : is_get_on b entry.act ≡ true
-  pub told : entry.reply ≡ Number item
+  pub returned : entry.reply ≡ Number item
   pub ticket : ticket_at t b h k worker ≡ n
 
 -- item n was produced by this worker

@@ -34,7 +34,7 @@ ItemsArePutOnce = (t : Tables) (b : Buffer) (h : List Entry) → IsFollowed t b 
 abbrev pub ItemsAreGotOnce : Type 0
 ItemsAreGotOnce = (t : Tables) (b : Buffer) (h : List Entry) → IsFollowed t b h → (j k n v w x y : ℕ) → GetsItem t b h j n v x → GetsItem t b h k n w y → j ≡ k
 
--- what is got was put before, by the same number
+-- what is got was put before, with the same number
 abbrev pub WhatIsGotWasPut : Type 0
 WhatIsGotWasPut = (t : Tables) (b : Buffer) (h : List Entry) → IsFollowed t b h → (k n consumer item : ℕ) → GetsItem t b h k n consumer item
     → (j : ℕ) × (producer : ℕ) × (j < k) × PutsItem t b h j n producer item
@@ -44,6 +44,6 @@ abbrev pub PutsWaitForRoom : Type 0
 PutsWaitForRoom = (t : Tables) (b : Buffer) (h : List Entry) → IsFollowed t b h → (j n producer item : ℕ) → PutsItem t b h j (n + b.cells) producer item
     → (k : ℕ) × (consumer : ℕ) × (got : ℕ) × (k < j) × GetsItem t b h k n consumer got
 
--- there is one list of the deliveries
+-- there is only one list of the deliveries
 abbrev pub DeliveriesAreDetermined : Type 0
 DeliveriesAreDetermined = (t : Tables) (b : Buffer) (h : List Entry) → IsFollowed t b h → (xs ys : List Delivery) → AreDeliveries t b h xs → AreDeliveries t b h ys → xs ≡ ys

@@ -48,7 +48,8 @@ next_buffer t n = record {
   cells = n;
 }
 
--- the objects of the buffer are declared for these producers and consumers, who share no worker; its eventcounts are fixed
+-- the objects of the buffer are declared for these producers and consumers, who share no worker;
+-- the components of its eventcounts are not transferable
 pub record DeclaresBuffer (b : Buffer) (t : Tables) (produce consume : List ℕ) : Type 0 where
   pub in_count : DeclaresFixedEvent t b.in_count produce (produce ++ consume)
   pub out_count : DeclaresFixedEvent t b.out_count consume (produce ++ consume)

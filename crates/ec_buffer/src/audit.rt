@@ -1,24 +1,23 @@
 //! The deliveries of a run.
 ghost use Rattle.std.specs.Prelude.{◌≡◌, ◌<◌, false, List, [], length, replicate, reverse, IfOk, IfErr, IfSome, OnOk};
 ghost use Rattle.ec_core.specs.Audits.{IsAuditFault};
-ghost use Rattle.ec_core.specs.CallLists.{number_of};
 ghost use Rattle.ec_core.specs.Ending.{EndsAt};
 ghost use Rattle.ec_core.specs.declared.act.Entry.{Entry};
-ghost use Rattle.ec_buffer.specs.Auditing.{IsDelivering};
-ghost use Rattle.ec_buffer.specs.Collecting.{place_of, put_place, get_place, writers_after, list_after};
+ghost use Rattle.ec_buffer.specs.Auditing.{RepresentsDeliveries};
+ghost use Rattle.ec_buffer.specs.Collecting.{cell_index, put_place, get_place, writers_after, list_after};
 ghost use Rattle.ec_buffer.specs.Follows.{FollowsBuffer, buffer_rules};
 ghost use Rattle.ec_buffer.specs.Items.{AreDeliveries};
 
 use crate::lists::Lists;
 use crate::{BufferShape, Delivery};
-use ec_core::{Act, Audit, AuditFault, Entry, Reply, Run, Tracker, walk};
+use ec_core::{Act, Audit, AuditFault, Entry, Run, Tracker, walk};
 use ec_count::{CellId, Setup, WorkerId};
 use std::alloc::{AllocError, Global};
 use std::marker::Model;
 
-/// Returns the place of a cell in the buffer, counted from 0.
-fn place_of(shape: &BufferShape, cell: CellId) -> Option<usize>
-    ensures value { result ≡ place_of shape.now cell }
+/// Returns the index of a cell in the buffer, counted from 0, if it is one of the buffer's cells.
+fn cell_index(shape: &BufferShape, cell: CellId) -> Option<usize>
+    ensures value { result ≡ cell_index shape.now cell }
     ensures few { IfSome result (λ place. place < 256) }
 {
     if shape.is_cell(cell) {
@@ -33,7 +32,7 @@ fn put_place(shape: &BufferShape, act: Act) -> Option<usize>
     ensures few { IfSome result (λ place. place < 256) }
 {
     match act {
-        Act::Put(cell, _) => place_of(shape, cell),
+        Act::Put(cell, _) => cell_index(shape, cell),
         _ => None,
     }
 }
@@ -43,21 +42,12 @@ fn get_place(shape: &BufferShape, act: Act) -> Option<usize>
     ensures few { IfSome result (λ place. place < 256) }
 {
     match act {
-        Act::Get(cell) => place_of(shape, cell),
+        Act::Get(cell) => cell_index(shape, cell),
         _ => None,
     }
 }
 
-fn number_of(reply: Reply) -> u64
-    ensures { result ≡ number_of reply }
-{
-    match reply {
-        Reply::Number(number) => number,
-        _ => 0,
-    }
-}
-
-/// Notes who put what now stands in a cell.
+/// Records the worker of a put as the last writer of its cell.
 fn note_put(shape: &BufferShape, entry: &Entry, writers: &mut [WorkerId; 256])
     ensures { writers.new ≡ writers_after (put_place shape.now entry.now.act) entry.now.worker writers.old }
 {
@@ -66,7 +56,7 @@ fn note_put(shape: &BufferShape, entry: &Entry, writers: &mut [WorkerId; 256])
     }
 }
 
-/// Returns the same writer for each cell, of whom nothing is said before a put.
+/// Returns the last writers before the first put: an arbitrary worker for each cell.
 fn no_writers() -> [WorkerId; 256]
     ensures { result ≡ replicate 256 0 }
 {
@@ -74,7 +64,7 @@ fn no_writers() -> [WorkerId; 256]
     [first; 256]
 }
 
-/// Adds the delivery of a get.
+/// Adds the delivery of a get, if the entry is one.
 fn add_get(
     shape: &BufferShape,
     entry: &Entry,
@@ -88,28 +78,28 @@ fn add_get(
             number: list.len() as u64,
             producer: writers[place],
             consumer: entry.worker,
-            item: number_of(entry.reply),
+            item: entry.reply.number(),
         })?;
     }
     Ok(())
 }
 
-/// Adds the delivery of a get, unless there was no memory for an earlier one. The answer is whether
-/// one is lacking.
-fn lacks_after(
-    lacks: bool,
+/// Adds the delivery of a get, unless an allocation has failed before. Returns whether one has
+/// failed.
+fn add_fails(
+    out_of_memory: bool,
     shape: &BufferShape,
     entry: &Entry,
     writers: &[WorkerId; 256],
     list: &mut Vec<Delivery>,
 ) -> bool
-    ensures before { result ≡ false → lacks ≡ false }
+    ensures before { result ≡ false → out_of_memory ≡ false }
     ensures added { result ≡ false → list.new.items ≡ list_after (get_place shape.now entry.now.act) entry.now writers.now list.old.items }
 {
-    lacks || add_get(shape, entry, writers, list).is_err()
+    out_of_memory || add_get(shape, entry, writers, list).is_err()
 }
 
-/// The audit of a buffer in a walk over a run. An entry whose call is not on the buffer may be left
+/// The audit of a buffer in a pass over a run. An entry whose call is not on the buffer may be left
 /// out.
 #[derive(Drop)]
 pub struct DeliveryAudit<'a> {
@@ -117,37 +107,43 @@ pub struct DeliveryAudit<'a> {
     tracker: Tracker,
     writers: [WorkerId; 256],
     list: Vec<Delivery>,
-    lacks: bool,
+    out_of_memory: bool,
 }
 
 impl<'a> Model for DeliveryAudit<'a> {
-    ghost use Rattle.ec_buffer.specs.Auditing.{Delivering};
+    ghost use Rattle.ec_buffer.specs.Auditing.{DeliveryAuditModel};
 
-    ghost Value = { Delivering };
+    ghost Value = { DeliveryAuditModel };
 
-    ghost view = { λ s. record { shape = s.lists.shape.now; setup = s.lists.setup.now; tracked = s.tracker; writers = s.writers; list = s.list.items; lacks = s.lacks } };
+    ghost view = { λ s. record { shape = s.lists.shape.now; setup = s.lists.setup.now; tracked = s.tracker; writers = s.writers; list = s.list.items; out_of_memory = s.out_of_memory } };
 }
 
 impl<'a> Audit for DeliveryAudit<'a> {
     ghost use Rattle.ec_buffer.specs.Auditing.{DeliversOn};
 
-    ghost stands = { DeliversOn };
+    ghost represents = { DeliversOn };
 
     #[inline(never)]
     fn take(&mut self, place: usize, op: &Act, entry: &Entry) {
         let shape = self.lists.shape;
-        self.lacks = lacks_after(self.lacks, shape, entry, &self.writers, &mut self.list);
+        self.out_of_memory = add_fails(
+            self.out_of_memory,
+            shape,
+            entry,
+            &self.writers,
+            &mut self.list,
+        );
         note_put(shape, entry, &mut self.writers);
         self.tracker.take(&self.lists, place, op, entry);
     }
 }
 
 impl<'a> DeliveryAudit<'a> {
-    /// Makes the audit before the first entry of a run on this setup. It takes no memory.
+    /// Makes the audit before the first entry of a run on this setup. Allocates nothing.
     pub fn new(alloc: Global, shape: &'a BufferShape, setup: &'a Setup) -> Self
         ensures shape { result.shape ≡ shape.now }
         ensures setup { result.setup ≡ setup.now }
-        ensures first { IsDelivering result [] }
+        ensures first { RepresentsDeliveries result [] }
     {
         let lists = Lists::new(shape, setup);
         let tracker = Tracker::new(&lists);
@@ -156,28 +152,28 @@ impl<'a> DeliveryAudit<'a> {
             tracker,
             writers: no_writers(),
             list: Vec::new(alloc),
-            lacks: false,
+            out_of_memory: false,
         }
     }
 
     /// Returns the deliveries after the entries so far, as `deliveries` lists them.
     pub fn finish(self) -> Result<Vec<Delivery>, AuditFault>
-        ensures followed { (h : List Entry) → EndsAt self.entry.setup (IsDelivering self.entry) h → OnOk result (FollowsBuffer self.entry.setup self.entry.shape (reverse h)) }
-        ensures list { (h : List Entry) → EndsAt self.entry.setup (IsDelivering self.entry) h → IfOk result (λ list. AreDeliveries self.entry.setup self.entry.shape h list.items) }
-        ensures err { (h : List Entry) → EndsAt self.entry.setup (IsDelivering self.entry) h → IfErr result (IsAuditFault (buffer_rules self.entry.setup self.entry.shape) h) }
+        ensures followed { (h : List Entry) → EndsAt self.entry.setup (RepresentsDeliveries self.entry) h → OnOk result (FollowsBuffer self.entry.setup self.entry.shape (reverse h)) }
+        ensures list { (h : List Entry) → EndsAt self.entry.setup (RepresentsDeliveries self.entry) h → IfOk result (λ list. AreDeliveries self.entry.setup self.entry.shape h list.items) }
+        ensures err { (h : List Entry) → EndsAt self.entry.setup (RepresentsDeliveries self.entry) h → IfErr result (IsAuditFault (buffer_rules self.entry.setup self.entry.shape) h) }
     {
         let DeliveryAudit {
             lists,
             tracker,
             list,
-            lacks,
+            out_of_memory,
             ..
         } = self;
-        lists.shape.known();
-        if let Err(fault) = tracker.followed() {
+        lists.shape.invariant();
+        if let Err(fault) = tracker.finding() {
             return Err(fault);
         }
-        if lacks {
+        if out_of_memory {
             return Err(AuditFault::Memory);
         }
         Ok(list)
@@ -186,19 +182,18 @@ impl<'a> DeliveryAudit<'a> {
     /// Returns the deliveries after all entries of a run, as `deliveries` lists them.
     pub fn deliveries(self, run: &Run) -> Result<Vec<Delivery>, AuditFault>
         requires setup { self.setup ≡ run.now.setup }
-        requires stands { IsDelivering self (reverse run.now.entries) }
+        requires represents { RepresentsDeliveries self (reverse run.now.entries) }
         ensures followed { OnOk result (FollowsBuffer run.now.setup self.entry.shape (reverse run.now.entries)) }
         ensures list { IfOk result (λ list. AreDeliveries run.now.setup self.entry.shape run.now.entries list.items) }
         ensures err { IfErr result (IsAuditFault (buffer_rules run.now.setup self.entry.shape) run.now.entries) }
     {
-        run.known();
+        run.invariant();
         self.finish()
     }
 }
 
-/// Returns the deliveries of a buffer in a run, by number: one for each get that was made. If
-/// the workers don't follow the buffer's call lists, the first entry that breaks them is told. The
-/// run is as before, whatever is answered.
+/// Returns the deliveries of a buffer in a run, by number: one for each get that was made. If the
+/// workers don't follow the buffer's call lists, the error has the first entry that breaks them.
 pub fn deliveries(
     alloc: Global,
     run: &Run,

@@ -1,31 +1,31 @@
 //! Consuming one item.
 ghost use Rattle.std.specs.Prelude.{◌≡◌, ℕ, ◌≤◌, false, List, slice_get};
 ghost use Rattle.ec_core.specs.declared.act.TheConstants.{VALUE_MAX};
-ghost use Rattle.ec_core.specs.Following.{Told};
+ghost use Rattle.ec_core.specs.Following.{CompletedCall};
 ghost use Rattle.ec_buffer.specs.CallLists.{consume_call, consume_list};
 ghost use Rattle.ec_buffer.specs.Keeping.{rest_of};
 
 use crate::BufferShape;
-use crate::place::Place;
+use crate::list_phase::ListPhase;
 use ec_core::{Act, Procedure, Reply, VALUE_MAX};
 
-/// Gets one item from a buffer: draws a ticket, waits for its turn and for the item, gets it and
-/// tells the producers. The number that its fourth call is told is the item.
+/// The procedure that gets one item from a buffer. It draws a ticket, waits for its turn and for
+/// the item, gets the item, and advances the count of the gets. Its fourth call returns the item.
 #[derive(Clone, Copy, Debug, PartialEq, Eq)]
 pub struct Consume {
     shape: BufferShape,
-    place: Place,
+    phase: ListPhase,
 }
 
 impl Consume {
-    /// Returns the whole list.
+    /// Makes a procedure that has made no call.
     pub fn new(shape: BufferShape) -> Self
-        ensures whole { (calls : List Told) → ⟦<Consume as Procedure>⟧.rest result calls ≡ consume_call shape calls }
+        ensures whole { (calls : List CompletedCall) → ⟦<Consume as Procedure>⟧.rest result calls ≡ consume_call shape calls }
         ensures fresh { ⟦<Consume as Procedure>⟧.is_going result ≡ false }
     {
         Consume {
             shape,
-            place: Place::start(),
+            phase: ListPhase::start(),
         }
     }
 }
@@ -46,19 +46,19 @@ pub(crate) fn consume_at(shape: &BufferShape, at: usize, turn: u64) -> Option<Ac
 }
 
 impl Procedure for Consume {
-    ghost rest = { λ s. rest_of (consume_list s.shape) s.place.at s.place.turn };
+    ghost rest = { λ s. rest_of (consume_list s.shape) s.phase.at s.phase.turn };
 
-    ghost is_going = { λ s. s.place.going };
+    ghost is_going = { λ s. s.phase.going };
 
     fn next(&self) -> Option<Act> {
-        if self.place.going {
+        if self.phase.going {
             Some(Act::Go)
         } else {
-            consume_at(&self.shape, self.place.at, self.place.turn)
+            consume_at(&self.shape, self.phase.at, self.phase.turn)
         }
     }
 
     fn take(&mut self, reply: Reply) {
-        self.place.take(reply);
+        self.phase.take(reply);
     }
 }

@@ -1,16 +1,15 @@
-//! What the definitions mean: each function says a law and does nothing.
+//! What the definitions mean: each function states a theorem and does nothing.
 ghost use Rattle.ec_buffer.specs.Auditing.{OthersMayBeLeftOut, GoesMayBeLeftOut};
 ghost use Rattle.ec_buffer.specs.Joined.{FollowingMeansLists};
 ghost use Rattle.ec_buffer.specs.Laws.{BuffersStay, PutsGoByNumber, GetsGoByNumber, ItemsArePutOnce, ItemsAreGotOnce, WhatIsGotWasPut, PutsWaitForRoom, DeliveriesAreDetermined};
 
-/// States that a buffer that fits declarations fits them still if more is declared.
+/// States that a buffer that fits declarations still fits them if more is declared.
 pub fn declared_buffers_stay()
     ensures { BuffersStay }
 {}
 
-/// States that an accepted history follows a buffer exactly if each worker's calls on it are
-/// whole lists, of producing or of consuming one item, joined end to end, and the beginning of one
-/// more.
+/// States that an accepted history follows a buffer exactly if each worker's calls on it are whole
+/// lists joined end to end, and a prefix of one more. A whole list produces or consumes one item.
 pub fn following_means_lists()
     ensures { FollowingMeansLists }
 {}
@@ -28,8 +27,8 @@ pub fn items_move_once()
     ensures got { ItemsAreGotOnce }
 {}
 
-/// States that in a history that follows a buffer, what is got by a number was put before by that
-/// number.
+/// States that in a history that follows a buffer, an item that is got was put before, with the
+/// same number.
 pub fn what_is_got_was_put()
     ensures { WhatIsGotWasPut }
 {}
@@ -40,13 +39,13 @@ pub fn puts_wait_for_room()
     ensures { PutsWaitForRoom }
 {}
 
-/// States that the deliveries of a history that follows a buffer make one list, and no other.
+/// States that a history that follows a buffer has only one list of deliveries.
 pub fn deliveries_are_determined()
     ensures { DeliveriesAreDetermined }
 {}
 
-/// States that the audit of a buffer need not take in an entry whose call is not on the buffer, nor
-/// a go that ends no call: without them it is the same.
+/// States that the audit of a buffer may leave out entries whose calls are not on it, and goes that
+/// end no call: without them its state is the same.
 pub fn audits_may_leave_out_entries()
     ensures off { OthersMayBeLeftOut }
     ensures goes { GoesMayBeLeftOut }

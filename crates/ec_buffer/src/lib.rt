@@ -5,8 +5,8 @@ mod audit;
 mod consume;
 mod delivery;
 mod laws;
+mod list_phase;
 mod lists;
-mod place;
 mod produce;
 mod shape;
 

@@ -2,16 +2,16 @@
 ghost use Rattle.std.specs.Prelude.{◌≡◌, ℕ, ◌+◌, ◌<◌, ◌==◌, Bool, true, List, [], ◌∷◌, Option, Some};
 ghost use Rattle.ec_count.specs.Tables.{may_take};
 ghost use Rattle.ec_core.specs.declared.act.Act.{Act};
-ghost use Rattle.ec_core.specs.declared.protocol.Kept.{Kept};
-ghost use Rattle.ec_core.specs.Following.{Told, Rule, block_after, is_right};
-ghost use Rattle.ec_core.specs.CallLists.{is_due, unvalued};
+ghost use Rattle.ec_core.specs.declared.protocol.ListProgress.{ListProgress};
+ghost use Rattle.ec_core.specs.Following.{CompletedCall, Rule, block_after, is_right};
+ghost use Rattle.ec_core.specs.CallLists.{is_due, without_value};
 ghost use Rattle.ec_buffer.specs.Follows.{is_on, is_cell, buffer_rules};
-ghost use Rattle.ec_buffer.specs.Keeping.{kept_of, AreProducers};
+ghost use Rattle.ec_buffer.specs.Keeping.{list_progress, AreProducers};
 
 use crate::BufferShape;
 use crate::consume::consume_at;
 use crate::produce::produce_at;
-use ec_core::{Act, Kept, Protocol, Reply, is_due};
+use ec_core::{Act, ListProgress, Protocol, Reply, is_due};
 use ec_count::{EventId, SeqId, Setup, WorkerId};
 
 /// The call lists of a buffer.
@@ -19,7 +19,7 @@ use ec_count::{EventId, SeqId, Setup, WorkerId};
 pub(crate) struct Lists<'a> {
     pub(crate) shape: &'a BufferShape,
     pub(crate) setup: &'a Setup,
-    /// Which workers are producers, since each entry of a run asks that.
+    /// Which workers are producers; it is looked up for each entry of a run.
     producers: [bool; 16],
     ghost known: { AreProducers setup.now shape.now 16 producers },
 }
@@ -52,10 +52,10 @@ pub fn is_on(shape: &BufferShape, act: &Act) -> bool
     }
 }
 
-/// Returns whether an act awaits the put of the item with this number. The number and one may be
-/// too large for their type.
+/// Returns whether an act awaits the put of the item with this number. No sum is computed, since
+/// the number plus one may overflow.
 fn is_wait(shape: &BufferShape, number: u64, act: &Act) -> bool
-    ensures { result ≡ is_due (Some (Act.Await shape.now.in_count (number + 1))) (unvalued act.now) }
+    ensures { result ≡ is_due (Some (Act.Await shape.now.in_count (number + 1))) (without_value act.now) }
 {
     match act {
         Act::Await(event, threshold) => {
@@ -65,7 +65,7 @@ fn is_wait(shape: &BufferShape, number: u64, act: &Act) -> bool
     }
 }
 
-/// Returns whether the worker of a number is a producer; false if there is no such worker.
+/// Returns whether the worker with this number is a producer; false if there is no such worker.
 fn is_producer(shape: &BufferShape, setup: &Setup, number: usize) -> bool
     requires { number < 16 }
     ensures { result ≡ may_take setup.now shape.now.put_seq number }
@@ -102,8 +102,8 @@ impl<'a> Lists<'a> {
 
     /// Returns whether an act begins the call that the worker's list has next.
     #[inline(always)]
-    fn is_next(&self, worker: WorkerId, kept: &Kept, act: &Act) -> bool
-        ensures { (calls : List Told) → kept.now ≡ kept_of calls → result ≡ (buffer_rules self.now.setup.now self.now.shape.now worker).fits calls act.now }
+    fn is_next(&self, worker: WorkerId, kept: &ListProgress, act: &Act) -> bool
+        ensures { (calls : List CompletedCall) → kept.now ≡ list_progress calls → result ≡ (buffer_rules self.now.setup.now self.now.shape.now worker).fits calls act.now }
     {
         if self.produces(worker) {
             is_due(&produce_at(self.shape, 0, kept.at, kept.first), act)
@@ -118,22 +118,28 @@ impl<'a> Lists<'a> {
 impl<'a> Protocol for Lists<'a> {
     ghost rules = { λ s. buffer_rules s.setup.now s.shape.now };
 
-    ghost keeps = { λ s. kept_of };
+    ghost keeps = { λ s. list_progress };
 
-    fn start(&self) -> Kept {
-        Kept {
+    fn start(&self) -> ListProgress {
+        ListProgress {
             at: 0,
             first: 0,
             second: 0,
         }
     }
 
-    fn is_right(&self, worker: WorkerId, kept: &Kept, act: &Act) -> bool {
-        // (the call that comes next is asked for first, since in a run that follows most are that)
+    fn is_right(&self, worker: WorkerId, kept: &ListProgress, act: &Act) -> bool {
+        // (the call that is next is checked first, since in a run that follows most calls are that)
         self.is_next(worker, kept, act) || !is_on(self.shape, act)
     }
 
-    fn after(&self, _worker: WorkerId, kept: &Kept, op: &Act, reply: Reply) -> Kept {
+    fn after(
+        &self,
+        _worker: WorkerId,
+        kept: &ListProgress,
+        op: &Act,
+        reply: Reply,
+    ) -> ListProgress {
         let number = match reply {
             Reply::Pending => return *kept,
             Reply::Done => 0,
@@ -145,7 +151,7 @@ impl<'a> Protocol for Lists<'a> {
         if kept.at >= 4 {
             return self.start();
         }
-        Kept {
+        ListProgress {
             at: kept.at + 1,
             first: if kept.at == 0 { number } else { kept.first },
             second: 0,

@@ -1,34 +1,34 @@
 //! Producing one item.
 ghost use Rattle.std.specs.Prelude.{◌≡◌, ℕ, ◌≤◌, false, List, slice_get};
 ghost use Rattle.ec_core.specs.declared.act.TheConstants.{VALUE_MAX};
-ghost use Rattle.ec_core.specs.Following.{Told};
+ghost use Rattle.ec_core.specs.Following.{CompletedCall};
 ghost use Rattle.ec_buffer.specs.CallLists.{produce_call, produce_list};
 ghost use Rattle.ec_buffer.specs.Keeping.{rest_of};
 
 use crate::BufferShape;
-use crate::place::Place;
+use crate::list_phase::ListPhase;
 use ec_core::{Act, Procedure, Reply, VALUE_MAX};
 
-/// Puts one item into a buffer: draws a ticket, waits for its turn and for a free cell, puts the
-/// item and tells the consumers.
+/// The procedure that puts one item into a buffer. It draws a ticket, waits for its turn and for a
+/// free cell, puts the item, and advances the count of the puts.
 #[derive(Clone, Copy, Debug, PartialEq, Eq)]
 pub struct Produce {
     shape: BufferShape,
     item: u64,
-    place: Place,
+    phase: ListPhase,
 }
 
 impl Produce {
-    /// Returns the whole list, for this item.
+    /// Makes a procedure for this item that has made no call.
     pub fn new(shape: BufferShape, item: u64) -> Self
         requires { item ≤ VALUE_MAX }
-        ensures whole { (calls : List Told) → ⟦<Produce as Procedure>⟧.rest result calls ≡ produce_call shape item calls }
+        ensures whole { (calls : List CompletedCall) → ⟦<Produce as Procedure>⟧.rest result calls ≡ produce_call shape item calls }
         ensures fresh { ⟦<Produce as Procedure>⟧.is_going result ≡ false }
     {
         Produce {
             shape,
             item,
-            place: Place::start(),
+            phase: ListPhase::start(),
         }
     }
 }
@@ -51,19 +51,19 @@ pub(crate) fn produce_at(shape: &BufferShape, item: u64, at: usize, turn: u64) -
 }
 
 impl Procedure for Produce {
-    ghost rest = { λ s. rest_of (produce_list s.shape s.item) s.place.at s.place.turn };
+    ghost rest = { λ s. rest_of (produce_list s.shape s.item) s.phase.at s.phase.turn };
 
-    ghost is_going = { λ s. s.place.going };
+    ghost is_going = { λ s. s.phase.going };
 
     fn next(&self) -> Option<Act> {
-        if self.place.going {
+        if self.phase.going {
             Some(Act::Go)
         } else {
-            produce_at(&self.shape, self.item, self.place.at, self.place.turn)
+            produce_at(&self.shape, self.item, self.phase.at, self.phase.turn)
         }
     }
 
     fn take(&mut self, reply: Reply) {
-        self.place.take(reply);
+        self.phase.take(reply);
     }
 }

@@ -5,7 +5,7 @@ ghost use Rattle.ec_count.specs.Tables.{IsDeclared};
 ghost use Rattle.ec_buffer.specs.Follows.{is_cell};
 ghost use Rattle.ec_buffer.specs.Shapes.{IsShape, DeclaresBuffer, Fits, lacks_room, buffer_fault, with_buffer, next_buffer};
 
-use ec_count::{CellId, EventId, SeqId, Setup, SetupFault, WorkerId, joined, shares_worker};
+use ec_count::{CellId, EventId, SeqId, Setup, SetupFault, WorkerId, concat, shares_worker};
 use std::marker::Model;
 
 /// The objects of a buffer: they are declared together, by `declare_buffer`.
@@ -34,7 +34,7 @@ impl Model for BufferShape {
 impl BufferShape {
     /// States what is true of a shape: the eventcounts differ, and so do the sequencers; and there
     /// are cells.
-    pub fn known(&self)
+    pub fn invariant(&self)
         ensures { IsShape self.now }
     {
         let _ = &self.in_count;
@@ -105,7 +105,7 @@ impl BufferShape {
         requires few_consume { length consume.now ≤ 16 }
         ensures { IsTrue result ↔ DeclaresBuffer self.now setup.now produce.now consume.now }
     {
-        let both = joined(produce, consume);
+        let both = concat(produce, consume);
         let observe = both.as_slice();
         setup.declares_fixed_event(self.in_count, produce, observe)
             && setup.declares_fixed_event(self.out_count, consume, observe)
@@ -115,21 +115,22 @@ impl BufferShape {
             && !shares_worker(produce, consume)
     }
 
-    /// Returns whether the objects are declared there, with the rights of a buffer and fixed
-    /// eventcounts, for producers and consumers that share no worker.
+    /// Returns whether the objects are declared there, with the rights of a buffer. The components
+    /// of the eventcounts are not transferable, and producers and consumers share no worker.
     pub fn fits(&self, setup: &Setup) -> bool
         ensures { IsTrue result ↔ Fits self.now setup.now }
     {
-        setup.known();
+        setup.invariant();
         let produce = setup.signallers(self.in_count);
         let consume = setup.signallers(self.out_count);
         self.declares(setup, produce, consume)
     }
 }
 
-/// Declares a buffer of n cells for these producers and consumers. TooMany: a table has no room
-/// for 2 more eventcounts, 2 more sequencers or n more cells, or a list has more than 16 entries.
-/// Empty: there is no producer, no consumer, or n is 0. TwoRoles: a worker is in both lists.
+/// Declares a buffer of n cells for these producers and consumers. Reports `TooMany` if a table has
+/// no room for 2 more eventcounts, 2 more sequencers or n more cells, or if a list has more than 16
+/// entries. Reports `Empty` if there is no producer or no consumer, or n is 0. Reports `TwoRoles`
+/// if a worker is in both lists.
 pub fn declare_buffer(
     setup: &mut Setup,
     n: usize,
@@ -142,7 +143,7 @@ pub fn declare_buffer(
     ensures fits { IfOk result (λ b. DeclaresBuffer b setup.new produce.now consume.now) }
     ensures err { OnErr result (setup.new ≡ setup.old) }
 {
-    setup.known();
+    setup.invariant();
     let full = lacks_room(setup, n);
     if let Some(fault) = setup.roles_fault(full, produce, consume, n == 0) {
         return Err(fault);
@@ -154,7 +155,7 @@ pub fn declare_buffer(
 fn lacks_room(setup: &Setup, n: usize) -> bool
     ensures { result ≡ lacks_room setup.now n }
 {
-    setup.known();
+    setup.invariant();
     setup.events() + 2 > 32 || setup.sequencers() + 2 > 32 || n > 256 - setup.cells()
 }
 
@@ -169,7 +170,7 @@ fn add_buffer(
     ensures shape { result ≡ next_buffer setup.old n }
     ensures after { setup.new ≡ with_buffer setup.old n produce.now consume.now }
 {
-    let both = joined(produce, consume);
+    let both = concat(produce, consume);
     let in_count = setup.add_fixed_event(produce, both.as_slice()).unwrap();
     let out_count = setup.add_fixed_event(consume, both.as_slice()).unwrap();
     let put_seq = setup.add_sequencer(produce).unwrap();

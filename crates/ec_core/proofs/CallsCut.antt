@@ -1,4 +1,4 @@
--- A call that is under way is what the worker's latest entries are cut into, and its rounds add their components.
+-- A pending call consists of the worker's latest entries, and its rounds add their components.
 use Rattle.std.proofs.Common.{◌≡◌, ℕ, zero, suc, ◌+◌, ◌-◌, ◌<◌, ◌≤◌, Bool, true, false, ◌&&◌, List, [], ◌∷◌, length, Option, Some, None, get_or, nat_le, refl, ap, sym, ◌∙◌, arith, cond, subst, ◌==◌, ◌≢◌, slice_get}
 use Rattle.std.specs.Option.{option_map_or}
 use Rattle.std.proofs.lemmas.Bool.{eqb-true, eqb-false, eq-eqb, le-leb, lt-leb}
@@ -8,9 +8,9 @@ use Rattle.ec_core.specs.declared.act.Act.TheVariants.{Advance, Read, Await, Go,
 use Rattle.ec_core.specs.declared.act.Reply.TheVariants.{Pending}
 use Rattle.ec_core.specs.declared.act.Entry.{Entry}
 use Rattle.ec_core.specs.Counts.{past_at, component_total, sum_to}
-use Rattle.ec_core.specs.Calls.{CallSoFar, under_way, gone_on, is_go, is_pending}
+use Rattle.ec_core.specs.Calls.{CallSoFar, under_way, call_with_act, is_go, is_pending}
 use Rattle.ec_core.specs.CallsInOrder.{IsUnderWay, is_own_at, own_moments}
-use Rattle.ec_core.specs.Rounds.{sum_read, read_of}
+use Rattle.ec_core.specs.Rounds.{sum_read, read_event}
 use Rattle.ec_core.specs.Laws.{CallsUnderWayAreCutInOrder, CallsUnderWayRead, RoundsAddTheirComponents}
 use Rattle.ec_core.proofs.shared.Answering.{IsReading, IsReadingCall, call_reads}
 use Rattle.ec_core.proofs.shared.Moments.{past_next, past_end, beginnings}
@@ -24,7 +24,7 @@ moments_kept w h first k off =
     ap (λ b. cond (nat_le first k && b) (past_at k h ∷ own_moments w h first k) (own_moments w h first k)) off
     ∙ (elim (nat_le first k) as (λ b. cond (b && false) (past_at k h ∷ own_moments w h first k) (own_moments w h first k) ≡ own_moments w h first k) [ true ↦ refl | false ↦ refl ])
 
--- and where it is, they have one more
+-- and if it is, they have one more
 pub moments_more : (w : ℕ) (h : List Entry) (first k : ℕ) → first ≤ k → is_own_at w h k ≡ true → own_moments w h first (suc k) ≡ past_at k h ∷ own_moments w h first k
 unfolding own_moments
 moments_more w h first k le own =
@@ -40,7 +40,7 @@ moments_none w h first (suc k) le =
 pub own_is : (w : ℕ) (h : List Entry) (k : ℕ) (x : Entry) (b : Bool) → slice_get h k ≡ Some x → (x.worker == w) ≡ b → is_own_at w h k ≡ b
 own_is w h k x b at own = ap (λ o. option_map_or (λ (y : Entry). y.worker == w) o false) at ∙ own
 
--- an entry of w's before moment k + 1 stands before moment k, if entry k is not w's
+-- an entry of w's before moment k + 1 is before moment k, if entry k is not w's
 own_below : (w : ℕ) (h : List Entry) (k i : ℕ) (x : Entry) → is_own_at w h k ≡ false → i < suc k → slice_get h i ≡ Some x → x.worker ≡ w → i < k
 own_below w h k i x off lt at own =
     elim (i == k) as (λ b. (i == k) ≡ b → i < k) [
@@ -82,7 +82,7 @@ kept w h k (Some call) off c = record {
 -- entry k begins a call
 begun : (w : ℕ) (h : List Entry) (k : ℕ) (x : Entry) → slice_get h k ≡ Some x → x.worker ≡ w → x.reply ≡ Pending → is_go x.act ≡ false
     → IsUnderWay w h (suc k) (made x.act (past_at k h ∷ []))
-begun w h k x at own told begins = record {
+begun w h k x at own returned begins = record {
   first = k;
   opening = x;
   opens = at;
@@ -93,14 +93,14 @@ begun w h k x at own told begins = record {
   goes = λ i y after lt there mine. absurd (omega arith);
   pending = λ i y from lt there mine.
       (let same : i ≡ k = omega arith in
-      ap (λ (z : Entry). z.reply) (sym (same_entry h i k x y same at there)) ∙ told);
+      ap (λ (z : Entry). z.reply) (sym (same_entry h i k x y same at there)) ∙ returned);
   moments = sym (moments_more w h k k (omega arith) (own_is w h k x true at (eq-eqb x.worker w own)) ∙ ap (λ ps. past_at k h ∷ ps) (moments_none w h k k (omega arith)));
 }
 
--- entry k goes on with a call
+-- entry k continues a call
 went_on : (w : ℕ) (h : List Entry) (k : ℕ) (x : Entry) (call : CallSoFar) → slice_get h k ≡ Some x → x.worker ≡ w → x.reply ≡ Pending → x.act ≡ Go
     → IsUnderWay w h k call → IsUnderWay w h (suc k) (made call.op (past_at k h ∷ call.moments))
-went_on w h k x call at own told goes c = record {
+went_on w h k x call at own returned goes c = record {
   first = c.first;
   opening = c.opening;
   opens = c.opens;
@@ -115,23 +115,23 @@ went_on w h k x call at own told goes c = record {
       ] refl);
   pending = λ i y from lt there mine.
       (elim (i == k) as (λ b. (i == k) ≡ b → y.reply ≡ Pending) [
-        | true ↦ λ e. ap (λ (z : Entry). z.reply) (sym (same_entry h i k x y (eqb-true i k e) at there)) ∙ told
+        | true ↦ λ e. ap (λ (z : Entry). z.reply) (sym (same_entry h i k x y (eqb-true i k e) at there)) ∙ returned
         | false ↦ λ e. (let other : i ≢ k = eqb-false i k e in c.pending i y from (omega arith) there mine)
       ] refl);
   moments = ap (λ ps. past_at k h ∷ ps) c.moments ∙ sym (moments_more w h c.first k (let lt : c.first < k = c.before in omega arith) (own_is w h k x true at (eq-eqb x.worker w own)));
 }
 
 gone : (w : ℕ) (h : List Entry) (k : ℕ) (x : Entry) (act : Act) (o : Option CallSoFar) → slice_get h k ≡ Some x → x.worker ≡ w → x.reply ≡ Pending → x.act ≡ act
-    → IsCut w h k o → IsCut w h (suc k) (gone_on act (past_at k h) o)
-gone w h k x Go None at own told is c = tt
-gone w h k x Go (Some call) at own told is c = went_on w h k x call at own told is c
-gone w h k x (Advance e) o at own told is c = subst (λ act. IsUnderWay w h (suc k) (made act (past_at k h ∷ []))) is (begun w h k x at own told (ap is_go is))
-gone w h k x (Read e) o at own told is c = subst (λ act. IsUnderWay w h (suc k) (made act (past_at k h ∷ []))) is (begun w h k x at own told (ap is_go is))
-gone w h k x (Await e v) o at own told is c = subst (λ act. IsUnderWay w h (suc k) (made act (past_at k h ∷ []))) is (begun w h k x at own told (ap is_go is))
-gone w h k x (Ticket q) o at own told is c = subst (λ act. IsUnderWay w h (suc k) (made act (past_at k h ∷ []))) is (begun w h k x at own told (ap is_go is))
-gone w h k x (Put y v) o at own told is c = subst (λ act. IsUnderWay w h (suc k) (made act (past_at k h ∷ []))) is (begun w h k x at own told (ap is_go is))
-gone w h k x (Get y) o at own told is c = subst (λ act. IsUnderWay w h (suc k) (made act (past_at k h ∷ []))) is (begun w h k x at own told (ap is_go is))
-gone w h k x (Hand e b) o at own told is c = subst (λ act. IsUnderWay w h (suc k) (made act (past_at k h ∷ []))) is (begun w h k x at own told (ap is_go is))
+    → IsCut w h k o → IsCut w h (suc k) (call_with_act act (past_at k h) o)
+gone w h k x Go None at own returned is c = tt
+gone w h k x Go (Some call) at own returned is c = went_on w h k x call at own returned is c
+gone w h k x (Advance e) o at own returned is c = subst (λ act. IsUnderWay w h (suc k) (made act (past_at k h ∷ []))) is (begun w h k x at own returned (ap is_go is))
+gone w h k x (Read e) o at own returned is c = subst (λ act. IsUnderWay w h (suc k) (made act (past_at k h ∷ []))) is (begun w h k x at own returned (ap is_go is))
+gone w h k x (Await e v) o at own returned is c = subst (λ act. IsUnderWay w h (suc k) (made act (past_at k h ∷ []))) is (begun w h k x at own returned (ap is_go is))
+gone w h k x (Ticket q) o at own returned is c = subst (λ act. IsUnderWay w h (suc k) (made act (past_at k h ∷ []))) is (begun w h k x at own returned (ap is_go is))
+gone w h k x (Put y v) o at own returned is c = subst (λ act. IsUnderWay w h (suc k) (made act (past_at k h ∷ []))) is (begun w h k x at own returned (ap is_go is))
+gone w h k x (Get y) o at own returned is c = subst (λ act. IsUnderWay w h (suc k) (made act (past_at k h ∷ []))) is (begun w h k x at own returned (ap is_go is))
+gone w h k x (Hand e b) o at own returned is c = subst (λ act. IsUnderWay w h (suc k) (made act (past_at k h ∷ []))) is (begun w h k x at own returned (ap is_go is))
 
 cut_next : (w : ℕ) (h : List Entry) (k : ℕ) (o : Option Entry) → slice_get h k ≡ o → IsCut w h k (under_way w (past_at k h)) → IsCut w h (suc k) (under_way w (past_at (suc k) h))
 unfolding under_way
@@ -141,11 +141,11 @@ cut_next w h k None at c =
 cut_next w h k (Some x) at c =
     let o : Option CallSoFar = under_way w (past_at k h) in
     subst (λ past. IsCut w h (suc k) (under_way w past)) (sym (past_next h k x at))
-    (elim (x.worker == w) as (λ b. (x.worker == w) ≡ b → IsCut w h (suc k) (cond b (cond (is_pending x.reply) (gone_on x.act (past_at k h) o) None) o)) [
+    (elim (x.worker == w) as (λ b. (x.worker == w) ≡ b → IsCut w h (suc k) (cond b (cond (is_pending x.reply) (call_with_act x.act (past_at k h) o) None) o)) [
       | true ↦ λ own.
-          (elim (is_pending x.reply) as (λ b. is_pending x.reply ≡ b → IsCut w h (suc k) (cond b (gone_on x.act (past_at k h) o) None)) [
-            | true ↦ λ told. gone w h k x x.act o at (eqb-true x.worker w own) (pending_is x.reply told) refl c
-            | false ↦ λ told. tt
+          (elim (is_pending x.reply) as (λ b. is_pending x.reply ≡ b → IsCut w h (suc k) (cond b (call_with_act x.act (past_at k h) o) None)) [
+            | true ↦ λ returned. gone w h k x x.act o at (eqb-true x.worker w own) (pending_is x.reply returned) refl c
+            | false ↦ λ returned. tt
           ] refl)
       | false ↦ λ other. kept w h k o (own_is w h k x false at other) c
     ] refl)
@@ -187,7 +187,7 @@ without_last w h k call r lt = record {
   moments = refl;
 }
 
-gone_begins : (act : Act) (past : List Entry) (o : Option CallSoFar) → is_go act ≡ false → gone_on act past o ≡ Some (made act (past ∷ []))
+gone_begins : (act : Act) (past : List Entry) (o : Option CallSoFar) → is_go act ≡ false → call_with_act act past o ≡ Some (made act (past ∷ []))
 gone_begins Go past o h = cc
 gone_begins (Advance e) past o h = refl
 gone_begins (Read e) past o h = refl
@@ -202,10 +202,10 @@ made_is call op moments a b = (let same : made op moments ≡ made call.op call.
 
 back_own : (w : ℕ) (h : List Entry) (k : ℕ) (x : Entry) (call : CallSoFar) (r : IsUnderWay w h (suc k) call) → slice_get h k ≡ Some x → x.worker ≡ w
     → ((c : CallSoFar) → IsUnderWay w h k c → under_way w (past_at k h) ≡ Some c)
-    → gone_on x.act (past_at k h) (under_way w (past_at k h)) ≡ Some call
+    → call_with_act x.act (past_at k h) (under_way w (past_at k h)) ≡ Some call
 back_own w h k x call r at own ih =
     let own_at : is_own_at w h k ≡ true = own_is w h k x true at (eq-eqb x.worker w own) in
-    elim (r.first == k) as (λ b. (r.first == k) ≡ b → gone_on x.act (past_at k h) (under_way w (past_at k h)) ≡ Some call) [
+    elim (r.first == k) as (λ b. (r.first == k) ≡ b → call_with_act x.act (past_at k h) (under_way w (past_at k h)) ≡ Some call) [
       | true ↦ λ e.
           (let same : r.first ≡ k = eqb-true r.first k e in
           let act : x.act ≡ call.op = ap (λ (z : Entry). z.act) (same_entry h r.first k x r.opening same at r.opens) ∙ r.opening_act in
@@ -217,7 +217,7 @@ back_own w h k x call r at own ih =
           let act : x.act ≡ Go = r.goes k x early (omega arith) at own in
           let before : under_way w (past_at k h) ≡ Some (made call.op (own_moments w h r.first k)) = ih (made call.op (own_moments w h r.first k)) (without_last w h k call r early) in
           let last : past_at k h ∷ own_moments w h r.first k ≡ call.moments = sym (r.moments ∙ moments_more w h r.first k (omega arith) own_at) in
-          ap (λ a. gone_on a (past_at k h) (under_way w (past_at k h))) act ∙ ap (gone_on Go (past_at k h)) before ∙ made_is call call.op (past_at k h ∷ own_moments w h r.first k) refl last)
+          ap (λ a. call_with_act a (past_at k h) (under_way w (past_at k h))) act ∙ ap (call_with_act Go (past_at k h)) before ∙ made_is call call.op (past_at k h ∷ own_moments w h r.first k) refl last)
     ] refl
 
 back_next : (w : ℕ) (h : List Entry) (k : ℕ) (o : Option Entry) (call : CallSoFar) → slice_get h k ≡ o → IsUnderWay w h (suc k) call
@@ -229,12 +229,12 @@ back_next w h k None call at r ih =
 back_next w h k (Some x) call at r ih =
     let o : Option CallSoFar = under_way w (past_at k h) in
     ap (under_way w) (past_next h k x at)
-    ∙ (elim (x.worker == w) as (λ b. (x.worker == w) ≡ b → cond b (cond (is_pending x.reply) (gone_on x.act (past_at k h) o) None) o ≡ Some call) [
+    ∙ (elim (x.worker == w) as (λ b. (x.worker == w) ≡ b → cond b (cond (is_pending x.reply) (call_with_act x.act (past_at k h) o) None) o ≡ Some call) [
       | true ↦ λ e.
           (let own : x.worker ≡ w = eqb-true x.worker w e in
           let from : r.first ≤ k = (let lt : r.first < suc k = r.before in omega arith) in
-          let told : x.reply ≡ Pending = r.pending k x from (omega arith) at own in
-          ap (λ p. cond (is_pending p) (gone_on x.act (past_at k h) o) None) told ∙ back_own w h k x call r at own ih)
+          let returned : x.reply ≡ Pending = r.pending k x from (omega arith) at own in
+          ap (λ p. cond (is_pending p) (call_with_act x.act (past_at k h) o) None) returned ∙ back_own w h k x call r at own ih)
       | false ↦ λ e. ih call (shorter w h k call (own_is w h k x false at e) r)
     ] refl)
 
@@ -260,9 +260,9 @@ rounds_add t e (suc n) (p ∷ moments) le =
     let rest : sum_read t e n moments ≡ sum_to f n = rounds_add t e n moments (omega arith) ∙ sum_same n (λ c. component_total t e c (get_or moments (n - 1 - c) [])) f each in
     ap (λ m. m + sum_read t e n moments) here ∙ ap (λ m. f n + m) rest
 
--- WHAT IS UNDER WAY
+-- WHAT IS PENDING
 
-reads : (t : Tables) (op : Act) → IsReading t op → (e : ℕ) × (read_of op ≡ Some e) × (e < length t.events)
+reads : (t : Tables) (op : Act) → IsReading t op → (e : ℕ) × (read_event op ≡ Some e) × (e < length t.events)
 reads t (Read e) h = (e, refl, h)
 reads t (Await e v) h = (e, refl, h)
 reads t (Advance e) h = absurd h

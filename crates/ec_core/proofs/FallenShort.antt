@@ -11,25 +11,28 @@ use Rattle.ec_core.specs.declared.act.Reply.{Reply}
 use Rattle.ec_core.specs.declared.act.Reply.TheVariants.{Number, Pending}
 use Rattle.ec_core.specs.declared.act.Entry.{Entry}
 use Rattle.ec_core.specs.Counts.{past_at, component_total}
-use Rattle.ec_core.specs.Calls.{CallSoFar, under_way, gone_on, is_pending}
+use Rattle.ec_core.specs.Calls.{CallSoFar, under_way, call_with_act, is_pending}
 use Rattle.ec_core.specs.CallsInOrder.{IsUnderWay, is_own_at, own_moments}
-use Rattle.ec_core.specs.Rounds.{event_or, width, sum_read, round_sum, round_reply, read_reply, next_component}
+use Rattle.ec_core.specs.Rounds.{event_or, component_count, sum_read, round_sum, round_reply, read_reply, next_component}
 use Rattle.ec_core.specs.Acceptance.{answer_of, reply_of, names_unknown_object, IsAccepted}
 use Rattle.ec_core.specs.Progress.{Progress}
-use Rattle.ec_core.specs.Standing.{shown, progress_of}
+use Rattle.ec_core.specs.Standing.{call_progress, progress_of}
 use Rattle.ec_core.specs.FallenShort.{HasJustFallenShort, IndexZeroMeansFallenShort, IndexZeroIsAnAwait}
 use Rattle.ec_core.proofs.shared.Answering.{allowed, call_reads, mod_next, width_some, IsReading, IsReadingCall}
 use Rattle.ec_core.proofs.CallsCut.{calls_are_cut, moments_kept, moments_more, moments_none, own_is}
 use Rattle.ec_core.proofs.shared.Following.{reply_read}
 use Rattle.ec_core.proofs.shared.Moments.{beginnings}
 use Rattle.ec_core.proofs.shared.Pasts.{pending_is}
+use Rattle.ec_core.proofs.shared.Stepping.{entry}
 
 -- THE END OF A ROUND
 
--- the entries of a read under way never make whole rounds, and an await under way whose entries do fell short in the last one
+-- the entries of a pending read never make whole rounds, and a pending await whose entries do fell
+-- short in the last one
 abbrev FellShort : Tables → Act → List (List Entry) → Type 0
-FellShort t (Read e) moments = length moments % width t e ≡ 0 → ⊥
-FellShort t (Await e v) moments = length moments % width t e ≡ 0 → round_sum t e moments < v
+FellShort t (Read e) moments = length moments % component_count t e ≡ 0 → ⊥
+FellShort t (Await e v) moments = length moments % component_count t e ≡ 0
+    → round_sum t e moments < v
 FellShort t _ moments = Unit {0}
 
 abbrev FellShortCall : Tables → Option CallSoFar → Type 0
@@ -42,11 +45,11 @@ below e v s = elim (nat_le v s) as (λ b. nat_le v s ≡ b → cond b (Number s)
   | false ↦ λ h p. leb-false v s h
 ] refl
 
-fell_next : (t : Tables) (e v : ℕ) (past : List Entry) (moments : List (List Entry)) → 0 < width t e → read_reply t (Await e v) past moments ≡ Pending
+fell_next : (t : Tables) (e v : ℕ) (past : List Entry) (moments : List (List Entry)) → 0 < component_count t e → read_reply t (Await e v) past moments ≡ Pending
     → FellShort t (Await e v) (past ∷ moments)
 unfolding read_reply
 fell_next t e v past moments some p whole =
-    let n = width t e in
+    let n = component_count t e in
     let c = next_component t e moments in
     let next = sym (mod_next n (length moments) some) ∙ whole in
     elim (nat_le n (c + 1)) as (λ b. nat_le n (c + 1) ≡ b → cond b 0 (c + 1) ≡ 0 → cond b (round_reply (Await e v) (sum_read t e (suc c) (past ∷ moments))) Pending ≡ Pending → round_sum t e (past ∷ moments) < v) [
@@ -58,11 +61,11 @@ fell_next t e v past moments some p whole =
       | false ↦ λ h z q. absurd (omega arith)
     ] refl next p
 
-read_next : (t : Tables) (e : ℕ) (past : List Entry) (moments : List (List Entry)) → 0 < width t e → read_reply t (Read e) past moments ≡ Pending
+read_next : (t : Tables) (e : ℕ) (past : List Entry) (moments : List (List Entry)) → 0 < component_count t e → read_reply t (Read e) past moments ≡ Pending
     → FellShort t (Read e) (past ∷ moments)
 unfolding read_reply
 read_next t e past moments some p whole =
-    let n = width t e in
+    let n = component_count t e in
     let c = next_component t e moments in
     let next = sym (mod_next n (length moments) some) ∙ whole in
     elim (nat_le n (c + 1)) as (λ b. nat_le n (c + 1) ≡ b → cond b 0 (c + 1) ≡ 0 → cond b (round_reply (Read e) (sum_read t e (suc c) (past ∷ moments))) Pending ≡ Pending → ⊥) [
@@ -81,7 +84,7 @@ fell_op t (Get y) past moments d r p = tt
 fell_op t (Hand e f) past moments d r p = tt
 
 fell_gone : (t : Tables) (past : List Entry) (w : ℕ) (act : Act) (o : Option CallSoFar) → IsDeclared t → under_way w past ≡ o → names_unknown_object t act ≡ false → IsReadingCall t o
-    → reply_of t past w act ≡ Pending → FellShortCall t (gone_on act past o)
+    → reply_of t past w act ≡ Pending → FellShortCall t (call_with_act act past o)
 fell_gone t past w Go None d e known r p = tt
 fell_gone t past w Go (Some call) d e known r p = fell_op t call.op past call.moments d r (sym (reply_read t past w Go (Some call) e r) ∙ p)
 fell_gone t past w (Await f v) o d e known r p = fell_next t f v past [] (width_some t f d (leb-false (length t.events) f known)) p
@@ -96,9 +99,9 @@ fell : (t : Tables) (w : ℕ) (past : List Entry) → IsDeclared t → IsAccepte
 unfolding under_way
 fell t w [] d acc = tt
 fell t w (x ∷ past) d acc =
-    elim (x.worker == w) as (λ b. (x.worker == w) ≡ b → FellShortCall t (cond b (cond (is_pending x.reply) (gone_on x.act past (under_way w past)) None) (under_way w past))) [
+    elim (x.worker == w) as (λ b. (x.worker == w) ≡ b → FellShortCall t (cond b (cond (is_pending x.reply) (call_with_act x.act past (under_way w past)) None) (under_way w past))) [
       | true ↦ λ h.
-          (elim (is_pending x.reply) as (λ p. is_pending x.reply ≡ p → FellShortCall t (cond p (gone_on x.act past (under_way w past)) None)) [
+          (elim (is_pending x.reply) as (λ p. is_pending x.reply ≡ p → FellShortCall t (cond p (call_with_act x.act past (under_way w past)) None)) [
             | true ↦ λ k.
                 (let P : ℕ → Type 0 = λ v. answer_of t past v x.act ≡ Ok x.reply in
                 let a = allowed t past w x.act x.reply (subst P (eqb-true x.worker w h) acc.0) in
@@ -147,7 +150,7 @@ some_moment w h first k own lt =
     let one = ap length (one_moment w h first own) in
     omega arith
 
--- an entry of w's from which on there are n of them
+-- an entry of w's, from which on w has n entries
 record IsRoundOf (w : ℕ) (h : List Entry) (first n k : ℕ) : Type 0 where
   round : ℕ
   own : is_own_at w h round ≡ true
@@ -200,7 +203,7 @@ sum_front t e zero ps qs le = refl
 sum_front t e (suc n) [] qs le = absurd (omega arith)
 sum_front t e (suc n) (p ∷ ps) qs le = ap (λ m. component_total t e n p + m) (sum_front t e n ps qs (omega arith))
 
--- whole rounds that are some are one at least
+-- some entries that make whole rounds of n are at least n
 round_within : (n k : ℕ) → 0 < k → k % n ≡ 0 → n ≤ k
 round_within n k some whole =
     elim (nat_le n k) as (λ b. nat_le n k ≡ b → n ≤ k) [
@@ -213,22 +216,19 @@ round_within n k some whole =
 
 -- BOTH DIRECTIONS
 
-shown_back : (t : Tables) (o : Option CallSoFar) (p : Progress) → option_map (shown t) o ≡ Some p → (call : CallSoFar) × (o ≡ Some call) × (shown t call ≡ p)
+shown_back : (t : Tables) (o : Option CallSoFar) (p : Progress) → option_map (call_progress t) o ≡ Some p → (call : CallSoFar) × (o ≡ Some call) × (call_progress t call ≡ p)
 shown_back t None p is = cc
 shown_back t (Some call) p is = (call, refl, (cc))
-
-abbrev entry : ℕ → Act → Reply → Entry
-entry w act reply = record { worker = w; act = act; reply = reply }
 
 entry_is : (x : Entry) (w : ℕ) (act : Act) (reply : Reply) → x.worker ≡ w → x.act ≡ act → x.reply ≡ reply → x ≡ entry w act reply
 entry_is x w act reply a b c = (let same : entry x.worker x.act x.reply ≡ entry w act reply = cc in same)
 
 fell_of : (t : Tables) (w : ℕ) (h : List Entry) (k e v : ℕ) (call : CallSoFar) → IsDeclared t → IsAccepted t (reverse h) → under_way w (past_at k h) ≡ Some call → call.op ≡ Await e v
-    → length call.moments % width t e ≡ 0 → HasJustFallenShort t w h k e v
+    → length call.moments % component_count t e ≡ 0 → HasJustFallenShort t w h k e v
 fell_of t w h k e v call d acc is op len =
     let u : IsUnderWay w h k call = (calls_are_cut w k h call).0 is in
     let lt : u.first < k = u.before in
-    let n = width t e in
+    let n = component_count t e in
     let P : Act → Type 0 = λ a. IsReading t a in
     let known : e < length t.events = subst P op (subst (IsReadingCall t) is (call_reads t (past_at k h) w (beginnings t k h acc))) in
     let some : 0 < n = width_some t e d known in
@@ -265,7 +265,7 @@ forth t h w k e v sum d acc is =
     let op : call.op ≡ Await e v = ap (λ (p : Progress). p.op) c.2 in
     let index : next_component t (event_or call.op) call.moments ≡ 0 = ap (λ (p : Progress). p.index) c.2 in
     let kept : sum_read t (event_or call.op) (next_component t (event_or call.op) call.moments) call.moments ≡ sum = ap (λ (p : Progress). p.sum) c.2 in
-    let len : length call.moments % width t e ≡ 0 = ap (λ a. length call.moments % width t (event_or a)) (sym op) ∙ index in
+    let len : length call.moments % component_count t e ≡ 0 = ap (λ a. length call.moments % component_count t (event_or a)) (sym op) ∙ index in
     (fell_of t w h k e v call d acc c.1 op len, sym kept ∙ ap (λ i. sum_read t (event_or call.op) i call.moments) index)
 
 opening_told : (h : List Entry) (first i : ℕ) (w e v : ℕ) (x : Entry) → slice_get h first ≡ Some (record { worker = w; act = Await e v; reply = Pending }) → i ≡ first
@@ -301,7 +301,7 @@ back : (t : Tables) (h : List Entry) (w k e v sum : ℕ) → HasJustFallenShort 
     → progress_of t w (past_at k h) ≡ Some (record { op = Await e v; index = 0; sum = sum })
 unfolding sum_read
 back t h w k e v sum r none =
-    let n = width t e in
+    let n = component_count t e in
     let ps = own_moments w h r.first k in
     let lt : r.round < k = r.before in
     let is : under_way w (past_at k h) ≡ Some (record { op = Await e v; moments = ps }) =
@@ -310,14 +310,14 @@ back t h w k e v sum r none =
     ap length (parted w h r.first r.round k r.from_first (omega arith)) ∙ length-append (own_moments w h r.round k) (own_moments w h r.first r.round)
     ∙ ap (λ m. m + length (own_moments w h r.first r.round)) r.one in
     let index : length ps % n ≡ 0 = ap (λ m. m % n) long ∙ add-mod_left n (length (own_moments w h r.first r.round)) ∙ r.whole in
-    ap (option_map (shown t)) is
+    ap (option_map (call_progress t)) is
     ∙ ap (λ i. Some (record { op = Await e v; index = i; sum = sum_read t e i ps })) index
     ∙ ap (λ s. Some (record { op = Await e v; index = 0; sum = s })) (sym none)
 
 pub index_zero : IndexZeroMeansFallenShort
 index_zero t h w k e v sum d acc = (forth t h w k e v sum d acc, λ r. back t h w k e v sum r.0 r.1)
 
--- A READ IS NEVER THERE
+-- A PENDING READ IS NEVER AT THE FIRST COMPONENT
 
 await_of : (t : Tables) (op : Act) (moments : List (List Entry)) → IsReading t op → FellShort t op moments → next_component t (event_or op) moments ≡ 0
     → (e : ℕ) × (v : ℕ) × (op ≡ Await e v)

@@ -4,11 +4,11 @@ use Rattle.std.specs.Option.{option_and_then}
 use Rattle.std.proofs.Math.Nat.{zero-add}
 use Rattle.std.proofs.lemmas.Bool.{eqb-true, eqb-false}
 use Rattle.ec_count.specs.Tables.{Tables}
-use Rattle.ec_count.specs.Members.{place_of}
+use Rattle.ec_count.specs.Members.{index_of}
 use Rattle.ec_core.specs.declared.act.Act.{Act}
 use Rattle.ec_core.specs.declared.act.Act.TheVariants.{Advance, Read, Await, Go, Ticket, Put, Get, Hand}
 use Rattle.ec_core.specs.declared.act.Entry.{Entry}
-use Rattle.ec_core.specs.Counts.{past_at, total, component_total, issued, cell_value, is_advance, is_ticket, is_place, put_in, hand_of, replaced, handed, signallers_at, signaller_at, component_at}
+use Rattle.ec_core.specs.Counts.{past_at, total, component_total, issued, cell_value, is_advance, is_ticket, is_place, put_in, hand_of, replace_at, signallers_after, signallers_at, signaller_at, component_at}
 use Rattle.ec_core.specs.InOrder.{handed_at, IsLastHand, IsUnhanded}
 use Rattle.ec_core.specs.Laws.{HandsChangeNoNumber, SignallersAreTheLastReceivers}
 use Rattle.ec_core.proofs.shared.Answering.{place_within}
@@ -64,7 +64,7 @@ latest_is : (is : Bool) (b : ℕ) (s : Option ℕ) → cond is (Some b) s ≡ la
 latest_is true b s = refl
 latest_is false b s = refl
 
-replaced_place : (w c b : ℕ) (ws : List ℕ) (o : Option ℕ) → place_of w ws ≡ o → slice_get (replaced o b ws) c ≡ latest (cond (is_place c o) (Some b) None) (slice_get ws c)
+replaced_place : (w c b : ℕ) (ws : List ℕ) (o : Option ℕ) → index_of w ws ≡ o → slice_get (replace_at o b ws) c ≡ latest (cond (is_place c o) (Some b) None) (slice_get ws c)
 replaced_place w c b ws None at = refl
 replaced_place w c b ws (Some d) at =
     let within : d < 0 + length ws = place_within w ws 0 d at in
@@ -72,18 +72,18 @@ replaced_place w c b ws (Some d) at =
 
 -- who signals a component after an act
 handed_place : (e w c : ℕ) (act : Act) (ws : List ℕ)
-    → slice_get (handed e w act ws) c ≡ latest (cond (is_place c (place_of w ws)) (hand_of e act) None) (slice_get ws c)
-handed_place e w c (Advance f) ws = unhanded (is_place c (place_of w ws)) (slice_get ws c)
-handed_place e w c (Read f) ws = unhanded (is_place c (place_of w ws)) (slice_get ws c)
-handed_place e w c (Await f v) ws = unhanded (is_place c (place_of w ws)) (slice_get ws c)
-handed_place e w c Go ws = unhanded (is_place c (place_of w ws)) (slice_get ws c)
-handed_place e w c (Ticket q) ws = unhanded (is_place c (place_of w ws)) (slice_get ws c)
-handed_place e w c (Put x v) ws = unhanded (is_place c (place_of w ws)) (slice_get ws c)
-handed_place e w c (Get x) ws = unhanded (is_place c (place_of w ws)) (slice_get ws c)
+    → slice_get (signallers_after e w act ws) c ≡ latest (cond (is_place c (index_of w ws)) (hand_of e act) None) (slice_get ws c)
+handed_place e w c (Advance f) ws = unhanded (is_place c (index_of w ws)) (slice_get ws c)
+handed_place e w c (Read f) ws = unhanded (is_place c (index_of w ws)) (slice_get ws c)
+handed_place e w c (Await f v) ws = unhanded (is_place c (index_of w ws)) (slice_get ws c)
+handed_place e w c Go ws = unhanded (is_place c (index_of w ws)) (slice_get ws c)
+handed_place e w c (Ticket q) ws = unhanded (is_place c (index_of w ws)) (slice_get ws c)
+handed_place e w c (Put x v) ws = unhanded (is_place c (index_of w ws)) (slice_get ws c)
+handed_place e w c (Get x) ws = unhanded (is_place c (index_of w ws)) (slice_get ws c)
 handed_place e w c (Hand f b) ws =
-    elim (f == e) as (λ is. slice_get (cond is (replaced (place_of w ws) b ws) ws) c ≡ latest (cond (is_place c (place_of w ws)) (cond is (Some b) None) None) (slice_get ws c)) [
-      | true ↦ replaced_place w c b ws (place_of w ws) refl
-      | false ↦ unhanded (is_place c (place_of w ws)) (slice_get ws c)
+    elim (f == e) as (λ is. slice_get (cond is (replace_at (index_of w ws) b ws) ws) c ≡ latest (cond (is_place c (index_of w ws)) (cond is (Some b) None) None) (slice_get ws c)) [
+      | true ↦ replaced_place w c b ws (index_of w ws) refl
+      | false ↦ unhanded (is_place c (index_of w ws)) (slice_get ws c)
     ]
 
 abbrev Holds : Tables → ℕ → ℕ → List Entry → ℕ → Option ℕ → Type 0

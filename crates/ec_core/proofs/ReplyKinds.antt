@@ -9,7 +9,7 @@ use Rattle.ec_core.specs.declared.act.Entry.{Entry}
 use Rattle.ec_core.specs.declared.act.TheConstants.{VALUE_MAX}
 use Rattle.ec_core.specs.Counts.{issued, cell_value}
 use Rattle.ec_core.specs.Calls.{CallSoFar, under_way}
-use Rattle.ec_core.specs.Rounds.{event_or, width, sum_read, next_component, round_reply, read_reply, go_reply}
+use Rattle.ec_core.specs.Rounds.{event_or, component_count, sum_read, next_component, round_reply, read_reply, go_reply}
 use Rattle.ec_core.specs.Acceptance.{reply_of, answer_of, IsAccepted}
 use Rattle.ec_core.specs.Values.{TellsAtMost}
 use Rattle.ec_core.specs.Procedures.{IsNumber, IsReply}
@@ -47,7 +47,7 @@ unfolding read_reply
 read_told t op past moments reply small is =
     let e = event_or op in
     let c = next_component t e moments in
-    last_told (nat_le (width t e) (c + 1)) op (sum_read t e (suc c) (past ∷ moments)) reply small is
+    last_told (nat_le (component_count t e) (c + 1)) op (sum_read t e (suc c) (past ∷ moments)) reply small is
 
 go_told : (t : Tables) (past : List Entry) (o : Option CallSoFar) (reply : Reply) → TellsAtMost VALUE_MAX reply → reply ≡ go_reply t past o → IsReadingReply reply
 go_told t past None reply small is = inl is
@@ -63,13 +63,8 @@ kind_told t past w (Put x v) reply small is = is
 kind_told t past w (Get x) reply small is = number_told reply (cell_value x past) small is
 kind_told t past w (Hand e b) reply small is = is
 
--- what an act is told, if it is not refused
+-- the reply to an act, if it is not refused
 pub kind_is : (t : Tables) (past : List Entry) (w : ℕ) (act : Act) (reply : Reply) → IsDeclared t → IsAccepted t past
     → answer_of t past w act ≡ Ok reply → IsReply act reply
 kind_is t past w act reply d acc h =
     kind_told t past w act reply (told_small t past w act reply d acc h) (sym (allowed t past w act reply h).1)
-
--- what an entry was told that stands after these
-pub kind_after : (t : Tables) (h done others : List Entry) (x : Entry) → IsDeclared t → IsAccepted t (reverse h) → done ++ x ∷ others ≡ h → IsReply x.act x.reply
-kind_after t h done others x d acc is =
-    kind_is t (reverse done) x.worker x.act x.reply d (accepted_until t h done (x ∷ others) acc is) (answered_after t h done others x acc is)

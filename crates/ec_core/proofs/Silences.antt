@@ -1,4 +1,4 @@
--- What silent workers did leaves no trace in what the others are told.
+-- The entries of read-only workers leave no trace in the replies to the others.
 use Rattle.std.proofs.Common.{◌≡◌, ℕ, zero, suc, ◌+◌, ◌%◌, Bool, true, false, not, ◌&&◌, ◌||◌, List, [], ◌∷◌, ◌++◌, length, reverse, take, subst, All, ◌<◌, Option, Some, None, is_some, unwrap_or, nat_le, Ok, arith, refl, ap, sym, ◌∙◌, cond, ◌==◌, map, slice_get, slice_set}
 use Rattle.std.specs.Option.{option_map, option_map_or}
 use Rattle.std.proofs.lemmas.Bool.{eqb-true, eq-eqb, or_parts}
@@ -8,16 +8,16 @@ use Rattle.std.proofs.lemmas.List.{length-map, length-reverse, reverse-append, r
 use Rattle.std.proofs.lemmas.List.Elements.{filter-append}
 use Rattle.std.specs.List.{list_any, position_from}
 use Rattle.ec_count.specs.Tables.{Tables, may_take, may_write, is_silent}
-use Rattle.ec_count.specs.Members.{is_member, place_of}
+use Rattle.ec_count.specs.Members.{is_member, index_of}
 use Rattle.ec_count.proofs.shared.Quiet.{silent_has_none, silent_from_none}
 use Rattle.ec_core.specs.declared.act.Act.{Act}
 use Rattle.ec_core.specs.declared.act.Act.TheVariants.{Advance, Read, Await, Go, Ticket, Put, Get, Hand}
 use Rattle.ec_core.specs.declared.act.Reply.{Reply}
 use Rattle.ec_core.specs.declared.act.Reply.TheVariants.{Number, Pending}
 use Rattle.ec_core.specs.declared.act.Entry.{Entry}
-use Rattle.ec_core.specs.Counts.{past_at, component_total, issued, cell_value, is_advance, is_ticket, is_place, put_in, replaced, handed, signallers_at, component_at}
-use Rattle.ec_core.specs.Calls.{CallSoFar, under_way, gone_on, is_pending}
-use Rattle.ec_core.specs.Rounds.{event_or, width, sum_read, next_component, round_reply, read_reply, go_reply, IsPastOf, EachIsPastOf}
+use Rattle.ec_core.specs.Counts.{past_at, component_total, issued, cell_value, is_advance, is_ticket, is_place, put_in, replace_at, signallers_after, signallers_at, component_at}
+use Rattle.ec_core.specs.Calls.{CallSoFar, under_way, call_with_act, is_pending}
+use Rattle.ec_core.specs.Rounds.{event_or, component_count, sum_read, next_component, round_reply, read_reply, go_reply, IsPastOf, EachIsPastOf}
 use Rattle.ec_core.specs.Acceptance.{reply_of, answer_of, refusal_of, refusal_in, refused_or, has_right, is_at_limit, signals_already, IsAccepted}
 use Rattle.ec_core.specs.Silence.{IsSilent, hands_to, without}
 use Rattle.ec_core.specs.Laws.{OthersStand}
@@ -27,7 +27,8 @@ use Rattle.ec_core.proofs.shared.Totals.{some_of}
 use Rattle.ec_core.proofs.shared.Pasts.{past_itself, past_of_past, past_later, call_before, IsCallBefore}
 use Rattle.ec_core.proofs.shared.Signalling.{handed_by_none}
 
--- a worker that signals nothing at any moment of a past, takes from no sequencer and writes no cell
+-- a worker that signals nothing at any moment of a reversed history, takes from no sequencer and
+-- writes no cell
 pub record IsQuiet (t : Tables) (past : List Entry) (w : ℕ) : Type 0 where
   pub signals : (early : List Entry) → IsPastOf early past → (e : ℕ) → component_at t e early w ≡ None
   pub takes : (q : ℕ) → may_take t q w ≡ false
@@ -36,7 +37,7 @@ pub record IsQuiet (t : Tables) (past : List Entry) (w : ℕ) : Type 0 where
 abbrev pub AreQuiet : Tables → (ℕ → Bool) → List Entry → Type 0
 AreQuiet t s past = (w : ℕ) → s w ≡ true → IsQuiet t past w
 
--- who is quiet in a past was so before
+-- who is quiet in a reversed history is so in each suffix of it
 quiet_earlier : (t : Tables) (s : ℕ → Bool) (early past : List Entry) → IsPastOf early past → AreQuiet t s past → AreQuiet t s early
 quiet_earlier t s early past is silent w h =
     let q = silent w h in
@@ -53,13 +54,13 @@ signallers_without : (t : Tables) (s : ℕ → Bool) (e : ℕ) (past : List Entr
 unfolding signallers_at
 signallers_without t s e [] silent = refl
 signallers_without t s e (x ∷ past) silent =
-    elim (s x.worker) as (λ b. s x.worker ≡ b → signallers_at t e (cond (not b) (x ∷ without s past) (without s past)) ≡ handed e x.worker x.act (signallers_at t e past)) [
+    elim (s x.worker) as (λ b. s x.worker ≡ b → signallers_at t e (cond (not b) (x ∷ without s past) (without s past)) ≡ signallers_after e x.worker x.act (signallers_at t e past)) [
       | true ↦ λ h. signallers_without t s e past (quiet_before t s x past silent) ∙ sym (handed_by_none e x.worker x.act (signallers_at t e past) (none_now t s x past e silent h))
-      | false ↦ λ h. ap (handed e x.worker x.act) (signallers_without t s e past (quiet_before t s x past silent))
+      | false ↦ λ h. ap (signallers_after e x.worker x.act) (signallers_without t s e past (quiet_before t s x past silent))
     ] refl
 
 component_without : (t : Tables) (s : ℕ → Bool) (e : ℕ) (past : List Entry) (w : ℕ) → AreQuiet t s past → component_at t e (without s past) w ≡ component_at t e past w
-component_without t s e past w silent = ap (place_of w) (signallers_without t s e past silent)
+component_without t s e past w silent = ap (index_of w) (signallers_without t s e past silent)
 
 comp_without : (t : Tables) (s : ℕ → Bool) (e c : ℕ) (past : List Entry) → AreQuiet t s past → component_total t e c (without s past) ≡ component_total t e c past
 unfolding component_total
@@ -120,7 +121,7 @@ cell_without t s y (x ∷ past) acc silent =
 abbrev call_without : (ℕ → Bool) → CallSoFar → CallSoFar
 call_without s call = record { op = call.op; moments = map (without s) call.moments }
 
-gone_without : (s : ℕ → Bool) (act : Act) (past : List Entry) (o : Option CallSoFar) → gone_on act (without s past) (option_map (call_without s) o) ≡ option_map (call_without s) (gone_on act past o)
+gone_without : (s : ℕ → Bool) (act : Act) (past : List Entry) (o : Option CallSoFar) → call_with_act act (without s past) (option_map (call_without s) o) ≡ option_map (call_without s) (call_with_act act past o)
 gone_without s Go past None = refl
 gone_without s Go past (Some call) = refl
 gone_without s (Advance e) past o = refl
@@ -140,16 +141,16 @@ unfolding under_way
 under_way_without s w [] h = refl
 under_way_without s w (x ∷ past) h =
     elim (s x.worker) as (λ b. s x.worker ≡ b → under_way w (cond (not b) (x ∷ without s past) (without s past))
-    ≡ option_map (call_without s) (cond (x.worker == w) (cond (is_pending x.reply) (gone_on x.act past (under_way w past)) None) (under_way w past))) [
+    ≡ option_map (call_without s) (cond (x.worker == w) (cond (is_pending x.reply) (call_with_act x.act past (under_way w past)) None) (under_way w past))) [
       | true ↦ λ k.
-          (elim (x.worker == w) as (λ b. (x.worker == w) ≡ b → under_way w (without s past) ≡ option_map (call_without s) (cond b (cond (is_pending x.reply) (gone_on x.act past (under_way w past)) None) (under_way w past))) [
+          (elim (x.worker == w) as (λ b. (x.worker == w) ≡ b → under_way w (without s past) ≡ option_map (call_without s) (cond b (cond (is_pending x.reply) (call_with_act x.act past (under_way w past)) None) (under_way w past))) [
             | true ↦ λ e. (let same : x.worker ≡ w = eqb-true x.worker w e in let yes : s w ≡ true = ap s (sym same) ∙ k in cc)
             | false ↦ λ e. under_way_without s w past h
           ] refl)
       | false ↦ λ k.
-          (elim (x.worker == w) as (λ b. cond b (cond (is_pending x.reply) (gone_on x.act (without s past) (under_way w (without s past))) None) (under_way w (without s past)) ≡ option_map (call_without s) (cond b (cond (is_pending x.reply) (gone_on x.act past (under_way w past)) None) (under_way w past))) [
-            | true ↦ ap (λ o. cond (is_pending x.reply) (gone_on x.act (without s past) o) None) (under_way_without s w past h)
-                ∙ ap (λ o. cond (is_pending x.reply) o None) (gone_without s x.act past (under_way w past)) ∙ if_without s (is_pending x.reply) (gone_on x.act past (under_way w past))
+          (elim (x.worker == w) as (λ b. cond b (cond (is_pending x.reply) (call_with_act x.act (without s past) (under_way w (without s past))) None) (under_way w (without s past)) ≡ option_map (call_without s) (cond b (cond (is_pending x.reply) (call_with_act x.act past (under_way w past)) None) (under_way w past))) [
+            | true ↦ ap (λ o. cond (is_pending x.reply) (call_with_act x.act (without s past) o) None) (under_way_without s w past h)
+                ∙ ap (λ o. cond (is_pending x.reply) o None) (gone_without s x.act past (under_way w past)) ∙ if_without s (is_pending x.reply) (call_with_act x.act past (under_way w past))
             | false ↦ under_way_without s w past h
           ])
     ] refl
@@ -173,8 +174,8 @@ unfolding read_reply
 read_without t s op past moments each silent =
     let e = event_or op in
     let same : length (map (without s) moments) ≡ length moments = length-map moments (without s) in
-    ap (λ n. cond (nat_le (width t e) (n % width t e + 1)) (round_reply op (sum_read t e (suc (n % width t e)) (without s past ∷ map (without s) moments))) Pending) same
-    ∙ ap (λ r. cond (nat_le (width t e) (next_component t e moments + 1)) (round_reply op r) Pending) (sum_without t s e (suc (next_component t e moments)) past (past ∷ moments) (past_itself past, each) silent)
+    ap (λ n. cond (nat_le (component_count t e) (n % component_count t e + 1)) (round_reply op (sum_read t e (suc (n % component_count t e)) (without s past ∷ map (without s) moments))) Pending) same
+    ∙ ap (λ r. cond (nat_le (component_count t e) (next_component t e moments + 1)) (round_reply op r) Pending) (sum_without t s e (suc (next_component t e moments)) past (past ∷ moments) (past_itself past, each) silent)
 
 go_without : (t : Tables) (s : ℕ → Bool) (past : List Entry) (o : Option CallSoFar) → IsCallBefore o past → AreQuiet t s past
     → go_reply t (without s past) (option_map (call_without s) o) ≡ go_reply t past o
@@ -230,7 +231,7 @@ already_without t s past (Ticket q) silent = refl
 already_without t s past (Put x v) silent = refl
 already_without t s past (Get x) silent = refl
 
--- the others are answered alike
+-- the others get the same answers
 pub answer_without : (t : Tables) (s : ℕ → Bool) (past : List Entry) (w : ℕ) (act : Act) → IsAccepted t past → AreQuiet t s past → s w ≡ false
     → answer_of t (without s past) w act ≡ answer_of t past w act
 unfolding answer_of
@@ -244,7 +245,7 @@ answer_without t s past w act acc silent kept =
     ∙ ap (λ b. refused_or (refusal_in t w act (is_some (under_way w past)) (has_right t past w act) (is_at_limit t past w act) b) r) (already_without t s past act silent)
     ∙ ap (refused_or (refusal_of t past w act)) (reply_without t s past w act acc silent kept)
 
--- what is left is accepted
+-- the other entries are accepted
 pub accepted_without : (t : Tables) (s : ℕ → Bool) (past : List Entry) → IsAccepted t past → AreQuiet t s past → IsAccepted t (without s past)
 accepted_without t s [] acc silent = tt
 accepted_without t s (x ∷ past) acc silent =
@@ -257,7 +258,7 @@ or_member : (a b : Bool) (P : Type 0) → (a ≡ true → P) → (b ≡ true →
 or_member true b P f g h = f refl
 or_member false b P f g h = g h
 
--- each of the listed workers is silent
+-- each of the listed workers is read-only
 pub members_silent : (t : Tables) (h : List Entry) (ws : List ℕ) → All (λ w. IsSilent t h w) ws → (w : ℕ) → is_member w ws ≡ true → IsSilent t h w
 members_silent t h [] all w is = cc
 members_silent t h (v ∷ vs) all w is =
@@ -265,7 +266,7 @@ members_silent t h (v ∷ vs) all w is =
     (λ e. subst (IsSilent t h) (eqb-true v w e) (all 0 v (omega arith)))
     (λ e. members_silent t h vs (λ k d lt. all (suc k) d (omega arith)) w e) is
 
--- what came first is the past at a moment
+-- a suffix of a reversed history is that at the moment of its length
 past_is : (h since early : List Entry) → reverse h ≡ since ++ early → past_at (length early) h ≡ early
 past_is h since early is =
     let whole : h ≡ reverse early ++ reverse since = sym (reverse-reverse h) ∙ ap reverse is ∙ reverse-append since early in
@@ -300,12 +301,12 @@ set_some w (v ∷ ws) low (suc c) lt h =
       | false ↦ λ g. set_some w ws (low + 1) c (omega arith) g
     ] h
 
-none_replaced : (w b : ℕ) (ws : List ℕ) (o : Option ℕ) → (b == w) ≡ false → place_of w ws ≡ None → place_of w (replaced o b ws) ≡ None
+none_replaced : (w b : ℕ) (ws : List ℕ) (o : Option ℕ) → (b == w) ≡ false → index_of w ws ≡ None → index_of w (replace_at o b ws) ≡ None
 none_replaced w b ws None other h = h
 none_replaced w b ws (Some c) other h = set_none w b ws 0 c other h
 
--- an act that hands nothing to a worker leaves it no signaller
-not_handed : (e v w : ℕ) (act : Act) (ws : List ℕ) → hands_to w act ≡ false → place_of w ws ≡ None → place_of w (handed e v act ws) ≡ None
+-- an act that transfers nothing to a worker leaves it no signaller
+not_handed : (e v w : ℕ) (act : Act) (ws : List ℕ) → hands_to w act ≡ false → index_of w ws ≡ None → index_of w (signallers_after e v act ws) ≡ None
 not_handed e v w (Advance f) ws other h = h
 not_handed e v w (Read f) ws other h = h
 not_handed e v w (Await f u) ws other h = h
@@ -314,21 +315,21 @@ not_handed e v w (Ticket q) ws other h = h
 not_handed e v w (Put x u) ws other h = h
 not_handed e v w (Get x) ws other h = h
 not_handed e v w (Hand f b) ws other h =
-    elim (f == e) as (λ is. place_of w (cond is (replaced (place_of v ws) b ws) ws) ≡ None) [
-      | true ↦ none_replaced w b ws (place_of v ws) other h
+    elim (f == e) as (λ is. index_of w (cond is (replace_at (index_of v ws) b ws) ws) ≡ None) [
+      | true ↦ none_replaced w b ws (index_of v ws) other h
       | false ↦ h
     ]
 
 -- an answered hand makes its receiver a signaller
 received : (t : Tables) (past : List Entry) (v w : ℕ) (act : Act) (reply : Reply) → answer_of t past v act ≡ Ok reply → hands_to w act ≡ true
-    → (e : ℕ) × (place_of w (handed e v act (signallers_at t e past)) ≡ None → ⊥)
+    → (e : ℕ) × (index_of w (signallers_after e v act (signallers_at t e past)) ≡ None → ⊥)
 received t past v w (Hand e b) reply answered is =
     let ws = signallers_at t e past in
     let k = some_of (component_at t e past v) (allowed t past v (Hand e b) reply answered).0.right in
     let within : k.0 < 0 + length ws = place_within v ws 0 k.0 k.1 in
-    let after : place_of w (cond (e == e) (replaced (place_of v ws) b ws) ws) ≡ place_of w (slice_set ws k.0 w) =
-    ap (λ same. place_of w (cond same (replaced (place_of v ws) b ws) ws)) (eq-eqb e e refl)
-    ∙ ap (λ o. place_of w (replaced o b ws)) k.1 ∙ ap (λ u. place_of w (slice_set ws k.0 u)) (eqb-true b w is) in
+    let after : index_of w (cond (e == e) (replace_at (index_of v ws) b ws) ws) ≡ index_of w (slice_set ws k.0 w) =
+    ap (λ same. index_of w (cond same (replace_at (index_of v ws) b ws) ws)) (eq-eqb e e refl)
+    ∙ ap (λ o. index_of w (replace_at o b ws)) k.1 ∙ ap (λ u. index_of w (slice_set ws k.0 u)) (eqb-true b w is) in
     (e, λ none. set_some w ws 0 k.0 (omega arith) (sym after ∙ none))
 received t past v w (Advance f) reply answered is = cc
 received t past v w (Read f) reply answered is = cc
@@ -338,7 +339,7 @@ received t past v w (Ticket q) reply answered is = cc
 received t past v w (Put x u) reply answered is = cc
 received t past v w (Get x) reply answered is = cc
 
--- a worker that something was handed to is not silent
+-- a worker that received a component is not read-only
 pub receiver_speaks : (t : Tables) (h done others : List Entry) (x : Entry) (w : ℕ) → IsAccepted t (reverse h) → done ++ x ∷ others ≡ h → hands_to w x.act ≡ true
     → IsSilent t h w → ⊥
 unfolding signallers_at
@@ -364,19 +365,19 @@ none_signalled : (t : Tables) (h : List Entry) (w : ℕ) → list_any (λ (x : E
 none_signalled t h w off e none zero = none
 none_signalled t h w off e none (suc k) = handed_none t e w k h (slice_get h k) refl (none_at w h k off) (none_signalled t h w off e none k)
 
--- who is silent by the declarations, and to whom nothing was handed, is silent
+-- a worker that is read-only by the declarations, and received no component, is read-only
 pub silent_by_entries : (t : Tables) (h : List Entry) (w : ℕ) → is_silent t w ≡ true → list_any (λ (x : Entry). hands_to w x.act) h ≡ false → IsSilent t h w
 unfolding signallers_at
 silent_by_entries t h w is off =
     let r = silent_has_none t w is in
     record { declared = r.0; signals = λ k e. none_signalled t h w off e (r.1.signals e) k; takes = r.1.takes; writes = r.1.writes }
 
--- who is silent is so by the declarations
+-- a read-only worker is so by the declarations
 pub silent_declared : (t : Tables) (h : List Entry) (w : ℕ) → IsSilent t h w → is_silent t w ≡ true
 unfolding signallers_at
 silent_declared t h w q = silent_from_none t w q.declared (record { signals = λ e. q.signals 0 e; takes = q.takes; writes = q.writes })
 
--- the silent workers of a history are quiet in its past
+-- the read-only workers of a history are quiet in it
 quiet_all : (t : Tables) (s : ℕ → Bool) (h : List Entry) → ((w : ℕ) → s w ≡ true → IsSilent t h w) → AreQuiet t s (reverse h)
 quiet_all t s h silent w is =
     let q = silent w is in
@@ -393,14 +394,14 @@ turned_end : (s : ℕ → Bool) (b : Bool) (h : List Entry) (x : Entry) → reve
 turned_end s true h x = sym (reverse-append (x ∷ []) h)
 turned_end s false h x = append-nil (reverse h)
 
--- the past without some workers is that of the history without them
+-- without some workers, the reversed history is the reverse of the history
 pub without_reverse : (s : ℕ → Bool) (h : List Entry) → without s (reverse h) ≡ reverse (without s h)
 without_reverse s [] = refl
 without_reverse s (x ∷ h) =
     ap (without s) (reverse-append (x ∷ []) h) ∙ filter_end s (reverse h) x
     ∙ ap (λ r. r ++ cond (not (s x.worker)) (x ∷ []) []) (without_reverse s h) ∙ turned_end s (not (s x.worker)) (without s h) x
 
--- a kept entry is answered as it was
+-- an entry of another worker gets the same answer
 pub kept_answer : (t : Tables) (s : ℕ → Bool) (h done others : List Entry) (x : Entry) → IsAccepted t (reverse h) → ((w : ℕ) → s w ≡ true → IsSilent t h w)
     → done ++ x ∷ others ≡ h → s x.worker ≡ false → answer_of t (reverse (without s done)) x.worker x.act ≡ Ok x.reply
 kept_answer t s h done others x acc silent is kept =

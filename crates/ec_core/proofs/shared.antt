@@ -15,7 +15,7 @@ pub mod Following
 pub mod Queue
 pub mod Reading
 pub mod Scans
-pub mod Ongoing
+pub mod PendingCallLemmas
 pub mod FittingCalls
 pub mod JoinedLists
 pub mod Breaks

@@ -48,18 +48,18 @@ is_at_limit t past w (Advance e) = option_map_or (λ c. component_total t e c pa
 is_at_limit t past w (Ticket q) = issued q past == t.limit
 is_at_limit t past w _ = false
 
--- whether the act hands over a component of an eventcount that is fixed
+-- whether the act transfers a component of a fixed eventcount
 abbrev pub is_not_handable : Tables → Act → Bool
 is_not_handable t (Hand e b) = not (may_hand t e)
 is_not_handable t _ = false
 
--- whether the worker that the act hands to signals the eventcount already
+-- whether the receiver of a hand signals the eventcount already
 abbrev pub signals_already : Tables → List Entry → Act → Bool
 signals_already t past (Hand e b) = is_some (component_at t e past b)
 signals_already t past _ = false
 
--- the first refusal whose test holds, given whether a call of w is pending, whether w has the right, whether the
--- count is at its limit, and whether the worker that the act hands to signals already
+-- the first refusal whose test holds, given whether a call of w is pending, whether w has the
+-- right, whether the count is at its limit, and whether the receiver of a hand signals already
 abbrev pub refusal_in : Tables → ℕ → Act → Bool → Bool → Bool → Bool → Option Refusal
 refusal_in t w act busy right at_limit already = first_that (
     (nat_le t.workers w, UnknownWorker)
@@ -73,7 +73,7 @@ refusal_in t w act busy right at_limit already = first_that (
     ∷ (already, AlreadySignals)
     ∷ [])
 
--- the refusal of an act of w at the end of a past
+-- the refusal of an act of w after the reversed history past
 abbrev pub refusal_of : Tables → List Entry → ℕ → Act → Option Refusal
 refusal_of t past w act = refusal_in t w act (is_some (under_way w past)) (has_right t past w act) (is_at_limit t past w act) (signals_already t past act)
 
@@ -92,11 +92,11 @@ abbrev pub refused_or : {X : Type 0} → Option Refusal → X → Result X Refus
 refused_or None x = Ok x
 refused_or (Some r) x = Err r
 
--- the refusal, else the right reply
+-- the refusal, otherwise the right reply
 unfoldable pub answer_of : Tables → List Entry → ℕ → Act → Result Reply Refusal
 answer_of t past w act = refused_or (refusal_of t past w act) (reply_of t past w act)
 
--- each entry was answered so at its own moment
+-- each entry has the answer to its act at its own moment
 abbrev pub IsAccepted : Tables → List Entry → Type 0
 IsAccepted t [] = Unit {0}
 IsAccepted t (x ∷ past) = (answer_of t past x.worker x.act ≡ Ok x.reply) × IsAccepted t past

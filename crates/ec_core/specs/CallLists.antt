@@ -1,10 +1,10 @@
--- Written lists of calls, and the acts that stand in them.
+-- Written lists of calls, and the acts in them.
 use Rattle.std.specs.Prelude.{ℕ, Bool, true, false, ◌==◌, ◌&&◌, not, List, Option, Some, None, is_some}
 use Rattle.ec_core.specs.declared.act.Act.{Act}
 use Rattle.ec_core.specs.declared.act.Act.TheVariants.{Advance, Read, Await, Go, Ticket, Put, Get, Hand}
 use Rattle.ec_core.specs.declared.act.Reply.{Reply}
 use Rattle.ec_core.specs.declared.act.Reply.TheVariants.{Number}
-use Rattle.ec_core.specs.Following.{Told, Rule}
+use Rattle.ec_core.specs.Following.{CompletedCall, Rule}
 
 abbrev pub is_act : Act → Act → Bool
 is_act (Advance e) (Advance f) = e == f
@@ -22,13 +22,13 @@ is_due None act = false
 is_due (Some due) act = is_act due act
 
 -- the act, with 0 for the value that it puts
-abbrev pub unvalued : Act → Act
-unvalued (Put x v) = Put x 0
-unvalued act = act
+abbrev pub without_value : Act → Act
+without_value (Put x v) = Put x 0
+without_value act = act
 
-abbrev pub number_of : Reply → ℕ
-number_of (Number n) = n
-number_of _ = 0
+abbrev pub reply_number : Reply → ℕ
+reply_number (Number n) = n
+reply_number _ = 0
 
 -- whether an act names one of these objects
 abbrev pub is_among : (ℕ → Bool) → (ℕ → Bool) → (ℕ → Bool) → Act → Bool
@@ -42,9 +42,9 @@ is_among events sequencers cells (Get x) = cells x
 is_among events sequencers cells (Hand e b) = events e
 
 -- the rule of a written list, given as the call that comes after these
-abbrev pub rule_of : (Act → Bool) → (List Told → Option Act) → Rule
+abbrev pub rule_of : (Act → Bool) → (List CompletedCall → Option Act) → Rule
 rule_of is_on list = record {
   concerns = λ b op. is_on op;
-  fits = λ b op. is_due (list b) (unvalued op);
+  fits = λ b op. is_due (list b) (without_value op);
   ends = λ b. not (is_some (list b));
 }

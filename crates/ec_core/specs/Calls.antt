@@ -1,5 +1,6 @@
--- Pending calls. A worker's entries are cut, in order, into calls: a read or an await goes on with that worker's
--- following goes, up to its first entry whose reply is not Pending; every other act is a call of one entry.
+-- Pending calls. A worker's entries are cut, in order, into calls: a read or an await continues
+-- with the worker's next goes, up to its first entry whose reply is not Pending; every other act is
+-- a call of one entry.
 use Rattle.std.specs.Prelude.{ℕ, Bool, true, false, ◌==◌, ◌&&◌, List, [], ◌∷◌, Option, Some, None, if◌then◌else◌}
 use Rattle.ec_core.specs.declared.act.Act.{Act}
 use Rattle.ec_core.specs.declared.act.Act.TheVariants.{Go}
@@ -15,29 +16,31 @@ abbrev pub is_go : Act → Bool
 is_go Go = true
 is_go _ = false
 
--- whether an entry goes on with a call, and does not end it
-abbrev pub goes_on : Entry → Bool
-goes_on x = is_go x.act && is_pending x.reply
+-- whether an entry continues a call, and does not end it
+abbrev pub is_intermediate : Entry → Bool
+is_intermediate x = is_go x.act && is_pending x.reply
 
--- a call so far: the act that began it, and the past of each of its entries, the newest first
+-- a call so far: the act that began it, and for each of its entries, the newest first, the reversed
+-- history before it
 pub record CallSoFar : Type 0 where
   pub op : Act
   pub moments : List (List Entry)
 
--- the call after an act at the end of a past: a go goes on with the call, and any other act begins one
-abbrev pub gone_on : Act → List Entry → Option CallSoFar → Option CallSoFar
-gone_on Go past None = None
-gone_on Go past (Some call) = Some (record { op = call.op; moments = past ∷ call.moments })
-gone_on act past call = Some (record { op = act; moments = past ∷ [] })
+-- the call after an act that follows the reversed history past: a go continues the call, and any
+-- other act begins one
+abbrev pub call_with_act : Act → List Entry → Option CallSoFar → Option CallSoFar
+call_with_act Go past None = None
+call_with_act Go past (Some call) = Some (record { op = call.op; moments = past ∷ call.moments })
+call_with_act act past call = Some (record { op = act; moments = past ∷ [] })
 
--- the call of w that is pending after a past: none if its latest entry was told more than Pending
+-- the call of w that is pending after past: none if the reply of its latest entry is not Pending
 unfoldable pub under_way : ℕ → List Entry → Option CallSoFar
 under_way w [] = None
 under_way w (x ∷ past) =
     if x.worker == w
-    then (if is_pending x.reply then gone_on x.act past (under_way w past) else None)
+    then (if is_pending x.reply then call_with_act x.act past (under_way w past) else None)
     else under_way w past
 
--- the call so far that an entry at the end of a past belongs to, with this entry
+-- the call so far that an entry after past belongs to, with this entry
 abbrev pub call_with : Entry → List Entry → Option CallSoFar
-call_with x past = gone_on x.act past (under_way x.worker past)
+call_with x past = call_with_act x.act past (under_way x.worker past)

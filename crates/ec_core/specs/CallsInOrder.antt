@@ -11,13 +11,13 @@ use Rattle.ec_core.specs.Calls.{CallSoFar, is_go}
 abbrev pub is_own_at : ℕ → List Entry → ℕ → Bool
 is_own_at w h i = option_map_or (λ (x : Entry). x.worker == w) (slice_get h i) false
 
--- the pasts of w's entries from position first up to moment k, the newest first
+-- the reversed histories before w's entries from position first up to moment k, the newest first
 unfoldable pub own_moments : ℕ → List Entry → ℕ → ℕ → List (List Entry)
 own_moments w h first zero = []
 own_moments w h first (suc k) = if nat_le first k && is_own_at w h k then past_at k h ∷ own_moments w h first k else own_moments w h first k
 
--- the call of w that is pending at moment k: the entry at first began it, and is no go; w's entries after it went on
--- with it; each was told Pending; and these are their pasts
+-- the call of w that is pending at moment k: the entry at first began it, and is no go; w's entries
+-- after it continued it; each reply is Pending; and the moments are those of these entries
 pub record IsUnderWay (w : ℕ) (h : List Entry) (k : ℕ) (call : CallSoFar) : Type 0 where
   pub first : ℕ
   pub opening : Entry

@@ -1,14 +1,14 @@
--- The counts of a history. A past is the list of the entries before a moment, the newest first, so that each
--- entry stands before its own past: the past at moment k is the first k entries, turned round. (Reed and
--- Kanodia: the value of an eventcount is the number of its advances.)
+-- The counts of a history. The history so far is given reversed, as past: the entries before a
+-- moment, the newest first, so that each entry is followed by those before it. (Reed and Kanodia:
+-- the value of an eventcount is the number of its advances.)
 use Rattle.std.specs.Prelude.{ℕ, ◌+◌, Bool, false, ◌==◌, ◌&&◌, List, [], ◌∷◌, zero, suc, reverse, take, Option, Some, None, if◌then◌else◌, unwrap_or, slice_get, slice_set}
 use Rattle.ec_count.specs.Tables.{Tables, signallers}
-use Rattle.ec_count.specs.Members.{place_of}
+use Rattle.ec_count.specs.Members.{index_of}
 use Rattle.ec_core.specs.declared.act.Act.{Act}
 use Rattle.ec_core.specs.declared.act.Act.TheVariants.{Advance, Read, Await, Go, Ticket, Put, Get, Hand}
 use Rattle.ec_core.specs.declared.act.Entry.{Entry}
 
--- the past at moment k of a history, which is in natural order
+-- the history h, which is in order of time, up to moment k: its first k entries, reversed
 abbrev pub past_at : ℕ → List Entry → List Entry
 past_at k h = reverse (take k h)
 
@@ -25,32 +25,32 @@ unfoldable pub total : ℕ → List Entry → ℕ
 total e [] = 0
 total e (x ∷ past) = (if is_advance e x.act then 1 else 0) + total e past
 
--- the worker that an act hands its component of e to
+-- the worker to which an act transfers its component of e
 abbrev pub hand_of : ℕ → Act → Option ℕ
 hand_of e (Hand f b) = if f == e then Some b else None
 hand_of e _ = None
 
--- the list with b in a place
-abbrev pub replaced : Option ℕ → ℕ → List ℕ → List ℕ
-replaced None b ws = ws
-replaced (Some c) b ws = slice_set ws c b
+-- the list with b at a position
+abbrev pub replace_at : Option ℕ → ℕ → List ℕ → List ℕ
+replace_at None b ws = ws
+replace_at (Some c) b ws = slice_set ws c b
 
--- the signallers of e after an act of w, if they were ws before it: if w is one of them, a hand of e to b puts b
--- in its place
-abbrev pub handed : ℕ → ℕ → Act → List ℕ → List ℕ
-handed e w (Advance f) ws = ws
-handed e w (Read f) ws = ws
-handed e w (Await f v) ws = ws
-handed e w Go ws = ws
-handed e w (Ticket q) ws = ws
-handed e w (Put x v) ws = ws
-handed e w (Get x) ws = ws
-handed e w (Hand f b) ws = if f == e then replaced (place_of w ws) b ws else ws
+-- the signallers of e after an act of w, if they were ws before it: if w is one of them, a hand of
+-- e to b replaces it by b
+abbrev pub signallers_after : ℕ → ℕ → Act → List ℕ → List ℕ
+signallers_after e w (Advance f) ws = ws
+signallers_after e w (Read f) ws = ws
+signallers_after e w (Await f v) ws = ws
+signallers_after e w Go ws = ws
+signallers_after e w (Ticket q) ws = ws
+signallers_after e w (Put x v) ws = ws
+signallers_after e w (Get x) ws = ws
+signallers_after e w (Hand f b) ws = if f == e then replace_at (index_of w ws) b ws else ws
 
--- the signallers of e at the end of a past, in order of component: the declared ones, as they were handed on
+-- the signallers of e after past, in order of component: the declared ones, as hands replaced them
 unfoldable pub signallers_at : Tables → ℕ → List Entry → List ℕ
 signallers_at t e [] = signallers t e
-signallers_at t e (x ∷ past) = handed e x.worker x.act (signallers_at t e past)
+signallers_at t e (x ∷ past) = signallers_after e x.worker x.act (signallers_at t e past)
 
 -- the worker that signals component c of e then
 abbrev pub signaller_at : Tables → ℕ → List Entry → ℕ → Option ℕ
@@ -58,7 +58,7 @@ signaller_at t e past c = slice_get (signallers_at t e past) c
 
 -- the component of e that w signals then
 abbrev pub component_at : Tables → ℕ → List Entry → ℕ → Option ℕ
-component_at t e past w = place_of w (signallers_at t e past)
+component_at t e past w = index_of w (signallers_at t e past)
 
 abbrev pub is_place : ℕ → Option ℕ → Bool
 is_place c None = false

@@ -1,11 +1,11 @@
--- What an audit is, once all entries of a history were handed to it.
+-- What an audit is after all entries of a history.
 use Rattle.std.specs.Prelude.{List, reverse}
 use Rattle.ec_count.specs.Tables.{Tables, IsDeclared}
 use Rattle.ec_core.specs.declared.act.Entry.{Entry}
 use Rattle.ec_core.specs.Acceptance.{IsAccepted}
 
--- the entries are those of an accepted history, in their order, and this is so after them
+-- h is an accepted history, and P holds after it
 pub record EndsAt (t : Tables) (P : List Entry → Type 0) (h : List Entry) : Type 0 where
   pub declared : IsDeclared t
   pub accepted : IsAccepted t (reverse h)
-  pub stands : P (reverse h)
+  pub represents : P (reverse h)

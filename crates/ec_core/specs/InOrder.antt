@@ -9,7 +9,8 @@ use Rattle.ec_core.specs.Counts.{past_at, is_advance, is_place, component_at, pu
 abbrev pub advances_at : Tables → ℕ → ℕ → List Entry → ℕ → ℕ
 advances_at t e c h i = option_map_or (λ (x : Entry). if is_advance e x.act && is_place c (component_at t e (past_at i h) x.worker) then 1 else 0) (slice_get h i) 0
 
--- the worker that entry i hands component c of e to: it hands e over, and its worker signals c at moment i
+-- the worker to which entry i transfers component c of e: the entry is a hand of e, and its worker
+-- signals c at moment i
 abbrev pub handed_at : Tables → ℕ → ℕ → List Entry → ℕ → Option ℕ
 handed_at t e c h i =
     option_and_then (λ (x : Entry). if is_place c (component_at t e (past_at i h) x.worker) then hand_of e x.act else None) (slice_get h i)
@@ -18,14 +19,15 @@ handed_at t e c h i =
 abbrev pub put_at : ℕ → List Entry → ℕ → Option ℕ
 put_at x h i = option_and_then (λ (y : Entry). put_in x y.act) (slice_get h i)
 
--- v was the last value put into cell x before moment k: by an entry i, and by none from there on
+-- v was the last value put into cell x before moment k: by an entry i, and by none after it
 pub record IsLastPut (x : ℕ) (h : List Entry) (k v : ℕ) : Type 0 where
   pub i : ℕ
   pub before : i < k
   pub put : put_at x h i ≡ Some v
   pub none_since : (j : ℕ) → i < j → j < k → put_at x h j ≡ None
 
--- component c of e was last handed to b before moment k: by an entry i, and by none from there on
+-- component c of e was last transferred to the signaller before moment k: by an entry i, and by
+-- none after it
 pub record IsLastHand (t : Tables) (e c : ℕ) (h : List Entry) (k : ℕ) (signaller : Option ℕ) : Type 0 where
   pub i : ℕ
   pub receiver : ℕ
@@ -34,7 +36,7 @@ pub record IsLastHand (t : Tables) (e c : ℕ) (h : List Entry) (k : ℕ) (signa
   pub none_since : (j : ℕ) → i < j → j < k → handed_at t e c h j ≡ None
   pub is : signaller ≡ Some receiver
 
--- component c of e was not handed over before moment k, and the signaller is the declared one
+-- component c of e was not transferred before moment k, and the signaller is the declared one
 pub record IsUnhanded (t : Tables) (e c : ℕ) (h : List Entry) (k : ℕ) (signaller : Option ℕ) : Type 0 where
   pub none : (i : ℕ) → i < k → handed_at t e c h i ≡ None
   pub is : signaller ≡ signaller_at t e [] c

@@ -8,9 +8,9 @@ pub mod Progress
 pub mod Standing
 pub mod Signallers
 pub mod Fields
-pub mod Recorded
-pub mod Segmented
-pub mod Stored
+pub mod RunModel
+pub mod Segments
+pub mod Packed
 pub mod Faults
 pub mod Refusals
 pub mod Values
@@ -22,7 +22,7 @@ pub mod Following
 pub mod CallLists
 pub mod Procedures
 pub mod JoinedLists
-pub mod Ongoing
+pub mod PendingCalls
 pub mod Scanning
 pub mod Audits
 pub mod FallenShort

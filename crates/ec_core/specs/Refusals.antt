@@ -3,7 +3,7 @@ use Rattle.std.specs.Prelude.{ℕ, List, codes}
 use Rattle.ec_core.specs.declared.act.Refusal.{Refusal}
 use Rattle.ec_core.specs.declared.act.Refusal.TheVariants.{UnknownWorker, Busy, Idle, UnknownObject, NoRight, ValueTooLarge, AtLimit, NotHandable, AlreadySignals}
 
--- the place of a refusal in their order, from 1
+-- the position of a refusal in their order, from 1
 abbrev pub refusal_number : Refusal → ℕ
 refusal_number UnknownWorker = 1
 refusal_number Busy = 2

@@ -1,30 +1,32 @@
--- What a walk over the entries of a run keeps of each worker.
+-- The state of a pass over the entries of a run for one group.
 use Rattle.std.specs.Prelude.{◌≡◌, ◌↔◌, ℕ, ◌<◌, List, Option, Some, None, Result, IsOk, IfErr, slice_get, reverse}
 use Rattle.ec_core.specs.declared.act.Entry.{Entry}
-use Rattle.ec_core.specs.declared.protocol.Kept.{Kept}
+use Rattle.ec_core.specs.declared.protocol.ListProgress.{ListProgress}
 use Rattle.ec_core.specs.declared.audit.AuditFault.{AuditFault}
 use Rattle.ec_core.specs.Audits.{IsFirstBreak}
-use Rattle.ec_core.specs.Following.{Told, Rule, block, Follow}
+use Rattle.ec_core.specs.Following.{CompletedCall, Rule, block, Follow}
 
--- by worker, what is kept of its list after a past
-abbrev pub AreKept : (ℕ → Rule) → (List Told → Kept) → List Kept → List Entry → Type 0
-AreKept rules keeps kept past = (w : ℕ) → w < 16 → slice_get kept w ≡ Some (keeps (block (rules w) w past))
+-- the progress of each worker in its list after past
+abbrev pub AreListProgress : (ℕ → Rule) → (List CompletedCall → ListProgress) → List ListProgress
+    → List Entry → Type 0
+AreListProgress rules keeps kept past = (w : ℕ) → w < 16 → slice_get kept w ≡ Some (keeps (block (rules w) w past))
 
--- what was found of a past: it follows, or this is the first entry that breaks the lists
+-- what was found of past: it conforms, or this is the first violation
 abbrev pub IsFinding : (ℕ → Rule) → Option AuditFault → List Entry → Type 0
 IsFinding rules None past = Follow rules past
 IsFinding rules (Some fault) past = IsFirstBreak rules (reverse past) fault
 
--- what a walk keeps of a group: by worker, what is kept of its list; and what was found
-pub record Tracked : Type 0 where
-  pub kept : List Kept
+-- the state of the pass: the progress of each worker in its list, and what was found
+pub record TrackerModel : Type 0 where
+  pub kept : List ListProgress
   pub fault : Option AuditFault
 
--- it is that after a past
-pub record IsTracked (rules : ℕ → Rule) (keeps : List Told → Kept) (tracked : Tracked) (past : List Entry) : Type 0 where
-  pub lists : AreKept rules keeps tracked.kept past
+-- it is the state after past
+pub record IsTrackerModel (rules : ℕ → Rule) (keeps : List CompletedCall → ListProgress) (tracked : TrackerModel) (past : List Entry) : Type 0 where
+  pub lists : AreListProgress rules keeps tracked.kept past
   pub finding : IsFinding rules tracked.fault past
 
--- what was found of the entries of a history, in their order: they follow, or this is the first that breaks the lists
+-- what was found of a history, which is in order of time: it conforms, or this is the first
+-- violation
 abbrev pub Finds : (ℕ → Rule) → List Entry → Result (Unit {0}) AuditFault → Type 0
 Finds rules h r = (IsOk r ↔ Follow rules (reverse h)) × IfErr r (IsFirstBreak rules h)

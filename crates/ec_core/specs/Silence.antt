@@ -13,11 +13,11 @@ pub record IsSilent (t : Tables) (h : List Entry) (w : ℕ) : Type 0 where
   pub takes : (q : ℕ) → may_take t q w ≡ false
   pub writes : (x : ℕ) → may_write t x w ≡ false
 
--- whether an act hands a component to w
+-- whether an act transfers a component to w
 abbrev pub hands_to : ℕ → Act → Bool
 hands_to w (Hand e b) = b == w
 hands_to w _ = false
 
--- the entries, in the order that they stand in, without those of the workers in s
+-- the entries, in their order, without those of the workers in s
 abbrev pub without : (ℕ → Bool) → List Entry → List Entry
 without s entries = filter (λ x. not (s x.worker)) entries

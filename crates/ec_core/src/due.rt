@@ -1,6 +1,6 @@
 //! The act that is due.
 ghost use Rattle.std.specs.Prelude.{◌≡◌};
-ghost use Rattle.ec_core.specs.CallLists.{is_act, is_due, unvalued};
+ghost use Rattle.ec_core.specs.CallLists.{is_act, is_due, without_value};
 
 use crate::Act;
 
@@ -21,9 +21,9 @@ fn is_act(a: &Act, b: &Act) -> bool
     }
 }
 
-/// Returns whether the act is the one that is due. The value of a put is free.
+/// Returns whether the act is the one that is due. A put may have any value.
 pub fn is_due(due: &Option<Act>, act: &Act) -> bool
-    ensures { result ≡ is_due due.now (unvalued act.now) }
+    ensures { result ≡ is_due due.now (without_value act.now) }
 {
     match due {
         None => false,

@@ -1,37 +1,37 @@
-//! What a right step comes to.
+//! The effect of a step that is not refused.
 ghost use Rattle.std.specs.Prelude.{◌≡◌};
-ghost use Rattle.ec_core.specs.Fields.{told, as_first};
+ghost use Rattle.ec_core.specs.Fields.{reply_of_effect, as_first};
 
 use crate::under_way::Round;
 use crate::{Reply, UnderWay};
 use ec_count::{CellId, EventId, SeqId, WorkerId};
 
-/// What a step that nothing refuses comes to: the change of a world, and with it the reply.
+/// The effect of a step that is not refused: how it changes a world, and so its reply.
 #[derive(Clone, Copy)]
 pub(crate) enum Effect {
     /// The component of the eventcount rises by one.
     Raise(EventId, usize),
-    /// The first component of a call is read, which is left pending so.
+    /// The first component of this call is read, which is then pending.
     Begin(UnderWay),
-    /// A component is read of the pending call, whose round has come so far then.
+    /// A component is read by the pending call, whose round then has this progress.
     GoOn(Round),
-    /// The last component of a call is read: the sum, and no call is left pending.
+    /// The last component of a call is read: the sum is returned, and no call is pending then.
     End(u64),
     /// The sequencer's ticket of this number is drawn.
     Draw(SeqId, u64),
     /// The value is written into the cell.
     Put(CellId, u64),
-    /// A cell is read that holds this.
+    /// A cell with this value is read.
     Get(u64),
-    /// The worker's component of the eventcount goes to this one.
+    /// The worker's component of the eventcount is transferred to this worker.
     Hand(EventId, WorkerId),
 }
 
 impl Effect {
-    /// Returns what the worker is told.
+    /// Returns the reply to the worker.
     #[inline(always)]
     pub(crate) fn reply(self) -> Reply
-        ensures { result ≡ told self }
+        ensures { result ≡ reply_of_effect self }
     {
         match self {
             Effect::Raise(_, _) | Effect::Put(_, _) | Effect::Hand(_, _) => Reply::Done,
@@ -42,8 +42,7 @@ impl Effect {
         }
     }
 
-    /// Returns what a read comes to as the first of this call, given what it would come to in a
-    /// pending call.
+    /// Returns the effect of the first read of this call, given that of a read in a pending call.
     #[inline(always)]
     pub(crate) fn as_first(self, call: &UnderWay) -> Effect
         ensures { result ≡ as_first call.now self }

@@ -2,20 +2,22 @@
 ghost use Rattle.std.specs.Prelude.{◌≡◌, ◌+◌, ◌^◌, ◌<◌, ◌∷◌, ◌++◌, [], None, Some, drop, slice_get, IfSome};
 ghost use Rattle.std.specs.List.{flat_map};
 ghost use Rattle.std.specs.Option.{IfNone};
-ghost use Rattle.ec_core.specs.Segmented.{joined};
+ghost use Rattle.ec_core.specs.Segments.{concat_segments};
 
 use crate::Entry;
-use crate::segment::{Kept, Segment};
+use crate::segment::{EntryIter, Segment};
 use std::marker::Model;
 
-/// An iterator over the entries of a run or of another list, in order. A contract sees it as the list of those that
-/// are left: those of a segment, and those of the segments behind it.
+/// An iterator over the entries of a run or of another list, in order.
+///
+/// In contracts it is the list of the entries that are left: those of a segment, then those of the
+/// segments after it.
 #[derive(Drop)]
 pub struct Entries<'a> {
     full: &'a [Segment],
     last: &'a Segment,
     begun: usize,
-    left: Kept<'a>,
+    left: EntryIter<'a>,
 }
 
 impl<'a> Model for Entries<'a> {
@@ -31,17 +33,17 @@ impl<'a> Model for Entries<'a> {
 impl<'a> Entries<'a> {
     /// Returns all entries of some segments.
     pub(crate) fn of(full: &'a [Segment], last: &'a Segment) -> Self
-        ensures { result ≡ joined full.now last.now }
+        ensures { result ≡ concat_segments full.now last.now }
     {
         Entries {
             full,
             last,
             begun: 0,
-            left: Kept::none(),
+            left: EntryIter::none(),
         }
     }
 
-    /// Returns the next of them, which is still the next one then.
+    /// Returns the next entry without advancing the iterator; `None` if no entry is left.
     #[inline(always)]
     pub fn peek(&self) -> Option<Entry>
         ensures { result ≡ slice_get self.now 0 }
@@ -50,11 +52,12 @@ impl<'a> Entries<'a> {
     }
 }
 
-/// Returns the first of the entries that are left. (It is handed their parts, so that these may
-/// stand in registers if they are gone on with.)
+/// Returns the first of the entries that are left.
+///
+/// Its arguments are the parts of an iterator, so that these may stay in registers in a loop.
 #[cold]
 #[inline(never)]
-fn first_entry(full: &[Segment], last: &Segment, begun: usize, left: Kept<'_>) -> Option<Entry>
+fn first_entry(full: &[Segment], last: &Segment, begun: usize, left: EntryIter<'_>) -> Option<Entry>
     ensures { result ≡ slice_get (left.entry ++ flat_map (λ xs. xs) (drop begun (full.now ++ last.now ∷ []))) 0 }
 {
     let mut entries = Entries {
@@ -90,7 +93,7 @@ impl<'a> Iterator for Entries<'a> {
     }
 }
 
-/// Returns the segment at a place, counted from 0, of which the last stands behind the full ones.
+/// Returns the segment at a position, counted from 0. The last one comes after the full ones.
 fn segment_at<'a>(full: &'a [Segment], last: &'a Segment, place: usize) -> Option<&'a Segment>
     ensures some { IfSome result (λ segment. slice_get (full.now ++ last.now ∷ []) place ≡ Some segment.now) }
     ensures within { IfSome result (λ _. place + 1 < 2 ^ 64) }

@@ -1,33 +1,33 @@
-//! What a step asks of a setup and of the arrays of a world, and what it does to them.
+//! What a step reads of a setup and of the arrays of a world, and how it changes them.
 ghost use Rattle.std.specs.Prelude.{◌≡◌, ℕ, false, ◌<◌, ◌≤◌, length, slice_get, Some};
-ghost use Rattle.ec_count.specs.Counted.{raised};
+ghost use Rattle.ec_count.specs.CountModel.{count_up};
 ghost use Rattle.ec_count.specs.Tables.{signallers};
 ghost use Rattle.ec_core.specs.Acceptance.{is_too_large};
-ghost use Rattle.ec_core.specs.Rounds.{event_or, width};
+ghost use Rattle.ec_core.specs.Rounds.{component_count};
 ghost use Rattle.ec_core.specs.Counts.{sum_to};
 ghost use Rattle.ec_core.specs.Standing.{count_at};
-ghost use Rattle.ec_core.specs.Fields.{value_of, changed_at};
+ghost use Rattle.ec_core.specs.Fields.{count_value, map_at};
 
 use crate::signallers::Signallers;
 use crate::{Act, VALUE_MAX};
 use ec_count::{Count, EventId, Setup};
 
 /// Returns the declared signallers of an eventcount.
-fn declared_for(setup: &Setup, event: EventId) -> Signallers
+fn signallers_of_event(setup: &Setup, event: EventId) -> Signallers
     ensures { result ≡ signallers setup.now event }
 {
-    setup.known();
+    setup.invariant();
     Signallers::new(setup.signallers(event))
 }
 
 /// Returns the declared signallers of each eventcount.
-pub(crate) fn declared(setup: &Setup) -> [Signallers; 32]
+pub(crate) fn declared_signallers(setup: &Setup) -> [Signallers; 32]
     ensures { (e : ℕ) → e < 32 → slice_get result e ≡ Some (signallers setup.now e) }
 {
     let mut signal: [Signallers; 32] = Default::default();
     for e in 0..32 {
         if let Some(event) = EventId::new(e) {
-            signal[e] = declared_for(setup, event);
+            signal[e] = signallers_of_event(setup, event);
         }
     }
     signal
@@ -44,27 +44,15 @@ pub(crate) fn is_too_large(act: &Act) -> bool
     }
 }
 
-/// Returns the eventcount that an act names, and the first one for an act that names none.
-pub(crate) fn event_or(op: Act) -> EventId
-    ensures { result ≡ event_or op }
-{
-    match op {
-        Act::Advance(event) | Act::Read(event) | Act::Await(event, _) => event,
-        Act::Go | Act::Ticket(_) | Act::Put(_, _) | Act::Get(_) | Act::Hand(_, _) => {
-            EventId::new(0).unwrap()
-        }
-    }
-}
-
 /// Returns how many components the eventcount has; 0 if it is not declared.
-pub(crate) fn width(setup: &Setup, event: EventId) -> usize
-    ensures value { result ≡ width setup.now event }
+pub(crate) fn component_count(setup: &Setup, event: EventId) -> usize
+    ensures value { result ≡ component_count setup.now event }
     ensures few { result ≤ 16 }
 {
     setup.components(event).unwrap_or(0)
 }
 
-/// Returns component c of eventcount e.
+/// Returns the count of a component of an eventcount.
 pub(crate) fn count_in(counts: &[[Count; 16]; 32], event: usize, component: usize) -> Count
     requires event { event < 32 }
     requires component { component < 16 }
@@ -74,9 +62,9 @@ pub(crate) fn count_in(counts: &[[Count; 16]; 32], event: usize, component: usiz
     row[component]
 }
 
-/// Adds one at a place, if there is such a place.
+/// Adds one to the count at a position, if there is one and it is below its limit.
 pub(crate) fn raise_at(counts: &mut [Count], place: usize)
-    ensures { counts.new ≡ changed_at raised counts.old place }
+    ensures { counts.new ≡ map_at count_up counts.old place }
 {
     if place < counts.len() {
         let count = &mut counts[place];
@@ -84,28 +72,28 @@ pub(crate) fn raise_at(counts: &mut [Count], place: usize)
     }
 }
 
-/// Adds one to component c of eventcount e.
+/// Adds one to a component of an eventcount, if it is below its limit.
 pub(crate) fn raise_in(counts: &mut [[Count; 16]; 32], event: usize, component: usize)
     requires { event < 32 }
-    ensures { counts.new ≡ changed_at (λ row. changed_at raised row component) counts.old event }
+    ensures { counts.new ≡ map_at (λ row. map_at count_up row component) counts.old event }
 {
     let row = &mut counts[event];
     raise_at(row, component);
 }
 
 /// Returns the count of a sequencer.
-pub(crate) fn count_of(counts: &[Count; 32], sequencer: usize) -> Count
+pub(crate) fn ticket_count(counts: &[Count; 32], sequencer: usize) -> Count
     requires { sequencer < 32 }
     ensures { slice_get counts.now sequencer ≡ Some result }
 {
     counts[sequencer]
 }
 
-/// Returns the sum of the first counts of an eventcount.
-pub(crate) fn sum_of(counts: &[[Count; 16]; 32], event: usize, width: usize) -> u64
+/// Returns the sum of the first `width` components of an eventcount.
+pub(crate) fn component_sum(counts: &[[Count; 16]; 32], event: usize, width: usize) -> u64
     requires event { event < 32 }
     requires width { width ≤ 16 }
-    ensures { result ≡ sum_to (λ c. value_of (count_at counts.now event c)) width }
+    ensures { result ≡ sum_to (λ c. count_value (count_at counts.now event c)) width }
 {
     let mut sum = 0u64;
     for component in 0..width {
@@ -115,14 +103,7 @@ pub(crate) fn sum_of(counts: &[[Count; 16]; 32], event: usize, width: usize) -> 
     sum
 }
 
-/// Returns an array with the same element everywhere.
-pub(crate) fn all_alike<T: Copy, const N: usize>(x: T) -> [T; N]
-    ensures { (i : ℕ) → i < N → slice_get result i ≡ Some x }
-{
-    [x; N]
-}
-
-/// Returns the same array again.
+/// Returns a copy of the array.
 pub(crate) fn same_again<T: Copy, const N: usize>(xs: &[T; N]) -> [T; N]
     ensures { result ≡ xs.now }
 {

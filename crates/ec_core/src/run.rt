@@ -14,7 +14,7 @@ use std::alloc::{AllocError, Global};
 use std::marker::Model;
 use thiserror::Error;
 
-/// Returns whether the act hands a component to the worker.
+/// Returns whether the act transfers a component to the worker.
 fn hands_to(act: &Act, worker: WorkerId) -> bool
     ensures { result ≡ hands_to worker act.now }
 {
@@ -24,20 +24,21 @@ fn hands_to(act: &Act, worker: WorkerId) -> bool
     }
 }
 
-/// Why a run made no step. After either everything is as before.
+/// Why a run made no step. In both cases nothing has changed.
 #[derive(Clone, Copy, Debug, PartialEq, Eq, Error)]
 pub enum StepFault {
     /// The step is refused.
     #[error("the step is refused: {0}")]
     Refused(Refusal),
-    /// The step is right, and there was no memory for its entry.
+    /// The step is not refused, and an allocation for its entry failed.
     #[error("there was no memory for the step's entry")]
     Memory,
 }
 
-/// A world and the history that it stands for: each entry was answered at its own moment as the
-/// definition of an accepted history says. The entries are kept in segments: so a step that is
-/// recorded moves none of them, but for the numbers of the last segment if these need more room.
+/// A world and the accepted history that it represents.
+///
+/// The entries are stored in segments, so a step that is recorded moves none of them. Only the
+/// numbers of the last segment may move, if they need more room.
 #[derive(Drop)]
 pub struct Run {
     world: World,
@@ -45,9 +46,9 @@ pub struct Run {
 }
 
 impl Model for Run {
-    ghost use Rattle.ec_core.specs.Recorded.{Recorded};
+    ghost use Rattle.ec_core.specs.RunModel.{RunModel};
 
-    ghost Value = { Recorded };
+    ghost Value = { RunModel };
 
     ghost use Rattle.ec_core.specs.Standing.{StandsFor};
 
@@ -59,8 +60,7 @@ impl Model for Run {
 impl Run {
     ghost use Rattle.ec_core.specs.Faults.{IsFaultOf};
 
-    /// Makes a run without entries on these declarations, which are dropped if there is no
-    /// memory.
+    /// Makes a run without entries on these declarations, which are dropped if an allocation fails.
     pub fn open(alloc: Global, setup: Setup) -> Result<Self, AllocError>
         ensures { IfOk result (λ run. run ≡ record { setup = setup; entries = [] }) }
     {
@@ -72,7 +72,7 @@ impl Run {
     }
 
     /// States what is true of a run: it is on sound declarations, and its history is accepted.
-    pub fn known(&self)
+    pub fn invariant(&self)
         ensures declared { IsDeclared self.now.setup }
         ensures accepted { IsAccepted self.now.setup (reverse self.now.entries) }
     {
@@ -88,7 +88,7 @@ impl Run {
 
     /// Returns the state after its entries.
     pub fn world(&self) -> &World
-        ensures stands { StandsFor result.now self.now.entries }
+        ensures represents { StandsFor result.now self.now.entries }
         ensures setup { result.now.setup ≡ self.now.setup }
     {
         &self.world
@@ -101,7 +101,7 @@ impl Run {
         self.entries.len()
     }
 
-    /// Returns the entry at a place, counted from 0.
+    /// Returns the entry at a position, counted from 0.
     #[inline(always)]
     pub fn entry(&self, i: usize) -> Option<Entry>
         ensures { result ≡ slice_get self.now.entries i }
@@ -118,12 +118,13 @@ impl Run {
         self.entries.entries()
     }
 
-    /// Returns whether the worker is declared, signals no eventcount at any moment of the run,
-    /// takes from no sequencer and writes no cell.
+    /// Returns whether the worker is declared and is read-only at each moment of the run.
+    ///
+    /// Then it signals no eventcount at any moment, takes from no sequencer and writes no cell.
     pub fn is_silent(&self, worker: WorkerId) -> bool
         ensures { IsTrue result ↔ IsSilent self.now.setup self.now.entries worker }
     {
-        self.known();
+        self.invariant();
         if !self.setup().is_silent(worker) {
             return false;
         }
@@ -135,7 +136,7 @@ impl Run {
         true
     }
 
-    /// Returns the same run again: the same entries on the same declarations.
+    /// Returns a copy of the run: the same entries on the same declarations.
     pub fn copy(&self) -> Result<Self, AllocError>
         ensures { IfOk result (λ run. run ≡ self.now) }
     {
@@ -151,8 +152,10 @@ impl Run {
         self.entries.allocator()
     }
 
-    /// Makes one step, which adds its entry. It is refused as a step of its world is. Memory is
-    /// wanted only if the step is right, and taken before anything is changed.
+    /// Makes one step and adds its entry, or returns a fault and changes nothing.
+    ///
+    /// A step is refused as a step of the world is. Memory is allocated only if it is not refused,
+    /// and before anything is changed.
     #[inline(always)]
     pub fn step(&mut self, worker: WorkerId, act: Act) -> Result<Reply, StepFault>
         ensures answer { MatchResult result

@@ -1,26 +1,28 @@
 //! One segment of a list of entries.
 ghost use Rattle.std.specs.Prelude.{◌≡◌, ◌+◌, ◌*◌, ◌^◌, ◌<◌, ◌≤◌, List, [], ◌∷◌, ◌++◌, drop, take, length, slice_get, vec_capacity, IfOk, IfSome, OnOk, OnErr};
-ghost use Rattle.ec_core.specs.Stored.{widths, AreStarts};
+ghost use Rattle.ec_core.specs.Packed.{total_word_count, AreStarts};
 
 use crate::Entry;
-use crate::stored::{Stored, Words, add, number_in, value_in, widths};
+use crate::packed::{PackedEntry, WordReader, add, number_in, total_word_count, value_in};
 use std::alloc::{AllocError, Global};
 use std::marker::Model;
 
 /// How many entries a full segment has.
 pub(crate) const SEGMENT: usize = 4096;
 
-/// The place among the words at which the numbers of each entry of so many begin is kept.
+/// Each entry whose position is a multiple of this has a start: the position of its first word.
 const STRIDE: usize = 16;
 
-/// The most words that so many entries have.
+/// The greatest number of words that `STRIDE` entries have.
 const WORDS: usize = 4 * STRIDE;
 
-/// Some entries in order, as a run keeps them, and the words of their numbers beside them. There is room for a full segment from the
-/// beginning, so that no entry in it ever moves, and for a word of each entry, so that most words don't either.
+/// Some entries in order, as a run stores them, and the words of their numbers.
+///
+/// From the beginning there is room for a full segment, so that no entry in it ever moves, and for
+/// one word of each entry, so that most words don't either.
 #[derive(Drop)]
 pub(crate) struct Segment {
-    stored: Vec<Stored>,
+    stored: Vec<PackedEntry>,
     words: Vec<u32>,
     starts: Vec<u16>,
 }
@@ -31,9 +33,9 @@ impl Model for Segment {
 
     ghost Value = { List Entry };
 
-    ghost use Rattle.ec_core.specs.Stored.{stored_entries, IsSegment};
+    ghost use Rattle.ec_core.specs.Packed.{unpack_entries, IsSegment};
 
-    ghost view = { λ s. stored_entries s.words.items s.stored.items };
+    ghost view = { λ s. unpack_entries s.words.items s.stored.items };
 
     ghost invariant = { λ s. IsSegment s.words.items s.stored.items s.starts.items (vec_capacity s.stored) (vec_capacity s.words) };
 }
@@ -66,7 +68,7 @@ impl Segment {
         self.stored.len()
     }
 
-    /// Returns the entry at a place, counted from 0.
+    /// Returns the entry at a position, counted from 0.
     #[inline(always)]
     pub(crate) fn get(&self, i: usize) -> Option<Entry>
         ensures value { result ≡ slice_get self.now i }
@@ -75,48 +77,52 @@ impl Segment {
         if i >= self.stored.len() {
             return None;
         }
-        let start = start_of(&self.stored, &self.starts, i);
-        let mut words = Words::of(&self.words, start);
+        let start = word_start(&self.stored, &self.starts, i);
+        let mut words = WordReader::of(&self.words, start);
         Some(self.stored[i].entry(&mut words))
     }
 
     /// Returns its entries in order.
     #[inline(always)]
-    pub(crate) fn entries(&self) -> Kept<'_>
+    pub(crate) fn entries(&self) -> EntryIter<'_>
         ensures { result ≡ self.now }
     {
-        Kept {
+        EntryIter {
             stored: &self.stored,
-            words: Words::of(&self.words, 0),
+            words: WordReader::of(&self.words, 0),
         }
     }
 
-    /// Adds one entry at the end of a segment that isn't full, or changes nothing. All memory that this wants is taken before
-    /// anything is changed.
+    /// Adds an entry at the end of a segment that isn't full; if an allocation fails, changes
+    /// nothing.
+    ///
+    /// All memory for it is allocated before anything is changed.
     #[inline(always)]
     pub(crate) fn push(&mut self, entry: &Entry) -> Result<(), AllocError>
         requires { length self.old < 4096 }
         ensures ok { OnOk result (self.new ≡ self.old ++ entry.now ∷ []) }
         ensures err { OnErr result (self.new ≡ self.old) }
     {
-        make_room(&self.stored, &mut self.words, &mut self.starts)?;
-        self.stored.push_reserved(Stored::of(entry));
+        reserve(&self.stored, &mut self.words, &mut self.starts)?;
+        self.stored.push_reserved(PackedEntry::of(entry));
         add(&mut self.words, value_in(&entry.act));
         add(&mut self.words, number_in(&entry.reply));
         Ok(())
     }
 }
 
-/// Makes room for the words of the next entry. If it is a sixteenth, that is for those of all before the next such entry, and where
-/// its own begin is kept.
+/// Makes room for the words of the next entry.
+///
+/// If this entry has a start, the start is stored, and the room is for the words of all entries
+/// before the next one with a start.
 #[inline(always)]
-fn make_room(
-    stored: &[Stored],
+fn reserve(
+    stored: &[PackedEntry],
     words: &mut Vec<u32>,
     starts: &mut Vec<u16>,
 ) -> Result<(), AllocError>
     requires begun { AreStarts stored.now starts.old.items }
-    requires whole { length words.old.items ≡ widths stored.now }
+    requires whole { length words.old.items ≡ total_word_count stored.now }
     requires spare { length words.old.items + 64 * length starts.old.items ≤ vec_capacity words.old + 4 * length stored.now }
     requires few { length stored.now < 4096 }
     ensures begun { AreStarts stored.now starts.new.items }
@@ -130,7 +136,7 @@ fn make_room(
     Ok(())
 }
 
-/// Makes room for the words of so many entries, and keeps where they begin; or changes no list.
+/// Makes room for the words of `STRIDE` entries, and stores where they begin; or changes no list.
 #[cold]
 #[inline(never)]
 fn begin(words: &mut Vec<u32>, starts: &mut Vec<u16>) -> Result<(), AllocError>
@@ -146,57 +152,57 @@ fn begin(words: &mut Vec<u32>, starts: &mut Vec<u16>) -> Result<(), AllocError>
     Ok(())
 }
 
-/// Returns where the words of the entry at a place begin.
-fn start_of(stored: &[Stored], starts: &[u16], i: usize) -> usize
+/// Returns where the words of the entry at a position begin.
+fn word_start(stored: &[PackedEntry], starts: &[u16], i: usize) -> usize
     requires starts { AreStarts stored.now starts.now }
     requires within { i < length stored.now }
-    ensures { result ≡ widths (take i stored.now) }
+    ensures { result ≡ total_word_count (take i stored.now) }
 {
     let mark = i / STRIDE;
-    starts[mark] as usize + widths(&stored[mark * STRIDE..i])
+    starts[mark] as usize + total_word_count(&stored[mark * STRIDE..i])
 }
 
-/// Entries of a segment, in order, and the words of their numbers. A contract sees it as the list of those that are left.
+/// An iterator over the entries of a segment. In contracts it is the list of those that are left.
 #[derive(Drop)]
-pub(crate) struct Kept<'a> {
-    stored: &'a [Stored],
-    words: Words<'a>,
+pub(crate) struct EntryIter<'a> {
+    stored: &'a [PackedEntry],
+    words: WordReader<'a>,
 }
 
-impl<'a> Model for Kept<'a> {
+impl<'a> Model for EntryIter<'a> {
     ghost use Rattle.std.specs.Prelude.{List};
     ghost use Rattle.ec_core.specs.declared.act.Entry.{Entry};
-    ghost use Rattle.ec_core.specs.Stored.{stored_entries};
+    ghost use Rattle.ec_core.specs.Packed.{unpack_entries};
 
     ghost Value = { List Entry };
 
-    ghost view = { λ s. stored_entries s.words s.stored.now };
+    ghost view = { λ s. unpack_entries s.words s.stored.now };
 }
 
-impl<'a> Kept<'a> {
-    /// Returns no entries.
+impl<'a> EntryIter<'a> {
+    /// Returns an iterator over no entries.
     pub(crate) fn none() -> Self
         ensures { result ≡ [] }
     {
-        Kept {
+        EntryIter {
             stored: &[],
-            words: Words::of(&[], 0),
+            words: WordReader::of(&[], 0),
         }
     }
 
-    /// Returns the same entries again.
+    /// Returns a copy of the iterator.
     #[inline(always)]
     pub(crate) fn copy(&self) -> Self
         ensures { result ≡ self.now }
     {
-        Kept {
+        EntryIter {
             stored: self.stored,
             words: self.words.copy(),
         }
     }
 }
 
-impl<'a> Iterator for Kept<'a> {
+impl<'a> Iterator for EntryIter<'a> {
     ghost use Rattle.std.specs.Iterator.{YieldsFirst, item_count};
 
     type Item = Entry;

@@ -1,6 +1,6 @@
 //! Lists of entries in segments.
 ghost use Rattle.std.specs.Prelude.{◌≡◌, ◌+◌, ◌^◌, ◌<◌, [], ◌∷◌, ◌++◌, length, slice_get, IfOk, IfSome, OnOk, OnErr};
-ghost use Rattle.ec_core.specs.Segmented.{joined, IsSegmented};
+ghost use Rattle.ec_core.specs.Segments.{concat_segments, IsSegmented};
 
 use crate::segment::{SEGMENT, Segment};
 use crate::{Entries, Entry};
@@ -11,9 +11,11 @@ use std::mem;
 /// The greatest number of full segments: far more than fit in any memory.
 const SEGMENTS_MAX: usize = 1 << 51;
 
-/// A list of entries that grows by segments, so that it is never copied. An entry takes 4 bytes in
-/// it, which never move, and 4 more for most numbers. A segment has room for one such number an
-/// entry; if there are more, it takes more room, and its numbers may move.
+/// A list of entries that grows by segments, so that it is never copied.
+///
+/// An entry takes 4 bytes in it, which never move, and 4 more for most numbers. A segment has room
+/// for one such number per entry. If there are more, it allocates more room, and its numbers may
+/// move.
 #[derive(Drop)]
 pub struct Segments {
     full: Vec<Segment>,
@@ -26,9 +28,9 @@ impl Model for Segments {
 
     ghost Value = { List Entry };
 
-    ghost use Rattle.ec_core.specs.Segmented.{joined, IsSegmented};
+    ghost use Rattle.ec_core.specs.Segments.{concat_segments, IsSegmented};
 
-    ghost view = { λ s. joined s.full.items s.last };
+    ghost view = { λ s. concat_segments s.full.items s.last };
 
     ghost invariant = { λ s. IsSegmented s.full.items s.last };
 }
@@ -57,7 +59,7 @@ impl Segments {
         self.full.len() * SEGMENT + self.last.len()
     }
 
-    /// Returns the entry at a place, counted from 0.
+    /// Returns the entry at a position, counted from 0.
     #[inline(always)]
     pub fn get(&self, i: usize) -> Option<Entry>
         ensures value { result ≡ slice_get self.now i }
@@ -73,7 +75,7 @@ impl Segments {
         Entries::of(&self.full, &self.last)
     }
 
-    /// Returns the same list again, by the same allocator.
+    /// Returns a copy of the list, by the same allocator.
     pub(crate) fn copy(&self) -> Result<Self, AllocError>
         ensures { IfOk result (λ list. list ≡ self.now) }
     {
@@ -84,7 +86,7 @@ impl Segments {
         Ok(list)
     }
 
-    /// Adds one entry at the end, or changes nothing.
+    /// Adds an entry at the end; if an allocation fails, changes nothing.
     #[inline(always)]
     pub fn push(&mut self, entry: Entry) -> Result<(), AllocError>
         ensures ok { OnOk result (self.new ≡ self.old ++ entry ∷ []) }
@@ -97,8 +99,9 @@ impl Segments {
     }
 }
 
-/// Puts a filled segment with the full ones and begins the next. All memory that this wants is
-/// taken before anything is changed.
+/// Adds the filled last segment to the full ones, and begins the next.
+///
+/// All memory for this is allocated before anything is changed.
 fn begin_segment(full: &mut Vec<Segment>, last: &mut Segment) -> Result<(), AllocError>
     ensures few { OnOk result (length full.old.items < 2 ^ 51) }
     ensures filled { OnOk result (full.new.items ≡ full.old.items ++ last.old ∷ []) }
@@ -116,11 +119,11 @@ fn begin_segment(full: &mut Vec<Segment>, last: &mut Segment) -> Result<(), Allo
     Ok(())
 }
 
-/// Returns the entry of the segments at a place, counted from 0.
+/// Returns the entry of the segments at a position, counted from 0.
 #[inline(always)]
 fn entry_at(full: &Vec<Segment>, last: &Segment, i: usize) -> Option<Entry>
     requires { IsSegmented full.now.items last.now }
-    ensures value { result ≡ slice_get (joined full.now.items last.now) i }
+    ensures value { result ≡ slice_get (concat_segments full.now.items last.now) i }
     ensures within { IfSome result (λ _. i + 1 < 2 ^ 64) }
 {
     let place = i / SEGMENT;

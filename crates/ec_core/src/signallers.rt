@@ -1,13 +1,14 @@
 //! Who signals an eventcount.
 ghost use Rattle.std.specs.Prelude.{◌≡◌, ℕ, ◌<◌, ◌≤◌, false, [], length, slice_get, IfSome};
-ghost use Rattle.ec_count.specs.Members.{place_of, has_repeat};
-ghost use Rattle.ec_core.specs.Fields.{replaced_new};
+ghost use Rattle.ec_count.specs.Members.{index_of, has_repeat};
+ghost use Rattle.ec_core.specs.Fields.{replace_unless_member};
 
 use ec_count::{Members, WorkerId};
 use std::marker::Model;
 
-/// The workers that signal an eventcount, in order of component, and beside them the component of each worker: so neither is
-/// searched for.
+/// The signallers of an eventcount in order of component, and the component of each worker.
+///
+/// So neither is searched for.
 #[derive(Clone, Drop)]
 pub(crate) struct Signallers {
     members: Members,
@@ -26,9 +27,9 @@ impl Model for Signallers {
     ghost invariant = { λ s. AreSignallers s.members s.components };
 }
 
-/// Returns the place of a worker among others, in one byte.
+/// Returns the position of a worker among others, in one byte.
 fn place_in(members: &Members, worker: WorkerId) -> Option<u8>
-    ensures { result ≡ place_of worker members.now }
+    ensures { result ≡ index_of worker members.now }
 {
     match members.place(worker) {
         Some(place) => Some(place as u8),
@@ -36,9 +37,9 @@ fn place_in(members: &Members, worker: WorkerId) -> Option<u8>
     }
 }
 
-/// Returns the place of each worker among these.
+/// Returns the position of each worker among these.
 fn places_in(members: &Members) -> [Option<u8>; 16]
-    ensures { (w : ℕ) → w < 16 → slice_get result w ≡ Some (place_of w members.now) }
+    ensures { (w : ℕ) → w < 16 → slice_get result w ≡ Some (index_of w members.now) }
 {
     let mut places: [Option<u8>; 16] = [None; 16];
     for w in 0..16 {
@@ -50,7 +51,7 @@ fn places_in(members: &Members) -> [Option<u8>; 16]
 }
 
 impl Signallers {
-    /// Returns these workers, of which none stands twice.
+    /// Returns the signallers of a list in which no worker is twice.
     pub(crate) fn new(list: &[WorkerId]) -> Self
         requires few { length list.now ≤ 16 }
         requires different { has_repeat list.now ≡ false }
@@ -74,7 +75,7 @@ impl Signallers {
     /// Returns the component that the worker signals.
     #[inline(always)]
     pub(crate) fn component(&self, worker: WorkerId) -> Option<usize>
-        ensures value { result ≡ place_of worker self.now }
+        ensures value { result ≡ index_of worker self.now }
         ensures few { IfSome result (λ c. c < 16) }
     {
         match self.components[worker.get()] {
@@ -83,9 +84,9 @@ impl Signallers {
         }
     }
 
-    /// Hands the one worker's component to the other, unless that one signals one too.
+    /// Transfers the component of `from` to `to`, unless `to` signals one already.
     pub(crate) fn hand(&mut self, from: WorkerId, to: WorkerId)
-        ensures { self.new ≡ replaced_new (place_of from self.old) to self.old }
+        ensures { self.new ≡ replace_unless_member (index_of from self.old) to self.old }
     {
         if self.component(to).is_some() {
             return;

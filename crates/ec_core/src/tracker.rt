@@ -1,56 +1,57 @@
-//! What a walk over a run keeps of a group.
+//! The state of a pass over a run for one group.
 ghost use Rattle.std.specs.Prelude.{◌≡◌, ℕ, List, [], ◌∷◌, length, reverse};
 ghost use Rattle.ec_core.specs.declared.act.Entry.{Entry};
-ghost use Rattle.ec_core.specs.declared.protocol.Kept.{Kept};
+ghost use Rattle.ec_core.specs.declared.protocol.ListProgress.{ListProgress};
 ghost use Rattle.ec_core.specs.Calls.{under_way, is_pending};
-ghost use Rattle.ec_core.specs.Following.{Told, Rule, opened, block};
-ghost use Rattle.ec_core.specs.Scanning.{IsFinding, IsTracked, Finds};
+ghost use Rattle.ec_core.specs.Following.{CompletedCall, Rule, opening_act, block};
+ghost use Rattle.ec_core.specs.Scanning.{IsFinding, IsTrackerModel, Finds};
 
-use crate::fields::all_alike;
-use crate::{Act, AuditFault, Entry, Kept, Protocol, Reply};
-use ec_count::WorkerId;
+use crate::{Act, AuditFault, Entry, ListProgress, Protocol};
+use ec_count::{WorkerId, filled};
 use std::marker::Model;
 
-/// How far each worker has come in the lists of calls on a group, and the first entry that breaks
-/// them. An entry whose call is not on the group changes neither, so it may be left out.
+/// The progress of each worker in the call lists of a group, and the first violation.
+///
+/// An entry whose call is not on the group changes neither, so it may be left out.
 #[derive(Drop)]
 pub struct Tracker {
-    kept: [Kept; 16],
+    kept: [ListProgress; 16],
     fault: Option<AuditFault>,
 }
 
 impl Model for Tracker {
-    ghost use Rattle.ec_core.specs.Scanning.{Tracked};
+    ghost use Rattle.ec_core.specs.Scanning.{TrackerModel};
 
-    ghost Value = { Tracked };
+    ghost Value = { TrackerModel };
 
     ghost view = { λ s. record { kept = s.kept; fault = s.fault } };
 }
 
 impl Tracker {
-    /// Returns what is kept before the first entry.
+    /// Returns the state before the first entry.
     pub fn new<P: Protocol>(protocol: &P) -> Self
-        ensures { IsTracked (P.rules protocol.now) (P.keeps protocol.now) result [] }
+        ensures { IsTrackerModel (P.rules protocol.now) (P.keeps protocol.now) result [] }
     {
         Tracker {
-            kept: all_alike(protocol.start()),
+            kept: filled(protocol.start()),
             fault: None,
         }
     }
 
-    /// Returns what is kept of the list that the worker is in.
+    /// Returns the progress of the worker in its current call list.
     #[inline(always)]
-    pub fn kept(&self, worker: WorkerId) -> Kept
-        ensures { (rules : ℕ → Rule) (keeps : List Told → Kept) (past : List Entry) → IsTracked rules keeps self.now past
+    pub fn list_progress(&self, worker: WorkerId) -> ListProgress
+        ensures { (rules : ℕ → Rule) (keeps : List CompletedCall → ListProgress) (past : List Entry) → IsTrackerModel rules keeps self.now past
             → result ≡ keeps (block (rules worker) worker past) }
     {
         self.kept[worker.get()]
     }
 
-    /// Returns whether the workers follow these lists, after the entries so far. `Err` is
-    /// `NotFollowed` with the first entry that breaks them.
-    pub fn followed(&self) -> Result<(), AuditFault>
-        ensures { (rules : ℕ → Rule) (keeps : List Told → Kept) (entries : List Entry) → IsTracked rules keeps self.now (reverse entries)
+    /// Returns whether the entries so far conform to the call lists.
+    ///
+    /// `Err` is `NotFollowed` with the first violation.
+    pub fn finding(&self) -> Result<(), AuditFault>
+        ensures { (rules : ℕ → Rule) (keeps : List CompletedCall → ListProgress) (entries : List Entry) → IsTrackerModel rules keeps self.now (reverse entries)
             → Finds rules entries result }
     {
         match self.fault {
@@ -59,36 +60,29 @@ impl Tracker {
         }
     }
 
-    /// Takes an entry in, given its place in the run and the act that began its call.
+    /// Adds an entry, given its position in the run and the act that began its call.
     #[inline(always)]
     pub fn take<P: Protocol>(&mut self, protocol: &P, place: usize, op: &Act, entry: &Entry)
-        ensures { (past : List Entry) → place ≡ length past → op.now ≡ opened entry.now.act (under_way entry.now.worker past)
-            → IsTracked (P.rules protocol.now) (P.keeps protocol.now) self.old past
-            → IsTracked (P.rules protocol.now) (P.keeps protocol.now) self.new (entry.now ∷ past) }
+        ensures { (past : List Entry) → place ≡ length past → op.now ≡ opening_act entry.now.act (under_way entry.now.worker past)
+            → IsTrackerModel (P.rules protocol.now) (P.keeps protocol.now) self.old past
+            → IsTrackerModel (P.rules protocol.now) (P.keeps protocol.now) self.new
+            (entry.now ∷ past) }
     {
-        let kept = self.kept(entry.worker);
+        let kept = self.list_progress(entry.worker);
         find(protocol, &mut self.fault, &kept, place, entry);
-        if is_pending(entry.reply) {
+        if entry.reply.is_pending() {
             return;
         }
         self.kept[entry.worker.get()] = protocol.after(entry.worker, &kept, op, entry.reply);
     }
 }
 
-/// Returns whether a call goes on.
-#[inline(always)]
-fn is_pending(reply: Reply) -> bool
-    ensures { result ≡ is_pending reply }
-{
-    matches!(reply, Reply::Pending)
-}
-
-/// Finds whether one more entry is the first that breaks the lists.
+/// Records one more entry as the first violation, if it is that.
 #[inline(always)]
 fn find<P: Protocol>(
     protocol: &P,
     fault: &mut Option<AuditFault>,
-    kept: &Kept,
+    kept: &ListProgress,
     place: usize,
     entry: &Entry,
 )

@@ -1,14 +1,14 @@
-//! Pending calls, as a world keeps them.
+//! Pending calls, as a world stores them.
 ghost use Rattle.std.specs.Prelude.{◌≡◌, ◌+◌, ◌*◌, ◌^◌, ◌<◌, ◌≤◌, IsSome, slice_get};
-ghost use Rattle.ec_core.specs.Rounds.{event_or, read_of};
-ghost use Rattle.ec_core.specs.Fields.{begun, gone_to, one_read, value_of};
+ghost use Rattle.ec_core.specs.Rounds.{event_or, read_event};
+ghost use Rattle.ec_core.specs.Fields.{new_progress, with_round, read_component, count_value};
 
 use crate::Act;
 use crate::effect::Effect;
 use ec_count::{Count, EventId};
 use std::marker::Model;
 
-/// How far the round of a call has come: the component that the next Go reads, and the sum of those
+/// The progress of the round of a call: the component that the next Go reads, and the sum of those
 /// before it.
 #[derive(Clone, Copy)]
 pub(crate) struct Round {
@@ -29,8 +29,10 @@ impl Model for Round {
     ghost inverse = { λ r. record { index = r.index; sum = r.sum } };
 }
 
-/// A pending call: the act that began it, the component that the next Go reads, and the sum of its
-/// round so far.
+/// A pending call, with the progress of its round.
+///
+/// It has the act that began it, the component that the next Go reads, and the sum of the round so
+/// far.
 #[derive(Clone, Copy, Debug, PartialEq, Eq)]
 pub struct UnderWay {
     op: Act,
@@ -41,22 +43,22 @@ pub struct UnderWay {
 impl Model for UnderWay {
     ghost use Rattle.std.specs.Prelude.{◌*◌, ◌^◌, ◌<◌, ◌≤◌, IsSome};
     ghost use Rattle.ec_core.specs.Progress.{Progress};
-    ghost use Rattle.ec_core.specs.Rounds.{read_of};
+    ghost use Rattle.ec_core.specs.Rounds.{read_event};
 
     ghost Value = { Progress };
 
     ghost view = { λ u. record { op = u.op; index = u.index; sum = u.sum } };
 
-    ghost invariant = { λ u. (u.index < 16) × (u.sum ≤ u.index * 2 ^ 48) × IsSome (read_of u.op) };
+    ghost invariant = { λ u. (u.index < 16) × (u.sum ≤ u.index * 2 ^ 48) × IsSome (read_event u.op) };
 
     ghost inverse = { λ u. record { op = u.op; index = u.index; sum = u.sum } };
 }
 
 impl UnderWay {
     /// Makes a call whose first component is yet to be read.
-    pub(crate) fn begun(op: Act) -> Self
-        requires { IsSome (read_of op) }
-        ensures { result ≡ begun op }
+    pub(crate) fn new(op: Act) -> Self
+        requires { IsSome (read_event op) }
+        ensures { result ≡ new_progress op }
     {
         UnderWay {
             op,
@@ -65,10 +67,10 @@ impl UnderWay {
         }
     }
 
-    /// Returns the same call, whose round has come so far.
+    /// Returns the same call, whose round has this progress.
     #[inline(always)]
     pub(crate) fn at(&self, round: Round) -> Self
-        ensures { result ≡ gone_to round self.now }
+        ensures { result ≡ with_round round self.now }
     {
         UnderWay {
             op: self.op,
@@ -77,10 +79,10 @@ impl UnderWay {
         }
     }
 
-    /// Goes on: its round has come so far.
+    /// Sets the progress of its round.
     #[inline(always)]
     pub(crate) fn go_on(&mut self, round: Round)
-        ensures { self.new ≡ gone_to round self.old }
+        ensures { self.new ≡ with_round round self.old }
     {
         (self.index, self.sum) = (round.index, round.sum);
     }
@@ -104,7 +106,7 @@ impl UnderWay {
         }
     }
 
-    /// Returns the component that the next Go reads. An Await with index 0 has just fallen short.
+    /// Returns the component that the next Go reads. If it is 0, an Await just fell short.
     pub fn index(&self) -> usize
         ensures value { result ≡ self.now.index }
         ensures small { result < 16 }
@@ -122,13 +124,15 @@ impl UnderWay {
         self.sum
     }
 
-    /// Returns what a Go comes to that reads its component of so many, whose counts are these: the
-    /// call goes on until the component is the last, and then the sum is told, unless it falls
-    /// short of a threshold.
+    /// Returns the effect of reading its next component, given how many there are, and their
+    /// counts.
+    ///
+    /// The call stays pending until its last component is read. Then the sum is returned, unless it
+    /// falls short of a threshold.
     #[inline(always)]
     pub(crate) fn read(&self, width: usize, counts: &[Count; 16]) -> Effect
         requires { width ≤ 16 }
-        ensures { result ≡ one_read self.now.op width self.now.index (value_of (slice_get counts.now self.now.index) + self.now.sum) }
+        ensures { result ≡ read_component self.now.op width self.now.index (count_value (slice_get counts.now self.now.index) + self.now.sum) }
     {
         let index = self.index + 1;
         let sum = counts[self.index].value() + self.sum;

@@ -4,23 +4,23 @@ ghost use Rattle.ec_core.specs.declared.act.Entry.{Entry};
 ghost use Rattle.ec_core.specs.Acceptance.{answer_of, refused_or, refusal_in};
 ghost use Rattle.std.specs.Option.{option_map};
 ghost use Rattle.ec_core.specs.Calls.{is_go, under_way};
-ghost use Rattle.ec_core.specs.Following.{opened};
-ghost use Rattle.ec_core.specs.Rounds.{width};
+ghost use Rattle.ec_core.specs.Following.{opening_act};
+ghost use Rattle.ec_core.specs.Rounds.{component_count};
 ghost use Rattle.ec_core.specs.Counts.{total, signaller_at, component_at, component_total, issued, cell_value};
 ghost use Rattle.ec_core.specs.Standing.{StandsFor, progress_of};
 ghost use Rattle.ec_core.specs.Values.{TellsAtMost};
 ghost use Rattle.ec_core.specs.Procedures.{IsReply};
-ghost use Rattle.ec_core.specs.Fields.{kept_call, component_in, right_in, already_in, is_full_for, next_read, effect_in, planned, changed, gone_to, op_in, still_there, IsNamed, IsRightStep};
+ghost use Rattle.ec_core.specs.Fields.{stored_progress, component_in, right_in, already_in, is_full_for, read_effect, effect_in, effect_or_refusal, apply_effect, with_round, op_in, still_there, IsNamed, IsRightStep};
 
 use crate::effect::Effect;
 use crate::fields::{
-    all_alike, count_in, count_of, declared, is_too_large, raise_at, raise_in, same_again, sum_of,
-    width,
+    component_count, component_sum, count_in, declared_signallers, is_too_large, raise_at,
+    raise_in, same_again, ticket_count,
 };
 use crate::signallers::Signallers;
 use crate::under_way::Round;
 use crate::{Act, Entry, Refusal, Reply, UnderWay, VALUE_MAX};
-use ec_count::{CellId, Count, EventId, SeqId, Setup, WorkerId};
+use ec_count::{CellId, Count, EventId, SeqId, Setup, WorkerId, filled};
 use std::marker::Model;
 
 /// Returns the refusal, if the test holds.
@@ -31,24 +31,24 @@ fn refuse_if(test: bool, refusal: Refusal) -> Result<(), Refusal>
     if test { Err(refusal) } else { Ok(()) }
 }
 
-/// Goes on with the call, if there is one, whose round has come so far.
+/// Sets the progress of the round of the call, if there is one.
 #[inline(always)]
 fn go_on(call: &mut Option<UnderWay>, round: Round)
-    ensures { call.new ≡ option_map (gone_to round) call.old }
+    ensures { call.new ≡ option_map (with_round round) call.old }
 {
     if let Some(call) = call {
         call.go_on(round);
     }
 }
 
-/// A step that was made: the act that began the call that it is part of, and what the worker was told.
+/// A step that was made: the act that began the call that it is part of, and the reply.
 #[derive(Clone, Copy, Debug, PartialEq, Eq)]
 pub struct Step {
     pub op: Act,
     pub reply: Reply,
 }
 
-/// The state of a kernel: who signals now, its counts, cells and pending calls.
+/// The state of a kernel: its signallers now, its counts, cells and pending calls.
 #[derive(Drop)]
 pub struct World {
     setup: Setup,
@@ -68,22 +68,23 @@ impl Model for World {
 }
 
 impl World {
-    /// Returns the state before any step, on these declarations. It takes no memory, nor does any
-    /// other call of a world.
+    /// Returns the state before any step, on these declarations.
+    ///
+    /// It allocates nothing, nor does any other function of a world.
     pub fn open(setup: Setup) -> Self
         ensures history { StandsFor result [] }
         ensures setup { result.setup ≡ setup }
     {
-        setup.known();
-        let signal = declared(&setup);
+        setup.invariant();
+        let signal = declared_signallers(&setup);
         let zero = Count::zero(setup.limit());
         World {
             setup,
             signal,
-            counts: all_alike(all_alike(zero)),
-            issued: all_alike(zero),
-            cells: all_alike(0),
-            calls: all_alike(None),
+            counts: filled(filled(zero)),
+            issued: filled(zero),
+            cells: filled(0),
+            calls: filled(None),
         }
     }
 
@@ -94,7 +95,7 @@ impl World {
         &self.setup
     }
 
-    /// Returns the same state again.
+    /// Returns a copy of the state.
     pub(crate) fn copy(&self) -> Self
         ensures { result ≡ self.now }
     {
@@ -108,8 +109,9 @@ impl World {
         }
     }
 
-    /// Returns the one worker that signals a component now; `None` if there is no such component,
-    /// and so if the eventcount is not declared.
+    /// Returns the worker that signals a component now; `None` if there is no such component.
+    ///
+    /// There is none if the eventcount is not declared.
     pub fn signaller(&self, event: EventId, component: usize) -> Option<WorkerId>
         ensures { (h : List Entry) → StandsFor self.now h → result ≡ signaller_at self.now.setup event (reverse h) component }
     {
@@ -117,8 +119,10 @@ impl World {
         signallers.signaller(component)
     }
 
-    /// Returns the component of an eventcount that the worker signals now. `None` if it signals
-    /// none of it, as if either is not declared.
+    /// Returns the component of an eventcount that the worker signals now; `None` if it signals
+    /// none.
+    ///
+    /// It signals none if either is not declared.
     pub fn component_of(&self, event: EventId, worker: WorkerId) -> Option<usize>
         ensures { (h : List Entry) → StandsFor self.now h → result ≡ component_at self.now.setup event (reverse h) worker }
     {
@@ -134,7 +138,7 @@ impl World {
         signallers.component(worker)
     }
 
-    /// Returns the total of an eventcount: how many advances of it there were. `None` if it is not
+    /// Returns the total of an eventcount, the number of its advances; `None` if it is not
     /// declared.
     pub fn total(&self, event: EventId) -> Option<u64>
         ensures { (h : List Entry) → StandsFor self.now h
@@ -143,18 +147,17 @@ impl World {
         if event.get() >= self.setup.events() {
             return None;
         }
-        let width = width(&self.setup, event);
-        Some(sum_of(&self.counts, event.get(), width))
+        let width = component_count(&self.setup, event);
+        Some(component_sum(&self.counts, event.get(), width))
     }
 
-    /// Returns a component of an eventcount: how many advances were made by who signalled it at
-    /// their moment. `None` if there is no such component, and so if the eventcount is not
-    /// declared.
+    /// Returns the count of a component: how many advances were made by its signaller at that time.
+    /// `None` if there is no such component, and so if the eventcount is not declared.
     pub fn component(&self, event: EventId, component: usize) -> Option<u64>
         ensures { (h : List Entry) → StandsFor self.now h
-            → result ≡ (if nat_lt component (width self.now.setup event) then Some (component_total self.now.setup event component (reverse h)) else None) }
+            → result ≡ (if nat_lt component (component_count self.now.setup event) then Some (component_total self.now.setup event component (reverse h)) else None) }
     {
-        if component >= width(&self.setup, event) {
+        if component >= component_count(&self.setup, event) {
             return None;
         }
         Some(count_in(&self.counts, event.get(), component).value())
@@ -169,7 +172,7 @@ impl World {
         if sequencer.get() >= self.setup.sequencers() {
             return None;
         }
-        let count = count_of(&self.issued, sequencer.get());
+        let count = ticket_count(&self.issued, sequencer.get());
         Some(count.value())
     }
 
@@ -184,7 +187,7 @@ impl World {
         Some(self.cells[cell.get()])
     }
 
-    /// Returns the worker's read or await that has not ended, if there is one.
+    /// Returns the worker's pending read or await, if there is one.
     pub fn under_way(&self, worker: WorkerId) -> Option<UnderWay>
         ensures { (h : List Entry) → StandsFor self.now h → result ≡ progress_of self.now.setup worker (reverse h) }
     {
@@ -192,20 +195,20 @@ impl World {
         self.calls[place]
     }
 
-    /// Returns what a call comes to that reads its next component.
+    /// Returns the effect of reading the next component of a call.
     #[inline(always)]
     fn read(&self, call: &UnderWay) -> Effect
-        ensures { result ≡ next_read self.now call.now }
+        ensures { result ≡ read_effect self.now call.now }
     {
         let event = call.event();
-        let width = width(&self.setup, event);
+        let width = component_count(&self.setup, event);
         let counts = &self.counts[event.get()];
         call.read(width, counts)
     }
 
     /// Returns the refusal, if the eventcount is not declared.
     #[inline(always)]
-    fn known_event(&self, event: EventId) -> Result<(), Refusal>
+    fn require_event(&self, event: EventId) -> Result<(), Refusal>
         ensures { MatchResult result (λ x. nat_le (length self.now.setup.events) event ≡ false) (λ r. (nat_le (length self.now.setup.events) event ≡ true) × (r ≡ Refusal.UnknownObject)) }
     {
         refuse_if(event.get() >= self.setup.events(), Refusal::UnknownObject)
@@ -213,14 +216,16 @@ impl World {
 
     /// Returns the refusal, if the cell is not declared.
     #[inline(always)]
-    fn known_cell(&self, cell: CellId) -> Result<(), Refusal>
+    fn require_cell(&self, cell: CellId) -> Result<(), Refusal>
         ensures { MatchResult result (λ x. nat_le (length self.now.setup.cells) cell ≡ false) (λ r. (nat_le (length self.now.setup.cells) cell ≡ true) × (r ≡ Refusal.UnknownObject)) }
     {
         refuse_if(cell.get() >= self.setup.cells(), Refusal::UnknownObject)
     }
 
-    /// Returns what an act comes to that begins a call, or the first refusal after those that ask
-    /// for the worker and its call.
+    /// Returns the effect of an act that begins a call, or its first refusal.
+    ///
+    /// The worker is declared and has no pending call, so the refusal comes after `Idle` in their
+    /// order.
     #[inline(always)]
     fn begin(&self, worker: WorkerId, act: &Act) -> Result<Effect, Refusal>
         requires declared { worker < self.now.setup.workers }
@@ -229,7 +234,7 @@ impl World {
     {
         match *act {
             Act::Advance(event) => {
-                self.known_event(event)?;
+                self.require_event(event)?;
                 let own = self.own_component(event, worker);
                 let component = own.ok_or(Refusal::NoRight)?;
                 let count = count_in(&self.counts, event.get(), component);
@@ -237,10 +242,10 @@ impl World {
                 Ok(Effect::Raise(event, component))
             }
             Act::Read(event) | Act::Await(event, _) => {
-                self.known_event(event)?;
+                self.require_event(event)?;
                 refuse_if(!self.setup.may_observe(event, worker), Refusal::NoRight)?;
                 refuse_if(is_too_large(act), Refusal::ValueTooLarge)?;
-                let call = UnderWay::begun(*act);
+                let call = UnderWay::new(*act);
                 let effect = self.read(&call);
                 Ok(effect.as_first(&call))
             }
@@ -251,23 +256,23 @@ impl World {
                     Refusal::UnknownObject,
                 )?;
                 refuse_if(!self.setup.may_take(sequencer, worker), Refusal::NoRight)?;
-                let count = count_of(&self.issued, sequencer.get());
+                let count = ticket_count(&self.issued, sequencer.get());
                 refuse_if(count.is_full(), Refusal::AtLimit)?;
                 Ok(Effect::Draw(sequencer, count.value()))
             }
             Act::Put(cell, value) => {
-                self.known_cell(cell)?;
+                self.require_cell(cell)?;
                 refuse_if(!self.setup.may_write(cell, worker), Refusal::NoRight)?;
                 refuse_if(is_too_large(act), Refusal::ValueTooLarge)?;
                 Ok(Effect::Put(cell, value))
             }
             Act::Get(cell) => {
-                self.known_cell(cell)?;
+                self.require_cell(cell)?;
                 refuse_if(!self.setup.may_read(cell, worker), Refusal::NoRight)?;
                 Ok(Effect::Get(self.cells[cell.get()]))
             }
             Act::Hand(event, to) => {
-                self.known_event(event)?;
+                self.require_event(event)?;
                 refuse_if(to.get() >= self.setup.workers(), Refusal::UnknownObject)?;
                 let own = self.own_component(event, worker);
                 refuse_if(own.is_none(), Refusal::NoRight)?;
@@ -279,11 +284,11 @@ impl World {
         }
     }
 
-    /// Returns the first refusal that holds, else what the step comes to.
+    /// Returns the effect of a step, or the first refusal that applies.
     #[inline(always)]
     fn effect(&self, worker: WorkerId, act: Act) -> Result<Effect, Refusal>
         ensures named { IsNamed act }
-        ensures is { (past : List Entry) → result ≡ planned self.now past worker act }
+        ensures is { (past : List Entry) → result ≡ effect_or_refusal self.now past worker act }
     {
         refuse_if(worker.get() >= self.setup.workers(), Refusal::UnknownWorker)?;
         match (&self.calls[worker.get()], act) {
@@ -294,8 +299,8 @@ impl World {
         }
     }
 
-    /// Returns what a step of the worker comes to after the history: the first refusal that holds,
-    /// or the reply and the change.
+    /// Returns the effect of a step of the worker after the history, or the first refusal that
+    /// applies.
     #[inline(always)]
     pub(crate) fn plan(&self, worker: WorkerId, act: &Act) -> Result<Effect, Refusal>
         ensures { (h : List Entry) → StandsFor self.now h
@@ -304,10 +309,10 @@ impl World {
         self.effect(worker, *act)
     }
 
-    /// Makes the change that a step of the worker comes to.
+    /// Makes the change that is the effect of a step of the worker.
     #[inline(always)]
     pub(crate) fn apply(&mut self, worker: WorkerId, effect: &Effect)
-        ensures { self.new ≡ changed self.old worker effect.now }
+        ensures { self.new ≡ apply_effect self.old worker effect.now }
     {
         match *effect {
             Effect::Raise(event, component) => {
@@ -341,11 +346,13 @@ impl World {
         }
     }
 
-    /// Makes that change, and tells what began the call. It is asked if it costs least: a call that goes on keeps in place
-    /// what began it, so whoever has no use for it has it read in vain nowhere.
+    /// Makes that change, and returns the act that began the call.
+    ///
+    /// This act is read before the change only if the change ends the call. Otherwise it is read
+    /// after it, so that a caller that ignores it does not pay for reading it.
     #[inline(always)]
     fn make(&mut self, worker: WorkerId, act: &Act, effect: &Effect) -> Act
-        ensures change { self.new ≡ changed self.old worker effect.now }
+        ensures change { self.new ≡ apply_effect self.old worker effect.now }
         ensures op { result ≡ op_in (still_there self.old worker effect.now) worker act.now }
     {
         match *effect {
@@ -361,7 +368,7 @@ impl World {
         }
     }
 
-    /// Returns what `step` would answer, and no change.
+    /// Returns what `step` would return, and changes nothing.
     #[inline(always)]
     pub fn answer(&self, worker: WorkerId, act: &Act) -> Result<Reply, Refusal>
         ensures answer { (h : List Entry) → StandsFor self.now h → result ≡ answer_of self.now.setup (reverse h) worker act.now }
@@ -374,8 +381,8 @@ impl World {
         }
     }
 
-    /// Makes one step and returns the right reply, or returns the first refusal that holds and
-    /// changes nothing.
+    /// Makes one step and returns the right reply, or returns the first refusal and changes
+    /// nothing.
     #[inline(always)]
     pub fn step(&mut self, worker: WorkerId, act: Act) -> Result<Reply, Refusal>
         ensures answer { (h : List Entry) → StandsFor self.old h → result ≡ answer_of self.old.setup (reverse h) worker act }
@@ -397,7 +404,7 @@ impl World {
     pub fn step_of_call(&mut self, worker: WorkerId, act: Act) -> Result<Step, Refusal>
         ensures answer { (h : List Entry) → StandsFor self.old h
             → MatchResult result (λ s. answer_of self.old.setup (reverse h) worker act ≡ Ok s.reply) (λ r. answer_of self.old.setup (reverse h) worker act ≡ Err r) }
-        ensures op { (h : List Entry) → StandsFor self.old h → IfOk result (λ s. s.op ≡ opened act (under_way worker (reverse h))) }
+        ensures op { (h : List Entry) → StandsFor self.old h → IfOk result (λ s. s.op ≡ opening_act act (under_way worker (reverse h))) }
         ensures after { (h : List Entry) → StandsFor self.old h
             → IfOk result (λ s. StandsFor self.new (h ++ record { worker = worker; act = act; reply = s.reply } ∷ [])) }
         ensures small { (h : List Entry) → StandsFor self.old h → IfOk result (λ s. TellsAtMost VALUE_MAX s.reply) }

@@ -15,7 +15,7 @@ below_first x xs i off h (suc k) y lt at = h k y (omega arith) at
 pair_is : {F : Type 0} (x : Bool × F) (f : F) → x.0 ≡ true → x.1 ≡ f → x ≡ (true, f)
 pair_is {F} x f e q = (let p : (x.0, x.1) ≡ (true, f) = cc in p)
 
--- if a fault is answered, its test holds and none before it does
+-- if there is a fault, its test holds and none before it does
 pub first_is : {F : Type 0} (tests : List (Bool × F)) (f : F) → first_that tests ≡ Some f
     → (i : ℕ) × (slice_get tests i ≡ Some (true, f)) × ((k : ℕ) (x : Bool × F) → k < i → slice_get tests k ≡ Some x → x.0 ≡ false)
 first_is [] f h = cc
@@ -25,7 +25,7 @@ first_is {F} (x ∷ xs) f h =
       | false ↦ λ e g. (let r = first_is xs f g in (suc r.0, r.1, below_first x xs r.0 e r.2))
     ] refl h
 
--- if none is answered, no test holds
+-- if there is none, no test holds
 pub none_is : {F : Type 0} (tests : List (Bool × F)) → first_that tests ≡ None → All (λ x. x.0 ≡ false) tests
 none_is {F} [] h = All-nil (λ (x : Bool × F). x.0 ≡ false)
 none_is {F} (x ∷ xs) h =

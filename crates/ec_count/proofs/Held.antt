@@ -1,4 +1,4 @@
--- Whoever has a right is declared, and so is what the right is on.
+-- Only declared workers have rights, and only on declared objects.
 use Rattle.std.proofs.Common.{◌≡◌, ℕ, ◌<◌, ◌==◌, true, false, ◌||◌, List, [], ◌∷◌, length, slice_get, Some, None, refl, arith}
 use Rattle.std.specs.List.{All}
 use Rattle.std.specs.Option.{option_map_or}
@@ -7,7 +7,7 @@ use Rattle.std.proofs.lemmas.List.Elements.{All-head, All-tail}
 use Rattle.std.proofs.lemmas.Option.{slice_get_within}
 use Rattle.ec_count.specs.declared.setup.Rights.{Rights}
 use Rattle.ec_count.specs.declared.setup.Access.{Access}
-use Rattle.ec_count.specs.Members.{AreWorkers, AreTwoLists, is_member, place_of}
+use Rattle.ec_count.specs.Members.{AreWorkers, AreTwoLists, is_member, index_of}
 use Rattle.ec_count.specs.Tables.{Tables, IsDeclared, component_of}
 use Rattle.ec_count.specs.Laws.{RightsAreDeclared}
 use Rattle.ec_count.proofs.shared.Declared.{at_place, found_there, rights_at}
@@ -20,7 +20,7 @@ member_below n w (v ∷ vs) all h =
       | false ↦ λ e g. member_below n w vs (All-tail (λ u. u < n) v vs all) g
     ] refl h
 
--- if w stands in the list of row i, both are declared
+-- if w is in the list of row i, both are declared
 listed : {X : Type 0} (list : X → List ℕ) (n w i : ℕ) (rows : List X) → ((x : X) → slice_get rows i ≡ Some x → AreWorkers n (list x))
     → option_map_or (λ x. is_member w (list x)) (slice_get rows i) false ≡ true → (i < length rows) × (w < n)
 listed {X} list n w i rows each h =
@@ -31,7 +31,7 @@ listed {X} list n w i rows each h =
 
 signals_declared : (t : Tables) → IsDeclared t → (i w c : ℕ) → component_of t i w ≡ Some c → (i < length t.events) × (w < t.workers)
 signals_declared t d i w c h =
-    elim (slice_get t.events i) as (λ o. slice_get t.events i ≡ o → place_of w (option_map_or (λ (r : Rights). r.signal) o []) ≡ Some c → (i < length t.events) × (w < t.workers)) [
+    elim (slice_get t.events i) as (λ o. slice_get t.events i ≡ o → index_of w (option_map_or (λ (r : Rights). r.signal) o []) ≡ Some c → (i < length t.events) × (w < t.workers)) [
       | None ↦ λ at g. (cc)
       | Some r ↦ λ at g.
           (let place = found_there w 0 c r.signal g in

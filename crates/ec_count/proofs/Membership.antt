@@ -20,7 +20,7 @@ set_other (x ∷ xs) zero (suc j) y h = refl
 set_other (x ∷ xs) (suc i) zero y h = refl
 set_other (x ∷ xs) (suc i) (suc j) y h = set_other xs i j y (λ e. h (ap suc e))
 
--- what a table tells once one of its places is written
+-- an element of a table after one element was written
 set_at : (xs : List Bool) (i j : ℕ) (y : Bool) → i < length xs → slice_get (slice_set xs i y) j ≡ cond (i == j) (Some y) (slice_get xs j)
 set_at xs i j y h =
     elim (i == j) as (λ b. (i == j) ≡ b → slice_get (slice_set xs i y) j ≡ cond b (Some y) (slice_get xs j)) [
@@ -36,9 +36,9 @@ one_more false false = refl
 
 -- one more worker at the end, and in the table
 pub added : (ws : List ℕ) (table : List Bool) (a : ℕ) → TellsMembers ws table → a < 16 → TellsMembers (ws ++ a ∷ []) (slice_set table a true)
-added ws table a told small = λ w lt.
-    (set_at table a w true (slice_get_within table a (is_member a ws) (told a small))
-    ∙ ap (cond (a == w) (Some true)) (told w lt)
+added ws table a returned small = λ w lt.
+    (set_at table a w true (slice_get_within table a (is_member a ws) (returned a small))
+    ∙ ap (cond (a == w) (Some true)) (returned w lt)
     ∙ one_more (is_member w ws) (a == w)
     ∙ ap Some (sym (list_any-append (λ v. v == w) ws (a ∷ []))))
 
@@ -46,7 +46,7 @@ either : (s : Bool) → true ≡ cond s true true
 either true = refl
 either false = refl
 
--- who is a member once b stands in the place of a
+-- who is a member once b replaces a
 member_replaced : (w a b c : ℕ) (ws : List ℕ) → slice_get ws c ≡ Some a → has_repeat ws ≡ false
     → is_member w (slice_set ws c b) ≡ cond (b == w) true (cond (a == w) false (is_member w ws))
 member_replaced w a b c [] at different = cc
@@ -75,16 +75,16 @@ apart true t m = refl
 apart false true m = refl
 apart false false m = refl
 
--- a worker in the place of another, in the list and in the table
+-- one worker replaces another, in the list and in the table
 pub replaced : (ws : List ℕ) (table : List Bool) (a b c : ℕ) → AreMembers ws table → slice_get ws c ≡ Some a → a < 16 → b < 16 → is_member b ws ≡ false
     → AreMembers (slice_set ws c b) (slice_set (slice_set table a false) b true)
 replaced ws table a b c s at small_a small_b new = record {
   different = set_distinct ws c b new s.different;
-  told = λ w lt.
-      (let within_a : a < length table = slice_get_within table a (is_member a ws) (s.told a small_a) in
-      let within_b : b < length table = slice_get_within table b (is_member b ws) (s.told b small_b) in
+  returned = λ w lt.
+      (let within_a : a < length table = slice_get_within table a (is_member a ws) (s.returned a small_a) in
+      let within_b : b < length table = slice_get_within table b (is_member b ws) (s.returned b small_b) in
       set_at (slice_set table a false) b w true (omega (arith, length-set table a false, within_b))
-      ∙ ap (cond (b == w) (Some true)) (set_at table a w false within_a ∙ ap (cond (a == w) (Some false)) (s.told w lt))
+      ∙ ap (cond (b == w) (Some true)) (set_at table a w false within_a ∙ ap (cond (a == w) (Some false)) (s.returned w lt))
       ∙ apart (b == w) (a == w) (is_member w ws)
       ∙ ap Some (sym (member_replaced w a b c ws at s.different)));
 }

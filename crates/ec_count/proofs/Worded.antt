@@ -8,9 +8,9 @@ use Rattle.std.proofs.lemmas.Slice.Eq.{bytes_eq-Decides}
 use Rattle.std.proofs.lemmas.List.{take-map}
 use Rattle.std.proofs.lemmas.List.Elements.{All-push, All-take, recursion_from_All}
 use Rattle.ec_count.specs.Names.{find_name}
-use Rattle.ec_count.specs.Vocabulary.{AreShort, by_word}
+use Rattle.ec_count.specs.SymbolTable.{AreShort, by_word}
 use Rattle.ec_count.specs.declared.target.Target.{Target}
-use Rattle.ec_count.specs.declared.vocabulary.Word.{Word}
+use Rattle.ec_count.specs.declared.symbol_table.Word.{Word}
 
 pub find_word : (word : List ℕ) (es : List (Word × Target)) → find_name word (by_word es) ≡ lookup (λ k. bytes_eq word k.bytes.items) es
 find_word word [] = refl
@@ -23,7 +23,7 @@ by_word-append (e ∷ es) k t = ap (λ (r : List (List ℕ × Target)). (e.0.byt
 pub by_word-take : (n : ℕ) (es : List (Word × Target)) → by_word (take n es) ≡ take n (by_word es)
 by_word-take n es = sym (take-map (λ (e : Word × Target). (e.0.bytes.items, e.1)) n es)
 
--- a long word is no word of the table
+-- a long word is not in the table
 none_long : (word : List ℕ) (names : List (List ℕ × Target)) → 24 < length word → AllByRecursion (λ e. length e.0 ≤ 24) names → find_name word names ≡ None
 none_long word [] long short = refl
 none_long word (e ∷ es) long short =

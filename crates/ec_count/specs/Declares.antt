@@ -8,15 +8,15 @@ use Rattle.ec_count.specs.Tables.{Tables}
 abbrev pub with_sequencer : Tables → List ℕ → Tables
 with_sequencer t take = record t { takers = t.takers ++ take ∷ [] }
 
--- e is a fixed eventcount with just these signallers and observers
+-- e is a fixed eventcount with exactly these signallers and observers
 abbrev pub DeclaresFixedEvent : Tables → ℕ → List ℕ → List ℕ → Type 0
 DeclaresFixedEvent t e signal observe = slice_get t.events e ≡ Some (record { signal = signal; observe = observe; fixed = true })
 
--- q is a sequencer with just these takers
+-- q is a sequencer with exactly these takers
 abbrev pub DeclaresSequencer : Tables → ℕ → List ℕ → Type 0
 DeclaresSequencer t q take = slice_get t.takers q ≡ Some take
 
--- the n cells from this one on have just these writers and readers
+-- the n cells from this one on have exactly these writers and readers
 abbrev pub DeclaresCells : Tables → ℕ → ℕ → List ℕ → List ℕ → Type 0
 DeclaresCells t first n write read = (k : ℕ) → k < n → slice_get t.cells (first + k) ≡ Some (record { write = write; read = read })
 

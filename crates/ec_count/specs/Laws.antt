@@ -5,7 +5,7 @@ use Rattle.ec_count.specs.declared.target.Target.{Target}
 use Rattle.ec_count.specs.Names.{AreNames, find_name, name_of}
 use Rattle.ec_count.specs.Tables.{Tables, IsDeclared, first_that, component_of, signaller, is_silent, may_observe, may_take, may_write, may_read}
 
--- if a fault is answered its test holds and none before it does; if none is, no test holds
+-- the fault is that of the first test that holds; if there is none, no test holds
 abbrev pub FirstTestAnswers : Type 0 → Type 0
 FirstTestAnswers F = (tests : List (Bool × F))
     → MatchOption (first_that tests)
@@ -38,14 +38,14 @@ pub record AreBothDeclared (t : Tables) (i w : ℕ) : Type 0 where
 abbrev pub RightsAreDeclared : Type 0
 RightsAreDeclared = (t : Tables) → IsDeclared t → (i w : ℕ) → AreBothDeclared t i w
 
--- the name was added for the target, and none before it was
+-- the name was added for the target, and no earlier name was
 pub record IsFirstName (target : Target) (names : List (List ℕ × Target)) (name : List ℕ) : Type 0 where
   pub place : ℕ
   pub at : slice_get names place ≡ Some (name, target)
   pub none_before : (k : ℕ) (e : List ℕ × Target) → k < place → slice_get names k ≡ Some e → e.1 ≢ target
 
--- an entry of a table of names is found by its name, and so is the target of a name that is given for it, which is the
--- first that was added for the target
+-- an entry of a table of names is found by its name; the name that is returned for a target is the
+-- first that was added for it, and is found with this target
 pub record AreFound (names : List (List ℕ × Target)) : Type 0 where
   pub entries : (i : ℕ) (e : List ℕ × Target) → slice_get names i ≡ Some e → find_name e.0 names ≡ Some e.1
   pub targets : (target : Target) (name : List ℕ) → name_of target names ≡ Some name → find_name name names ≡ Some target

@@ -1,4 +1,4 @@
--- The lists of a declared thing, in the order in which they were declared; none if it is not declared.
+-- The lists of a declared object, in the order of declaration; empty if it is not declared.
 use Rattle.std.specs.Prelude.{ℕ, List, [], slice_get}
 use Rattle.std.specs.Option.{option_map_or}
 use Rattle.ec_count.specs.declared.setup.Rights.{Rights}

@@ -6,11 +6,12 @@ use Rattle.ec_count.specs.declared.setup.SetupFault.TheVariants.{TooMany, Unknow
 use Rattle.ec_count.specs.Members.{has_repeat, is_member}
 use Rattle.ec_count.specs.Tables.{Tables, first_that, names_unknown}
 
--- whether a worker stands in both lists
+-- whether a worker is in both lists
 abbrev pub shares_worker : List ℕ → List ℕ → Bool
 shares_worker first second = list_any (λ w. is_member w second) first
 
--- why a thing with these two roles can't be declared, if it can't, if it would pass the bound of a table or has nothing to hold
+-- why an object with these two roles can't be declared, if it can't; full says that a table has too
+-- little room for it, none that it would have no cell
 abbrev pub roles_fault : Tables → Bool → List ℕ → List ℕ → Bool → Option SetupFault
 roles_fault t full first second none = first_that (
     (full || nat_lt 16 (length first) || nat_lt 16 (length second), TooMany)

@@ -1,4 +1,4 @@
--- Whether a row of a table has just these lists, and is fixed if it is that of an eventcount.
+-- Whether a row of a table has exactly these lists. The row of an eventcount must also be fixed.
 use Rattle.std.specs.Prelude.{ℕ, Bool, false, ◌&&◌, nat_eq, List, slice_get}
 use Rattle.std.specs.Option.{option_map_or}
 use Rattle.std.specs.Cmp.Lexicographic.{pointwise}

@@ -1,5 +1,5 @@
 //! Names, in the order in which they were added.
-ghost use Rattle.ec_count.specs.Names.{AreNames, find_name, name_fault, name_of, place_of, same_target, with_first};
+ghost use Rattle.ec_count.specs.Names.{AreNames, find_name, name_fault, name_of, name_index, same_target, with_first};
 ghost use Rattle.ec_count.specs.declared.target.Target.{Target};
 ghost use Rattle.indexmap.specs.IndexMap.{spare};
 ghost use Rattle.std.specs.Map.{lookup};
@@ -14,26 +14,27 @@ use std::marker::Model;
 use std::str::from_utf8;
 use thiserror::Error;
 
-/// Why a name can't be added: the first that holds.
+/// Why a name can't be added: the first reason that applies.
 #[derive(Clone, Copy, Debug, PartialEq, Eq, Error)]
 pub enum NameFault {
-    /// The word is no name.
+    /// The word is not a name.
     #[error("the word is no name")]
     BadName,
     /// The name was added before.
     #[error("the name was added before")]
     NameTaken,
-    /// Memory was refused.
+    /// An allocation failed.
     #[error("memory was refused")]
     Memory,
 }
 
-/// Different names and what each stands for, in the order in which they were added. A look-up by
-/// name, by place or by target costs about the same at any number of names.
+/// Different names with their targets, in the order in which they were added.
+///
+/// A look-up by name, by position or by target costs about the same at any number of names.
 #[derive(Drop)]
 pub struct Names {
     table: IndexMap<Vec<u8>, Target>,
-    /// Of each target the place of its first name.
+    /// The position of each target's first name.
     firsts: IndexMap<Target, usize>,
 }
 
@@ -51,7 +52,7 @@ impl Model for Names {
 }
 
 impl Names {
-    /// Makes a table of no names, with room for a few.
+    /// Makes an empty table, with room for a few names.
     pub fn new(alloc: Global) -> Result<Self, AllocError>
         ensures { IfOk result (λ names. names ≡ []) }
     {
@@ -60,8 +61,8 @@ impl Names {
         Ok(Names { table, firsts })
     }
 
-    /// States what is true of the names.
-    pub fn known(&self)
+    /// States that each word of the table is a name, and that no two are the same.
+    pub fn invariant(&self)
         ensures { AreNames self.now }
     {
         let _table = &self.table;
@@ -74,14 +75,14 @@ impl Names {
         self.table.len()
     }
 
-    /// Returns what the name stands for.
+    /// Returns the target of the name; `None` if it was not added.
     pub fn find(&self, name: &str) -> Option<Target>
         ensures { result ≡ find_name name.now self.now }
     {
         self.find_bytes(name.as_bytes())
     }
 
-    /// Returns what the name of these bytes stands for.
+    /// Returns the target of the name of these bytes; `None` if it was not added.
     pub fn find_bytes(&self, name: &[u8]) -> Option<Target>
         ensures { result ≡ find_name name.now self.now }
     {
@@ -100,7 +101,7 @@ impl Names {
         None
     }
 
-    /// Adds a name at the end.
+    /// Adds a name at the end, or returns the first fault that applies and changes nothing.
     pub fn add(&mut self, name: &str, target: Target) -> Result<(), NameFault>
         ensures fault { MatchOption (name_fault name.now self.old) (IfErr result (λ fault. fault ≡ NameFault.Memory)) (λ fault. result ≡ Err fault) }
         ensures ok { OnOk result (self.new ≡ self.old ++ (name.now, target) ∷ []) }
@@ -109,7 +110,7 @@ impl Names {
         self.add_bytes(name.as_bytes(), target)
     }
 
-    /// Adds the name of these bytes at the end.
+    /// Adds the name of these bytes at the end, as `add` does.
     pub fn add_bytes(&mut self, name: &[u8], target: Target) -> Result<(), NameFault>
         ensures fault { MatchOption (name_fault name.now self.old) (IfErr result (λ fault. fault ≡ NameFault.Memory)) (λ fault. result ≡ Err fault) }
         ensures ok { OnOk result (self.new ≡ self.old ++ (name.now, target) ∷ []) }
@@ -142,19 +143,19 @@ impl Names {
         }
     }
 
-    /// Returns the name at a place, and what it stands for.
+    /// Returns the name at a position, and its target.
     pub fn at(&self, place: usize) -> Option<(&str, Target)>
         ensures { option_map (λ e. (e.0.now, e.1)) result ≡ slice_get self.now place }
     {
         match self.entry(place) {
             None => None,
-            Some((name, target)) => Some((text_of(name), target)),
+            Some((name, target)) => Some((name_text(name), target)),
         }
     }
 
-    /// Returns the place of the first name that was added for the target.
-    fn place_of(&self, target: &Target) -> Option<usize>
-        ensures { result ≡ place_of target.now self.now }
+    /// Returns the position of the first name that was added for the target.
+    fn name_index(&self, target: &Target) -> Option<usize>
+        ensures { result ≡ name_index target.now self.now }
     {
         self.firsts.get(target).copied()
     }
@@ -163,7 +164,7 @@ impl Names {
     pub fn name_of(&self, target: Target) -> Option<&str>
         ensures { option_map (λ name. name.now) result ≡ name_of target self.now }
     {
-        let place = self.place_of(&target)?;
+        let place = self.name_index(&target)?;
         match self.at(place) {
             None => None,
             Some((name, _)) => Some(name),
@@ -171,7 +172,7 @@ impl Names {
     }
 }
 
-/// Notes the place of a target's name, unless the target has one already.
+/// Stores the position of a target's name, unless one is stored for the target already.
 fn note_first(firsts: &mut IndexMap<Target, usize>, target: &Target, place: usize)
     requires { 0 < spare firsts.old }
     ensures { (t : Target) → lookup (same_target t) firsts.new.entries ≡ with_first target.now place t (lookup (same_target t) firsts.old.entries) }
@@ -185,7 +186,7 @@ fn note_first(firsts: &mut IndexMap<Target, usize>, target: &Target, place: usiz
 }
 
 /// Returns the text of a name.
-fn text_of(name: &[u8]) -> &str
+fn name_text(name: &[u8]) -> &str
     requires { is_name name.now ≡ true }
     ensures { result.now ≡ name.now }
 {

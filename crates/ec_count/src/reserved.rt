@@ -3,7 +3,7 @@ ghost use Rattle.ec_count.specs.Reserved.{is_name, is_name_byte, is_reserved};
 ghost use Rattle.std.specs.List.{list_all, list_any};
 ghost use Rattle.std.specs.Prelude.{◌≡◌, bytes_eq};
 
-/// The words that the texts use themselves, which name nothing.
+/// The words that the texts use themselves, which can't be names.
 static RESERVED: [&str; 36] = [
     "advance",
     "await",
@@ -50,7 +50,7 @@ fn is_among(word: &[u8], words: &[&str]) -> bool
     words.iter().any(|w| w.as_bytes() == word)
 }
 
-/// Returns whether each byte may stand in a name after the first.
+/// Returns whether each byte may follow the first byte of a name.
 fn has_name_bytes(rest: &[u8]) -> bool
     ensures { result ≡ list_all is_name_byte rest.now }
 {
@@ -58,8 +58,10 @@ fn has_name_bytes(rest: &[u8]) -> bool
         .all(|byte| byte.is_ascii_alphanumeric() || *byte == b'_')
 }
 
-/// Returns whether a word is a name: an ASCII letter and then at most 15 ASCII letters, digits or
-/// underscores, and no reserved word.
+/// Returns whether a word is a name.
+///
+/// A name is an ASCII letter, then at most 15 ASCII letters, digits or underscores. It is not a
+/// reserved word.
 #[tactic(auto, unfolding(crate::specs::Reserved::is_name))]
 pub fn is_name(word: &[u8]) -> bool
     ensures { result ≡ is_name word.now }

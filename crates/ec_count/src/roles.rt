@@ -7,7 +7,7 @@ use crate::setup::names_unknown;
 use crate::{Setup, SetupFault, WorkerId};
 use arrayvec::ArrayVec;
 
-/// Returns whether a worker stands in both lists.
+/// Returns whether a worker is in both lists.
 pub fn shares_worker(first: &[WorkerId], second: &[WorkerId]) -> bool
     ensures { result ≡ shares_worker first.now second.now }
 {
@@ -15,7 +15,7 @@ pub fn shares_worker(first: &[WorkerId], second: &[WorkerId]) -> bool
 }
 
 /// Returns the workers of the first list, then those of the second.
-pub fn joined(first: &[WorkerId], second: &[WorkerId]) -> ArrayVec<WorkerId, 32>
+pub fn concat(first: &[WorkerId], second: &[WorkerId]) -> ArrayVec<WorkerId, 32>
     requires few_first { length first.now ≤ 16 }
     requires few_second { length second.now ≤ 16 }
     ensures { result.items ≡ first.now ++ second.now }
@@ -27,9 +27,10 @@ pub fn joined(first: &[WorkerId], second: &[WorkerId]) -> ArrayVec<WorkerId, 32>
 }
 
 impl Setup {
-    /// Returns why an object with these two roles can't be declared: the first fault that holds, or
-    /// None. `full` says that its table has no room for one more, and `none` that it would hold
-    /// nothing.
+    /// Returns why an object with these two roles can't be declared; `None` if it can.
+    ///
+    /// The first fault that applies is returned. `full` says that a table has too little room for
+    /// the object, `none` that the object would have no cell.
     pub fn roles_fault(
         &self,
         full: bool,

@@ -1,10 +1,10 @@
-//! What a name stands for.
+//! What a name denotes.
 ghost use Rattle.std.specs.Prelude.{◌≡◌};
 
 use crate::{CellId, EventId, SeqId, WorkerId};
 use std::hash::{Hash, Hasher};
 
-/// What a name stands for.
+/// What a name denotes.
 #[derive(Clone, Copy, Debug)]
 pub enum Target {
     Worker(WorkerId),

@@ -1,4 +1,4 @@
--- How many calls on a group a worker has finished.
+-- How many calls on a group a worker has completed.
 use Rattle.std.proofs.Common.{◌≡◌, ℕ, ◌+◌, ◌≤◌, Bool, true, false, List, [], ◌∷◌, ◌++◌, length, append_assoc, refl, ap, sym, ◌∙◌, arith, subst, cond, ◌==◌}
 use Rattle.std.proofs.lemmas.Bool.{eqb-true}
 use Rattle.std.proofs.lemmas.List.{length-append, append-nil}
@@ -6,14 +6,14 @@ use Rattle.std.proofs.lemmas.List.Elements.{filter-append}
 use Rattle.ec_core.specs.declared.act.Act.{Act}
 use Rattle.ec_core.specs.declared.act.Entry.{Entry}
 use Rattle.ec_core.specs.Calls.{is_pending}
-use Rattle.ec_core.specs.Following.{Told, Rule, block}
-use Rattle.ec_core.specs.JoinedLists.{finished_by, calls_on}
+use Rattle.ec_core.specs.Following.{CompletedCall, Rule, block}
+use Rattle.ec_core.specs.JoinedLists.{completed_calls_of, calls_on}
 use Rattle.ec_core.proofs.shared.FittingCalls.{list_after, told_at, block_is, finished_other, finished_same, finished_more}
 use Rattle.ec_core.proofs.shared.Following.{op_at}
 use Rattle.ec_core.proofs.shared.Reading.{began, began_block}
 
 abbrev pub number : (Act → Bool) → ℕ → List Entry → ℕ
-number on w past = length (calls_on on (finished_by w past))
+number on w past = length (calls_on on (completed_calls_of w past))
 
 pub number_other : (on : Act → Bool) (w : ℕ) (x : Entry) (past : List Entry) → (x.worker == w) ≡ false → number on w (x ∷ past) ≡ number on w past
 number_other on w x past h = ap (λ cs. length (calls_on on cs)) (finished_other w x past h)
@@ -24,9 +24,9 @@ number_pending on x past h = ap (λ cs. length (calls_on on cs)) (finished_same 
 number_more : (on : Act → Bool) (x : Entry) (past : List Entry) → is_pending x.reply ≡ false
     → number on x.worker (x ∷ past) ≡ number on x.worker past + length (calls_on on (told_at x past ∷ []))
 number_more on x past h =
-    let before = finished_by x.worker past in
+    let before = completed_calls_of x.worker past in
     let new = told_at x past ∷ [] in
-    ap (λ cs. length (calls_on on cs)) (finished_more x past h) ∙ ap length (filter-append (λ (c : Told). on c.op) before new) ∙ length-append (calls_on on before) (calls_on on new)
+    ap (λ cs. length (calls_on on cs)) (finished_more x past h) ∙ ap length (filter-append (λ (c : CompletedCall). on c.op) before new) ∙ length-append (calls_on on before) (calls_on on new)
 
 pub number_on : (on : Act → Bool) (x : Entry) (past : List Entry) → is_pending x.reply ≡ false → on (op_at x past) ≡ true → number on x.worker (x ∷ past) ≡ number on x.worker past + 1
 number_on on x past h is = number_more on x past h ∙ ap (λ b. number on x.worker past + length (cond b (told_at x past ∷ []) [])) is
@@ -53,14 +53,14 @@ number_rises on w x past =
 abbrev all_calls : Rule
 all_calls = record { concerns = λ b op. true; fits = λ b op. true; ends = λ b. false }
 
-after_all : (b calls : List Told) → list_after all_calls b calls ≡ b ++ calls
+after_all : (b calls : List CompletedCall) → list_after all_calls b calls ≡ b ++ calls
 after_all b [] = sym (append-nil b)
 after_all b (c ∷ calls) = after_all (b ++ c ∷ []) calls ∙ append_assoc b (c ∷ []) calls
 
-all_finished : (w : ℕ) (past : List Entry) → block all_calls w past ≡ finished_by w past
-all_finished w past = block_is all_calls w past ∙ after_all [] (finished_by w past)
+all_finished : (w : ℕ) (past : List Entry) → block all_calls w past ≡ completed_calls_of w past
+all_finished w past = block_is all_calls w past ∙ after_all [] (completed_calls_of w past)
 
--- as many as when the call that an entry is part of began
+-- as many are completed as when the call that an entry is part of began
 pub number_began : (on : Act → Bool) (x : Entry) (past : List Entry) → number on x.worker (began x past) ≡ number on x.worker past
 number_began on x past =
     ap (λ cs. length (calls_on on cs)) (sym (all_finished x.worker (began x past)) ∙ began_block all_calls x past ∙ all_finished x.worker past)

@@ -1,4 +1,4 @@
--- If nothing speaks against a database, each of its objects is added.
+-- If a database has no fault, each of its objects is added.
 use Rattle.std.proofs.Common.{◌≡◌, ◌≢◌, ℕ, ◌+◌, ◌≤◌, ◌<◌, ◌==◌, nat_lt, true, false, ◌||◌, List, [], ◌∷◌, ◌++◌, length, replicate, slice_get, Some, None, Ok, ap, sym, ◌∙◌, subst, arith, length-append}
 use Rattle.std.specs.Prelude.{Result, OnOk}
 use Rattle.std.proofs.lemmas.Bool.{or_parts, ltb-false, eqb-false}
@@ -14,7 +14,7 @@ use Rattle.ec_count.proofs.shared.Keeping.{still_there}
 use Rattle.ec_core.proofs.shared.Joining.{get_back}
 use Rattle.ec_database.specs.Shapes.{DeclaresDatabase, lacks_room, database_fault, with_database, next_database}
 
--- nothing speaks against any object of the database, once those before it are added
+-- no object of the database has a fault, once those before it are added
 pub record IsFree (t : Tables) (n : ℕ) (write read : List ℕ) : Type 0 where
   pub start : event_fault t write read ≡ None
   pub done : event_fault (with_fixed_event t write read) write (write ++ read) ≡ None

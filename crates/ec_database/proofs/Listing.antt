@@ -1,21 +1,20 @@
--- The accepting tries are listed in the order of their last steps.
+-- The accepted tries are listed in the order of their last steps.
 use Rattle.std.proofs.Common.{◌≡◌, ℕ, Bool, true, false, ◌||◌, not, cond, List, [], ◌∷◌, ◌++◌, append_assoc, length, reverse, Option, Some, None, refl, ap, sym, ◌∙◌, arith, ◌⊎◌, inl, inr, slice_get}
 use Rattle.std.specs.Prelude.{option_to_list}
 use Rattle.std.proofs.lemmas.List.{append-nil}
 use Rattle.ec_count.specs.Tables.{Tables}
 use Rattle.ec_core.specs.declared.act.Entry.{Entry}
-use Rattle.ec_core.specs.declared.protocol.Kept.{Kept}
+use Rattle.ec_core.specs.declared.protocol.ListProgress.{ListProgress}
 use Rattle.ec_core.specs.Calls.{is_pending}
 use Rattle.ec_core.specs.Counts.{past_at}
-use Rattle.ec_core.specs.Following.{Told, block}
+use Rattle.ec_core.specs.Following.{CompletedCall, block}
 use Rattle.ec_core.proofs.shared.Following.{op_at}
-use Rattle.ec_core.proofs.shared.Joining.{get_back}
+use Rattle.ec_core.proofs.shared.Joining.{get_back, last_get}
 use Rattle.ec_database.specs.Shapes.{Database}
 use Rattle.ec_database.specs.Following.{is_on, try_rule, writes}
 use Rattle.ec_database.specs.Tries.{AcceptedTry, accepted_of, ended_by, ended_at, accepted_tries, ListsTries, AreUndisturbed}
-use Rattle.ec_database.specs.Auditing.{finished_call}
+use Rattle.ec_database.specs.Auditing.{completed_call}
 use Rattle.ec_database.specs.Laws.{IsFollowed, TriesAreListed}
-use Rattle.ec_database.proofs.Readers.{last_get}
 use Rattle.ec_database.proofs.CallsStand.{entry_at}
 use Rattle.ec_database.proofs.Undisturbed.{here, undisturbed}
 
@@ -23,7 +22,7 @@ tries_step : (d : Database) (writers : ℕ → Bool) (x : Entry) (past : List En
 unfolding accepted_tries
 tries_step d writers x past = refl
 
--- those of a past come first
+-- those of an earlier history come first
 record TriesMore (d : Database) (writers : ℕ → Bool) (since early : List Entry) : Type 0 where
   more : List AcceptedTry
   is : accepted_tries d writers (since ++ early) ≡ accepted_tries d writers early ++ more
@@ -38,7 +37,7 @@ tries_more d writers (x ∷ since) early =
       is = tries_step d writers x (since ++ early) ∙ ap (λ l. l ++ o) rest.is ∙ append_assoc (accepted_tries d writers early) rest.more o;
     }
 
--- where an entry of a past ends a try
+-- an entry of a history so far ends a try
 record TryStands (d : Database) (writers : ℕ → Bool) (past : List Entry) (i : ℕ) (a : AcceptedTry) : Type 0 where
   since : List Entry
   entry : Entry
@@ -91,21 +90,21 @@ listed t d h = record {
 pub first_tries : (d : Database) (writers : ℕ → Bool) → accepted_tries d writers [] ≡ []
 first_tries = no_tries
 
-ends_none : {X Y : Type 0} (w p o : Bool) (call : X) (told : Option Y) → cond (w || p || not o) None (Some call) ≡ None → None ≡ cond (w || p) None (cond o told None)
-ends_none true p o call told h = refl
-ends_none false true o call told h = refl
-ends_none false false false call told h = refl
-ends_none false false true call told h = cc
+ends_none : {X Y : Type 0} (w p o : Bool) (call : X) (returned : Option Y) → cond (w || p || not o) None (Some call) ≡ None → None ≡ cond (w || p) None (cond o returned None)
+ends_none true p o call returned h = refl
+ends_none false true o call returned h = refl
+ends_none false false false call returned h = refl
+ends_none false false true call returned h = cc
 
--- one more entry, whose accepting try is added if it ends one
+-- one more entry, whose accepted try is added if it ends one
 pub next_tries : (d : Database) (writers : ℕ → Bool) (x : Entry) (past : List Entry) (list list' : List AcceptedTry) (o : Option AcceptedTry)
     → list ≡ accepted_tries d writers past → list' ≡ list ++ option_to_list o → o ≡ ended_at d writers x past → list' ≡ accepted_tries d writers (x ∷ past)
-next_tries d writers x past list list' o h added told =
-    added ∙ ap (λ l. l ++ option_to_list o) h ∙ ap (λ z. accepted_tries d writers past ++ option_to_list z) told ∙ sym (tries_step d writers x past)
+next_tries d writers x past list list' o h added returned =
+    added ∙ ap (λ l. l ++ option_to_list o) h ∙ ap (λ z. accepted_tries d writers past ++ option_to_list z) returned ∙ sym (tries_step d writers x past)
 
--- one more entry that finishes no call of a reader on the database
-pub same_tries : (d : Database) (writers : ℕ → Bool) (x : Entry) (past : List Entry) (list : List AcceptedTry) (kept : Kept)
-    → finished_call d (writers x.worker) kept (op_at x past) x ≡ None → list ≡ accepted_tries d writers past → list ≡ accepted_tries d writers (x ∷ past)
+-- one more entry that completes no call of a reader on the database
+pub same_tries : (d : Database) (writers : ℕ → Bool) (x : Entry) (past : List Entry) (list : List AcceptedTry) (kept : ListProgress)
+    → completed_call d (writers x.worker) kept (op_at x past) x ≡ None → list ≡ accepted_tries d writers past → list ≡ accepted_tries d writers (x ∷ past)
 same_tries d writers x past list kept none h =
     next_tries d writers x past list list None h (sym (append-nil list)) (ends_none (writers x.worker) (is_pending x.reply) (is_on d (op_at x past)) _ _ none)
 
@@ -113,10 +112,10 @@ same_tries d writers x past list kept none h =
 none_ended : (d : Database) (writers : ℕ → Bool) (x : Entry) (past : List Entry) → is_on d (op_at x past) ≡ false → ended_at d writers x past ≡ None
 none_ended d writers x past off =
     let calls = block (try_rule d) x.worker past in
-    let told : Told = record { op = op_at x past; reply = x.reply } in
-    elim (writers x.worker || is_pending x.reply) as (λ b. cond b None (ended_by d x.worker calls told) ≡ None) [
+    let returned : CompletedCall = record { op = op_at x past; reply = x.reply } in
+    elim (writers x.worker || is_pending x.reply) as (λ b. cond b None (ended_by d x.worker calls returned) ≡ None) [
       | true ↦ refl
-      | false ↦ ap (λ b. cond b (accepted_of d x.worker (calls ++ told ∷ [])) None) off
+      | false ↦ ap (λ b. cond b (accepted_of d x.worker (calls ++ returned ∷ [])) None) off
     ]
 
 pub tries_off : (d : Database) (writers : ℕ → Bool) (x : Entry) (past : List Entry) → is_on d (op_at x past) ≡ false → accepted_tries d writers (x ∷ past) ≡ accepted_tries d writers past

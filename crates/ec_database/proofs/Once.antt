@@ -8,7 +8,7 @@ use Rattle.ec_core.specs.Following.{block}
 use Rattle.ec_core.proofs.shared.Moments.{past_next, past_end, accepted_of}
 use Rattle.ec_core.specs.Acceptance.{IsAccepted}
 use Rattle.ec_database.specs.Shapes.{Database}
-use Rattle.ec_database.specs.Calls.{turn_of}
+use Rattle.ec_database.specs.Calls.{drawn_turn}
 use Rattle.ec_database.specs.Following.{writes, write_rule, try_rule, FollowsDatabase}
 use Rattle.ec_database.specs.Versions.{PutsValue}
 use Rattle.ec_database.specs.Laws.{IsFollowed, VersionsArePutOnce}
@@ -44,7 +44,7 @@ turn_is_count t d h k turn i v f lt p =
     let acc : IsAccepted t (x ∷ past) = accepted_of t h (x ∷ past) f.accepted with_past in
     let fol : FollowsDatabase t d (x ∷ past) = follow_of t d h (x ∷ past) f.followed with_past in
     sym (put_turn d (writes t d) t x past i v f.shape f.declared acc fol lt (sym (put_in_op (d.first_cell + i) t x past acc) ∙ p.puts))
-    ∙ ap (λ b. turn_of (block (cond b (write_rule d) (try_rule d)) x.worker past)) p.writer ∙ p.drawn
+    ∙ ap (λ b. drawn_turn (block (cond b (write_rule d) (try_rule d)) x.worker past)) p.writer ∙ p.drawn
 
 -- a later put has a later turn
 later_turn : (t : Tables) (d : Database) (h : List Entry) (j k turn i v w : ℕ) → IsFollowed t d h → i < d.cells → PutsValue t d h j turn i v → PutsValue t d h k turn i w → k ≤ j

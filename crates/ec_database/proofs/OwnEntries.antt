@@ -1,4 +1,5 @@
--- An accepting try has one first read and one get of each value: no two entries end calls of one number.
+-- An accepted try has one first read and one get of each value: no two entries end calls of one
+-- number.
 use Rattle.std.proofs.Common.{◌≡◌, ℕ, zero, suc, ◌+◌, ◌-◌, ◌<◌, ◌≤◌, Bool, true, false, ◌||◌, List, ◌∷◌, Option, Some, None, refl, ap, ◌∙◌, arith, subst, ◌==◌, nat_lt, slice_get}
 use Rattle.std.proofs.lemmas.Bool.{eq-eqb, ltb-true, ltb-false}
 use Rattle.ec_core.specs.declared.act.Act.{Act}
@@ -7,7 +8,7 @@ use Rattle.ec_core.specs.declared.act.Reply.TheVariants.{Number}
 use Rattle.ec_core.specs.declared.act.Entry.{Entry}
 use Rattle.ec_core.specs.Counts.{past_at}
 use Rattle.ec_core.specs.Calls.{is_pending, under_way}
-use Rattle.ec_core.specs.Following.{opened}
+use Rattle.ec_core.specs.Following.{opening_act}
 use Rattle.ec_core.proofs.shared.Following.{op_at}
 use Rattle.ec_core.proofs.shared.Moments.{past_next, past_end}
 use Rattle.ec_database.specs.Shapes.{Database}
@@ -69,8 +70,8 @@ read_ends d h k w v e =
       entry = x;
       is = e.is;
       by = e.by;
-      done = ap is_pending e.told;
-      on_group = ap (λ u. is_on d (opened x.act (under_way u (past_at k h)))) e.by ∙ ap (is_on d) e.began ∙ ap (λ b. b || d.start == d.done) (eq-eqb d.start d.start refl);
+      done = ap is_pending e.returned;
+      on_group = ap (λ u. is_on d (opening_act x.act (under_way u (past_at k h)))) e.by ∙ ap (is_on d) e.began ∙ ap (λ b. b || d.start == d.done) (eq-eqb d.start d.start refl);
     }
 
 get_ends : (d : Database) (h : List Entry) (k w j v : ℕ) → j < d.cells → slice_get h k ≡ Some (record { worker = w; act = Get (d.first_cell + j); reply = Number v }) → EndsOne (is_on d) w h k

@@ -1,17 +1,17 @@
--- The call lists by place are the call lists.
+-- The call lists by index are the call lists.
 use Rattle.std.proofs.Common.{◌≡◌, ◌≢◌, ℕ, zero, suc, ◌+◌, ◌-◌, ◌<◌, ◌≤◌, true, false, List, [], ◌∷◌, length, Some, None, nat_lt, get_or, refl, ap, sym, ◌∙◌, arith, cond, ◌==◌}
 use Rattle.std.proofs.lemmas.Bool.{eqb-true, eqb-false, eq-eqb, ne_eqb, ltb-true, ltb-false, lt-ltb, le-ltb}
 use Rattle.ec_core.specs.declared.act.Act.TheVariants.{Advance, Put}
-use Rattle.ec_core.specs.Following.{Told}
-use Rattle.ec_core.specs.CallLists.{number_of}
+use Rattle.ec_core.specs.Following.{CompletedCall}
+use Rattle.ec_core.specs.CallLists.{reply_number}
 use Rattle.ec_database.specs.Shapes.{Database}
-use Rattle.ec_database.specs.Calls.{turn_of, write_call}
-use Rattle.ec_database.specs.Places.{write_at, turn_after, write_rest}
+use Rattle.ec_database.specs.Calls.{drawn_turn, write_call}
+use Rattle.ec_database.specs.SnapshotPhases.{write_at, turn_after, write_rest}
 
--- WRITINGS
+-- WRITES
 
 -- the turn after one more call
-turn_next : (at turn : ℕ) (c : Told) (calls : List Told) → turn_after at turn (c ∷ calls) ≡ turn_after (at + 1) (cond (at == 1) (number_of c.reply) turn) calls
+turn_next : (at turn : ℕ) (c : CompletedCall) (calls : List CompletedCall) → turn_after at turn (c ∷ calls) ≡ turn_after (at + 1) (cond (at == 1) (reply_number c.reply) turn) calls
 turn_next zero turn c [] = refl
 turn_next zero turn c (t ∷ calls) = refl
 turn_next (suc zero) turn c calls = refl
@@ -22,17 +22,17 @@ turn_next (suc (suc k)) turn c calls =
     let none : (suc (suc k) == 0) ≡ false = ne_eqb (suc (suc k)) 0 (λ e. omega arith) in
     rw (zeroth, first, now, none) refl
 
--- what is left of a writing once a call has answered
-pub write_next : (d : Database) (values : List ℕ) (at turn : ℕ) (c : Told) (calls : List Told)
-    → write_rest d values (at + 1) (cond (at == 1) (number_of c.reply) turn) calls ≡ write_rest d values at turn (c ∷ calls)
+-- what is left of a write once a call has returned
+pub write_next : (d : Database) (values : List ℕ) (at turn : ℕ) (c : CompletedCall) (calls : List CompletedCall)
+    → write_rest d values (at + 1) (cond (at == 1) (reply_number c.reply) turn) calls ≡ write_rest d values at turn (c ∷ calls)
 write_next d values at turn c calls =
     let place : at + 1 + length calls ≡ at + suc (length calls) = omega arith in
-    ap (λ n. write_at d values n (turn_after (at + 1) (cond (at == 1) (number_of c.reply) turn) calls)) place
+    ap (λ n. write_at d values n (turn_after (at + 1) (cond (at == 1) (reply_number c.reply) turn) calls)) place
     ∙ ap (write_at d values (at + suc (length calls))) (sym (turn_next at turn c calls))
 
 -- the same of the fields before and after the call
-pub write_took : (d d' : Database) (values values' : List ℕ) (at at' turn turn' n : ℕ) (c : Told) (calls : List Told)
-    → d' ≡ d → values' ≡ values → at' ≡ at + 1 → turn' ≡ cond (at == 1) n turn → n ≡ number_of c.reply
+pub write_took : (d d' : Database) (values values' : List ℕ) (at at' turn turn' n : ℕ) (c : CompletedCall) (calls : List CompletedCall)
+    → d' ≡ d → values' ≡ values → at' ≡ at + 1 → turn' ≡ cond (at == 1) n turn → n ≡ reply_number c.reply
     → write_rest d' values' at' turn' calls ≡ write_rest d values at turn (c ∷ calls)
 write_took d d' values values' at at' turn turn' n c calls ed ev ea et en =
     ap (λ s. write_rest s values' at' turn' calls) ed
@@ -64,9 +64,9 @@ write_at_put d n turn =
     let back : suc (suc (suc n)) - 3 ≡ n = omega arith in
     rw (zeroth, first, second, lt_three n d.cells, eq_three n d.cells, back) refl
 
--- a writing's call of no values is the one by place
-pub write_call_at : (d : Database) (calls : List Told) → write_call d [] calls ≡ write_at d [] (length calls) (turn_of calls)
+-- a write's call of no values is the one by index
+pub write_call_at : (d : Database) (calls : List CompletedCall) → write_call d [] calls ≡ write_at d [] (length calls) (drawn_turn calls)
 write_call_at d [] = refl
 write_call_at d (a ∷ []) = refl
 write_call_at d (a ∷ t ∷ []) = refl
-write_call_at d (a ∷ t ∷ i ∷ puts) = sym (write_at_put d (length puts) (number_of t.reply))
+write_call_at d (a ∷ t ∷ i ∷ puts) = sym (write_at_put d (length puts) (reply_number t.reply))

@@ -1,4 +1,4 @@
--- Accepting tries as rows of numbers, one behind the other.
+-- Accepted tries as rows of numbers, one after another.
 use Rattle.std.proofs.Common.{◌≡◌, ℕ, zero, suc, ◌+◌, ◌*◌, ◌<◌, ◌≤◌, List, [], ◌∷◌, ◌++◌, length, length-append, map, take, drop, slice_index, slice_get, Option, Some, refl, ap, sym, ◌∙◌, subst, ◌⊎◌, inl, inr, arith, length-drop}
 use Rattle.std.specs.Prelude.{option_to_list}
 use Rattle.std.specs.List.{range_with_len}
@@ -7,7 +7,7 @@ use Rattle.std.proofs.lemmas.List.FromFn.{map-range_with_len_more}
 use Rattle.ec_database.specs.Tries.{AcceptedTry}
 use Rattle.ec_database.specs.Rows.{try_of, try_at, tries_in, AreRows}
 
--- LISTS BY A FUNCTION OF THE PLACE
+-- LISTS BY A FUNCTION OF THE INDEX
 
 range_get : {X : Type 0} (f : ℕ → X) (a n i j : ℕ) → i < n → a + i ≡ j → slice_get (map f (range_with_len a n)) i ≡ Some (f j)
 range_get f a zero i j lt at = absurd (omega arith)
@@ -17,10 +17,6 @@ range_get f a (suc n) (suc i) j lt at = range_get f (a + 1) n i j (omega arith) 
 range_same : {X : Type 0} (f g : ℕ → X) (a n : ℕ) → ((i : ℕ) → i < a + n → f i ≡ g i) → map f (range_with_len a n) ≡ map g (range_with_len a n)
 range_same f g a zero h = refl
 range_same f g a (suc n) h = ap (λ y. y ∷ map f (range_with_len (a + 1) n)) (h a (omega arith)) ∙ ap (λ ys. g a ∷ ys) (range_same f g (a + 1) n (λ i lt. h i (omega arith)))
-
--- what a list begins with
-pub front_is : {X : Type 0} (xs ys : List X) → take (length xs) (xs ++ ys) ≡ xs
-front_is xs ys = take-append-le (length xs) xs ys (omega arith) ∙ take_all (length xs) xs (omega arith)
 
 end_is : {X : Type 0} (xs ys : List X) (n : ℕ) → n ≡ length xs → drop n (xs ++ ys) ≡ ys
 end_is [] ys zero h = refl
@@ -35,7 +31,7 @@ room_for i zero m lt = absurd (omega arith)
 room_for zero (suc n) m lt = omega arith
 room_for (suc i) (suc n) m lt = (let less : i * m + m ≤ n * m = room_for i n m (omega arith) in omega arith)
 
--- row i stands among the numbers
+-- row i is among the numbers
 pub row_within : (cells : ℕ) (numbers : List ℕ) (count i : ℕ) → AreRows cells numbers count → i < count → i * (cells + 2) + (cells + 2) ≤ length numbers
 row_within cells numbers count i h lt = (let room : i * (cells + 2) + (cells + 2) ≤ count * (cells + 2) = room_for i count (cells + 2) lt in let all : length numbers ≡ count * (cells + 2) = h.all in omega arith)
 
@@ -51,7 +47,7 @@ row_read cells (y ∷ numbers) (suc first) zero values room n v = absurd (omega 
 row_read cells (y ∷ numbers) (suc first) (suc next) zero room n v = absurd (omega arith)
 row_read cells (y ∷ numbers) (suc first) (suc next) (suc values) room n v = row_read cells numbers first next values (omega arith) (omega arith) (omega arith)
 
--- the try at a place
+-- the try at an index
 pub try_got : (cells : ℕ) (numbers : List ℕ) (count i : ℕ) → i < count → slice_get (tries_in cells numbers count) i ≡ Some (try_at cells numbers i)
 try_got cells numbers count i lt = range_get (try_at cells numbers) 0 count i i lt (omega arith)
 

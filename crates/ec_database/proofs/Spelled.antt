@@ -5,10 +5,10 @@ use Rattle.std.proofs.lemmas.List.{length-append}
 use Rattle.std.proofs.lemmas.Option.{slice_get_past}
 use Rattle.ec_core.specs.declared.act.Act.{Act}
 use Rattle.ec_core.specs.declared.act.Act.TheVariants.{Advance, Read, Put, Get}
-use Rattle.ec_core.specs.Following.{Told}
+use Rattle.ec_core.specs.Following.{CompletedCall}
 use Rattle.ec_core.proofs.shared.Joining.{get_back}
 use Rattle.ec_database.specs.Shapes.{Database}
-use Rattle.ec_database.specs.Calls.{first_number, turn_of, write_call, try_call, puts_from, gets_from, write_list, try_list}
+use Rattle.ec_database.specs.Calls.{first_number, drawn_turn, write_call, try_call, puts_from, gets_from, write_list, try_list}
 use Rattle.ec_database.specs.Laws.{CallListsAreWritten}
 
 puts_long : (d : Database) (j : ℕ) (values : List ℕ) → length (puts_from d j values) ≡ length values
@@ -34,7 +34,7 @@ front_at [] ys n x h = cc
 front_at (y ∷ xs) ys zero x h = h
 front_at (y ∷ xs) ys (suc n) x h = front_at xs ys n x h
 
--- an act at a place of a list of m acts and one more
+-- an act at an index of a list of m acts and one more
 at_place : (acts : List Act) (last here : Act) (m n : ℕ) → length acts ≡ m → (n < m → slice_get acts n ≡ Some here)
     → cond (nat_lt n m) (Some here) (cond (n == m) (Some last) None) ≡ slice_get (acts ++ last ∷ []) n
 at_place acts last here m n long at =
@@ -48,7 +48,7 @@ at_place acts last here m n long at =
           ] refl)
     ] refl
 
-pub writing : (d : Database) (values : List ℕ) (calls : List Told) → length values ≡ d.cells → write_call d values calls ≡ slice_get (write_list d values (turn_of calls)) (length calls)
+pub writing : (d : Database) (values : List ℕ) (calls : List CompletedCall) → length values ≡ d.cells → write_call d values calls ≡ slice_get (write_list d values (drawn_turn calls)) (length calls)
 writing d values [] long = refl
 writing d values (a ∷ []) long = refl
 writing d values (a ∷ t ∷ []) long = refl
@@ -56,7 +56,7 @@ writing d values (a ∷ t ∷ i ∷ puts) long =
     at_place (puts_from d 0 values) (Advance d.done) (Put (d.first_cell + length puts) (get_or values (length puts) 0)) d.cells (length puts) (puts_long d 0 values ∙ long)
     (λ lt. put_at d 0 values (length puts) (omega arith) ∙ ap (λ k. Some (Put (d.first_cell + k) (get_or values (length puts) 0))) (let z : 0 + length puts ≡ length puts = omega arith in z))
 
-pub a_try : (d : Database) (calls : List Told) → try_call d calls ≡ slice_get (try_list d (first_number calls)) (length calls)
+pub a_try : (d : Database) (calls : List CompletedCall) → try_call d calls ≡ slice_get (try_list d (first_number calls)) (length calls)
 a_try d [] = refl
 a_try d (w ∷ []) = refl
 a_try d (w ∷ a ∷ gets) =

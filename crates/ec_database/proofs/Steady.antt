@@ -1,4 +1,5 @@
--- Writers keep their queues at each step, and where no more writings were started than are done, nothing is put.
+-- Writers keep their queues at each step, and if no more writes were started than are done, nothing
+-- is put.
 use Rattle.std.proofs.Common.{◌≡◌, ℕ, zero, suc, ◌+◌, ◌<◌, ◌≤◌, Bool, true, false, List, [], ◌∷◌, length, Some, None, nat_lt, get_or, refl, ap, ◌∙◌, arith, cond, ◌==◌, ◌⊎◌, inl, inr}
 use Rattle.std.proofs.lemmas.Bool.{ltb-true, leb-false}
 use Rattle.ec_count.specs.Tables.{Tables, IsDeclared}
@@ -7,11 +8,11 @@ use Rattle.ec_core.specs.declared.act.Act.TheVariants.{Advance, Read, Await, Go,
 use Rattle.ec_core.specs.declared.act.Entry.{Entry}
 use Rattle.ec_core.specs.Counts.{total, issued, cell_value, is_advance, is_ticket, put_in, sum_to}
 use Rattle.ec_core.specs.Acceptance.{IsAccepted}
-use Rattle.ec_core.specs.Following.{Told, block, Follow}
-use Rattle.ec_core.specs.CallLists.{is_due, unvalued, number_of}
+use Rattle.ec_core.specs.Following.{CompletedCall, block, Follow}
+use Rattle.ec_core.specs.CallLists.{is_due, without_value, reply_number}
 use Rattle.ec_core.proofs.shared.Answering.{allowed}
 use Rattle.ec_core.proofs.shared.Following.{same_test, op_at, step_told, step_opened, step_due, due_is, off_block}
-use Rattle.ec_core.proofs.shared.Queue.{Seat, IsQueue}
+use Rattle.ec_core.proofs.shared.Queue.{QueuePosition, IsQueue}
 use Rattle.ec_core.proofs.shared.Reading.{made_by, total_by, issued_by, sum_least, sum_less}
 use Rattle.ec_database.specs.Shapes.{Database, IsShape}
 use Rattle.ec_database.specs.Calls.{write_call, try_call}
@@ -56,19 +57,19 @@ calm d writers t past w acc h lt le =
 
 -- WRITES AT EACH STEP
 
-pub on_of : (d : Database) (p : Bool) (calls : List Told) (op : Act) (a : Bool) → (cond p (write_rule d) (try_rule d)).concerns calls op ≡ a → is_on d op ≡ a
+pub on_of : (d : Database) (p : Bool) (calls : List CompletedCall) (op : Act) (a : Bool) → (cond p (write_rule d) (try_rule d)).concerns calls op ≡ a → is_on d op ≡ a
 on_of d true calls op a h = h
 on_of d false calls op a h = h
 
 -- what a reader has next is quiet
-try_quiet : (d : Database) (calls : List Told) (op : Act) → is_due (try_call d calls) (unvalued op) ≡ true → (e : ℕ) × ((op ≡ Read e) ⊎ (((v : ℕ) × (op ≡ Await e v)) ⊎ (op ≡ Get e)))
+try_quiet : (d : Database) (calls : List CompletedCall) (op : Act) → is_due (try_call d calls) (without_value op) ≡ true → (e : ℕ) × ((op ≡ Read e) ⊎ (((v : ℕ) × (op ≡ Await e v)) ⊎ (op ≡ Get e)))
 try_quiet d [] op due = (d.start, inl (due_is (Read d.start) op due).1)
-try_quiet d (r ∷ []) op due = (d.done, inr (inl (number_of r.reply, (due_is (Await d.done (number_of r.reply)) op due).1)))
+try_quiet d (r ∷ []) op due = (d.done, inr (inl (reply_number r.reply, (due_is (Await d.done (reply_number r.reply)) op due).1)))
 try_quiet d (r ∷ a ∷ gets) op due =
-    elim (nat_lt (length gets) d.cells) as (λ b. is_due (cond b (Some (Get (d.first_cell + length gets))) (cond (length gets == d.cells) (Some (Read d.start)) None)) (unvalued op) ≡ true → (e : ℕ) × ((op ≡ Read e) ⊎ (((v : ℕ) × (op ≡ Await e v)) ⊎ (op ≡ Get e)))) [
+    elim (nat_lt (length gets) d.cells) as (λ b. is_due (cond b (Some (Get (d.first_cell + length gets))) (cond (length gets == d.cells) (Some (Read d.start)) None)) (without_value op) ≡ true → (e : ℕ) × ((op ≡ Read e) ⊎ (((v : ℕ) × (op ≡ Await e v)) ⊎ (op ≡ Get e)))) [
       | true ↦ λ due. (d.first_cell + length gets, inr (inr (due_is (Get (d.first_cell + length gets)) op due).1))
       | false ↦ λ due.
-          (elim (length gets == d.cells) as (λ b. is_due (cond b (Some (Read d.start)) None) (unvalued op) ≡ true → (e : ℕ) × ((op ≡ Read e) ⊎ (((v : ℕ) × (op ≡ Await e v)) ⊎ (op ≡ Get e)))) [
+          (elim (length gets == d.cells) as (λ b. is_due (cond b (Some (Read d.start)) None) (without_value op) ≡ true → (e : ℕ) × ((op ≡ Read e) ⊎ (((v : ℕ) × (op ≡ Await e v)) ⊎ (op ≡ Get e)))) [
             | true ↦ λ due. (d.start, inl (due_is (Read d.start) op due).1)
             | false ↦ λ due. cc
           ] due)
@@ -100,9 +101,9 @@ no_wait d writers w = both_same (writers w) 0
 
 no_seat : (d : Database) (writers : ℕ → Bool) (j w : ℕ) → (seat d writers j [] w).stage ≡ 0
 unfolding block
-no_seat d writers j w = ap (λ (z : Seat). z.stage) (both_same (writers w) nobody)
+no_seat d writers j w = ap (λ (z : QueuePosition). z.stage) (both_same (writers w) nobody)
 
-empty_queue : (s : ℕ → Seat) → ((w : ℕ) → (s w).stage ≡ 0) → IsQueue s 0 0 0
+empty_queue : (s : ℕ → QueuePosition) → ((w : ℕ) → (s w).stage ≡ 0) → IsQueue s 0 0 0
 empty_queue s h = record {
   some = omega arith;
   few = omega arith;
@@ -129,7 +130,7 @@ step d writers t x past shape dec acc f before =
     let w = x.worker in
     let op = op_at x past in
     let s : IsStep d writers t x past = record { shape = shape; accepted = acc; before = before } in
-    let told = step_told t x past dec acc in
+    let returned = step_told t x past dec acc in
     elim (step_due t (rules d writers) x past dec acc f) [
       | inl off ↦
           (let no : is_on d op ≡ false = on_of d (writers w) (block (rules d writers w) w past) op false off in
@@ -137,7 +138,7 @@ step d writers t x past shape dec acc f before =
       | inr k ↦
           (let on : is_on d op ≡ true = on_of d (writers w) (block (rules d writers w) w past) op true k.0 in
           elim (writers w) as (λ p. writers w ≡ p → (cond p (write_rule d) (try_rule d)).fits (block (cond p (write_rule d) (try_rule d)) w past) op ≡ true → IsWriting d writers (x ∷ past)) [
-            | true ↦ λ role due. write_step d writers t x past (block (write_rule d) w past) s role refl on due told
+            | true ↦ λ role due. write_step d writers t x past (block (write_rule d) w past) s role refl on due returned
             | false ↦ λ role due. quiet_kind d writers t x past op s refl role (try_quiet d (block (try_rule d) w past) op due)
           ] refl k.1)
     ]
@@ -152,19 +153,19 @@ abbrev pub is_some_put : Act → Bool
 is_some_put (Put y v) = true
 is_some_put _ = false
 
-write_place : (d : Database) (calls : List Told) (op : Act) → is_due (write_call d [] calls) (unvalued op) ≡ true → is_some_put op ≡ true
-    → (a : Told) × (c : Told) × (i : Told) × (rest : List Told) × (v : ℕ) × (calls ≡ a ∷ c ∷ i ∷ rest) × (op ≡ Put (d.first_cell + length rest) v) × (length rest < d.cells)
+write_place : (d : Database) (calls : List CompletedCall) (op : Act) → is_due (write_call d [] calls) (without_value op) ≡ true → is_some_put op ≡ true
+    → (a : CompletedCall) × (c : CompletedCall) × (i : CompletedCall) × (rest : List CompletedCall) × (v : ℕ) × (calls ≡ a ∷ c ∷ i ∷ rest) × (op ≡ Put (d.first_cell + length rest) v) × (length rest < d.cells)
 write_place d [] op due put = (let k = due_is (Advance d.start) op due in let no : is_some_put op ≡ false = ap is_some_put k.1 in cc)
 write_place d (a ∷ []) op due put = (let k = due_is (Ticket d.turn) op due in let no : is_some_put op ≡ false = ap is_some_put k.1 in cc)
-write_place d (a ∷ c ∷ []) op due put = (let k = due_is (Await d.done (number_of c.reply)) op due in let no : is_some_put op ≡ false = ap is_some_put k.1 in cc)
+write_place d (a ∷ c ∷ []) op due put = (let k = due_is (Await d.done (reply_number c.reply)) op due in let no : is_some_put op ≡ false = ap is_some_put k.1 in cc)
 write_place d (a ∷ c ∷ i ∷ rest) op due put =
     elim (nat_lt (length rest) d.cells) as (λ b. nat_lt (length rest) d.cells ≡ b
-    → is_due (cond b (Some (Put (d.first_cell + length rest) (get_or [] (length rest) 0))) (cond (length rest == d.cells) (Some (Advance d.done)) None)) (unvalued op) ≡ true
-    → (a' : Told) × (c' : Told) × (i' : Told) × (rest' : List Told) × (v : ℕ) × (a ∷ c ∷ i ∷ rest ≡ a' ∷ c' ∷ i' ∷ rest') × (op ≡ Put (d.first_cell + length rest') v) × (length rest' < d.cells)) [
+    → is_due (cond b (Some (Put (d.first_cell + length rest) (get_or [] (length rest) 0))) (cond (length rest == d.cells) (Some (Advance d.done)) None)) (without_value op) ≡ true
+    → (a' : CompletedCall) × (c' : CompletedCall) × (i' : CompletedCall) × (rest' : List CompletedCall) × (v : ℕ) × (a ∷ c ∷ i ∷ rest ≡ a' ∷ c' ∷ i' ∷ rest') × (op ≡ Put (d.first_cell + length rest') v) × (length rest' < d.cells)) [
       | true ↦ λ h due. (let k = due_is (Put (d.first_cell + length rest) (get_or [] (length rest) 0)) op due in (a, c, i, rest, k.0, refl, k.1, ltb-true (length rest) d.cells h))
       | false ↦ λ h due.
-          (elim (length rest == d.cells) as (λ b. is_due (cond b (Some (Advance d.done)) None) (unvalued op) ≡ true
-          → (a' : Told) × (c' : Told) × (i' : Told) × (rest' : List Told) × (v : ℕ) × (a ∷ c ∷ i ∷ rest ≡ a' ∷ c' ∷ i' ∷ rest') × (op ≡ Put (d.first_cell + length rest') v) × (length rest' < d.cells)) [
+          (elim (length rest == d.cells) as (λ b. is_due (cond b (Some (Advance d.done)) None) (without_value op) ≡ true
+          → (a' : CompletedCall) × (c' : CompletedCall) × (i' : CompletedCall) × (rest' : List CompletedCall) × (v : ℕ) × (a ∷ c ∷ i ∷ rest ≡ a' ∷ c' ∷ i' ∷ rest') × (op ≡ Put (d.first_cell + length rest') v) × (length rest' < d.cells)) [
             | true ↦ λ due. (let k = due_is (Advance d.done) op due in let no : is_some_put op ≡ false = ap is_some_put k.1 in cc)
             | false ↦ λ due. cc
           ] due)
@@ -180,7 +181,7 @@ no_put_there op k =
 -- a put on the database is the one that its writer has next
 pub put_is : (d : Database) (writers : ℕ → Bool) (t : Tables) (x : Entry) (past : List Entry) → IsDeclared t → IsAccepted t (x ∷ past) → Follow (rules d writers) (x ∷ past)
     → is_some_put (op_at x past) ≡ true → is_on d (op_at x past) ≡ true
-    → (writers x.worker ≡ true) × ((a : Told) × (c : Told) × (i : Told) × (rest : List Told) × (v : ℕ) × (block (write_rule d) x.worker past ≡ a ∷ c ∷ i ∷ rest) × (op_at x past ≡ Put (d.first_cell + length rest) v) × (length rest < d.cells))
+    → (writers x.worker ≡ true) × ((a : CompletedCall) × (c : CompletedCall) × (i : CompletedCall) × (rest : List CompletedCall) × (v : ℕ) × (block (write_rule d) x.worker past ≡ a ∷ c ∷ i ∷ rest) × (op_at x past ≡ Put (d.first_cell + length rest) v) × (length rest < d.cells))
 put_is d writers t x past dec acc f put on =
     let w = x.worker in
     let op = op_at x past in
@@ -188,7 +189,7 @@ put_is d writers t x past dec acc f put on =
       | inl off ↦ (let no : is_on d op ≡ false = on_of d (writers w) (block (rules d writers w) w past) op false off in cc)
       | inr k ↦
           (elim (writers w) as (λ p. writers w ≡ p → (cond p (write_rule d) (try_rule d)).fits (block (cond p (write_rule d) (try_rule d)) w past) op ≡ true
-          → (writers w ≡ true) × ((a : Told) × (c : Told) × (i : Told) × (rest : List Told) × (v : ℕ) × (block (write_rule d) w past ≡ a ∷ c ∷ i ∷ rest) × (op ≡ Put (d.first_cell + length rest) v) × (length rest < d.cells))) [
+          → (writers w ≡ true) × ((a : CompletedCall) × (c : CompletedCall) × (i : CompletedCall) × (rest : List CompletedCall) × (v : ℕ) × (block (write_rule d) w past ≡ a ∷ c ∷ i ∷ rest) × (op ≡ Put (d.first_cell + length rest) v) × (length rest < d.cells))) [
             | true ↦ λ role due. (role, write_place d (block (write_rule d) w past) op due put)
             | false ↦ λ role due. (let no : is_some_put op ≡ false = no_put_there op (try_quiet d (block (try_rule d) w past) op due) in cc)
           ] refl k.1)
@@ -210,7 +211,7 @@ worker_declared t x past acc = leb-false t.workers x.worker (allowed t past x.wo
 pub put_on_op : (d : Database) (t : Tables) (x : Entry) (past : List Entry) → IsAccepted t (x ∷ past) → is_put_on d x.act ≡ is_put_on d (op_at x past)
 put_on_op d t x past acc = same_test (is_put_on d) false t x.act (op_at x past) refl (λ f. refl) (λ f v. refl) (step_opened t x past acc)
 
-lead_one : (d : Database) (writers : ℕ → Bool) (past : List Entry) (w : ℕ) (a : Told) (rest : List Told) → writers w ≡ true → block (write_rule d) w past ≡ a ∷ rest → lead d writers past w ≡ 1
+lead_one : (d : Database) (writers : ℕ → Bool) (past : List Entry) (w : ℕ) (a : CompletedCall) (rest : List CompletedCall) → writers w ≡ true → block (write_rule d) w past ≡ a ∷ rest → lead d writers past w ≡ 1
 lead_one d writers past w a rest role is = rw role (ap lead_of is)
 
 -- in a calm moment nothing is put

@@ -9,10 +9,10 @@ use Rattle.ec_core.specs.Counts.{put_in}
 use Rattle.ec_core.specs.Acceptance.{IsAccepted}
 use Rattle.ec_core.specs.Following.{Rule, block, Follow}
 use Rattle.ec_core.proofs.shared.Following.{op_at}
-use Rattle.ec_core.proofs.shared.Queue.{Seat, turn_is}
+use Rattle.ec_core.proofs.shared.Queue.{QueuePosition, turn_is}
 use Rattle.ec_database.specs.Shapes.{Database, IsShape}
 use Rattle.ec_database.specs.Following.{is_on, rules}
-use Rattle.ec_database.specs.Calls.{turn_of}
+use Rattle.ec_database.specs.Calls.{drawn_turn}
 use Rattle.ec_database.proofs.Written.{chosen_if, written}
 use Rattle.ec_database.proofs.Counting.{puts_at}
 use Rattle.ec_database.proofs.Writing.{seat_at, seat, rules_write, put_in_op, seat_is, is_cell_at}
@@ -38,16 +38,16 @@ place_in _ = 0
 
 -- the put into a cell that is made is the next one
 pub put_turn : (d : Database) (writers : ℕ → Bool) (t : Tables) (x : Entry) (past : List Entry) (j v : ℕ) → IsShape d → IsDeclared t → IsAccepted t (x ∷ past) → Follow (rules d writers) (x ∷ past)
-    → j < d.cells → put_in (d.first_cell + j) (op_at x past) ≡ Some v → turn_of (block (rules d writers x.worker) x.worker past) ≡ puts_at d j past
+    → j < d.cells → put_in (d.first_cell + j) (op_at x past) ≡ Some v → drawn_turn (block (rules d writers x.worker) x.worker past) ≡ puts_at d j past
 put_turn d writers t x past j v shape dec acc f lt put =
     let op : op_at x past ≡ Put (d.first_cell + j) v = put_in_some (d.first_cell + j) (op_at x past) v put in
     let k = put_is d writers t x past dec acc f (ap is_some_put op) (ap (is_on d) op ∙ is_cell_at d j lt) in
     let a = k.1.0 in let c = k.1.1 in let i = k.1.2 in let rest = k.1.3 in
     let same : d.first_cell + length rest ≡ d.first_cell + j = ap place_in (sym k.1.6 ∙ op) in
     let was : seat d writers j past x.worker ≡ seat_at j (a ∷ c ∷ i ∷ rest) = seat_is d writers j past x.worker (a ∷ c ∷ i ∷ rest) k.0 k.1.5 in
-    let stage : (seat d writers j past x.worker).stage ≡ 2 = ap (λ (z : Seat). z.stage) was ∙ ap (λ b. cond b 2 4) (le-leb (length rest) j (omega arith)) in
+    let stage : (seat d writers j past x.worker).stage ≡ 2 = ap (λ (z : QueuePosition). z.stage) was ∙ ap (λ b. cond b 2 4) (le-leb (length rest) j (omega arith)) in
     let mine = turn_is _ _ _ _ x.worker ((writing d writers t past shape dec acc.1 f.1).queue j lt) (omega arith) (omega arith) in
-    ap turn_of (rules_write d writers past x.worker (a ∷ c ∷ i ∷ rest) k.0 k.1.5) ∙ sym (ap (λ (z : Seat). z.turn) was) ∙ mine.0
+    ap drawn_turn (rules_write d writers past x.worker (a ∷ c ∷ i ∷ rest) k.0 k.1.5) ∙ sym (ap (λ (z : QueuePosition). z.turn) was) ∙ mine.0
 
 puts_grow : (d : Database) (j : ℕ) (x : Entry) (past : List Entry) → puts_at d j past ≤ puts_at d j (x ∷ past)
 unfolding puts_at
@@ -57,20 +57,16 @@ pub puts_later : (d : Database) (j : ℕ) (since past : List Entry) → puts_at 
 puts_later d j [] past = omega arith
 puts_later d j (x ∷ since) past = (let a = puts_grow d j x (since ++ past) in let b = puts_later d j since past in omega arith)
 
-pub follow_before : (rules : ℕ → Rule) (since early : List Entry) → Follow rules (since ++ early) → Follow rules early
-follow_before rules [] early h = h
-follow_before rules (x ∷ since) early h = follow_before rules since early h.1
-
 -- WHERE A VALUE WAS PUT
 
--- an entry puts v into cell j in the writing of this turn; early is its past
+-- an entry puts v into cell j in the write of this turn; early is the history before it
 pub record PutStands (d : Database) (writers : ℕ → Bool) (past : List Entry) (j turn v : ℕ) : Type 0 where
   pub since : List Entry
   pub entry : Entry
   pub early : List Entry
   pub is : past ≡ since ++ entry ∷ early
   pub puts : put_in (d.first_cell + j) entry.act ≡ Some v
-  pub drawn : turn_of (block (rules d writers entry.worker) entry.worker early) ≡ turn
+  pub drawn : drawn_turn (block (rules d writers entry.worker) entry.worker early) ≡ turn
 
 put_later : (d : Database) (writers : ℕ → Bool) (x : Entry) (past : List Entry) (j turn v : ℕ) → PutStands d writers past j turn v → PutStands d writers (x ∷ past) j turn v
 put_later d writers x past j turn v h = record { since = x ∷ h.since; entry = h.entry; early = h.early; is = ap (λ p. x ∷ p) h.is; puts = h.puts; drawn = h.drawn }
@@ -79,14 +75,14 @@ pub put_stands : (d : Database) (writers : ℕ → Bool) (past : List Entry) (j 
 unfolding written
 put_stands d writers [] j turn v h = cc
 put_stands d writers (x ∷ past) j turn v h =
-    let mine : Bool = turn_of (block (rules d writers x.worker) x.worker past) == turn in
+    let mine : Bool = drawn_turn (block (rules d writers x.worker) x.worker past) == turn in
     elim (put_in (d.first_cell + j) x.act) as (λ o. put_in (d.first_cell + j) x.act ≡ o → chosen_if mine o (written d writers j turn past) ≡ Some v → PutStands d writers (x ∷ past) j turn v) [
       | None ↦ λ e g. put_later d writers x past j turn v (put_stands d writers past j turn v g)
       | Some u ↦ λ e g.
           (elim mine as (λ b. mine ≡ b → cond b (Some u) (written d writers j turn past) ≡ Some v → PutStands d writers (x ∷ past) j turn v) [
             | true ↦ λ k same.
                 (let value : u ≡ v = cc in
-                record { since = []; entry = x; early = past; is = refl; puts = e ∙ ap Some value; drawn = eqb-true (turn_of (block (rules d writers x.worker) x.worker past)) turn k })
+                record { since = []; entry = x; early = past; is = refl; puts = e ∙ ap Some value; drawn = eqb-true (drawn_turn (block (rules d writers x.worker) x.worker past)) turn k })
             | false ↦ λ k other. put_later d writers x past j turn v (put_stands d writers past j turn v other)
           ] refl g)
     ] refl h

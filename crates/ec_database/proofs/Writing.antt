@@ -11,39 +11,39 @@ use Rattle.ec_core.specs.declared.act.Entry.{Entry}
 use Rattle.ec_core.specs.Counts.{total, issued, cell_value, is_advance, is_ticket, put_in}
 use Rattle.ec_core.specs.Calls.{is_pending}
 use Rattle.ec_core.specs.Acceptance.{IsAccepted}
-use Rattle.ec_core.specs.Following.{Told, block}
-use Rattle.ec_core.specs.CallLists.{is_due, unvalued, number_of}
-use Rattle.ec_core.proofs.shared.Following.{other_block, same_test, IsTold, op_at, step_opened, total_step, issued_step, cell_step, due_is, after_told, after_pending}
-use Rattle.ec_core.proofs.shared.Queue.{Seat, IsQueue, IsElsewhereSame, still, draw, enter, make, leave, turn_is}
+use Rattle.ec_core.specs.Following.{CompletedCall, block}
+use Rattle.ec_core.specs.CallLists.{is_due, without_value, reply_number}
+use Rattle.ec_core.proofs.shared.Following.{other_block, same_test, IsReplyTo, op_at, step_opened, total_step, issued_step, cell_step, due_is, after_told, after_pending}
+use Rattle.ec_core.proofs.shared.Queue.{QueuePosition, IsQueue, IsElsewhereSame, still, draw, enter, make, leave, turn_is}
 use Rattle.ec_core.proofs.shared.Reading.{made_by, made_by_other, made_by_own}
 use Rattle.ec_database.specs.Shapes.{Database, IsShape}
 use Rattle.ec_database.specs.Calls.{write_call}
 use Rattle.ec_database.specs.Following.{is_cell, is_on, write_rule, try_rule, rules}
-use Rattle.ec_database.specs.Calls.{turn_of}
+use Rattle.ec_database.specs.Calls.{drawn_turn}
 use Rattle.ec_database.proofs.Written.{chosen_if, written, IsVersionIn}
 use Rattle.ec_database.proofs.Counting.{puts_at}
 use Rattle.ec_database.specs.Tries.{is_put_on}
 
--- SEATS, one queue for each cell
+-- POSITIONS, one queue for each cell
 
-abbrev pub nobody : Seat
+abbrev pub nobody : QueuePosition
 nobody = record { stage = 0; turn = 0 }
 
-abbrev pub seat_at : ℕ → List Told → Seat
+abbrev pub seat_at : ℕ → List CompletedCall → QueuePosition
 seat_at j [] = nobody
 seat_at j (a ∷ []) = nobody
-seat_at j (a ∷ t ∷ []) = record { stage = 1; turn = number_of t.reply }
-seat_at j (a ∷ t ∷ i ∷ puts) = record { stage = cond (nat_le (length puts) j) 2 4; turn = number_of t.reply }
+seat_at j (a ∷ t ∷ []) = record { stage = 1; turn = reply_number t.reply }
+seat_at j (a ∷ t ∷ i ∷ puts) = record { stage = cond (nat_le (length puts) j) 2 4; turn = reply_number t.reply }
 
-abbrev pub seat : Database → (ℕ → Bool) → ℕ → List Entry → ℕ → Seat
+abbrev pub seat : Database → (ℕ → Bool) → ℕ → List Entry → ℕ → QueuePosition
 seat d writers j past w = cond (writers w) (seat_at j (block (write_rule d) w past)) nobody
 
 -- whether a writer is in its list, and whether it is there without a ticket
-abbrev pub lead_of : List Told → ℕ
+abbrev pub lead_of : List CompletedCall → ℕ
 lead_of [] = 0
 lead_of (a ∷ rest) = 1
 
-abbrev pub wait_of : List Told → ℕ
+abbrev pub wait_of : List CompletedCall → ℕ
 wait_of [] = 0
 wait_of (a ∷ []) = 1
 wait_of (a ∷ t ∷ rest) = 0
@@ -75,7 +75,7 @@ plus_is : (a : Bool) (n : ℕ) → cond a 1 0 + n ≡ plus_if a n
 plus_is true n = refl
 plus_is false n = zero-add n
 
-moved_queue : (s : ℕ → Seat) (drawn gone made drawn' gone' made' : ℕ) → drawn' ≡ drawn → gone' ≡ gone → made' ≡ made → IsQueue s drawn gone made → IsQueue s drawn' gone' made'
+moved_queue : (s : ℕ → QueuePosition) (drawn gone made drawn' gone' made' : ℕ) → drawn' ≡ drawn → gone' ≡ gone → made' ≡ made → IsQueue s drawn gone made → IsQueue s drawn' gone' made'
 moved_queue s drawn gone made drawn' gone' made' ed eg em q =
     let P : ℕ → Type 0 = λ n. IsQueue s n gone' made' in
     let Q : ℕ → Type 0 = λ n. IsQueue s drawn n made' in
@@ -99,7 +99,7 @@ unfolding puts_at
 puts_step d j t x past acc = ap (λ o. cond (is_some o) 1 0 + puts_at d j past) (put_in_op (d.first_cell + j) t x past acc)
 
 -- what holds of each worker's counts, if it holds of the one that moved
-each_count : (d : Database) (writers : ℕ → Bool) (f g : Act → Bool) (m : List Told → ℕ) (x : Entry) (past : List Entry)
+each_count : (d : Database) (writers : ℕ → Bool) (f g : Act → Bool) (m : List CompletedCall → ℕ) (x : Entry) (past : List Entry)
     → ((w : ℕ) → made_by f w past ≡ cond (writers w) (m (block (write_rule d) w past)) 0 + made_by g w past)
     → made_by f x.worker (x ∷ past) ≡ cond (writers x.worker) (m (block (write_rule d) x.worker (x ∷ past))) 0 + made_by g x.worker (x ∷ past)
     → (w : ℕ) → made_by f w (x ∷ past) ≡ cond (writers w) (m (block (write_rule d) w (x ∷ past))) 0 + made_by g w (x ∷ past)
@@ -111,7 +111,7 @@ each_count d writers f g m x past h own w =
     ] refl
 
 -- one more on both sides
-own_count : (d : Database) (writers : ℕ → Bool) (f g : Act → Bool) (m : List Told → ℕ) (x : Entry) (past : List Entry) (n n' : ℕ) (a b : Bool)
+own_count : (d : Database) (writers : ℕ → Bool) (f g : Act → Bool) (m : List CompletedCall → ℕ) (x : Entry) (past : List Entry) (n n' : ℕ) (a b : Bool)
     → made_by f x.worker past ≡ n + made_by g x.worker past → made_by f x.worker (x ∷ past) ≡ cond a 1 0 + made_by f x.worker past → made_by g x.worker (x ∷ past) ≡ cond b 1 0 + made_by g x.worker past
     → cond (writers x.worker) (m (block (write_rule d) x.worker (x ∷ past))) 0 ≡ n' → cond a 1 0 + n ≡ n' + cond b 1 0
     → made_by f x.worker (x ∷ past) ≡ cond (writers x.worker) (m (block (write_rule d) x.worker (x ∷ past))) 0 + made_by g x.worker (x ∷ past)
@@ -119,7 +119,7 @@ own_count d writers f g m x past n n' a b h ef eg en sum = rw (en, ef, eg, h) (o
 
 pub written_same : (d : Database) (writers : ℕ → Bool) (j k : ℕ) (x : Entry) (past : List Entry) → put_in (d.first_cell + j) x.act ≡ None → written d writers j k (x ∷ past) ≡ written d writers j k past
 unfolding written
-written_same d writers j k x past none = ap (λ o. chosen_if (turn_of (block (rules d writers x.worker) x.worker past) == k) o (written d writers j k past)) none
+written_same d writers j k x past none = ap (λ o. chosen_if (drawn_turn (block (rules d writers x.worker) x.worker past) == k) o (written d writers j k past)) none
 
 version_same : (d : Database) (writers : ℕ → Bool) (n j v : ℕ) (x : Entry) (past : List Entry) → put_in (d.first_cell + j) x.act ≡ None → IsVersionIn d writers n j v past → IsVersionIn d writers n j v (x ∷ past)
 version_same d writers zero j v x past none h = h
@@ -197,7 +197,7 @@ quiet_off d (Hand e b) h = record { start = refl; done = refl; ticket = refl; ce
 turned : (a b : ℕ) → (a == b) ≡ false → (b == a) ≡ false
 turned a b h = (let other : a ≢ b = eqb-false a b h in ne_eqb b a (λ e. other (sym e)))
 
-role_same : {T : Type 0} (d : Database) (writers : ℕ → Bool) (x : Entry) (past : List Entry) (f : List Told → T) (none : T)
+role_same : {T : Type 0} (d : Database) (writers : ℕ → Bool) (x : Entry) (past : List Entry) (f : List CompletedCall → T) (none : T)
     → (writers x.worker ≡ true → block (write_rule d) x.worker (x ∷ past) ≡ block (write_rule d) x.worker past)
     → cond (writers x.worker) (f (block (write_rule d) x.worker (x ∷ past))) none ≡ cond (writers x.worker) (f (block (write_rule d) x.worker past)) none
 role_same d writers x past f none h =
@@ -209,7 +209,7 @@ role_same d writers x past f none h =
 one_plus : (n : ℕ) → 1 + n ≡ suc n
 one_plus n = omega arith
 
--- nothing moves
+-- no position changes
 pub quiet_same : (d : Database) (writers : ℕ → Bool) (t : Tables) (x : Entry) (past : List Entry) (op : Act) → IsStep d writers t x past → op_at x past ≡ op → IsQuiet d op
     → (writers x.worker ≡ true → block (write_rule d) x.worker (x ∷ past) ≡ block (write_rule d) x.worker past) → IsWriting d writers (x ∷ past)
 quiet_same d writers t x past op s is q same =
@@ -222,17 +222,17 @@ quiet_same d writers t x past op s is q same =
 
 -- WRITERS
 
-pub seat_is : (d : Database) (writers : ℕ → Bool) (j : ℕ) (past : List Entry) (w : ℕ) (calls : List Told) → writers w ≡ true → block (write_rule d) w past ≡ calls → seat d writers j past w ≡ seat_at j calls
+pub seat_is : (d : Database) (writers : ℕ → Bool) (j : ℕ) (past : List Entry) (w : ℕ) (calls : List CompletedCall) → writers w ≡ true → block (write_rule d) w past ≡ calls → seat d writers j past w ≡ seat_at j calls
 seat_is d writers j past w calls role is = rw role (ap (seat_at j) is)
 
-lead_is : (d : Database) (writers : ℕ → Bool) (past : List Entry) (w : ℕ) (calls : List Told) → writers w ≡ true → block (write_rule d) w past ≡ calls → lead d writers past w ≡ lead_of calls
+lead_is : (d : Database) (writers : ℕ → Bool) (past : List Entry) (w : ℕ) (calls : List CompletedCall) → writers w ≡ true → block (write_rule d) w past ≡ calls → lead d writers past w ≡ lead_of calls
 lead_is d writers past w calls role is = rw role (ap lead_of is)
 
-wait_is : (d : Database) (writers : ℕ → Bool) (past : List Entry) (w : ℕ) (calls : List Told) → writers w ≡ true → block (write_rule d) w past ≡ calls → wait d writers past w ≡ wait_of calls
+wait_is : (d : Database) (writers : ℕ → Bool) (past : List Entry) (w : ℕ) (calls : List CompletedCall) → writers w ≡ true → block (write_rule d) w past ≡ calls → wait d writers past w ≡ wait_of calls
 wait_is d writers past w calls role is = rw role (ap wait_of is)
 
 -- a writer's call, from the lists before and after it
-moved : (d : Database) (writers : ℕ → Bool) (t : Tables) (x : Entry) (past : List Entry) (op : Act) (a b c : Bool) (calls next : List Told) → IsStep d writers t x past → writers x.worker ≡ true → op_at x past ≡ op
+moved : (d : Database) (writers : ℕ → Bool) (t : Tables) (x : Entry) (past : List Entry) (op : Act) (a b c : Bool) (calls next : List CompletedCall) → IsStep d writers t x past → writers x.worker ≡ true → op_at x past ≡ op
     → block (write_rule d) x.worker past ≡ calls → block (write_rule d) x.worker (x ∷ past) ≡ next
     → is_advance d.start op ≡ a → is_advance d.done op ≡ b → is_ticket d.turn op ≡ c
     → cond a 1 0 + lead_of calls ≡ lead_of next + cond b 1 0 → cond a 1 0 + wait_of calls ≡ wait_of next + cond c 1 0
@@ -246,55 +246,56 @@ moved d writers t x past op a b c calls next s role is at after ea eb ec ls ws q
     (lead_is d writers past x.worker calls role at) (lead_is d writers (x ∷ past) x.worker next role after) ls
     (wait_is d writers past x.worker calls role at) (wait_is d writers (x ∷ past) x.worker next role after) ws latest
 
--- the values stand as they were
+-- the values are unchanged
 unput : (d : Database) (writers : ℕ → Bool) (t : Tables) (x : Entry) (past : List Entry) (op : Act) → IsStep d writers t x past → op_at x past ≡ op → ((y : ℕ) → put_in y op ≡ None)
     → (j : ℕ) → j < d.cells → IsVersionIn d writers (puts_at d j (x ∷ past)) j (cell_value (d.first_cell + j) (x ∷ past)) (x ∷ past)
 unput d writers t x past op s is none j lt = latest_same d writers t x past j s.accepted (ap (put_in (d.first_cell + j)) is ∙ none (d.first_cell + j)) (s.before.latest j lt)
 
-write_start : (d : Database) (writers : ℕ → Bool) (t : Tables) (x : Entry) (past : List Entry) (a : Told) → IsStep d writers t x past → writers x.worker ≡ true
+write_start : (d : Database) (writers : ℕ → Bool) (t : Tables) (x : Entry) (past : List Entry) (a : CompletedCall) → IsStep d writers t x past → writers x.worker ≡ true
     → op_at x past ≡ Advance d.start → block (write_rule d) x.worker past ≡ [] → block (write_rule d) x.worker (x ∷ past) ≡ a ∷ [] → IsWriting d writers (x ∷ past)
 write_start d writers t x past a s role is at after =
     moved d writers t x past (Advance d.start) true false false [] (a ∷ []) s role is at after (eq-eqb d.start d.start refl) s.shape.counts refl refl refl
     (λ j lt was now. still _ _ _ _ _ x.worker (s.before.queue j lt) (elsewhere d writers j x past) (now ∙ sym was))
     (unput d writers t x past (Advance d.start) s is (λ y. refl))
 
-write_draw : (d : Database) (writers : ℕ → Bool) (t : Tables) (x : Entry) (past : List Entry) (a c : Told) → IsStep d writers t x past → writers x.worker ≡ true
-    → op_at x past ≡ Ticket d.turn → block (write_rule d) x.worker past ≡ a ∷ [] → block (write_rule d) x.worker (x ∷ past) ≡ a ∷ c ∷ [] → number_of c.reply ≡ issued d.turn past → IsWriting d writers (x ∷ past)
+write_draw : (d : Database) (writers : ℕ → Bool) (t : Tables) (x : Entry) (past : List Entry) (a c : CompletedCall) → IsStep d writers t x past → writers x.worker ≡ true
+    → op_at x past ≡ Ticket d.turn → block (write_rule d) x.worker past ≡ a ∷ [] → block (write_rule d) x.worker (x ∷ past) ≡ a ∷ c ∷ [] → reply_number c.reply ≡ issued d.turn past → IsWriting d writers (x ∷ past)
 write_draw d writers t x past a c s role is at after turn =
     moved d writers t x past (Ticket d.turn) false false true (a ∷ []) (a ∷ c ∷ []) s role is at after refl refl (eq-eqb d.turn d.turn refl) refl refl
-    (λ j lt was now. draw _ _ _ _ _ x.worker (s.before.queue j lt) (elsewhere d writers j x past) (ap (λ (z : Seat). z.stage) now) (ap (λ (z : Seat). z.turn) now ∙ turn))
+    (λ j lt was now. draw _ _ _ _ _ x.worker (s.before.queue j lt) (elsewhere d writers j x past) (ap (λ (z : QueuePosition). z.stage) now) (ap (λ (z : QueuePosition). z.turn) now ∙ turn))
     (unput d writers t x past (Ticket d.turn) s is (λ y. refl))
 
-write_enter : (d : Database) (writers : ℕ → Bool) (t : Tables) (x : Entry) (past : List Entry) (a c i : Told) → IsStep d writers t x past → writers x.worker ≡ true
-    → op_at x past ≡ Await d.done (number_of c.reply) → block (write_rule d) x.worker past ≡ a ∷ c ∷ [] → block (write_rule d) x.worker (x ∷ past) ≡ a ∷ c ∷ i ∷ []
-    → number_of c.reply ≤ total d.done past → IsWriting d writers (x ∷ past)
+write_enter : (d : Database) (writers : ℕ → Bool) (t : Tables) (x : Entry) (past : List Entry) (a c i : CompletedCall) → IsStep d writers t x past → writers x.worker ≡ true
+    → op_at x past ≡ Await d.done (reply_number c.reply) → block (write_rule d) x.worker past ≡ a ∷ c ∷ [] → block (write_rule d) x.worker (x ∷ past) ≡ a ∷ c ∷ i ∷ []
+    → reply_number c.reply ≤ total d.done past → IsWriting d writers (x ∷ past)
 write_enter d writers t x past a c i s role is at after reached =
-    moved d writers t x past (Await d.done (number_of c.reply)) false false false (a ∷ c ∷ []) (a ∷ c ∷ i ∷ []) s role is at after refl refl refl refl refl
+    moved d writers t x past (Await d.done (reply_number c.reply)) false false false (a ∷ c ∷ []) (a ∷ c ∷ i ∷ []) s role is at after refl refl refl refl refl
     (λ j lt was now.
-    (let st : (seat d writers j past x.worker).stage ≡ 1 = ap (λ (z : Seat). z.stage) was in
-    let tu : (seat d writers j past x.worker).turn ≡ number_of c.reply = ap (λ (z : Seat). z.turn) was in
-    let st' : (seat d writers j (x ∷ past) x.worker).stage ≡ 2 = ap (λ (z : Seat). z.stage) now ∙ ap (λ b. cond b 2 4) (le-leb 0 j (omega arith)) in
-    let tu' : (seat d writers j (x ∷ past) x.worker).turn ≡ number_of c.reply = ap (λ (z : Seat). z.turn) now in
+    (let st : (seat d writers j past x.worker).stage ≡ 1 =
+    ap (λ (z : QueuePosition). z.stage) was in
+    let tu : (seat d writers j past x.worker).turn ≡ reply_number c.reply = ap (λ (z : QueuePosition). z.turn) was in
+    let st' : (seat d writers j (x ∷ past) x.worker).stage ≡ 2 = ap (λ (z : QueuePosition). z.stage) now ∙ ap (λ b. cond b 2 4) (le-leb 0 j (omega arith)) in
+    let tu' : (seat d writers j (x ∷ past) x.worker).turn ≡ reply_number c.reply = ap (λ (z : QueuePosition). z.turn) now in
     enter _ _ _ _ _ x.worker (s.before.queue j lt) (elsewhere d writers j x past) (omega arith) (omega arith) (omega arith) (omega arith) (tu' ∙ sym tu) (omega arith)))
-    (unput d writers t x past (Await d.done (number_of c.reply)) s is (λ y. refl))
+    (unput d writers t x past (Await d.done (reply_number c.reply)) s is (λ y. refl))
 
-write_leave : (d : Database) (writers : ℕ → Bool) (t : Tables) (x : Entry) (past : List Entry) (a c i : Told) (puts : List Told) → IsStep d writers t x past → writers x.worker ≡ true
+write_leave : (d : Database) (writers : ℕ → Bool) (t : Tables) (x : Entry) (past : List Entry) (a c i : CompletedCall) (puts : List CompletedCall) → IsStep d writers t x past → writers x.worker ≡ true
     → op_at x past ≡ Advance d.done → block (write_rule d) x.worker past ≡ a ∷ c ∷ i ∷ puts → length puts ≡ d.cells → block (write_rule d) x.worker (x ∷ past) ≡ [] → IsWriting d writers (x ∷ past)
 write_leave d writers t x past a c i puts s role is at full after =
     moved d writers t x past (Advance d.done) false true false (a ∷ c ∷ i ∷ puts) [] s role is at after (turned d.start d.done s.shape.counts) (eq-eqb d.done d.done refl) refl refl refl
     (λ j lt was now.
-    (let st : (seat d writers j past x.worker).stage ≡ 4 = ap (λ (z : Seat). z.stage) was ∙ ap (λ b. cond b 2 4) (lt-leb (length puts) j (omega arith)) in
-    leave _ _ _ _ _ x.worker (s.before.queue j lt) (elsewhere d writers j x past) st (ap (λ (z : Seat). z.stage) now)))
+    (let st : (seat d writers j past x.worker).stage ≡ 4 = ap (λ (z : QueuePosition). z.stage) was ∙ ap (λ b. cond b 2 4) (lt-leb (length puts) j (omega arith)) in
+    leave _ _ _ _ _ x.worker (s.before.queue j lt) (elsewhere d writers j x past) st (ap (λ (z : QueuePosition). z.stage) now)))
     (unput d writers t x past (Advance d.done) s is (λ y. refl))
 
-pub rules_write : (d : Database) (writers : ℕ → Bool) (past : List Entry) (w : ℕ) (calls : List Told) → writers w ≡ true → block (write_rule d) w past ≡ calls → block (rules d writers w) w past ≡ calls
+pub rules_write : (d : Database) (writers : ℕ → Bool) (past : List Entry) (w : ℕ) (calls : List CompletedCall) → writers w ≡ true → block (write_rule d) w past ≡ calls → block (rules d writers w) w past ≡ calls
 rules_write d writers past w calls role at = ap (λ p. block (cond p (write_rule d) (try_rule d)) w past) role ∙ at
 
-pub written_now : (d : Database) (writers : ℕ → Bool) (x : Entry) (past : List Entry) (j turn v k : ℕ) → put_in (d.first_cell + j) x.act ≡ Some v → turn_of (block (rules d writers x.worker) x.worker past) ≡ turn
+pub written_now : (d : Database) (writers : ℕ → Bool) (x : Entry) (past : List Entry) (j turn v k : ℕ) → put_in (d.first_cell + j) x.act ≡ Some v → drawn_turn (block (rules d writers x.worker) x.worker past) ≡ turn
     → written d writers j k (x ∷ past) ≡ cond (turn == k) (Some v) (written d writers j k past)
 unfolding written
 written_now d writers x past j turn v k is at =
-    ap (λ o. chosen_if (turn_of (block (rules d writers x.worker) x.worker past) == k) o (written d writers j k past)) is ∙ ap (λ n. cond (n == k) (Some v) (written d writers j k past)) at
+    ap (λ o. chosen_if (drawn_turn (block (rules d writers x.worker) x.worker past) == k) o (written d writers j k past)) is ∙ ap (λ n. cond (n == k) (Some v) (written d writers j k past)) at
 
 put_this : (first k j v : ℕ) → (k == j) ≡ true → put_in (first + j) (Put (first + k) v) ≡ Some v
 put_this first k j v h = (let same : k ≡ j = eqb-true k j h in let q : (first + k == first + j) ≡ true = eq-eqb (first + k) (first + j) (ap (λ n. first + n) same) in rw q refl)
@@ -310,7 +311,7 @@ same_side k l j len h =
       | false ↦ λ e. (let gt : j < k = leb-false k j e in lt-leb l j (omega arith))
     ] refl)
 
-write_put : (d : Database) (writers : ℕ → Bool) (t : Tables) (x : Entry) (past : List Entry) (a c i p : Told) (puts : List Told) (v : ℕ) → IsStep d writers t x past → writers x.worker ≡ true
+write_put : (d : Database) (writers : ℕ → Bool) (t : Tables) (x : Entry) (past : List Entry) (a c i p : CompletedCall) (puts : List CompletedCall) (v : ℕ) → IsStep d writers t x past → writers x.worker ≡ true
     → op_at x past ≡ Put (d.first_cell + length puts) v → block (write_rule d) x.worker past ≡ a ∷ c ∷ i ∷ puts → length puts < d.cells → block (write_rule d) x.worker (x ∷ past) ≡ a ∷ c ∷ i ∷ (puts ++ p ∷ [])
     → IsWriting d writers (x ∷ past)
 write_put d writers t x past a c i p puts v s role is at room after =
@@ -320,14 +321,14 @@ write_put d writers t x past a c i p puts v s role is at room after =
     (λ j lt was now. elim (k == j) as (λ b. (k == j) ≡ b → IsQueue (seat d writers j (x ∷ past)) (issued d.turn past) (total d.done past) (plus_if (is_some (put_in (d.first_cell + j) (Put (d.first_cell + k) v))) (puts_at d j past))) [
       | true ↦ λ h.
           (let same : length puts ≡ j = eqb-true k j h in
-          let st : (seat d writers j past x.worker).stage ≡ 2 = ap (λ (z : Seat). z.stage) was ∙ ap (λ b. cond b 2 4) (le-leb (length puts) j (omega arith)) in
-          let st' : (seat d writers j (x ∷ past) x.worker).stage ≡ 4 = ap (λ (z : Seat). z.stage) now ∙ ap (λ b. cond b 2 4) (lt-leb (length (puts ++ p ∷ [])) j (omega arith)) in
-          let tu : (seat d writers j (x ∷ past) x.worker).turn ≡ (seat d writers j past x.worker).turn = ap (λ (z : Seat). z.turn) now ∙ sym (ap (λ (z : Seat). z.turn) was) in
+          let st : (seat d writers j past x.worker).stage ≡ 2 = ap (λ (z : QueuePosition). z.stage) was ∙ ap (λ b. cond b 2 4) (le-leb (length puts) j (omega arith)) in
+          let st' : (seat d writers j (x ∷ past) x.worker).stage ≡ 4 = ap (λ (z : QueuePosition). z.stage) now ∙ ap (λ b. cond b 2 4) (lt-leb (length (puts ++ p ∷ [])) j (omega arith)) in
+          let tu : (seat d writers j (x ∷ past) x.worker).turn ≡ (seat d writers j past x.worker).turn = ap (λ (z : QueuePosition). z.turn) now ∙ sym (ap (λ (z : QueuePosition). z.turn) was) in
           let P : Option ℕ → Type 0 = λ o. IsQueue (seat d writers j (x ∷ past)) (issued d.turn past) (total d.done past) (plus_if (is_some o) (puts_at d j past)) in
           subst P (sym (put_this d.first_cell k j v h)) (make _ _ _ _ _ x.worker (s.before.queue j lt) (elsewhere d writers j x past) (omega arith) (omega arith) st' tu))
       | false ↦ λ h.
           (let keep : seat d writers j (x ∷ past) x.worker ≡ seat d writers j past x.worker =
-          now ∙ ap (λ b. (let z : Seat = record { stage = cond b 2 4; turn = number_of c.reply } in z)) (same_side k (length (puts ++ p ∷ [])) j longer h) ∙ sym was in
+          now ∙ ap (λ b. (let z : QueuePosition = record { stage = cond b 2 4; turn = reply_number c.reply } in z)) (same_side k (length (puts ++ p ∷ [])) j longer h) ∙ sym was in
           let P : Option ℕ → Type 0 = λ o. IsQueue (seat d writers j (x ∷ past)) (issued d.turn past) (total d.done past) (plus_if (is_some o) (puts_at d j past)) in
           subst P (sym (put_other d.first_cell k j v h)) (still _ _ _ _ _ x.worker (s.before.queue j lt) (elsewhere d writers j x past) keep))
     ] refl)
@@ -335,10 +336,11 @@ write_put d writers t x past a c i p puts v s role is at room after =
       | true ↦ λ h.
           (let same : length puts ≡ j = eqb-true k j h in
           let was = seat_is d writers j past x.worker (a ∷ c ∷ i ∷ puts) role at in
-          let st : (seat d writers j past x.worker).stage ≡ 2 = ap (λ (z : Seat). z.stage) was ∙ ap (λ b. cond b 2 4) (le-leb (length puts) j (omega arith)) in
+          let st : (seat d writers j past x.worker).stage ≡ 2 = ap (λ (z : QueuePosition). z.stage) was ∙ ap (λ b. cond b 2 4) (le-leb (length puts) j (omega arith)) in
           let mine = turn_is _ _ _ _ x.worker (s.before.queue j lt) (omega arith) (omega arith) in
-          let turn : turn_of (block (rules d writers x.worker) x.worker past) ≡ puts_at d j past =
-          ap turn_of (rules_write d writers past x.worker (a ∷ c ∷ i ∷ puts) role at) ∙ sym (ap (λ (z : Seat). z.turn) was) ∙ mine.0 in
+          let turn : drawn_turn (block (rules d writers x.worker) x.worker past)
+          ≡ puts_at d j past =
+          ap drawn_turn (rules_write d writers past x.worker (a ∷ c ∷ i ∷ puts) role at) ∙ sym (ap (λ (z : QueuePosition). z.turn) was) ∙ mine.0 in
           let here : put_in (d.first_cell + j) (op_at x past) ≡ Some v = ap (put_in (d.first_cell + j)) is ∙ put_this d.first_cell k j v h in
           let more : puts_at d j (x ∷ past) ≡ suc (puts_at d j past) = puts_step d j t x past s.accepted ∙ ap (λ o. cond (is_some o) 1 0 + puts_at d j past) here ∙ one_plus (puts_at d j past) in
           let value : cell_value (d.first_cell + j) (x ∷ past) ≡ v = cell_step t (d.first_cell + j) x past s.accepted ∙ ap (λ o. unwrap_or o (cell_value (d.first_cell + j) past)) here in
@@ -363,54 +365,55 @@ chosen_none : (d : Database) (values : List ℕ) (k : ℕ) → d.cells < k
     → is_some (cond (nat_lt k d.cells) (Some (Put (d.first_cell + k) (get_or values k 0))) (cond (k == d.cells) (Some (Advance d.done)) None)) ≡ false
 chosen_none d values k gt = (let p : nat_lt k d.cells ≡ false = le-ltb k d.cells (omega arith) in let q : (k == d.cells) ≡ false = ne_eqb k d.cells (λ e. omega arith) in rw (p, q) refl)
 
--- an await that is not finished changes nothing
+-- an await that is not completed changes nothing
 await_cases : (d : Database) (writers : ℕ → Bool) (t : Tables) (x : Entry) (past : List Entry) (e v : ℕ) → IsStep d writers t x past → op_at x past ≡ Await e v
     → (x.reply ≡ Pending) ⊎ ((s : ℕ) × (v ≤ s) × (s ≤ total e past) × (x.reply ≡ Number s))
     → ((is_pending x.reply ≡ false) × (v ≤ total e past) → IsWriting d writers (x ∷ past)) → IsWriting d writers (x ∷ past)
 await_cases d writers t x past e v s is (inl pending) go = quiet_same d writers t x past (Await e v) s is (quiet_await d e v) (λ role. after_pending (write_rule d) x past pending)
 await_cases d writers t x past e v s is (inr k) go = (let low : v ≤ k.0 = k.1 in let high : k.0 ≤ total e past = k.2 in go (ap is_pending k.3, omega arith))
 
-pub write_step : (d : Database) (writers : ℕ → Bool) (t : Tables) (x : Entry) (past : List Entry) (calls : List Told) → IsStep d writers t x past → writers x.worker ≡ true
-    → block (write_rule d) x.worker past ≡ calls → is_on d (op_at x past) ≡ true → is_due (write_call d [] calls) (unvalued (op_at x past)) ≡ true → IsTold t past (op_at x past) x.reply
+pub write_step : (d : Database) (writers : ℕ → Bool) (t : Tables) (x : Entry) (past : List Entry) (calls : List CompletedCall) → IsStep d writers t x past → writers x.worker ≡ true
+    → block (write_rule d) x.worker past ≡ calls → is_on d (op_at x past) ≡ true → is_due (write_call d [] calls) (without_value (op_at x past)) ≡ true → IsReplyTo t past (op_at x past) x.reply
     → IsWriting d writers (x ∷ past)
-write_step d writers t x past [] s role at on due told =
+write_step d writers t x past [] s role at on due returned =
     let op : op_at x past ≡ Advance d.start = (due_is (Advance d.start) (op_at x past) due).1 in
-    let P : Act → Type 0 = λ a. IsTold t past a x.reply in
-    let reply : x.reply ≡ Done = subst P op told in
+    let P : Act → Type 0 = λ a. IsReplyTo t past a x.reply in
+    let reply : x.reply ≡ Done = subst P op returned in
     write_start d writers t x past (record { op = Advance d.start; reply = x.reply }) s role op at (after_told (write_rule d) x past [] (Advance d.start) at op (ap (is_on d) (sym op) ∙ on) (ap is_pending reply))
-write_step d writers t x past (a ∷ []) s role at on due told =
+write_step d writers t x past (a ∷ []) s role at on due returned =
     let op : op_at x past ≡ Ticket d.turn = (due_is (Ticket d.turn) (op_at x past) due).1 in
-    let P : Act → Type 0 = λ a. IsTold t past a x.reply in
-    let reply : x.reply ≡ Number (issued d.turn past) = subst P op told in
-    write_draw d writers t x past a (record { op = Ticket d.turn; reply = x.reply }) s role op at (after_told (write_rule d) x past (a ∷ []) (Ticket d.turn) at op (ap (is_on d) (sym op) ∙ on) (ap is_pending reply)) (ap number_of reply)
-write_step d writers t x past (a ∷ c ∷ []) s role at on due told =
-    let op : op_at x past ≡ Await d.done (number_of c.reply) = (due_is (Await d.done (number_of c.reply)) (op_at x past) due).1 in
-    let P : Act → Type 0 = λ a. IsTold t past a x.reply in
-    await_cases d writers t x past d.done (number_of c.reply) s op (subst P op told)
-    (λ k. write_enter d writers t x past a c (record { op = Await d.done (number_of c.reply); reply = x.reply }) s role op at
-    (after_told (write_rule d) x past (a ∷ c ∷ []) (Await d.done (number_of c.reply)) at op (ap (is_on d) (sym op) ∙ on) k.0
-    ∙ ap (λ b. cond (not b) [] (a ∷ c ∷ record { op = Await d.done (number_of c.reply); reply = x.reply } ∷ [])) (chosen_some d [] 0 (omega arith))) k.1)
-write_step d writers t x past (a ∷ c ∷ i ∷ puts) s role at on due told =
-    let P : Act → Type 0 = λ a. IsTold t past a x.reply in
+    let P : Act → Type 0 = λ a. IsReplyTo t past a x.reply in
+    let reply : x.reply ≡ Number (issued d.turn past) = subst P op returned in
+    write_draw d writers t x past a (record { op = Ticket d.turn; reply = x.reply }) s role op at (after_told (write_rule d) x past (a ∷ []) (Ticket d.turn) at op (ap (is_on d) (sym op) ∙ on) (ap is_pending reply)) (ap reply_number reply)
+write_step d writers t x past (a ∷ c ∷ []) s role at on due returned =
+    let op : op_at x past ≡ Await d.done (reply_number c.reply) = (due_is (Await d.done (reply_number c.reply)) (op_at x past) due).1 in
+    let P : Act → Type 0 = λ a. IsReplyTo t past a x.reply in
+    await_cases d writers t x past d.done (reply_number c.reply) s op (subst P op returned)
+    (λ k. write_enter d writers t x past a c (record { op = Await d.done (reply_number c.reply); reply = x.reply }) s role op at
+    (after_told (write_rule d) x past (a ∷ c ∷ []) (Await d.done (reply_number c.reply)) at op (ap (is_on d) (sym op) ∙ on) k.0
+    ∙ ap (λ b. cond (not b) [] (a ∷ c ∷ record { op = Await d.done (reply_number c.reply); reply = x.reply } ∷ [])) (chosen_some d [] 0 (omega arith))) k.1)
+write_step d writers t x past (a ∷ c ∷ i ∷ puts) s role at on due returned =
+    let P : Act → Type 0 = λ a. IsReplyTo t past a x.reply in
     elim (nat_lt (length puts) d.cells) as (λ b. nat_lt (length puts) d.cells ≡ b
-    → is_due (cond b (Some (Put (d.first_cell + length puts) (get_or [] (length puts) 0))) (cond (length puts == d.cells) (Some (Advance d.done)) None)) (unvalued (op_at x past)) ≡ true → IsWriting d writers (x ∷ past)) [
+    → is_due (cond b (Some (Put (d.first_cell + length puts) (get_or [] (length puts) 0))) (cond (length puts == d.cells) (Some (Advance d.done)) None)) (without_value (op_at x past)) ≡ true → IsWriting d writers (x ∷ past)) [
       | true ↦ λ h due.
           (let due' = due_is (Put (d.first_cell + length puts) (get_or [] (length puts) 0)) (op_at x past) due in
           let op : op_at x past ≡ Put (d.first_cell + length puts) due'.0 = due'.1 in
-          let reply : x.reply ≡ Done = subst P op told in
+          let reply : x.reply ≡ Done = subst P op returned in
           let lt : length puts < d.cells = ltb-true (length puts) d.cells h in
-          let p : Told = record { op = Put (d.first_cell + length puts) due'.0; reply = x.reply } in
+          let p : CompletedCall =
+          record { op = Put (d.first_cell + length puts) due'.0; reply = x.reply } in
           let longer : length (puts ++ p ∷ []) ≡ length puts + 1 = length-append puts (p ∷ []) in
           write_put d writers t x past a c i p puts due'.0 s role op at lt
           (after_told (write_rule d) x past (a ∷ c ∷ i ∷ puts) (Put (d.first_cell + length puts) due'.0) at op (ap (is_on d) (sym op) ∙ on) (ap is_pending reply)
           ∙ ap (λ b. cond (not b) [] (a ∷ c ∷ i ∷ (puts ++ p ∷ []))) (chosen_some d [] (length (puts ++ p ∷ [])) (omega arith))))
       | false ↦ λ h due.
-          (elim (length puts == d.cells) as (λ b. (length puts == d.cells) ≡ b → is_due (cond b (Some (Advance d.done)) None) (unvalued (op_at x past)) ≡ true → IsWriting d writers (x ∷ past)) [
+          (elim (length puts == d.cells) as (λ b. (length puts == d.cells) ≡ b → is_due (cond b (Some (Advance d.done)) None) (without_value (op_at x past)) ≡ true → IsWriting d writers (x ∷ past)) [
             | true ↦ λ full due.
                 (let op : op_at x past ≡ Advance d.done = (due_is (Advance d.done) (op_at x past) due).1 in
-                let reply : x.reply ≡ Done = subst P op told in
+                let reply : x.reply ≡ Done = subst P op returned in
                 let len : length puts ≡ d.cells = eqb-true (length puts) d.cells full in
-                let p : Told = record { op = Advance d.done; reply = x.reply } in
+                let p : CompletedCall = record { op = Advance d.done; reply = x.reply } in
                 let longer : length (puts ++ p ∷ []) ≡ length puts + 1 = length-append puts (p ∷ []) in
                 write_leave d writers t x past a c i puts s role op at len
                 (after_told (write_rule d) x past (a ∷ c ∷ i ∷ puts) (Advance d.done) at op (ap (is_on d) (sym op) ∙ on) (ap is_pending reply)

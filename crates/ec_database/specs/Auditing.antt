@@ -1,48 +1,48 @@
--- What an audit of a database keeps, and what it takes from an entry.
+-- The state of the audit of a database, and how it changes with an entry.
 use Rattle.std.specs.Prelude.{◌≡◌, ℕ, ◌+◌, ◌-◌, ◌<◌, Bool, true, false, ◌==◌, ◌&&◌, ◌||◌, not, nat_le, nat_lt, List, [], ◌∷◌, length, map, take, slice_get, slice_set, Option, Some, None, if◌then◌else◌}
 use Rattle.ec_core.specs.declared.act.Act.{Act}
 use Rattle.ec_core.specs.declared.act.Entry.{Entry}
-use Rattle.ec_core.specs.declared.protocol.Kept.{Kept}
+use Rattle.ec_core.specs.declared.protocol.ListProgress.{ListProgress}
 use Rattle.ec_core.specs.Calls.{is_pending}
-use Rattle.ec_core.specs.Following.{Told, block}
-use Rattle.ec_core.specs.CallLists.{number_of}
+use Rattle.ec_core.specs.Following.{CompletedCall, block}
+use Rattle.ec_core.specs.CallLists.{reply_number}
 use Rattle.ec_database.specs.declared.tries.Accepted.{Accepted}
 use Rattle.ec_database.specs.declared.audit.ReaderCall.{ReaderCall}
 use Rattle.ec_database.specs.Shapes.{Database}
 use Rattle.ec_count.specs.Tables.{Tables}
-use Rattle.ec_core.specs.Calls.{under_way, goes_on}
-use Rattle.ec_core.specs.Following.{opened}
-use Rattle.ec_core.specs.Scanning.{Tracked, IsTracked}
+use Rattle.ec_core.specs.Calls.{under_way, is_intermediate}
+use Rattle.ec_core.specs.Following.{opening_act}
+use Rattle.ec_core.specs.Scanning.{TrackerModel, IsTrackerModel}
 use Rattle.ec_database.specs.Following.{is_on, try_rule, writes, database_rules}
-use Rattle.ec_database.specs.Places.{kept_of}
+use Rattle.ec_database.specs.SnapshotPhases.{list_progress}
 use Rattle.ec_database.specs.Tries.{AcceptedTry, accepted_tries}
 
--- the first n answers of a question about workers, each at its worker's place
+-- the answers of a test for the first n workers, by number
 abbrev pub ArePlaced : (ℕ → Bool) → ℕ → List Bool → Type 0
 ArePlaced asked n table = (w : ℕ) → w < n → slice_get table w ≡ Some (asked w)
 
--- an accepting try, as it is told
-abbrev pub shown : Accepted → AcceptedTry
-shown a = record { worker = a.worker; version = a.version; values = a.values.items }
+-- an accepted try, as it is returned
+abbrev pub accepted_try : Accepted → AcceptedTry
+accepted_try a = record { worker = a.worker; version = a.version; values = a.values.items }
 
--- the call on the database that an entry of a reader finishes, if it finishes one
-abbrev pub finished_call : Database → Bool → Kept → Act → Entry → Option ReaderCall
-finished_call d is_writer kept op x =
+-- the call on the database that an entry of a reader completes, if it completes one
+abbrev pub completed_call : Database → Bool → ListProgress → Act → Entry → Option ReaderCall
+completed_call d is_writer kept op x =
     if is_writer || is_pending x.reply || not (is_on d op)
     then None
-    else Some (record { worker = x.worker; at = kept.at; version = kept.first; number = number_of x.reply })
+    else Some (record { worker = x.worker; at = kept.at; version = kept.first; number = reply_number x.reply })
 
--- what the gets of a try have answered so far
-abbrev pub got_so_far : List Told → List ℕ
-got_so_far (w ∷ a ∷ gets) = map (λ c. number_of c.reply) gets
+-- what the gets of a try have returned so far
+abbrev pub got_so_far : List CompletedCall → List ℕ
+got_so_far (w ∷ a ∷ gets) = map (λ c. reply_number c.reply) gets
 got_so_far _ = []
 
--- the rows once a get of a try is kept, given its reader's row
+-- the rows once the value of a get is stored, given its reader's row
 abbrev pub rows_after : ℕ → List (List ℕ) → List ℕ → ReaderCall → List (List ℕ)
 rows_after cells rows row c =
     if nat_le 2 c.at && nat_lt c.at (cells + 2) then slice_set rows c.worker (slice_set row (c.at - 2) c.number) else rows
 
--- the accepting try that the call ends, if it ends one, given its reader's row
+-- the accepted try that the call ends, if it ends one, given its reader's row
 abbrev pub try_ended : ℕ → List ℕ → ReaderCall → Option AcceptedTry
 try_ended cells row c =
     if c.at == cells + 2 && c.number == c.version then Some (record { worker = c.worker; version = c.version; values = take cells row }) else None
@@ -52,46 +52,47 @@ pub record HasRow (rows : List (List ℕ)) (w : ℕ) (values : List ℕ) : Type 
   pub row : List ℕ
   pub is : slice_get rows w ≡ Some row
   pub long : length row ≡ 256
-  pub front : take (length values) row ≡ values
+  pub prefix : take (length values) row ≡ values
 
 -- each reader's row begins with what it got in the try that it is in
 abbrev pub HoldsGot : Database → (ℕ → Bool) → List (List ℕ) → List Entry → Type 0
 HoldsGot d writers rows past = (w : ℕ) → w < 16 → writers w ≡ false → HasRow rows w (got_so_far (block (try_rule d) w past))
 
--- what is kept of the list that an entry's worker is in, and the act that began the entry's call
-pub record ReadsOn (t : Tables) (d : Database) (k : Kept) (act : Act) (x : Entry) (past : List Entry) : Type 0 where
-  pub kept : k ≡ kept_of (block (database_rules t d x.worker) x.worker past)
-  pub op : act ≡ opened x.act (under_way x.worker past)
+-- the progress of an entry's worker in its list, and the act that began the entry's call
+pub record ReadsOn (t : Tables) (d : Database) (k : ListProgress) (act : Act) (x : Entry) (past : List Entry) : Type 0 where
+  pub kept : k ≡ list_progress (block (database_rules t d x.worker) x.worker past)
+  pub op : act ≡ opening_act x.act (under_way x.worker past)
 
--- what the audit of a database keeps in a walk: what its readers got in the tries that they are in, and the accepting
--- tries, or that memory was refused for one
-pub record Versioning : Type 0 where
+-- the state of the audit of a database: what its readers got in the tries that they are in, and the
+-- accepted tries, or that there was no memory for one
+pub record VersionAuditModel : Type 0 where
   pub shape : Database
   pub setup : Tables
-  pub tracked : Tracked
+  pub tracked : TrackerModel
   pub rows : List (List ℕ)
   pub list : List AcceptedTry
-  pub lacks : Bool
+  pub out_of_memory : Bool
 
--- how many accepting tries were found so far, if memory was not refused for one
-abbrev pub found_in : Versioning → Option ℕ
-found_in a = if a.lacks then None else Some (length a.list)
+-- how many accepted tries were found so far, if there was memory for each
+abbrev pub found_in : VersionAuditModel → Option ℕ
+found_in a = if a.out_of_memory then None else Some (length a.list)
 
--- it is that after a past
-pub record IsVersioning (a : Versioning) (past : List Entry) : Type 0 where
-  pub tracked : IsTracked (database_rules a.setup a.shape) kept_of a.tracked past
-  pub held : a.lacks ≡ false → HoldsGot a.shape (writes a.setup a.shape) a.rows past
-  pub list : a.lacks ≡ false → a.list ≡ accepted_tries a.shape (writes a.setup a.shape) past
+-- it is the state after this history so far
+pub record RepresentsVersions (a : VersionAuditModel) (past : List Entry) : Type 0 where
+  pub tracked : IsTrackerModel (database_rules a.setup a.shape) list_progress a.tracked past
+  pub held : a.out_of_memory ≡ false → HoldsGot a.shape (writes a.setup a.shape) a.rows past
+  pub list : a.out_of_memory ≡ false → a.list ≡ accepted_tries a.shape (writes a.setup a.shape) past
 
--- of the same database, after a past
-abbrev pub VersionsOn : Versioning → Versioning → List Entry → Type 0
-VersionsOn start now past = (now.shape ≡ start.shape) × (now.setup ≡ start.setup) × IsVersioning now past
+-- of the same database, after this history so far
+abbrev pub VersionsOn : VersionAuditModel → VersionAuditModel → List Entry → Type 0
+VersionsOn start now past = (now.shape ≡ start.shape) × (now.setup ≡ start.setup) × RepresentsVersions now past
 
--- the audit of a past is, as it is, that of the past and one more entry whose call is not on the database
+-- the state of the audit after a history so far is also that after one more entry whose call is not
+-- on the database
 abbrev pub OthersMayBeLeftOut : Type 0
-OthersMayBeLeftOut = (a : Versioning) (x : Entry) (past : List Entry) → is_on a.shape (opened x.act (under_way x.worker past)) ≡ false
-    → IsVersioning a past → IsVersioning a (x ∷ past)
+OthersMayBeLeftOut = (a : VersionAuditModel) (x : Entry) (past : List Entry) → is_on a.shape (opening_act x.act (under_way x.worker past)) ≡ false
+    → RepresentsVersions a past → RepresentsVersions a (x ∷ past)
 
--- and that of the past and a go that ends no call
+-- and that after a go that ends no call
 abbrev pub GoesMayBeLeftOut : Type 0
-GoesMayBeLeftOut = (a : Versioning) (x : Entry) (past : List Entry) → goes_on x ≡ true → IsVersioning a past → IsVersioning a (x ∷ past)
+GoesMayBeLeftOut = (a : VersionAuditModel) (x : Entry) (past : List Entry) → is_intermediate x ≡ true → RepresentsVersions a past → RepresentsVersions a (x ∷ past)

@@ -3,36 +3,36 @@
 use Rattle.std.specs.Prelude.{ℕ, zero, suc, ◌+◌, ◌==◌, nat_lt, List, [], ◌∷◌, ◌++◌, length, Option, Some, None, if◌then◌else◌, get_or}
 use Rattle.ec_core.specs.declared.act.Act.{Act}
 use Rattle.ec_core.specs.declared.act.Act.TheVariants.{Advance, Read, Await, Ticket, Put, Get}
-use Rattle.ec_core.specs.Following.{Told}
-use Rattle.ec_core.specs.CallLists.{number_of}
+use Rattle.ec_core.specs.Following.{CompletedCall}
+use Rattle.ec_core.specs.CallLists.{reply_number}
 use Rattle.ec_database.specs.Shapes.{Database}
 
--- what the first of some calls answered
-abbrev pub first_number : List Told → ℕ
+-- the number that the first of some calls returned
+abbrev pub first_number : List CompletedCall → ℕ
 first_number [] = 0
-first_number (c ∷ calls) = number_of c.reply
+first_number (c ∷ calls) = reply_number c.reply
 
--- writing these values into all cells: say that a writing starts, draw a turn t, wait until t writings are done, put each
--- value, and say that the writing is done
-abbrev pub write_call : Database → List ℕ → List Told → Option Act
+-- a write of these values into all cells: advance the count of starts, draw a turn t, wait until t
+-- writes are done, put each value, and advance the count of writes that are done
+abbrev pub write_call : Database → List ℕ → List CompletedCall → Option Act
 write_call d values [] = Some (Advance d.start)
 write_call d values (a ∷ []) = Some (Ticket d.turn)
-write_call d values (a ∷ t ∷ []) = Some (Await d.done (number_of t.reply))
+write_call d values (a ∷ t ∷ []) = Some (Await d.done (reply_number t.reply))
 write_call d values (a ∷ t ∷ i ∷ puts) =
     if nat_lt (length puts) d.cells
     then Some (Put (d.first_cell + length puts) (get_or values (length puts) 0))
     else (if length puts == d.cells then Some (Advance d.done) else None)
 
--- the turn of a writing, once it has drawn it
-abbrev pub turn_of : List Told → ℕ
-turn_of [] = 0
-turn_of (a ∷ calls) = first_number calls
+-- the turn of a write, once it has drawn it
+abbrev pub drawn_turn : List CompletedCall → ℕ
+drawn_turn [] = 0
+drawn_turn (a ∷ calls) = first_number calls
 
--- one try of a snapshot: read how many writings were started, wait until that many are done, get each cell, and read
--- again how many were started
-abbrev pub try_call : Database → List Told → Option Act
+-- one try of a snapshot: read how many writes were started, wait until that many are done, get each
+-- cell, and read again how many were started
+abbrev pub try_call : Database → List CompletedCall → Option Act
 try_call d [] = Some (Read d.start)
-try_call d (w ∷ []) = Some (Await d.done (number_of w.reply))
+try_call d (w ∷ []) = Some (Await d.done (reply_number w.reply))
 try_call d (w ∷ a ∷ gets) =
     if nat_lt (length gets) d.cells
     then Some (Get (d.first_cell + length gets))
@@ -40,7 +40,7 @@ try_call d (w ∷ a ∷ gets) =
 
 -- THE SAME WRITTEN OUT
 
--- puts of these values into the cells from place j on, and gets of n cells from there
+-- puts of these values into the cells from index j on, and gets of n cells from there
 abbrev pub puts_from : Database → ℕ → List ℕ → List Act
 puts_from d j [] = []
 puts_from d j (v ∷ values) = Put (d.first_cell + j) v ∷ puts_from d (j + 1) values
@@ -49,7 +49,7 @@ abbrev pub gets_from : Database → ℕ → ℕ → List Act
 gets_from d j zero = []
 gets_from d j (suc n) = Get (d.first_cell + j) ∷ gets_from d (j + 1) n
 
--- a writing whose turn is t, and a try that first reads w
+-- a write whose turn is t, and a try that first reads w
 abbrev pub write_list : Database → List ℕ → ℕ → List Act
 write_list d values t = Advance d.start ∷ Ticket d.turn ∷ Await d.done t ∷ (puts_from d 0 values ++ Advance d.done ∷ [])
 

@@ -1,5 +1,5 @@
--- What it is to follow a database: a writer's calls on it are writings of all cells joined end to end, a reader's are
--- tries of snapshots, and the last of them may be unfinished.
+-- What it is to follow a database: a writer's calls on it are writes of all cells joined end to
+-- end, a reader's are tries of snapshots, and the last of them may be incomplete.
 use Rattle.std.specs.Prelude.{ℕ, ◌+◌, List, Bool, ◌==◌, ◌&&◌, ◌||◌, nat_le, nat_lt, [], is_some, if◌then◌else◌}
 use Rattle.ec_count.specs.Tables.{Tables, component_of}
 use Rattle.ec_core.specs.declared.act.Act.{Act}
@@ -21,7 +21,7 @@ is_on d act = is_among (λ e. e == d.start || e == d.done) (λ q. q == d.turn) (
 abbrev pub writes : Tables → Database → ℕ → Bool
 writes t d w = is_some (component_of t d.start w)
 
--- the values that are written are free
+-- a writer may put any values
 abbrev pub write_rule : Database → Rule
 write_rule d = rule_of (is_on d) (write_call d [])
 
@@ -36,6 +36,6 @@ rules d writers w = if writers w then write_rule d else try_rule d
 abbrev pub database_rules : Tables → Database → ℕ → Rule
 database_rules t d = rules d (writes t d)
 
--- the history, its past the newest first, follows the database
+-- the history, its newest entry first, follows the database
 abbrev pub FollowsDatabase : Tables → Database → List Entry → Type 0
 FollowsDatabase t d past = Follow (database_rules t d) past

@@ -3,7 +3,7 @@ pub mod Calls
 pub mod Following
 pub mod Versions
 pub mod Snapshots
-pub mod Places
+pub mod SnapshotPhases
 pub mod Tries
 pub mod Rows
 pub mod Auditing

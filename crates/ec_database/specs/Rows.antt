@@ -1,4 +1,4 @@
--- The accepting tries of a database as rows of numbers, one behind the other.
+-- The accepted tries of a database as rows of numbers, one after another.
 use Rattle.std.specs.Prelude.{◌≡◌, ℕ, ◌+◌, ◌*◌, ◌<◌, ◌≤◌, ◌^◌, List, [], ◌∷◌, length, map, take, drop}
 use Rattle.std.specs.List.{range_with_len}
 use Rattle.ec_database.specs.Tries.{AcceptedTry}
@@ -22,7 +22,7 @@ pub record AreRows (cells : ℕ) (numbers : List ℕ) (count : ℕ) : Type 0 whe
   pub all : length numbers ≡ count * (cells + 2)
   pub workers : (i : ℕ) → i < count → (try_at cells numbers i).worker < 16
 
--- so many values stand among the numbers, from a place on
+-- so many values are among the numbers, from an index on
 pub record AreWithin (first cells : ℕ) (numbers : List ℕ) : Type 0 where
   pub room : first + cells ≤ length numbers
   pub small : first + cells < 2 ^ 64

@@ -5,7 +5,8 @@ use Rattle.ec_count.specs.Declares.{DeclaresFixedEvent, DeclaresSequencer, Decla
 use Rattle.ec_count.specs.Roles.{roles_fault, shares_worker}
 use Rattle.ec_count.specs.Tables.{Tables, with_fixed_event, with_cells}
 
--- the eventcounts of the writings that were started and of those that are done, the sequencer of the writers' turns, and the cells from the first on
+-- the eventcounts of the writes that were started and of those that are done, the sequencer of the
+-- writers' turns, and the cells from the first on
 pub record Database : Type 0 where
   pub start : ℕ
   pub done : ℕ
@@ -44,7 +45,8 @@ next_database t n = record {
   cells = n;
 }
 
--- the objects of the database are declared for these writers and readers, who share no worker; there is a reader, and its eventcounts are fixed
+-- the objects of the database are declared for these writers and readers, who share no worker;
+-- there is a reader, and the components of its eventcounts are not transferable
 pub record DeclaresDatabase (d : Database) (t : Tables) (write read : List ℕ) : Type 0 where
   pub start : DeclaresFixedEvent t d.start write read
   pub done : DeclaresFixedEvent t d.done write (write ++ read)

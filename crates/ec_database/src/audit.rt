@@ -1,4 +1,4 @@
-//! The accepting tries of a run.
+//! The accepted tries of a run.
 ghost use Rattle.std.specs.Prelude.{◌≡◌, ◌<◌, ◌≤◌, ℕ, false, List, [], ◌∷◌, ◌++◌, option_to_list, length, map, take, reverse, slice_get, slice_set, Some, IfOk, OnOk, IfErr};
 ghost use Rattle.std.specs.Option.{option_map};
 ghost use Rattle.ec_core.specs.declared.act.Entry.{Entry};
@@ -7,18 +7,18 @@ ghost use Rattle.ec_core.specs.Ending.{EndsAt};
 ghost use Rattle.ec_core.specs.Following.{block};
 ghost use Rattle.ec_database.specs.Following.{writes, database_rules, FollowsDatabase};
 ghost use Rattle.ec_database.specs.Tries.{ended_at, accepted_tries, ListsTries, AreUndisturbed};
-ghost use Rattle.ec_database.specs.Auditing.{shown, finished_call, found_in, rows_after, try_ended, HasRow, HoldsGot, ReadsOn, IsVersioning};
+ghost use Rattle.ec_database.specs.Auditing.{accepted_try, completed_call, found_in, rows_after, try_ended, HasRow, HoldsGot, ReadsOn, RepresentsVersions};
 
 use crate::DatabaseShape;
 use crate::lists::{Lists, is_on};
 use crate::tries::{Accepted, AcceptedTries, TryView};
-use ec_core::{Act, Audit, AuditFault, Entry, Kept, Reply, Run, Tracker, walk};
-use ec_count::{Setup, WorkerId};
+use ec_core::{Act, Audit, AuditFault, Entry, ListProgress, Reply, Run, Tracker, walk};
+use ec_count::{Setup, WorkerId, filled};
 use std::alloc::{AllocError, Global};
 use std::marker::Model;
 
-/// A call on the database that a reader has finished: its place in the reader's try, the version
-/// that the try read first, and what the call answered.
+/// A call on the database that a reader has completed: its index in the reader's try, the version
+/// that the try read first, and the number that the call returned.
 #[derive(Clone, Copy)]
 struct ReaderCall {
     worker: WorkerId,
@@ -27,9 +27,9 @@ struct ReaderCall {
     number: u64,
 }
 
-/// Returns the call of a reader on the database that an entry finishes, if it finishes one.
-fn finished_call(lists: &Lists, kept: &Kept, op: &Act, entry: &Entry) -> Option<ReaderCall>
-    ensures { result ≡ finished_call lists.now.shape.now (writes lists.now.setup.now lists.now.shape.now entry.now.worker) kept.now op.now entry.now }
+/// Returns the call of a reader on the database that an entry completes, if it completes one.
+fn completed_call(lists: &Lists, kept: &ListProgress, op: &Act, entry: &Entry) -> Option<ReaderCall>
+    ensures { result ≡ completed_call lists.now.shape.now (writes lists.now.setup.now lists.now.shape.now entry.now.worker) kept.now op.now entry.now }
 {
     if lists.writes(entry.worker) {
         return None;
@@ -50,15 +50,7 @@ fn finished_call(lists: &Lists, kept: &Kept, op: &Act, entry: &Entry) -> Option<
     })
 }
 
-/// Returns an array with the same element everywhere.
-fn all_alike<T: Copy, const N: usize>(x: T) -> [T; N]
-    ensures each { (i : ℕ) → i < N → slice_get result i ≡ Some x }
-    ensures long { length result ≡ N }
-{
-    [x; N]
-}
-
-/// What the readers got in the tries that they are in, by reader and place of the cell.
+/// The values that the readers got in the tries that they are in, by reader and index of the cell.
 #[derive(Drop)]
 struct Got {
     rows: [[u64; 256]; 16],
@@ -69,11 +61,11 @@ impl Got {
         ensures { (w : ℕ) → w < 16 → HasRow result.rows w [] }
     {
         Got {
-            rows: all_alike(all_alike(0)),
+            rows: filled(filled(0)),
         }
     }
 
-    /// Keeps the value that a reader's call answered, if that is a get.
+    /// Stores the value that a reader's call returned, if the call is a get.
     fn keep(&mut self, cells: usize, call: &ReaderCall)
         requires { cells ≤ 256 }
         ensures { (row : List ℕ) → slice_get self.old.rows call.now.worker ≡ Some row → self.new.rows ≡ rows_after cells self.old.rows row call.now }
@@ -83,7 +75,7 @@ impl Got {
         }
     }
 
-    /// Adds the accepting try that a reader's call ends, if it ends one.
+    /// Adds the accepted try that a reader's call ends, if it ends one.
     fn add(
         &self,
         cells: usize,
@@ -102,12 +94,12 @@ impl Got {
         tries.push(call.worker, call.version, &row[..cells])
     }
 
-    /// Takes in the next entry of a run, given what is kept of its worker's list and the act that
-    /// began its call, and adds the accepting try that it ends.
+    /// Processes the next entry of a run, given the progress of its worker and the act that began
+    /// its call. Adds the accepted try that it ends.
     fn take(
         &mut self,
         lists: &Lists,
-        kept: &Kept,
+        kept: &ListProgress,
         op: &Act,
         entry: &Entry,
         tries: &mut AcceptedTries,
@@ -123,7 +115,7 @@ impl Got {
             → tries.new.list ≡ accepted_tries lists.now.shape.now (writes lists.now.setup.now lists.now.shape.now) (entry.now ∷ past)) }
     {
         let _reader = entry.worker.get();
-        let Some(call) = finished_call(lists, kept, op, entry) else {
+        let Some(call) = completed_call(lists, kept, op, entry) else {
             return Ok(());
         };
         let cells = lists.shape.cells();
@@ -132,7 +124,7 @@ impl Got {
     }
 }
 
-/// The audit of a database in a walk over a run. An entry whose call is not on the database may be
+/// The audit of a database in a pass over a run. An entry whose call is not on the database may be
 /// left out.
 #[derive(Drop)]
 pub struct VersionAudit<'a> {
@@ -140,26 +132,26 @@ pub struct VersionAudit<'a> {
     tracker: Tracker,
     got: Got,
     tries: AcceptedTries,
-    lacks: bool,
+    out_of_memory: bool,
 }
 
 impl<'a> Model for VersionAudit<'a> {
     ghost use Rattle.std.specs.Prelude.{◌≡◌};
-    ghost use Rattle.ec_database.specs.Auditing.{Versioning};
+    ghost use Rattle.ec_database.specs.Auditing.{VersionAuditModel};
 
-    ghost Value = { Versioning };
+    ghost Value = { VersionAuditModel };
 
-    ghost view = { λ s. record { shape = s.lists.shape.now; setup = s.lists.setup.now; tracked = s.tracker; rows = s.got.rows; list = s.tries.list; lacks = s.lacks } };
+    ghost view = { λ s. record { shape = s.lists.shape.now; setup = s.lists.setup.now; tracked = s.tracker; rows = s.got.rows; list = s.tries.list; out_of_memory = s.out_of_memory } };
 
     ghost invariant = { λ s. s.tries.cells ≡ s.lists.shape.now.cells };
 }
 
-/// Takes in the next entry, and adds the accepting try that it ends, unless there was no memory for
-/// an earlier one. The answer is whether one is lacking.
-fn lacks_after(
-    lacks: bool,
+/// Processes the next entry, and adds the accepted try that it ends, unless an allocation has
+/// failed before. Returns whether one has failed.
+fn add_fails(
+    out_of_memory: bool,
     lists: &Lists,
-    kept: &Kept,
+    kept: &ListProgress,
     op: &Act,
     entry: &Entry,
     got: &mut Got,
@@ -167,7 +159,7 @@ fn lacks_after(
 ) -> bool
     requires { tries.old.cells ≡ lists.now.shape.now.cells }
     ensures cells { tries.new.cells ≡ tries.old.cells }
-    ensures before { result ≡ false → lacks ≡ false }
+    ensures before { result ≡ false → out_of_memory ≡ false }
     ensures held { result ≡ false → (past : List Entry) → ReadsOn lists.now.setup.now lists.now.shape.now kept.now op.now entry.now past
         → HoldsGot lists.now.shape.now (writes lists.now.setup.now lists.now.shape.now) got.old.rows past
         → HoldsGot lists.now.shape.now (writes lists.now.setup.now lists.now.shape.now) got.new.rows (entry.now ∷ past) }
@@ -176,13 +168,13 @@ fn lacks_after(
         → tries.old.list ≡ accepted_tries lists.now.shape.now (writes lists.now.setup.now lists.now.shape.now) past
         → tries.new.list ≡ accepted_tries lists.now.shape.now (writes lists.now.setup.now lists.now.shape.now) (entry.now ∷ past) }
 {
-    lacks || got.take(lists, kept, op, entry, tries).is_err()
+    out_of_memory || got.take(lists, kept, op, entry, tries).is_err()
 }
 
 impl<'a> Audit for VersionAudit<'a> {
     ghost use Rattle.ec_database.specs.Auditing.{VersionsOn};
 
-    ghost stands = { VersionsOn };
+    ghost represents = { VersionsOn };
 
     #[inline(never)]
     fn take(&mut self, place: usize, op: &Act, entry: &Entry) {
@@ -191,20 +183,20 @@ impl<'a> Audit for VersionAudit<'a> {
             tracker,
             got,
             tries,
-            lacks,
+            out_of_memory,
         } = self;
-        let kept = tracker.kept(entry.worker);
-        *lacks = lacks_after(*lacks, lists, &kept, op, entry, got, tries);
+        let kept = tracker.list_progress(entry.worker);
+        *out_of_memory = add_fails(*out_of_memory, lists, &kept, op, entry, got, tries);
         tracker.take(lists, place, op, entry);
     }
 }
 
 impl<'a> VersionAudit<'a> {
-    /// Makes the audit before the first entry of a run on this setup. It takes no memory.
+    /// Makes the audit before the first entry of a run on this setup. Allocates nothing.
     pub fn new(alloc: Global, shape: &'a DatabaseShape, setup: &'a Setup) -> Self
         ensures shape { result.shape ≡ shape.now }
         ensures setup { result.setup ≡ setup.now }
-        ensures first { IsVersioning result [] }
+        ensures first { RepresentsVersions result [] }
     {
         let lists = Lists::new(shape, setup);
         let tracker = Tracker::new(&lists);
@@ -213,86 +205,84 @@ impl<'a> VersionAudit<'a> {
             tracker,
             got: Got::new(),
             tries: AcceptedTries::new(alloc, shape.cells()),
-            lacks: false,
+            out_of_memory: false,
         }
     }
 
-    /// Returns how many calls of the list that it is in a worker has finished, after the entries so
-    /// far.
-    pub fn finished(&self, worker: WorkerId) -> usize
-        ensures { (past : List Entry) → IsVersioning self.now past → result ≡ length (block (database_rules self.now.setup self.now.shape worker) worker past) }
+    /// Returns how many calls of its current list a worker has completed, after the entries so far.
+    pub fn completed_count(&self, worker: WorkerId) -> usize
+        ensures { (past : List Entry) → RepresentsVersions self.now past → result ≡ length (block (database_rules self.now.setup self.now.shape worker) worker past) }
     {
-        let kept = self.tracker.kept(worker);
+        let kept = self.tracker.list_progress(worker);
         kept.at
     }
 
-    /// Returns how many accepting tries there are so far; `None` if memory was refused for one.
-    pub fn found(&self) -> Option<usize>
+    /// Returns how many accepted tries there are so far, or `None` if there was no memory for one.
+    pub fn accepted_count(&self) -> Option<usize>
         ensures { result ≡ found_in self.now }
     {
-        if self.lacks {
+        if self.out_of_memory {
             None
         } else {
             Some(self.tries.len())
         }
     }
 
-    /// Returns the accepting try with this place among those so far, if there are so many.
-    pub fn accepted(&self, place: usize) -> Option<TryView<'_>>
+    /// Returns the accepted try at this index among those so far, if there are so many.
+    pub fn accepted_at(&self, place: usize) -> Option<TryView<'_>>
         ensures { result ≡ slice_get self.now.list place }
     {
         self.tries.get(place)
     }
 
-    /// Returns the accepting tries after the entries so far, as `versions` lists them.
+    /// Returns the accepted tries after the entries so far, as `versions` lists them.
     pub fn finish(self) -> Result<AcceptedTries, AuditFault>
-        ensures followed { (h : List Entry) → EndsAt self.entry.setup (IsVersioning self.entry) h → OnOk result (FollowsDatabase self.entry.setup self.entry.shape (reverse h)) }
-        ensures tries { (h : List Entry) → EndsAt self.entry.setup (IsVersioning self.entry) h → IfOk result (λ tries. ListsTries self.entry.setup self.entry.shape h tries.list) }
-        ensures undisturbed { (h : List Entry) → EndsAt self.entry.setup (IsVersioning self.entry) h → IfOk result (λ tries. AreUndisturbed self.entry.setup self.entry.shape h tries.list) }
-        ensures err { (h : List Entry) → EndsAt self.entry.setup (IsVersioning self.entry) h → IfErr result (IsAuditFault (database_rules self.entry.setup self.entry.shape) h) }
+        ensures followed { (h : List Entry) → EndsAt self.entry.setup (RepresentsVersions self.entry) h → OnOk result (FollowsDatabase self.entry.setup self.entry.shape (reverse h)) }
+        ensures tries { (h : List Entry) → EndsAt self.entry.setup (RepresentsVersions self.entry) h → IfOk result (λ tries. ListsTries self.entry.setup self.entry.shape h tries.list) }
+        ensures undisturbed { (h : List Entry) → EndsAt self.entry.setup (RepresentsVersions self.entry) h → IfOk result (λ tries. AreUndisturbed self.entry.setup self.entry.shape h tries.list) }
+        ensures err { (h : List Entry) → EndsAt self.entry.setup (RepresentsVersions self.entry) h → IfErr result (IsAuditFault (database_rules self.entry.setup self.entry.shape) h) }
     {
         let VersionAudit {
             lists,
             tracker,
             tries,
-            lacks,
+            out_of_memory,
             ..
         } = self;
-        lists.shape.known();
-        if let Err(fault) = tracker.followed() {
+        lists.shape.invariant();
+        if let Err(fault) = tracker.finding() {
             return Err(fault);
         }
-        if lacks {
+        if out_of_memory {
             return Err(AuditFault::Memory);
         }
         Ok(tries)
     }
 
-    /// Returns the accepting tries after all entries of a run, as `versions` lists them.
+    /// Returns the accepted tries after all entries of a run, as `versions` lists them.
     pub fn versions(self, run: &Run) -> Result<AcceptedTries, AuditFault>
         requires setup { self.setup ≡ run.now.setup }
-        requires stands { IsVersioning self (reverse run.now.entries) }
+        requires represents { RepresentsVersions self (reverse run.now.entries) }
         ensures followed { OnOk result (FollowsDatabase run.now.setup self.entry.shape (reverse run.now.entries)) }
         ensures tries { IfOk result (λ tries. ListsTries run.now.setup self.entry.shape run.now.entries tries.list) }
         ensures undisturbed { IfOk result (λ tries. AreUndisturbed run.now.setup self.entry.shape run.now.entries tries.list) }
         ensures err { IfErr result (IsAuditFault (database_rules run.now.setup self.entry.shape) run.now.entries) }
     {
-        run.known();
+        run.invariant();
         self.finish()
     }
 }
 
-/// Returns the accepting tries of a database in a run, by their last steps. If the workers don't
-/// follow the database's call lists, the first entry that breaks them is told. The run is as
-/// before, whatever is answered.
+/// Returns the accepted tries of a database in a run, in the order of their last steps. If the
+/// workers don't follow the database's call lists, the error has the first entry that breaks them.
 pub fn versions(
     alloc: Global,
     run: &Run,
     shape: &DatabaseShape,
 ) -> Result<Vec<Accepted>, AuditFault>
     ensures followed { OnOk result (FollowsDatabase run.now.setup shape.now (reverse run.now.entries)) }
-    ensures tries { IfOk result (λ list. ListsTries run.now.setup shape.now run.now.entries (map shown list.items)) }
-    ensures undisturbed { IfOk result (λ list. AreUndisturbed run.now.setup shape.now run.now.entries (map shown list.items)) }
+    ensures tries { IfOk result (λ list. ListsTries run.now.setup shape.now run.now.entries (map accepted_try list.items)) }
+    ensures undisturbed { IfOk result (λ list. AreUndisturbed run.now.setup shape.now run.now.entries (map accepted_try list.items)) }
     ensures err { IfErr result (IsAuditFault (database_rules run.now.setup shape.now) run.now.entries) }
 {
     let mut audit = VersionAudit::new(alloc, shape, run.setup());

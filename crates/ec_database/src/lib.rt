@@ -1,6 +1,6 @@
-//! A database: cells that writers fill one after another, and that readers read without keeping
-//! the writers out, by a look at the versions (L. Lamport, "Concurrent Reading and Writing", CACM
-//! 20(11), 1977).
+//! A database: cells that writers fill one after another. Readers read them without keeping the
+//! writers out, by comparing versions (L. Lamport, "Concurrent Reading and Writing", CACM 20(11),
+//! 1977).
 #![tactic(auto)]
 
 mod audit;

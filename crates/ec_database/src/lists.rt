@@ -1,24 +1,24 @@
-//! The lists of calls of the workers on a database.
+//! The call lists of the workers on a database.
 ghost use Rattle.std.specs.Prelude.{◌≡◌, ℕ, ◌+◌, ◌<◌, List, [], ◌∷◌, ◌++◌, length, if◌then◌else◌};
-ghost use Rattle.ec_core.specs.CallLists.{number_of};
+ghost use Rattle.ec_core.specs.CallLists.{reply_number};
 ghost use Rattle.ec_core.specs.declared.act.Act.{Act};
 ghost use Rattle.ec_core.specs.declared.act.Act.TheVariants.{Read, Ticket, Get};
-ghost use Rattle.ec_core.specs.Following.{Told};
+ghost use Rattle.ec_core.specs.Following.{CompletedCall};
 ghost use Rattle.ec_database.specs.Following.{is_cell, is_on, writes, rules};
 ghost use Rattle.ec_database.specs.Auditing.{ArePlaced};
-ghost use Rattle.ec_database.specs.Places.{kept_of};
+ghost use Rattle.ec_database.specs.SnapshotPhases.{list_progress};
 
 use crate::DatabaseShape;
 use crate::places::{try_at, write_at};
-use ec_core::{Act, Kept, Protocol, Reply, is_due};
+use ec_core::{Act, ListProgress, Protocol, Reply, is_due};
 use ec_count::{CellId, EventId, SeqId, Setup, WorkerId};
 
-/// The lists of a database's writers and readers, as they are declared in a setup.
+/// The call lists of a database's writers and readers, as they are declared in a setup.
 #[derive(Drop)]
 pub(crate) struct Lists<'a> {
     pub(crate) shape: &'a DatabaseShape,
     pub(crate) setup: &'a Setup,
-    /// Which workers are writers, since each entry of a run asks that.
+    /// Which workers are writers; it is looked up for each entry of a run.
     writers: [bool; 16],
     ghost known: { ArePlaced (writes setup.now shape.now) 16 writers },
 }
@@ -58,7 +58,7 @@ pub fn is_on(shape: &DatabaseShape, act: &Act) -> bool
     }
 }
 
-/// Returns whether the worker of a number is a writer; false if there is no such worker.
+/// Returns whether the worker with this number is a writer; false if there is no such worker.
 fn is_writer(shape: &DatabaseShape, setup: &Setup, number: usize) -> bool
     requires { number < 16 }
     ensures { result ≡ writes setup.now shape.now number }
@@ -94,8 +94,8 @@ impl<'a> Lists<'a> {
 
     /// Returns whether an act begins the call that the worker's list has next.
     #[inline(always)]
-    fn is_next(&self, worker: WorkerId, kept: &Kept, act: &Act) -> bool
-        ensures { (calls : List Told) → kept.now ≡ kept_of calls → result ≡ (rules self.now.shape.now (writes self.now.setup.now self.now.shape.now) worker).fits calls act.now }
+    fn is_next(&self, worker: WorkerId, kept: &ListProgress, act: &Act) -> bool
+        ensures { (calls : List CompletedCall) → kept.now ≡ list_progress calls → result ≡ (rules self.now.shape.now (writes self.now.setup.now self.now.shape.now) worker).fits calls act.now }
     {
         if self.writes(worker) {
             is_due(&write_at(self.shape, kept.at, kept.second, 0), act)
@@ -104,7 +104,7 @@ impl<'a> Lists<'a> {
         }
     }
 
-    /// Returns the place of the last call of the worker's list.
+    /// Returns the index of the last call of the worker's list.
     fn last(&self, worker: WorkerId) -> usize
         ensures { result ≡ (if writes self.now.setup.now self.now.shape.now worker then self.now.shape.now.cells + 3 else self.now.shape.now.cells + 2) }
     {
@@ -119,22 +119,22 @@ impl<'a> Lists<'a> {
 impl Protocol for Lists<'_> {
     ghost rules = { λ s. rules s.shape.now (writes s.setup.now s.shape.now) };
 
-    ghost keeps = { λ s. kept_of };
+    ghost keeps = { λ s. list_progress };
 
-    fn start(&self) -> Kept {
-        Kept {
+    fn start(&self) -> ListProgress {
+        ListProgress {
             at: 0,
             first: 0,
             second: 0,
         }
     }
 
-    fn is_right(&self, worker: WorkerId, kept: &Kept, act: &Act) -> bool {
-        // (the call that comes next is asked for first, since in a run that follows most are that)
+    fn is_right(&self, worker: WorkerId, kept: &ListProgress, act: &Act) -> bool {
+        // (the call that is next is checked first, since in a run that follows most calls are that)
         self.is_next(worker, kept, act) || !is_on(self.shape, act)
     }
 
-    fn after(&self, worker: WorkerId, kept: &Kept, op: &Act, reply: Reply) -> Kept {
+    fn after(&self, worker: WorkerId, kept: &ListProgress, op: &Act, reply: Reply) -> ListProgress {
         let number = match reply {
             Reply::Pending => return *kept,
             Reply::Done => 0,
@@ -150,12 +150,12 @@ impl Protocol for Lists<'_> {
     }
 }
 
-/// Returns what is kept once one more call has answered.
-fn with_number(kept: &Kept, number: u64) -> Kept
+/// Returns the progress after one more call, which returned this number.
+fn with_number(kept: &ListProgress, number: u64) -> ListProgress
     requires { kept.now.at < usize.MAX }
-    ensures { (calls : List Told) (c : Told) → kept.now ≡ kept_of calls → number ≡ number_of c.reply → result ≡ kept_of (calls ++ c ∷ []) }
+    ensures { (calls : List CompletedCall) (c : CompletedCall) → kept.now ≡ list_progress calls → number ≡ reply_number c.reply → result ≡ list_progress (calls ++ c ∷ []) }
 {
-    Kept {
+    ListProgress {
         at: kept.at + 1,
         first: if kept.at == 0 { number } else { kept.first },
         second: if kept.at == 1 { number } else { kept.second },

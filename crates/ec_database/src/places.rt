@@ -1,11 +1,11 @@
-//! The call lists of a database, by place.
+//! The call lists of a database, by index.
 ghost use Rattle.std.specs.Prelude.{◌≡◌, ℕ, ◌-◌, List, get_or};
-ghost use Rattle.ec_database.specs.Places.{write_at, try_at};
+ghost use Rattle.ec_database.specs.SnapshotPhases.{write_at, try_at};
 
 use crate::DatabaseShape;
 use ec_core::Act;
 
-/// Returns the call at a place of a writing, from its turn and, if it is a put, the value that
+/// Returns the call at an index of a write, from its turn and, if the call is a put, the value that
 /// it puts.
 pub(crate) fn write_at(shape: &DatabaseShape, at: usize, turn: u64, value: u64) -> Option<Act>
     ensures { (values : List ℕ) → value ≡ get_or values (at - 3) 0 → result ≡ write_at shape.now values at turn }
@@ -25,7 +25,7 @@ pub(crate) fn write_at(shape: &DatabaseShape, at: usize, turn: u64, value: u64) 
     }
 }
 
-/// Returns the call at a place of a try, from the version that it read first.
+/// Returns the call at an index of a try, from the version that it read first.
 pub(crate) fn try_at(shape: &DatabaseShape, at: usize, version: u64) -> Option<Act>
     ensures { result ≡ try_at shape.now at version }
 {

@@ -4,7 +4,7 @@ ghost use Rattle.std.specs.Result.{result_err};
 ghost use Rattle.ec_count.specs.Tables.{IsDeclared};
 ghost use Rattle.ec_database.specs.Shapes.{DeclaresDatabase, Fits, IsShape, lacks_room, database_fault, with_database, next_database};
 
-use ec_count::{CellId, EventId, SeqId, Setup, SetupFault, WorkerId, joined, shares_worker};
+use ec_count::{CellId, EventId, SeqId, Setup, SetupFault, WorkerId, concat, shares_worker};
 use std::marker::Model;
 
 /// The objects of a database: they are declared together, by `declare_database`.
@@ -30,7 +30,7 @@ impl Model for DatabaseShape {
 }
 
 impl DatabaseShape {
-    /// Returns the eventcount of the writings that were started: a writer advances it before it
+    /// Returns the eventcount of the writes that were started: a writer advances it before it
     /// writes.
     pub fn start(&self) -> EventId
         ensures { result ≡ self.now.start }
@@ -38,7 +38,7 @@ impl DatabaseShape {
         self.start
     }
 
-    /// Returns the eventcount of the writings that are done: a writer advances it when it has
+    /// Returns the eventcount of the writes that are done: a writer advances it when it has
     /// written.
     pub fn done(&self) -> EventId
         ensures { result ≡ self.now.done }
@@ -70,13 +70,13 @@ impl DatabaseShape {
     }
 
     /// States what is true of a shape.
-    pub fn known(&self)
+    pub fn invariant(&self)
         ensures { IsShape self.now }
     {
         let _cells = self.cells;
     }
 
-    /// Returns a cell by its place, counted from 0.
+    /// Returns a cell by its index, counted from 0.
     pub(crate) fn cell_at(&self, place: usize) -> CellId
         requires { place < self.now.cells }
         ensures { result ≡ self.now.first_cell + place }
@@ -89,7 +89,7 @@ impl DatabaseShape {
         requires few_read { length read.now ≤ 16 }
         ensures { IsTrue result ↔ DeclaresDatabase self.now setup.now write.now read.now }
     {
-        let both = joined(write, read);
+        let both = concat(write, read);
         setup.declares_fixed_event(self.start, write, read)
             && setup.declares_fixed_event(self.done, write, both.as_slice())
             && setup.declares_sequencer(self.turn, write)
@@ -98,22 +98,24 @@ impl DatabaseShape {
             && !shares_worker(write, read)
     }
 
-    /// Returns whether the objects are declared there, with the rights of a database and fixed
-    /// eventcounts, for writers and readers that share no worker, one of each at least.
+    /// Returns whether the objects are declared there, with the rights of a database. The
+    /// components of the eventcounts are not transferable. Writers and readers share no worker, and
+    /// there is one of each at least.
     pub fn fits(&self, setup: &Setup) -> bool
         ensures { IsTrue result ↔ Fits self.now setup.now }
     {
-        setup.known();
+        setup.invariant();
         let write = setup.signallers(self.start);
         let read = setup.observers(self.start);
         self.declares(setup, write, read)
     }
 }
 
-/// Declares a database of n cells for these writers and readers. TooMany: a table has no room for
-/// 2 more eventcounts, a sequencer or n more cells, or a list has more than 16 entries. Empty:
-/// there is no writer, no reader, or n is 0. UnknownWorker: a list names a worker that is not
-/// declared. Repeated: a list names one twice. TwoRoles: a worker is in both lists.
+/// Declares a database of n cells for these writers and readers. Reports `TooMany` if a table has
+/// no room for 2 more eventcounts, a sequencer or n more cells, or if a list has more than 16
+/// entries. Reports `Empty` if there is no writer or no reader, or n is 0. Reports `UnknownWorker`
+/// if a list names a worker that is not declared, `Repeated` if a list names one twice, and
+/// `TwoRoles` if a worker is in both lists.
 pub fn declare_database(
     setup: &mut Setup,
     n: usize,
@@ -126,7 +128,7 @@ pub fn declare_database(
     ensures fits { IfOk result (λ d. DeclaresDatabase d setup.new write.now read.now) }
     ensures err { OnErr result (setup.new ≡ setup.old) }
 {
-    setup.known();
+    setup.invariant();
     let full = lacks_room(setup, n);
     if let Some(fault) = setup.roles_fault(full, write, read, n == 0) {
         return Err(fault);
@@ -138,7 +140,7 @@ pub fn declare_database(
 fn lacks_room(setup: &Setup, n: usize) -> bool
     ensures { result ≡ lacks_room setup.now n }
 {
-    setup.known();
+    setup.invariant();
     setup.events() + 2 > 32 || setup.sequencers() + 1 > 32 || n > 256 - setup.cells()
 }
 
@@ -148,7 +150,7 @@ fn add_database(setup: &mut Setup, n: usize, write: &[WorkerId], read: &[WorkerI
     ensures shape { result ≡ next_database setup.old n }
     ensures after { setup.new ≡ with_database setup.old n write.now read.now }
 {
-    let both = joined(write, read);
+    let both = concat(write, read);
     let start = setup.add_fixed_event(write, read).unwrap();
     let done = setup.add_fixed_event(write, both.as_slice()).unwrap();
     let turn = setup.add_sequencer(write).unwrap();

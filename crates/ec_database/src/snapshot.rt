@@ -3,7 +3,7 @@ ghost use Rattle.std.specs.Prelude.{◌≡◌, ◌+◌, ◌-◌, ◌≤◌, ◌<
 ghost use Rattle.arrayvec.specs.ArrayVec.{array_vec_len};
 ghost use Rattle.ec_core.specs.declared.act.Act.{Act};
 ghost use Rattle.ec_core.specs.Calls.{is_pending};
-ghost use Rattle.ec_core.specs.Following.{Told};
+ghost use Rattle.ec_core.specs.Following.{CompletedCall};
 ghost use Rattle.ec_core.specs.Procedures.{IsReplyTo, next_of};
 ghost use Rattle.ec_database.specs.Snapshots.{snapshot_call, snapshot_end};
 
@@ -12,10 +12,10 @@ use crate::{DatabaseShape, SnapshotEnd};
 use arrayvec::ArrayVec;
 use ec_core::{Act, Procedure, Reply};
 
-/// Reads all cells of a database in tries: each reads how many writings were started, waits until
-/// that many are done, gets each cell, and reads again how many were started. If both reads
-/// agree, it is accepted, and in a history that follows the database its values are those of one
-/// version; else the next try begins, until none is left.
+/// The procedure that reads all cells of a database, in tries. A try reads how many writes were
+/// started, waits until that many are done, gets each cell, and reads again how many were started.
+/// If both reads agree it is accepted, and in a history that follows the database its values are
+/// those of one version. Otherwise the next try begins, until none is left.
 #[derive(Debug, Drop)]
 pub struct Snapshot {
     shape: DatabaseShape,
@@ -31,16 +31,17 @@ pub struct Snapshot {
 }
 
 impl Snapshot {
-    ghost use Rattle.ec_database.specs.Standing.{place_of, ending};
-    ghost use Rattle.ec_database.specs.Places.{next_place};
+    ghost use Rattle.ec_database.specs.Standing.{try_place, ending};
+    ghost use Rattle.ec_database.specs.SnapshotPhases.{next_phase};
 
     /// Makes a snapshot of at most so many tries, from 1 to 1000.
     pub fn new(shape: DatabaseShape, tries: usize) -> Self
         requires some { 1 ≤ tries }
         requires few { tries ≤ 1000 }
-        ensures whole { (calls : List Told) → ⟦<Snapshot as Procedure>⟧.rest result calls ≡ snapshot_call shape tries calls }
+        ensures whole { (calls : List CompletedCall) → ⟦<Snapshot as Procedure>⟧.rest result calls ≡ snapshot_call shape tries calls }
         ensures fresh { ⟦<Snapshot as Procedure>⟧.is_going result ≡ false }
-        ensures ends { (calls : List Told) → ending result calls ≡ snapshot_end shape tries calls }
+        ensures ends { (calls : List CompletedCall)
+            → ending result calls ≡ snapshot_end shape tries calls }
     {
         Snapshot {
             shape,
@@ -53,10 +54,10 @@ impl Snapshot {
         }
     }
 
-    /// Takes in what the call at its place answered.
-    fn told(&mut self, number: u64)
+    /// Takes the number that the current call returned.
+    fn take_reply(&mut self, number: u64)
         requires { self.old.at ≤ self.old.shape.cells + 2 }
-        ensures place { place_of self.new ≡ next_place self.old.shape (place_of self.old) number }
+        ensures place { try_place self.new ≡ next_phase self.old.shape (try_place self.old) number }
         ensures going { self.new.going ≡ false }
         ensures same { self.new.shape ≡ self.old.shape }
     {
@@ -79,8 +80,8 @@ impl Snapshot {
         }
     }
 
-    /// Returns how it has ended: None while `next` is Some.
-    pub fn ended(&self) -> Option<SnapshotEnd>
+    /// Returns how it has ended, or `None` while `next` is `Some`.
+    pub fn end(&self) -> Option<SnapshotEnd>
         ensures value { result ≡ ending self.now [] }
         ensures next { IsSome result ↔ (next_of (⟦<Snapshot as Procedure>⟧.is_going self.now) (⟦<Snapshot as Procedure>⟧.rest self.now []) ≡ None) }
     {
@@ -96,10 +97,10 @@ impl Snapshot {
 }
 
 impl Procedure for Snapshot {
-    ghost use Rattle.ec_database.specs.Places.{snapshot_rest};
-    ghost use Rattle.ec_database.specs.Standing.{place_of, ending};
+    ghost use Rattle.ec_database.specs.SnapshotPhases.{snapshot_rest};
+    ghost use Rattle.ec_database.specs.Standing.{try_place, ending};
 
-    ghost rest = { λ s calls. snapshot_rest s.shape (place_of s) calls };
+    ghost rest = { λ s calls. snapshot_rest s.shape (try_place s) calls };
 
     ghost is_going = { λ s. s.going };
 
@@ -114,12 +115,12 @@ impl Procedure for Snapshot {
     fn take(&mut self, reply: Reply)
         requires { IsReplyTo (next_of (⟦<Snapshot as Procedure>⟧.is_going self.old) (⟦<Snapshot as Procedure>⟧.rest self.old [])) reply }
         ensures going { ⟦<Snapshot as Procedure>⟧.is_going self.new ≡ is_pending reply }
-        ensures pending { is_pending reply ≡ true → (calls : List Told)
+        ensures pending { is_pending reply ≡ true → (calls : List CompletedCall)
             → ⟦<Snapshot as Procedure>⟧.rest self.new calls ≡ ⟦<Snapshot as Procedure>⟧.rest self.old calls }
-        ensures told { is_pending reply ≡ false → (op : Act) → ⟦<Snapshot as Procedure>⟧.rest self.old [] ≡ Some op → (calls : List Told)
+        ensures returned { is_pending reply ≡ false → (op : Act) → ⟦<Snapshot as Procedure>⟧.rest self.old [] ≡ Some op → (calls : List CompletedCall)
             → ⟦<Snapshot as Procedure>⟧.rest self.new calls ≡ ⟦<Snapshot as Procedure>⟧.rest self.old (record { op = op; reply = reply } ∷ calls) }
-        ensures ends_pending { is_pending reply ≡ true → (calls : List Told) → ending self.new calls ≡ ending self.old calls }
-        ensures ends_told { is_pending reply ≡ false → (op : Act) → (calls : List Told)
+        ensures ends_pending { is_pending reply ≡ true → (calls : List CompletedCall) → ending self.new calls ≡ ending self.old calls }
+        ensures ends_told { is_pending reply ≡ false → (op : Act) → (calls : List CompletedCall)
             → ending self.new calls ≡ ending self.old (record { op = op; reply = reply } ∷ calls) }
     {
         let number = match reply {
@@ -130,6 +131,6 @@ impl Procedure for Snapshot {
             Reply::Done => 0,
             Reply::Number(number) => number,
         };
-        self.told(number);
+        self.take_reply(number);
     }
 }

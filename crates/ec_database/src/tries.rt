@@ -1,24 +1,24 @@
-//! Accepting tries, as they are kept.
+//! Accepted tries, and the rows in which they are stored.
 ghost use Rattle.std.specs.Prelude.{◌≡◌, ◌≤◌, [], ◌∷◌, ◌++◌, length, map, take, slice_get, IfOk, OnOk, OnErr};
-ghost use Rattle.ec_database.specs.Auditing.{shown};
+ghost use Rattle.ec_database.specs.Auditing.{accepted_try};
 
 use ec_count::WorkerId;
 use ec_numbers::NumberList;
 use std::alloc::{AllocError, Global};
 use std::marker::Model;
 
-/// An accepting try: the two reads of its count of starts agree.
+/// An accepted try: the two reads of its count of starts agree.
 #[derive(Debug, PartialEq, Eq, Drop)]
 pub struct Accepted {
     /// The reader.
     pub worker: WorkerId,
-    /// The version that both reads answered.
+    /// The version that both reads returned.
     pub version: u64,
     /// The values of the cells, in order.
     pub values: Vec<u64>,
 }
 
-/// An accepting try if it is kept.
+/// An accepted try in the rows in which it is stored.
 #[derive(Drop)]
 pub struct TryView<'a> {
     worker: WorkerId,
@@ -49,7 +49,7 @@ impl<'a> TryView<'a> {
         self.worker
     }
 
-    /// Returns the version that both reads answered.
+    /// Returns the version that both reads returned.
     pub fn version(&self) -> u64
         ensures { result ≡ self.now.version }
     {
@@ -63,7 +63,7 @@ impl<'a> TryView<'a> {
         self.cells
     }
 
-    /// Returns the value of a cell, by its place.
+    /// Returns the value of a cell, by its index.
     pub fn value(&self, place: usize) -> Option<u64>
         ensures { result ≡ slice_get self.now.values place }
     {
@@ -88,9 +88,9 @@ impl<'a> TryView<'a> {
         Ok(values)
     }
 
-    /// Returns the try by itself.
+    /// Returns a copy of the try that owns its values.
     pub fn to_accepted(&self, alloc: Global) -> Result<Accepted, AllocError>
-        ensures { IfOk result (λ accepted. shown accepted ≡ self.now) }
+        ensures { IfOk result (λ accepted. accepted_try accepted ≡ self.now) }
     {
         Ok(Accepted {
             worker: self.worker(),
@@ -100,7 +100,7 @@ impl<'a> TryView<'a> {
     }
 }
 
-/// Accepting tries of a database, in order: rows of numbers, one behind the other. A row has the
+/// The accepted tries of a database, in order, as rows of numbers, one after another. A row has the
 /// reader, the version and the value of each cell.
 #[derive(Drop)]
 pub struct AcceptedTries {
@@ -120,15 +120,15 @@ impl Model for AcceptedTries {
     ghost invariant = { λ s. AreRows s.cells s.numbers.list s.count };
 }
 
-/// Adds the numbers of a row, or of a front of it.
-fn add_front(
+/// Adds the numbers of a row, or a proper prefix of them if an allocation fails.
+fn add_prefix(
     numbers: &mut NumberList,
     reader: u64,
     version: u64,
     values: &[u64],
 ) -> Result<(), AllocError>
     ensures ok { OnOk result (numbers.new.list ≡ numbers.old.list ++ reader ∷ version ∷ values.now) }
-    ensures front { take (length numbers.old.list) numbers.new.list ≡ numbers.old.list }
+    ensures prefix { take (length numbers.old.list) numbers.new.list ≡ numbers.old.list }
 {
     numbers.push(reader)?;
     numbers.push(version)?;
@@ -138,7 +138,7 @@ fn add_front(
     Ok(())
 }
 
-/// Adds the numbers of a row, or changes nothing.
+/// Adds the numbers of a row, or changes nothing if an allocation fails.
 fn add_row(
     numbers: &mut NumberList,
     reader: u64,
@@ -149,7 +149,7 @@ fn add_row(
     ensures err { OnErr result (numbers.new.list ≡ numbers.old.list) }
 {
     let before = numbers.len();
-    if add_front(numbers, reader, version, values).is_err() {
+    if add_prefix(numbers, reader, version, values).is_err() {
         numbers.truncate(before);
         return Err(AllocError);
     }
@@ -157,7 +157,7 @@ fn add_row(
 }
 
 impl AcceptedTries {
-    /// Makes a list of no tries, of a database with so many cells. It takes no memory.
+    /// Makes an empty list of tries, of a database with so many cells. Allocates nothing.
     pub(crate) fn new(alloc: Global, cells: usize) -> Self
         requires { cells ≤ 256 }
         ensures { result ≡ record { cells = cells; list = [] } }
@@ -169,14 +169,14 @@ impl AcceptedTries {
         }
     }
 
-    /// Returns how many there are.
+    /// Returns how many tries there are.
     pub fn len(&self) -> usize
         ensures { result ≡ length self.now.list }
     {
         self.count
     }
 
-    /// Returns the try at a place, counted from 0.
+    /// Returns the try at an index, counted from 0.
     pub fn get(&self, place: usize) -> Option<TryView<'_>>
         ensures { result ≡ slice_get self.now.list place }
     {
@@ -194,7 +194,7 @@ impl AcceptedTries {
         })
     }
 
-    /// Adds one at the end, or changes nothing.
+    /// Adds a try at the end, or changes nothing if an allocation fails.
     pub(crate) fn push(
         &mut self,
         worker: WorkerId,
@@ -213,9 +213,9 @@ impl AcceptedTries {
         Ok(())
     }
 
-    /// Returns each of them by itself.
+    /// Returns a copy of each try, in order.
     pub fn to_list(&self, alloc: Global) -> Result<Vec<Accepted>, AllocError>
-        ensures { IfOk result (λ list. map shown list.items ≡ self.now.list) }
+        ensures { IfOk result (λ list. map accepted_try list.items ≡ self.now.list) }
     {
         let mut list = Vec::with_capacity(alloc, self.len())?;
         for place in 0..self.len() {

@@ -2,17 +2,17 @@
 ghost use Rattle.std.specs.Prelude.{◌≡◌, ◌+◌, ◌-◌, ◌≤◌, true, false, ◌==◌, if◌then◌else◌, List, get_or};
 ghost use Rattle.std.specs.List.{All};
 ghost use Rattle.arrayvec.specs.ArrayVec.{array_vec_len};
-ghost use Rattle.ec_core.specs.Following.{Told};
+ghost use Rattle.ec_core.specs.Following.{CompletedCall};
 ghost use Rattle.ec_database.specs.Calls.{write_call};
-ghost use Rattle.ec_database.specs.Places.{write_rest};
+ghost use Rattle.ec_database.specs.SnapshotPhases.{write_rest};
 
 use crate::DatabaseShape;
 use crate::places::write_at;
 use arrayvec::ArrayVec;
 use ec_core::{Act, Procedure, Reply, VALUE_MAX};
 
-/// Writes all cells of a database: says that a writing starts, draws a turn, waits for it, puts
-/// each value, and says that the writing is done.
+/// The procedure that writes all cells of a database. It advances the count of starts, draws a
+/// turn, waits for it, puts each value, and advances the count of writes that are done.
 #[derive(Debug, Drop)]
 pub struct WriteAll {
     shape: DatabaseShape,
@@ -26,11 +26,11 @@ pub struct WriteAll {
 }
 
 impl WriteAll {
-    /// Makes a writing of as many values as the database has cells, each of at most VALUE_MAX.
+    /// Makes a write of as many values as the database has cells, each of at most VALUE_MAX.
     pub fn new(shape: DatabaseShape, values: ArrayVec<u64, 256>) -> Self
         requires many { array_vec_len values ≡ shape.cells }
         requires small { All (λ v. v ≤ VALUE_MAX) values.items }
-        ensures whole { (calls : List Told) → ⟦<WriteAll as Procedure>⟧.rest result calls ≡ write_call shape values.items calls }
+        ensures whole { (calls : List CompletedCall) → ⟦<WriteAll as Procedure>⟧.rest result calls ≡ write_call shape values.items calls }
         ensures fresh { ⟦<WriteAll as Procedure>⟧.is_going result ≡ false }
     {
         WriteAll {
@@ -42,7 +42,7 @@ impl WriteAll {
         }
     }
 
-    /// Returns the value that it puts at its place; 0 if that is no put.
+    /// Returns the value that the current call puts, 0 if it is no put.
     fn value(&self) -> u64
         ensures { result ≡ get_or self.now.values.items (self.now.at - 3) 0 }
     {
@@ -50,8 +50,8 @@ impl WriteAll {
         self.values.as_slice().get(put).copied().unwrap_or(0)
     }
 
-    /// Takes in what the call at its place answered.
-    fn told(&mut self, number: u64)
+    /// Takes the number that the current call returned.
+    fn take_reply(&mut self, number: u64)
         requires { self.old.at ≤ self.old.shape.cells + 3 }
         ensures place { self.new.at ≡ self.old.at + 1 }
         ensures turn { self.new.turn ≡ (if self.old.at == 1 then number else self.old.turn) }
@@ -67,7 +67,7 @@ impl WriteAll {
 }
 
 impl Procedure for WriteAll {
-    ghost use Rattle.ec_database.specs.Places.{write_rest};
+    ghost use Rattle.ec_database.specs.SnapshotPhases.{write_rest};
 
     ghost rest = { λ s calls. write_rest s.shape s.values.items s.at s.turn calls };
 
@@ -90,6 +90,6 @@ impl Procedure for WriteAll {
             Reply::Done => 0,
             Reply::Number(number) => number,
         };
-        self.told(number);
+        self.take_reply(number);
     }
 }

@@ -34,7 +34,7 @@ places_next m b x past place ks ls at was more =
     more ∙ ap (λ l. l ++ cond (is_move m b x.act) (place ∷ []) []) was
     ∙ ap (λ k. places m b past ++ cond (is_move m b x.act) (k ∷ []) []) at
 
--- the arrows of a buffer that is followed, and of one that isn't
+-- the arrows of a buffer whose workers follow its rules, and of one whose workers don't
 pub arrows_are : (t : Tables) (b : Buffer) (w : Window) (h : List Entry) (puts gets : List ℕ)
     (list : List Delivery) → IsFollowed t b h → AreDeliveries t b h list
     → puts ≡ places moves.Put b (reverse h) → gets ≡ places moves.Get b (reverse h)

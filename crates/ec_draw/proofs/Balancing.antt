@@ -1,4 +1,4 @@
--- What is left of a semaphore, entry by entry, and whether it is followed.
+-- The units left of a semaphore, entry by entry, and whether its workers follow its rules.
 use Rattle.std.proofs.Common.{◌≡◌, ◌↔◌, ℕ, suc, ◌+◌, ◌-◌, ◌<◌, ◌≤◌, ◌^◌, ◌&&◌, Bool, true, false}
 use Rattle.std.proofs.Common.{List, [], ◌∷◌, ◌++◌, length, replicate, refl, ap, sym, ◌∙◌, arith}
 use Rattle.std.proofs.Common.{subst, reverse, append-nil, append_assoc}
@@ -15,12 +15,12 @@ use Rattle.ec_core.specs.Following.{Rule, Follow}
 use Rattle.ec_core.proofs.shared.Breaks.{follow_or_break}
 use Rattle.ec_semaphore.specs.declared.shape.TheConstants.{INITIAL_MAX}
 use Rattle.ec_semaphore.specs.Shapes.{Semaphore}
-use Rattle.ec_semaphore.specs.Auditing.{Balancing, IsCounted}
+use Rattle.ec_semaphore.specs.Auditing.{BalanceAuditModel, RepresentsBalance}
 use Rattle.ec_semaphore.proofs.shared.Smallness.{total_small}
 use Rattle.ec_draw.specs.declared.window.Window.{Window}
 use Rattle.ec_draw.specs.Following.{follows}
-use Rattle.ec_draw.specs.Balances.{Course, IsSmall, left_by, left_of, lefts, moments, padded}
-use Rattle.ec_draw.specs.Balances.{told_at}
+use Rattle.ec_draw.specs.Balances.{BalanceState, IsSmall, left_by, units_left_after, units_left_at_moments, moments, pad}
+use Rattle.ec_draw.specs.Balances.{list_if_moment}
 use Rattle.ec_draw.specs.LeftOut.{left_is, lefts_many, pad_more, small_before, told_alike}
 
 -- FOLLOWING
@@ -46,7 +46,7 @@ follow_no rules past never = decide (follows rules past) refl
     decide true e = absurd (never (yes_follow rules past e))
     decide false e = e
 
--- an answer that says whether a past follows
+-- if a decision is true exactly if the history so far follows the rules, it is `follows`
 pub follow_by : (rules : ℕ → Rule) (past : List Entry) (b : Bool) → (b ≡ true ↔ Follow rules past)
     → b ≡ follows rules past
 follow_by rules past true is = sym (follow_yes rules past (is.0 refl))
@@ -54,9 +54,9 @@ follow_by rules past false is = sym (follow_no rules past (λ f. (let e = is.1 f
 
 pub broken_no : (rules : ℕ → Rule) (h : List Entry) (fault : AuditFault) (w k : ℕ)
     → fault ≡ NotFollowed w k → IsAuditFault rules h fault → false ≡ follows rules (reverse h)
-broken_no rules h fault w k is told =
+broken_no rules h fault w k is returned =
     sym (follow_no rules (reverse h)
-    (follow_or_break rules h w k (subst (IsAuditFault rules h) is told)))
+    (follow_or_break rules h w k (subst (IsAuditFault rules h) is returned)))
 
 -- WHAT IS LEFT
 
@@ -66,67 +66,71 @@ pub small_run : (t : Tables) (s : Semaphore) (past : List Entry) → s.initial �
 small_run t s past few dec acc =
     (let least : total s.count past < 2 ^ 53 = total_small t s.count past dec acc in omega arith)
 
--- before the first entry nothing is kept
-pub course_first : (c : Course) → IsCounted c.audit [] → c.heights ≡ []
-    → padded c 0 ≡ lefts c.audit.shape c.window []
-unfolding lefts
-course_first c counted none =
+-- before the first entry no number is stored
+pub balance_first : (c : BalanceState) → RepresentsBalance c.audit [] → c.heights ≡ []
+    → pad c 0 ≡ units_left_at_moments c.audit.shape c.window []
+unfolding units_left_at_moments
+balance_first c counted none =
     let s = c.audit.shape in
     let w = c.window in
-    let many : length (told_at w 0 (left_of s [])) ≡ moments w 0 = lefts_many s w [] in
-    let no_more : moments w 0 - 0 ≡ length (told_at w 0 (left_of s [])) = omega arith in
+    let many : length (list_if_moment w 0 (units_left_after s [])) ≡ moments w 0 =
+    lefts_many s w [] in
+    let no_more : moments w 0 - 0 ≡ length (list_if_moment w 0 (units_left_after s [])) =
+    omega arith in
     ap (λ hs. hs ++ replicate (moments w 0 - length hs) (left_by c.audit)) none
     ∙ ap (λ n. replicate (moments w 0 - 0) n) (left_is c.audit [] counted)
-    ∙ ap (λ m. replicate m (left_of s [])) no_more ∙ told_alike w 0 (left_of s [])
+    ∙ ap (λ m. replicate m (units_left_after s [])) no_more ∙ told_alike w 0 (units_left_after s [])
 
--- one entry more: first what was left until then is told
-pub course_next : (a b : Balancing) (w : Window) (x : Entry) (past : List Entry) (place n : ℕ)
-    (hs gs : List ℕ) → b.shape ≡ a.shape → IsCounted a past → IsCounted b (x ∷ past)
+-- one entry more: first the units left until then are added
+pub balance_next : (a b : BalanceAuditModel) (w : Window) (x : Entry) (past : List Entry) (place n : ℕ)
+    (hs gs : List ℕ) → b.shape ≡ a.shape → RepresentsBalance a past → RepresentsBalance b (x ∷ past)
     → place ≡ length past
     → (IsSmall a.shape past → hs ++ replicate (moments w (length past) - length hs) (left_by a)
-    ≡ lefts a.shape w past) → IsSmall b.shape (x ∷ past)
+    ≡ units_left_at_moments a.shape w past) → IsSmall b.shape (x ∷ past)
     → (a.shape.initial + a.ups < 2 ^ 64 → n ≡ left_by a)
     → gs ≡ hs ++ replicate (moments w place - length hs) n
     → gs ++ replicate (moments w (length (x ∷ past)) - length gs) (left_by b)
-    ≡ lefts b.shape w (x ∷ past)
-unfolding lefts
-course_next a b w x past place n hs gs same before counted at was small left_now told =
+    ≡ units_left_at_moments b.shape w (x ∷ past)
+unfolding units_left_at_moments
+balance_next a b w x past place n hs gs same before counted at was small left_now returned =
     let s = a.shape in
     let m = moments w (length past) in
     let small_here : IsSmall s past =
     subst (λ (z : Semaphore). IsSmall z past) same (small_before b.shape x past small) in
     let number : n ≡ left_by a =
     left_now (subst (λ k. s.initial + k < 2 ^ 64) (sym before.ups) small_here) in
-    let here : gs ≡ lefts s w past =
-    told ∙ ap (λ k. hs ++ replicate (moments w k - length hs) n) at
+    let here : gs ≡ units_left_at_moments s w past =
+    returned ∙ ap (λ k. hs ++ replicate (moments w k - length hs) n) at
     ∙ ap (λ k. hs ++ replicate (m - length hs) k) number ∙ was small_here in
     let long : length gs ≡ m = ap length here ∙ lefts_many s w past in
     let one : suc (length past) ≡ length past + 1 = omega arith in
     let none : m - length gs ≡ 0 = omega arith in
     ap (λ k. gs ++ replicate (moments w k - length gs) (left_by b)) one
     ∙ pad_more w (length past) (left_by b) gs (omega arith)
-    ∙ ap (λ k. (gs ++ replicate k (left_by b)) ++ told_at w (length past + 1) (left_by b)) none
-    ∙ ap (λ l. l ++ told_at w (length past + 1) (left_by b)) (append-nil gs ∙ here
-    ∙ ap (λ z. lefts z w past) (sym same))
-    ∙ ap (λ k. lefts b.shape w past ++ told_at w (length past + 1) k) (left_is b (x ∷ past) counted)
+    ∙ ap (λ k. (gs ++ replicate k (left_by b))
+    ++ list_if_moment w (length past + 1) (left_by b)) none
+    ∙ ap (λ l. l ++ list_if_moment w (length past + 1) (left_by b)) (append-nil gs ∙ here
+    ∙ ap (λ z. units_left_at_moments z w past) (sym same))
+    ∙ ap (λ k. units_left_at_moments b.shape w past
+    ++ list_if_moment w (length past + 1) k) (left_is b (x ∷ past) counted)
 
--- after the last one, what is left is told up to there
-pub course_last : (a : Balancing) (w : Window) (s : Semaphore) (past : List Entry) (k n : ℕ)
-    (hs gs : List ℕ) → a.shape ≡ s → IsCounted a past → k ≡ length past
+-- after the last one, the units left are added up to there
+pub balance_last : (a : BalanceAuditModel) (w : Window) (s : Semaphore) (past : List Entry) (k n : ℕ)
+    (hs gs : List ℕ) → a.shape ≡ s → RepresentsBalance a past → k ≡ length past
     → (IsSmall a.shape past → hs ++ replicate (moments w (length past) - length hs) (left_by a)
-    ≡ lefts a.shape w past) → IsSmall s past
+    ≡ units_left_at_moments a.shape w past) → IsSmall s past
     → (a.shape.initial + a.ups < 2 ^ 64 → n ≡ left_by a)
-    → gs ≡ hs ++ replicate (moments w k - length hs) n → gs ≡ lefts s w past
-course_last a w s past k n hs gs of counted at was small left_now told =
+    → gs ≡ hs ++ replicate (moments w k - length hs) n → gs ≡ units_left_at_moments s w past
+balance_last a w s past k n hs gs of counted at was small left_now returned =
     let small_here : IsSmall a.shape past =
     subst (λ (z : Semaphore). IsSmall z past) (sym of) small in
     let number : n ≡ left_by a =
     left_now (subst (λ m. a.shape.initial + m < 2 ^ 64) (sym counted.ups) small_here) in
-    told ∙ ap (λ j. hs ++ replicate (moments w j - length hs) n) at
+    returned ∙ ap (λ j. hs ++ replicate (moments w j - length hs) n) at
     ∙ ap (λ j. hs ++ replicate (moments w (length past) - length hs) j) number ∙ was small_here
-    ∙ ap (λ z. lefts z w past) of
+    ∙ ap (λ z. units_left_at_moments z w past) of
 
--- a number is added as often as it is to stand there
+-- a number is added until there are enough
 pub fill_more : (hs gs ks : List ℕ) (k n : ℕ) → length hs ≤ k
     → gs ≡ hs ++ replicate (k - length hs) n → ks ≡ gs ++ n ∷ []
     → ks ≡ hs ++ replicate (k + 1 - length hs) n

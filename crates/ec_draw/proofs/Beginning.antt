@@ -11,23 +11,23 @@ use Rattle.ec_core.specs.declared.act.Act.TheVariants.{Go}
 use Rattle.ec_core.specs.declared.act.Entry.{Entry}
 use Rattle.ec_core.specs.declared.act.Reply.{Reply}
 use Rattle.ec_core.specs.declared.act.Reply.TheVariants.{Pending, Done, Number}
-use Rattle.ec_core.specs.Calls.{CallSoFar, under_way, gone_on, is_go, is_pending}
+use Rattle.ec_core.specs.Calls.{CallSoFar, under_way, call_with_act, is_go, is_pending}
 use Rattle.ec_core.specs.Counts.{past_at}
-use Rattle.ec_core.specs.Following.{Told, Rule, block, block_after, opened}
+use Rattle.ec_core.specs.Following.{CompletedCall, Rule, block, block_after, opening_act}
 use Rattle.ec_core.proofs.shared.Following.{op_at, own_block, other_block}
 use Rattle.ec_core.proofs.shared.Moments.{past_next, past_end}
 use Rattle.ec_core.proofs.shared.Scans.{call_own, call_other}
 use Rattle.ec_database.specs.Shapes.{Database}
 use Rattle.ec_database.specs.Following.{is_on, writes, try_rule, write_rule, database_rules}
 use Rattle.ec_database.specs.Tries.{AcceptedTry, accepted_of, ended_at}
-use Rattle.ec_draw.specs.Shades.{Shaded, begins_list, list_start, shade_at, shades_in, span_at}
+use Rattle.ec_draw.specs.Shades.{ShadeModel, begins_list, list_start, shade_at, shades_in, span_at}
 use Rattle.ec_draw.specs.LeftOut.{concerns_is}
 use Rattle.ec_draw.specs.Laws.{BeginsList, ShadesBeginLists}
 use Rattle.ec_draw.proofs.Stepping.{long_past}
 use Rattle.ec_draw.proofs.Telling.{get_either, shade_of}
 
--- what an act is that begins a list
-begins_parts : (t : Tables) (d : Database) (w : ℕ) (calls : List Told) (act : Act)
+-- an act that begins a call sequence is no go, and is on the database
+begins_parts : (t : Tables) (d : Database) (w : ℕ) (calls : List CompletedCall) (act : Act)
     → begins_list (database_rules t d w) calls act ≡ true → (calls ≡ []) × (is_go act ≡ false)
     × (is_on d act ≡ true)
 begins_parts t d w [] act b =
@@ -43,14 +43,14 @@ module _ (t : Tables) (d : Database) (h : List Entry) (w : ℕ) where
   abbrev Rules : Rule
   Rules = database_rules t d w
 
-  abbrev Block : ℕ → List Told
+  abbrev Block : ℕ → List CompletedCall
   Block m = block Rules w (past_at m h)
 
-  -- the list that w is in at moment m was begun where its start says
+  -- the call sequence that w is in at moment m was begun at its start
   abbrev IsStarted : ℕ → Type 0
   IsStarted m = BeginsList t d h w m (list_start Rules w (past_at m h))
 
-  -- at entry m the list begins
+  -- at entry m the call sequence begins
   starts_here : (m : ℕ) (x : Entry) → slice_get h m ≡ Some x → x.worker ≡ w
       → begins_list Rules (Block m) x.act ≡ true → IsStarted (suc m)
   unfolding list_start
@@ -74,7 +74,7 @@ module _ (t : Tables) (d : Database) (h : List Entry) (w : ℕ) where
         none_since = λ j y after until there by. absurd (omega arith);
       })
 
-  -- entry m begins none
+  -- entry m begins no call sequence
   starts_before : (m : ℕ) (x : Entry) → slice_get h m ≡ Some x
       → (x.worker ≡ w → begins_list Rules (Block m) x.act ≡ false) → IsStarted m → IsStarted (suc m)
   unfolding list_start
@@ -115,7 +115,7 @@ module _ (t : Tables) (d : Database) (h : List Entry) (w : ℕ) where
             | false ↦ λ e. refl
           ] refl
 
-  -- behind the last entry
+  -- after the last entry
   starts_end : (m : ℕ) → slice_get h m ≡ None → IsStarted m → IsStarted (suc m)
   starts_end m at was =
       let before : list_start Rules w (past_at m h) < m = was.before in
@@ -137,16 +137,16 @@ module _ (t : Tables) (d : Database) (h : List Entry) (w : ℕ) where
             ] refl;
       })
 
-  -- a list of which a call is finished, or under way, was begun
+  -- a call sequence with a completed call, or with a pending one, was begun
   abbrev HasCalls : ℕ → Type 0
-  HasCalls m = (c : Told) (calls : List Told) → Block m ≡ c ∷ calls → IsStarted m
+  HasCalls m = (c : CompletedCall) (calls : List CompletedCall) → Block m ≡ c ∷ calls → IsStarted m
 
   abbrev HasCall : ℕ → Type 0
   HasCall m = (call : CallSoFar) → under_way w (past_at m h) ≡ Some call → Block m ≡ []
       → is_on d call.op ≡ true → IsStarted m
 
-  -- an act that begins no list, and is part of a call on the database, goes on with a call
-  from_act : (act : Act) (o : Option CallSoFar) → is_on d (opened act o) ≡ true
+  -- an act that begins no call sequence, and is part of a call on the database, continues a call
+  from_act : (act : Act) (o : Option CallSoFar) → is_on d (opening_act act o) ≡ true
       → begins_list Rules [] act ≡ false → (call : CallSoFar) × (o ≡ Some call)
       × (is_on d call.op ≡ true)
   from_act Go None on none = absurd (true≢false (sym on))
@@ -154,7 +154,8 @@ module _ (t : Tables) (d : Database) (h : List Entry) (w : ℕ) where
   from_act act o on none = absurd (true≢false (sym on ∙ sym (concerns_is t d w act) ∙ none))
 
   gone_act : (act : Act) (p : List Entry) (o : Option CallSoFar) (call : CallSoFar)
-      → gone_on act p o ≡ Some call → is_on d call.op ≡ true → begins_list Rules [] act ≡ false
+      → call_with_act act p o ≡ Some call → is_on d call.op ≡ true
+      → begins_list Rules [] act ≡ false
       → (k : CallSoFar) × (o ≡ Some k) × (is_on d k.op ≡ true)
   gone_act Go p None call e on none = cc
   gone_act Go p (Some k) call e on none =
@@ -165,14 +166,15 @@ module _ (t : Tables) (d : Database) (h : List Entry) (w : ℕ) where
       let op : act ≡ call.op = cc in
       absurd (true≢false (sym on ∙ ap (is_on d) (sym op) ∙ sym (concerns_is t d w act) ∙ none)))
 
-  -- a call that begins a list is on the database
-  told_on : (b : Bool) (op : Act) (told : Told) (c : Told) (calls : List Told)
+  -- a call that begins a call sequence is on the database
+  told_on : (b : Bool) (op : Act) (returned : CompletedCall) (c : CompletedCall) (calls : List CompletedCall)
       → (database_rules t d w).concerns [] op ≡ b
-      → cond b (cond (Rules.ends (told ∷ [])) [] (told ∷ [])) [] ≡ c ∷ calls → is_on d op ≡ true
-  told_on true op told c calls e is = sym (concerns_is t d w op) ∙ e
-  told_on false op told c calls e is = cc
+      → cond b (cond (Rules.ends (returned ∷ [])) [] (returned ∷ [])) [] ≡ c ∷ calls
+      → is_on d op ≡ true
+  told_on true op returned c calls e is = sym (concerns_is t d w op) ∙ e
+  told_on false op returned c calls e is = cc
 
-  after_on : (op : Act) (reply : Reply) (c : Told) (calls : List Told)
+  after_on : (op : Act) (reply : Reply) (c : CompletedCall) (calls : List CompletedCall)
       → block_after Rules [] op reply ≡ c ∷ calls → is_on d op ≡ true
   after_on op Pending c calls is = cc
   after_on op Done c calls is =
@@ -189,7 +191,7 @@ module _ (t : Tables) (d : Database) (h : List Entry) (w : ℕ) where
   unfolding under_way
   never_yet call is blk on = cc
 
-  -- an entry of w that begins no list
+  -- an entry of w that begins no call sequence
   own_calls : (m : ℕ) (x : Entry) → slice_get h m ≡ Some x → x.worker ≡ w
       → begins_list Rules (Block m) x.act ≡ false → HasCalls m → HasCall m → HasCalls (suc m)
   own_calls m x at own none calls_of call_of c calls is =
@@ -198,19 +200,20 @@ module _ (t : Tables) (d : Database) (h : List Entry) (w : ℕ) where
       p : List Entry
       p = past_at m h
 
-      step : Block (suc m) ≡ block_after Rules (Block m) (opened x.act (under_way w p)) x.reply
+      step : Block (suc m) ≡ block_after Rules (Block m) (opening_act x.act (under_way w p)) x.reply
       step =
           ap (block Rules w) (past_next h m x at)
           ∙ subst (λ v. block Rules v (x ∷ p) ≡ block_after Rules (block Rules v p)
-          (opened x.act (under_way v p)) x.reply) own (own_block Rules x p)
+          (opening_act x.act (under_way v p)) x.reply) own (own_block Rules x p)
 
-      by_block : (b : List Told) → Block m ≡ b → IsStarted m
+      by_block : (b : List CompletedCall) → Block m ≡ b → IsStarted m
       by_block (k ∷ ks) e = calls_of k ks e
       by_block [] e =
-          (let after = ap (λ b. block_after Rules b (opened x.act (under_way w p)) x.reply) (sym e)
+          (let after =
+          ap (λ b. block_after Rules b (opening_act x.act (under_way w p)) x.reply) (sym e)
           ∙ sym step ∙ is in
           let from = from_act x.act (under_way w p)
-          (after_on (opened x.act (under_way w p)) x.reply c calls after)
+          (after_on (opening_act x.act (under_way w p)) x.reply c calls after)
           (ap (λ b. begins_list Rules b x.act) (sym e) ∙ none) in
           call_of from.0 from.1 e from.2)
 
@@ -223,17 +226,17 @@ module _ (t : Tables) (d : Database) (h : List Entry) (w : ℕ) where
       p = past_at m h
 
       way : under_way w (past_at (suc m) h) ≡ cond (is_pending x.reply)
-          (gone_on x.act p (under_way w p)) None
+          (call_with_act x.act p (under_way w p)) None
       way =
           ap (under_way w) (past_next h m x at)
           ∙ subst (λ v. under_way v (x ∷ p) ≡ cond (is_pending x.reply)
-          (gone_on x.act p (under_way v p)) None) own (call_own x p)
+          (call_with_act x.act p (under_way v p)) None) own (call_own x p)
 
-      step : Block (suc m) ≡ block_after Rules (Block m) (opened x.act (under_way w p)) x.reply
+      step : Block (suc m) ≡ block_after Rules (Block m) (opening_act x.act (under_way w p)) x.reply
       step =
           ap (block Rules w) (past_next h m x at)
           ∙ subst (λ v. block Rules v (x ∷ p) ≡ block_after Rules (block Rules v p)
-          (opened x.act (under_way v p)) x.reply) own (own_block Rules x p)
+          (opening_act x.act (under_way v p)) x.reply) own (own_block Rules x p)
 
       ended : (o : Option CallSoFar) → o ≡ None → o ≡ Some call → IsStarted m
       ended o gone here = cc
@@ -241,21 +244,22 @@ module _ (t : Tables) (d : Database) (h : List Entry) (w : ℕ) where
       by_reply : (reply : Reply) → x.reply ≡ reply → IsStarted m
       by_reply Pending e =
           (let same : Block m
-          ≡ [] = sym (step ∙ ap (block_after Rules (Block m) (opened x.act (under_way w p))) e)
+          ≡ [] = sym (step ∙ ap (block_after Rules (Block m) (opening_act x.act (under_way w p))) e)
           ∙ blk in
           let goes = sym
-          (way ∙ ap (λ r. cond (is_pending r) (gone_on x.act p (under_way w p)) None) e) ∙ is in
+          (way ∙ ap (λ r. cond (is_pending r) (call_with_act x.act p (under_way w p)) None) e)
+          ∙ is in
           let from = gone_act x.act p (under_way w p) call goes on
           (ap (λ b. begins_list Rules b x.act) (sym same) ∙ none) in
           call_of from.0 from.1 same from.2)
       by_reply Done e =
           ended (under_way w (past_at (suc m) h))
-          (way ∙ ap (λ r. cond (is_pending r) (gone_on x.act p (under_way w p)) None) e) is
+          (way ∙ ap (λ r. cond (is_pending r) (call_with_act x.act p (under_way w p)) None) e) is
       by_reply (Number n) e =
           ended (under_way w (past_at (suc m) h))
-          (way ∙ ap (λ r. cond (is_pending r) (gone_on x.act p (under_way w p)) None) e) is
+          (way ∙ ap (λ r. cond (is_pending r) (call_with_act x.act p (under_way w p)) None) e) is
 
-  -- each list that has calls was begun
+  -- each call sequence that has calls was begun
   started : (m : ℕ) → HasCalls m × HasCall m
   started zero = (none_yet, never_yet)
   started (suc m) =
@@ -300,18 +304,20 @@ module _ (t : Tables) (d : Database) (h : List Entry) (w : ℕ) where
 
 -- SHADES
 
--- an accepting try ends a list of which calls are finished, of a reader
+-- an accepted try ends a call sequence of a reader with completed calls
 ended_calls : (d : Database) (writers : ℕ → Bool) (x : Entry) (past : List Entry) (a : AcceptedTry)
     → ended_at d writers x past ≡ Some a
     → (a.worker ≡ x.worker) × (writers x.worker ≡ false)
-    × ((c : Told) × (calls : List Told) × (block (try_rule d) x.worker past ≡ c ∷ calls))
+    × ((c : CompletedCall) × (calls : List CompletedCall)
+    × (block (try_rule d) x.worker past ≡ c ∷ calls))
 ended_calls d writers x past a is = by_writer (writers x.worker) (is_pending x.reply) refl is
   where
-    told : Told
-    told = record { op = op_at x past; reply = x.reply }
+    returned : CompletedCall
+    returned = record { op = op_at x past; reply = x.reply }
 
-    whole : (b : List Told) → block (try_rule d) x.worker past ≡ b
-        → accepted_of d x.worker (b ++ told ∷ []) ≡ Some a → (c : Told) × (calls : List Told)
+    whole : (b : List CompletedCall) → block (try_rule d) x.worker past ≡ b
+        → accepted_of d x.worker (b ++ returned ∷ []) ≡ Some a → (c : CompletedCall)
+        × (calls : List CompletedCall)
         × (block (try_rule d) x.worker past ≡ c ∷ calls)
     whole [] e found = cc
     whole (c ∷ calls) e found = (c, calls, e)
@@ -323,27 +329,29 @@ ended_calls d writers x past a is = by_writer (writers x.worker) (is_pending x.r
     named false o same e = cc
 
     by_on : (b : Bool) → is_on d (op_at x past) ≡ b
-        → cond b (accepted_of d x.worker (block (try_rule d) x.worker past ++ told ∷ [])) None
+        → cond b (accepted_of d x.worker (block (try_rule d) x.worker past ++ returned ∷ [])) None
         ≡ Some a
         → (a.worker ≡ x.worker)
-        × ((c : Told) × (calls : List Told) × (block (try_rule d) x.worker past ≡ c ∷ calls))
+        × ((c : CompletedCall) × (calls : List CompletedCall)
+        × (block (try_rule d) x.worker past ≡ c ∷ calls))
     by_on true on found =
         (named _ _ refl found, whole (block (try_rule d) x.worker past) refl found)
     by_on false on found = cc
 
     Ended : Option AcceptedTry
     Ended = cond (is_on d (op_at x past))
-        (accepted_of d x.worker (block (try_rule d) x.worker past ++ told ∷ [])) None
+        (accepted_of d x.worker (block (try_rule d) x.worker past ++ returned ∷ [])) None
 
     by_writer : (b g : Bool) → writers x.worker ≡ b → cond (b || g) None Ended ≡ Some a
         → (a.worker ≡ x.worker) × (writers x.worker ≡ false)
-        × ((c : Told) × (calls : List Told) × (block (try_rule d) x.worker past ≡ c ∷ calls))
+        × ((c : CompletedCall) × (calls : List CompletedCall)
+        × (block (try_rule d) x.worker past ≡ c ∷ calls))
     by_writer true g e found = cc
     by_writer false true e found = cc
     by_writer false false e found =
         (let on = by_on (is_on d (op_at x past)) refl found in (on.0, e, on.1))
 
-shade_begins : (t : Tables) (d : Database) (h : List Entry) (m i : ℕ) (s : Shaded)
+shade_begins : (t : Tables) (d : Database) (h : List Entry) (m i : ℕ) (s : ShadeModel)
     → slice_get (shades_in t d (past_at m h)) i ≡ Some s
     → BeginsList t d h s.accepted.worker s.span.last s.span.first
 unfolding shades_in
@@ -373,7 +381,7 @@ shade_begins t d h (suc m) i s e =
                 (subst (λ n. BeginsList t d h x.worker n
                 (list_start (database_rules t d x.worker) x.worker p)) (sym (long_past h m x at))
                 here) in
-                subst (λ (z : Shaded). BeginsList t d h z.accepted.worker z.span.last z.span.first)
+                subst (λ (z : ShadeModel). BeginsList t d h z.accepted.worker z.span.last z.span.first)
                 r.2 named)
           ])
     ] refl

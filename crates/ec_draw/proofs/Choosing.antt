@@ -4,11 +4,12 @@ use Rattle.std.proofs.Common.{take, Some, ap, ◌∙◌, cond, slice_get}
 use Rattle.std.proofs.Common.{add-one}
 use Rattle.std.specs.List.{filter}
 use Rattle.ec_count.specs.declared.target.Target.{Target}
-use Rattle.ec_heading.specs.Spelling.{Named}
-use Rattle.ec_draw.specs.declared.chosen.Choice.{Choice}
+use Rattle.ec_heading.specs.Spelling.{NameTable}
+use Rattle.ec_draw.specs.declared.chosen.NameFilter.{NameFilter}
 use Rattle.ec_draw.specs.Chosen.{is_drawn, chosen_targets}
 
-drawn_more : (v : Choice) (ws : Named) (n : ℕ) (e : List ℕ × Target) → slice_get ws n ≡ Some e
+drawn_more : (v : NameFilter) (ws : NameTable) (n : ℕ) (e : List ℕ × Target)
+    → slice_get ws n ≡ Some e
     → chosen_targets v (take (suc n) ws) ≡ chosen_targets v (take n ws) ++ chosen_targets v (e ∷ [])
 drawn_more v [] n e at = cc
 drawn_more v (x ∷ ws) zero e at =
@@ -25,6 +26,7 @@ drawn_more v (x ∷ ws) (suc n) e at =
     ]
 
 -- those of one word more
-pub drawn_next : (v : Choice) (ws : Named) (n : ℕ) (e : List ℕ × Target) → slice_get ws n ≡ Some e
+pub drawn_next : (v : NameFilter) (ws : NameTable) (n : ℕ) (e : List ℕ × Target)
+    → slice_get ws n ≡ Some e
     → chosen_targets v (take (n + 1) ws) ≡ chosen_targets v (take n ws) ++ chosen_targets v (e ∷ [])
 drawn_next v ws n e at = ap (λ m. chosen_targets v (take m ws)) (add-one n) ∙ drawn_more v ws n e at

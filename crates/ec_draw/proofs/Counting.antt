@@ -7,18 +7,18 @@ use mir.Val.{bool_byte}
 use Rattle.ec_core.specs.declared.act.Entry.{Entry}
 use Rattle.ec_core.specs.Counts.{past_at, total, issued}
 use Rattle.ec_core.proofs.shared.Moments.{past_end}
-use Rattle.ec_draw.specs.declared.curve.Counted.{Counted}
-use Rattle.ec_draw.specs.declared.curve.Counted.TheVariants.{Event, Sequencer}
+use Rattle.ec_draw.specs.declared.curve.Counter.{Counter}
+use Rattle.ec_draw.specs.declared.curve.Counter.TheVariants.{Event, Sequencer}
 use Rattle.ec_draw.specs.Curves.{count_of, count_at, raises, counts_from}
 use Rattle.ec_draw.proofs.Stepping.{next_past}
 
-count_more : (object : Counted) (x : Entry) (past : List Entry)
+count_more : (object : Counter) (x : Entry) (past : List Entry)
     → count_of object (x ∷ past) ≡ cond (raises object x.act) 1 0 + count_of object past
 unfolding total issued
 count_more (Event e) x past = refl
 count_more (Sequencer q) x past = refl
 
-pub count_next : (object : Counted) (h : List Entry) (k : ℕ) (x : Entry) (n : ℕ)
+pub count_next : (object : Counter) (h : List Entry) (k : ℕ) (x : Entry) (n : ℕ)
     → slice_get h k ≡ Some x → n ≡ cond (raises object x.act) 1 0
     → count_at object h (k + 1) ≡ count_at object h k + n
 count_next object h k x n at is =
@@ -26,7 +26,7 @@ count_next object h k x n at is =
     ap (count_of object) (next_past h k x at) ∙ count_more object x (past_at k h) in
     omega arith
 
-pub count_end : (object : Counted) (h : List Entry) (k : ℕ) → slice_get h k ≡ None
+pub count_end : (object : Counter) (h : List Entry) (k : ℕ) → slice_get h k ≡ None
     → count_at object h (k + 1) ≡ count_at object h k + 0
 count_end object h k at =
     let one : k + 1 ≡ suc k = omega arith in
@@ -34,19 +34,19 @@ count_end object h k at =
     ∙ ap (count_of object) (past_end h k at) in
     omega arith
 
-pub count_none : (object : Counted) (h : List Entry) → count_at object h 0 ≡ 0
+pub count_none : (object : Counter) (h : List Entry) → count_at object h 0 ≡ 0
 unfolding total issued
 count_none (Event e) h = refl
 count_none (Sequencer q) h = refl
 
-pub counts_one : (object : Counted) (h : List Entry) (k n : ℕ) → n ≡ count_at object h k
+pub counts_one : (object : Counter) (h : List Entry) (k n : ℕ) → n ≡ count_at object h k
     → n ∷ [] ≡ counts_from object h k 1
 unfolding counts_from
 counts_one object h k n is =
     (let same : k + 0 ≡ k = omega arith in
     ap (λ v. v ∷ []) (is ∙ ap (count_at object h) (sym same)))
 
-pub counts_more : (object : Counted) (h : List Entry) (k j n : ℕ) (hs : List ℕ)
+pub counts_more : (object : Counter) (h : List Entry) (k j n : ℕ) (hs : List ℕ)
     → hs ≡ counts_from object h k (j + 1) → n ≡ count_at object h (k + (j + 1))
     → hs ++ n ∷ [] ≡ counts_from object h k (j + 1 + 1)
 unfolding counts_from
@@ -55,12 +55,12 @@ counts_more object h k j n hs was is =
     ap (λ z. z ++ n ∷ []) was ∙ ap (λ v. counts_from object h k (j + 1) ++ v ∷ []) is
     ∙ sym (ap (counts_from object h k) one)
 
-pub count_here : (object : Counted) (h : List Entry) (k n : ℕ) → n ≡ count_at object h k
+pub count_here : (object : Counter) (h : List Entry) (k n : ℕ) → n ≡ count_at object h k
     → n ≡ count_at object h (k + 0)
 count_here object h k n is =
     (let same : k ≡ k + 0 = omega arith in is ∙ ap (count_at object h) same)
 
-pub count_step : (object : Counted) (h : List Entry) (k j n m : ℕ) → n ≡ count_at object h (k + j)
+pub count_step : (object : Counter) (h : List Entry) (k j n m : ℕ) → n ≡ count_at object h (k + j)
     → count_at object h (k + j + 1) ≡ count_at object h (k + j) + m
     → n + m ≡ count_at object h (k + (j + 1))
 count_step object h k j n m was more =
@@ -74,10 +74,10 @@ byte_is false d e = ap (λ x. cond x 1 0) e
 -- COUNTS SIDE BY SIDE
 
 -- a count is at most the number of entries
-count_few : (object : Counted) (past : List Entry) → count_of object past ≤ length past
+count_few : (object : Counter) (past : List Entry) → count_of object past ≤ length past
 count_few object [] = none object
   where
-    none : (o : Counted) → count_of o [] ≤ 0
+    none : (o : Counter) → count_of o [] ≤ 0
     none o = (let zero_here : count_of o [] ≡ 0 = count_none o [] in omega arith)
 count_few object (x ∷ past) =
     let step = count_more object x past in
@@ -94,7 +94,7 @@ take-few zero h = omega arith
 take-few (suc k) [] = omega arith
 take-few (suc k) (x ∷ h) = (let rest = take-few k h in omega arith)
 
-pub count_small : (object : Counted) (h : List Entry) (k : ℕ) → count_at object h k ≤ k
+pub count_small : (object : Counter) (h : List Entry) (k : ℕ) → count_at object h k ≤ k
 count_small object h k =
     let few = count_few object (past_at k h) in
     let long = length-reverse (take k h) in

@@ -1,4 +1,4 @@
--- What is kept of lists, element by element.
+-- Filters of lists, and curves, element by element.
 use Rattle.std.proofs.Common.{◌≡◌, ℕ, suc, ◌+◌, Bool, true, false, List, [], ◌∷◌, ◌++◌}
 use Rattle.std.proofs.Common.{Option, Some, None, refl, ap, sym, ◌∙◌, arith, cond, append-nil}
 use Rattle.std.proofs.Common.{append_assoc}
@@ -6,8 +6,8 @@ use Rattle.std.specs.List.{filter}
 use Rattle.std.specs.Option.{option_to_list}
 use Rattle.ec_core.specs.declared.act.Entry.{Entry}
 use Rattle.ec_draw.specs.declared.window.Window.{Window}
-use Rattle.ec_draw.specs.declared.curve.Counted.TheVariants.{Event, Sequencer}
-use Rattle.ec_draw.specs.Curves.{Line, line_of, event_lines, sequencer_lines}
+use Rattle.ec_draw.specs.declared.curve.Counter.TheVariants.{Event, Sequencer}
+use Rattle.ec_draw.specs.Curves.{CurveModel, curve_of_count, event_curves, sequencer_curves}
 
 pub filter_more : {X : Type 0} (f : X → Bool) (xs : List X) (x : X)
     → filter f (xs ++ x ∷ []) ≡ filter f xs ++ cond (f x) (x ∷ []) []
@@ -26,49 +26,29 @@ filter_behind f xs (Some x) = filter_more f xs x
 
 -- CURVES
 
-pub no_events : (w : Window) (h : List Entry) → [] ≡ event_lines w h 0
-unfolding event_lines
+pub no_events : (w : Window) (h : List Entry) → [] ≡ event_curves w h 0
+unfolding event_curves
 no_events w h = refl
 
-pub more_events : (w : Window) (h : List Entry) (n : ℕ) (ls : List Line) → ls ≡ event_lines w h n
-    → ls ++ line_of w h (Event n) ∷ [] ≡ event_lines w h (n + 1)
-unfolding event_lines
+pub more_events : (w : Window) (h : List Entry) (n : ℕ) (ls : List CurveModel)
+    → ls ≡ event_curves w h n
+    → ls ++ curve_of_count w h (Event n) ∷ [] ≡ event_curves w h (n + 1)
+unfolding event_curves
 more_events w h n ls was =
-    (let one : n + 1 ≡ suc n = omega arith in ap (λ z. z ++ line_of w h (Event n) ∷ []) was
-    ∙ sym (ap (event_lines w h) one))
+    (let one : n + 1 ≡ suc n = omega arith in ap (λ z. z ++ curve_of_count w h (Event n) ∷ []) was
+    ∙ sym (ap (event_curves w h) one))
 
 pub first_sequencers : (w : Window) (h : List Entry) (m n : ℕ) → m ≡ n
-    → event_lines w h m ≡ event_lines w h n ++ sequencer_lines w h 0
-unfolding sequencer_lines
-first_sequencers w h m n e = ap (event_lines w h) e ∙ sym (append-nil (event_lines w h n))
+    → event_curves w h m ≡ event_curves w h n ++ sequencer_curves w h 0
+unfolding sequencer_curves
+first_sequencers w h m n e = ap (event_curves w h) e ∙ sym (append-nil (event_curves w h n))
 
-pub more_sequencers : (w : Window) (h : List Entry) (n : ℕ) (es ls : List Line)
-    → ls ≡ es ++ sequencer_lines w h n → ls ++ line_of w h (Sequencer n) ∷ [] ≡ es
-    ++ sequencer_lines w h (n + 1)
-unfolding sequencer_lines
+pub more_sequencers : (w : Window) (h : List Entry) (n : ℕ) (es ls : List CurveModel)
+    → ls ≡ es ++ sequencer_curves w h n → ls ++ curve_of_count w h (Sequencer n) ∷ [] ≡ es
+    ++ sequencer_curves w h (n + 1)
+unfolding sequencer_curves
 more_sequencers w h n es ls was =
     let one : n + 1 ≡ suc n = omega arith in
-    ap (λ z. z ++ line_of w h (Sequencer n) ∷ []) was
-    ∙ append_assoc es (sequencer_lines w h n) (line_of w h (Sequencer n) ∷ [])
-    ∙ sym (ap (λ m. es ++ sequencer_lines w h m) one)
-
--- WALKS
-
-pub kept_yes : {X : Type 0} (f : X → Bool) (bs cs : List X) (p : X) (rest ps all : List X)
-    → ps ≡ p ∷ rest → f p ≡ true → cs ≡ bs ++ p ∷ [] → bs ++ filter f ps ≡ all
-    → cs ++ filter f rest ≡ all
-kept_yes f bs cs p rest ps all steps shown more was =
-    ap (λ z. z ++ filter f rest) more ∙ append_assoc bs (p ∷ []) (filter f rest)
-    ∙ sym (ap (λ z. bs ++ filter f z) steps
-    ∙ ap (λ b. bs ++ cond b (p ∷ filter f rest) (filter f rest)) shown) ∙ was
-
-pub kept_no : {X : Type 0} (f : X → Bool) (bs : List X) (p : X) (rest ps all : List X)
-    → ps ≡ p ∷ rest → f p ≡ false → bs ++ filter f ps ≡ all → bs ++ filter f rest ≡ all
-kept_no f bs p rest ps all steps hidden was =
-    sym (ap (λ z. bs ++ filter f z) steps
-    ∙ ap (λ b. bs ++ cond b (p ∷ filter f rest) (filter f rest)) hidden) ∙ was
-
-pub kept_all : {X : Type 0} (f : X → Bool) (bs rest ps qs : List X) → rest ≡ [] → ps ≡ qs
-    → bs ++ filter f rest ≡ filter f ps → bs ≡ filter f qs
-kept_all f bs rest ps qs none same was = sym (append-nil bs) ∙ sym (ap (λ z. bs ++ filter f z) none)
-    ∙ was ∙ ap (filter f) same
+    ap (λ z. z ++ curve_of_count w h (Sequencer n) ∷ []) was
+    ∙ append_assoc es (sequencer_curves w h n) (curve_of_count w h (Sequencer n) ∷ [])
+    ∙ sym (ap (λ m. es ++ sequencer_curves w h m) one)

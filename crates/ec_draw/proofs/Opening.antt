@@ -7,7 +7,7 @@ use Rattle.std.proofs.lemmas.Bool.{eqb-true, eqb-false, eq-eqb}
 use Rattle.ec_core.specs.declared.act.Act.{Act}
 use Rattle.ec_core.specs.declared.act.Act.TheVariants.{Go}
 use Rattle.ec_core.specs.declared.act.Entry.{Entry}
-use Rattle.ec_core.specs.Calls.{CallSoFar, under_way, gone_on, is_go, is_pending}
+use Rattle.ec_core.specs.Calls.{CallSoFar, under_way, call_with_act, is_go, is_pending}
 use Rattle.ec_core.specs.CallsInOrder.{IsUnderWay}
 use Rattle.ec_core.specs.Counts.{past_at}
 use Rattle.ec_core.specs.Laws.{CallsUnderWayAreCutInOrder}
@@ -17,7 +17,7 @@ use Rattle.ec_draw.specs.Open.{begins, begun_at}
 use Rattle.ec_draw.specs.Laws.{PendingBarsBegin}
 use Rattle.ec_draw.proofs.Stepping.{begun_before, begun_here}
 
--- AS THE WORLD KEEPS THE CALL
+-- THE CALL IN THE WORLD
 
 -- the first of a call's moments, if there is one, is that of its worker's latest entry that began
 -- one
@@ -27,7 +27,7 @@ Begun first (Some call) =
     (l : ℕ) × (length call.moments ≡ suc l) × (first ≡ position_of call.moments l)
 
 gone_begun : (act : Act) (past : List Entry) (o : Option CallSoFar) (first : ℕ) → Begun first o
-    → Begun (cond (not (is_go act)) (length past) first) (gone_on act past o)
+    → Begun (cond (not (is_go act)) (length past) first) (call_with_act act past o)
 gone_begun Go past None first h = tt
 gone_begun Go past (Some call) first h = (suc h.0, ap suc h.1, h.2)
 gone_begun act past o first h = (0, refl, refl)
@@ -43,7 +43,7 @@ call_begun w [] = tt
 call_begun w (x ∷ past) =
     let o = under_way w past in
     let first = begun_at w past in
-    let gone = gone_on x.act past o in
+    let gone = call_with_act x.act past o in
     elim (x.worker == w) as (λ b. Begun (cond (b && not (is_go x.act)) (length past) first)
     (cond b (cond (is_pending x.reply) gone None) o)) [
       | true ↦ kept_begun (is_pending x.reply) gone (cond (not (is_go x.act)) (length past) first)
@@ -53,7 +53,7 @@ call_begun w (x ∷ past) =
 
 -- IN ORDER OF TIME
 
--- the latest entry of w that began a call is at a place where one did, and after which none does
+-- the latest entry of w that began a call is at a position where one did and after which none does
 latest_is : (w : ℕ) (h : List Entry) (first : ℕ) (x : Entry) → slice_get h first ≡ Some x
     → begins w x ≡ true → (k : ℕ) → first < k
     → ((i : ℕ) (y : Entry) → first < i → i < k → slice_get h i ≡ Some y → begins w y ≡ false)

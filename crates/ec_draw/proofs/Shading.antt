@@ -1,4 +1,4 @@
--- Accepting tries and where they begin, entry by entry.
+-- Accepted tries and where they begin, entry by entry.
 use Rattle.std.proofs.Common.{◌≡◌, ℕ, zero, suc, ◌<◌, ◌==◌, ◌&&◌, not, Bool, true, false, List, []}
 use Rattle.std.proofs.Common.{◌∷◌, ◌++◌, length, Option, Some, None, refl, ap, sym, ◌∙◌, arith}
 use Rattle.std.proofs.Common.{cond, subst, reverse, slice_get, slice_index, slice_set}
@@ -10,16 +10,16 @@ use Rattle.ec_count.specs.Tables.{Tables}
 use Rattle.ec_core.specs.declared.act.Act.{Act}
 use Rattle.ec_core.specs.declared.act.Entry.{Entry}
 use Rattle.ec_core.specs.Calls.{is_go}
-use Rattle.ec_core.specs.Following.{Told, block}
+use Rattle.ec_core.specs.Following.{CompletedCall, block}
 use Rattle.ec_core.proofs.shared.Places.{get_set}
 use Rattle.ec_database.specs.Shapes.{Database}
 use Rattle.ec_database.specs.Following.{is_on, writes, database_rules, FollowsDatabase}
 use Rattle.ec_database.specs.Tries.{accepted_tries, ended_at}
-use Rattle.ec_database.specs.Auditing.{Versioning, IsVersioning, found_in}
+use Rattle.ec_database.specs.Auditing.{VersionAuditModel, RepresentsVersions, found_in}
 use Rattle.ec_draw.specs.declared.window.Window.{Window}
 use Rattle.ec_draw.specs.declared.shade.Span.{Span}
-use Rattle.ec_draw.specs.Shades.{Shaded, AddsNewest, AreStarts, begins_list, list_start}
-use Rattle.ec_draw.specs.Shades.{starts_after, shaded, shade_at, shades_in, shades_shown, span_at}
+use Rattle.ec_draw.specs.Shades.{ShadeModel, AddsNewest, AreStarts, begins_list, list_start}
+use Rattle.ec_draw.specs.Shades.{starts_after, shade, shade_at, shades_in, shades_shown, span_at}
 use Rattle.ec_draw.specs.Shades.{group_shades, is_in}
 use Rattle.ec_heading.specs.declared.group.Group.TheVariants as groups
 use Rattle.ec_draw.specs.Following.{follows}
@@ -27,9 +27,9 @@ use Rattle.ec_draw.specs.LeftOut.{concerns_is}
 use Rattle.ec_draw.proofs.Filtering.{filter_behind}
 use Rattle.ec_draw.proofs.Balancing.{follow_yes}
 
--- WHERE LISTS BEGIN
+-- WHERE CALL SEQUENCES BEGIN
 
-begins_is : (t : Tables) (d : Database) (w : ℕ) (calls : List Told) (n : ℕ) (act : Act)
+begins_is : (t : Tables) (d : Database) (w : ℕ) (calls : List CompletedCall) (n : ℕ) (act : Act)
     → n ≡ length calls
     → begins_list (database_rules t d w) calls act ≡ ((n == 0 && not (is_go act)) && is_on d act)
 begins_is t d w [] n act is = ap (λ b. not (is_go act) && b) (concerns_is t d w act)
@@ -97,18 +97,20 @@ newest [] None = refl
 newest [] (Some x) = refl
 newest (y ∷ ys) o = newest ys o
 
-counted : (a : Versioning) (n : ℕ) → Some n ≡ found_in a → (a.lacks ≡ false) × (n ≡ length a.list)
+counted : (a : VersionAuditModel) (n : ℕ) → Some n ≡ found_in a → (a.out_of_memory ≡ false)
+    × (n ≡ length a.list)
 counted a n e =
-    elim (a.lacks) as (λ b. Some n ≡ cond b None (Some (length a.list))
+    elim (a.out_of_memory) as (λ b. Some n ≡ cond b None (Some (length a.list))
     → (b ≡ false) × (n ≡ length a.list)) [
       | true ↦ λ f. (cc)
       | false ↦ λ f. (refl, (cc))
     ] e
 
 -- one entry more
-pub shades_next : (a b : Versioning) (w : Window) (x : Entry) (past : List Entry)
-    (before : Option ℕ) (span : Span) (hs gs : List Shaded)
-    → b.shape ≡ a.shape → b.setup ≡ a.setup → IsVersioning a past → IsVersioning b (x ∷ past)
+pub shades_next : (a b : VersionAuditModel) (w : Window) (x : Entry) (past : List Entry)
+    (before : Option ℕ) (span : Span) (hs gs : List ShadeModel)
+    → b.shape ≡ a.shape → b.setup ≡ a.setup → RepresentsVersions a past
+    → RepresentsVersions b (x ∷ past)
     → before ≡ found_in a → span ≡ span_at b.setup b.shape x past
     → hs ≡ shades_shown b.setup b.shape w past → AddsNewest b.shape.start w span before b hs gs
     → gs ≡ shades_shown b.setup b.shape w (x ∷ past)
@@ -127,17 +129,19 @@ shades_next a b w x past (Some n) span hs gs same on old new is at was adds =
     ∙ ap (λ m. slice_get (accepted_tries d (writes t d) past ++ option_to_list o) m)
     (known.1 ∙ ap (λ l. length l) tries)
     ∙ newest (accepted_tries d (writes t d) past) o in
-    adds.1 ∙ ap (λ r. hs ++ filter (is_in w) (option_to_list (option_map (shaded d.start span) r)))
+    adds.1 ∙ ap (λ r. hs ++ filter (is_in w) (option_to_list (option_map (shade d.start span) r)))
     found
-    ∙ ap (λ s. hs ++ filter (is_in w) (option_to_list (option_map (shaded d.start s) o))) at
+    ∙ ap (λ s. hs ++ filter (is_in w) (option_to_list (option_map (shade d.start s) o))) at
     ∙ ap (λ z. z ++ filter (is_in w) (option_to_list (shade_at t d x past))) was
     ∙ sym (filter_behind (is_in w) (shades_in t d past) (shade_at t d x past))
 
--- the same, in the words of the walk: the list of the entry's worker began if the table says
-pub tries_next : (a b : Versioning) (d : Database) (w : Window) (x : Entry) (past : List Entry)
-    (before : Option ℕ) (count i place : ℕ) (starts : List ℕ) (hs gs : List Shaded)
+-- the same for the state of the pass: the call sequence of the entry's worker began where its
+-- starts say
+pub tries_next : (a b : VersionAuditModel) (d : Database) (w : Window) (x : Entry) (past : List Entry)
+    (before : Option ℕ) (count i place : ℕ) (starts : List ℕ) (hs gs : List ShadeModel)
     → x.worker < 16 → i ≡ x.worker → place ≡ length past → a.shape ≡ d → b.shape ≡ a.shape
-    → b.setup ≡ a.setup → IsVersioning a past → IsVersioning b (x ∷ past) → before ≡ found_in a
+    → b.setup ≡ a.setup → RepresentsVersions a past → RepresentsVersions b (x ∷ past)
+    → before ≡ found_in a
     → AreStarts a.setup d starts past → hs ≡ shades_shown a.setup d w past → count ≡ d.start
     → AddsNewest count w (record { first = slice_index starts i; last = place }) before b hs gs
     → gs ≡ shades_shown b.setup d w (x ∷ past)
@@ -164,8 +168,8 @@ tries_next a b d w x past before count i place starts hs gs small who at of same
     (subst (λ n. AddsNewest n w (record { first = slice_index starts i; last = place }) before b hs
     gs) count_is adds) ∙ ap (λ z. shades_shown b.setup z w (x ∷ past)) e
 
--- the shades of a database that is followed, and of one that isn't
-pub group_yes : (t : Tables) (d : Database) (w : Window) (h : List Entry) (list : List Shaded)
+-- the shades of a database whose workers follow its rules, and of one whose workers don't
+pub group_yes : (t : Tables) (d : Database) (w : Window) (h : List Entry) (list : List ShadeModel)
     → FollowsDatabase t d (reverse h) → list ≡ shades_shown t d w (reverse h)
     → list ≡ group_shades t w h (groups.Database d)
 group_yes t d w h list f is = is

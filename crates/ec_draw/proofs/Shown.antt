@@ -12,7 +12,7 @@ use Rattle.ec_core.specs.declared.act.Entry.{Entry}
 use Rattle.ec_core.proofs.shared.Joining.{get_back}
 use Rattle.ec_order.specs.Points.{ordered_by_points}
 use Rattle.ec_order.specs.Laws.{OrderByPointsAscends, AreFinishedCallsByPoints}
-use Rattle.ec_draw.specs.declared.curve.Counted.{Counted}
+use Rattle.ec_draw.specs.declared.curve.Counter.{Counter}
 use Rattle.ec_draw.specs.Bars.{is_shown}
 use Rattle.ec_draw.specs.Curves.{count_at, counts_from}
 use Rattle.ec_draw.specs.Laws.{BarsAreCalls, CurvesAreCounts}
@@ -64,17 +64,17 @@ bars_are ascends t w h d acc =
 
 -- COUNTS
 
-long : (object : Counted) (h : List Entry) (k n : ℕ) → length (counts_from object h k n) ≡ n
+long : (object : Counter) (h : List Entry) (k n : ℕ) → length (counts_from object h k n) ≡ n
 unfolding counts_from
 long object h k zero = refl
 long object h k (suc n) =
-    let front : length (counts_from object h k n) ≡ n = long object h k n in
+    let prefix : length (counts_from object h k n) ≡ n = long object h k n in
     let all : length (counts_from object h k n ++ count_at object h (k + n) ∷ [])
     ≡ length (counts_from object h k n) + 1 =
     length-append (counts_from object h k n) (count_at object h (k + n) ∷ []) in
     omega arith
 
-count_in : (object : Counted) (h : List Entry) (k n j : ℕ) → j < n
+count_in : (object : Counter) (h : List Entry) (k n j : ℕ) → j < n
     → slice_get (counts_from object h k n) j ≡ Some (count_at object h (k + j))
 unfolding counts_from
 count_in object h k zero j lt = absurd (omega arith)
@@ -84,7 +84,7 @@ count_in object h k (suc n) j lt = elim (split_last (suc j) n lt) [
       (count_at object h (k + j)) (count_in object h k n j less)
   | inr last ↦
       (let same : n ≡ j = omega arith in
-      let front : length (counts_from object h k n) ≡ n = long object h k n in
+      let prefix : length (counts_from object h k n) ≡ n = long object h k n in
       get_back (counts_from object h k n) (count_at object h (k + n) ∷ []) j 0 (omega arith)
       ∙ ap (λ m. Some (count_at object h (k + m))) same)
 ]

@@ -1,4 +1,4 @@
--- One entry more: the calls under way, and the dots.
+-- One entry more: the pending calls, and the dots.
 use Rattle.std.proofs.Common.{◌≡◌, ℕ, zero, suc, ◌+◌, ◌<◌, ◌≤◌, true, false, List, []}
 use Rattle.std.proofs.Common.{◌∷◌, ◌++◌, length, Option, Some, None, refl, ap, sym, ◌∙◌, arith}
 use Rattle.std.proofs.Common.{cond, subst, take, drop, reverse, slice_get, append-nil, min, nat_le}
@@ -17,16 +17,16 @@ use Rattle.ec_core.specs.Progress.{Progress}
 use Rattle.ec_core.specs.Counts.{past_at}
 use Rattle.ec_core.specs.declared.act.Reply.{Reply}
 use Rattle.ec_core.specs.declared.act.Refusal.{Refusal}
-use Rattle.ec_core.specs.Standing.{State, Stands, StandsFor, shown as progress}
+use Rattle.ec_core.specs.Standing.{State, Represents, StandsFor, call_progress as progress}
 use Rattle.ec_core.specs.Acceptance.{IsAccepted, answer_of}
 use Rattle.ec_core.proofs.shared.Moments.{past_next, accepted_at}
 use Rattle.ec_core.proofs.shared.Stepping.{past_after}
 use Rattle.std.specs.Prelude.{Result, Ok, IfOk}
 use Rattle.ec_draw.specs.declared.window.Window.{Window}
-use Rattle.ec_draw.specs.declared.open.Open.{Open}
+use Rattle.ec_draw.specs.declared.open.PendingBar.{PendingBar}
 use Rattle.ec_draw.specs.declared.dot.Dot.{Dot}
 use Rattle.ec_draw.specs.Windows.{shows}
-use Rattle.ec_draw.specs.Open.{begins, begun_at, open_bars_of, open_calls, open_of}
+use Rattle.ec_draw.specs.Open.{begins, begun_at, open_bars_of, pending_bars_of, open_of}
 use Rattle.ec_draw.specs.Dots.{dot_of, dots_of}
 
 -- MOMENTS
@@ -44,7 +44,7 @@ next_past h k x at =
 
 -- PENDING CALLS
 
--- a pending call, by what a world knows of it
+-- a pending call, by its progress in the world
 pub open_some : (t : Tables) (w : ℕ) (past : List Entry) (p : Progress) (first : ℕ)
     (o : Option CallSoFar) → Some p ≡ option_map (progress t) o → first ≡ begun_at w past
     → Some (record { worker = w; op = p.op; first = first }) ≡ option_map (open_of w past) o
@@ -60,8 +60,8 @@ pub open_none : (t : Tables) (w : ℕ) (past : List Entry) (o : Option CallSoFar
 open_none t w past None is = refl
 open_none t w past (Some call) is = cc
 
--- before the entry at k, which begins no call of w, the latest is the same as after it; and one
--- that does is the latest
+-- if the entry at k begins no call of w, the latest one that does is the same before and after it;
+-- if it begins one, it is the latest
 pub begun_before : (w : ℕ) (h : List Entry) (k : ℕ) (x : Entry) → slice_get h k ≡ Some x
     → begins w x ≡ false → begun_at w (past_at (k + 1) h) ≡ begun_at w (past_at k h)
 unfolding begun_at
@@ -78,19 +78,20 @@ pub begun_none : (w : ℕ) (h : List Entry) → begun_at w (past_at 0 h) ≡ 0
 unfolding begun_at
 begun_none w h = refl
 
-pub no_open : (w : Window) (past : List Entry) → [] ≡ open_calls w 0 past
-unfolding open_calls
+pub no_open : (w : Window) (past : List Entry) → [] ≡ pending_bars_of w 0 past
+unfolding pending_bars_of
 no_open w past = refl
 
-pub more_open : (w : Window) (past : List Entry) (n : ℕ) (os : List Open) → os ≡ open_calls w n past
-    → os ++ open_bars_of w n past ≡ open_calls w (n + 1) past
-unfolding open_calls
+pub more_open : (w : Window) (past : List Entry) (n : ℕ) (os : List PendingBar)
+    → os ≡ pending_bars_of w n past
+    → os ++ open_bars_of w n past ≡ pending_bars_of w (n + 1) past
+unfolding pending_bars_of
 more_open w past n os is = ap (λ z. z ++ open_bars_of w n past) is
-    ∙ ap (λ m. open_calls w m past) (sym (add-one n))
+    ∙ ap (λ m. pending_bars_of w m past) (sym (add-one n))
 
 -- DOTS
 
--- the dots after one entry more, if it is shown and where it is not
+-- the dots after one entry more, if it is shown and if it is not
 pub dots_yes : (t : Tables) (w : Window) (h : List Entry) (k : ℕ) (x : Entry) (ds : List Dot)
     (d : Dot) → slice_get h k ≡ Some x → shows w k ≡ true → ds ≡ dots_of t w (past_at k h)
     → d ≡ dot_of t (past_at k h) x → ds ++ d ∷ [] ≡ dots_of t w (past_at (k + 1) h)
@@ -112,7 +113,7 @@ dots_before t w (x ∷ past) few =
     ap (λ z. z ++ cond (shows w (length past)) (dot_of t past x ∷ []) [])
     (dots_before t w past (omega arith)) ∙ ap (λ b. cond b (dot_of t past x ∷ []) []) out
 
--- and after the last one no more
+-- after the last one that is shown there are no more
 dots_after : (t : Tables) (w : Window) (ys past : List Entry) → w.to ≤ length past
     → dots_of t w (ys ++ past) ≡ dots_of t w past
 unfolding dots_of
@@ -123,7 +124,7 @@ dots_after t w (y ∷ ys) past most =
     ap (λ b. dots_of t w (ys ++ past) ++ cond b (dot_of t (ys ++ past) y ∷ []) []) out
     ∙ append-nil (dots_of t w (ys ++ past)) ∙ dots_after t w ys past most
 
--- so the dots up to a moment are all, if it is behind the window or the last one
+-- so the dots up to a moment are all, if it is after the window or the last one
 pub dots_all : (t : Tables) (w : Window) (h : List Entry) (k : ℕ) → min w.to (length h) ≤ k
     → dots_of t w (past_at k h) ≡ dots_of t w (reverse h)
 dots_all t w h k most =
@@ -144,7 +145,7 @@ none_here [] i e lt = omega arith
 none_here (x ∷ h) zero e lt = cc
 none_here (x ∷ h) (suc i) e lt = none_here h i e (omega arith)
 
--- an entry from the window on is shown
+-- an entry in the window is shown
 pub shows_from : (w : Window) (k n : ℕ) → w.from ≤ k → k < min w.to n → shows w k ≡ true
 shows_from w k n low high =
     let below : k < w.to = omega (arith, clamps) in
@@ -157,8 +158,8 @@ pub stands_step : (t : Tables) (s s' : State) (done : List Entry) (x : Entry)
     → IfOk r (λ reply. StandsFor s'
     (done ++ record { worker = x.worker; act = x.act; reply = reply } ∷ []))
     → StandsFor s' (done ++ x ∷ [])
-stands_step t s s' done x r acc on told after =
-    let right : r ≡ Ok x.reply = told ∙ ap (λ u. answer_of u (reverse done) x.worker x.act) on
+stands_step t s s' done x r acc on returned after =
+    let right : r ≡ Ok x.reply = returned ∙ ap (λ u. answer_of u (reverse done) x.worker x.act) on
     ∙ acc.0 in
     subst (λ q. IfOk q
     (λ reply. StandsFor s' (done ++ record { worker = x.worker; act = x.act; reply = reply } ∷ [])))
@@ -171,11 +172,11 @@ pub stands_next : (t : Tables) (s s' : State) (h : List Entry) (k : ℕ) (x : En
     → IfOk r (λ reply. StandsFor s'
     (take k h ++ record { worker = x.worker; act = x.act; reply = reply } ∷ []))
     → StandsFor s' (take (k + 1) h)
-stands_next t s s' h k x r acc at on told after =
-    let right : r ≡ Ok x.reply = told ∙ ap (λ u. answer_of u (past_at k h) x.worker x.act) on
+stands_next t s s' h k x r acc at on returned after =
+    let right : r ≡ Ok x.reply = returned ∙ ap (λ u. answer_of u (past_at k h) x.worker x.act) on
     ∙ accepted_at t h k x acc at in
     let stood : StandsFor s' (take k h ++ x ∷ []) =
     subst (λ q. IfOk q
     (λ reply. StandsFor s' (take k h ++ record { worker = x.worker; act = x.act; reply = reply }
     ∷ []))) right after in
-    subst (Stands s') (past_after (take k h) x ∙ sym (next_past h k x at)) stood
+    subst (Represents s') (past_after (take k h) x ∙ sym (next_past h k x at)) stood

@@ -32,11 +32,11 @@ use Rattle.ec_semaphore.proofs.Moments.{never_negative}
 use Rattle.ec_draw.specs.declared.window.Window.{Window}
 use Rattle.ec_draw.specs.declared.arrow.Move.{Move}
 use Rattle.ec_draw.specs.declared.arrow.Move.TheVariants as moves
-use Rattle.ec_draw.specs.Balances.{left_of, lefts, told_at}
+use Rattle.ec_draw.specs.Balances.{units_left_after, units_left_at_moments, list_if_moment}
 use Rattle.ec_draw.specs.LeftOut.{told_long}
-use Rattle.ec_draw.specs.Shades.{Shaded, shaded, shade_at, shades_in, span_at}
-use Rattle.ec_draw.specs.Arrows.{arrow_of, is_move, place_of, places}
-use Rattle.ec_draw.specs.Laws.{BalanceCurvesAreLefts, LeftsAreBalances, ShadesEndTries}
+use Rattle.ec_draw.specs.Shades.{ShadeModel, shade, shade_at, shades_in, span_at}
+use Rattle.ec_draw.specs.Arrows.{arrow_of, is_move, move_position, places}
+use Rattle.ec_draw.specs.Laws.{BalanceCurvesAreUnitsLeft, UnitsLeftAreBalances, ShadesEndTries}
 use Rattle.ec_draw.specs.Laws.{TriesHaveShades, ArrowsAreDeliveries, IsArrow}
 use Rattle.ec_draw.proofs.Stepping.{long_past}
 use Rattle.ec_draw.proofs.WalkLemmas.{taken}
@@ -77,93 +77,98 @@ split_last (suc k) (suc m) le =
 less : (a d : ℕ) → pos 0 ≤ℤ (pos a -ℤ pos d) → pos (a - d) ≡ pos a -ℤ pos d
 less a d low = (let few : d ≤ a = omega (arith, ints) in omega (arith, ints))
 
-pub lefts_are_balances : LeftsAreBalances
+pub lefts_are_balances : UnitsLeftAreBalances
 lefts_are_balances s t k h dec acc f =
     less (s.initial + ups s (past_at k h)) (downs s (past_at k h))
     (never_negative s t k h dec acc f)
 
 lefts_step : (s : Semaphore) (w : Window) (h : List Entry) (m : ℕ) (x : Entry)
     → slice_get h m ≡ Some x
-    → lefts s w (past_at (suc m) h) ≡ lefts s w (past_at m h)
-    ++ told_at w (m + 1) (left_of s (past_at (suc m) h))
-unfolding lefts
+    → units_left_at_moments s w (past_at (suc m) h) ≡ units_left_at_moments s w (past_at m h)
+    ++ list_if_moment w (m + 1) (units_left_after s (past_at (suc m) h))
+unfolding units_left_at_moments
 lefts_step s w h m x at =
     let p = past_at m h in
     let next : past_at (suc m) h ≡ x ∷ p = past_next h m x at in
-    ap (lefts s w) next
-    ∙ ap (λ n. lefts s w p ++ told_at w (n + 1) (left_of s (x ∷ p))) (long_past h m x at)
-    ∙ ap (λ q. lefts s w p ++ told_at w (m + 1) (left_of s q)) (sym next)
+    ap (units_left_at_moments s w) next
+    ∙ ap (λ n. units_left_at_moments s w p
+    ++ list_if_moment w (n + 1) (units_left_after s (x ∷ p))) (long_past h m x at)
+    ∙ ap (λ q. units_left_at_moments s w p
+    ++ list_if_moment w (m + 1) (units_left_after s q)) (sym next)
 
 lefts_none : (s : Semaphore) (w : Window) (h : List Entry)
-    → lefts s w (past_at 0 h) ≡ told_at w 0 (left_of s (past_at 0 h))
-unfolding lefts
+    → units_left_at_moments s w (past_at 0 h)
+    ≡ list_if_moment w 0 (units_left_after s (past_at 0 h))
+unfolding units_left_at_moments
 lefts_none s w h = refl
 
-told_yes : (w : Window) (k n : ℕ) → w.from ≤ k → k ≤ w.to → told_at w k n ≡ n ∷ []
+told_yes : (w : Window) (k n : ℕ) → w.from ≤ k → k ≤ w.to → list_if_moment w k n ≡ n ∷ []
 told_yes w k n low high = ap (λ b. cond (b && nat_le k w.to) (n ∷ []) []) (le-leb w.from k low)
     ∙ ap (λ c. cond c (n ∷ []) []) (le-leb k w.to high)
 
 lefts_long : (s : Semaphore) (w : Window) (h : List Entry) (m : ℕ) → m ≤ length h → m ≤ w.to
-    → length (lefts s w (past_at m h)) ≡ m + 1 - w.from
+    → length (units_left_at_moments s w (past_at m h)) ≡ m + 1 - w.from
 lefts_long s w h zero le high =
     let none = ap length (lefts_none s w h) in
-    let told = told_long w 0 (left_of s (past_at 0 h)) high in
+    let returned = told_long w 0 (units_left_after s (past_at 0 h)) high in
     omega arith
 lefts_long s w h (suc m) le high =
     let x = some_at h m (omega arith) in
-    let n = left_of s (past_at (suc m) h) in
+    let n = units_left_after s (past_at (suc m) h) in
     let was = lefts_long s w h m (omega arith) (omega arith) in
-    let told : length (told_at w (m + 1) n) + (m + 1 - w.from) ≡ m + 1 + 1 - w.from =
+    let returned : length (list_if_moment w (m + 1) n) + (m + 1 - w.from) ≡ m + 1 + 1 - w.from =
     told_long w (m + 1) n (omega arith) in
     let all = ap length (lefts_step s w h m x.0 x.1)
-    ∙ length-append (lefts s w (past_at m h)) (told_at w (m + 1) n) in
+    ∙ length-append (units_left_at_moments s w (past_at m h)) (list_if_moment w (m + 1) n) in
     omega arith
 
 lefts_at : (s : Semaphore) (w : Window) (h : List Entry) (m k : ℕ) → m ≤ length h → k ≤ m
     → w.from ≤ k → k ≤ w.to
-    → slice_get (lefts s w (past_at m h)) (k - w.from) ≡ Some (left_of s (past_at k h))
+    → slice_get (units_left_at_moments s w (past_at m h)) (k - w.from)
+    ≡ Some (units_left_after s (past_at k h))
 lefts_at s w h zero k le in' low high =
-    let n = left_of s (past_at 0 h) in
+    let n = units_left_after s (past_at 0 h) in
     let at : k ≡ 0 = omega arith in
     let first : k - w.from ≡ 0 = omega arith in
     ap (λ l. slice_get l (k - w.from)) (lefts_none s w h
     ∙ told_yes w 0 n (omega arith) (omega arith)) ∙ ap (slice_get (n ∷ [])) first
-    ∙ ap (λ j. Some (left_of s (past_at j h))) (sym at)
+    ∙ ap (λ j. Some (units_left_after s (past_at j h))) (sym at)
 lefts_at s w h (suc m) k le in' low high =
     let x = some_at h m (omega arith) in
-    let n = left_of s (past_at (suc m) h) in
+    let n = units_left_after s (past_at (suc m) h) in
     let step = lefts_step s w h m x.0 x.1 in
     elim (split_last k m in') [
       | inl before ↦ ap (λ l. slice_get l (k - w.from)) step
-          ∙ still_there (lefts s w (past_at m h)) (told_at w (m + 1) n) (k - w.from)
-          (left_of s (past_at k h)) (lefts_at s w h m k (omega arith) before low high)
+          ∙ still_there (units_left_at_moments s w (past_at m h)) (list_if_moment w (m + 1) n) (k - w.from)
+          (units_left_after s (past_at k h)) (lefts_at s w h m k (omega arith) before low high)
       | inr last ↦
           (let long = lefts_long s w h m (omega arith) (omega arith) in
-          let place : k - w.from ≡ length (lefts s w (past_at m h)) + 0 = omega arith in
+          let place : k - w.from ≡ length (units_left_at_moments s w (past_at m h)) + 0 =
+          omega arith in
           ap (λ l. slice_get l (k - w.from)) step
-          ∙ get_back (lefts s w (past_at m h)) (told_at w (m + 1) n) (k - w.from) 0 place
+          ∙ get_back (units_left_at_moments s w (past_at m h)) (list_if_moment w (m + 1) n) (k - w.from) 0 place
           ∙ ap (λ l. slice_get l 0) (told_yes w (m + 1) n (omega arith) (omega arith))
-          ∙ ap (λ j. Some (left_of s (past_at j h))) (sym last))
+          ∙ ap (λ j. Some (units_left_after s (past_at j h))) (sym last))
     ]
 
-pub curves_are_lefts : BalanceCurvesAreLefts
+pub curves_are_lefts : BalanceCurvesAreUnitsLeft
 curves_are_lefts s w h j high in' =
     let place : w.from + j - w.from ≡ j = omega arith in
-    ap (λ p. slice_get (lefts s w (reverse p)) j) (sym (take-length h))
-    ∙ ap (slice_get (lefts s w (past_at (length h) h))) (sym place)
+    ap (λ p. slice_get (units_left_at_moments s w (reverse p)) j) (sym (take-length h))
+    ∙ ap (slice_get (units_left_at_moments s w (past_at (length h) h))) (sym place)
     ∙ lefts_at s w h (length h) (w.from + j) (omega arith) in' (omega arith) high
 
 -- SHADES
 
 -- the try of a shade
 pub shade_of : (count : ℕ) (t : Tables) (d : Database) (x : Entry) (past : List Entry)
-    (o : Option AcceptedTry) (s : Shaded)
-    → option_map (shaded count (span_at t d x past)) o ≡ Some s
-    → (a : AcceptedTry) × (o ≡ Some a) × (shaded count (span_at t d x past) a ≡ s)
+    (o : Option AcceptedTry) (s : ShadeModel)
+    → option_map (shade count (span_at t d x past)) o ≡ Some s
+    → (a : AcceptedTry) × (o ≡ Some a) × (shade count (span_at t d x past) a ≡ s)
 shade_of count t d x past None s e = cc
 shade_of count t d x past (Some a) s e = (a, refl, (cc))
 
-shade_ends : (t : Tables) (d : Database) (h : List Entry) (m i : ℕ) (s : Shaded)
+shade_ends : (t : Tables) (d : Database) (h : List Entry) (m i : ℕ) (s : ShadeModel)
     → slice_get (shades_in t d (past_at m h)) i ≡ Some s → EndsTry t d h s.span.last s.accepted
 unfolding shades_in
 shade_ends t d h zero i s e = cc
@@ -179,7 +184,7 @@ shade_ends t d h (suc m) i s e =
             | inr last ↦
                 (let r = shade_of d.start t d x p (ended_at d (writes t d) x p) s last in
                 let here : EndsTry t d h m r.0 = record { entry = x; is = at; ends = r.1 } in
-                subst (λ (z : Shaded). EndsTry t d h z.span.last z.accepted) r.2
+                subst (λ (z : ShadeModel). EndsTry t d h z.span.last z.accepted) r.2
                 (subst (λ n. EndsTry t d h n r.0) (sym (long_past h m x at)) here))
           ])
     ] refl
@@ -194,22 +199,22 @@ options_long : {X Y : Type 0} (f : X → Y) (o : Option X)
 options_long f None = refl
 options_long f (Some x) = refl
 
--- there are as many shades as accepting tries
+-- there are as many shades as accepted tries
 shades_long : (t : Tables) (d : Database) (past : List Entry)
     → length (shades_in t d past) ≡ length (accepted_tries d (writes t d) past)
 unfolding shades_in accepted_tries
 shades_long t d [] = refl
 shades_long t d (x ∷ past) =
     let was = shades_long t d past in
-    let one = options_long (shaded d.start (span_at t d x past)) (ended_at d (writes t d) x past) in
+    let one = options_long (shade d.start (span_at t d x past)) (ended_at d (writes t d) x past) in
     length-append (shades_in t d past) (option_to_list (shade_at t d x past))
     ∙ ap (λ n. n + length (option_to_list (shade_at t d x past))) was
     ∙ ap (λ n. length (accepted_tries d (writes t d) past) + n) one
     ∙ sym (length-append (accepted_tries d (writes t d) past)
     (option_to_list (ended_at d (writes t d) x past)))
 
--- what stands among the shades of a past stands there later too
-shade_stays : (t : Tables) (d : Database) (h : List Entry) (k m i : ℕ) (s : Shaded)
+-- a shade of an earlier moment has the same index at a later one
+shade_stays : (t : Tables) (d : Database) (h : List Entry) (k m i : ℕ) (s : ShadeModel)
     → slice_get (shades_in t d (past_at k h)) i ≡ Some s → k ≤ m
     → slice_get (shades_in t d (past_at m h)) i ≡ Some s
 unfolding shades_in
@@ -236,12 +241,12 @@ pub tries_have_shades : TriesHaveShades
 unfolding shades_in
 tries_have_shades t d h k a ends =
     let p = past_at k h in
-    let s : Shaded = shaded d.start (span_at t d ends.entry p) a in
+    let s : ShadeModel = shade d.start (span_at t d ends.entry p) a in
     let i = tries_before t d h k in
     let long = shades_long t d p in
     let place : i ≡ length (shades_in t d p) + 0 = omega arith in
     let here : shade_at t d ends.entry p ≡ Some s =
-    ap (option_map (shaded d.start (span_at t d ends.entry p))) ends.ends in
+    ap (option_map (shade d.start (span_at t d ends.entry p))) ends.ends in
     let next : slice_get (shades_in t d (past_at (suc k) h)) i ≡ Some s =
     ap (λ q. slice_get (shades_in t d q) i) (past_next h k ends.entry ends.is)
     ∙ get_back (shades_in t d p) (option_to_list (shade_at t d ends.entry p)) i 0 place
@@ -291,7 +296,7 @@ places_long m b h (suc k) le =
     ∙ ap (λ n. n + length (cond c (k ∷ []) [])) (places_long m b h k (omega arith))
     ∙ ap (λ n. made m b h k + n) (one_or_none c k) ∙ sym (made_next m b h k x.0 x.1)
 
--- entry j, which is such a move, is the one of its number
+-- the position of entry j, which is such a move, is at the index that its number is
 place_at : (m : Move) (b : Buffer) (h : List Entry) (k j : ℕ) (x : Entry) → k ≤ length h → j < k
     → slice_get h j ≡ Some x → is_move m b x.act ≡ true
     → slice_get (places m b (past_at k h)) (made m b h j) ≡ Some j
@@ -319,7 +324,7 @@ place_at m b h (suc k) j x le lt at moves =
     ]
 
 number_at : (m : Move) (b : Buffer) (h : List Entry) (j n : ℕ) (x : Entry) → slice_get h j ≡ Some x
-    → is_move m b x.act ≡ true → made m b h j ≡ n → place_of (places m b (reverse h)) n ≡ j
+    → is_move m b x.act ≡ true → made m b h j ≡ n → move_position (places m b (reverse h)) n ≡ j
 number_at m b h j n x at moves is =
     ap (λ o. unwrap_or o 0) (ap (λ p. slice_get (places m b (reverse p)) n) (sym (take-length h))
     ∙ ap (slice_get (places m b (past_at (length h) h))) (sym is)
@@ -337,12 +342,12 @@ arrow_at t b h n d f is =
     let put = is.produced.1 in
     let k = is.delivered.0 in
     let get = is.delivered.1 in
-    let puts : place_of (places moves.Put b (reverse h)) d.number ≡ j =
-    ap (place_of (places moves.Put b (reverse h))) is.number
+    let puts : move_position (places moves.Put b (reverse h)) d.number ≡ j =
+    ap (move_position (places moves.Put b (reverse h))) is.number
     ∙ number_at moves.Put b h j n put.entry put.is (is_some_of _ d.item put.puts)
     (puts_go t b h f j n d.producer d.item put) in
-    let gets : place_of (places moves.Get b (reverse h)) d.number ≡ k =
-    ap (place_of (places moves.Get b (reverse h))) is.number
+    let gets : move_position (places moves.Get b (reverse h)) d.number ≡ k =
+    ap (move_position (places moves.Get b (reverse h))) is.number
     ∙ number_at moves.Get b h k n get.entry get.is get.gets
     (gets_go t b h f k n d.consumer d.item get) in
     record {

@@ -1,4 +1,4 @@
--- What is kept of all groups in one walk.
+-- The states of all groups in one pass over the run.
 use Rattle.std.proofs.Common.{◌≡◌, ℕ, zero, suc, ◌+◌, ◌≤◌, List, [], ◌∷◌, ◌++◌, length, take, Some}
 use Rattle.std.proofs.Common.{refl, ap, sym, ◌∙◌, arith, subst, slice_get, append-nil, append_assoc}
 use Rattle.std.specs.List.{flat_map}
@@ -8,54 +8,54 @@ use Rattle.ec_count.specs.Tables.{Tables}
 use Rattle.ec_core.specs.declared.act.Act.{Act}
 use Rattle.ec_core.specs.declared.act.Entry.{Entry}
 use Rattle.ec_core.specs.Calls.{under_way}
-use Rattle.ec_core.specs.Following.{opened}
+use Rattle.ec_core.specs.Following.{opening_act}
 use Rattle.ec_semaphore.specs.Shapes.{Semaphore}
 use Rattle.ec_heading.specs.declared.group.Group.{Group}
 use Rattle.ec_heading.specs.declared.group.Group.TheVariants as groups
-use Rattle.ec_walk.specs.Walks.{AreWalked}
+use Rattle.ec_walk.specs.Walks.{AreIndependent}
 use Rattle.ec_draw.specs.declared.window.Window.{Window}
-use Rattle.ec_draw.specs.declared.balance.BothCourse.{BothCourse}
-use Rattle.ec_draw.specs.declared.finding.Finding.{Finding}
-use Rattle.ec_draw.specs.declared.finding.Finding.TheVariants as finds
-use Rattle.ec_draw.specs.Balances.{Course, CoursesOn}
-use Rattle.ec_draw.specs.Shades.{Trying, TriesOn}
-use Rattle.ec_draw.specs.Arrows.{Moving, MovesOn}
+use Rattle.ec_draw.specs.declared.balance.BothState.{BothState}
+use Rattle.ec_draw.specs.declared.finding.GroupState.{GroupState}
+use Rattle.ec_draw.specs.declared.finding.GroupState.TheVariants as finds
+use Rattle.ec_draw.specs.Balances.{BalanceState, BalanceStatesOn}
+use Rattle.ec_draw.specs.Shades.{TriesModel, TriesOn}
+use Rattle.ec_draw.specs.Arrows.{MovesModel, MovesOn}
 use Rattle.ec_draw.specs.Findings.{FindsFor, EachFinds, BothOn, group_of, FindsOn}
 
 -- ONE ENTRY
 
 module _ (place : ℕ) (op : Act) (x : Entry) where
-  -- what is kept has taken an entry in
+  -- a state has processed an entry
   abbrev Takes : {A : Type 0} → (A → A → List Entry → Type 0) → A → A → Type 0
-  Takes {A} stands old new = (start : A) (past : List Entry) → place ≡ length past
-      → op ≡ opened x.act (under_way x.worker past) → stands start old past
-      → stands start new (x ∷ past)
+  Takes {A} represents old new = (start : A) (past : List Entry) → place ≡ length past
+      → op ≡ opening_act x.act (under_way x.worker past) → represents start old past
+      → represents start new (x ∷ past)
 
-  pub takes_balance : (a b : Course) → Takes CoursesOn a b
+  pub takes_balance : (a b : BalanceState) → Takes BalanceStatesOn a b
       → Takes FindsOn (finds.Balance a) (finds.Balance b)
-  takes_balance a b take (finds.Balance s) past at is stands = take s past at is stands
-  takes_balance a b take start past at is stands = absurd stands
+  takes_balance a b take (finds.Balance s) past at is represents = take s past at is represents
+  takes_balance a b take start past at is represents = absurd represents
 
-  pub takes_both : (a b : BothCourse) → Takes BothOn a b
+  pub takes_both : (a b : BothState) → Takes BothOn a b
       → Takes FindsOn (finds.Both a) (finds.Both b)
-  takes_both a b take (finds.Both s) past at is stands = take s past at is stands
-  takes_both a b take start past at is stands = absurd stands
+  takes_both a b take (finds.Both s) past at is represents = take s past at is represents
+  takes_both a b take start past at is represents = absurd represents
 
-  pub takes_tries : (a b : Trying) → Takes TriesOn a b
+  pub takes_tries : (a b : TriesModel) → Takes TriesOn a b
       → Takes FindsOn (finds.Tries a) (finds.Tries b)
-  takes_tries a b take (finds.Tries s) past at is stands = take s past at is stands
-  takes_tries a b take start past at is stands = absurd stands
+  takes_tries a b take (finds.Tries s) past at is represents = take s past at is represents
+  takes_tries a b take start past at is represents = absurd represents
 
-  pub takes_moves : (a b : Moving) → Takes MovesOn a b
+  pub takes_moves : (a b : MovesModel) → Takes MovesOn a b
       → Takes FindsOn (finds.Moves a) (finds.Moves b)
-  takes_moves a b take (finds.Moves s) past at is stands = take s past at is stands
-  takes_moves a b take start past at is stands = absurd stands
+  takes_moves a b take (finds.Moves s) past at is represents = take s past at is represents
+  takes_moves a b take start past at is represents = absurd represents
 
--- THE WHOLE WALK
+-- THE WHOLE PASS
 
 module _ (t : Tables) (all : List Semaphore) (w : Window) where
   -- before the first entry
-  finds_first : (g : Group) (a : Finding) → FindsFor t all w g a []
+  finds_first : (g : Group) (a : GroupState) → FindsFor t all w g a []
       → (group_of a ≡ g) × FindsOn a a []
   finds_first (groups.Buffer b) (finds.Moves a) is = (ap groups.Buffer is.0, (refl, refl, is.2))
   finds_first (groups.Database d) (finds.Tries a) is =
@@ -69,14 +69,14 @@ module _ (t : Tables) (all : List Semaphore) (w : Window) where
   finds_first (groups.Semaphore s) a is = absurd is
   finds_first (groups.Both c) a is = absurd is
 
-  pub walk_begins : (gs : List Group) (list : List Finding) → EachFinds t all w gs list []
-      → AreWalked group_of FindsOn gs list list []
+  pub walk_begins : (gs : List Group) (list : List GroupState) → EachFinds t all w gs list []
+      → AreIndependent group_of FindsOn gs list list []
   walk_begins gs list each =
       λ i g at. (let here = each i g at in let first = finds_first g here.0 here.2 in
       (here.0, here.0, here.1, here.1, first.0, first.1))
 
-  -- and after the last
-  finds_last : (g : Group) (a b : Finding) (past : List Entry) → FindsFor t all w g a []
+  -- after the last entry
+  finds_last : (g : Group) (a b : GroupState) (past : List Entry) → FindsFor t all w g a []
       → FindsOn a b past → FindsFor t all w g b past
   finds_last (groups.Buffer s) (finds.Moves a) (finds.Moves b) past is on =
       (on.0 ∙ is.0, on.1 ∙ is.1, on.2)
@@ -95,8 +95,8 @@ module _ (t : Tables) (all : List Semaphore) (w : Window) where
   finds_last (groups.Semaphore s) a b past is on = absurd is
   finds_last (groups.Both c) a b past is on = absurd is
 
-  pub walk_ends : (gs : List Group) (starts list : List Finding) (past : List Entry)
-      → EachFinds t all w gs starts [] → AreWalked group_of FindsOn gs starts list past
+  pub walk_ends : (gs : List Group) (starts list : List GroupState) (past : List Entry)
+      → EachFinds t all w gs starts [] → AreIndependent group_of FindsOn gs starts list past
       → EachFinds t all w gs list past
   walk_ends gs starts list past each walked = λ i g at.
       (let was = each i g at in
@@ -107,9 +107,9 @@ module _ (t : Tables) (all : List Semaphore) (w : Window) where
         finds_last g was.0 now.1 past was.2 (subst (λ a. FindsOn a now.1 past) same now.5),
       ))
 
--- WHAT IS HANDED OUT
+-- WHAT IS ADDED
 
--- one more of a list
+-- one more element of a list
 pub taken : {X : Type 0} (gs : List X) (n : ℕ) (g : X) → slice_get gs n ≡ Some g
     → take (suc n) gs ≡ take n gs ++ g ∷ []
 taken [] n g at = cc
@@ -128,7 +128,7 @@ found_more f gs n g old mid new at was more =
     ∙ ap (λ l. old ++ flat_map f l) (sym (taken gs n g at))
     ∙ ap (λ k. old ++ flat_map f (take k gs)) one
 
--- and all of it
+-- what is found of all elements
 pub found_all : {X Y : Type 0} (f : X → List Y) (gs : List X) (n : ℕ) (old new : List Y)
     → length gs ≤ n → new ≡ old ++ flat_map f (take n gs) → new ≡ old ++ flat_map f gs
 found_all f gs n old new all was = was ∙ ap (λ l. old ++ flat_map f l) (take_all n gs all)

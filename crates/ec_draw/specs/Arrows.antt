@@ -1,5 +1,5 @@
--- The arrows: of each buffer that is followed, its deliveries, each from the put of an item to the
--- get of the same number.
+-- The arrows: of each buffer whose workers follow its rules, its deliveries, each from the put of
+-- an item to the get of the same number.
 use Rattle.std.specs.Prelude.{◌≡◌, ℕ, Bool, false, ◌||◌, List, [], ◌∷◌, ◌++◌, length, map, reverse}
 use Rattle.std.specs.Prelude.{is_some, slice_get, unwrap_or, if◌then◌else◌}
 use Rattle.std.specs.List.{filter, flat_map}
@@ -7,7 +7,7 @@ use Rattle.ec_count.specs.Tables.{Tables}
 use Rattle.ec_core.specs.declared.act.Act.{Act}
 use Rattle.ec_core.specs.declared.act.Entry.{Entry}
 use Rattle.ec_buffer.specs.declared.delivery.Delivery.{Delivery}
-use Rattle.ec_buffer.specs.Auditing.{Delivering, IsDelivering}
+use Rattle.ec_buffer.specs.Auditing.{DeliveryAuditModel, RepresentsDeliveries}
 use Rattle.ec_buffer.specs.Shapes.{Buffer}
 use Rattle.ec_buffer.specs.Follows.{buffer_rules}
 use Rattle.ec_buffer.specs.Items.{put_on, is_get_on}
@@ -26,26 +26,26 @@ abbrev pub is_move : Move → Buffer → Act → Bool
 is_move moves.Put b act = is_some (put_on b act)
 is_move moves.Get b act = is_get_on b act
 
--- the positions of the entries of a past that do so, in order
+-- the positions of the entries of the history so far that do so, in order
 unfoldable pub places : Move → Buffer → List Entry → List ℕ
 places m b [] = []
 places m b (x ∷ past) = places m b past ++ (if is_move m b x.act then length past ∷ [] else [])
 
 -- the position of the n-th of them
-abbrev pub place_of : List ℕ → ℕ → ℕ
-place_of ks n = unwrap_or (slice_get ks n) 0
+abbrev pub move_position : List ℕ → ℕ → ℕ
+move_position ks n = unwrap_or (slice_get ks n) 0
 
--- the arrow of a delivery, if these are the positions of the puts and of the gets: item n is put
--- by put n and got by get n, counted from 0. Its buffer is told by the eventcount of the puts
+-- the arrow of a delivery, if these are the positions of the puts and of the gets: item n is put by
+-- put n and got by get n, counted from 0. The eventcount of the puts identifies the buffer
 abbrev pub arrow_of : Buffer → List ℕ → List ℕ → Delivery → Arrow
 arrow_of b puts gets d = record {
   count = b.in_count;
   delivery = d;
-  put = place_of puts d.number;
-  got = place_of gets d.number;
+  put = move_position puts d.number;
+  got = move_position gets d.number;
 }
 
--- those of all deliveries of a past, by number
+-- the arrows of all deliveries of the history so far, by number
 abbrev pub arrows_in : Buffer → List Entry → List Arrow
 arrows_in b past =
     map (arrow_of b (places moves.Put b past) (places moves.Get b past)) (collected b past)
@@ -54,35 +54,35 @@ arrows_in b past =
 abbrev pub is_in : Window → Arrow → Bool
 is_in w a = shows w a.put || shows w a.got
 
--- those of a group, if it is a buffer and is followed
+-- the shown arrows of a group, if it is a buffer and its workers follow its rules
 abbrev pub group_arrows : Tables → Window → List Entry → Group → List Arrow
 group_arrows t w h (groups.Buffer b) = if follows (buffer_rules t b) (reverse h)
     then filter (is_in w) (arrows_in b (reverse h)) else []
 group_arrows t w h _ = []
 
--- those of all groups
+-- the shown arrows of all groups
 abbrev pub arrows : Tables → List Group → Window → List Entry → List Arrow
 arrows t gs w h = flat_map (group_arrows t w h) gs
 
--- A WALK
+-- A PASS OVER THE RUN
 
--- what a walk keeps of a buffer: its audit, and the positions of the puts and of the gets, or that
--- memory was refused
-pub record Moving : Type 0 where
-  pub audit : Delivering
+-- the state of a buffer: its audit, and the positions of the puts and of the gets, or that an
+-- allocation failed
+pub record MovesModel : Type 0 where
+  pub audit : DeliveryAuditModel
   pub shape : Buffer
   pub puts : List ℕ
   pub gets : List ℕ
-  pub lacks : Bool
+  pub out_of_memory : Bool
 
--- it is that after a past
-pub record IsMoving (m : Moving) (past : List Entry) : Type 0 where
+-- it is the state after the history so far
+pub record RepresentsMoves (m : MovesModel) (past : List Entry) : Type 0 where
   pub shape : m.audit.shape ≡ m.shape
-  pub audit : IsDelivering m.audit past
-  pub puts : m.lacks ≡ false → m.puts ≡ places moves.Put m.shape past
-  pub gets : m.lacks ≡ false → m.gets ≡ places moves.Get m.shape past
+  pub audit : RepresentsDeliveries m.audit past
+  pub puts : m.out_of_memory ≡ false → m.puts ≡ places moves.Put m.shape past
+  pub gets : m.out_of_memory ≡ false → m.gets ≡ places moves.Get m.shape past
 
--- of the same buffer, after a past
-abbrev pub MovesOn : Moving → Moving → List Entry → Type 0
+-- it is the state of the same buffer after the history so far
+abbrev pub MovesOn : MovesModel → MovesModel → List Entry → Type 0
 MovesOn start now past = (now.shape ≡ start.shape) × (now.audit.setup ≡ start.audit.setup)
-    × IsMoving now past
+    × RepresentsMoves now past

@@ -1,4 +1,4 @@
--- The bars of completed calls, with the marks at their points.
+-- The bars of completed calls, with the marks at their linearization points.
 use Rattle.std.specs.Prelude.{Bool, List, reverse}
 use Rattle.std.specs.List.{filter}
 use Rattle.ec_count.specs.Tables.{Tables}

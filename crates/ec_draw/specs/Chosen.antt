@@ -1,4 +1,4 @@
--- Which workers and objects are drawn: those for which a chosen name stands; without names all are.
+-- Which workers and objects are drawn: those that some name chooses; without names all are.
 use Rattle.std.specs.Prelude.{ℕ, Bool, true, ◌==◌, ◌&&◌, ◌||◌, List, map, length, Option, Some}
 use Rattle.std.specs.Prelude.{None, slice_get}
 use Rattle.std.specs.Borrow.{Bor}
@@ -8,45 +8,44 @@ use Rattle.ec_count.specs.declared.target.Target.{Target}
 use Rattle.ec_count.specs.declared.target.Target.TheVariants.{Worker, Event, Sequencer}
 use Rattle.ec_core.specs.declared.act.Act.{Act}
 use Rattle.ec_core.specs.declared.act.Act.TheVariants as acts
-use Rattle.ec_heading.specs.Spelling.{Named, cell_in}
-use Rattle.ec_draw.specs.declared.curve.Plotted.{Plotted}
-use Rattle.ec_draw.specs.declared.curve.Plotted.TheVariants as plotted
-use Rattle.ec_draw.specs.declared.curve.Counted.TheVariants as counted
+use Rattle.ec_heading.specs.Spelling.{NameTable, cell_in}
+use Rattle.ec_draw.specs.declared.curve.CurveSource.{CurveSource}
+use Rattle.ec_draw.specs.declared.curve.CurveSource.TheVariants as plotted
+use Rattle.ec_draw.specs.declared.curve.Counter.TheVariants as counted
 use Rattle.ec_draw.specs.declared.arrow.Arrow.{Arrow}
-use Rattle.ec_draw.specs.declared.chosen.Choice.{Choice}
-use Rattle.ec_draw.specs.Shades.{Shaded}
+use Rattle.ec_draw.specs.declared.chosen.NameFilter.{NameFilter}
+use Rattle.ec_draw.specs.Shades.{ShadeModel}
 
 -- CHOSEN NAMES
 
--- nothing follows the name, or what an object of the group is called
+-- the word ends after the name, or a dot follows
 abbrev pub ends_name : Option ℕ → Bool
 ends_name None = true
 ends_name (Some b) = b == 46
 
--- whether a name stands for a word: it is the word, or that of the group whose object the word
--- spells
-abbrev pub stands_for : List ℕ → List ℕ → Bool
-stands_for word name =
+-- whether a name chooses a word: it is the word, or that of the word's group, as B is of B.in
+abbrev pub is_name_of : List ℕ → List ℕ → Bool
+is_name_of word name =
     starts_with (λ a b. a == b) word name && ends_name (slice_get word (length name))
 
--- whether a word is chosen: some name stands for it; if there is no name all are
+-- whether a word is chosen: some name chooses it; if there is no name all are
 abbrev pub is_chosen : List (Bor (List ℕ)) → List ℕ → Bool
-is_chosen names word = (length names == 0) || list_any (λ name. stands_for word name.now) names
+is_chosen names word = (length names == 0) || list_any (λ name. is_name_of word name.now) names
 
--- the names that speak of a target
-abbrev pub names_for : Choice → Target → List (Bor (List ℕ))
+-- the names that can choose a target
+abbrev pub names_for : NameFilter → Target → List (Bor (List ℕ))
 names_for n (Worker w) = n.workers.now
 names_for n _ = n.objects.now
 
--- whether what a word stands for is drawn
-abbrev pub is_drawn : Choice → List ℕ × Target → Bool
+-- whether the target of a word is drawn
+abbrev pub is_drawn : NameFilter → List ℕ × Target → Bool
 is_drawn n e = is_chosen (names_for n e.1) e.0
 
--- what is drawn of all that the words of a heading stand for
-abbrev pub chosen_targets : Choice → Named → List Target
+-- the targets of a symbol table that are drawn
+abbrev pub chosen_targets : NameFilter → NameTable → List Target
 chosen_targets n words = map (λ (e : List ℕ × Target). e.1) (filter (is_drawn n) words)
 
--- WHAT IS DRAWN WHERE THESE ARE CHOSEN
+-- WHAT IS DRAWN IF THESE TARGETS ARE CHOSEN
 
 abbrev pub draws_worker : List Target → ℕ → Bool
 draws_worker ts w = list_any (λ t. same_target t (Worker w)) ts
@@ -76,13 +75,13 @@ abbrev pub draws : List Target → ℕ → Act → Bool
 draws ts w act = draws_worker ts w && draws_object ts act
 
 -- a curve; that of a balance by its semaphore's eventcount
-abbrev pub draws_curve : List Target → Plotted → Bool
+abbrev pub draws_curve : List Target → CurveSource → Bool
 draws_curve ts (plotted.Count (counted.Event e)) = draws_event ts e
 draws_curve ts (plotted.Count (counted.Sequencer q)) = draws_sequencer ts q
 draws_curve ts (plotted.Balance e) = draws_event ts e
 
 -- a shade, by its reader and its database's eventcount of starts
-abbrev pub draws_shade : List Target → Shaded → Bool
+abbrev pub draws_shade : List Target → ShadeModel → Bool
 draws_shade ts s = draws_worker ts s.accepted.worker && draws_event ts s.count
 
 -- an arrow, by its producer, its consumer and its buffer's eventcount of puts

@@ -23,17 +23,17 @@ use Rattle.ec_order.specs.declared.placed.Placed.{Placed}
 use Rattle.ec_order.specs.Cuts.{IsFinishedCall}
 use Rattle.ec_order.specs.Points.{IsPoint}
 use Rattle.ec_draw.specs.declared.window.Window.{Window}
-use Rattle.ec_draw.specs.declared.curve.Counted.{Counted}
+use Rattle.ec_draw.specs.declared.curve.Counter.{Counter}
 use Rattle.ec_draw.specs.Bars.{bars, is_shown}
 use Rattle.ec_draw.specs.Curves.{count_at, heights}
 use Rattle.ec_draw.specs.Following.{follows}
-use Rattle.ec_draw.specs.Balances.{left_of, lefts}
+use Rattle.ec_draw.specs.Balances.{units_left_after, units_left_at_moments}
 use Rattle.ec_draw.specs.Open.{begun_at}
-use Rattle.ec_draw.specs.Shades.{Shaded, begins_list, shades_in}
+use Rattle.ec_draw.specs.Shades.{ShadeModel, begins_list, shades_in}
 use Rattle.ec_draw.specs.declared.arrow.Arrow.{Arrow}
 use Rattle.ec_draw.specs.Arrows.{arrows_in}
 
--- the bars are exactly the completed calls that are shown, each with its point
+-- the bars are exactly the completed calls that are shown, each with its linearization point
 pub record AreBars (t : Tables) (w : Window) (h : List Entry) (ps : List Placed) : Type 0 where
   pub each : (p : Placed) → Contains ps p → IsFinishedCall t h p.call × IsPoint h p.call p.point
       × (is_shown w p ≡ true)
@@ -44,9 +44,9 @@ abbrev pub BarsAreCalls : Type 0
 BarsAreCalls = (t : Tables) (w : Window) (h : List Entry) → IsDeclared t → IsAccepted t (reverse h)
     → AreBars t w h (bars t w h)
 
--- the bar of a call that is pending at the end of a history begins where the call did: at the entry
--- that opened it, after which all entries of its worker are goes that were answered Pending; this
--- is the first of the call's entries as the world keeps them
+-- the bar of a call that is pending at the end of a history begins at the entry that began the
+-- call, after which all entries of its worker are goes with the reply Pending; it is the first
+-- entry of the call in the world
 abbrev pub PendingBarsBegin : Type 0
 PendingBarsBegin = (w : ℕ) (h : List Entry) (call : CallSoFar)
     → under_way w (reverse h) ≡ Some call
@@ -56,41 +56,43 @@ PendingBarsBegin = (w : ℕ) (h : List Entry) (call : CallSoFar)
 
 -- the curve at column j is the count at moment from + j
 abbrev pub CurvesAreCounts : Type 0
-CurvesAreCounts = (object : Counted) (w : Window) (h : List Entry) (j : ℕ) → j ≤ w.to - w.from
+CurvesAreCounts = (object : Counter) (w : Window) (h : List Entry) (j : ℕ) → j ≤ w.to - w.from
     → slice_get (heights object w h) j ≡ Some (count_at object h (w.from + j))
 
--- whether a past follows is answered as the word says
+-- the decision whether a history so far follows its workers' rules is right
 abbrev pub FollowingIsAnswered : Type 0
 FollowingIsAnswered = (rules : ℕ → Rule) (past : List Entry) → follows rules past ≡ true
     ↔ Follow rules past
 
--- the curve of a balance at column j is what is left at moment from + j, up to the last moment of
--- the history
-abbrev pub BalanceCurvesAreLefts : Type 0
-BalanceCurvesAreLefts = (s : Semaphore) (w : Window) (h : List Entry) (j : ℕ) → w.from + j ≤ w.to
+-- the curve of a balance at column j is the number of units left at moment from + j, up to the last
+-- moment of the history
+abbrev pub BalanceCurvesAreUnitsLeft : Type 0
+BalanceCurvesAreUnitsLeft = (s : Semaphore) (w : Window) (h : List Entry) (j : ℕ)
+    → w.from + j ≤ w.to
     → w.from + j ≤ length h
-    → slice_get (lefts s w (reverse h)) j ≡ Some (left_of s (past_at (w.from + j) h))
+    → slice_get (units_left_at_moments s w (reverse h)) j
+    ≡ Some (units_left_after s (past_at (w.from + j) h))
 
--- and that is the balance, if the semaphore is followed
-abbrev pub LeftsAreBalances : Type 0
-LeftsAreBalances = (s : Semaphore) (t : Tables) (k : ℕ) (h : List Entry) → IsDeclared t
+-- the units left are the balance, if the semaphore's workers follow its rules
+abbrev pub UnitsLeftAreBalances : Type 0
+UnitsLeftAreBalances = (s : Semaphore) (t : Tables) (k : ℕ) (h : List Entry) → IsDeclared t
     → IsAccepted t (reverse h) → Follow (use_rules s) (reverse h)
-    → pos (left_of s (past_at k h)) ≡ balance_of s (past_at k h)
+    → pos (units_left_after s (past_at k h)) ≡ balance_of s (past_at k h)
 
--- each shade is that of an accepting try, which its last entry ends
+-- each shade is that of an accepted try, which ends with the shade's last entry
 abbrev pub ShadesEndTries : Type 0
-ShadesEndTries = (t : Tables) (d : Database) (h : List Entry) (i : ℕ) (s : Shaded)
+ShadesEndTries = (t : Tables) (d : Database) (h : List Entry) (i : ℕ) (s : ShadeModel)
     → slice_get (shades_in t d (reverse h)) i ≡ Some s → EndsTry t d h s.span.last s.accepted
 
--- and each accepting try has its shade, behind those of the tries that ended before it
+-- each accepted try has its shade, after those of the tries that ended before it
 abbrev pub TriesHaveShades : Type 0
 TriesHaveShades = (t : Tables) (d : Database) (h : List Entry) (k : ℕ) (a : AcceptedTry)
     → EndsTry t d h k a
-    → (s : Shaded) × (slice_get (shades_in t d (reverse h)) (tries_before t d h k) ≡ Some s)
+    → (s : ShadeModel) × (slice_get (shades_in t d (reverse h)) (tries_before t d h k) ≡ Some s)
     × (s.span.last ≡ k) × (s.accepted ≡ a)
 
--- entry i began the list of calls on the database that w was in before entry k: it began a call on
--- it while no call of a list was finished, and no entry of w since then did so
+-- entry i began the call sequence on the database that w was in before entry k: it began a call on
+-- it while no call of a sequence was completed, and no later entry of w before k did so
 pub record BeginsList (t : Tables) (d : Database) (h : List Entry) (w k i : ℕ) : Type 0 where
   pub entry : Entry
   pub is : slice_get h i ≡ Some entry
@@ -103,19 +105,20 @@ pub record BeginsList (t : Tables) (d : Database) (h : List Entry) (w k i : ℕ)
       → begins_list (database_rules t d w) (block (database_rules t d w) w (past_at j h)) x.act
       ≡ false
 
--- each shade begins with the entry that began the list of its reader
+-- each shade begins with the entry that began the call sequence of its reader
 abbrev pub ShadesBeginLists : Type 0
-ShadesBeginLists = (t : Tables) (d : Database) (h : List Entry) (i : ℕ) (s : Shaded)
+ShadesBeginLists = (t : Tables) (d : Database) (h : List Entry) (i : ℕ) (s : ShadeModel)
     → slice_get (shades_in t d (reverse h)) i ≡ Some s
     → BeginsList t d h s.accepted.worker s.span.last s.span.first
 
--- the arrow is that of item n: its one end puts what its other end gets, by that number
+-- the arrow is that of item n: it leads from the put of that number to the get of that number, of
+-- the same item
 pub record IsArrow (t : Tables) (b : Buffer) (h : List Entry) (n : ℕ) (a : Arrow) : Type 0 where
   pub number : a.delivery.number ≡ n
   pub puts : PutsItem t b h a.put n a.delivery.producer a.delivery.item
   pub gets : GetsItem t b h a.got n a.delivery.consumer a.delivery.item
 
--- there is one arrow for each get, by number
+-- there is one arrow for each get, in the order of their numbers
 pub record AreArrows (t : Tables) (b : Buffer) (h : List Entry) (list : List Arrow) : Type 0 where
   pub each_get : length list ≡ gets_made b h
   pub numbered : (n : ℕ) (a : Arrow) → slice_get list n ≡ Some a → IsArrow t b h n a

@@ -1,5 +1,5 @@
--- The shades: of each database that is followed, its accepting tries, each from the first entry of
--- its first call to its last entry.
+-- The shades: of each database whose workers follow its rules, its accepted tries, each from the
+-- first entry of its first call to its last entry.
 use Rattle.std.specs.Prelude.{◌≡◌, ℕ, ◌<◌, Bool, false, ◌==◌, ◌&&◌, not, List, [], ◌∷◌, ◌++◌}
 use Rattle.std.specs.Prelude.{length, reverse, Option, Some, None, option_to_list, slice_get}
 use Rattle.std.specs.Prelude.{slice_set, if◌then◌else◌}
@@ -9,11 +9,11 @@ use Rattle.ec_count.specs.Tables.{Tables}
 use Rattle.ec_core.specs.declared.act.Act.{Act}
 use Rattle.ec_core.specs.declared.act.Entry.{Entry}
 use Rattle.ec_core.specs.Calls.{is_go}
-use Rattle.ec_core.specs.Following.{Told, Rule, block}
+use Rattle.ec_core.specs.Following.{CompletedCall, Rule, block}
 use Rattle.ec_database.specs.Shapes.{Database}
 use Rattle.ec_database.specs.Following.{is_on, writes, database_rules}
 use Rattle.ec_database.specs.Tries.{AcceptedTry, ended_at}
-use Rattle.ec_database.specs.Auditing.{Versioning, IsVersioning, shown as shown_try}
+use Rattle.ec_database.specs.Auditing.{VersionAuditModel, RepresentsVersions, accepted_try as shown_try}
 use Rattle.ec_heading.specs.declared.group.Group.{Group}
 use Rattle.ec_heading.specs.declared.group.Group.TheVariants as groups
 use Rattle.ec_draw.specs.declared.window.Window.{Window}
@@ -24,13 +24,14 @@ use Rattle.ec_draw.specs.Following.{follows}
 
 -- WHERE A TRY BEGINS
 
--- whether an act begins a list of calls: it begins a call of the list, of which no call is finished
-abbrev pub begins_list : Rule → List Told → Act → Bool
+-- whether an act begins a call sequence: it begins a call of the sequence, and none of the
+-- sequence's calls is completed
+abbrev pub begins_list : Rule → List CompletedCall → Act → Bool
 begins_list r [] act = not (is_go act) && r.concerns [] act
 begins_list r (c ∷ calls) act = false
 
--- the position of the entry that began the list of calls that w is in after a past: the latest that
--- began one
+-- the position of the entry that began the call sequence that w is in after the history so far: the
+-- latest that began one
 unfoldable pub list_start : Rule → ℕ → List Entry → ℕ
 list_start r w [] = 0
 list_start r w (x ∷ past) = if x.worker == w && begins_list r (block r w past) x.act
@@ -38,94 +39,97 @@ list_start r w (x ∷ past) = if x.worker == w && begins_list r (block r w past)
 
 -- SHADES
 
--- an accepting try, and the positions of its first and its last entry; its database is told by its
--- eventcount of starts
-pub record Shaded : Type 0 where
+-- an accepted try, and the positions of its first and its last entry; the eventcount of starts
+-- identifies the database
+pub record ShadeModel : Type 0 where
   pub count : ℕ
   pub span : Span
   pub accepted : AcceptedTry
 
-abbrev pub seen : Shade → Shaded
-seen s = record { count = s.count; span = s.span; accepted = shown_try s.accepted }
+abbrev pub shade_model : Shade → ShadeModel
+shade_model s = record { count = s.count; span = s.span; accepted = shown_try s.accepted }
 
-abbrev pub shaded : ℕ → Span → AcceptedTry → Shaded
-shaded count span a = record { count = count; span = span; accepted = a }
+abbrev pub shade : ℕ → Span → AcceptedTry → ShadeModel
+shade count span a = record { count = count; span = span; accepted = a }
 
--- the list that the worker of an entry is in when it comes at the end of a past, from its first
--- entry to this one
+-- the span of the call sequence that an entry's worker is in: from the first entry of the sequence
+-- to this one, which follows the history so far
 abbrev pub span_at : Tables → Database → Entry → List Entry → Span
 span_at t d x past = record {
   first = list_start (database_rules t d x.worker) x.worker past;
   last = length past;
 }
 
--- the shade of the accepting try that an entry ends, if it ends one
-abbrev pub shade_at : Tables → Database → Entry → List Entry → Option Shaded
+-- the shade of the accepted try that an entry ends, if it ends one
+abbrev pub shade_at : Tables → Database → Entry → List Entry → Option ShadeModel
 shade_at t d x past =
-    option_map (shaded d.start (span_at t d x past)) (ended_at d (writes t d) x past)
+    option_map (shade d.start (span_at t d x past)) (ended_at d (writes t d) x past)
 
--- those of a past, in the order of their last entries
-unfoldable pub shades_in : Tables → Database → List Entry → List Shaded
+-- the shades of the history so far, in the order of their last entries
+unfoldable pub shades_in : Tables → Database → List Entry → List ShadeModel
 shades_in t d [] = []
 shades_in t d (x ∷ past) = shades_in t d past ++ option_to_list (shade_at t d x past)
 
 -- whether a shade is shown: it began before the end of the window, and did not end before its start
-abbrev pub is_in : Window → Shaded → Bool
+abbrev pub is_in : Window → ShadeModel → Bool
 is_in w s = meets w s.span.first s.span.last
 
-abbrev pub shades_shown : Tables → Database → Window → List Entry → List Shaded
+abbrev pub shades_shown : Tables → Database → Window → List Entry → List ShadeModel
 shades_shown t d w past = filter (is_in w) (shades_in t d past)
 
--- those of a group, if it is a database and is followed
-abbrev pub group_shades : Tables → Window → List Entry → Group → List Shaded
+-- the shown shades of a group, if it is a database and its workers follow its rules
+abbrev pub group_shades : Tables → Window → List Entry → Group → List ShadeModel
 group_shades t w h (groups.Database d) = if follows (database_rules t d) (reverse h)
     then shades_shown t d w (reverse h) else []
 group_shades t w h _ = []
 
--- those of all groups
-abbrev pub shades : Tables → List Group → Window → List Entry → List Shaded
+-- the shown shades of all groups
+abbrev pub shades : Tables → List Group → Window → List Entry → List ShadeModel
 shades t gs w h = flat_map (group_shades t w h) gs
 
--- A WALK
+-- A PASS OVER THE RUN
 
--- what a walk keeps of a database: its audit, where the list began that each worker is in, and the
--- shades that are shown, or that memory was refused
-pub record Trying : Type 0 where
-  pub audit : Versioning
+-- the state of a database: its audit, where the call sequence of each worker began, and the shades
+-- that are shown, or that an allocation failed
+pub record TriesModel : Type 0 where
+  pub audit : VersionAuditModel
   pub shape : Database
   pub window : Window
   pub starts : List ℕ
-  pub shades : List Shaded
-  pub lacks : Bool
+  pub shades : List ShadeModel
+  pub out_of_memory : Bool
 
--- by worker, where the list began that it is in
+-- for each worker, the position at which its call sequence began
 abbrev pub AreStarts : Tables → Database → List ℕ → List Entry → Type 0
 AreStarts t d starts past = (w : ℕ) → w < 16
     → slice_get starts w ≡ Some (list_start (database_rules t d w) w past)
 
--- it is that after a past
-pub record IsTrying (a : Trying) (past : List Entry) : Type 0 where
+-- it is the state after the history so far
+pub record RepresentsTries (a : TriesModel) (past : List Entry) : Type 0 where
   pub shape : a.audit.shape ≡ a.shape
-  pub audit : IsVersioning a.audit past
+  pub audit : RepresentsVersions a.audit past
   pub starts : AreStarts a.audit.setup a.shape a.starts past
-  pub shades : a.lacks ≡ false → a.shades ≡ shades_shown a.audit.setup a.shape a.window past
+  pub shades : a.out_of_memory ≡ false → a.shades ≡ shades_shown a.audit.setup a.shape a.window past
 
--- of the same database, after a past
-abbrev pub TriesOn : Trying → Trying → List Entry → Type 0
+-- it is the state of the same database after the history so far
+abbrev pub TriesOn : TriesModel → TriesModel → List Entry → Type 0
 TriesOn start now past = (now.shape ≡ start.shape) × (now.audit.setup ≡ start.audit.setup)
-    × (now.window ≡ start.window) × IsTrying now past
+    × (now.window ≡ start.window) × RepresentsTries now past
 
--- the starts after an entry, if its worker had finished so many calls of its list
+-- the starts after an entry at this position, if its worker had completed this many calls of its
+-- sequence
 abbrev pub starts_after : Database → ℕ → ℕ → Entry → List ℕ → List ℕ
 starts_after d finished place x starts =
     if (finished == 0 && not (is_go x.act)) && is_on d x.act then slice_set starts x.worker place
     else starts
 
--- the try that was found since there were so many, if one was, is added, if it is shown
-abbrev pub AddsNewest : ℕ → Window → Span → Option ℕ → Versioning → List Shaded → List Shaded
+-- the shade of accepted try n, counted from 0, is added, if the audit has found it and the shade is
+-- shown
+abbrev pub AddsNewest : ℕ → Window → Span → Option ℕ → VersionAuditModel → List ShadeModel
+    → List ShadeModel
     → Type 0
 AddsNewest count w span None a old new = ⊥
 AddsNewest count w span (Some n) a old new =
-    (a.lacks ≡ false)
+    (a.out_of_memory ≡ false)
     × (new ≡ old ++ filter (is_in w)
-    (option_to_list (option_map (shaded count span) (slice_get a.list n))))
+    (option_to_list (option_map (shade count span) (slice_get a.list n))))

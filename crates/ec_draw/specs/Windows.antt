@@ -1,4 +1,4 @@
--- Which entries a picture shows, and in which column each moment stands.
+-- Which entries a picture shows, and the column of each moment.
 use Rattle.std.specs.Prelude.{ℕ, ◌-◌, Bool, ◌&&◌, nat_le, nat_lt, min}
 use Rattle.ec_draw.specs.declared.window.Window.{Window}
 use Rattle.ec_draw.specs.declared.window.TheConstants.{COLUMNS_MAX}
@@ -16,7 +16,7 @@ meets w first last = nat_lt first w.to && nat_le w.from last
 abbrev pub columns : Window → ℕ
 columns w = min (w.to - w.from) COLUMNS_MAX
 
--- the column of moment k: the one at which the window begins has column 0, and moments before and
--- behind the window stand at its edges
+-- the column of moment k: the one at which the window begins has column 0, and a moment before or
+-- after the window has the column of the nearer edge
 abbrev pub column : Window → ℕ → ℕ
 column w k = min (k - w.from) (columns w)

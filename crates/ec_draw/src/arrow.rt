@@ -1,7 +1,8 @@
 //! The arrows of deliveries.
 ghost use Rattle.std.specs.Prelude.{◌≡◌, ◌++◌, ◌∷◌, [], false, if◌then◌else◌, OnOk, map, reverse};
 ghost use Rattle.std.specs.List.{filter};
-ghost use Rattle.ec_draw.specs.Arrows.{IsMoving, arrow_of, group_arrows, is_in, is_move, place_of};
+ghost use Rattle.ec_draw.specs.Arrows.{RepresentsMoves, arrow_of, group_arrows, is_in, is_move};
+ghost use Rattle.ec_draw.specs.Arrows.{move_position};
 ghost use Rattle.ec_heading.specs.declared.group.Group.TheVariants as groups;
 
 use crate::Window;
@@ -26,7 +27,7 @@ pub struct Arrow {
     pub delivery: Delivery,
     /// The position of the entry that put it.
     pub put: usize,
-    /// And of the one that got it.
+    /// The position of the entry that got it.
     pub got: usize,
 }
 
@@ -41,7 +42,7 @@ fn is_move(what: Move, shape: &BufferShape, act: &Act) -> bool
     }
 }
 
-/// Notes the position of an act that does so.
+/// Adds the position of an act to the list, if the act is such a move.
 fn note_move(
     list: &mut Vec<usize>,
     what: Move,
@@ -59,52 +60,52 @@ fn note_move(
     Ok(())
 }
 
-/// Returns the same, unless there was no memory for an earlier one. The answer is whether one is
-/// lacking.
-fn lacks_after(
-    lacks: bool,
+/// Adds a position as `note_move` does, unless an earlier addition failed. Returns whether any has
+/// failed.
+fn add_fails(
+    out_of_memory: bool,
     list: &mut Vec<usize>,
     what: Move,
     shape: &BufferShape,
     place: usize,
     act: &Act,
 ) -> bool
-    ensures before { result ≡ false → lacks ≡ false }
+    ensures before { result ≡ false → out_of_memory ≡ false }
     ensures noted { result ≡ false
         → list.new.items ≡ list.old.items ++ (if is_move what shape.now act.now then place ∷ []
         else []) }
 {
-    lacks || note_move(list, what, shape, place, act).is_err()
+    out_of_memory || note_move(list, what, shape, place, act).is_err()
 }
 
-/// The audit of a buffer in a walk over a run, and the positions of the puts and of the gets.
+/// The audit of a buffer in a pass over a run, and the positions of the puts and the gets so far.
 #[derive(Drop)]
 pub(crate) struct Moves<'a> {
     audit: DeliveryAudit<'a>,
     shape: &'a BufferShape,
     puts: Vec<usize>,
     gets: Vec<usize>,
-    lacks: bool,
+    out_of_memory: bool,
 }
 
 impl<'a> Model for Moves<'a> {
-    ghost use Rattle.ec_draw.specs.Arrows.{Moving};
+    ghost use Rattle.ec_draw.specs.Arrows.{MovesModel};
 
-    ghost Value = { Moving };
+    ghost Value = { MovesModel };
 
     ghost view = { λ s. record {
       audit = s.audit;
       shape = s.shape.now;
       puts = s.puts.items;
       gets = s.gets.items;
-      lacks = s.lacks;
+      out_of_memory = s.out_of_memory;
     } };
 }
 
 impl<'a> Audit for Moves<'a> {
     ghost use Rattle.ec_draw.specs.Arrows.{MovesOn};
 
-    ghost stands = { MovesOn };
+    ghost represents = { MovesOn };
 
     fn take(&mut self, place: usize, op: &Act, entry: &Entry) {
         let Moves {
@@ -112,34 +113,34 @@ impl<'a> Audit for Moves<'a> {
             shape,
             puts,
             gets,
-            lacks,
+            out_of_memory,
         } = self;
-        *lacks = lacks_after(*lacks, puts, Move::Put, shape, place, &entry.act);
-        *lacks = lacks_after(*lacks, gets, Move::Get, shape, place, &entry.act);
+        *out_of_memory = add_fails(*out_of_memory, puts, Move::Put, shape, place, &entry.act);
+        *out_of_memory = add_fails(*out_of_memory, gets, Move::Get, shape, place, &entry.act);
         audit.take(place, op, entry);
     }
 }
 
 impl<'a> Moves<'a> {
-    /// Makes what is kept before the first entry of a run on this setup. It takes no memory.
+    /// Returns the state before the first entry of a run with this setup. It allocates nothing.
     pub(crate) fn new(alloc: Global, shape: &'a BufferShape, setup: &'a Setup) -> Self
         ensures shape { result.shape ≡ shape.now }
         ensures setup { result.audit.setup ≡ setup.now }
-        ensures first { IsMoving result [] }
+        ensures first { RepresentsMoves result [] }
     {
         Moves {
             audit: DeliveryAudit::new(alloc, shape, setup),
             shape,
             puts: Vec::new(alloc),
             gets: Vec::new(alloc),
-            lacks: false,
+            out_of_memory: false,
         }
     }
 }
 
 /// Returns the position of a move by its number.
-fn place_of(list: &[usize], number: u64) -> usize
-    ensures { result ≡ place_of list.now number }
+fn move_position(list: &[usize], number: u64) -> usize
+    ensures { result ≡ move_position list.now number }
 {
     list.get(number as usize).copied().unwrap_or(0)
 }
@@ -151,12 +152,12 @@ fn arrow_of(shape: &BufferShape, puts: &[usize], gets: &[usize], delivery: &Deli
     Arrow {
         count: shape.in_count(),
         delivery: *delivery,
-        put: place_of(puts, delivery.number),
-        got: place_of(gets, delivery.number),
+        put: move_position(puts, delivery.number),
+        got: move_position(gets, delivery.number),
     }
 }
 
-/// Adds an arrow, if one of its ends is shown.
+/// Adds an arrow, if at least one of its ends is shown.
 fn add_arrow(arrows: &mut Vec<Arrow>, arrow: Arrow, window: Window) -> Result<(), AllocError>
     ensures { OnOk result
         (arrows.new.items ≡ arrows.old.items ++ filter (is_in window) (arrow ∷ [])) }
@@ -186,8 +187,7 @@ fn add_deliveries(
     Ok(())
 }
 
-/// Adds the arrows of a buffer, if its workers follow it, from what was kept of it in a walk over a
-/// whole run.
+/// Adds the arrows of a buffer from its state after a whole run, if its workers follow its rules.
 pub(crate) fn add_buffer(
     arrows: &mut Vec<Arrow>,
     run: &Run,
@@ -197,23 +197,23 @@ pub(crate) fn add_buffer(
 ) -> Result<(), AllocError>
     requires shape { moves.shape ≡ shape.now }
     requires setup { moves.audit.setup ≡ run.now.setup }
-    requires stands { IsMoving moves (reverse run.now.entries) }
+    requires represents { RepresentsMoves moves (reverse run.now.entries) }
     ensures { OnOk result
         (arrows.new.items ≡ arrows.old.items ++ group_arrows run.now.setup window run.now.entries
         (groups.Buffer shape.now)) }
 {
-    run.known();
-    shape.known();
+    run.invariant();
+    shape.invariant();
     let Moves {
         audit,
         puts,
         gets,
-        lacks,
+        out_of_memory,
         ..
     } = moves;
     match audit.deliveries(run) {
         Ok(list) => {
-            if lacks {
+            if out_of_memory {
                 return Err(AllocError);
             }
             add_deliveries(

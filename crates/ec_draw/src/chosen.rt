@@ -4,29 +4,29 @@ ghost use Rattle.std.specs.List.{list_any};
 ghost use Rattle.ec_heading.specs.Spelling.{cell_in};
 ghost use Rattle.ec_draw.specs.Chosen.{chosen_targets, draws, draws_arrow, draws_cell, draws_curve};
 ghost use Rattle.ec_draw.specs.Chosen.{draws_event, draws_object, draws_sequencer, draws_shade};
-ghost use Rattle.ec_draw.specs.Chosen.{draws_worker, is_chosen, is_drawn, stands_for};
-ghost use Rattle.ec_draw.specs.Shades.{seen};
+ghost use Rattle.ec_draw.specs.Chosen.{draws_worker, is_chosen, is_drawn, is_name_of};
+ghost use Rattle.ec_draw.specs.Shades.{shade_model};
 
-use crate::{Arrow, Counted, Plotted, Shade};
+use crate::{Arrow, Counter, CurveSource, Shade};
 use ec_core::Act;
-use ec_count::{CellId, EventId, SeqId, Target, Vocabulary, WorkerId};
+use ec_count::{CellId, EventId, SeqId, SymbolTable, Target, WorkerId};
 use std::alloc::{AllocError, Global};
 use std::marker::Model;
 
-/// Names of workers and of objects that are to be drawn. Where there is none all are.
+/// The names of the workers and of the objects to draw. If a list is empty, all are drawn.
 #[derive(Clone, Copy, Debug)]
-pub struct Choice<'a> {
+pub struct NameFilter<'a> {
     pub workers: &'a [&'a str],
     pub objects: &'a [&'a str],
 }
 
 /// The workers and the objects that are drawn.
 #[derive(Drop)]
-pub struct Chosen {
+pub struct Selection {
     targets: Vec<Target>,
 }
 
-impl Model for Chosen {
+impl Model for Selection {
     ghost use Rattle.std.specs.Prelude.{List};
     ghost use Rattle.ec_count.specs.declared.target.Target.{Target};
 
@@ -35,10 +35,10 @@ impl Model for Chosen {
     ghost view = { λ c. c.targets.items };
 }
 
-/// Returns whether a name stands for a word: it is the word, or that of the group whose object the
-/// word spells.
-fn stands_for(word: &[u8], name: &[u8]) -> bool
-    ensures { result ≡ stands_for word.now name.now }
+/// Returns whether a name chooses a word: it is the word, or that of the word's group, as `B` is of
+/// `B.in`.
+fn is_name_of(word: &[u8], name: &[u8]) -> bool
+    ensures { result ≡ is_name_of word.now name.now }
 {
     if !word.starts_with(name) {
         return false;
@@ -49,29 +49,29 @@ fn stands_for(word: &[u8], name: &[u8]) -> bool
     }
 }
 
-/// Returns whether a name stands for a word.
+/// Returns whether a name chooses a word.
 fn is_named(word: &[u8], name: &str) -> bool
-    ensures { result ≡ stands_for word.now name.now }
+    ensures { result ≡ is_name_of word.now name.now }
 {
-    stands_for(word, name.as_bytes())
+    is_name_of(word, name.as_bytes())
 }
 
-/// Returns whether some name stands for a word.
+/// Returns whether some name chooses a word.
 fn any_named(names: &[&str], word: &[u8]) -> bool
-    ensures { result ≡ list_any (λ name. stands_for word.now name.now) names.now }
+    ensures { result ≡ list_any (λ name. is_name_of word.now name.now) names.now }
 {
     names.iter().any(|name| is_named(word, name))
 }
 
-/// Returns whether a word is chosen by names; if there are none all are.
+/// Returns whether a word is chosen by names. If there are none, all words are.
 fn is_chosen(names: &[&str], word: &[u8]) -> bool
     ensures { result ≡ is_chosen names.now word.now }
 {
     names.is_empty() || any_named(names, word)
 }
 
-/// Returns whether what a word stands for is drawn.
-fn is_drawn(choice: &Choice<'_>, word: &[u8], target: &Target) -> bool
+/// Returns whether the target of a word is drawn.
+fn is_drawn(choice: &NameFilter<'_>, word: &[u8], target: &Target) -> bool
     ensures { result ≡ is_drawn choice.now (word.now, target.now) }
 {
     match *target {
@@ -80,10 +80,10 @@ fn is_drawn(choice: &Choice<'_>, word: &[u8], target: &Target) -> bool
     }
 }
 
-/// Adds what a word stands for, if that is drawn.
+/// Adds the target of a word, if it is drawn.
 fn add_drawn(
     targets: &mut Vec<Target>,
-    choice: &Choice<'_>,
+    choice: &NameFilter<'_>,
     word: &[u8],
     target: &Target,
 ) -> Result<(), AllocError>
@@ -97,7 +97,7 @@ fn add_drawn(
     Ok(())
 }
 
-/// Returns whether a cell is one of a target's.
+/// Returns whether a cell is in the block that a target is.
 fn cell_in(cell: usize, target: &Target) -> bool
     ensures { result ≡ cell_in cell target.now }
 {
@@ -107,9 +107,13 @@ fn cell_in(cell: usize, target: &Target) -> bool
     }
 }
 
-impl Chosen {
-    /// Returns what is drawn of all that the words of a heading stand for.
-    pub fn new(alloc: Global, choice: &Choice<'_>, words: &Vocabulary) -> Result<Chosen, AllocError>
+impl Selection {
+    /// Returns the targets of a symbol table that are drawn.
+    pub fn new(
+        alloc: Global,
+        choice: &NameFilter<'_>,
+        words: &SymbolTable,
+    ) -> Result<Selection, AllocError>
         ensures { IfOk result (λ c. c ≡ chosen_targets choice.now words.now) }
     {
         let mut targets = Vec::new(alloc);
@@ -118,7 +122,7 @@ impl Chosen {
                 add_drawn(&mut targets, choice, word, &target)?;
             }
         }
-        Ok(Chosen { targets })
+        Ok(Selection { targets })
     }
 
     /// Returns whether a worker is drawn.
@@ -128,7 +132,7 @@ impl Chosen {
         self.targets.as_slice().contains(&Target::Worker(worker))
     }
 
-    /// Returns how many of the first workers are drawn.
+    /// Returns how many of the first `number` workers are drawn.
     pub fn workers_before(&self, number: usize) -> usize
         ensures { result ≤ 16 }
     {
@@ -163,7 +167,7 @@ impl Chosen {
         targets.iter().any(|target| cell_in(number, target))
     }
 
-    /// Returns whether the object of an act is drawn.
+    /// Returns whether the object of an act is drawn; `true` for a go.
     pub fn draws_object(&self, act: &Act) -> bool
         ensures { result ≡ draws_object self.now act.now }
     {
@@ -184,25 +188,27 @@ impl Chosen {
         self.draws_worker(worker) && self.draws_object(act)
     }
 
-    /// Returns whether a curve is drawn; that of a balance is where its semaphore's eventcount is.
-    pub fn draws_curve(&self, object: &Plotted) -> bool
+    /// Returns whether a curve is drawn. That of a balance is drawn if its semaphore's eventcount
+    /// is.
+    pub fn draws_curve(&self, object: &CurveSource) -> bool
         ensures { result ≡ draws_curve self.now object.now }
     {
         match *object {
-            Plotted::Count(Counted::Event(event)) => self.draws_event(event),
-            Plotted::Count(Counted::Sequencer(sequencer)) => self.draws_sequencer(sequencer),
-            Plotted::Balance(event) => self.draws_event(event),
+            CurveSource::Count(Counter::Event(event)) => self.draws_event(event),
+            CurveSource::Count(Counter::Sequencer(sequencer)) => self.draws_sequencer(sequencer),
+            CurveSource::Balance(event) => self.draws_event(event),
         }
     }
 
-    /// Returns whether a shade is drawn: its reader is, and its database's eventcount of starts.
+    /// Returns whether a shade is drawn: its reader is, and so is its database's eventcount of
+    /// starts.
     pub fn draws_shade(&self, shade: &Shade) -> bool
-        ensures { result ≡ draws_shade self.now (seen shade.now) }
+        ensures { result ≡ draws_shade self.now (shade_model shade.now) }
     {
         self.draws_worker(shade.accepted.worker) && self.draws_event(shade.count)
     }
 
-    /// Returns whether an arrow is drawn: its producer and its consumer are, and its buffer's
+    /// Returns whether an arrow is drawn: its producer and its consumer are, and so is its buffer's
     /// eventcount of puts.
     pub fn draws_arrow(&self, arrow: &Arrow) -> bool
         ensures { result ≡ draws_arrow self.now arrow.now }

@@ -2,10 +2,12 @@
 ghost use Rattle.std.specs.Prelude.{◌≡◌, ◌+◌, List, ◌++◌, ◌∷◌, [], ◌<◌, ◌≤◌, IfOk, OnOk, length};
 ghost use Rattle.std.specs.Prelude.{map, reverse, take};
 ghost use Rattle.ec_core.specs.declared.act.Entry.{Entry};
-ghost use Rattle.ec_draw.specs.declared.curve.Counted.TheVariants.{Event, Sequencer};
+ghost use Rattle.ec_draw.specs.declared.curve.Counter.TheVariants.{Event, Sequencer};
 ghost use Rattle.ec_core.specs.Standing.{StandsFor};
-ghost use Rattle.ec_draw.specs.Curves.{IsCounted, count_at, count_of, heights, line_of, lines};
-ghost use Rattle.ec_draw.specs.Curves.{raises, shown};
+ghost use Rattle.ec_draw.specs.Curves.{IsDeclaredCounter, count_at, count_of, heights};
+ghost use Rattle.ec_draw.specs.Curves.{curve_of_count};
+ghost use Rattle.ec_draw.specs.Curves.{curves_of_counts};
+ghost use Rattle.ec_draw.specs.Curves.{raises, curve_model};
 
 use crate::Window;
 use ec_core::{Act, Run, World};
@@ -14,7 +16,7 @@ use std::alloc::{AllocError, Global};
 
 /// What is counted.
 #[derive(Clone, Copy, Debug, PartialEq, Eq)]
-pub enum Counted {
+pub enum Counter {
     /// An eventcount, by its total.
     Event(EventId),
     /// A sequencer, by the tickets that were drawn.
@@ -23,9 +25,9 @@ pub enum Counted {
 
 /// What has a curve.
 #[derive(Clone, Copy, Debug, PartialEq, Eq)]
-pub enum Plotted {
+pub enum CurveSource {
     /// A count.
-    Count(Counted),
+    Count(Counter),
     /// The balance of the semaphore with this eventcount.
     Balance(EventId),
 }
@@ -33,28 +35,28 @@ pub enum Plotted {
 /// A curve: the number at the moment before each entry that is shown, and after the last of them.
 #[derive(Drop)]
 pub struct Curve {
-    pub object: Plotted,
+    pub object: CurveSource,
     pub heights: Vec<u64>,
 }
 
 /// Returns whether an act raises a count.
-fn raises(object: &Counted, act: &Act) -> bool
+fn raises(object: &Counter, act: &Act) -> bool
     ensures { result ≡ raises object.now act.now }
 {
     match object {
-        Counted::Event(event) => match act {
+        Counter::Event(event) => match act {
             Act::Advance(raised) => raised.get() == event.get(),
             _ => false,
         },
-        Counted::Sequencer(sequencer) => match act {
+        Counter::Sequencer(sequencer) => match act {
             Act::Ticket(drawn) => drawn.get() == sequencer.get(),
             _ => false,
         },
     }
 }
 
-/// Returns by how much the entry at a position raises a count; 0 past the last entry.
-fn raised(run: &Run, object: &Counted, position: usize) -> u64
+/// Returns by how much the entry at a position raises a count; 0 if there is no entry.
+fn raise_amount(run: &Run, object: &Counter, position: usize) -> u64
     ensures value { count_at object.now run.now.entries (position + 1)
         ≡ count_at object.now run.now.entries position + result }
     ensures small { result ≤ 1 }
@@ -65,22 +67,22 @@ fn raised(run: &Run, object: &Counted, position: usize) -> u64
     }
 }
 
-/// Returns a count in a world; 0 of what is not declared.
-fn count_in(world: &World, object: &Counted) -> u64
-    requires { IsCounted world.now.setup object.now }
+/// Returns a count in a world; 0 if its object is not declared.
+fn count_in(world: &World, object: &Counter) -> u64
+    requires { IsDeclaredCounter world.now.setup object.now }
     ensures { (h : List Entry) → StandsFor world.now h → result ≡ count_of object.now (reverse h) }
 {
     match *object {
-        Counted::Event(event) => world.total(event).unwrap_or(0),
-        Counted::Sequencer(sequencer) => world.issued(sequencer).unwrap_or(0),
+        Counter::Event(event) => world.total(event).unwrap_or(0),
+        Counter::Sequencer(sequencer) => world.issued(sequencer).unwrap_or(0),
     }
 }
 
-/// Returns the counts at the moments that are shown, given the first of them.
+/// Returns the counts at the moments that are shown, given the first count.
 fn heights(
     alloc: Global,
     run: &Run,
-    object: &Counted,
+    object: &Counter,
     window: Window,
     first: u64,
 ) -> Result<Vec<u64>, AllocError>
@@ -92,7 +94,7 @@ fn heights(
     let mut count = first;
     heights.push(count)?;
     for column in 0..window.to.saturating_sub(window.from) {
-        count += raised(run, object, window.from + column);
+        count += raise_amount(run, object, window.from + column);
         heights.push(count)?;
     }
     Ok(heights)
@@ -103,17 +105,17 @@ fn curve_of(
     alloc: Global,
     run: &Run,
     world: &World,
-    object: Counted,
+    object: Counter,
     window: Window,
 ) -> Result<Curve, AllocError>
-    requires counted { IsCounted world.now.setup object }
-    requires stands { StandsFor world.now (take window.from run.now.entries) }
-    ensures { IfOk result (λ c. shown c ≡ line_of window run.now.entries object) }
+    requires counted { IsDeclaredCounter world.now.setup object }
+    requires represents { StandsFor world.now (take window.from run.now.entries) }
+    ensures { IfOk result (λ c. curve_model c ≡ curve_of_count window run.now.entries object) }
 {
     let first = count_in(world, &object);
     let heights = heights(alloc, run, &object, window, first)?;
     Ok(Curve {
-        object: Plotted::Count(object),
+        object: CurveSource::Count(object),
         heights,
     })
 }
@@ -129,12 +131,12 @@ fn add_event(
 ) -> Result<(), AllocError>
     requires few { number < 32 }
     requires counted { number < length world.now.setup.events }
-    requires stands { StandsFor world.now (take window.from run.now.entries) }
-    ensures { OnOk result (map shown curves.new.items ≡ map shown curves.old.items
-        ++ line_of window run.now.entries (Event number) ∷ []) }
+    requires represents { StandsFor world.now (take window.from run.now.entries) }
+    ensures { OnOk result (map curve_model curves.new.items ≡ map curve_model curves.old.items
+        ++ curve_of_count window run.now.entries (Event number) ∷ []) }
 {
     if let Some(event) = EventId::new(number) {
-        let object = Counted::Event(event);
+        let object = Counter::Event(event);
         curves.push(curve_of(alloc, run, world, object, window)?)?;
     }
     Ok(())
@@ -151,19 +153,19 @@ fn add_sequencer(
 ) -> Result<(), AllocError>
     requires few { number < 32 }
     requires counted { number < length world.now.setup.takers }
-    requires stands { StandsFor world.now (take window.from run.now.entries) }
-    ensures { OnOk result (map shown curves.new.items ≡ map shown curves.old.items
-        ++ line_of window run.now.entries (Sequencer number) ∷ []) }
+    requires represents { StandsFor world.now (take window.from run.now.entries) }
+    ensures { OnOk result (map curve_model curves.new.items ≡ map curve_model curves.old.items
+        ++ curve_of_count window run.now.entries (Sequencer number) ∷ []) }
 {
     if let Some(sequencer) = SeqId::new(number) {
-        let object = Counted::Sequencer(sequencer);
+        let object = Counter::Sequencer(sequencer);
         curves.push(curve_of(alloc, run, world, object, window)?)?;
     }
     Ok(())
 }
 
-/// Returns the curves of all that a run counts, of the eventcounts and then of the sequencers,
-/// given the state before the first entry that is shown.
+/// Returns the curves of a run's eventcounts and then of its sequencers, given the state before the
+/// first entry that is shown.
 pub(crate) fn curves(
     alloc: Global,
     run: &Run,
@@ -171,10 +173,11 @@ pub(crate) fn curves(
     window: Window,
 ) -> Result<Vec<Curve>, AllocError>
     requires setup { world.now.setup ≡ run.now.setup }
-    requires stands { StandsFor world.now (take window.from run.now.entries) }
-    ensures { IfOk result (λ cs. map shown cs.items ≡ lines run.now.setup window run.now.entries) }
+    requires represents { StandsFor world.now (take window.from run.now.entries) }
+    ensures { IfOk result (λ cs. map curve_model cs.items
+        ≡ curves_of_counts run.now.setup window run.now.entries) }
 {
-    run.known();
+    run.invariant();
     let mut curves = Vec::new(alloc);
     for number in 0..run.setup().events() {
         add_event(&mut curves, alloc, run, world, window, number)?;

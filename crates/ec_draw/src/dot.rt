@@ -1,7 +1,7 @@
 //! The dots of entries.
 ghost use Rattle.std.specs.Prelude.{◌≡◌, IfOk, List, length, option_and_then, reverse, take};
 ghost use Rattle.ec_core.specs.declared.act.Entry.{Entry};
-ghost use Rattle.ec_core.specs.Rounds.{read_of};
+ghost use Rattle.ec_core.specs.Rounds.{read_event};
 ghost use Rattle.ec_core.specs.Standing.{StandsFor};
 ghost use Rattle.ec_draw.specs.Dots.{component_in, dot_of, dots_of, held_in, number_in, op_in};
 
@@ -10,20 +10,19 @@ use ec_core::{Act, Entry, Run, UnderWay, World};
 use ec_count::WorkerId;
 use std::alloc::{AllocError, Global};
 
-/// An entry: whose it is, of which call, where it stands, and the component that it read or raised,
-/// if it did.
+/// An entry: its worker, its call, its position, and the component that it read or raised.
 #[derive(Clone, Copy, Debug, PartialEq, Eq)]
 pub struct Dot {
     pub worker: WorkerId,
-    /// The act that began the call whose entry it is.
+    /// The act that began the entry's call.
     pub op: Act,
     pub position: usize,
     pub component: Option<usize>,
-    /// What it read of the component.
+    /// The number that it read in the component.
     pub number: Option<u64>,
 }
 
-/// Returns the act that began the call whose entry an act makes in a world.
+/// Returns the act that began the call of which an act in a world is a step.
 fn op_in(world: &World, worker: WorkerId, act: Act) -> Act
     ensures { (h : List Entry) → StandsFor world.now h
         → result ≡ op_in worker (reverse h) act }
@@ -37,7 +36,7 @@ fn op_in(world: &World, worker: WorkerId, act: Act) -> Act
     }
 }
 
-/// Returns the component that an act reads or raises in a world.
+/// Returns the component that an act reads or raises in a world, `None` if it does neither.
 fn component_in(world: &World, worker: WorkerId, act: Act) -> Option<usize>
     ensures { (h : List Entry) → StandsFor world.now h
         → result ≡ component_in world.now.setup worker (reverse h) act }
@@ -54,10 +53,10 @@ fn component_in(world: &World, worker: WorkerId, act: Act) -> Option<usize>
 }
 
 /// Returns what a go of a call reads in a world.
-fn gone_read(world: &World, call: &UnderWay) -> Option<u64>
+fn read_by_go(world: &World, call: &UnderWay) -> Option<u64>
     ensures { (h : List Entry) → StandsFor world.now h
         → result ≡ option_and_then (λ e. held_in world.now.setup e call.now.index (reverse h))
-        (read_of call.now.op) }
+        (read_event call.now.op) }
 {
     match call.op() {
         Act::Read(event) | Act::Await(event, _) => world.component(event, call.index()),
@@ -65,7 +64,7 @@ fn gone_read(world: &World, call: &UnderWay) -> Option<u64>
     }
 }
 
-/// Returns what an act reads of its component in a world.
+/// Returns what an act reads of its component in a world, `None` if it reads none.
 fn number_in(world: &World, worker: WorkerId, act: Act) -> Option<u64>
     ensures { (h : List Entry) → StandsFor world.now h
         → result ≡ number_in world.now.setup worker (reverse h) act }
@@ -73,14 +72,14 @@ fn number_in(world: &World, worker: WorkerId, act: Act) -> Option<u64>
     match act {
         Act::Read(event) | Act::Await(event, _) => world.component(event, 0),
         Act::Go => match world.under_way(worker) {
-            Some(call) => gone_read(world, &call),
+            Some(call) => read_by_go(world, &call),
             None => None,
         },
         Act::Advance(_) | Act::Ticket(_) | Act::Put(_, _) | Act::Get(_) | Act::Hand(_, _) => None,
     }
 }
 
-/// Returns the dot of an entry that comes next in a world.
+/// Returns the dot of the next entry in a world.
 fn dot_of(world: &World, position: usize, entry: &Entry) -> Dot
     ensures { (h : List Entry) → StandsFor world.now h → position ≡ length (reverse h)
         → result ≡ dot_of world.now.setup (reverse h) entry.now }
@@ -103,11 +102,11 @@ pub(crate) fn dots(
     window: Window,
 ) -> Result<Vec<Dot>, AllocError>
     requires setup { world.setup ≡ run.now.setup }
-    requires stands { StandsFor world (take window.from run.now.entries) }
+    requires represents { StandsFor world (take window.from run.now.entries) }
     ensures { IfOk result
         (λ ds. ds.items ≡ dots_of run.now.setup window (reverse run.now.entries)) }
 {
-    run.known();
+    run.invariant();
     let mut dots = Vec::new(alloc);
     for position in window.from..window.to.min(run.len()) {
         if let Some(entry) = run.entry(position) {

@@ -1,20 +1,20 @@
-//! What the audits of groups find, in one walk over the entries of a run.
+//! What the audits of groups find, in one pass over the entries of a run.
 ghost use Rattle.std.specs.Prelude.{◌≡◌, ◌++◌, [], IfOk, OnOk, map, reverse};
 ghost use Rattle.std.specs.List.{flat_map};
-ghost use Rattle.ec_semaphore.specs.Auditing.{IsPairing};
-ghost use Rattle.ec_semaphore.specs.Both.{is_line, both_rules};
+ghost use Rattle.ec_semaphore.specs.Auditing.{RepresentsPairs};
+ghost use Rattle.ec_semaphore.specs.Both.{is_semaphore_sequencer, both_rules};
 ghost use Rattle.ec_semaphore.specs.Uses.{use_rules};
 ghost use Rattle.ec_heading.specs.declared.group.Group.TheVariants as groups;
 ghost use Rattle.ec_draw.specs.Arrows.{arrows, group_arrows};
-ghost use Rattle.ec_draw.specs.Balances.{balance_line, balance_lines, group_line, line_if};
-ghost use Rattle.ec_draw.specs.Curves.{shown};
+ghost use Rattle.ec_draw.specs.Balances.{balance_curve, balance_lines, group_line, curve_if};
+ghost use Rattle.ec_draw.specs.Curves.{curve_model};
 ghost use Rattle.ec_draw.specs.Following.{follows};
-ghost use Rattle.ec_draw.specs.Findings.{AddsGroup, BothFor, CourseFor, EachFinds, FindsFor};
+ghost use Rattle.ec_draw.specs.Findings.{AddsGroup, BothFor, BalanceStateFor, EachFinds, FindsFor};
 ghost use Rattle.ec_draw.specs.Findings.{MovesFor, TriesFor};
-ghost use Rattle.ec_draw.specs.Shades.{group_shades, seen, shades};
+ghost use Rattle.ec_draw.specs.Shades.{group_shades, shade_model, shades};
 
 use crate::arrow::{Moves, add_buffer};
-use crate::balance::{BothCourse, Course, add_if};
+use crate::balance::{BalanceState, BothState, add_if};
 use crate::shade::{Tries, add_database};
 use crate::{Arrow, Curve, Shade, Window};
 use ec_buffer::BufferShape;
@@ -26,64 +26,68 @@ use ec_semaphore::{PairAudit, SemaphoreShape};
 use ec_walk::{GroupAudit, walk_groups};
 use std::alloc::{AllocError, Global};
 
-/// What a walk keeps of a group.
+/// The state of one group in a pass over a run.
 #[derive(Drop)]
-pub(crate) enum Finding<'a> {
+pub(crate) enum GroupState<'a> {
     /// Of a semaphore.
-    Balance(Course),
+    Balance(BalanceState),
     /// Of `both`.
-    Both(BothCourse<'a>),
+    Both(BothState<'a>),
     /// Of a database.
     Tries(Tries<'a>),
     /// Of a buffer.
     Moves(Moves<'a>),
 }
 
-/// What all that is kept has in common.
+/// What the states of all groups have in common.
 #[derive(Clone, Copy)]
-struct Asked<'a> {
+struct PassContext<'a> {
     setup: &'a Setup,
     semaphores: &'a [SemaphoreShape],
     window: Window,
 }
 
-impl<'a> Finding<'a> {
-    /// Makes what is kept before the first entry.
-    fn new(alloc: Global, group: &'a Group, asked: &Asked<'a>) -> Self
+impl<'a> GroupState<'a> {
+    /// Returns the state before the first entry.
+    fn new(alloc: Global, group: &'a Group, asked: &PassContext<'a>) -> Self
         ensures { FindsFor asked.now.setup.now asked.now.semaphores.now asked.now.window group.now
             result [] }
     {
         match group {
-            Group::Buffer(shape) => Finding::Moves(Moves::new(alloc, shape, asked.setup)),
+            Group::Buffer(shape) => GroupState::Moves(Moves::new(alloc, shape, asked.setup)),
             Group::Database(shape) => {
-                Finding::Tries(Tries::new(alloc, shape, asked.setup, asked.window))
+                GroupState::Tries(Tries::new(alloc, shape, asked.setup, asked.window))
             }
-            Group::Semaphore(shape) => Finding::Balance(Course::new(alloc, *shape, asked.window)),
-            Group::Both(shape) => Finding::Both(BothCourse {
-                course: Course::new(alloc, *shape, asked.window),
+            Group::Semaphore(shape) => GroupState::Balance(BalanceState::new(
+                alloc,
+                *shape,
+                asked.window,
+            )),
+            Group::Both(shape) => GroupState::Both(BothState {
+                state: BalanceState::new(alloc, *shape, asked.window),
                 pairs: PairAudit::new(alloc, *shape, asked.semaphores),
             }),
         }
     }
 }
 
-impl<'a> Audit for Finding<'a> {
+impl<'a> Audit for GroupState<'a> {
     ghost use Rattle.ec_draw.specs.Following.{follows};
     ghost use Rattle.ec_draw.specs.Findings.{FindsOn};
 
-    ghost stands = { FindsOn };
+    ghost represents = { FindsOn };
 
     fn take(&mut self, place: usize, op: &Act, entry: &Entry) {
         match self {
-            Finding::Balance(course) => course.take(place, op, entry),
-            Finding::Both(both) => both.take(place, op, entry),
-            Finding::Tries(tries) => tries.take(place, op, entry),
-            Finding::Moves(moves) => moves.take(place, op, entry),
+            GroupState::Balance(state) => state.take(place, op, entry),
+            GroupState::Both(both) => both.take(place, op, entry),
+            GroupState::Tries(tries) => tries.take(place, op, entry),
+            GroupState::Moves(moves) => moves.take(place, op, entry),
         }
     }
 }
 
-impl<'a> GroupAudit for Finding<'a> {
+impl<'a> GroupAudit for GroupState<'a> {
     ghost use Rattle.ec_draw.specs.Following.{follows};
     ghost use Rattle.ec_draw.specs.Findings.{group_of};
     ghost use Rattle.ec_draw.specs.LeftOut.{finds_off, finds_stay};
@@ -95,80 +99,81 @@ impl<'a> GroupAudit for Finding<'a> {
     ghost stays = { finds_stay };
 }
 
-/// Returns what is kept of groups before the first entry.
-fn opened<'a>(
+/// Returns the states of groups before the first entry.
+fn open_findings<'a>(
     alloc: Global,
     groups: &'a [Group],
-    asked: &Asked<'a>,
-) -> Result<Vec<Finding<'a>>, AllocError>
+    asked: &PassContext<'a>,
+) -> Result<Vec<GroupState<'a>>, AllocError>
     ensures { IfOk result
         (λ list. EachFinds asked.now.setup.now asked.now.semaphores.now asked.now.window groups.now
         list.items []) }
 {
     let mut list = Vec::new(alloc);
     for number in 0..groups.len() {
-        list.push(Finding::new(alloc, &groups[number], asked))?;
+        list.push(GroupState::new(alloc, &groups[number], asked))?;
     }
     Ok(list)
 }
 
-/// Returns what is kept of groups after all entries of a run, in one walk over them.
-fn walked<'a>(
+/// Returns the states of groups after all entries of a run, in one pass over them.
+fn find_all<'a>(
     alloc: Global,
     run: &'a Run,
     groups: &'a [Group],
-    asked: &Asked<'a>,
-) -> Result<Vec<Finding<'a>>, AllocError>
+    asked: &PassContext<'a>,
+) -> Result<Vec<GroupState<'a>>, AllocError>
     ensures { IfOk result
         (λ list. EachFinds asked.now.setup.now asked.now.semaphores.now asked.now.window groups.now
         list.items (reverse run.now.entries)) }
 {
-    let list = opened(alloc, groups, asked)?;
+    let list = open_findings(alloc, groups, asked)?;
     Ok(walk_groups(run, groups, list))
 }
 
-/// What the audits of the groups find that are followed, if it is shown.
+/// What the audits of groups find, and the window shows. It has nothing of a group whose workers
+/// don't follow its rules.
 #[derive(Drop)]
 pub(crate) struct Findings {
     /// The curves of balances.
     pub(crate) curves: Vec<Curve>,
-    /// The shades over accepting tries.
+    /// The shades over accepted tries.
     pub(crate) shades: Vec<Shade>,
     /// The arrows of deliveries.
     pub(crate) arrows: Vec<Arrow>,
 }
 
-/// Adds what was found of a semaphore.
+/// Adds what the audit found of a semaphore.
 fn add_semaphore(
     curves: &mut Vec<Curve>,
     run: &Run,
     shape: &SemaphoreShape,
     window: Window,
-    finding: Finding<'_>,
+    finding: GroupState<'_>,
 ) -> Result<(), AllocError>
-    requires { CourseFor window shape.now finding (reverse run.now.entries) }
-    ensures { OnOk result (map shown curves.new.items ≡ map shown curves.old.items
-        ++ line_if (follows (use_rules shape.now) (reverse run.now.entries))
-        (balance_line window run.now.entries shape.now)) }
+    requires { BalanceStateFor window shape.now finding (reverse run.now.entries) }
+    ensures { OnOk result (map curve_model curves.new.items ≡ map curve_model curves.old.items
+        ++ curve_if (follows (use_rules shape.now) (reverse run.now.entries))
+        (balance_curve window run.now.entries shape.now)) }
 {
     let _ = window;
     match finding {
-        Finding::Balance(course) => {
-            let follows = course.follows(run);
-            add_if(curves, run, follows, shape, course)
+        GroupState::Balance(state) => {
+            let follows = state.follows(run);
+            add_if(curves, run, follows, shape, state)
         }
-        Finding::Both(_) => unreachable!(),
-        Finding::Tries(_) => unreachable!(),
-        Finding::Moves(_) => unreachable!(),
+        GroupState::Both(_) => unreachable!(),
+        GroupState::Tries(_) => unreachable!(),
+        GroupState::Moves(_) => unreachable!(),
     }
 }
 
-/// Returns whether the workers follow the critical sections of `both`, after all entries of a run.
+/// Returns whether the workers follow the rules of `both`, after all entries of a run.
 fn follows_both(run: &Run, pairs: PairAudit<'_>) -> Result<bool, AllocError>
-    requires { IsPairing pairs (reverse run.now.entries) }
+    requires { RepresentsPairs pairs (reverse run.now.entries) }
     ensures { IfOk result
         (λ b. b ≡ follows
-        (both_rules pairs.entry.common (is_line pairs.entry.common pairs.entry.shapes))
+        (both_rules pairs.entry.common (is_semaphore_sequencer pairs.entry.common pairs.entry.shapes))
         (reverse run.now.entries)) }
 {
     match pairs.pairs(run) {
@@ -178,60 +183,60 @@ fn follows_both(run: &Run, pairs: PairAudit<'_>) -> Result<bool, AllocError>
     }
 }
 
-/// Adds what was found of `both`.
+/// Adds what the audits found of `both`.
 fn add_both(
     curves: &mut Vec<Curve>,
     run: &Run,
     shape: &SemaphoreShape,
-    asked: &Asked<'_>,
-    finding: Finding<'_>,
+    asked: &PassContext<'_>,
+    finding: GroupState<'_>,
 ) -> Result<(), AllocError>
     requires { BothFor asked.now.semaphores.now asked.now.window shape.now finding
         (reverse run.now.entries) }
-    ensures { OnOk result (map shown curves.new.items ≡ map shown curves.old.items
-        ++ line_if (follows (both_rules shape.now (is_line shape.now asked.now.semaphores.now))
-        (reverse run.now.entries)) (balance_line asked.now.window run.now.entries shape.now)) }
+    ensures { OnOk result (map curve_model curves.new.items ≡ map curve_model curves.old.items
+        ++ curve_if (follows (both_rules shape.now (is_semaphore_sequencer shape.now asked.now.semaphores.now))
+        (reverse run.now.entries)) (balance_curve asked.now.window run.now.entries shape.now)) }
 {
     let _ = asked;
     match finding {
-        Finding::Balance(_) => unreachable!(),
-        Finding::Both(BothCourse { course, pairs }) => {
+        GroupState::Balance(_) => unreachable!(),
+        GroupState::Both(BothState { state, pairs }) => {
             let follows = follows_both(run, pairs)?;
-            add_if(curves, run, follows, shape, course)
+            add_if(curves, run, follows, shape, state)
         }
-        Finding::Tries(_) => unreachable!(),
-        Finding::Moves(_) => unreachable!(),
+        GroupState::Tries(_) => unreachable!(),
+        GroupState::Moves(_) => unreachable!(),
     }
 }
 
-/// Adds what was found of a database.
+/// Adds what the audit found of a database.
 fn add_tries(
     shades: &mut Vec<Shade>,
     run: &Run,
     shape: &DatabaseShape,
     window: Window,
-    finding: Finding<'_>,
+    finding: GroupState<'_>,
 ) -> Result<(), AllocError>
     requires { TriesFor run.now.setup window shape.now finding (reverse run.now.entries) }
-    ensures { OnOk result (map seen shades.new.items ≡ map seen shades.old.items
+    ensures { OnOk result (map shade_model shades.new.items ≡ map shade_model shades.old.items
         ++ group_shades run.now.setup window run.now.entries (groups.Database shape.now)) }
 {
     let _ = window;
     match finding {
-        Finding::Balance(_) => unreachable!(),
-        Finding::Both(_) => unreachable!(),
-        Finding::Tries(tries) => add_database(shades, run, shape, tries),
-        Finding::Moves(_) => unreachable!(),
+        GroupState::Balance(_) => unreachable!(),
+        GroupState::Both(_) => unreachable!(),
+        GroupState::Tries(tries) => add_database(shades, run, shape, tries),
+        GroupState::Moves(_) => unreachable!(),
     }
 }
 
-/// Adds what was found of a buffer.
+/// Adds what the audit found of a buffer.
 fn add_moves(
     arrows: &mut Vec<Arrow>,
     run: &Run,
     shape: &BufferShape,
     window: Window,
-    finding: Finding<'_>,
+    finding: GroupState<'_>,
 ) -> Result<(), AllocError>
     requires { MovesFor run.now.setup shape.now finding (reverse run.now.entries) }
     ensures { OnOk result
@@ -239,20 +244,20 @@ fn add_moves(
         (groups.Buffer shape.now)) }
 {
     match finding {
-        Finding::Balance(_) => unreachable!(),
-        Finding::Both(_) => unreachable!(),
-        Finding::Tries(_) => unreachable!(),
-        Finding::Moves(moves) => add_buffer(arrows, run, shape, moves, window),
+        GroupState::Balance(_) => unreachable!(),
+        GroupState::Both(_) => unreachable!(),
+        GroupState::Tries(_) => unreachable!(),
+        GroupState::Moves(moves) => add_buffer(arrows, run, shape, moves, window),
     }
 }
 
-/// Adds what was found of a group.
+/// Adds what the audits found of a group.
 fn add_group(
     found: &mut Findings,
     run: &Run,
     group: &Group,
-    asked: &Asked<'_>,
-    finding: Finding<'_>,
+    asked: &PassContext<'_>,
+    finding: GroupState<'_>,
 ) -> Result<(), AllocError>
     requires { FindsFor run.now.setup asked.now.semaphores.now asked.now.window group.now finding
         (reverse run.now.entries) }
@@ -273,21 +278,22 @@ fn add_group(
     }
 }
 
-/// Adds what was found of groups.
+/// Adds what the audits found of groups.
 fn add_groups(
     found: &mut Findings,
     run: &Run,
     groups: &[Group],
-    asked: &Asked<'_>,
-    list: Vec<Finding<'_>>,
+    asked: &PassContext<'_>,
+    list: Vec<GroupState<'_>>,
 ) -> Result<(), AllocError>
     requires { EachFinds run.now.setup asked.now.semaphores.now asked.now.window groups.now
         list.items (reverse run.now.entries) }
     ensures curves { OnOk result
-        (map shown found.new.curves.items ≡ map shown found.old.curves.items
+        (map curve_model found.new.curves.items ≡ map curve_model found.old.curves.items
         ++ flat_map (group_line asked.now.semaphores.now asked.now.window run.now.entries)
         groups.now) }
-    ensures shades { OnOk result (map seen found.new.shades.items ≡ map seen found.old.shades.items
+    ensures shades { OnOk result (map shade_model found.new.shades.items
+        ≡ map shade_model found.old.shades.items
         ++ shades run.now.setup groups.now asked.now.window run.now.entries) }
     ensures arrows { OnOk result
         (found.new.arrows.items ≡ found.old.arrows.items ++ arrows run.now.setup groups.now
@@ -304,8 +310,8 @@ fn add_groups(
     Ok(())
 }
 
-/// Returns what the audits find of those groups whose workers follow them, in one walk over the
-/// run.
+/// Returns what the audits find of the groups whose workers follow their rules, in one pass over
+/// the run.
 pub(crate) fn findings_of(
     alloc: Global,
     run: &Run,
@@ -313,19 +319,19 @@ pub(crate) fn findings_of(
     window: Window,
 ) -> Result<Findings, AllocError>
     ensures curves { IfOk result
-        (λ f. map shown f.curves.items ≡ balance_lines groups.now window run.now.entries) }
+        (λ f. map curve_model f.curves.items ≡ balance_lines groups.now window run.now.entries) }
     ensures shades { IfOk result
-        (λ f. map seen f.shades.items ≡ shades run.now.setup groups.now window run.now.entries) }
+        (λ f. map shade_model f.shades.items ≡ shades run.now.setup groups.now window run.now.entries) }
     ensures arrows { IfOk result
         (λ f. f.arrows.items ≡ arrows run.now.setup groups.now window run.now.entries) }
 {
     let semaphores = semaphores_of(alloc, groups)?;
-    let asked = Asked {
+    let asked = PassContext {
         setup: run.setup(),
         semaphores: semaphores.as_slice(),
         window,
     };
-    let list = walked(alloc, run, groups, &asked)?;
+    let list = find_all(alloc, run, groups, &asked)?;
     let mut found = Findings {
         curves: Vec::new(alloc),
         shades: Vec::new(alloc),

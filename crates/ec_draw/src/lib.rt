@@ -1,5 +1,5 @@
-//! The shapes of a picture of a run: a bar for each call, with a mark at its point, a dot for each
-//! entry, and the curves of what is counted.
+//! The shapes of a picture of a run: a bar for each call with a mark at its linearization point, a
+//! dot for each entry, curves of counts and balances, shades of tries, and arrows of deliveries.
 #![tactic(auto)]
 
 mod arrow;
@@ -8,7 +8,6 @@ mod chosen;
 mod curve;
 mod dot;
 mod finding;
-mod finished;
 mod laws;
 mod open;
 mod picture;
@@ -17,15 +16,15 @@ mod shade;
 mod window;
 
 pub use arrow::Arrow;
-pub use chosen::{Choice, Chosen};
-pub use curve::{Counted, Curve, Plotted};
+pub use chosen::{NameFilter, Selection};
+pub use curve::{Counter, Curve, CurveSource};
 pub use dot::Dot;
 pub use laws::{
     arrows_are_deliveries, balance_curves_are_balances, bars_are_calls, curves_are_counts,
     following_is_answered, pending_bars_begin, pictures_have_400_columns_at_most,
     shades_begin_lists, shades_end_tries,
 };
-pub use open::Open;
+pub use open::PendingBar;
 pub use picture::{Picture, picture_of};
 pub use shade::{Shade, Span};
 pub use window::{COLUMNS_MAX, Window};

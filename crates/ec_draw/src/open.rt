@@ -1,6 +1,6 @@
 //! The bars of pending calls.
 ghost use Rattle.std.specs.Prelude.{◌≡◌, ◌<◌, ◌++◌, ◌∷◌, [], IfOk, OnOk, reverse};
-ghost use Rattle.ec_draw.specs.Open.{begins, begun_at, open_bars, open_bars_of, open_call};
+ghost use Rattle.ec_draw.specs.Open.{begins, begun_at, pending_bars, open_bars_of, open_call};
 
 use crate::Window;
 use ec_core::{Act, Entry, Run};
@@ -9,7 +9,7 @@ use std::alloc::{AllocError, Global};
 
 /// A pending call.
 #[derive(Clone, Copy, Debug, PartialEq, Eq)]
-pub struct Open {
+pub struct PendingBar {
     /// The worker whose call it is.
     pub worker: WorkerId,
     /// The act that began it.
@@ -41,13 +41,13 @@ fn begun_at(run: &Run, worker: WorkerId) -> usize
     0
 }
 
-/// Returns the call of a worker that is pending at the end of a run, if one is.
+/// Returns the call of a worker that is pending at the end of a run, `None` if there is none.
 #[tactic(auto, using(crate::proofs::Stepping::open_some, crate::proofs::Stepping::open_none))]
-fn open_call(run: &Run, worker: WorkerId) -> Option<Open>
+fn open_call(run: &Run, worker: WorkerId) -> Option<PendingBar>
     ensures { result ≡ open_call worker (reverse run.now.entries) }
 {
     match run.world().under_way(worker) {
-        Some(call) => Some(Open {
+        Some(call) => Some(PendingBar {
             worker,
             op: call.op(),
             first: begun_at(run, worker),
@@ -58,7 +58,7 @@ fn open_call(run: &Run, worker: WorkerId) -> Option<Open>
 
 /// Adds the pending call of a worker, by its number, if it has one that is shown.
 fn add_open(
-    bars: &mut Vec<Open>,
+    bars: &mut Vec<PendingBar>,
     run: &Run,
     window: Window,
     number: usize,
@@ -78,12 +78,17 @@ fn add_open(
     Ok(())
 }
 
-/// Returns the calls that are pending at the end of a run and are shown, by their workers.
+/// Returns the calls that are pending at the end of a run and are shown, in the order of their
+/// workers.
 #[tactic(auto, using(crate::proofs::Stepping::no_open, crate::proofs::Stepping::more_open))]
-pub(crate) fn open_bars(alloc: Global, run: &Run, window: Window) -> Result<Vec<Open>, AllocError>
-    ensures { IfOk result (λ os. os.items ≡ open_bars run.now.setup window run.now.entries) }
+pub(crate) fn pending_bars(
+    alloc: Global,
+    run: &Run,
+    window: Window,
+) -> Result<Vec<PendingBar>, AllocError>
+    ensures { IfOk result (λ os. os.items ≡ pending_bars run.now.setup window run.now.entries) }
 {
-    run.known();
+    run.invariant();
     let mut bars = Vec::new(alloc);
     for number in 0..run.setup().workers() {
         add_open(&mut bars, run, window, number)?;

@@ -1,34 +1,33 @@
 //! All shapes of a picture.
 ghost use Rattle.std.specs.Prelude.{◌≡◌, ◌++◌, IfOk, OnOk, map};
-ghost use Rattle.ec_draw.specs.Curves.{shown};
-ghost use Rattle.ec_draw.specs.Pictures.{kept, shapes};
+ghost use Rattle.ec_draw.specs.Curves.{curve_model};
+ghost use Rattle.ec_draw.specs.Pictures.{kept_shapes, shapes};
 
 use crate::curve::curves;
 use crate::dot::dots;
 use crate::finding::findings_of;
-use crate::finished::bars;
-use crate::open::open_bars;
+use crate::open::pending_bars;
 use crate::replay::world_at;
-use crate::{Arrow, Curve, Dot, Open, Shade, Window};
+use crate::{Arrow, Curve, Dot, PendingBar, Shade, Window};
 use ec_core::Run;
 use ec_heading::Group;
-use ec_order::Placed;
+use ec_order::{Placed, order_between};
 use std::alloc::{AllocError, Global};
 
 /// The shapes of a picture of a run, through a window.
 #[derive(Drop)]
 pub struct Picture {
     pub window: Window,
-    /// The completed calls that are shown, each with its point.
+    /// The completed calls that are shown, each with its linearization point.
     pub calls: Vec<Placed>,
     /// The pending calls that are shown.
-    pub begun: Vec<Open>,
+    pub begun: Vec<PendingBar>,
     /// The entries that are shown.
     pub dots: Vec<Dot>,
     /// The count of each eventcount and each sequencer at each moment that is shown, and then the
-    /// balance of each semaphore that is followed.
+    /// balance of each semaphore whose workers follow its rules.
     pub curves: Vec<Curve>,
-    /// The accepting tries that are shown.
+    /// The accepted tries that are shown.
     pub shades: Vec<Shade>,
     /// The deliveries that are shown.
     pub arrows: Vec<Arrow>,
@@ -36,8 +35,8 @@ pub struct Picture {
 
 /// Adds some curves.
 fn add_curves(curves: &mut Vec<Curve>, list: Vec<Curve>) -> Result<(), AllocError>
-    ensures { OnOk result (map shown curves.new.items ≡ map shown curves.old.items
-        ++ map shown list.items) }
+    ensures { OnOk result (map curve_model curves.new.items ≡ map curve_model curves.old.items
+        ++ map curve_model list.items) }
 {
     for curve in list {
         curves.push(curve)?;
@@ -45,15 +44,16 @@ fn add_curves(curves: &mut Vec<Curve>, list: Vec<Curve>) -> Result<(), AllocErro
     Ok(())
 }
 
-/// Returns the picture of a run through a window: its shapes are those of the run's history, with
-/// these groups. The run is as before, with want of memory too.
+/// Returns the picture of a run through a window: the shapes of the run's history, with these
+/// groups. It is an error only if memory runs out.
 pub fn picture_of(
     alloc: Global,
     run: &Run,
     groups: &[Group],
     window: Window,
 ) -> Result<Picture, AllocError>
-    ensures { IfOk result (λ p. kept p ≡ shapes run.now.setup groups.now window run.now.entries) }
+    ensures { IfOk result (λ p. kept_shapes p
+        ≡ shapes run.now.setup groups.now window run.now.entries) }
 {
     let found = findings_of(alloc, run, groups, window)?;
     let world = world_at(run, window.from);
@@ -61,8 +61,8 @@ pub fn picture_of(
     add_curves(&mut curves, found.curves)?;
     Ok(Picture {
         window,
-        calls: bars(alloc, run, window)?,
-        begun: open_bars(alloc, run, window)?,
+        calls: order_between(alloc, run, window.from, window.to)?,
+        begun: pending_bars(alloc, run, window)?,
         dots: dots(alloc, run, world, window)?,
         curves,
         shades: found.shades,

@@ -4,12 +4,12 @@ ghost use Rattle.ec_core.specs.Standing.{StandsFor};
 
 use ec_core::{Run, World};
 
-/// Returns the state after so many of the first entries of a run.
+/// Returns the state after the first `moment` entries of a run.
 pub(crate) fn world_at(run: &Run, moment: usize) -> World
     ensures setup { result.setup ≡ run.now.setup }
-    ensures stands { StandsFor result (take moment run.now.entries) }
+    ensures represents { StandsFor result (take moment run.now.entries) }
 {
-    run.known();
+    run.invariant();
     let mut world = World::open(run.setup().copy());
     let mut place = 0;
     for entry in run.entries() {

@@ -1,10 +1,12 @@
-//! The shades over accepting tries.
+//! The shades over accepted tries.
 ghost use Rattle.std.specs.Prelude.{◌≡◌, ◌<◌, ◌++◌, ◌∷◌, [], false, ℕ, IfOk, OnOk, Some, map};
 ghost use Rattle.std.specs.Prelude.{option_to_list, reverse, slice_get};
 ghost use Rattle.std.specs.List.{filter, flat_map};
 ghost use Rattle.std.specs.Option.{option_map};
 ghost use Rattle.ec_core.specs.Calls.{is_go};
-ghost use Rattle.ec_draw.specs.Shades.{AddsNewest, IsTrying, group_shades, is_in, seen, shaded};
+ghost use Rattle.ec_draw.specs.Shades.{AddsNewest, RepresentsTries, group_shades, is_in};
+ghost use Rattle.ec_draw.specs.Shades.{shade_model};
+ghost use Rattle.ec_draw.specs.Shades.{shade};
 ghost use Rattle.ec_draw.specs.Shades.{starts_after};
 ghost use Rattle.ec_heading.specs.declared.group.Group.TheVariants as groups;
 
@@ -15,15 +17,15 @@ use ec_database::{Accepted, DatabaseShape, TryView, VersionAudit, is_on};
 use std::alloc::{AllocError, Global};
 use std::marker::Model;
 
-/// From an entry to a later one, by their positions.
+/// The positions of an entry and of a later one.
 #[derive(Clone, Copy, Debug, PartialEq, Eq)]
 pub struct Span {
     pub first: usize,
     pub last: usize,
 }
 
-/// An accepting try of a database, and where it stands: from the first entry of its first call to
-/// its last entry.
+/// An accepted try of a database, and its span: from the first entry of its first call to its last
+/// entry.
 #[derive(Drop)]
 pub struct Shade {
     /// The eventcount of the database's starts.
@@ -32,21 +34,21 @@ pub struct Shade {
     pub accepted: Accepted,
 }
 
-/// Returns whether an act goes on with a call.
+/// Returns whether an act continues a call.
 fn is_go(act: &Act) -> bool
     ensures { result ≡ is_go act.now }
 {
     matches!(act, Act::Go)
 }
 
-/// Returns that no list has begun before the first entry.
+/// Returns the starts before the first entry of a run: 0 for each worker.
 fn no_starts() -> [usize; 16]
     ensures { (w : ℕ) → w < 16 → slice_get result w ≡ Some 0 }
 {
     [0; 16]
 }
 
-/// Notes where the list of a worker begins, if an entry begins it.
+/// Stores the position at which a worker's call sequence begins, if an entry begins one.
 fn note_start(
     shape: &DatabaseShape,
     finished: usize,
@@ -69,8 +71,8 @@ fn add_shade(
     window: Window,
     span: Span,
 ) -> Result<(), AllocError>
-    ensures { OnOk result (map seen shades.new.items ≡ map seen shades.old.items
-        ++ filter (is_in window) (shaded count span accepted.now ∷ [])) }
+    ensures { OnOk result (map shade_model shades.new.items ≡ map shade_model shades.old.items
+        ++ filter (is_in window) (shade count span accepted.now ∷ [])) }
 {
     if window.meets(span.first, span.last) {
         let accepted = accepted.to_accepted(*shades.allocator())?;
@@ -83,7 +85,8 @@ fn add_shade(
     Ok(())
 }
 
-/// Adds the shade of the try that was found since there were so many, if one was.
+/// Adds the shade of accepted try `before`, counted from 0, if the audit has found it. It is an
+/// error if the audit or the list ran out of memory.
 fn add_newest(
     shades: &mut Vec<Shade>,
     audit: &VersionAudit<'_>,
@@ -93,25 +96,25 @@ fn add_newest(
     span: Span,
 ) -> Result<(), AllocError>
     ensures { OnOk result
-        (AddsNewest count window span before audit.now (map seen shades.old.items)
-        (map seen shades.new.items)) }
+        (AddsNewest count window span before audit.now (map shade_model shades.old.items)
+        (map shade_model shades.new.items)) }
 {
     let Some(place) = before else {
         return Err(AllocError);
     };
-    if audit.found().is_none() {
+    if audit.accepted_count().is_none() {
         return Err(AllocError);
     }
-    if let Some(accepted) = audit.accepted(place) {
+    if let Some(accepted) = audit.accepted_at(place) {
         add_shade(shades, &accepted, count, window, span)?;
     }
     Ok(())
 }
 
-/// Returns the same, unless there was no memory for an earlier one. The answer is whether one is
-/// lacking.
-fn lacks_after(
-    lacks: bool,
+/// Adds a shade as `add_newest` does, unless an earlier addition failed. Returns whether any has
+/// failed.
+fn add_fails(
+    out_of_memory: bool,
     shades: &mut Vec<Shade>,
     audit: &VersionAudit<'_>,
     before: Option<usize>,
@@ -119,15 +122,15 @@ fn lacks_after(
     window: Window,
     span: Span,
 ) -> bool
-    ensures before { result ≡ false → lacks ≡ false }
+    ensures before { result ≡ false → out_of_memory ≡ false }
     ensures added { result ≡ false
-        → AddsNewest count window span before audit.now (map seen shades.old.items)
-        (map seen shades.new.items) }
+        → AddsNewest count window span before audit.now (map shade_model shades.old.items)
+        (map shade_model shades.new.items) }
 {
-    lacks || add_newest(shades, audit, before, count, window, span).is_err()
+    out_of_memory || add_newest(shades, audit, before, count, window, span).is_err()
 }
 
-/// The audit of a database in a walk over a run, where the list began that each worker is in, and
+/// The audit of a database in a pass over a run, where the call sequence of each worker began, and
 /// the shades so far.
 #[derive(Drop)]
 pub(crate) struct Tries<'a> {
@@ -136,29 +139,29 @@ pub(crate) struct Tries<'a> {
     window: Window,
     starts: [usize; 16],
     shades: Vec<Shade>,
-    lacks: bool,
+    out_of_memory: bool,
 }
 
 impl<'a> Model for Tries<'a> {
     ghost use Rattle.std.specs.Prelude.{map};
-    ghost use Rattle.ec_draw.specs.Shades.{Trying, seen};
+    ghost use Rattle.ec_draw.specs.Shades.{TriesModel, shade_model};
 
-    ghost Value = { Trying };
+    ghost Value = { TriesModel };
 
     ghost view = { λ s. record {
       audit = s.audit;
       shape = s.shape.now;
       window = s.window;
       starts = s.starts;
-      shades = map seen s.shades.items;
-      lacks = s.lacks;
+      shades = map shade_model s.shades.items;
+      out_of_memory = s.out_of_memory;
     } };
 }
 
 impl<'a> Audit for Tries<'a> {
     ghost use Rattle.ec_draw.specs.Shades.{TriesOn};
 
-    ghost stands = { TriesOn };
+    ghost represents = { TriesOn };
 
     fn take(&mut self, place: usize, op: &Act, entry: &Entry) {
         let Tries {
@@ -167,20 +170,28 @@ impl<'a> Audit for Tries<'a> {
             window,
             starts,
             shades,
-            lacks,
+            out_of_memory,
         } = self;
         let first = starts[entry.worker.get()];
         let span = Span { first, last: place };
-        let before = audit.found();
-        let finished = audit.finished(entry.worker);
+        let before = audit.accepted_count();
+        let finished = audit.completed_count(entry.worker);
         note_start(shape, finished, place, entry, starts);
         audit.take(place, op, entry);
-        *lacks = lacks_after(*lacks, shades, audit, before, shape.start(), *window, span);
+        *out_of_memory = add_fails(
+            *out_of_memory,
+            shades,
+            audit,
+            before,
+            shape.start(),
+            *window,
+            span,
+        );
     }
 }
 
 impl<'a> Tries<'a> {
-    /// Makes what is kept before the first entry of a run on this setup.
+    /// Returns the state before the first entry of a run with this setup.
     pub(crate) fn new(
         alloc: Global,
         shape: &'a DatabaseShape,
@@ -190,7 +201,7 @@ impl<'a> Tries<'a> {
         ensures shape { result.shape ≡ shape.now }
         ensures setup { result.audit.setup ≡ setup.now }
         ensures window { result.window ≡ window }
-        ensures first { IsTrying result [] }
+        ensures first { RepresentsTries result [] }
     {
         Tries {
             audit: VersionAudit::new(alloc, shape, setup),
@@ -198,15 +209,15 @@ impl<'a> Tries<'a> {
             window,
             starts: no_starts(),
             shades: Vec::new(alloc),
-            lacks: false,
+            out_of_memory: false,
         }
     }
 }
 
 /// Adds some shades.
 fn add_all(shades: &mut Vec<Shade>, list: Vec<Shade>) -> Result<(), AllocError>
-    ensures { OnOk result (map seen shades.new.items ≡ map seen shades.old.items
-        ++ map seen list.items) }
+    ensures { OnOk result (map shade_model shades.new.items ≡ map shade_model shades.old.items
+        ++ map shade_model list.items) }
 {
     for shade in list {
         shades.push(shade)?;
@@ -214,8 +225,7 @@ fn add_all(shades: &mut Vec<Shade>, list: Vec<Shade>) -> Result<(), AllocError>
     Ok(())
 }
 
-/// Adds the shades of a database, if its workers follow it, from what was kept of it in a walk over
-/// a whole run.
+/// Adds the shades of a database from its state after a whole run, if its workers follow its rules.
 pub(crate) fn add_database(
     shades: &mut Vec<Shade>,
     run: &Run,
@@ -224,8 +234,8 @@ pub(crate) fn add_database(
 ) -> Result<(), AllocError>
     requires shape { tries.shape ≡ shape.now }
     requires setup { tries.audit.setup ≡ run.now.setup }
-    requires stands { IsTrying tries (reverse run.now.entries) }
-    ensures { OnOk result (map seen shades.new.items ≡ map seen shades.old.items
+    requires represents { RepresentsTries tries (reverse run.now.entries) }
+    ensures { OnOk result (map shade_model shades.new.items ≡ map shade_model shades.old.items
         ++ group_shades run.now.setup tries.entry.window run.now.entries
         (groups.Database shape.now)) }
 {
@@ -233,12 +243,12 @@ pub(crate) fn add_database(
     let Tries {
         audit,
         shades: list,
-        lacks,
+        out_of_memory,
         ..
     } = tries;
     match audit.versions(run) {
         Ok(_accepted) => {
-            if lacks {
+            if out_of_memory {
                 return Err(AllocError);
             }
             add_all(shades, list)

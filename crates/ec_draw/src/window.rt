@@ -2,7 +2,7 @@
 ghost use Rattle.std.specs.Prelude.{◌≡◌, ◌≤◌};
 ghost use Rattle.ec_draw.specs.Windows.{column, columns, meets, shows};
 
-/// A picture has at most so many columns.
+/// The most columns of a picture.
 pub const COLUMNS_MAX: usize = 400;
 
 /// The entries that a picture shows, by their positions: from `from` on, and before `to`.
@@ -35,7 +35,8 @@ impl Window {
         self.to.saturating_sub(self.from).min(COLUMNS_MAX)
     }
 
-    /// Returns the column of a moment. Moments before and behind the window stand at its edges.
+    /// Returns the column of a moment. A moment before or after the window has the column of the
+    /// nearer edge.
     pub fn column(self, moment: usize) -> usize
         ensures value { result ≡ column self moment }
         ensures few { result ≤ 400 }

@@ -1,22 +1,18 @@
--- The lines of a text that are left behind one of them.
+-- The lines of a text that are left after one of them.
 use Rattle.std.proofs.Common.{◌≡◌, ◌≢◌, ◌<◌, ◌≤◌, ℕ, ◌+◌, List, [], ◌∷◌, ◌++◌, length, cond}
 use Rattle.std.proofs.Common.{if◌then◌else◌, Bool, true, false, eqb, Option, Some, None, refl, ap}
 use Rattle.std.proofs.Common.{sym, ◌∙◌, ne_eqb, arith, length-append, subst}
 use Rattle.std.specs.List.{onto_first, All}
 use Rattle.std.proofs.lemmas.List.Splits.{slice_split_at, slice_split_none}
 use Rattle.std.proofs.lemmas.List.Elements.{All-weaker}
-use Rattle.ec_explain.specs.Looking.{last_in, last_before, lines_of}
+use Rattle.ec_explain.specs.RelatedLine.{last_in, last_before, lines_of}
+use Rattle.ec_text.proofs.shared.WordLemmas.{onto_has}
 
 -- a list of lines has a first
 record HasFirst (bytes : List ℕ) : Type 0 where
   first : List ℕ
   others : List (List ℕ)
   is : lines_of bytes ≡ first ∷ others
-
-onto_has : (b : ℕ) (parts : List (List ℕ)) → (first : List ℕ) × (others : List (List ℕ))
-    × (onto_first b parts ≡ first ∷ others)
-onto_has b [] = (b ∷ [], [], refl)
-onto_has b (part ∷ parts) = (b ∷ part, parts, refl)
 
 has_first : (bytes : List ℕ) → HasFirst bytes
 has_first [] = record { first = []; others = []; is = refl }
@@ -37,7 +33,7 @@ goes_on : (p : List ℕ → Bool) (k : ℕ) (found : Option ℕ) (line : List �
     ≡ last_in p k found (line ∷ lines)
 goes_on p k found line lines first next is = rw is refl
 
--- one line more, of which it was asked whether it passes
+-- one more line, which was tested
 pub lasts_line : (p : List ℕ → Bool) (k m : ℕ) (found now : Option ℕ) (line more rest : List ℕ)
     → All (λ b. b ≢ 10) line → rest ≡ line ++ 10 ∷ more
     → m ≡ k + 1 → now ≡ (if p line then Some m else found) → last_in p m now (lines_of more)

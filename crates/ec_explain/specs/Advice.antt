@@ -1,4 +1,4 @@
--- What is said of each cause: one sentence on what is wrong, and one on how to mend it.
+-- What is written for each cause: one sentence on what is wrong, and one on how to mend it.
 use Rattle.std.specs.Prelude.{ℕ, List, ◌++◌, codes}
 use Rattle.ec_explain.specs.declared.cause.Cause.{Cause}
 use Rattle.ec_explain.specs.declared.cause.Cause.TheVariants as causes

@@ -1,5 +1,5 @@
--- What is wrong with a line: each cause is a test of the line and of what came before it, and of
--- those that hold the first is told.
+-- What is wrong with a line: each cause is a test of the line and of what came before it, and the
+-- first that holds is reported.
 use Rattle.std.specs.Prelude.{ℕ, ◌+◌, ◌-◌, ◌==◌, ◌||◌, ◌&&◌, not, Bool, true, false, nat_lt, List}
 use Rattle.std.specs.Prelude.{[], ◌∷◌, length, take, drop, Option, Some, None, is_some, is_none}
 use Rattle.std.specs.Prelude.{unwrap_or, bytes_eq, codes, if◌then◌else◌}
@@ -7,21 +7,22 @@ use Rattle.std.specs.List.{list_any, list_all}
 use Rattle.std.specs.Char.{is_ascii_alphabetic}
 use Rattle.ec_count.specs.Tables.{first_that}
 use Rattle.ec_count.specs.Reserved.{is_name_byte}
-use Rattle.ec_text.specs.Words.{words_of, number_of, is_number_form}
+use Rattle.ec_text.specs.Words.{words_of, number_in_word, is_number_form}
 use Rattle.ec_heading.specs.declared.heading.HeadFault.{HeadFault}
 use Rattle.ec_heading.specs.declared.heading.HeadFault.TheVariants as heads
-use Rattle.ec_heading.specs.Headed.{Headed}
+use Rattle.ec_heading.specs.HeadingModel.{HeadingModel}
 use Rattle.ec_heading.specs.Lists.{worker_in}
-use Rattle.ec_heading.specs.Spelled.{Named, event_in, sequencer_in, cell_in_word}
-use Rattle.ec_heading.specs.Sorts.{sort_of}
-use Rattle.ec_heading.specs.Versions.{has_hand}
+use Rattle.ec_heading.specs.EntryWords.{NameTable, event_in, sequencer_in, cell_in_word}
+use Rattle.ec_heading.specs.DeclKinds.{sort_of}
+use Rattle.ec_heading.specs.Versions.{has_transfer}
 use Rattle.ec_explain.specs.declared.cause.Cause.{Cause}
 use Rattle.ec_explain.specs.declared.cause.Cause.TheVariants as causes
 use Rattle.ec_explain.specs.declared.site.Site.{Site}
 use Rattle.ec_explain.specs.declared.site.Site.TheVariants as sites
-use Rattle.ec_explain.specs.TextLines.{place_of}
-use Rattle.ec_explain.specs.Places.{word_at, behind_first, start_of, is_among, names_before}
+use Rattle.ec_explain.specs.TextLines.{position_or_end}
+use Rattle.ec_explain.specs.Places.{word_at, behind_first, word_start, is_among, names_before}
 use Rattle.ec_explain.specs.Places.{listed_before, full_before}
+use Rattle.calls_text.specs.Causes.{last_byte, has_space as has_blank, has_tab}
 
 -- ANY LINE
 
@@ -29,24 +30,12 @@ use Rattle.ec_explain.specs.Places.{listed_before, full_before}
 abbrev pub begins_with : List ℕ → List ℕ → Bool
 begins_with bytes line = bytes_eq (take (length bytes) line) bytes
 
--- the last byte, if there is one
-abbrev pub last_byte : List ℕ → List ℕ
-last_byte line = drop (length line - 1) line
-
-abbrev pub has_tab : List ℕ → Bool
-has_tab line = list_any (λ b. b == 9) line
-
--- whether a word of the line is empty: two spaces stand in a row, or one at its beginning or its
--- end
-abbrev pub has_blank : List ℕ → Bool
-has_blank line = list_any (λ w. length w == 0) (words_of line)
-
 -- whether it begins as comments do elsewhere
 abbrev pub is_comment : List ℕ → Bool
 is_comment line = begins_with (codes "#") line || begins_with (codes "//") line
     || begins_with (codes ";") line
 
--- what is wrong with the bytes of a line, wherever it stands
+-- what is wrong with the bytes of a line, wherever the line is
 abbrev pub line_cause : List ℕ → Option Cause
 line_cause line = first_that (
     (nat_lt 8192 (length line), causes.Long)
@@ -95,7 +84,7 @@ name_cause w = unwrap_or (first_that (
     ∷ (has_name_form w, causes.ReservedName)
     ∷ [])) causes.BadName
 
--- what is wrong with a line of a heading whose least fault is this, and whose new name is this word
+-- what is wrong with a line of a header, by its lowest fault and its new name
 abbrev pub head_cause : HeadFault → List ℕ → Cause
 head_cause heads.BadLine w = causes.DeclarationForm
 head_cause heads.BadName w = name_cause w
@@ -106,11 +95,11 @@ head_cause heads.TooMany w = causes.TooMany
 head_cause heads.TwoRoles w = causes.TwoRoles
 head_cause heads.Memory w = causes.Other
 
--- the place of the first word that is no name, behind the word `workers`
+-- the index of the first word that is no name, after the word `workers`
 abbrev pub bad_name_place : List ℕ → ℕ
 bad_name_place line = 1 + names_before (behind_first (words_of line))
 
--- the place of the new name in a line of a heading that has one, or of the first word that should
+-- the index of the new name in a line of a header that has one, or of the first word that should
 -- be one
 abbrev pub new_name_place : List ℕ → ℕ
 new_name_place line = if bytes_eq (word_at 0 line) (codes "workers") then bad_name_place line else 1
@@ -123,7 +112,7 @@ workers_cause fault line = unwrap_or (first_that (
 
 -- DECLARATIONS
 
-abbrev pub declaration_cause : Headed → HeadFault → List ℕ → Cause
+abbrev pub declaration_cause : HeadingModel → HeadFault → List ℕ → Cause
 declaration_cause h fault line = unwrap_or (first_that (
     (is_some (worker_in h.words (word_at 0 line)), causes.EntryBeforeRun)
     ∷ (is_none (sort_of (word_at 0 line)), causes.NoDeclaration)
@@ -139,15 +128,15 @@ act_words verb =
     then Some 2
     else (if is_among (codes "await" ∷ codes "put" ∷ codes "hand" ∷ []) verb then Some 3 else None))
 
--- where the sign of equality stands behind such an act
+-- the index at which a line has the word `=`, by its act
 abbrev pub equals_place : List ℕ → ℕ
 equals_place line = 1 + unwrap_or (act_words (word_at 1 line)) 1
 
 abbrev pub is_hand : List ℕ → Bool
 is_hand verb = bytes_eq verb (codes "hand")
 
--- whether a word is what an act names first: nothing, a sequencer, a cell, or an eventcount
-abbrev pub has_object : Named → List ℕ → List ℕ → Bool
+-- whether a word is an object that the act may name: none, a sequencer, a cell or an eventcount
+abbrev pub has_object : NameTable → List ℕ → List ℕ → Bool
 has_object names verb w =
     if bytes_eq verb (codes "go") then true
     else (if bytes_eq verb (codes "ticket") then is_some (sequencer_in names w)
@@ -156,22 +145,22 @@ has_object names verb w =
 
 -- whether an act has a value, and the word is none
 abbrev pub lacks_value : List ℕ → List ℕ → Bool
-lacks_value verb w = is_among (codes "await" ∷ codes "put" ∷ []) verb && is_none (number_of w)
+lacks_value verb w = is_among (codes "await" ∷ codes "put" ∷ []) verb && is_none (number_in_word w)
 
 abbrev pub is_reply : List ℕ → Bool
-is_reply w = is_among (codes "done" ∷ codes "pending" ∷ []) w || is_some (number_of w)
+is_reply w = is_among (codes "done" ∷ codes "pending" ∷ []) w || is_some (number_in_word w)
 
 -- what is wrong with the worker, the act and its object
-abbrev pub act_cause : Headed → List ℕ → Option Cause
+abbrev pub act_cause : HeadingModel → List ℕ → Option Cause
 act_cause h line = first_that (
     (is_none (worker_in h.words (word_at 0 line)), causes.NoWorker)
     ∷ (is_none (act_words (word_at 1 line)), causes.NoAct)
-    ∷ (is_hand (word_at 1 line) && not (has_hand h.version), causes.HandInOne)
+    ∷ (is_hand (word_at 1 line) && not (has_transfer h.version), causes.HandInOne)
     ∷ (not (has_object h.words (word_at 1 line) (word_at 2 line)), causes.NoObject)
     ∷ [])
 
--- what is wrong with what stands behind it
-abbrev pub reply_cause : Headed → List ℕ → Cause
+-- what is wrong with what follows the object
+abbrev pub reply_cause : HeadingModel → List ℕ → Cause
 reply_cause h line = unwrap_or (first_that (
     (lacks_value (word_at 1 line) (word_at 3 line), causes.NoValue)
     ∷ (is_hand (word_at 1 line) && is_none (worker_in h.words (word_at 3 line)), causes.NoReceiver)
@@ -179,12 +168,12 @@ reply_cause h line = unwrap_or (first_that (
     ∷ (not (is_reply (word_at (equals_place line + 1) line)), causes.NoReply)
     ∷ [])) causes.EntryWords
 
-abbrev pub entry_cause : Headed → List ℕ → Cause
+abbrev pub entry_cause : HeadingModel → List ℕ → Cause
 entry_cause h line = unwrap_or (act_cause h line) (reply_cause h line)
 
--- A LINE IN ITS PLACE
+-- A LINE AT ITS SITE
 
--- what is wrong with a line where it stands, if its bytes alone don't show it
+-- what is wrong with a line at its site, if its bytes don't show it by themselves
 abbrev pub site_cause : Site → List ℕ → Cause
 site_cause sites.First line = first_cause line
 site_cause sites.Limit line = limit_cause line
@@ -197,7 +186,7 @@ site_cause sites.Script line = causes.ScriptForm
 site_cause sites.Calls line = causes.CallsForm
 site_cause sites.Unknown line = causes.Other
 
--- what is wrong with a line where it stands
+-- what is wrong with a line at its site
 abbrev pub cause_at : Site → List ℕ → Cause
 cause_at site line = unwrap_or (line_cause line) (site_cause site line)
 
@@ -208,15 +197,15 @@ name_place (sites.Workers fault) line = bad_name_place line
 name_place (sites.Heading fault) line = new_name_place line
 name_place _ line = 1
 
--- the place of the first word behind the name that may not be listed
-abbrev pub first_unlisted : Named → List ℕ → ℕ
+-- the index of the first word after a declaration's name that may not follow it
+abbrev pub first_unlisted : NameTable → List ℕ → ℕ
 first_unlisted names line = 2 + listed_before names (behind_first (behind_first (words_of line)))
 
 abbrev pub unknown_place : Site → List ℕ → ℕ
 unknown_place (sites.Declaration h fault) line = first_unlisted h.now.words line
 unknown_place _ line = 2
 
--- the word that shows the cause, by its place
+-- the index of the word that shows the cause
 abbrev pub word_place : Site → Cause → List ℕ → ℕ
 word_place site causes.TwoSpaces line = full_before (words_of line)
 word_place site causes.LimitWords line = 2
@@ -239,11 +228,11 @@ word_place site causes.NoReply line = equals_place line + 1
 word_place site causes.EntryWords line = equals_place line + 2
 word_place site _ line = 0
 
--- if the line shows it, by the bytes before: at a byte that may not stand there, or where a word
--- begins
+-- where a line shows the cause, as the number of bytes before it: at a byte that may not be there,
+-- or where a word begins
 abbrev pub place_at : Site → Cause → List ℕ → ℕ
 place_at site causes.Long line = 8192
 place_at site causes.Return line = length line - 1
 place_at site causes.SpaceAfter line = length line - 1
-place_at site causes.Tab line = place_of 9 line
-place_at site cause line = start_of (word_place site cause line) line
+place_at site causes.Tab line = position_or_end 9 line
+place_at site cause line = word_start (word_place site cause line) line

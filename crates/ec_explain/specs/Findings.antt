@@ -1,18 +1,19 @@
--- What is found wrong with a text, and how it is told.
+-- What is found wrong with a text, and how it is written.
 use Rattle.std.specs.Prelude.{ℕ, ◌+◌, ◌-◌, ◌&&◌, nat_le, nat_lt, List, [], ◌∷◌, ◌++◌, take, drop}
 use Rattle.std.specs.Prelude.{length, min, Option, Some, None, replicate, bytes_eq, ◌==◌, codes}
 use Rattle.std.specs.Prelude.{decimal, if◌then◌else◌}
 use Rattle.std.specs.List.{flat_map}
 use Rattle.ec_explain.specs.declared.cause.Cause.{Cause}
 use Rattle.ec_explain.specs.declared.cause.Cause.TheVariants as causes
-use Rattle.ec_explain.specs.declared.finding.Spot.{Spot}
+use Rattle.ec_explain.specs.declared.finding.LinePosition.{LinePosition}
 use Rattle.ec_explain.specs.declared.finding.Finding.{Finding}
 use Rattle.ec_explain.specs.declared.site.Site.{Site}
 use Rattle.ec_explain.specs.declared.site.Site.TheVariants as sites
 use Rattle.ec_explain.specs.Advice.{sentence, remedy}
-use Rattle.ec_explain.specs.Causes.{cause_at, place_at, equals_place, last_byte, line_cause}
-use Rattle.ec_explain.specs.Looking.{call_line, declaration_line, right_line}
-use Rattle.ec_explain.specs.Places.{start_of, word_at}
+use Rattle.ec_explain.specs.Causes.{cause_at, place_at, equals_place, line_cause}
+use Rattle.calls_text.specs.Causes.{last_byte}
+use Rattle.ec_explain.specs.RelatedLine.{call_line, declaration_line, right_line}
+use Rattle.ec_explain.specs.Places.{word_start, word_at}
 use Rattle.ec_heading.specs.Spelling.{reply_word}
 use Rattle.ec_core.specs.declared.act.Reply.{Reply}
 use Rattle.ec_explain.specs.TextLines.{line_at, lines_in}
@@ -20,8 +21,8 @@ use Rattle.ec_core.specs.declared.act.Refusal.{Refusal}
 use Rattle.ec_core.specs.declared.act.Refusal.TheVariants as refusals
 
 -- this cause, at this place of the line with this number
-abbrev pub shown_at : Cause → ℕ → ℕ → Finding
-shown_at cause n place =
+abbrev pub finding_at : Cause → ℕ → ℕ → Finding
+finding_at cause n place =
     record {
       cause = cause;
       spot = Some (record { number = n; place = place });
@@ -30,22 +31,23 @@ shown_at cause n place =
           None;
     }
 
--- what is wrong with a rejected line, of this number, where it stands
-abbrev pub found_at : Site → ℕ → List ℕ → Finding
-found_at site n line = shown_at (cause_at site line) n (place_at site (cause_at site line) line)
+-- what is wrong with a rejected line of this number, at this site
+abbrev pub finding_of_line : Site → ℕ → List ℕ → Finding
+finding_of_line site n line =
+    finding_at (cause_at site line) n (place_at site (cause_at site line) line)
 
--- the cause that the bytes of a line show wherever it stands; or, if they show none, this one, at
--- this place
+-- the cause that the bytes of a line show by themselves; or, if they show none, this one, at this
+-- place
 abbrev pub lined_by : Option Cause → Cause → ℕ → ℕ → List ℕ → Finding
-lined_by None cause n place line = shown_at cause n place
-lined_by (Some c) cause n place line = shown_at c n (place_at sites.Unknown c line)
+lined_by None cause n place line = finding_at cause n place
+lined_by (Some c) cause n place line = finding_at c n (place_at sites.Unknown c line)
 
-abbrev pub lined_at : Cause → ℕ → ℕ → List ℕ → Finding
-lined_at cause n place line = lined_by (line_cause line) cause n place line
+abbrev pub finding_by_bytes : Cause → ℕ → ℕ → List ℕ → Finding
+finding_by_bytes cause n place line = lined_by (line_cause line) cause n place line
 
 -- this cause, which no line shows
-abbrev pub of_whole : Cause → Finding
-of_whole cause = record { cause = cause; spot = None; right = None; see = None }
+abbrev pub finding_of_text : Cause → Finding
+finding_of_text cause = record { cause = cause; spot = None; right = None; see = None }
 
 -- why an act is refused; in a trace what an entry names is declared, and each value small enough
 abbrev pub refusal_cause : Refusal → Cause
@@ -71,9 +73,9 @@ reason_line refusals.AtLimit n text = Some 2
 reason_line _ n text = None
 
 -- the line of a refused act shows it at the act
-abbrev pub refused_at : ℕ → Refusal → List ℕ → Finding
-refused_at n refusal text =
-    record (shown_at (refusal_cause refusal) n (start_of 1 (line_at n text)))
+abbrev pub finding_of_refusal : ℕ → Refusal → List ℕ → Finding
+finding_of_refusal n refusal text =
+    record (finding_at (refusal_cause refusal) n (word_start 1 (line_at n text)))
     { see = reason_line refusal n text }
 
 -- the line by which the call of line n began, if that is another
@@ -82,35 +84,35 @@ begun_line n text = if bytes_eq (word_at 1 (line_at n text)) (codes "go") then c
     else None
 
 -- the line of an act that has another reply shows it at the reply
-abbrev pub wrong_reply_at : ℕ → Reply → List ℕ → Finding
-wrong_reply_at n right text =
-    record (shown_at causes.WrongReply n
-    (start_of (equals_place (line_at n text) + 1) (line_at n text)))
+abbrev pub finding_of_wrong_reply : ℕ → Reply → List ℕ → Finding
+finding_of_wrong_reply n right text =
+    record (finding_at causes.WrongReply n
+    (word_start (equals_place (line_at n text) + 1) (line_at n text)))
     { right = Some right; see = begun_line n text }
 
--- what is missing from a text that stops too early: all of it; the LF of its last line; or else
--- this
-abbrev pub stopped : Cause → List ℕ → Finding
-stopped cause text =
-    if length text == 0 then of_whole causes.EmptyText
-    else (if bytes_eq (last_byte text) (10 ∷ []) then of_whole cause
-    else shown_at causes.NoLastLf (lines_in text + 1) (length (line_at (lines_in text + 1) text)))
+-- what is missing from a text that stops too early: all of it, the LF of its last line, or
+-- otherwise this
+abbrev pub find_early_end : Cause → List ℕ → Finding
+find_early_end cause text =
+    if length text == 0 then finding_of_text causes.EmptyText
+    else (if bytes_eq (last_byte text) (10 ∷ []) then finding_of_text cause
+    else finding_at causes.NoLastLf (lines_in text + 1) (length (line_at (lines_in text + 1) text)))
 
 -- what is missing from a trace that stops before its end
-abbrev pub unfinished : List ℕ → Finding
-unfinished text = stopped causes.NoEnd text
+abbrev pub find_missing_end : List ℕ → Finding
+find_missing_end text = find_early_end causes.NoEnd text
 
 -- THE LINE AND THE MARK
 
--- a byte as it is shown: a question mark for each that is no plain letter
+-- a byte as it is shown: a question mark for each that is no printable ASCII
 abbrev pub plain : ℕ → ℕ
 plain b = if nat_le 32 b && nat_lt b 127 then b else 63
 
 abbrev pub plain_byte : ℕ → List ℕ
 plain_byte b = plain b ∷ []
 
--- the first byte that is shown of a line: of a line in which the place stands far behind, some
--- bytes before the place
+-- the index of the first byte that is shown of a line: 0, or 60 bytes before a place that is far
+-- from the beginning
 abbrev pub shown_from : ℕ → ℕ
 shown_from place = if nat_lt place 80 then 0 else place - 60
 
@@ -126,16 +128,16 @@ abbrev pub spaces : ℕ → List ℕ
 spaces n = replicate n 32
 
 -- the number of a line, and what is shown of the line
-unfoldable pub line_text : Spot → List ℕ → List ℕ
+unfoldable pub line_text : LinePosition → List ℕ → List ℕ
 line_text s line =
     codes "line " ++ decimal s.number ++ codes ":\n    "
     ++ flat_map plain_byte (shown_bytes s.place line) ++ codes "\n    "
 
 -- the line, and a mark under the place
-unfoldable pub spot_text : Spot → List ℕ → List ℕ
+unfoldable pub spot_text : LinePosition → List ℕ → List ℕ
 spot_text s line = line_text s line ++ spaces (s.place - shown_from s.place) ++ codes "^\n"
 
-abbrev pub spot_or_none : Option Spot → List ℕ → List ℕ
+abbrev pub spot_or_none : Option LinePosition → List ℕ → List ℕ
 spot_or_none None text = []
 spot_or_none (Some s) text = spot_text s (line_at s.number text)
 
@@ -143,7 +145,7 @@ spot_or_none (Some s) text = spot_text s (line_at s.number text)
 unfoldable pub sentence_text : Cause → List ℕ
 sentence_text cause = sentence cause ++ codes "\n"
 
--- the right reply, if the reply alone is wrong
+-- the right reply, if only the reply is wrong
 abbrev pub right_text : Option Reply → List ℕ
 right_text None = []
 right_text (Some right) = codes "The right reply is " ++ reply_word right ++ codes ".\n"
@@ -151,7 +153,7 @@ right_text (Some right) = codes "The right reply is " ++ reply_word right ++ cod
 unfoldable pub see_front : ℕ → List ℕ
 see_front n = codes "See line " ++ decimal n ++ codes ": "
 
--- another line that shows why, with its number, and what is shown of it for a place
+-- another line that shows why: its number, and what is shown of it for a place
 unfoldable pub line_seen : ℕ → ℕ → List ℕ → List ℕ
 line_seen n place line = see_front n ++ flat_map plain_byte (shown_bytes place line) ++ codes "\n"
 
@@ -167,10 +169,10 @@ remedy_text cause = remedy cause ++ codes "\n"
 unfoldable pub why_text : Finding → List ℕ → List ℕ
 why_text f text = sentence_text f.cause ++ right_text f.right ++ see_text f.see text
 
--- the line where there is one, what is wrong, and why
+-- the line if there is one, what is wrong, and why
 unfoldable pub found_text : Finding → List ℕ → List ℕ
 found_text f text = spot_or_none f.spot text ++ why_text f text
 
--- the line where there is one, what is wrong, why, what more is known of it, and how to mend it
+-- the line if there is one, what is wrong, why, what more is known of it, and how to mend it
 unfoldable pub finding_text : Finding → List ℕ → List ℕ → List ℕ
 finding_text f more text = found_text f text ++ more ++ remedy_text f.cause

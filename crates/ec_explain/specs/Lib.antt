@@ -1,6 +1,6 @@
 pub mod Places
 pub mod TextLines
-pub mod Looking
+pub mod RelatedLine
 pub mod Causes
 pub mod Advice
 pub mod Findings

@@ -1,4 +1,4 @@
--- Who asks for what in a line, and who has the right to it.
+-- Which right the act of a line needs, and who has it.
 use Rattle.std.specs.Prelude.{ℕ, zero, suc, List, [], ◌∷◌, ◌++◌, Option, Some, None, option_map}
 use Rattle.std.specs.Prelude.{bytes_eq, codes, if◌then◌else◌}
 use Rattle.std.specs.Option.{option_and_then}
@@ -7,18 +7,18 @@ use Rattle.ec_core.specs.Acceptance.{has_right}
 use Rattle.ec_core.specs.declared.act.Act.{Act}
 use Rattle.ec_core.specs.declared.act.Act.TheVariants as acts
 use Rattle.ec_core.specs.declared.act.Entry.{Entry}
-use Rattle.ec_heading.specs.Headed.{Headed}
+use Rattle.ec_heading.specs.HeadingModel.{HeadingModel}
 use Rattle.ec_heading.specs.Lists.{worker_in}
-use Rattle.ec_heading.specs.Spelled.{Named, event_in, sequencer_in, cell_in_word}
+use Rattle.ec_heading.specs.EntryWords.{NameTable, event_in, sequencer_in, cell_in_word}
 use Rattle.ec_explain.specs.declared.rights.Asked.{Asked}
 use Rattle.ec_explain.specs.Places.{word_at, is_among}
 
--- WHO ASKS
+-- WHICH RIGHT IT NEEDS
 
--- the act of a verb on what a word names; of a hand the advance, of an await the read, and of a put
--- that of 0, which need the same right
-abbrev pub act_of : Named → List ℕ → List ℕ → Option Act
-act_of names verb w =
+-- an act that needs the same right as that of a verb on what a word names: for a `hand` the
+-- advance, for an await the read, and for a put that of 0
+abbrev pub parse_act : NameTable → List ℕ → List ℕ → Option Act
+parse_act names verb w =
     if bytes_eq verb (codes "go") then Some acts.Go
     else (if is_among (codes "advance" ∷ codes "hand" ∷ []) verb
     then option_map acts.Advance (event_in names w)
@@ -32,15 +32,15 @@ act_of names verb w =
 abbrev pub asked_by : Option Act → ℕ → Option Asked
 asked_by act w = option_map (λ a. record { worker = w; act = a }) act
 
--- who asks in a line, and for what
-unfoldable pub asked_in : Headed → List ℕ → Option Asked
+-- the worker of a line, and the right that its act needs
+unfoldable pub asked_in : HeadingModel → List ℕ → Option Asked
 asked_in h line =
-    option_and_then (asked_by (act_of h.words (word_at 1 line) (word_at 2 line)))
+    option_and_then (asked_by (parse_act h.words (word_at 1 line) (word_at 2 line)))
     (worker_in h.words (word_at 0 line))
 
--- WHO MAY
+-- WHO HAS IT
 
--- those of the first n workers that have the right to an act at the end of a past
+-- those of the first n workers that have the right to an act after a reversed history
 unfoldable pub holders_of : Tables → List Entry → Act → ℕ → List ℕ
 holders_of t past act zero = []
 holders_of t past act (suc n) =

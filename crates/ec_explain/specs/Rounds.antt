@@ -1,5 +1,5 @@
 -- What a read or an await has read in its round: of each component its number, its signaller, and
--- the count, each at its own moment.
+-- the total of the eventcount, when the component was read.
 use Rattle.std.specs.Prelude.{ℕ, zero, suc, nat_lt, Bool, false, List, [], ◌∷◌, ◌++◌, length}
 use Rattle.std.specs.Prelude.{Option, Some, None, option_map, option_to_list, unwrap_or}
 use Rattle.std.specs.Prelude.{if◌then◌else◌}
@@ -10,12 +10,13 @@ use Rattle.ec_core.specs.declared.act.Act.TheVariants.{Go}
 use Rattle.ec_core.specs.declared.act.Entry.{Entry}
 use Rattle.ec_core.specs.Calls.{CallSoFar, is_go, under_way}
 use Rattle.ec_core.specs.Counts.{component_total, signaller_at, total}
-use Rattle.ec_core.specs.Rounds.{event_or, next_component, width}
+use Rattle.ec_core.specs.Rounds.{event_or, next_component, component_count}
 use Rattle.ec_explain.specs.declared.round.Look.{Look}
 
--- what component c of e has counted after a past, if there is one
+-- the count of component c of e after a reversed history, if there is one
 abbrev pub held_in : Tables → ℕ → ℕ → List Entry → Option ℕ
-held_in t e c past = if nat_lt c (width t e) then Some (component_total t e c past) else None
+held_in t e c past =
+    if nat_lt c (component_count t e) then Some (component_total t e c past) else None
 
 -- the total of e, if it is declared
 abbrev pub total_in : Tables → ℕ → List Entry → Option ℕ
@@ -24,7 +25,7 @@ total_in t e past = if nat_lt e (length t.events) then Some (total e past) else 
 abbrev pub total_of : Tables → ℕ → List Entry → ℕ
 total_of t e past = unwrap_or (total_in t e past) 0
 
--- what an entry finds at the end of a past that reads component c of e
+-- what an entry that reads component c of e finds after a reversed history
 abbrev pub look_at : Tables → ℕ → ℕ → List Entry → Look
 look_at t e c past = record {
   component = c;
@@ -34,8 +35,8 @@ look_at t e c past = record {
   total = total_of t e past;
 }
 
--- what was found of components 0 to i - 1 of e, of which the last was read at the first of the
--- moments, and so on back, as `sum_read` adds them
+-- what was found of components 0 to i - 1 of e: the last was read at the first of the moments, and
+-- so on back, as `sum_read` adds them
 unfoldable pub looks_in : Tables → ℕ → ℕ → List (List Entry) → List Look
 looks_in t e zero moments = []
 looks_in t e (suc i) [] = []
@@ -46,17 +47,17 @@ abbrev pub looks_of : Tables → CallSoFar → List Look
 looks_of t call =
     looks_in t (event_or call.op) (next_component t (event_or call.op) call.moments) call.moments
 
--- what the round has found that w is in after a past
+-- what the round that w is in after a reversed history has found
 abbrev pub looks_so_far : Tables → ℕ → List Entry → List Look
 looks_so_far t w past = option_map_or (looks_of t) (under_way w past) []
 
--- the same with one more entry of the call at the end of a past, as `read_reply` adds it
+-- the same with one more entry of the call after a reversed history, as `read_reply` adds it
 abbrev pub looks_through : Tables → Act → List Entry → List (List Entry) → List Look
 looks_through t op past moments =
     looks_in t (event_or op) (suc (next_component t (event_or op) moments)) (past ∷ moments)
 
--- what the round has found with an act of w at the end of a past: a go goes on with the call, and a
--- read or an await begins one
+-- what the round has found with an act of w after a reversed history: a `go` continues the call,
+-- and a read or an await begins one
 abbrev pub looks_with : Tables → ℕ → List Entry → Act → List Look
 looks_with t w past Go =
     option_map_or (λ call. looks_through t call.op past call.moments) (under_way w past) []
@@ -64,7 +65,7 @@ looks_with t w past act = looks_through t act past []
 
 -- ONE ENTRY
 
--- what an act of w finds at the end of a past
+-- what an act of w finds after a reversed history
 abbrev pub look_of : Tables → List Entry → CallSoFar → Look
 look_of t past call =
     look_at t (event_or call.op) (next_component t (event_or call.op) call.moments) past
@@ -73,18 +74,18 @@ abbrev pub next_look : Tables → ℕ → List Entry → Act → Option Look
 next_look t w past Go = option_map (look_of t past) (under_way w past)
 next_look t w past act = Some (look_at t (event_or act) 0 past)
 
--- whether w is within a round after a past
+-- whether w is within a round after a reversed history
 abbrev pub has_begun : Tables → CallSoFar → Bool
 has_begun t call = nat_lt 0 (next_component t (event_or call.op) call.moments)
 
 abbrev pub is_in_round : Tables → ℕ → List Entry → Bool
 is_in_round t w past = option_map_or (has_begun t) (under_way w past) false
 
--- what is kept of what was found, if a go adds to it, and any other act begins anew
-abbrev pub kept_by : Act → List Look → List Look
-kept_by act looks = if is_go act then looks else []
+-- what remains of what was found: a `go` adds to it, and any other act begins again
+abbrev pub looks_continued_by : Act → List Look → List Look
+looks_continued_by act looks = if is_go act then looks else []
 
--- what is kept with an act that finds this, if its round goes on
-abbrev pub kept : Bool → Act → Option Look → List Look → List Look
-kept goes_on act look looks =
-    if goes_on then kept_by act looks ++ option_to_list look else []
+-- what was found, with an act that finds this, if its round goes on
+abbrev pub looks_after_act : Bool → Act → Option Look → List Look → List Look
+looks_after_act goes_on act look looks =
+    if goes_on then looks_continued_by act looks ++ option_to_list look else []

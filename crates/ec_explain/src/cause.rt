@@ -1,8 +1,8 @@
-//! What is wrong with a line.
+//! What may be wrong with a line or a text, in words.
 ghost use Rattle.std.specs.Prelude.{◌≡◌};
 ghost use Rattle.ec_explain.specs.Advice.{sentence, remedy};
 
-/// What is wrong with a rejected line.
+/// What is wrong with a rejected line or text.
 #[derive(Clone, Copy, Debug, PartialEq, Eq)]
 pub enum Cause {
     /// It has more than 8192 bytes.
@@ -13,7 +13,7 @@ pub enum Cause {
     Return,
     /// It has a tab.
     Tab,
-    /// It has no byte.
+    /// It is empty.
     Empty,
     /// It looks like a comment.
     Comment,
@@ -23,13 +23,13 @@ pub enum Cause {
     SpaceAfter,
     /// It has two spaces in a row.
     TwoSpaces,
-    /// It is the first line of no version.
+    /// The first line has a version that does not exist.
     OtherVersion,
-    /// It is the first line of no text.
+    /// The first line does not say what the text is.
     NoHeader,
     /// It is the second line, and gives no limit.
     NoLimit,
-    /// The limit is not one number.
+    /// The limit is not exactly one word.
     LimitWords,
     /// The limit is no number.
     LimitNoNumber,
@@ -51,11 +51,11 @@ pub enum Cause {
     UnknownName,
     /// The number is out of its range.
     BadNumber,
-    /// There are too many.
+    /// There are too many workers or objects.
     TooMany,
-    /// A worker stands in both lists.
+    /// A worker is in both lists.
     TwoRoles,
-    /// It begins with a worker, and no run came before it.
+    /// It begins with a worker, and no line `run` came before it.
     EntryBeforeRun,
     /// Its first word begins no declaration.
     NoDeclaration,
@@ -65,41 +65,41 @@ pub enum Cause {
     NoWorker,
     /// Its second word is no act.
     NoAct,
-    /// Version 1 has no hand.
+    /// Version 1 has no `hand`.
     HandInOne,
-    /// The act's object is not declared.
+    /// The act may not name this object, or it is not declared.
     NoObject,
     /// The value is no number.
     NoValue,
-    /// The receiver is no worker.
+    /// The receiver of a `hand` is no worker.
     NoReceiver,
-    /// No sign = follows the act.
+    /// No `=` follows the act.
     NoEquals,
-    /// The reply is none.
+    /// The word after `=` is no reply.
     NoReply,
     /// Words follow the reply.
     EntryWords,
-    /// It stands after the end.
+    /// It is after the line `end`.
     AfterEnd,
     /// The worker has a pending call.
     Busy,
     /// The worker has no pending call.
     Idle,
-    /// The worker lacks the right.
+    /// The worker of an entry lacks the right.
     NoRight,
     /// The count is at the limit.
     AtLimit,
-    /// A component of a group is not handed over.
+    /// A component of a group's eventcount is not transferable.
     NotHandable,
-    /// The receiver has a component already.
+    /// The receiver has a component of the eventcount already.
     AlreadySignals,
-    /// The reply is another.
+    /// The right reply is another.
     WrongReply,
-    /// The text has no byte.
+    /// The text is empty.
     EmptyText,
     /// The last line has no LF.
     NoLastLf,
-    /// The line end is missing.
+    /// The line `end` is missing.
     NoEnd,
     /// The text is too large.
     TooLarge,
@@ -107,23 +107,23 @@ pub enum Cause {
     ScriptForm,
     /// No line of a history of calls has this form.
     CallsForm,
-    /// A word names nothing that is declared.
+    /// A word names nothing that is declared, or something of another kind.
     UnknownWord,
     /// A number is out of its range.
     OutOfRange,
-    /// A bound of the text is passed.
+    /// A bound of the text is exceeded.
     Full,
     /// The object belongs to a group.
     Hidden,
     /// A semaphore is named twice.
     TwoUses,
-    /// The worker lacks the right.
+    /// The worker of a command or a call lacks the right.
     NoRole,
     /// The line is badly nested.
     BadNesting,
     /// The text stops too early.
     StopsEarly,
-    /// The from lines stand in another order.
+    /// The `from` lines are not in the order of the declarations.
     BadOrder,
     /// The worker calls while its call is pending.
     CallPending,
@@ -131,7 +131,7 @@ pub enum Cause {
     NoPendingCall,
     /// The reply does not suit the call.
     Unsuited,
-    /// The limit is passed.
+    /// The limit is exceeded.
     CallLimit,
     /// The calls have no linearization.
     NoOrder,

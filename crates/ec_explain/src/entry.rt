@@ -1,4 +1,4 @@
-//! What is wrong with a line in the place of an entry.
+//! What is wrong with a line that should be an entry.
 ghost use Rattle.std.specs.Prelude.{◌≡◌, ◌≤◌, IfSome};
 ghost use Rattle.ec_explain.specs.Causes.{act_words, equals_place, has_object, lacks_value};
 ghost use Rattle.ec_explain.specs.Causes.{is_reply, act_cause, reply_cause, entry_cause, is_hand};
@@ -35,7 +35,7 @@ fn act_words(verb: &[u8]) -> Option<usize>
     None
 }
 
-/// Returns where the sign of equality stands after such an act.
+/// Returns the index at which a line has the word `=`, by its act.
 pub(crate) fn equals_place(line: &[u8]) -> usize
     ensures value { result ≡ equals_place line.now }
     ensures few { result ≤ 4 }
@@ -46,14 +46,14 @@ pub(crate) fn equals_place(line: &[u8]) -> usize
     }
 }
 
-/// Returns whether the act is a hand.
+/// Returns whether the act is a `hand`.
 fn is_hand(verb: &[u8]) -> bool
     ensures { result ≡ is_hand verb.now }
 {
     is_same(verb, b"hand".as_slice())
 }
 
-/// Returns whether a word is what an act names first, if it names something.
+/// Returns whether a word is an object that the act may name, if it names one.
 fn has_object(heading: &Heading, verb: &[u8], word: &[u8]) -> bool
     ensures { result ≡ has_object heading.now.words verb.now word.now }
 {
@@ -94,7 +94,7 @@ fn act_cause(heading: &Heading, line: &[u8]) -> Option<Cause>
     if act_words(verb).is_none() {
         return Some(Cause::NoAct);
     }
-    if is_hand(verb) && !heading.version().has_hand() {
+    if is_hand(verb) && !heading.version().has_transfer() {
         return Some(Cause::HandInOne);
     }
     if !has_object(heading, verb, word_at(2, line)) {
@@ -125,7 +125,7 @@ fn reply_cause(heading: &Heading, line: &[u8]) -> Cause
     Cause::EntryWords
 }
 
-/// Returns what is wrong with a line in the place of an entry.
+/// Returns what is wrong with a line that should be an entry.
 pub(crate) fn entry_cause(heading: &Heading, line: &[u8]) -> Cause
     ensures { result ≡ entry_cause heading.now line.now }
 {

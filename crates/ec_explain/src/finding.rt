@@ -1,22 +1,24 @@
 //! What is found wrong with a text.
 ghost use Rattle.std.specs.Prelude.{◌≡◌};
-ghost use Rattle.ec_explain.specs.Findings.{found_at, lined_at, shown_at, refusal_cause};
-ghost use Rattle.ec_explain.specs.Findings.{reason_line, refused_at, begun_line, wrong_reply_at};
-ghost use Rattle.ec_explain.specs.Findings.{stopped, unfinished, of_whole};
+ghost use Rattle.ec_explain.specs.Findings.{finding_of_line, finding_by_bytes, finding_at};
+ghost use Rattle.ec_explain.specs.Findings.{refusal_cause};
+ghost use Rattle.ec_explain.specs.Findings.{reason_line, finding_of_refusal, begun_line};
+ghost use Rattle.ec_explain.specs.Findings.{finding_of_wrong_reply};
+ghost use Rattle.ec_explain.specs.Findings.{find_early_end, find_missing_end, finding_of_text};
 
 use crate::cause::Cause;
 use crate::entry::equals_place;
 use crate::line::line_cause;
 use crate::lines::{line_at, lines_in};
-use crate::looking::{call_line, declaration_line, right_line};
 use crate::placing::{cause_at, place_at};
+use crate::related_line::{call_line, declaration_line, right_line};
 use crate::site::Site;
-use crate::words::{is_same, start_of, word_at};
+use crate::words::{is_same, word_at, word_start};
 use ec_core::{Refusal, Reply};
 
 /// Where a line shows what is wrong with it.
 #[derive(Clone, Copy, Debug, PartialEq, Eq)]
-pub struct Spot {
+pub struct LinePosition {
     /// The number of the line, counted from 1.
     pub number: u64,
     /// How many bytes of the line come before the place.
@@ -27,39 +29,39 @@ pub struct Spot {
 #[derive(Clone, Copy, Debug, PartialEq, Eq)]
 pub struct Finding {
     pub cause: Cause,
-    pub spot: Option<Spot>,
-    /// The right reply, if the reply alone is wrong.
+    pub spot: Option<LinePosition>,
+    /// The right reply, if only the reply is wrong.
     pub right: Option<Reply>,
     /// The number of another line that shows why.
     pub see: Option<usize>,
 }
 
 /// Returns a finding that a line shows.
-pub fn shown_at(cause: Cause, number: u64, place: usize) -> Finding
-    ensures { result ≡ shown_at cause number place }
+pub fn finding_at(cause: Cause, number: u64, place: usize) -> Finding
+    ensures { result ≡ finding_at cause number place }
 {
     Finding {
         cause,
-        spot: Some(Spot { number, place }),
+        spot: Some(LinePosition { number, place }),
         right: None,
         see: None,
     }
 }
 
-/// Returns the cause that the bytes of a line show wherever it stands; if they show none, this one,
-/// at this place.
-pub(crate) fn lined_at(cause: Cause, number: u64, place: usize, line: &[u8]) -> Finding
-    ensures { result ≡ lined_at cause number place line.now }
+/// Returns the cause that the bytes of a line show by themselves; if they show none, this one, at
+/// this place.
+pub(crate) fn finding_by_bytes(cause: Cause, number: u64, place: usize, line: &[u8]) -> Finding
+    ensures { result ≡ finding_by_bytes cause number place line.now }
 {
     match line_cause(line) {
-        Some(cause) => shown_at(cause, number, place_at(&Site::Unknown, cause, line)),
-        None => shown_at(cause, number, place),
+        Some(cause) => finding_at(cause, number, place_at(&Site::Unknown, cause, line)),
+        None => finding_at(cause, number, place),
     }
 }
 
 /// Returns a finding that no line shows.
-pub fn of_whole(cause: Cause) -> Finding
-    ensures { result ≡ of_whole cause }
+pub fn finding_of_text(cause: Cause) -> Finding
+    ensures { result ≡ finding_of_text cause }
 {
     Finding {
         cause,
@@ -69,12 +71,12 @@ pub fn of_whole(cause: Cause) -> Finding
     }
 }
 
-/// Returns what is wrong with a rejected line, of this number, where it stands.
-pub fn found_at(site: &Site<'_>, number: u64, line: &[u8]) -> Finding
-    ensures { result ≡ found_at site.now number line.now }
+/// Returns what is wrong with a rejected line of this number, at this site.
+pub fn finding_of_line(site: &Site<'_>, number: u64, line: &[u8]) -> Finding
+    ensures { result ≡ finding_of_line site.now number line.now }
 {
     let cause = cause_at(site, line);
-    shown_at(cause, number, place_at(site, cause, line))
+    finding_at(cause, number, place_at(site, cause, line))
 }
 
 /// Returns why an act is refused.
@@ -107,15 +109,15 @@ fn reason_line(refusal: Refusal, number: u64, text: &[u8]) -> Option<usize>
 }
 
 /// Returns what is wrong with the line of a refused act, and which other line shows why.
-pub fn refused_at(number: u64, refusal: Refusal, text: &[u8]) -> Finding
-    ensures { result ≡ refused_at number refusal text.now }
+pub fn finding_of_refusal(number: u64, refusal: Refusal, text: &[u8]) -> Finding
+    ensures { result ≡ finding_of_refusal number refusal text.now }
 {
     Finding {
         see: reason_line(refusal, number, text),
-        ..shown_at(
+        ..finding_at(
             refusal_cause(refusal),
             number,
-            start_of(1, line_at(number, text)),
+            word_start(1, line_at(number, text)),
         )
     }
 }
@@ -131,40 +133,40 @@ fn begun_line(number: u64, text: &[u8]) -> Option<usize>
     }
 }
 
-/// Returns what is wrong with the line of an act that has this reply and tells another.
-pub fn wrong_reply_at(number: u64, right: Reply, text: &[u8]) -> Finding
-    ensures { result ≡ wrong_reply_at number right text.now }
+/// Returns what is wrong with the line of an act that has another reply than this right one.
+pub fn finding_of_wrong_reply(number: u64, right: Reply, text: &[u8]) -> Finding
+    ensures { result ≡ finding_of_wrong_reply number right text.now }
 {
     let line = line_at(number, text);
     Finding {
         right: Some(right),
         see: begun_line(number, text),
-        ..shown_at(
+        ..finding_at(
             Cause::WrongReply,
             number,
-            start_of(equals_place(line) + 1, line),
+            word_start(equals_place(line) + 1, line),
         )
     }
 }
 
-/// Returns what is missing from a text that stops too early: all of it; the LF of its last line; or
-/// else this.
-pub(crate) fn stopped(cause: Cause, text: &[u8]) -> Finding
-    ensures { result ≡ stopped cause text.now }
+/// Returns what is missing from a text that stops too early: all of it, the LF of its last line, or
+/// otherwise `cause`.
+pub(crate) fn find_early_end(cause: Cause, text: &[u8]) -> Finding
+    ensures { result ≡ find_early_end cause text.now }
 {
     if text.is_empty() {
-        return of_whole(Cause::EmptyText);
+        return finding_of_text(Cause::EmptyText);
     }
     if text.ends_with(b"\n".as_slice()) {
-        return of_whole(cause);
+        return finding_of_text(cause);
     }
     let number = lines_in(text) as u64 + 1;
-    shown_at(Cause::NoLastLf, number, line_at(number, text).len())
+    finding_at(Cause::NoLastLf, number, line_at(number, text).len())
 }
 
 /// Returns what is missing from a trace that stops before its end.
-pub fn unfinished(text: &[u8]) -> Finding
-    ensures { result ≡ unfinished text.now }
+pub fn find_missing_end(text: &[u8]) -> Finding
+    ensures { result ≡ find_missing_end text.now }
 {
-    stopped(Cause::NoEnd, text)
+    find_early_end(Cause::NoEnd, text)
 }

@@ -1,8 +1,8 @@
-//! What is wrong with a line of a heading.
+//! What is wrong with a line of a header.
 ghost use Rattle.std.specs.Prelude.{◌≡◌, is_some};
 ghost use Rattle.std.specs.List.{list_all};
 ghost use Rattle.ec_count.specs.Reserved.{is_name_byte};
-ghost use Rattle.ec_heading.specs.Sorts.{sort_of};
+ghost use Rattle.ec_heading.specs.DeclKinds.{sort_of};
 ghost use Rattle.ec_explain.specs.Places.{word_at};
 ghost use Rattle.ec_explain.specs.Causes.{is_header, first_cause, limit_cause, has_name_form};
 ghost use Rattle.ec_explain.specs.Causes.{name_cause, head_cause, bad_name_place, new_name_place};
@@ -32,7 +32,7 @@ pub(crate) fn first_cause(line: &[u8]) -> Cause
     Cause::NoHeader
 }
 
-/// Returns what is wrong with a line in the place of the limit.
+/// Returns what is wrong with a line that should give the limit.
 pub(crate) fn limit_cause(line: &[u8]) -> Cause
     ensures { result ≡ limit_cause line.now }
 {
@@ -52,7 +52,7 @@ pub(crate) fn limit_cause(line: &[u8]) -> Cause
     Cause::LimitLarge
 }
 
-/// Returns whether each byte may stand in a name after the first.
+/// Returns whether a name may have each of these bytes after its first one.
 fn has_name_bytes(rest: &[u8]) -> bool
     ensures { result ≡ list_all is_name_byte rest.now }
 {
@@ -83,8 +83,7 @@ fn name_cause(word: &[u8]) -> Cause
     Cause::BadName
 }
 
-/// Returns what is wrong with a line of a heading whose least fault is this, and whose new name is
-/// this word.
+/// Returns what is wrong with a line of a header, by its lowest fault and its new name.
 fn head_cause(fault: HeadFault, name: &[u8]) -> Cause
     ensures { result ≡ head_cause fault name.now }
 {
@@ -100,7 +99,7 @@ fn head_cause(fault: HeadFault, name: &[u8]) -> Cause
     }
 }
 
-/// Returns the place of the first word that is no name, after the word `workers`.
+/// Returns the index of the first word that is no name, after the word `workers`.
 pub(crate) fn bad_name_place(line: &[u8]) -> usize
     ensures { result ≡ bad_name_place line.now }
 {
@@ -110,7 +109,7 @@ pub(crate) fn bad_name_place(line: &[u8]) -> usize
     }
 }
 
-/// Returns the place of the new name in a line of a heading, or of the first word that should be
+/// Returns the index of the new name in a line of a header, or of the first word that should be
 /// one.
 pub(crate) fn new_name_place(line: &[u8]) -> usize
     ensures { result ≡ new_name_place line.now }
@@ -122,14 +121,14 @@ pub(crate) fn new_name_place(line: &[u8]) -> usize
     }
 }
 
-/// Returns what is wrong with a line of a heading that has this as its least fault.
+/// Returns what is wrong with a line of a header, by its lowest fault.
 pub(crate) fn named_cause(fault: HeadFault, line: &[u8]) -> Cause
     ensures { result ≡ head_cause fault (word_at (new_name_place line.now) line.now) }
 {
     head_cause(fault, word_at(new_name_place(line), line))
 }
 
-/// Returns what is wrong with a line in the place of the workers.
+/// Returns what is wrong with a line that should name the workers.
 pub(crate) fn workers_cause(fault: HeadFault, line: &[u8]) -> Cause
     ensures { result ≡ workers_cause fault line.now }
 {
@@ -155,7 +154,7 @@ fn is_sort(word: &[u8]) -> bool
         || is_same(word, b"both".as_slice())
 }
 
-/// Returns what is wrong with a line in the place of a declaration.
+/// Returns what is wrong with a line that should be a declaration.
 pub(crate) fn declaration_cause(heading: &Heading, fault: HeadFault, line: &[u8]) -> Cause
     ensures { result ≡ declaration_cause heading.now fault line.now }
 {

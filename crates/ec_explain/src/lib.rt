@@ -8,24 +8,25 @@ mod finding;
 mod head;
 mod line;
 mod lines;
-mod looking;
 mod placing;
+mod related_line;
 mod rights;
 mod round;
 mod script;
 mod site;
-mod telling;
 mod words;
+mod writing;
 
 pub use calls::calls_finding;
 pub use cause::Cause;
 pub use finding::{
-    Finding, Spot, found_at, of_whole, refused_at, shown_at, unfinished, wrong_reply_at,
+    Finding, LinePosition, find_missing_end, finding_at, finding_of_line, finding_of_refusal,
+    finding_of_text, finding_of_wrong_reply,
 };
-pub use lines::{before_line, line_at};
+pub use lines::{line_at, position_or_end, text_before_line};
 pub use placing::{cause_at, place_at};
 pub use rights::{Asked, asked_in, holders};
-pub use round::{Look, event_or, looks_with};
+pub use round::{Look, looks_with};
 pub use script::script_finding;
 pub use site::Site;
-pub use telling::{put_finding, put_line_seen};
+pub use writing::{put_finding, put_line_seen};

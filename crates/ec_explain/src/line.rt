@@ -1,6 +1,7 @@
 //! What is wrong with the bytes of a line.
 ghost use Rattle.std.specs.Prelude.{◌≡◌};
-ghost use Rattle.ec_explain.specs.Causes.{line_cause, is_comment, has_tab};
+ghost use Rattle.ec_explain.specs.Causes.{line_cause, is_comment};
+ghost use Rattle.calls_text.specs.Causes.{has_tab};
 
 use crate::cause::Cause;
 use ec_heading::LINE_MAX;
@@ -13,7 +14,7 @@ fn has_tab(line: &[u8]) -> bool
     line.iter().any(|b| *b == b'\t')
 }
 
-/// Returns whether a line begins as comments do elsewhere.
+/// Returns whether a line begins as comments do in other formats.
 fn is_comment(line: &[u8]) -> bool
     ensures { result ≡ is_comment line.now }
 {
@@ -22,7 +23,7 @@ fn is_comment(line: &[u8]) -> bool
         || line.starts_with(b";".as_slice())
 }
 
-/// Returns what is wrong with the bytes of a line, wherever it stands.
+/// Returns what is wrong with the bytes of a line, wherever the line is.
 pub(crate) fn line_cause(line: &[u8]) -> Option<Cause>
     ensures { result ≡ line_cause line.now }
 {

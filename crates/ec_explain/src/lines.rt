@@ -1,10 +1,12 @@
 //! The lines of a text, by their numbers.
 ghost use Rattle.std.specs.Prelude.{◌≡◌, ◌≤◌, ◌<◌, ◌==◌, IfSome, length};
 ghost use Rattle.std.specs.List.{position_from};
-ghost use Rattle.ec_explain.specs.TextLines.{before_line, behind, behind_line, first_line, line_at};
-ghost use Rattle.ec_explain.specs.TextLines.{lines_in, place_of};
+ghost use Rattle.ec_explain.specs.TextLines.{text_before_line, text_after_lines, text_after_line};
+ghost use Rattle.ec_explain.specs.TextLines.{first_line};
+ghost use Rattle.ec_explain.specs.TextLines.{line_at};
+ghost use Rattle.ec_explain.specs.TextLines.{lines_in, position_or_end};
 
-/// Returns where a byte stands first.
+/// Returns the index of the first such byte.
 fn position_of(sign: u8, bytes: &[u8]) -> Option<usize>
     ensures value { result ≡ position_from (λ b. b == sign) 0 bytes.now }
     ensures within { IfSome result (λ place. place < length bytes.now) }
@@ -12,9 +14,9 @@ fn position_of(sign: u8, bytes: &[u8]) -> Option<usize>
     bytes.iter().position(|b| *b == sign)
 }
 
-/// Returns where a byte stands first; behind the last byte if it doesn't.
-pub(crate) fn place_of(sign: u8, bytes: &[u8]) -> usize
-    ensures value { result ≡ place_of sign bytes.now }
+/// Returns the index of the first such byte; the length if there is none.
+pub fn position_or_end(sign: u8, bytes: &[u8]) -> usize
+    ensures value { result ≡ position_or_end sign bytes.now }
     ensures within { result ≤ length bytes.now }
 {
     match position_of(sign, bytes) {
@@ -23,11 +25,11 @@ pub(crate) fn place_of(sign: u8, bytes: &[u8]) -> usize
     }
 }
 
-/// Returns what stands after the first line.
-fn behind_line(text: &[u8]) -> &[u8]
-    ensures { result.now ≡ behind_line text.now }
+/// Returns what follows the first line.
+fn text_after_line(text: &[u8]) -> &[u8]
+    ensures { result.now ≡ text_after_line text.now }
 {
-    let end = place_of(b'\n', text);
+    let end = position_or_end(b'\n', text);
     if end < text.len() {
         &text[end + 1..]
     } else {
@@ -35,13 +37,13 @@ fn behind_line(text: &[u8]) -> &[u8]
     }
 }
 
-/// Returns what stands after so many lines.
-fn behind(lines: u64, text: &[u8]) -> &[u8]
-    ensures { result.now ≡ behind lines text.now }
+/// Returns what follows the first `lines` lines.
+fn text_after_lines(lines: u64, text: &[u8]) -> &[u8]
+    ensures { result.now ≡ text_after_lines lines text.now }
 {
     let mut rest = text;
     for _line in 0..lines {
-        rest = behind_line(rest);
+        rest = text_after_line(rest);
     }
     rest
 }
@@ -50,25 +52,25 @@ fn behind(lines: u64, text: &[u8]) -> &[u8]
 fn first_line(text: &[u8]) -> &[u8]
     ensures { result.now ≡ first_line text.now }
 {
-    &text[..place_of(b'\n', text)]
+    &text[..position_or_end(b'\n', text)]
 }
 
 /// Returns a line of a text, without its LF. Lines are counted from 1.
 pub fn line_at(number: u64, text: &[u8]) -> &[u8]
     ensures { result.now ≡ line_at number text.now }
 {
-    first_line(behind(number.saturating_sub(1), text))
+    first_line(text_after_lines(number.saturating_sub(1), text))
 }
 
-/// Returns all that stands before a line.
-pub fn before_line(number: u64, text: &[u8]) -> &[u8]
-    ensures { result.now ≡ before_line number text.now }
+/// Returns all that precedes a line.
+pub fn text_before_line(number: u64, text: &[u8]) -> &[u8]
+    ensures { result.now ≡ text_before_line number text.now }
 {
-    let rest = behind(number.saturating_sub(1), text);
+    let rest = text_after_lines(number.saturating_sub(1), text);
     &text[..text.len().saturating_sub(rest.len())]
 }
 
-/// Returns how many lines a text has, a last one without its LF not among them.
+/// Returns how many lines a text has, without a last one that has no LF.
 pub(crate) fn lines_in(text: &[u8]) -> usize
     ensures value { result ≡ lines_in text.now }
     ensures few { result ≤ length text.now }

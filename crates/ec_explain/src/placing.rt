@@ -10,13 +10,13 @@ use crate::head::{
     workers_cause,
 };
 use crate::line::line_cause;
-use crate::lines::place_of;
+use crate::lines::position_or_end;
 use crate::site::Site;
-use crate::words::{full_before, listed_before, start_of};
+use crate::words::{full_before, listed_before, word_start};
 use ec_heading::{Heading, LINE_MAX};
 use ec_text::cut_word;
 
-/// Returns what is wrong with a line where it stands, if its bytes alone don't show it.
+/// Returns what is wrong with a line at its site, if its bytes don't show it by themselves.
 fn site_cause(site: &Site<'_>, line: &[u8]) -> Cause
     ensures { result ≡ site_cause site.now line.now }
 {
@@ -34,8 +34,7 @@ fn site_cause(site: &Site<'_>, line: &[u8]) -> Cause
     }
 }
 
-/// Returns what is wrong with a rejected line where it stands: the first cause of those that are
-/// asked for there.
+/// Returns what is wrong with a rejected line: the first cause that holds of it at its site.
 pub fn cause_at(site: &Site<'_>, line: &[u8]) -> Cause
     ensures { result ≡ cause_at site.now line.now }
 {
@@ -45,7 +44,7 @@ pub fn cause_at(site: &Site<'_>, line: &[u8]) -> Cause
     }
 }
 
-/// Returns the place of the word that is no name.
+/// Returns the index of the word that is no name.
 fn name_place(site: &Site<'_>, line: &[u8]) -> usize
     ensures { result ≡ name_place site.now line.now }
 {
@@ -56,7 +55,7 @@ fn name_place(site: &Site<'_>, line: &[u8]) -> usize
     }
 }
 
-/// Returns the place of the first word after a name that no declaration lists.
+/// Returns the index of the first word after a declaration's name that may not follow it.
 fn first_unlisted(heading: &Heading, line: &[u8]) -> usize
     ensures { result ≡ first_unlisted heading.now.words line.now }
 {
@@ -69,7 +68,7 @@ fn first_unlisted(heading: &Heading, line: &[u8]) -> usize
     2 + listed_before(heading, rest)
 }
 
-/// Returns the place of the word in a list that is no worker.
+/// Returns the index of the word in a list that is no worker.
 fn unknown_place(site: &Site<'_>, line: &[u8]) -> usize
     ensures { result ≡ unknown_place site.now line.now }
 {
@@ -79,7 +78,7 @@ fn unknown_place(site: &Site<'_>, line: &[u8]) -> usize
     }
 }
 
-/// Returns the place of the word that shows a cause.
+/// Returns the index of the word that shows a cause.
 fn word_place(site: &Site<'_>, cause: Cause, line: &[u8]) -> usize
     ensures { result ≡ word_place site.now cause line.now }
 {
@@ -102,14 +101,14 @@ fn word_place(site: &Site<'_>, cause: Cause, line: &[u8]) -> usize
     }
 }
 
-/// Returns where a line shows a cause, by the bytes before.
+/// Returns where a line shows a cause, as the number of bytes before it.
 pub fn place_at(site: &Site<'_>, cause: Cause, line: &[u8]) -> usize
     ensures { result ≡ place_at site.now cause line.now }
 {
     match cause {
         Cause::Long => LINE_MAX,
         Cause::Return | Cause::SpaceAfter => line.len().saturating_sub(1),
-        Cause::Tab => place_of(b'\t', line),
-        _ => start_of(word_place(site, cause, line), line),
+        Cause::Tab => position_or_end(b'\t', line),
+        _ => word_start(word_place(site, cause, line), line),
     }
 }

@@ -1,7 +1,7 @@
-//! Who asks for what in a line, and who has the right to it.
+//! Which right the act of a line needs, and who has it.
 ghost use Rattle.std.specs.Prelude.{◌≡◌, ◌<◌, ◌++◌, ◌∷◌, [], IfOk, OnOk, reverse, if◌then◌else◌};
 ghost use Rattle.ec_core.specs.Acceptance.{has_right};
-ghost use Rattle.ec_explain.specs.Rights.{act_of, asked_by, asked_in, holders};
+ghost use Rattle.ec_explain.specs.Rights.{parse_act, asked_by, asked_in, holders};
 
 use crate::words::{is_among, is_same, word_at};
 use ec_core::{Act, Run};
@@ -13,7 +13,7 @@ static SIGNALLING: [&str; 2] = ["advance", "hand"];
 
 static OBSERVING: [&str; 2] = ["read", "await"];
 
-/// Who asks for what.
+/// A worker, and the right that it needs.
 #[derive(Clone, Copy, Debug, PartialEq, Eq)]
 pub struct Asked {
     pub worker: WorkerId,
@@ -22,8 +22,8 @@ pub struct Asked {
 }
 
 /// Returns the act of a verb on what a word names, or one that needs the same right.
-fn act_of(heading: &Heading, verb: &[u8], word: &[u8]) -> Option<Act>
-    ensures { result ≡ act_of heading.now.words verb.now word.now }
+fn parse_act(heading: &Heading, verb: &[u8], word: &[u8]) -> Option<Act>
+    ensures { result ≡ parse_act heading.now.words verb.now word.now }
 {
     if is_same(verb, b"go".as_slice()) {
         return Some(Act::Go);
@@ -46,7 +46,7 @@ fn act_of(heading: &Heading, verb: &[u8], word: &[u8]) -> Option<Act>
     None
 }
 
-/// Returns who asks for an act, if there is one.
+/// Returns a worker with its act, if there is an act.
 fn asked_by(act: Option<Act>, worker: WorkerId) -> Option<Asked>
     ensures { result ≡ asked_by act worker }
 {
@@ -56,14 +56,14 @@ fn asked_by(act: Option<Act>, worker: WorkerId) -> Option<Asked>
     }
 }
 
-/// Returns who asks in a line, and for what.
+/// Returns the worker of a line, and the right that its act needs.
 pub fn asked_in(heading: &Heading, line: &[u8]) -> Option<Asked>
     ensures { result ≡ asked_in heading.now line.now }
 {
     let first = word_at(0, line);
     let verb = word_at(1, line);
     let object = word_at(2, line);
-    let act = act_of(heading, verb, object);
+    let act = parse_act(heading, verb, object);
     match heading.worker(first) {
         Some(worker) => asked_by(act, worker),
         None => None,
@@ -113,7 +113,7 @@ pub fn holders(alloc: Global, run: &Run, act: &Act) -> Result<Vec<WorkerId>, All
     ensures { IfOk result (λ ws. ws.items ≡ holders run.now.setup (reverse run.now.entries)
         act.now) }
 {
-    run.setup().known();
+    run.setup().invariant();
     let mut workers = Vec::new(alloc);
     for number in 0..run.setup().workers() {
         add_holder(&mut workers, run, act, number)?;

@@ -1,26 +1,26 @@
 //! What a read or an await has read in its round.
-ghost use Rattle.std.specs.Prelude.{◌≡◌, ◌==◌, ◌++◌, ◌∷◌, [], List, IfOk, OnOk, Ok, length};
+ghost use Rattle.std.specs.Prelude.{◌≡◌, ◌++◌, ◌∷◌, [], List, IfOk, OnOk, Ok, length};
 ghost use Rattle.std.specs.Prelude.{option_to_list, reverse};
 ghost use Rattle.ec_core.specs.declared.act.Entry.{Entry};
 ghost use Rattle.ec_core.specs.Acceptance.{answer_of};
 ghost use Rattle.ec_core.specs.Calls.{is_go};
-ghost use Rattle.ec_core.specs.Rounds.{event_or};
 ghost use Rattle.ec_core.specs.Standing.{StandsFor};
-ghost use Rattle.ec_explain.specs.Rounds.{is_in_round, kept, kept_by, look_at, looks_so_far};
+ghost use Rattle.ec_explain.specs.Rounds.{is_in_round, looks_after_act, looks_continued_by};
+ghost use Rattle.ec_explain.specs.Rounds.{look_at, looks_so_far};
 ghost use Rattle.ec_explain.specs.Rounds.{looks_with, next_look};
 
 use ec_core::{Act, Entry, Run, World};
 use ec_count::{EventId, WorkerId};
 use std::alloc::{AllocError, Global};
 
-/// What an entry found that read a component.
+/// What an entry found when it read a component.
 #[derive(Clone, Copy, Debug, PartialEq, Eq)]
 pub struct Look {
     /// The number of the component, from 0.
     pub component: usize,
-    /// What it had counted.
+    /// The count of the component.
     pub number: u64,
-    /// Who signalled it.
+    /// The worker that signalled it.
     pub signaller: Option<WorkerId>,
     /// The position of the entry in the history.
     pub position: usize,
@@ -28,19 +28,7 @@ pub struct Look {
     pub total: u64,
 }
 
-/// Returns the eventcount that an act names, and the first one for an act that names none.
-pub fn event_or(op: Act) -> EventId
-    ensures { result ≡ event_or op }
-{
-    match op {
-        Act::Advance(event) | Act::Read(event) | Act::Await(event, _) => event,
-        Act::Go | Act::Ticket(_) | Act::Put(_, _) | Act::Get(_) | Act::Hand(_, _) => {
-            EventId::new(0).unwrap()
-        }
-    }
-}
-
-/// Returns what an entry finds in a world that reads a component.
+/// Returns what an entry that reads a component finds in a world.
 fn look_at(world: &World, event: EventId, component: usize, position: usize) -> Look
     ensures { (h : List Entry) → StandsFor world.now h → position ≡ length (reverse h)
         → result ≡ look_at world.now.setup event component (reverse h) }
@@ -62,7 +50,7 @@ fn next_look(world: &World, worker: WorkerId, act: &Act, position: usize) -> Opt
     match *act {
         Act::Go => match world.under_way(worker) {
             Some(call) => {
-                let event = event_or(call.op());
+                let event = call.op().event();
                 Some(look_at(world, event, call.index(), position))
             }
             None => None,
@@ -73,7 +61,7 @@ fn next_look(world: &World, worker: WorkerId, act: &Act, position: usize) -> Opt
         | Act::Ticket(_)
         | Act::Put(_, _)
         | Act::Get(_)
-        | Act::Hand(_, _) => Some(look_at(world, event_or(*act), 0, position)),
+        | Act::Hand(_, _) => Some(look_at(world, act.event(), 0, position)),
     }
 }
 
@@ -97,7 +85,7 @@ fn is_go(act: &Act) -> bool
 
 /// Drops what was found before an act that begins a call.
 fn begin_by(looks: &mut Vec<Look>, act: &Act)
-    ensures { looks.new.items ≡ kept_by act.now looks.old.items }
+    ensures { looks.new.items ≡ looks_continued_by act.now looks.old.items }
 {
     if !is_go(act) {
         looks.clear();
@@ -114,14 +102,14 @@ fn add_look(looks: &mut Vec<Look>, look: Option<Look>) -> Result<(), AllocError>
     }
 }
 
-/// Keeps what an act found, if its round goes on.
-fn keep(
+/// Adds what an act found, if its round goes on; otherwise drops what the round found.
+fn update_looks(
     looks: &mut Vec<Look>,
     goes_on: bool,
     act: &Act,
     look: Option<Look>,
 ) -> Result<(), AllocError>
-    ensures { OnOk result (looks.new.items ≡ kept goes_on act.now look looks.old.items) }
+    ensures { OnOk result (looks.new.items ≡ looks_after_act goes_on act.now look looks.old.items) }
 {
     if !goes_on {
         looks.clear();
@@ -131,16 +119,9 @@ fn keep(
     add_look(looks, look)
 }
 
-/// Returns whether an entry is one of a worker.
-fn is_of(entry: &Entry, worker: WorkerId) -> bool
-    ensures { result ≡ (entry.now.worker == worker) }
-{
-    entry.worker.get() == worker.get()
-}
-
 /// Makes the step of an entry.
 fn enter(world: &mut World, entry: &Entry)
-    ensures stands { (h : List Entry) → StandsFor world.old h
+    ensures represents { (h : List Entry) → StandsFor world.old h
         → answer_of world.old.setup (reverse h) entry.now.worker entry.now.act ≡ Ok entry.now.reply
         → StandsFor world.new (h ++ entry.now ∷ []) }
     ensures setup { world.new.setup ≡ world.old.setup }
@@ -148,7 +129,7 @@ fn enter(world: &mut World, entry: &Entry)
     let _reply = world.step(entry.worker, entry.act);
 }
 
-/// Makes the step of an entry, and keeps what it finds, if it is one of this worker.
+/// Makes the step of an entry, and adds what it finds, if it is one of this worker.
 fn take(
     looks: &mut Vec<Look>,
     world: &mut World,
@@ -156,7 +137,7 @@ fn take(
     entry: &Entry,
     position: usize,
 ) -> Result<(), AllocError>
-    ensures stands { (h : List Entry) → StandsFor world.old h
+    ensures represents { (h : List Entry) → StandsFor world.old h
         → answer_of world.old.setup (reverse h) entry.now.worker entry.now.act ≡ Ok entry.now.reply
         → StandsFor world.new (h ++ entry.now ∷ []) }
     ensures setup { world.new.setup ≡ world.old.setup }
@@ -167,14 +148,14 @@ fn take(
         → OnOk result (looks.new.items
         ≡ looks_so_far world.old.setup worker (entry.now ∷ reverse h)) }
 {
-    if !is_of(entry, worker) {
+    if !entry.is_of(worker) {
         enter(world, entry);
         return Ok(());
     }
     let look = next_look(world, worker, &entry.act, position);
     enter(world, entry);
     let goes_on = is_in_round(world, worker);
-    keep(looks, goes_on, &entry.act, look)
+    update_looks(looks, goes_on, &entry.act, look)
 }
 
 /// Returns what the round of a worker has found at the end of a run.
@@ -182,7 +163,7 @@ fn looks_so_far(alloc: Global, run: &Run, worker: WorkerId) -> Result<Vec<Look>,
     ensures { IfOk result (λ looks. looks.items ≡ looks_so_far run.now.setup worker
         (reverse run.now.entries)) }
 {
-    run.known();
+    run.invariant();
     let mut world = World::open(run.setup().copy());
     let mut looks = Vec::new(alloc);
     for position in 0..run.len() {
@@ -193,8 +174,9 @@ fn looks_so_far(alloc: Global, run: &Run, worker: WorkerId) -> Result<Vec<Look>,
     Ok(looks)
 }
 
-/// Returns what the round of a worker has found with its act at the end of a run: a read or an
-/// await, or a go of one.
+/// Returns what the round of a worker has found, with its act at the end of a run.
+///
+/// The act is a read or an await, or a `go` of one.
 pub fn looks_with(
     alloc: Global,
     run: &Run,
@@ -206,6 +188,6 @@ pub fn looks_with(
 {
     let mut looks = looks_so_far(alloc, run, worker)?;
     let look = next_look(run.world(), worker, act, run.len());
-    keep(&mut looks, true, act, look)?;
+    update_looks(&mut looks, true, act, look)?;
     Ok(looks)
 }

@@ -1,27 +1,27 @@
-//! Where a line stands.
+//! Where a line is in its text.
 use ec_heading::{HeadFault, Heading};
 
-/// Where a rejected line stands.
+/// Where a rejected line is in its text.
 #[derive(Drop)]
 pub enum Site<'a> {
     /// It is the first line.
     First,
     /// It is the second line.
     Limit,
-    /// It is the third line. This is its least fault as one.
+    /// It is the third line, and has this lowest fault as the line of the workers.
     Workers(HeadFault),
-    /// It stands after this heading, and before `run`. This is its least fault there.
+    /// It is after the lines of this header and before `run`, and has this lowest fault there.
     Declaration(&'a Heading, HeadFault),
-    /// It stands after `run`, under this heading.
+    /// It is after `run`, under this header.
     Entry(&'a Heading),
-    /// It stands after `end`.
+    /// It is after `end`.
     Behind,
-    /// It stands in a heading, with this as its least fault.
+    /// It is in a header, and has this lowest fault.
     Heading(HeadFault),
-    /// It stands in a script, and has no form of its place.
+    /// It is in a script, and has none of the forms allowed there.
     Script,
-    /// It stands in a history of calls, and has no form of its place.
+    /// It is in a history of calls, and has none of the forms allowed there.
     Calls,
-    /// It is not known where it stands.
+    /// It is not known where it is.
     Unknown,
 }

@@ -1,15 +1,16 @@
-//! The words of a line by their places.
+//! The words of a line, by their indices.
 ghost use Rattle.std.specs.Prelude.{◌≡◌, ◌≤◌, ◌+◌, bytes_eq, length};
 ghost use Rattle.std.specs.List.{list_any};
 ghost use Rattle.ec_text.specs.Words.{words_of};
-ghost use Rattle.ec_explain.specs.Places.{word_at, behind_first, bytes_before, start_of, is_listed};
+ghost use Rattle.ec_explain.specs.Places.{word_at, behind_first, bytes_before, word_start};
+ghost use Rattle.ec_explain.specs.Places.{is_listed};
 ghost use Rattle.ec_explain.specs.Places.{names_before, listed_before, full_before};
 
 use ec_count::is_name;
 use ec_heading::Heading;
 use ec_text::{cut_word, number};
 
-/// The words before a list, and between two.
+/// The words that precede a list of workers in a declaration.
 static LIST_OPENERS: [&str; 8] = [
     "signal", "observe", "take", "write", "read", "produce", "consume", "use",
 ];
@@ -28,7 +29,7 @@ pub(crate) fn is_among(words: &[&str], word: &[u8]) -> bool
     words.iter().any(|w| w.as_bytes() == word)
 }
 
-/// Returns the word at a place, counted from 0; nothing if there are not so many.
+/// Returns the word at an index, counted from 0; empty if there is none.
 pub(crate) fn word_at(place: usize, line: &[u8]) -> &[u8]
     ensures { result.now ≡ word_at place line.now }
 {
@@ -42,7 +43,7 @@ pub(crate) fn word_at(place: usize, line: &[u8]) -> &[u8]
     }
 }
 
-/// Returns how many bytes come before the word at a place.
+/// Returns how many bytes come before the word at an index.
 fn bytes_before(place: usize, line: &[u8]) -> usize
     ensures value { result ≡ bytes_before place (words_of line.now) }
     ensures few { result ≤ length line.now + 1 }
@@ -57,21 +58,21 @@ fn bytes_before(place: usize, line: &[u8]) -> usize
     }
 }
 
-/// Returns where the word at a place begins; behind the last byte if there are not so many.
-pub(crate) fn start_of(place: usize, line: &[u8]) -> usize
-    ensures { result ≡ start_of place line.now }
+/// Returns where the word at an index begins; the length of the line if there is none.
+pub(crate) fn word_start(place: usize, line: &[u8]) -> usize
+    ensures { result ≡ word_start place line.now }
 {
     bytes_before(place, line).min(line.len())
 }
 
-/// Returns whether a word may stand after the name of a declaration.
+/// Returns whether a word may follow the name of a declaration.
 fn is_listed(heading: &Heading, word: &[u8]) -> bool
     ensures { result ≡ is_listed heading.now.words word.now }
 {
     heading.worker(word).is_some() || number(word).is_some() || is_among(&LIST_OPENERS, word)
 }
 
-/// Returns how many words stand before the first that is no name.
+/// Returns how many words come before the first that is no name.
 pub(crate) fn names_before(list: &[u8]) -> usize
     ensures value { result ≡ names_before (words_of list.now) }
     ensures few { result ≤ length list.now + 1 }
@@ -86,7 +87,7 @@ pub(crate) fn names_before(list: &[u8]) -> usize
     }
 }
 
-/// Returns how many words stand before the first that no declaration lists.
+/// Returns how many words come before the first that may not follow a declaration's name.
 pub(crate) fn listed_before(heading: &Heading, list: &[u8]) -> usize
     ensures value { result ≡ listed_before heading.now.words (words_of list.now) }
     ensures few { result ≤ length list.now + 1 }
@@ -101,7 +102,7 @@ pub(crate) fn listed_before(heading: &Heading, list: &[u8]) -> usize
     }
 }
 
-/// Returns how many words stand before the first that is empty.
+/// Returns how many words come before the first that is empty.
 pub(crate) fn full_before(line: &[u8]) -> usize
     ensures value { result ≡ full_before (words_of line.now) }
     ensures few { result ≤ length line.now + 1 }

@@ -1,21 +1,19 @@
--- The blocks of cells of a heading end within the bound.
+-- The blocks of cells of a header end within the bound.
 use Rattle.std.proofs.Common.{◌≡◌, ℕ, ◌+◌, ◌<◌, ◌≤◌, List, [], ◌∷◌, ◌++◌, length, Bool, true, false, cond, Option, Some, None, option_and_then, sym, ap, subst, ◌∙◌, arith, inl, inr, bytes_eq, zero-le, IsSome, IfSome, ◌↔◌, lt-ltb, nat_lt}
 use Rattle.std.proofs.lemmas.Bool.{ltb-false, or_parts, cond-true, true≢false}
 use Rattle.ec_count.specs.Names.{find_name}
 use Rattle.ec_count.specs.declared.target.Target.{Target}
 use Rattle.ec_count.specs.declared.target.Target.TheVariants.{Worker, Event, Sequencer, Cells, Group}
-use Rattle.ec_heading.specs.Sorts.{second_opener}
-use Rattle.ec_heading.specs.Headed.{Headed}
+use Rattle.ec_heading.specs.DeclKinds.{second_opener}
+use Rattle.ec_heading.specs.HeadingModel.{HeadingModel}
 use Rattle.ec_heading.specs.Objects.{objects_of, spelled_objects}
-use Rattle.ec_heading.specs.Outline.{Declaration, AreDeclarable, opened, numbered, next_of, declared_by, declared_all, objects_fault, fits_form}
-use Rattle.ec_heading.specs.Outlined.{IsHeading}
-use Rattle.ec_heading.specs.Spelled.{block_of, cell_at, cell_of}
-use Rattle.ec_heading.specs.declared.sort.Sort.{Sort}
-use Rattle.ec_heading.specs.declared.sort.Sort.TheVariants as sorts
+use Rattle.ec_heading.specs.HeaderTree.{Declaration, AreDeclarable, empty_heading, number_names, next_ids, with_declaration, with_declarations, objects_fault, fits_form}
+use Rattle.ec_heading.specs.HeadingInvariant.{IsHeading}
+use Rattle.ec_heading.specs.EntryWords.{block_of, cell_at, cell_of}
+use Rattle.ec_heading.specs.declared.decl_kind.DeclKind.{DeclKind}
+use Rattle.ec_heading.specs.declared.decl_kind.DeclKind.TheVariants as sorts
 use Rattle.ec_heading.proofs.shared.Declarable.{has_room}
-
-abbrev Named : Type 0
-Named = List (List ℕ × Target)
+use Rattle.ec_heading.proofs.shared.Listed.{Named}
 
 abbrev end_of : Target → ℕ
 end_of (Cells first n) = first + n
@@ -25,7 +23,7 @@ abbrev AreSmall : Named → Type 0
 AreSmall [] = Unit {0}
 AreSmall (e ∷ es) = (end_of e.1 ≤ 256) × AreSmall es
 
-small_workers : (n : ℕ) (ws : List (List ℕ)) → AreSmall (numbered n ws)
+small_workers : (n : ℕ) (ws : List (List ℕ)) → AreSmall (number_names n ws)
 small_workers n [] = tt
 small_workers n (w ∷ ws) = (zero-le, small_workers (n + 1) ws)
 
@@ -37,7 +35,7 @@ small_spelled : (name : List ℕ) (os : Named) → AreSmall os → AreSmall (spe
 small_spelled name [] h = tt
 small_spelled name (o ∷ os) h = (h.0, small_spelled name os h.1)
 
-objects_end : (s : Sort) (h : Headed) (n : ℕ) (first second : List ℕ) → fits_form (second_opener s) second ≡ true → objects_fault s h.setup n first second ≡ None → AreSmall (objects_of s (next_of h) n)
+objects_end : (s : DeclKind) (h : HeadingModel) (n : ℕ) (first second : List ℕ) → fits_form (second_opener s) second ≡ true → objects_fault s h.setup n first second ≡ None → AreSmall (objects_of s (next_ids h) n)
 objects_end sorts.EventCount h n first second form taken = (zero-le, tt)
 objects_end sorts.Sequencer h n first second form taken = (zero-le, tt)
 objects_end sorts.Cells h n first second form taken = (ltb-false 256 (length h.setup.cells + n) (has_room sorts.Cells h.setup n first second form taken).room, tt)
@@ -52,18 +50,18 @@ objects_end sorts.Database h n first second form taken =
 objects_end sorts.Semaphore h n first second form taken = (zero-le, (zero-le, (zero-le, tt)))
 objects_end sorts.Both h n first second form taken = (zero-le, (zero-le, (zero-le, tt)))
 
-small_all : (h : Headed) (ds : List Declaration) → AreSmall h.words → AreDeclarable h ds → AreSmall (declared_all h ds).words
+small_all : (h : HeadingModel) (ds : List Declaration) → AreSmall h.words → AreDeclarable h ds → AreSmall (with_declarations h ds).words
 small_all h [] small may = small
 small_all h (d ∷ ds) small may =
-    small_all (declared_by h d) ds
-    (small-append h.words (spelled_objects d.name (objects_of d.sort (next_of h) d.number)) small (small_spelled d.name (objects_of d.sort (next_of h) d.number) (objects_end d.sort h d.number d.first d.second may.0.form may.0.taken)))
+    small_all (with_declaration h d) ds
+    (small-append h.words (spelled_objects d.name (objects_of d.sort (next_ids h) d.number)) small (small_spelled d.name (objects_of d.sort (next_ids h) d.number) (objects_end d.sort h d.number d.first d.second may.0.form may.0.taken)))
     may.1
 
-small_heading : (h : Headed) → IsHeading h → AreSmall h.words
-small_heading h (inl (is, within)) = subst (λ (g : Headed). AreSmall g.words) (sym is) tt
+small_heading : (h : HeadingModel) → IsHeading h → AreSmall h.words
+small_heading h (inl (is, within)) = subst (λ (g : HeadingModel). AreSmall g.words) (sym is) tt
 small_heading h (inr has) =
     let o = has.outline in
-    subst (λ (g : Headed). AreSmall g.words) has.declares (small_all (opened o.version o.limit o.workers) o.declarations (small_workers 0 o.workers) has.is.declarations)
+    subst (λ (g : HeadingModel). AreSmall g.words) has.declares (small_all (empty_heading o.version o.limit o.workers) o.declarations (small_workers 0 o.workers) has.is.declarations)
 
 end_found : (t : Target) (first n : ℕ) → end_of t ≤ 256 → block_of t ≡ Some (first, n) → first + n ≤ 256
 end_found (Cells f m) first n small e =
@@ -82,8 +80,8 @@ small_found (d ∷ es) w first n small e =
     let go : P (bytes_eq w d.0) = elim (bytes_eq w d.0) as P [ true ↦ λ f. end_found d.1 first n small.0 f | false ↦ λ f. small_found es w first n small.1 f ] in
     go e
 
--- a block that a name stands for ends at cell 256 or before
-pub block_ends : (h : Headed) (w : List ℕ) (first n : ℕ) → IsHeading h → option_and_then block_of (find_name w h.words) ≡ Some (first, n) → first + n ≤ 256
+-- a block that a name denotes ends at cell 256 or before
+pub block_ends : (h : HeadingModel) (w : List ℕ) (first n : ℕ) → IsHeading h → option_and_then block_of (find_name w h.words) ≡ Some (first, n) → first + n ≤ 256
 block_ends h w first n is e = small_found h.words w first n (small_heading h is) e
 
 -- an id that is made of a number below its bound

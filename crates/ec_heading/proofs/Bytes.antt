@@ -1,6 +1,6 @@
 -- A word cut at a byte.
 use Rattle.std.proofs.Common.{◌≡◌, ℕ, zero, suc, ◌+◌, ◌-◌, ◌<◌, List, [], ◌∷◌, length, take, drop, get_or, true, false, eqb, Some, None, refl, sym, ap, ◌∙◌, arith, ne_eqb, eq-eqb, take_all, length-drop, add-one}
-use Rattle.ec_heading.specs.Spelled.{cut_at}
+use Rattle.ec_heading.specs.EntryWords.{cut_at}
 
 step_on : (byte b : ℕ) (bs : List ℕ) (x y : List ℕ) → eqb b byte ≡ false → cut_at byte bs ≡ Some (x, y) → cut_at byte (b ∷ bs) ≡ Some (b ∷ x, y)
 unfolding cut_at

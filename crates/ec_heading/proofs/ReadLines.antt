@@ -1,4 +1,4 @@
--- What is spelled is read: the line of the workers, and a declaration's.
+-- Encodings are read: the line of the workers, and that of a declaration.
 use Rattle.std.proofs.Common.{◌≡◌, ◌≢◌, ℕ, ◌+◌, ◌*◌, ◌≤◌, List, [], ◌∷◌, ◌++◌, length, get_or, Bool, true, false, ◌&&◌, eqb, Option, Some, None, unwrap_or, Ok, refl, sym, ap, ap₂, subst, ◌∙◌, arith, append_assoc, decimal, codes, not, if◌then◌else◌, ne_eqb, eqb-true, zero-le}
 use Rattle.std.specs.List.{list_all, AllByRecursion}
 use Rattle.std.specs.Char.{is_ascii_digit}
@@ -7,25 +7,25 @@ use Rattle.std.proofs.lemmas.Bool.{true≢false, and_parts, and_from, and_right,
 use Rattle.std.proofs.lemmas.Fmt.{digits_decimal, decimal_nonempty}
 use Rattle.std.proofs.lemmas.List.Elements.{recursion_from_All}
 use Rattle.ec_count.specs.Reserved.{is_name, is_reserved}
-use Rattle.ec_text.specs.Words.{is_number_form, has_form, number_of}
+use Rattle.ec_text.specs.Words.{is_number_form, has_form, number_in_word}
 use Rattle.ec_text.proofs.shared.WordLemmas.{literal_word}
-use Rattle.ec_text.proofs.shared.NumberLemmas.{number_again, own}
+use Rattle.ec_text.proofs.shared.NumberLemmas.{number_again, own, guarded}
 use Rattle.ec_text.proofs.shared.DecimalLemmas.{at_most_20}
-use Rattle.ec_heading.specs.Sorts.{sort_word, has_name, has_number, opener, second_opener, needs_second, is_called, is_in_range}
+use Rattle.ec_heading.specs.DeclKinds.{sort_word, has_name, has_number, opener, second_opener, needs_second, is_called, is_in_range}
 use Rattle.ec_heading.specs.declared.version.Version.{Version}
-use Rattle.ec_heading.specs.Headed.{Headed}
-use Rattle.ec_heading.specs.Outline.{Declaration, AreWorkers, IsDeclarable, opened, declared_by, declared_all, fits_form}
+use Rattle.ec_heading.specs.HeadingModel.{HeadingModel}
+use Rattle.ec_heading.specs.HeaderTree.{Declaration, AreWorkers, IsDeclarable, empty_heading, with_declaration, with_declarations, fits_form}
 use Rattle.ec_heading.specs.Spelling.{list_words, name_words, number_words, second_words, declaration_words, declaration_line}
 use Rattle.ec_heading.specs.Form.{Phrase, parts_in}
 use Rattle.ec_heading.specs.Kinds.{declaration_of, declaration_fault, kind_of, size_in, second_list, is_bad_number}
 use Rattle.ec_heading.specs.Lists.{ids_in, has_unknown}
 use Rattle.ec_heading.specs.Heading.{head_step, fault_or, opened_by, declared_or, workers_in}
 use Rattle.ec_heading.specs.HeadingLaws.{SpelledWorkersAreRead, SpelledDeclarationIsRead}
-use Rattle.ec_heading.specs.declared.sort.Sort.{Sort}
+use Rattle.ec_heading.specs.declared.decl_kind.DeclKind.{DeclKind}
 use Rattle.ec_heading.specs.declared.heading.HeadFault.{HeadFault}
 use Rattle.ec_heading.specs.Phrased.{HasWords, IsSpelled, NameFits, NumberFits, SecondFits, HasNoStop, number_part, second_part, behind_name}
-use Rattle.ec_heading.proofs.shared.Phrases.{guarded, spelled_parts}
-use Rattle.ec_heading.proofs.shared.SortFacts.{is_literal, IsLiteral, literal, literal_lacks, is_stop, other_stop, sort_literal, opener_literal, number_small, number_none, called_name, called_word}
+use Rattle.ec_heading.proofs.shared.Phrases.{spelled_parts}
+use Rattle.ec_heading.proofs.shared.DeclKindFacts.{is_literal, IsLiteral, literal, literal_lacks, is_stop, other_stop, sort_literal, opener_literal, number_small, number_none, called_name, called_word}
 use Rattle.ec_heading.proofs.shared.Listed.{Named, AreBelow, ids_again, ids_known}
 use Rattle.ec_heading.proofs.shared.Declarable.{Heads, HasRoom, heads_all, heads_opened, has_room, is_clean, no_kind}
 use Rattle.ec_heading.proofs.shared.NameWords.{name_is_word, name_not_empty, named, IsNamed, name_apart}
@@ -41,20 +41,20 @@ literal_fit w word some = record { word = literal_word w word; some = some }
 are_named : (ws : List (List ℕ)) → AreWorkers ws → AreNamed ws
 are_named ws are = recursion_from_All (λ w. is_name w ≡ true) ws are.each
 
-workers_words : (version : Version) (limit : ℕ) (ws : List (List ℕ)) → AreWorkers ws → opened_by version limit (workers_in (codes "workers" ∷ ws)) ≡ Ok (opened version limit ws)
+workers_words : (version : Version) (limit : ℕ) (ws : List (List ℕ)) → AreWorkers ws → opened_by version limit (workers_in (codes "workers" ∷ ws)) ≡ Ok (empty_heading version limit ws)
 workers_words version limit [] are = absurd (omega (arith, are.some))
-workers_words version limit (v ∷ vs) are = ap (λ (o : Option HeadFault). fault_or o (opened version limit (v ∷ vs))) (no_workers_fault (v ∷ vs) are)
+workers_words version limit (v ∷ vs) are = ap (λ (o : Option HeadFault). fault_or o (empty_heading version limit (v ∷ vs))) (no_workers_fault (v ∷ vs) are)
 
 pub workers_read : SpelledWorkersAreRead
 workers_read version limit ws are =
     let n : AreNamed ws = are_named ws are in
     let short : letters (codes "workers" ∷ ws) ≤ 8192 = omega (arith, names_letters ws n, are.few) in
-    line_read (opened version limit []) (codes "workers") ws (literal_fit (codes "workers") refl refl, names_fit ws n) short
+    line_read (empty_heading version limit []) (codes "workers") ws (literal_fit (codes "workers") refl refl, names_fit ws n) short
     ∙ workers_words version limit ws are
 
--- THE PHRASE THAT A DECLARATION IS SPELLED BY
+-- THE PHRASE OF A DECLARATION
 
-number_text : Sort → ℕ → List ℕ
+number_text : DeclKind → ℕ → List ℕ
 number_text s n = if has_number s then decimal n else []
 
 second_of : List (List ℕ) → Option (List ℕ) → List ℕ → Option (List (List ℕ))
@@ -66,7 +66,7 @@ spelled_by : List (List ℕ) → Declaration → Phrase
 spelled_by ws d = record { sort = d.sort; name = d.name; number = number_text d.sort d.number; first = list_words ws d.first; second = second_of ws (second_opener d.sort) d.second }
 
 -- its words are the declaration's
-number_same : (s : Sort) (n : ℕ) → number_part s (number_text s n) ≡ number_words s n
+number_same : (s : DeclKind) (n : ℕ) → number_part s (number_text s n) ≡ number_words s n
 unfolding number_text
 number_same s n = elim (has_number s) as (λ b. (if b then (if b then decimal n else []) ∷ [] else []) ≡ (if b then decimal n ∷ [] else [])) [ true ↦ refl | false ↦ refl ]
 
@@ -93,17 +93,17 @@ form_decimal n small =
     all_digits [] e = refl
     all_digits (b ∷ w) e = (let p = and_parts (is_ascii_digit b) (all_ascii_digits w) e in and_from _ _ p.0 (all_digits w p.1))
 
-text_if : (s : Sort) (n : ℕ) (b : Bool) → has_number s ≡ b → number_text s n ≡ (if b then decimal n else [])
+text_if : (s : DeclKind) (n : ℕ) (b : Bool) → has_number s ≡ b → number_text s n ≡ (if b then decimal n else [])
 unfolding number_text
 text_if s n b e = ap (λ (c : Bool). if c then decimal n else []) e
 
-number_fits : (s : Sort) (n : ℕ) → is_in_range s n ≡ true → NumberFits s (number_text s n)
+number_fits : (s : DeclKind) (n : ℕ) → is_in_range s n ≡ true → NumberFits s (number_text s n)
 number_fits s n range = record {
   none = text_if s n false;
   some = λ q. ap is_number_form (text_if s n true q) ∙ form_decimal n (number_small s n range);
 }
 
-name_fits : (s : Sort) (name : List ℕ) → is_called s name ≡ true → NameFits s name
+name_fits : (s : DeclKind) (name : List ℕ) → is_called s name ≡ true → NameFits s name
 name_fits s name h = λ q. called_word s name q h
 
 some_words : (ws : List (List ℕ)) (ids : List ℕ) → eqb (length ids) 0 ≡ false → HasWords (list_words ws ids)
@@ -134,19 +134,19 @@ ends_right : (o : Option (List ℕ)) (ws : List (List ℕ)) → is_stop o ≡ tr
 ends_right None ws good named = tt
 ends_right (Some stop) ws good named = no_stop stop ws (and_parts (is_literal stop) (is_reserved stop) good).1 named
 
--- the phrase makes the declaration again
-number_back : (s : Sort) (n : ℕ) → is_in_range s n ≡ true → unwrap_or (number_of (number_text s n)) 0 ≡ n
-number_back s n range = elim (has_number s) as (λ b. has_number s ≡ b → unwrap_or (number_of (number_text s n)) 0 ≡ n) [
-  | true ↦ λ q. ap (λ (w : List ℕ). unwrap_or (number_of w) 0) (text_if s n true q) ∙ ap (λ (o : Option ℕ). unwrap_or o 0) (number_again n (omega (arith, number_small s n range)))
-  | false ↦ λ q. ap (λ (w : List ℕ). unwrap_or (number_of w) 0) (text_if s n false q) ∙ sym (number_none s n q range)
+-- the phrase is read as the declaration
+number_back : (s : DeclKind) (n : ℕ) → is_in_range s n ≡ true → unwrap_or (number_in_word (number_text s n)) 0 ≡ n
+number_back s n range = elim (has_number s) as (λ b. has_number s ≡ b → unwrap_or (number_in_word (number_text s n)) 0 ≡ n) [
+  | true ↦ λ q. ap (λ (w : List ℕ). unwrap_or (number_in_word w) 0) (text_if s n true q) ∙ ap (λ (o : Option ℕ). unwrap_or o 0) (number_again n (omega (arith, number_small s n range)))
+  | false ↦ λ q. ap (λ (w : List ℕ). unwrap_or (number_in_word w) 0) (text_if s n false q) ∙ sym (number_none s n q range)
 ] refl
 
-good_back : (s : Sort) (n : ℕ) → is_in_range s n ≡ true → is_bad_number s (number_of (number_text s n)) ≡ false
-good_back s n range = elim (has_number s) as (λ b. has_number s ≡ b → is_bad_number s (number_of (number_text s n)) ≡ false) [
+good_back : (s : DeclKind) (n : ℕ) → is_in_range s n ≡ true → is_bad_number s (number_in_word (number_text s n)) ≡ false
+good_back s n range = elim (has_number s) as (λ b. has_number s ≡ b → is_bad_number s (number_in_word (number_text s n)) ≡ false) [
   | true ↦ λ q.
-      ap (λ (w : List ℕ). is_bad_number s (number_of w)) (text_if s n true q) ∙ ap (is_bad_number s) (number_again n (omega (arith, number_small s n range)))
+      ap (λ (w : List ℕ). is_bad_number s (number_in_word w)) (text_if s n true q) ∙ ap (is_bad_number s) (number_again n (omega (arith, number_small s n range)))
       ∙ and_right (has_number s) (not (is_in_range s n)) (ap not range)
-  | false ↦ λ q. ap (λ (w : List ℕ). is_bad_number s (number_of w)) (text_if s n false q) ∙ q
+  | false ↦ λ q. ap (λ (w : List ℕ). is_bad_number s (number_in_word w)) (text_if s n false q) ∙ q
 ] refl
 
 second_back : (ws : List (List ℕ)) (o : Option (List ℕ)) (ids : List ℕ) → fits_form o ids ≡ true → unwrap_or (second_of ws o ids) [] ≡ list_words ws ids
@@ -158,11 +158,12 @@ second_back ws (Some stop) (i ∷ ids) form = refl
 
 -- A DECLARATION
 
-same_declaration : (s : Sort) (name : List ℕ) (m n : ℕ) (a b c e : List ℕ) → m ≡ n → a ≡ b → c ≡ e
+same_declaration : (s : DeclKind) (name : List ℕ) (m n : ℕ) (a b c e : List ℕ) → m ≡ n → a ≡ b
+    → c ≡ e
     → ◌≡◌ {A = Declaration} (record { sort = s; name = name; number = m; first = a; second = c }) (record { sort = s; name = name; number = n; first = b; second = e })
 same_declaration s name m n a b c e p q r = cc
 
-module _ (ws : List (List ℕ)) (are : AreWorkers ws) (h : Headed) (heads : Heads ws h) (d : Declaration) (may : IsDeclarable h d) where
+module _ (ws : List (List ℕ)) (are : AreWorkers ws) (h : HeadingModel) (heads : Heads ws h) (d : Declaration) (may : IsDeclarable h d) where
   room : HasRoom d.sort h.setup d.number d.first d.second
   room = has_room d.sort h.setup d.number d.first d.second may.form may.taken
 
@@ -217,10 +218,10 @@ module _ (ws : List (List ℕ)) (are : AreWorkers ws) (h : Headed) (heads : Head
       ap (kind_of h.setup h.words (spelled_by ws d)) back
       ∙ no_kind h.setup h.words (spelled_by ws d) d (is_clean h (spelled_by ws d) d may (good_back d.sort d.number may.range) (known d.first below_first) (ap (has_unknown h.words) second_is ∙ known d.second below_second))
 
-  declared : declared_or h (parts_in (declaration_words ws d)) ≡ Ok (declared_by h d)
+  declared : declared_or h (parts_in (declaration_words ws d)) ≡ Ok (with_declaration h d)
   declared =
       ap (declared_or h) parts
-      ∙ ap₂ (λ (o : Option HeadFault) (e : Declaration). fault_or o (declared_by h e)) no_fault back
+      ∙ ap₂ (λ (o : Option HeadFault) (e : Declaration). fault_or o (with_declaration h e)) no_fault back
 
 -- ITS LINE
 
@@ -244,7 +245,7 @@ digits_word (b ∷ w) e =
 decimal_fit : (n : ℕ) → n ≤ 1000000 → IsFit (decimal n)
 decimal_fit n small = literal_fit (decimal n) (digits_word (decimal n) (digits_decimal own n (omega arith))) (ne_eqb _ _ (λ e. (omega (arith, e, decimal_nonempty n (omega arith)))))
 
-number_fit : (s : Sort) (n : ℕ) → is_in_range s n ≡ true → AreFit (number_words s n) × (letters (number_words s n) ≤ 21)
+number_fit : (s : DeclKind) (n : ℕ) → is_in_range s n ≡ true → AreFit (number_words s n) × (letters (number_words s n) ≤ 21)
 number_fit s n range =
     let small : n ≤ 1000000 = number_small s n range in
     elim (has_number s) as (λ b. AreFit (if b then decimal n ∷ [] else []) × (letters (if b then decimal n ∷ [] else []) ≤ 21)) [
@@ -252,7 +253,7 @@ number_fit s n range =
       | false ↦ (tt, zero-le)
     ]
 
-name_fit : (s : Sort) (name : List ℕ) → is_called s name ≡ true → AreFit (name_words s name) × (letters (name_words s name) ≤ 17)
+name_fit : (s : DeclKind) (name : List ℕ) → is_called s name ≡ true → AreFit (name_words s name) × (letters (name_words s name) ≤ 17)
 name_fit s name h =
     elim (has_name s) as (λ b. has_name s ≡ b → AreFit (if b then name ∷ [] else []) × (letters (if b then name ∷ [] else []) ≤ 17)) [
       | true ↦ λ q.
@@ -269,7 +270,7 @@ second_fit (Some stop) ws (i ∷ ids) good named =
     let f = text_fit stop (and_parts (is_literal stop) (is_reserved stop) good).0 in
     ((f.0, names_fit (list_words ws (i ∷ ids)) named), omega (arith, f.1, names_letters (list_words ws (i ∷ ids)) named, listed_length ws (i ∷ ids)))
 
-module _ (ws : List (List ℕ)) (are : AreWorkers ws) (h : Headed) (heads : Heads ws h) (d : Declaration) (may : IsDeclarable h d) where
+module _ (ws : List (List ℕ)) (are : AreWorkers ws) (h : HeadingModel) (heads : Heads ws h) (d : Declaration) (may : IsDeclarable h d) where
   named_a : AreNamed (list_words ws d.first)
   named_a = named_first ws are h heads d may
 
@@ -310,7 +311,7 @@ module _ (ws : List (List ℕ)) (are : AreWorkers ws) (h : Headed) (heads : Head
   some_workers : eqb h.setup.workers 0 ≡ false
   some_workers = ne_eqb _ _ (λ e. (omega (arith, e, heads.count, are.some)))
 
-  pub line_declared : head_step h (declaration_line ws d) ≡ Ok (declared_by h d)
+  pub line_declared : head_step h (declaration_line ws d) ≡ Ok (with_declaration h d)
   line_declared =
       line_read h (sort_word d.sort) (name_words d.sort d.name ++ number_words d.sort d.number ++ opener d.sort ∷ list_words ws d.first ++ second_words ws (second_opener d.sort) d.second) all_fit all_short
       ∙ cond-false _ _ _ some_workers
@@ -318,4 +319,4 @@ module _ (ws : List (List ℕ)) (are : AreWorkers ws) (h : Headed) (heads : Head
 
 pub declaration_read : SpelledDeclarationIsRead
 declaration_read version limit ws before d are may =
-    line_declared ws are (declared_all (opened version limit ws) before) (heads_all ws (opened version limit ws) before (heads_opened version limit ws)) d may
+    line_declared ws are (with_declarations (empty_heading version limit ws) before) (heads_all ws (empty_heading version limit ws) before (heads_opened version limit ws)) d may

@@ -1,21 +1,21 @@
--- What is read is spelled: the line of the workers, and a declaration's.
+-- What is read is an encoding: the line of the workers, and that of a declaration.
 use Rattle.std.proofs.Common.{◌≡◌, ℕ, ◌≤◌, List, [], ◌∷◌, ◌++◌, length, Bool, true, false, eqb, cond, Option, Some, None, unwrap_or, Result, Ok, Err, refl, sym, ap, ap₂, ◌∙◌, arith, append_assoc, codes, decimal, bytes_eq, ne_eqb, if◌then◌else◌}
 use Rattle.std.specs.List.{join_with_byte}
 use Rattle.std.proofs.lemmas.Bool.{true≢false, eqb-false, cond-false}
-use Rattle.ec_text.specs.Words.{words_of, number_of}
+use Rattle.ec_text.specs.Words.{words_of, number_in_word}
 use Rattle.ec_text.proofs.shared.WordLemmas.{split_join}
 use Rattle.ec_text.proofs.shared.NumberLemmas.{number_takes}
-use Rattle.ec_heading.specs.Sorts.{sort_word, has_number, opener, second_opener, needs_second}
+use Rattle.ec_heading.specs.DeclKinds.{sort_word, has_number, opener, second_opener, needs_second}
 use Rattle.ec_heading.specs.declared.version.Version.{Version}
-use Rattle.ec_heading.specs.Headed.{Headed}
-use Rattle.ec_heading.specs.Outline.{Declaration, AreWorkers, IsDeclarable, opened, declared_by, declared_all}
+use Rattle.ec_heading.specs.HeadingModel.{HeadingModel}
+use Rattle.ec_heading.specs.HeaderTree.{Declaration, AreWorkers, IsDeclarable, empty_heading, with_declaration, with_declarations}
 use Rattle.ec_heading.specs.Spelling.{list_words, name_words, number_words, second_words, declaration_words}
 use Rattle.ec_heading.specs.Form.{Phrase, parts_in}
 use Rattle.ec_heading.specs.Kinds.{declaration_of, declaration_fault, size_in, second_list, workers_fault, is_bad_number}
 use Rattle.ec_heading.specs.Lists.{ids_in, has_unknown}
 use Rattle.ec_heading.specs.Heading.{head_step, words_step, is_no_line, fault_or, opened_by, declared_or, workers_in}
 use Rattle.ec_heading.specs.HeadingLaws.{Declares, ReadWorkersAreSpelled, ReadDeclarationIsSpelled}
-use Rattle.ec_heading.specs.declared.sort.Sort.{Sort}
+use Rattle.ec_heading.specs.declared.decl_kind.DeclKind.{DeclKind}
 use Rattle.ec_heading.specs.declared.heading.HeadFault.{HeadFault}
 use Rattle.ec_heading.specs.declared.heading.HeadFault.TheVariants as faults
 use Rattle.ec_heading.specs.Phrased.{IsSpelled, NumberFits, SecondFits, number_part, second_part}
@@ -24,31 +24,31 @@ use Rattle.ec_heading.proofs.shared.Listed.{Named, ids_spelled, ids_some}
 use Rattle.ec_heading.proofs.shared.Declarable.{Heads, IsClean, clean, heads_all, heads_opened, may_declare}
 use Rattle.ec_heading.proofs.WorkersLine.{are_workers}
 
--- A LINE THAT IS TAKEN
+-- A LINE THAT IS ADDED
 
-accepted : (b : Bool) (r : Result Headed HeadFault) (after : Headed) → cond b (Err faults.BadLine) r ≡ Ok after → r ≡ Ok after
+accepted : (b : Bool) (r : Result HeadingModel HeadFault) (after : HeadingModel) → cond b (Err faults.BadLine) r ≡ Ok after → r ≡ Ok after
 accepted true r after e = cc
 accepted false r after e = e
 
-pub taken_by_words : (h : Headed) (line : List ℕ) (after : Headed) → head_step h line ≡ Ok after → words_step h (words_of line) ≡ Ok after
+pub taken_by_words : (h : HeadingModel) (line : List ℕ) (after : HeadingModel) → head_step h line ≡ Ok after → words_step h (words_of line) ≡ Ok after
 unfolding head_step
 taken_by_words h line after e = accepted (is_no_line line) (words_step h (words_of line)) after e
 
-not_refused : (o : Option HeadFault) (h after : Headed) → fault_or o h ≡ Ok after → (o ≡ None) × (after ≡ h)
+not_refused : (o : Option HeadFault) (h after : HeadingModel) → fault_or o h ≡ Ok after → (o ≡ None) × (after ≡ h)
 not_refused None h after e = (refl, cc)
 not_refused (Some fault) h after e = cc
 
 -- THE WORKERS
 
-workers_taken : (version : Version) (limit : ℕ) (words : List (List ℕ)) (after : Headed) → opened_by version limit (workers_in words) ≡ Ok after → (ws : List (List ℕ)) × AreWorkers ws × (words ≡ codes "workers" ∷ ws) × (after ≡ opened version limit ws)
+workers_taken : (version : Version) (limit : ℕ) (words : List (List ℕ)) (after : HeadingModel) → opened_by version limit (workers_in words) ≡ Ok after → (ws : List (List ℕ)) × AreWorkers ws × (words ≡ codes "workers" ∷ ws) × (after ≡ empty_heading version limit ws)
 workers_taken version limit [] after e = (cc)
 workers_taken version limit (w ∷ []) after e = (cc)
 workers_taken version limit (w ∷ v ∷ vs) after e =
-    let Q : Type 0 = (ws : List (List ℕ)) × AreWorkers ws × (w ∷ v ∷ vs ≡ codes "workers" ∷ ws) × (after ≡ opened version limit ws) in
+    let Q : Type 0 = (ws : List (List ℕ)) × AreWorkers ws × (w ∷ v ∷ vs ≡ codes "workers" ∷ ws) × (after ≡ empty_heading version limit ws) in
     let P : Bool → Type 0 = λ b. bytes_eq w (codes "workers") ≡ b → opened_by version limit (cond b (Some (v ∷ vs)) None) ≡ Ok after → Q in
     let go : P (bytes_eq w (codes "workers")) = elim (bytes_eq w (codes "workers")) as P [
       | true ↦ λ q f.
-          let n = not_refused (workers_fault (v ∷ vs)) (opened version limit (v ∷ vs)) after f in
+          let n = not_refused (workers_fault (v ∷ vs)) (empty_heading version limit (v ∷ vs)) after f in
           (v ∷ vs, are_workers (v ∷ vs) (v, vs, refl) n.0, ap (λ (u : List ℕ). u ∷ v ∷ vs) (same_word w (codes "workers") q), n.1)
       | false ↦ λ q f. (cc)
     ] in
@@ -56,19 +56,19 @@ workers_taken version limit (w ∷ v ∷ vs) after e =
 
 pub workers_spelled : ReadWorkersAreSpelled
 workers_spelled version limit line after e =
-    let t = workers_taken version limit (words_of line) after (taken_by_words (opened version limit []) line after e) in
+    let t = workers_taken version limit (words_of line) after (taken_by_words (empty_heading version limit []) line after e) in
     record { workers = t.0; are = t.1; spelled = sym (split_join line) ∙ ap (join_with_byte 32) t.2; opens = t.3 }
 
 -- A DECLARATION
 
--- a good number is spelled by its word
-good_spelled : (s : Sort) (word : List ℕ) (o : Option ℕ) → number_of word ≡ o → has_number s ≡ true → is_bad_number s o ≡ false → decimal (unwrap_or o 0) ≡ word
+-- a number in range is written as its word
+good_spelled : (s : DeclKind) (word : List ℕ) (o : Option ℕ) → number_in_word word ≡ o → has_number s ≡ true → is_bad_number s o ≡ false → decimal (unwrap_or o 0) ≡ word
 good_spelled s word None is has good = absurd (true≢false (sym has ∙ good))
 good_spelled s word (Some n) is has good = sym (number_takes word n is).0
 
-number_spelled : (s : Sort) (word : List ℕ) → NumberFits s word → is_bad_number s (number_of word) ≡ false → number_words s (unwrap_or (number_of word) 0) ≡ number_part s word
-number_spelled s word fits good = elim (has_number s) as (λ b. has_number s ≡ b → (if b then decimal (unwrap_or (number_of word) 0) ∷ [] else []) ≡ (if b then word ∷ [] else [])) [
-  | true ↦ λ q. ap (λ (w : List ℕ). w ∷ []) (good_spelled s word (number_of word) refl q good)
+number_spelled : (s : DeclKind) (word : List ℕ) → NumberFits s word → is_bad_number s (number_in_word word) ≡ false → number_words s (unwrap_or (number_in_word word) 0) ≡ number_part s word
+number_spelled s word fits good = elim (has_number s) as (λ b. has_number s ≡ b → (if b then decimal (unwrap_or (number_in_word word) 0) ∷ [] else []) ≡ (if b then word ∷ [] else [])) [
+  | true ↦ λ q. ap (λ (w : List ℕ). w ∷ []) (good_spelled s word (number_in_word word) refl q good)
   | false ↦ λ q. refl
 ] refl
 
@@ -76,7 +76,7 @@ second_listed : (ws : List (List ℕ)) (stop : List ℕ) (ids : List ℕ) → eq
 second_listed ws stop [] some = absurd (eqb-false 0 0 some refl)
 second_listed ws stop (i ∷ ids) some = refl
 
-module _ (ws : List (List ℕ)) (h : Headed) (heads : Heads ws h) where
+module _ (ws : List (List ℕ)) (h : HeadingModel) (heads : Heads ws h) where
   listed : (vs : List (List ℕ)) → has_unknown h.words vs ≡ false → list_words ws (ids_in h.words vs) ≡ vs
   listed vs known =
       ap (λ (names : Named). list_words ws (ids_in names vs)) heads.words
@@ -103,14 +103,14 @@ module _ (ws : List (List ℕ)) (h : Headed) (heads : Heads ws h) where
       ∙ append_assoc (sort_word p.sort ∷ name_words p.sort p.name) (number_words p.sort (size_in p)) (opener p.sort ∷ (list_words ws (ids_in h.words p.first) ++ second_words ws (second_opener p.sort) (ids_in h.words (second_list p))))
       ∙ ap₂ (λ (m v : List (List ℕ)). sort_word p.sort ∷ (name_words p.sort p.name ++ (m ++ opener p.sort ∷ v))) number (ap₂ ◌++◌ first second))
 
-  declared : (words : List (List ℕ)) (after : Headed) (o : Option Phrase) → parts_in words ≡ o → declared_or h o ≡ Ok after → (d : Declaration) × IsDeclarable h d × (words ≡ declaration_words ws d) × (after ≡ declared_by h d)
+  declared : (words : List (List ℕ)) (after : HeadingModel) (o : Option Phrase) → parts_in words ≡ o → declared_or h o ≡ Ok after → (d : Declaration) × IsDeclarable h d × (words ≡ declaration_words ws d) × (after ≡ with_declaration h d)
   declared words after None is e = (cc)
   declared words after (Some p) is e =
-      let n = not_refused (declaration_fault h.setup h.words p) (declared_by h (declaration_of h.words p)) after e in
+      let n = not_refused (declaration_fault h.setup h.words p) (with_declaration h (declaration_of h.words p)) after e in
       let s : IsSpelled words p = parts_spelled words p is in
       (declaration_of h.words p, may_declare ws h words p heads s n.0, words_spelled words p s n.0, n.1)
 
-  pub line_spelled : (line : List ℕ) (after : Headed) → 1 ≤ length ws → head_step h line ≡ Ok after → Declares ws h line after
+  pub line_spelled : (line : List ℕ) (after : HeadingModel) → 1 ≤ length ws → head_step h line ≡ Ok after → Declares ws h line after
   line_spelled line after some e =
       let workers : eqb h.setup.workers 0 ≡ false = ne_eqb _ _ (λ q. (omega (arith, q, heads.count, some))) in
       let f : declared_or h (parts_in (words_of line)) ≡ Ok after = sym (cond-false _ _ _ workers) ∙ taken_by_words h line after e in
@@ -119,4 +119,4 @@ module _ (ws : List (List ℕ)) (h : Headed) (heads : Heads ws h) where
 
 pub declaration_spelled : ReadDeclarationIsSpelled
 declaration_spelled version limit ws before line after are e =
-    line_spelled ws (declared_all (opened version limit ws) before) (heads_all ws (opened version limit ws) before (heads_opened version limit ws)) line after are.some e
+    line_spelled ws (with_declarations (empty_heading version limit ws) before) (heads_all ws (empty_heading version limit ws) before (heads_opened version limit ws)) line after are.some e

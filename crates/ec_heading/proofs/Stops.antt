@@ -1,4 +1,4 @@
--- The lists before and behind a word.
+-- The lists before and after a word.
 use Rattle.std.proofs.Common.{◌≡◌, ℕ, ◌+◌, ◌-◌, ◌<◌, List, [], ◌∷◌, ◌++◌, length, take, drop, Bool, true, false, Option, Some, None, zero, suc, refl, sym, ap, ◌∙◌, arith, bytes_eq, take_all, zero-add, unwrap_or, if◌then◌else◌, get_or, add-one, drop-cons}
 use Rattle.std.proofs.lemmas.List.{length-append, length-drop}
 use Rattle.std.proofs.lemmas.Slice.Eq.{bytes_eq-Decides}
@@ -6,10 +6,10 @@ use Rattle.std.proofs.lemmas.Option.{none-some}
 use Rattle.std.proofs.Math.Seq.{take-append-add, drop-append-add, take-append_seam, drop-append_seam, drop-length}
 use Rattle.ec_text.specs.Words.{words_of, IsWord}
 use Rattle.ec_text.proofs.shared.WordLemmas.{has_first, words_at, words_alone}
-use Rattle.ec_heading.specs.Sorts.{sort_word, sort_of, has_name, opener, second_opener, needs_second}
+use Rattle.ec_heading.specs.DeclKinds.{sort_word, sort_of, has_name, opener, second_opener, needs_second}
 use Rattle.ec_heading.specs.Form.{TwoLists, split_words, StopsAt, front_words, behind_words, on_first, is_well, well_or, both_lists, phrase_of, listed_in, opened_in, called_in, numbered_in, sorted_in}
-use Rattle.ec_heading.specs.declared.sort.Sort.{Sort}
-use Rattle.ec_heading.specs.declared.sort.Sort.TheVariants as sorts
+use Rattle.ec_heading.specs.declared.decl_kind.DeclKind.{DeclKind}
+use Rattle.ec_heading.specs.declared.decl_kind.DeclKind.TheVariants as sorts
 
 split_here : (stop w : List ℕ) (ws : List (List ℕ)) → bytes_eq w stop ≡ true → split_words stop (w ∷ ws) ≡ ([], Some ws)
 unfolding split_words
@@ -108,25 +108,26 @@ both_none : (o : Option (List ℕ)) → both_lists o [] ≡ ([], None)
 both_none None = refl
 both_none (Some stop) = split_none stop
 
-pub listed_none : (s : Sort) (name number : List ℕ) → listed_in s name number [] ≡ None
+pub listed_none : (s : DeclKind) (name number : List ℕ) → listed_in s name number [] ≡ None
 listed_none s name number = ap (λ (l : TwoLists). phrase_of s name number (well_or (needs_second s) l)) (both_none (second_opener s))
 
-pub sorted_none : (o : Option Sort) → sorted_in o [] ≡ None
+pub sorted_none : (o : Option DeclKind) → sorted_in o [] ≡ None
 sorted_none None = refl
 sorted_none (Some s) = elim (has_name s) as (λ b. (if b then called_in s [] else numbered_in s (sort_word s) []) ≡ None) [ true ↦ refl | false ↦ refl ]
 
-pub opened_one : (s : Sort) (name number word : List ℕ) → opened_in s name number (word ∷ []) ≡ None
+pub opened_one : (s : DeclKind) (name number word : List ℕ)
+    → opened_in s name number (word ∷ []) ≡ None
 opened_one s name number word = elim (bytes_eq word (opener s)) as (λ b. (if b then listed_in s name number [] else None) ≡ None) [ true ↦ listed_none s name number | false ↦ refl ]
 
--- the word is that of this sort, or of one further on in the table
-this_or_later : (w : List ℕ) (t s : Sort) (o : Option Sort) → (if bytes_eq w (sort_word t) then Some t else o) ≡ Some s → (o ≡ Some s → sort_word s ≡ w) → sort_word s ≡ w
+-- the word is that of this kind, or of one later in the table
+this_or_later : (w : List ℕ) (t s : DeclKind) (o : Option DeclKind) → (if bytes_eq w (sort_word t) then Some t else o) ≡ Some s → (o ≡ Some s → sort_word s ≡ w) → sort_word s ≡ w
 this_or_later w t s o is later =
     elim (bytes_eq w (sort_word t)) as (λ b. bytes_eq w (sort_word t) ≡ b → (if b then Some t else o) ≡ Some s → sort_word s ≡ w)
-    [ true ↦ (λ same e. ap sort_word (sym (ap (λ (o : Option Sort). unwrap_or o t) e)) ∙ sym ((bytes_eq-Decides w (sort_word t)).0 same)) | false ↦ (λ _ e. later e) ]
+    [ true ↦ (λ same e. ap sort_word (sym (ap (λ (o : Option DeclKind). unwrap_or o t) e)) ∙ sym ((bytes_eq-Decides w (sort_word t)).0 same)) | false ↦ (λ _ e. later e) ]
     refl is
 
--- a word that opens a sort is the word of the sort
-pub word_of_sort : (w : List ℕ) (s : Sort) → sort_of w ≡ Some s → sort_word s ≡ w
+-- a word that opens a kind of declaration is the word of that kind
+pub word_of_sort : (w : List ℕ) (s : DeclKind) → sort_of w ≡ Some s → sort_word s ≡ w
 word_of_sort w s is =
     this_or_later w sorts.EventCount s _ is (λ e.
     this_or_later w sorts.Sequencer s _ e (λ e.

@@ -5,7 +5,7 @@ use Rattle.std.proofs.lemmas.List.Elements.{All-from_recursion, recursion_from_A
 use Rattle.std.proofs.lemmas.Slice.Eq.{bytes_eq-Decides}
 use Rattle.std.proofs.lemmas.Bool.{true≢false, or_parts, or_from, not-false, not_from_true, ltb-false, le-ltb, false_from_ne_true}
 use Rattle.ec_count.specs.Reserved.{is_name}
-use Rattle.ec_heading.specs.Outline.{AreWorkers}
+use Rattle.ec_heading.specs.HeaderTree.{AreWorkers}
 use Rattle.ec_heading.specs.Lists.{has_word, has_word_twice}
 use Rattle.ec_text.specs.Words.{words_of}
 use Rattle.ec_text.proofs.shared.WordLemmas.{has_first}
@@ -29,7 +29,7 @@ each_named : (ws : List (List ℕ)) → AllByRecursion (λ w. is_name w ≡ true
 each_named [] h = refl
 each_named (w ∷ ws) h = or_from _ _ (not_from_true _ h.0) (each_named ws h.1)
 
--- no word stands twice
+-- no word occurs twice
 apart_from : (v : List ℕ) (ws : List (List ℕ)) → has_word v ws ≡ false → (k : ℕ) (d : List ℕ) → k < length ws → v ≢ get_or ws k d
 apart_from v [] e k d within = absurd (omega arith)
 apart_from v (w ∷ ws) e zero d within = λ same. true≢false (sym ((bytes_eq-Decides v w).1 same) ∙ (or_parts (bytes_eq v w) (has_word v ws) e).0)
@@ -78,7 +78,7 @@ no_workers_fault ws are =
     let e3 : nat_lt 16 (length ws) ≡ false = le-ltb 16 (length ws) are.few in
     rw (e1, e2, e3) refl
 
--- THE WORDS BEHIND `workers`
+-- THE WORDS AFTER `workers`
 
 pub some_workers : (w : List ℕ) (rest : List ℕ) → workers_in (w ∷ words_of rest) ≡ (if bytes_eq w (codes "workers") then Some (words_of rest) else None)
 some_workers w rest =

@@ -10,11 +10,11 @@ pub mod NameWords
 pub mod Each
 pub mod SpelledWords
 pub mod Phrases
-pub mod SortFacts
+pub mod DeclKindFacts
 pub mod Standing
 pub mod Places
-pub mod OutlineGrows
-pub mod OutlineNames
-pub mod OutlineFound
+pub mod TreeGrows
+pub mod TreeNames
+pub mod TreeFound
 pub mod Upgrades
 pub mod VersionFacts

@@ -1,12 +1,12 @@
-pub mod Sorts
+pub mod DeclKinds
 pub mod Objects
 pub mod Versions
-pub mod Headed
+pub mod HeadingModel
 pub mod Groups
 pub mod Rules
-pub mod Outline
-pub mod Outlined
-pub mod Upgraded
+pub mod HeaderTree
+pub mod HeadingInvariant
+pub mod Upgrade
 pub mod Spelling
 pub mod Lists
 pub mod Form
@@ -15,4 +15,4 @@ pub mod Kinds
 pub mod Heading
 pub mod HeadingLaws
 pub mod Recalled
-pub mod Spelled
+pub mod EntryWords

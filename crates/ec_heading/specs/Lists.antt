@@ -6,14 +6,14 @@ use Rattle.ec_count.specs.Names.{find_name}
 use Rattle.ec_count.specs.declared.target.Target.{Target}
 use Rattle.ec_count.specs.declared.target.Target.TheVariants.{Worker}
 
--- the worker that a name stands for, if it stands for one
-abbrev pub worker_of : Target → Option ℕ
-worker_of (Worker w) = Some w
-worker_of _ = None
+-- the worker that a name denotes, if it denotes one
+abbrev pub target_worker : Target → Option ℕ
+target_worker (Worker w) = Some w
+target_worker _ = None
 
--- the worker of a name
+-- the worker that a word names
 abbrev pub worker_in : List (List ℕ × Target) → List ℕ → Option ℕ
-worker_in names w = option_and_then worker_of (find_name w names)
+worker_in names w = option_and_then target_worker (find_name w names)
 
 -- the workers that are named in a list; words that name none are left out
 abbrev pub ids_in : List (List ℕ × Target) → List (List ℕ) → List ℕ
@@ -24,11 +24,11 @@ ids_in names (w ∷ ws) = option_map_or (λ i. i ∷ ids_in names ws) (worker_in
 abbrev pub has_unknown : List (List ℕ × Target) → List (List ℕ) → Bool
 has_unknown names ws = list_any (λ w. is_none (worker_in names w)) ws
 
--- whether a word stands in the list
+-- whether a word is in the list
 abbrev pub has_word : List ℕ → List (List ℕ) → Bool
 has_word w ws = list_any (λ v. bytes_eq w v) ws
 
--- whether a word stands twice in the list
+-- whether a word is twice in the list
 abbrev pub has_word_twice : List (List ℕ) → Bool
 has_word_twice [] = false
 has_word_twice (w ∷ ws) = has_word w ws || has_word_twice ws

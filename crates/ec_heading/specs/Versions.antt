@@ -1,4 +1,4 @@
--- The versions of texts: which limits and which acts each may have, and by which first line it is told.
+-- The versions of texts: which limits and which acts each allows, and its first line.
 use Rattle.std.specs.Prelude.{◌≡◌, ℕ, Bool, true, false, ◌&&◌, nat_le, List, Option, Some, None, if◌then◌else◌, bytes_eq}
 use Rattle.std.specs.List.{All}
 use Rattle.ec_core.specs.declared.act.Act.{Act}
@@ -18,20 +18,20 @@ is_limit v n = nat_le 1 n && nat_le n (greatest_limit v)
 abbrev pub as_limit : Version → ℕ → Option ℕ
 as_limit v n = if is_limit v n then Some n else None
 
--- whether components are handed over in texts of this version
-abbrev pub has_hand : Version → Bool
-has_hand One = false
-has_hand Two = true
+-- whether texts of this version may transfer components, by `hand`
+abbrev pub has_transfer : Version → Bool
+has_transfer One = false
+has_transfer Two = true
 
--- whether a text of this version may have the act: a hand, or any other
+-- whether a text of this version may have the act
 abbrev pub can_spell : Version → Act → Bool
-can_spell v (Hand e b) = has_hand v
+can_spell v (Hand e b) = has_transfer v
 can_spell v act = true
 
--- it may have each of these entries
+-- a text of this version may have each of these entries
 abbrev pub CanSpellAll : Version → List Entry → Type 0
 CanSpellAll v entries = All (λ (e : Entry). can_spell v e.act ≡ true) entries
 
--- the version that a line tells, if these are the first lines of the versions
+-- the version whose first line this is, if `header` gives the first line of each
 abbrev pub version_of : (Version → List ℕ) → List ℕ → Option Version
 version_of header line = if bytes_eq line (header One) then Some One else if bytes_eq line (header Two) then Some Two else None

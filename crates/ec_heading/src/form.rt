@@ -1,18 +1,18 @@
 //! The form of a declaration.
 ghost use Rattle.std.specs.Prelude.{◌≡◌, None, option_map, IfNone, IfSome};
 ghost use Rattle.ec_text.specs.Words.{words_of};
-ghost use Rattle.ec_heading.specs.Sorts.{needs_second, second_opener};
-ghost use Rattle.ec_heading.specs.Form.{parts_in, numbered_in, opened_in, split_words, both_lists, shown, shown_lists, well_or, StopsAt};
+ghost use Rattle.ec_heading.specs.DeclKinds.{needs_second, second_opener};
+ghost use Rattle.ec_heading.specs.Form.{parts_in, numbered_in, opened_in, split_words, both_lists, phrase_of_parts, shown_lists, well_or, StopsAt};
 
+use crate::decl_kind::{DeclKind, sort_of};
 use crate::lists::is_same;
-use crate::sort::{Sort, sort_of};
 use ec_text::{cut_word, is_number_form};
 
-/// A declaration, by its words: if the form has no name it is the sort's own word, and where it
-/// has no number that is empty.
+/// A declaration, by its words. If its form has no name, `name` is the word of its kind; if it has
+/// no number, `number` is empty.
 #[derive(Clone, Copy)]
 pub(crate) struct Parts<'a> {
-    pub(crate) sort: Sort,
+    pub(crate) sort: DeclKind,
     pub(crate) name: &'a [u8],
     pub(crate) number: &'a [u8],
     pub(crate) first: &'a [u8],
@@ -26,7 +26,7 @@ pub(crate) struct Lists<'a> {
     pub(crate) second: Option<&'a [u8]>,
 }
 
-/// Returns how many bytes stand before the first such word.
+/// Returns how many bytes precede the first word `stop`; `None` if there is none.
 fn stop_at(list: &[u8], stop: &[u8]) -> Option<usize>
     ensures none { IfNone result (split_words stop.now (words_of list.now) ≡ (words_of list.now, None)) }
     ensures some { IfSome result (λ at. StopsAt stop.now list.now at) }
@@ -52,7 +52,7 @@ fn stop_at(list: &[u8], stop: &[u8]) -> Option<usize>
     }
 }
 
-/// Returns the lists before and behind the first `stop` of a list, if both are well formed.
+/// Returns the lists before and after the first `stop` of a list, if both are well formed.
 fn split_lists<'a>(list: &'a [u8], stop: &[u8], needs: bool) -> Option<Lists<'a>>
     ensures { option_map shown_lists result ≡ well_or needs (split_words stop.now (words_of list.now)) }
 {
@@ -82,8 +82,8 @@ fn split_lists<'a>(list: &'a [u8], stop: &[u8], needs: bool) -> Option<Lists<'a>
     }
 }
 
-/// Returns the two lists of names of a declaration of this sort, if both are well formed.
-fn lists_of<'a>(sort: Sort, list: &'a [u8]) -> Option<Lists<'a>>
+/// Returns the two lists of names of a declaration of this kind, if both are well formed.
+fn parse_lists<'a>(sort: DeclKind, list: &'a [u8]) -> Option<Lists<'a>>
     ensures { option_map shown_lists result ≡ well_or (needs_second sort) (both_lists (second_opener sort) (words_of list.now)) }
 {
     match sort.second_opener() {
@@ -100,10 +100,16 @@ fn lists_of<'a>(sort: Sort, list: &'a [u8]) -> Option<Lists<'a>>
     }
 }
 
-/// Returns the parts of a declaration from the word before its first list on.
+/// Returns the parts of a declaration, given those before its lists and the rest of its line.
 #[tactic(auto, using(crate::proofs::Stops::opened_one))]
-fn opened<'a>(sort: Sort, name: &'a [u8], number: &'a [u8], rest: &'a [u8]) -> Option<Parts<'a>>
-    ensures { option_map shown result ≡ opened_in sort name.now number.now (words_of rest.now) }
+fn parts_from_first_list<'a>(
+    sort: DeclKind,
+    name: &'a [u8],
+    number: &'a [u8],
+    rest: &'a [u8],
+) -> Option<Parts<'a>>
+    ensures { option_map phrase_of_parts result
+        ≡ opened_in sort name.now number.now (words_of rest.now) }
 {
     let (word, Some(rest)) = cut_word(rest) else {
         return None;
@@ -111,7 +117,7 @@ fn opened<'a>(sort: Sort, name: &'a [u8], number: &'a [u8], rest: &'a [u8]) -> O
     if !is_same(word, sort.opener()) {
         return None;
     }
-    let lists = lists_of(sort, rest)?;
+    let lists = parse_lists(sort, rest)?;
     Some(Parts {
         sort,
         name,
@@ -121,12 +127,12 @@ fn opened<'a>(sort: Sort, name: &'a [u8], number: &'a [u8], rest: &'a [u8]) -> O
     })
 }
 
-/// Returns the parts of a declaration from what stands behind its name on.
-fn numbered<'a>(sort: Sort, name: &'a [u8], rest: &'a [u8]) -> Option<Parts<'a>>
-    ensures { option_map shown result ≡ numbered_in sort name.now (words_of rest.now) }
+/// Returns the parts of a declaration, given its name and the rest of its line.
+fn parts_after_name<'a>(sort: DeclKind, name: &'a [u8], rest: &'a [u8]) -> Option<Parts<'a>>
+    ensures { option_map phrase_of_parts result ≡ numbered_in sort name.now (words_of rest.now) }
 {
     if !sort.has_number() {
-        return opened(sort, name, b"".as_slice(), rest);
+        return parts_from_first_list(sort, name, b"".as_slice(), rest);
     }
     let (word, Some(rest)) = cut_word(rest) else {
         return None;
@@ -134,23 +140,23 @@ fn numbered<'a>(sort: Sort, name: &'a [u8], rest: &'a [u8]) -> Option<Parts<'a>>
     if !is_number_form(word) {
         return None;
     }
-    opened(sort, name, word, rest)
+    parts_from_first_list(sort, name, word, rest)
 }
 
-/// Returns the parts of a line of one of the forms.
+/// Returns the parts of a declaration's line; `None` if it has none of the forms.
 #[tactic(auto, using(crate::proofs::Stops::sorted_none, crate::proofs::Stops::word_of_sort), unfolding(crate::specs::Form::parts_in))]
-pub(crate) fn parts_of(line: &[u8]) -> Option<Parts<'_>>
-    ensures { option_map shown result ≡ parts_in (words_of line.now) }
+pub(crate) fn split_declaration(line: &[u8]) -> Option<Parts<'_>>
+    ensures { option_map phrase_of_parts result ≡ parts_in (words_of line.now) }
 {
     let (word, Some(rest)) = cut_word(line) else {
         return None;
     };
     let sort = sort_of(word)?;
     if !sort.has_name() {
-        return numbered(sort, word, rest);
+        return parts_after_name(sort, word, rest);
     }
     let (name, Some(rest)) = cut_word(rest) else {
         return None;
     };
-    numbered(sort, name, rest)
+    parts_after_name(sort, name, rest)
 }

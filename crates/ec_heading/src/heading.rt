@@ -1,42 +1,43 @@
-//! Headings.
+//! A header, built line by line.
 ghost use Rattle.std.specs.Prelude.{◌≡◌, ◌≢◌, ◌+◌, ◌++◌, ◌≤◌, ◌∷◌, IfErr, IfOk, OnErr, OnOk, [], None, false, true, length, option_map, vec_capacity};
 ghost use Rattle.std.specs.List.{All, cons_option};
 ghost use Rattle.ec_text.specs.Words.{words_of};
-ghost use Rattle.ec_heading.specs.Form.{parts_in, shown};
+ghost use Rattle.ec_heading.specs.Form.{parts_in, phrase_of_parts};
 ghost use Rattle.ec_heading.specs.Groups.{FitsGroup};
 ghost use Rattle.ec_heading.specs.Heading.{Lines, Steps, workers_in, words_step, opened_by, declared_or};
 ghost use Rattle.ec_heading.specs.Kinds.{workers_fault, declaration_fault, declaration_of, second_list, is_full_for};
 ghost use Rattle.ec_count.specs.Names.{AreNames};
 ghost use Rattle.ec_heading.specs.Lists.{ids_in, worker_in};
 ghost use Rattle.ec_heading.specs.Objects.{AreNew, ids_after, objects_of, spelled_objects};
-ghost use Rattle.ec_heading.specs.Outlined.{IsHeading, HasOutline};
-ghost use Rattle.ec_heading.specs.Sorts.{is_in_range};
-ghost use Rattle.ec_heading.specs.Spelled.{event_in, sequencer_in, cell_in_word, cell_of};
+ghost use Rattle.ec_heading.specs.HeadingInvariant.{IsHeading, HasHeaderTree};
+ghost use Rattle.ec_heading.specs.DeclKinds.{is_in_range};
+ghost use Rattle.ec_heading.specs.EntryWords.{event_in, sequencer_in, cell_in_word, cell_of};
 ghost use Rattle.ec_heading.specs.Versions.{greatest_limit};
-ghost use Rattle.ec_heading.specs.Upgraded.{upgraded};
-ghost use Rattle.ec_heading.specs.Outline.{opened, IsDeclarable, numbered, named_as, declared_by};
+ghost use Rattle.ec_heading.specs.Upgrade.{upgrade_heading};
+ghost use Rattle.ec_heading.specs.HeaderTree.{empty_heading, IsDeclarable, number_names, named_as};
+ghost use Rattle.ec_heading.specs.HeaderTree.{with_declaration};
 
-use crate::form::{Parts, parts_of};
+use crate::decl_kind::DeclKind;
+use crate::entry_words::{block_of, closed_number, cut_at, target_event, target_sequencer};
+use crate::form::{Parts, split_declaration};
 use crate::group::Group;
 use crate::kinds::{declaration_fault, size_of, workers_fault};
 use crate::lists::{is_same, push_ids, worker_in};
 use crate::objects::{add_objects, spell_objects, target_of};
-use crate::sort::Sort;
-use crate::spelled::{block_of, closed_number, cut_at, event_of, sequencer_of};
 use crate::version::Version;
 use arrayvec::ArrayVec;
 use ec_count::{
-    CellId, EventId, Limit, NameFault, Names, SeqId, Setup, Target, Vocabulary, WorkerId,
+    CellId, EventId, Limit, NameFault, Names, SeqId, Setup, SymbolTable, Target, WorkerId,
 };
 use ec_text::{cut_word, has_blank};
 use std::alloc::{AllocError, Global};
 use std::marker::Model;
 use thiserror::Error;
 
-/// The most bytes that a line may have without its LF, in a heading, a trace and a script.
+/// The most bytes of a line, without its LF.
 pub const LINE_MAX: usize = 8192;
 
-/// Why a line of a heading is refused: the least of these that holds of the line.
+/// Why a line of a header is rejected: the first of these that holds of the line.
 #[derive(Clone, Copy, Debug, PartialEq, Eq, Error)]
 pub enum HeadFault {
     /// The line has none of the forms allowed in its place, or more than 8192 bytes.
@@ -54,13 +55,13 @@ pub enum HeadFault {
     /// A number is outside its range.
     #[error("a number is out of range")]
     BadNumber,
-    /// A table would pass its bound.
+    /// A table would exceed its bound.
     #[error("a table would pass its bound")]
     TooMany,
-    /// A worker stands in both lists of a group.
+    /// A worker is in both lists of a buffer or a database.
     #[error("a worker stands in both roles")]
     TwoRoles,
-    /// Memory was refused.
+    /// An allocation failed.
     #[error("memory was refused")]
     Memory,
 }
@@ -68,8 +69,9 @@ pub enum HeadFault {
 impl HeadFault {
     ghost use Rattle.ec_heading.specs.Kinds.{fault_number};
 
-    /// Returns its number among the kinds of faults of scripts, from 2 to 9; none of want of
-    /// memory, for which no line is to blame.
+    /// Returns its number among the kinds of errors of scripts, from 2 to 9.
+    ///
+    /// `Memory` has none: it is no error of a line.
     pub fn number(self) -> Option<u64>
         ensures { result ≡ fault_number self }
     {
@@ -86,24 +88,26 @@ impl HeadFault {
     }
 }
 
-/// What a heading declares: the version of its text, the limit, the workers, and their objects, with their names and the
-/// words by which lines spell them.
+/// A header: its version, its limit, its workers and its objects.
+///
+/// `names` has the names of workers and declarations, `words` the words by which lines name workers
+/// and objects.
 #[derive(Drop)]
 pub struct Heading {
     pub(crate) version: Version,
     pub(crate) setup: Setup,
     pub(crate) names: Names,
-    pub(crate) words: Vocabulary,
+    pub(crate) words: SymbolTable,
     pub(crate) groups: Vec<Group>,
     pub(crate) declarations: Vec<Target>,
 }
 
 impl Model for Heading {
-    ghost use Rattle.ec_heading.specs.Headed.{Headed};
+    ghost use Rattle.ec_heading.specs.HeadingModel.{HeadingModel};
 
-    ghost Value = { Headed };
+    ghost Value = { HeadingModel };
 
-    ghost use Rattle.ec_heading.specs.Outlined.{IsHeading};
+    ghost use Rattle.ec_heading.specs.HeadingInvariant.{IsHeading};
 
     ghost view = { λ h. record { version = h.version; setup = h.setup; names = h.names; words = h.words; groups = h.groups.items; declarations = h.declarations.items } };
 
@@ -128,14 +132,14 @@ fn worker_list(line: &[u8]) -> Option<&[u8]>
 /// Adds the workers of a list in order.
 fn add_workers(
     names: &mut Names,
-    words: &mut Vocabulary,
+    words: &mut SymbolTable,
     setup: &mut Setup,
     list: &[u8],
 ) -> Result<(), NameFault>
     requires room { setup.old.workers + length (words_of list.now) ≤ 16 }
     requires same { words.old ≡ names.old }
-    ensures names { OnOk result (names.new ≡ names.old ++ numbered setup.old.workers (words_of list.now)) }
-    ensures words { OnOk result (words.new ≡ words.old ++ numbered setup.old.workers (words_of list.now)) }
+    ensures names { OnOk result (names.new ≡ names.old ++ number_names setup.old.workers (words_of list.now)) }
+    ensures words { OnOk result (words.new ≡ words.old ++ number_names setup.old.workers (words_of list.now)) }
     ensures setup { OnOk result (setup.new ≡ record setup.old { workers = setup.old.workers + length (words_of list.now) }) }
 {
     let (word, rest) = cut_word(list);
@@ -152,17 +156,22 @@ fn add_workers(
     }
 }
 
-/// Returns a heading with these workers and no declarations.
-fn opened(alloc: Global, version: Version, limit: Limit, list: &[u8]) -> Result<Heading, NameFault>
+/// Returns a header with these workers and no declarations.
+fn empty_heading(
+    alloc: Global,
+    version: Version,
+    limit: Limit,
+    list: &[u8],
+) -> Result<Heading, NameFault>
     requires within { limit ≤ greatest_limit version }
     requires none { workers_fault (words_of list.now) ≡ None }
-    ensures { IfOk result (λ heading. heading ≡ opened version limit (words_of list.now)) }
+    ensures { IfOk result (λ heading. heading ≡ empty_heading version limit (words_of list.now)) }
 {
     let _limit = limit.get();
     let Ok(mut names) = Names::new(alloc) else {
         return Err(NameFault::Memory);
     };
-    let Ok(mut words) = Vocabulary::new(alloc) else {
+    let Ok(mut words) = SymbolTable::new(alloc) else {
         return Err(NameFault::Memory);
     };
     let mut setup = Setup::new(limit);
@@ -178,25 +187,28 @@ fn opened(alloc: Global, version: Version, limit: Limit, list: &[u8]) -> Result<
 }
 
 impl Heading {
-    /// Makes a heading with this limit and nothing declared. The version is that of the text, and a
-    /// text of it may have the limit, as `Version::limit` tells.
+    /// Returns a header with this limit and nothing declared.
+    ///
+    /// The version is that of the text, and must allow the limit: `Version::limit` returns such a
+    /// limit.
     pub fn new(alloc: Global, version: Version, limit: Limit) -> Result<Self, AllocError>
         requires { limit ≤ greatest_limit version }
-        ensures { IfOk result (λ heading. heading ≡ opened version limit []) }
+        ensures { IfOk result (λ heading. heading ≡ empty_heading version limit []) }
     {
         Ok(Heading {
             version,
             setup: Setup::new(limit),
             names: Names::new(alloc)?,
-            words: Vocabulary::new(alloc)?,
+            words: SymbolTable::new(alloc)?,
             groups: Vec::new(alloc),
             declarations: Vec::new(alloc),
         })
     }
 
-    /// Takes a line, without its LF: the one of the workers first, and then declarations. A line is
-    /// refused for the least fault that holds of it, want of memory last, and then nothing is
-    /// changed: after `Memory` the same line may be handed in again.
+    /// Adds a line, without its LF: first the line of the workers, then declarations.
+    ///
+    /// An error is the lowest fault of the line, or `Memory` if it has none, and changes nothing.
+    /// After `Memory` the same line may be passed again.
     #[tactic(auto, unfolding(crate::specs::Heading::head_step))]
     pub fn line(&mut self, line: &[u8]) -> Result<(), HeadFault>
         ensures { Lines result self.old self.new line.now }
@@ -211,7 +223,7 @@ impl Heading {
         }
     }
 
-    /// Takes the line of the workers.
+    /// Adds the line of the workers.
     fn take_workers(&mut self, line: &[u8]) -> Result<(), HeadFault>
         ensures { Steps result self.old self.new (opened_by self.old.version self.old.setup.limit (workers_in (words_of line.now))) }
     {
@@ -222,19 +234,19 @@ impl Heading {
             return Err(fault);
         }
         let alloc = *self.declarations.allocator();
-        let Ok(heading) = opened(alloc, self.version, self.setup.limit(), list) else {
+        let Ok(heading) = empty_heading(alloc, self.version, self.setup.limit(), list) else {
             return Err(HeadFault::Memory);
         };
         *self = heading;
         Ok(())
     }
 
-    /// Takes a declaration.
+    /// Adds the line of a declaration.
     fn take_declaration(&mut self, line: &[u8]) -> Result<(), HeadFault>
         requires { self.old.setup.workers ≢ 0 }
         ensures { Steps result self.old self.new (declared_or self.old (parts_in (words_of line.now))) }
     {
-        let Some(parts) = parts_of(line) else {
+        let Some(parts) = split_declaration(line) else {
             return Err(HeadFault::BadLine);
         };
         if let Some(fault) = declaration_fault(&self.setup, &self.words, &parts) {
@@ -246,8 +258,9 @@ impl Heading {
     /// Adds what a line without fault declares.
     fn declare(&mut self, parts: &Parts<'_>) -> Result<(), HeadFault>
         requires some { self.old.setup.workers ≢ 0 }
-        requires may { IsDeclarable self.old (declaration_of self.old.words (shown parts.now)) }
-        ensures ok { OnOk result (self.new ≡ declared_by self.old (declaration_of self.old.words (shown parts.now))) }
+        requires may { IsDeclarable self.old
+            (declaration_of self.old.words (phrase_of_parts parts.now)) }
+        ensures ok { OnOk result (self.new ≡ with_declaration self.old (declaration_of self.old.words (phrase_of_parts parts.now))) }
         ensures err { OnErr result (self.new ≡ self.old) }
         ensures fault { IfErr result (λ fault. fault ≡ HeadFault.Memory) }
     {
@@ -256,7 +269,8 @@ impl Heading {
         self.declare_with(parts, first.as_slice(), second.as_slice())
     }
 
-    /// Adds a declaration with these workers: first what may want memory, so that nothing changes if it is refused.
+    /// Adds a declaration with these workers. What allocates comes first, so an error changes
+    /// nothing.
     fn declare_with(
         &mut self,
         parts: &Parts<'_>,
@@ -264,10 +278,12 @@ impl Heading {
         second: &[WorkerId],
     ) -> Result<(), HeadFault>
         requires some { self.old.setup.workers ≢ 0 }
-        requires may { IsDeclarable self.old (declaration_of self.old.words (shown parts.now)) }
-        requires first { first.now ≡ ids_in self.old.words (shown parts.now).first }
-        requires second { second.now ≡ ids_in self.old.words (second_list (shown parts.now)) }
-        ensures ok { OnOk result (self.new ≡ declared_by self.old (declaration_of self.old.words (shown parts.now))) }
+        requires may { IsDeclarable self.old
+            (declaration_of self.old.words (phrase_of_parts parts.now)) }
+        requires first { first.now ≡ ids_in self.old.words (phrase_of_parts parts.now).first }
+        requires second { second.now
+            ≡ ids_in self.old.words (second_list (phrase_of_parts parts.now)) }
+        ensures ok { OnOk result (self.new ≡ with_declaration self.old (declaration_of self.old.words (phrase_of_parts parts.now))) }
         ensures err { OnErr result (self.new ≡ self.old) }
         ensures fault { IfErr result (λ fault. fault ≡ HeadFault.Memory) }
     {
@@ -303,7 +319,7 @@ impl Heading {
 
     /// Returns the same declarations under version 2.
     pub fn upgrade(self) -> Self
-        ensures { result ≡ upgraded self }
+        ensures { result ≡ upgrade_heading self }
     {
         let mut heading = self;
         heading.version = Version::Two;
@@ -324,9 +340,8 @@ impl Heading {
         &self.names
     }
 
-    /// Returns the words by which lines spell the workers and the objects, in the order in which
-    /// they are declared.
-    pub fn words(&self) -> &Vocabulary
+    /// Returns the words by which lines name workers and objects, in order of declaration.
+    pub fn words(&self) -> &SymbolTable
         ensures { result.now ≡ self.now.words }
     {
         &self.words
@@ -339,42 +354,41 @@ impl Heading {
         self.groups.as_slice()
     }
 
-    /// Returns what was declared after the workers, in order; a group by its place among the
-    /// groups.
+    /// Returns what was declared after the workers, in order; a group by its index.
     pub fn declarations(&self) -> &[Target]
         ensures { result.now ≡ self.now.declarations }
     {
         self.declarations.as_slice()
     }
 
-    /// States what is true of a heading.
+    /// States what is true of every header.
     #[tactic(auto, using(crate::proofs::shared::Standing::has_outline_from))]
-    pub fn known(&self)
+    pub fn invariant(&self)
         ensures heading { IsHeading self.now }
-        ensures outline { 1 ≤ self.now.setup.workers → HasOutline self.now }
+        ensures outline { 1 ≤ self.now.setup.workers → HasHeaderTree self.now }
         ensures names { AreNames self.now.names }
         ensures groups { All (FitsGroup self.now.setup) self.now.groups }
     {
-        self.names.known();
+        self.names.invariant();
         let _setup = &self.setup;
     }
 
-    /// Returns the eventcount that a word spells.
+    /// Returns the eventcount that a word names.
     pub fn event(&self, word: &[u8]) -> Option<EventId>
         ensures { result ≡ event_in self.now.words word.now }
     {
-        event_of(self.words.find(word)?)
+        target_event(self.words.find(word)?)
     }
 
-    /// Returns the sequencer that a word spells.
+    /// Returns the sequencer that a word names.
     pub fn sequencer(&self, word: &[u8]) -> Option<SeqId>
         ensures { result ≡ sequencer_in self.now.words word.now }
     {
-        sequencer_of(self.words.find(word)?)
+        target_sequencer(self.words.find(word)?)
     }
 
-    /// Returns the cell that a word spells: the name of its block, `[`, its number there, and `]`.
-    #[tactic(auto, unfolding(crate::specs::Spelled::cell_in_word))]
+    /// Returns the cell that a word names: its block's name, `[`, its number there, and `]`.
+    #[tactic(auto, unfolding(crate::specs::EntryWords::cell_in_word))]
     pub fn cell(&self, word: &[u8]) -> Option<CellId>
         ensures { result ≡ cell_in_word self.now.words word.now }
     {
@@ -393,7 +407,7 @@ impl Heading {
         CellId::new(first + i as usize)
     }
 
-    /// Returns the worker of a name.
+    /// Returns the worker that a word names.
     pub fn worker(&self, word: &[u8]) -> Option<WorkerId>
         ensures { result ≡ worker_in self.now.words word.now }
     {
@@ -402,7 +416,12 @@ impl Heading {
 }
 
 /// Adds the name of a declaration, if its form has one.
-fn add_name(names: &mut Names, sort: Sort, name: &[u8], target: &Target) -> Result<(), NameFault>
+fn add_name(
+    names: &mut Names,
+    sort: DeclKind,
+    name: &[u8],
+    target: &Target,
+) -> Result<(), NameFault>
     ensures ok { OnOk result (names.new ≡ names.old ++ named_as sort name.now target.now) }
     ensures err { OnErr result (names.new ≡ names.old) }
 {
@@ -412,10 +431,10 @@ fn add_name(names: &mut Names, sort: Sort, name: &[u8], target: &Target) -> Resu
     names.add_bytes(name, *target)
 }
 
-/// Adds the words and the name of a declaration that comes next after these and so many groups, or
-/// none of them.
+/// Adds the words and the name of the next declaration, after this setup and `groups` groups; on an
+/// error none of them.
 fn spell_declaration(
-    words: &mut Vocabulary,
+    words: &mut SymbolTable,
     names: &mut Names,
     setup: &Setup,
     groups: usize,
@@ -458,7 +477,7 @@ fn reserve_one(declarations: &mut Vec<Target>, groups: &mut Vec<Group>) -> Resul
     Ok(())
 }
 
-/// Adds what was declared, if there is room for it.
+/// Adds what was declared. Room for it was reserved.
 fn push_target(declarations: &mut Vec<Target>, target: Target)
     requires { length declarations.old.items + 1 ≤ vec_capacity declarations.old }
     ensures { declarations.new.items ≡ declarations.old.items ++ target ∷ [] }
@@ -468,7 +487,7 @@ fn push_target(declarations: &mut Vec<Target>, target: Target)
     }
 }
 
-/// Adds a group, if there is one, if there is room for it.
+/// Adds a group, if there is one. Room for it was reserved.
 fn push_group(groups: &mut Vec<Group>, group: Option<Group>)
     requires { length groups.old.items + 1 ≤ vec_capacity groups.old }
     ensures { groups.new.items ≡ groups.old.items ++ cons_option group [] }
@@ -481,7 +500,7 @@ fn push_group(groups: &mut Vec<Group>, group: Option<Group>)
 }
 
 /// Returns the workers that a list names.
-fn workers_of(words: &Vocabulary, list: &[u8]) -> ArrayVec<WorkerId, 16>
+fn workers_of(words: &SymbolTable, list: &[u8]) -> ArrayVec<WorkerId, 16>
     requires { length (ids_in words.now (words_of list.now)) ≤ 16 }
     ensures { result.items ≡ ids_in words.now (words_of list.now) }
 {
@@ -491,9 +510,9 @@ fn workers_of(words: &Vocabulary, list: &[u8]) -> ArrayVec<WorkerId, 16>
 }
 
 /// Returns the workers that the second list names.
-fn second_workers(words: &Vocabulary, parts: &Parts<'_>) -> ArrayVec<WorkerId, 16>
-    requires { length (ids_in words.now (second_list (shown parts.now))) ≤ 16 }
-    ensures { result.items ≡ ids_in words.now (second_list (shown parts.now)) }
+fn second_workers(words: &SymbolTable, parts: &Parts<'_>) -> ArrayVec<WorkerId, 16>
+    requires { length (ids_in words.now (second_list (phrase_of_parts parts.now))) ≤ 16 }
+    ensures { result.items ≡ ids_in words.now (second_list (phrase_of_parts parts.now)) }
 {
     match parts.second {
         None => ArrayVec::new(),

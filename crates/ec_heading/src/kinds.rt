@@ -1,19 +1,19 @@
-//! Why a line of a heading is refused.
+//! Why a line of a header is rejected.
 ghost use Rattle.std.specs.Prelude.{◌≡◌, ◌+◌, not, nat_lt, length};
 ghost use Rattle.std.specs.List.{list_any};
 ghost use Rattle.ec_count.specs.Reserved.{is_name};
 ghost use Rattle.ec_text.specs.Words.{words_of};
-ghost use Rattle.ec_heading.specs.Form.{shown};
+ghost use Rattle.ec_heading.specs.Form.{phrase_of_parts};
 ghost use Rattle.ec_heading.specs.Kinds.{workers_fault, declaration_of, declaration_fault, size_in, is_taken, has_unknown_word, is_bad_number, is_too_many, has_two_roles};
 
+use crate::decl_kind::DeclKind;
 use crate::form::Parts;
 use crate::heading::HeadFault;
 use crate::lists::{count_ids, count_words, has_repeat, has_shared, has_unknown, has_word_twice};
-use crate::sort::Sort;
-use ec_count::{Setup, Vocabulary, is_name};
+use ec_count::{Setup, SymbolTable, is_name};
 use ec_text::{cut_word, number};
 
-/// Returns whether a word is no name.
+/// Returns whether a word of the list is no name.
 fn has_bad_name(list: &[u8]) -> bool
     ensures { result ≡ list_any (λ w. not (is_name w)) (words_of list.now) }
 {
@@ -27,7 +27,7 @@ fn has_bad_name(list: &[u8]) -> bool
     }
 }
 
-/// Returns the least fault of the names of workers.
+/// Returns the lowest fault of the names of workers.
 pub(crate) fn workers_fault(list: &[u8]) -> Option<HeadFault>
     ensures { result ≡ workers_fault (words_of list.now) }
 {
@@ -45,7 +45,7 @@ pub(crate) fn workers_fault(list: &[u8]) -> Option<HeadFault>
 
 /// Returns the number, or 0 if there is none of at most 18 digits.
 pub(crate) fn size_of(parts: &Parts<'_>) -> u64
-    ensures { result ≡ size_in (shown parts.now) }
+    ensures { result ≡ size_in (phrase_of_parts parts.now) }
 {
     match number(parts.number) {
         Some(n) => n,
@@ -53,9 +53,9 @@ pub(crate) fn size_of(parts: &Parts<'_>) -> u64
     }
 }
 
-/// Returns whether something is called so already, or a list names a worker twice.
-fn is_taken(words: &Vocabulary, parts: &Parts<'_>) -> bool
-    ensures { result ≡ is_taken words.now (declaration_of words.now (shown parts.now)) }
+/// Returns whether the name is in use, or a list names a worker twice.
+fn is_taken(words: &SymbolTable, parts: &Parts<'_>) -> bool
+    ensures { result ≡ is_taken words.now (declaration_of words.now (phrase_of_parts parts.now)) }
 {
     if words.find(parts.name).is_some() || has_repeat(words, parts.first) {
         return true;
@@ -67,8 +67,8 @@ fn is_taken(words: &Vocabulary, parts: &Parts<'_>) -> bool
 }
 
 /// Returns whether a word of a list is no worker's name.
-fn has_unknown_word(words: &Vocabulary, parts: &Parts<'_>) -> bool
-    ensures { result ≡ has_unknown_word words.now (shown parts.now) }
+fn has_unknown_word(words: &SymbolTable, parts: &Parts<'_>) -> bool
+    ensures { result ≡ has_unknown_word words.now (phrase_of_parts parts.now) }
 {
     if has_unknown(words, parts.first) {
         return true;
@@ -80,7 +80,7 @@ fn has_unknown_word(words: &Vocabulary, parts: &Parts<'_>) -> bool
 }
 
 /// Returns whether the number is out of its range; one of more than 18 digits is.
-fn is_bad_number(sort: Sort, number: Option<u64>) -> bool
+fn is_bad_number(sort: DeclKind, number: Option<u64>) -> bool
     ensures { result ≡ is_bad_number sort number }
 {
     match number {
@@ -90,8 +90,8 @@ fn is_bad_number(sort: Sort, number: Option<u64>) -> bool
 }
 
 /// Returns how many workers the second list names.
-fn count_second(words: &Vocabulary, parts: &Parts<'_>) -> usize
-    ensures { result ≡ length (declaration_of words.now (shown parts.now)).second }
+fn count_second(words: &SymbolTable, parts: &Parts<'_>) -> usize
+    ensures { result ≡ length (declaration_of words.now (phrase_of_parts parts.now)).second }
 {
     match parts.second {
         None => 0,
@@ -99,7 +99,7 @@ fn count_second(words: &Vocabulary, parts: &Parts<'_>) -> usize
     }
 }
 
-/// Returns whether so many cells and n more pass the bound.
+/// Returns whether `cells` cells and `n` more exceed 256.
 fn is_over(cells: usize, n: u64) -> bool
     ensures { result ≡ nat_lt 256 (cells + n) }
 {
@@ -109,31 +109,31 @@ fn is_over(cells: usize, n: u64) -> bool
     cells as u64 + n > 256
 }
 
-/// Returns whether a list or a table would pass its bound.
-fn is_too_many(setup: &Setup, words: &Vocabulary, parts: &Parts<'_>) -> bool
-    ensures { result ≡ is_too_many setup.now (declaration_of words.now (shown parts.now)) }
+/// Returns whether a list or a table would exceed its bound.
+fn is_too_many(setup: &Setup, words: &SymbolTable, parts: &Parts<'_>) -> bool
+    ensures { result ≡ is_too_many setup.now (declaration_of words.now (phrase_of_parts parts.now)) }
 {
     if count_ids(words, parts.first) > 16 || count_second(words, parts) > 16 {
         return true;
     }
     match parts.sort {
-        Sort::EventCount => setup.events() > 31,
-        Sort::Sequencer => setup.sequencers() > 31,
-        Sort::Cells => is_over(setup.cells(), size_of(parts)),
-        Sort::Buffer => {
+        DeclKind::EventCount => setup.events() > 31,
+        DeclKind::Sequencer => setup.sequencers() > 31,
+        DeclKind::Cells => is_over(setup.cells(), size_of(parts)),
+        DeclKind::Buffer => {
             setup.events() > 30 || setup.sequencers() > 30 || is_over(setup.cells(), size_of(parts))
         }
-        Sort::Database => {
+        DeclKind::Database => {
             setup.events() > 30 || setup.sequencers() > 31 || is_over(setup.cells(), size_of(parts))
         }
-        Sort::Semaphore => setup.events() > 31 || setup.sequencers() > 31,
-        Sort::Both => setup.events() > 31 || setup.sequencers() > 31,
+        DeclKind::Semaphore => setup.events() > 31 || setup.sequencers() > 31,
+        DeclKind::Both => setup.events() > 31 || setup.sequencers() > 31,
     }
 }
 
-/// Returns whether a worker stands in both lists of a sort that keeps them apart.
-fn has_two_roles(words: &Vocabulary, parts: &Parts<'_>) -> bool
-    ensures { result ≡ has_two_roles (declaration_of words.now (shown parts.now)) }
+/// Returns whether a worker is in both lists, which have to be disjoint.
+fn has_two_roles(words: &SymbolTable, parts: &Parts<'_>) -> bool
+    ensures { result ≡ has_two_roles (declaration_of words.now (phrase_of_parts parts.now)) }
 {
     if !parts.sort.needs_disjoint_lists() {
         return false;
@@ -144,13 +144,13 @@ fn has_two_roles(words: &Vocabulary, parts: &Parts<'_>) -> bool
     }
 }
 
-/// Returns the least fault of a line of one of the forms.
+/// Returns the lowest fault of a declaration, of a line that has one of the forms.
 pub(crate) fn declaration_fault(
     setup: &Setup,
-    words: &Vocabulary,
+    words: &SymbolTable,
     parts: &Parts<'_>,
 ) -> Option<HeadFault>
-    ensures { result ≡ declaration_fault setup.now words.now (shown parts.now) }
+    ensures { result ≡ declaration_fault setup.now words.now (phrase_of_parts parts.now) }
 {
     if !parts.sort.is_called(parts.name) {
         return Some(HeadFault::BadName);

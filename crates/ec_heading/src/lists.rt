@@ -3,10 +3,10 @@ ghost use Rattle.std.specs.Prelude.{◌≡◌, ◌+◌, ◌++◌, ◌≤◌, len
 ghost use Rattle.std.specs.List.{list_any};
 ghost use Rattle.ec_text.specs.Words.{words_of};
 ghost use Rattle.ec_count.specs.Members.{is_member, has_repeat};
-ghost use Rattle.ec_heading.specs.Lists.{worker_of, worker_in, ids_in, has_unknown, has_word, has_word_twice};
+ghost use Rattle.ec_heading.specs.Lists.{target_worker, worker_in, ids_in, has_unknown, has_word, has_word_twice};
 
 use arrayvec::ArrayVec;
-use ec_count::{Target, Vocabulary, WorkerId};
+use ec_count::{SymbolTable, Target, WorkerId};
 use ec_text::cut_word;
 
 /// Returns whether two words are the same.
@@ -28,7 +28,7 @@ pub fn count_words(list: &[u8]) -> usize
     }
 }
 
-/// Returns whether a word stands in the list.
+/// Returns whether a word is in the list.
 pub(crate) fn has_word(word: &[u8], list: &[u8]) -> bool
     ensures { result ≡ has_word word.now (words_of list.now) }
 {
@@ -42,7 +42,7 @@ pub(crate) fn has_word(word: &[u8], list: &[u8]) -> bool
     }
 }
 
-/// Returns whether a word stands twice in the list.
+/// Returns whether a word is twice in the list.
 pub(crate) fn has_word_twice(list: &[u8]) -> bool
     ensures { result ≡ has_word_twice (words_of list.now) }
 {
@@ -52,9 +52,9 @@ pub(crate) fn has_word_twice(list: &[u8]) -> bool
     has_word(word, rest) || has_word_twice(rest)
 }
 
-/// Returns the worker that a name stands for, if it stands for one.
-fn worker_of(target: Target) -> Option<WorkerId>
-    ensures { result ≡ worker_of target }
+/// Returns the worker that a name denotes; `None` if it denotes something else.
+fn target_worker(target: Target) -> Option<WorkerId>
+    ensures { result ≡ target_worker target }
 {
     match target {
         Target::Worker(id) => Some(id),
@@ -62,15 +62,15 @@ fn worker_of(target: Target) -> Option<WorkerId>
     }
 }
 
-/// Returns the worker of a name.
-pub(crate) fn worker_in(words: &Vocabulary, word: &[u8]) -> Option<WorkerId>
+/// Returns the worker that a word names.
+pub(crate) fn worker_in(words: &SymbolTable, word: &[u8]) -> Option<WorkerId>
     ensures { result ≡ worker_in words.now word.now }
 {
-    worker_of(words.find(word)?)
+    target_worker(words.find(word)?)
 }
 
 /// Returns whether a word of the list names no worker.
-pub fn has_unknown(words: &Vocabulary, list: &[u8]) -> bool
+pub fn has_unknown(words: &SymbolTable, list: &[u8]) -> bool
     ensures { result ≡ has_unknown words.now (words_of list.now) }
 {
     let (word, rest) = cut_word(list);
@@ -84,7 +84,7 @@ pub fn has_unknown(words: &Vocabulary, list: &[u8]) -> bool
 }
 
 /// Returns whether a worker is named in a list.
-fn is_named(words: &Vocabulary, list: &[u8], id: WorkerId) -> bool
+fn is_named(words: &SymbolTable, list: &[u8], id: WorkerId) -> bool
     ensures { result ≡ is_member id (ids_in words.now (words_of list.now)) }
 {
     let (word, rest) = cut_word(list);
@@ -100,7 +100,7 @@ fn is_named(words: &Vocabulary, list: &[u8], id: WorkerId) -> bool
 }
 
 /// Returns whether a worker is named twice.
-pub(crate) fn has_repeat(words: &Vocabulary, list: &[u8]) -> bool
+pub(crate) fn has_repeat(words: &SymbolTable, list: &[u8]) -> bool
     ensures { result ≡ has_repeat (ids_in words.now (words_of list.now)) }
 {
     let (word, Some(rest)) = cut_word(list) else {
@@ -115,7 +115,7 @@ pub(crate) fn has_repeat(words: &Vocabulary, list: &[u8]) -> bool
 }
 
 /// Returns whether a worker is named in both lists.
-pub(crate) fn has_shared(words: &Vocabulary, first: &[u8], second: &[u8]) -> bool
+pub(crate) fn has_shared(words: &SymbolTable, first: &[u8], second: &[u8]) -> bool
     ensures { result ≡ list_any (λ w. is_member w (ids_in words.now (words_of second.now))) (ids_in words.now (words_of first.now)) }
 {
     let (word, rest) = cut_word(first);
@@ -131,7 +131,7 @@ pub(crate) fn has_shared(words: &Vocabulary, first: &[u8], second: &[u8]) -> boo
 }
 
 /// Returns how many words name a worker.
-pub(crate) fn count_ids(words: &Vocabulary, list: &[u8]) -> usize
+pub(crate) fn count_ids(words: &SymbolTable, list: &[u8]) -> usize
     ensures count { result ≡ length (ids_in words.now (words_of list.now)) }
     ensures few { result ≤ length list.now + 1 }
 {
@@ -147,8 +147,8 @@ pub(crate) fn count_ids(words: &Vocabulary, list: &[u8]) -> usize
     }
 }
 
-/// Adds the workers that are named.
-pub(crate) fn push_ids(words: &Vocabulary, list: &[u8], ids: &mut ArrayVec<WorkerId, 16>)
+/// Adds the workers that a list names, in order. Other words are skipped.
+pub(crate) fn push_ids(words: &SymbolTable, list: &[u8], ids: &mut ArrayVec<WorkerId, 16>)
     requires { length ids.old.items + length (ids_in words.now (words_of list.now)) ≤ 16 }
     ensures { ids.new.items ≡ ids.old.items ++ ids_in words.now (words_of list.now) }
 {

@@ -2,21 +2,21 @@
 ghost use Rattle.std.specs.Prelude.{◌≡◌, ◌≤◌, ◌<◌, ◌+◌, ◌++◌, ◌∷◌, [], None, OnErr, OnOk, false, true, length, replicate};
 ghost use Rattle.ec_count.specs.Names.{find_name};
 ghost use Rattle.ec_heading.specs.Kinds.{is_full_for};
-ghost use Rattle.ec_heading.specs.Objects.{AreNew, group_of, ids_after, objects_of, shown_objects, spelled_objects, spelling, target_of};
-ghost use Rattle.ec_heading.specs.Outline.{objects_fault, with_objects};
-ghost use Rattle.ec_heading.specs.Sorts.{is_in_range};
+ghost use Rattle.ec_heading.specs.Objects.{AreNew, group_of_declaration, ids_after, objects_of, shown_objects, spelled_objects, spelling, target_of};
+ghost use Rattle.ec_heading.specs.HeaderTree.{objects_fault, with_objects};
+ghost use Rattle.ec_heading.specs.DeclKinds.{is_in_range};
 
+use crate::decl_kind::DeclKind;
 use crate::group::Group;
-use crate::sort::Sort;
 use arrayvec::ArrayVec;
 use ec_buffer::declare_buffer;
-use ec_count::{CellId, EventId, SeqId, Setup, Target, Vocabulary, WorkerId};
+use ec_count::{CellId, EventId, SeqId, Setup, SymbolTable, Target, WorkerId};
 use ec_database::declare_database;
 use ec_semaphore::{declare_both, declare_semaphore};
 use std::alloc::AllocError;
 
-/// An object: what is written behind the name of its declaration (nothing if the name alone
-/// means it), and what it is.
+/// An object of a declaration: the suffix by which a word names it, as `in` for `B.in`, and what it
+/// is. The suffix is empty if the name of the declaration names it.
 #[derive(Clone, Copy)]
 pub(crate) struct Object {
     pub(crate) word: &'static [u8],
@@ -65,23 +65,23 @@ fn cell(number: usize) -> CellId
     id
 }
 
-/// Returns what the name of the next declaration will stand for, after this setup and n groups of
-/// its sort.
-pub(crate) fn target_of(setup: &Setup, groups: usize, sort: Sort, n: usize) -> Target
+/// Returns what the name of the next declaration will denote, after this setup and `groups` groups;
+/// `n` is its number.
+pub(crate) fn target_of(setup: &Setup, groups: usize, sort: DeclKind, n: usize) -> Target
     requires room { is_full_for sort setup.now n ≡ false }
     requires some { is_in_range sort n ≡ true }
     ensures { result ≡ target_of sort (ids_after setup.now groups) n }
 {
     match sort {
-        Sort::EventCount => Target::Event(event(setup.events())),
-        Sort::Sequencer => Target::Sequencer(sequencer(setup.sequencers())),
-        Sort::Cells => Target::Cells(cell(setup.cells()), n),
-        Sort::Buffer | Sort::Database | Sort::Semaphore | Sort::Both => Target::Group(groups),
+        DeclKind::EventCount => Target::Event(event(setup.events())),
+        DeclKind::Sequencer => Target::Sequencer(sequencer(setup.sequencers())),
+        DeclKind::Cells => Target::Cells(cell(setup.cells()), n),
+        DeclKind::Buffer | DeclKind::Database | DeclKind::Semaphore | DeclKind::Both =>
+            Target::Group(groups),
     }
 }
 
-/// Returns the word for an object: the name, or the name, a dot, and what the object is called
-/// behind it.
+/// Returns the word for an object: the name, or the name, a dot and the suffix, as `B.in`.
 fn spelling(name: &[u8], word: &[u8]) -> ArrayVec<u8, 24>
     requires { length (spelling name.now word.now) ≤ 24 }
     ensures { result.items ≡ spelling name.now word.now }
@@ -100,8 +100,8 @@ fn spelling(name: &[u8], word: &[u8]) -> ArrayVec<u8, 24>
     bytes
 }
 
-/// Adds the words for these objects, or none of them.
-fn add_words(words: &mut Vocabulary, name: &[u8], objects: &[Object]) -> Result<(), AllocError>
+/// Adds the words for these objects; on an error none of them.
+fn add_words(words: &mut SymbolTable, name: &[u8], objects: &[Object]) -> Result<(), AllocError>
     requires { AreNew name.now words.old (shown_objects objects.now) }
     ensures ok { OnOk result (words.new ≡ words.old ++ spelled_objects name.now (shown_objects objects.now)) }
     ensures err { OnErr result (words.new ≡ words.old) }
@@ -117,17 +117,17 @@ fn add_words(words: &mut Vocabulary, name: &[u8], objects: &[Object]) -> Result<
     Ok(())
 }
 
-/// Adds the words for the objects of a buffer that comes next, or none of them.
+/// Adds the words for the objects of the next buffer; on an error none of them.
 fn spell_buffer(
-    words: &mut Vocabulary,
+    words: &mut SymbolTable,
     name: &[u8],
     setup: &Setup,
     n: usize,
 ) -> Result<(), AllocError>
-    requires room { is_full_for Sort.Buffer setup.now n ≡ false }
-    requires some { is_in_range Sort.Buffer n ≡ true }
-    requires new { AreNew name.now words.old (objects_of Sort.Buffer (ids_after setup.now 0) n) }
-    ensures ok { OnOk result (words.new ≡ words.old ++ spelled_objects name.now (objects_of Sort.Buffer (ids_after setup.now 0) n)) }
+    requires room { is_full_for DeclKind.Buffer setup.now n ≡ false }
+    requires some { is_in_range DeclKind.Buffer n ≡ true }
+    requires new { AreNew name.now words.old (objects_of DeclKind.Buffer (ids_after setup.now 0) n) }
+    ensures ok { OnOk result (words.new ≡ words.old ++ spelled_objects name.now (objects_of DeclKind.Buffer (ids_after setup.now 0) n)) }
     ensures err { OnErr result (words.new ≡ words.old) }
 {
     let events = setup.events();
@@ -142,17 +142,18 @@ fn spell_buffer(
     add_words(words, name, &objects)
 }
 
-/// Adds the words for the objects of a database that comes next, or none of them.
+/// Adds the words for the objects of the next database; on an error none of them.
 fn spell_database(
-    words: &mut Vocabulary,
+    words: &mut SymbolTable,
     name: &[u8],
     setup: &Setup,
     n: usize,
 ) -> Result<(), AllocError>
-    requires room { is_full_for Sort.Database setup.now n ≡ false }
-    requires some { is_in_range Sort.Database n ≡ true }
-    requires new { AreNew name.now words.old (objects_of Sort.Database (ids_after setup.now 0) n) }
-    ensures ok { OnOk result (words.new ≡ words.old ++ spelled_objects name.now (objects_of Sort.Database (ids_after setup.now 0) n)) }
+    requires room { is_full_for DeclKind.Database setup.now n ≡ false }
+    requires some { is_in_range DeclKind.Database n ≡ true }
+    requires new { AreNew name.now words.old
+        (objects_of DeclKind.Database (ids_after setup.now 0) n) }
+    ensures ok { OnOk result (words.new ≡ words.old ++ spelled_objects name.now (objects_of DeclKind.Database (ids_after setup.now 0) n)) }
     ensures err { OnErr result (words.new ≡ words.old) }
 {
     let events = setup.events();
@@ -165,17 +166,17 @@ fn spell_database(
     add_words(words, name, &objects)
 }
 
-/// Adds the words for the objects of a semaphore that comes next after these and so many groups,
-/// or none of them.
+/// Adds the words for the objects of the next semaphore, after this setup and `groups` groups; on
+/// an error none of them.
 fn spell_semaphore(
-    words: &mut Vocabulary,
+    words: &mut SymbolTable,
     name: &[u8],
     setup: &Setup,
     groups: usize,
 ) -> Result<(), AllocError>
-    requires room { is_full_for Sort.Semaphore setup.now 0 ≡ false }
-    requires new { AreNew name.now words.old (objects_of Sort.Semaphore (ids_after setup.now groups) 0) }
-    ensures ok { OnOk result (words.new ≡ words.old ++ spelled_objects name.now (objects_of Sort.Semaphore (ids_after setup.now groups) 0)) }
+    requires room { is_full_for DeclKind.Semaphore setup.now 0 ≡ false }
+    requires new { AreNew name.now words.old (objects_of DeclKind.Semaphore (ids_after setup.now groups) 0) }
+    ensures ok { OnOk result (words.new ≡ words.old ++ spelled_objects name.now (objects_of DeclKind.Semaphore (ids_after setup.now groups) 0)) }
     ensures err { OnErr result (words.new ≡ words.old) }
 {
     let objects = [
@@ -186,14 +187,14 @@ fn spell_semaphore(
     add_words(words, name, &objects)
 }
 
-/// Adds the words for the objects of a declaration that comes next after these and so many groups,
-/// or none of them.
+/// Adds the words for the objects of the next declaration, after this setup and `groups` groups; on
+/// an error none of them.
 pub(crate) fn spell_objects(
-    words: &mut Vocabulary,
+    words: &mut SymbolTable,
     name: &[u8],
     setup: &Setup,
     groups: usize,
-    sort: Sort,
+    sort: DeclKind,
     n: usize,
 ) -> Result<(), AllocError>
     requires room { is_full_for sort setup.now n ≡ false }
@@ -204,60 +205,60 @@ pub(crate) fn spell_objects(
 {
     let itself = target_of(setup, groups, sort, n);
     match sort {
-        Sort::EventCount => add_words(words, name, &[Object::new(b"", itself)]),
-        Sort::Sequencer => add_words(words, name, &[Object::new(b"", itself)]),
-        Sort::Cells => add_words(words, name, &[Object::new(b"", itself)]),
-        Sort::Buffer => spell_buffer(words, name, setup, n),
-        Sort::Database => spell_database(words, name, setup, n),
-        Sort::Semaphore => spell_semaphore(words, name, setup, groups),
-        Sort::Both => spell_semaphore(words, name, setup, groups),
+        DeclKind::EventCount => add_words(words, name, &[Object::new(b"", itself)]),
+        DeclKind::Sequencer => add_words(words, name, &[Object::new(b"", itself)]),
+        DeclKind::Cells => add_words(words, name, &[Object::new(b"", itself)]),
+        DeclKind::Buffer => spell_buffer(words, name, setup, n),
+        DeclKind::Database => spell_database(words, name, setup, n),
+        DeclKind::Semaphore => spell_semaphore(words, name, setup, groups),
+        DeclKind::Both => spell_semaphore(words, name, setup, groups),
     }
 }
 
-/// Adds the objects of a declaration, and gives the group that it is, if it is one.
+/// Adds the objects of a declaration, and returns the group that it is, if it is one.
 pub(crate) fn add_objects(
     setup: &mut Setup,
-    sort: Sort,
+    sort: DeclKind,
     n: usize,
     first: &[WorkerId],
     second: &[WorkerId],
 ) -> Option<Group>
     requires { objects_fault sort setup.old n first.now second.now ≡ None }
     ensures setup { setup.new ≡ with_objects sort setup.old n first.now second.now }
-    ensures group { result ≡ group_of sort setup.old n }
+    ensures group { result ≡ group_of_declaration sort setup.old n }
 {
     match sort {
-        Sort::EventCount => {
+        DeclKind::EventCount => {
             let _added = setup.add_event(first, second);
             None
         }
-        Sort::Sequencer => {
+        DeclKind::Sequencer => {
             let _added = setup.add_sequencer(first);
             None
         }
-        Sort::Cells => {
+        DeclKind::Cells => {
             let _added = setup.add_cells(n, first, second);
             None
         }
-        Sort::Buffer => {
+        DeclKind::Buffer => {
             let Ok(shape) = declare_buffer(setup, n, first, second) else {
                 unreachable!();
             };
             Some(Group::Buffer(shape))
         }
-        Sort::Database => {
+        DeclKind::Database => {
             let Ok(shape) = declare_database(setup, n, first, second) else {
                 unreachable!();
             };
             Some(Group::Database(shape))
         }
-        Sort::Semaphore => {
+        DeclKind::Semaphore => {
             let Ok(shape) = declare_semaphore(setup, n as u64, first) else {
                 unreachable!();
             };
             Some(Group::Semaphore(shape))
         }
-        Sort::Both => {
+        DeclKind::Both => {
             let Ok(shape) = declare_both(setup, first) else {
                 unreachable!();
             };

@@ -1,15 +1,15 @@
 //! Versions of traces and scripts.
 ghost use Rattle.std.specs.Prelude.{◌≡◌, ◌≤◌, IfSome};
-ghost use Rattle.ec_heading.specs.Versions.{greatest_limit, as_limit, has_hand};
+ghost use Rattle.ec_heading.specs.Versions.{greatest_limit, as_limit, has_transfer};
 
 use ec_count::Limit;
 
-/// The version of a trace or a script, which stands at the end of its first line.
+/// The version of a trace or a script: the number that ends its first line.
 #[derive(Clone, Copy, Debug, PartialEq, Eq)]
 pub enum Version {
-    /// The limit goes up to 4294967295, and there is no hand.
+    /// The limit is at most 4294967295, and there is no `hand`.
     One,
-    /// The limit goes up to 281474976710655, and components are handed over.
+    /// The limit is at most 281474976710655, and `hand` transfers components.
     Two,
 }
 
@@ -24,10 +24,10 @@ impl Version {
         }
     }
 
-    /// Returns whether components are handed over in texts of this version.
+    /// Returns whether texts of this version may transfer components, by `hand`.
     #[inline(always)]
-    pub fn has_hand(self) -> bool
-        ensures { result ≡ has_hand self }
+    pub fn has_transfer(self) -> bool
+        ensures { result ≡ has_transfer self }
     {
         match self {
             Version::One => false,

@@ -11,8 +11,8 @@ use Rattle.ec_machine.specs.declared.command.Value.{Value}
 use Rattle.ec_machine.specs.declared.command.Command.TheViews.{roll-Command, out-Command, roll-out-Command}
 use Rattle.ec_machine.specs.declared.command.Command.TheFolds.{fold-roll-Command}
 use Rattle.ec_machine.specs.Limits.{nesting_one, nesting_step}
-use Rattle.ec_machine.specs.Written.{is_single}
-use Rattle.ec_machine.specs.Values.{value_of, is_large}
+use Rattle.ec_machine.specs.Unrolled.{is_single}
+use Rattle.ec_machine.specs.Values.{eval, is_large}
 use Rattle.ec_machine.specs.Runs.{command_call}
 
 abbrev Asks : ℕ → Command → Type 0
@@ -45,8 +45,8 @@ or_false : (a b : Bool) → (a || b) ≡ false → (a ≡ false) × (b ≡ false
 or_false true b is = cc
 or_false false b is = (refl, is)
 
--- if none is too large, each is at most the greatest
-pub all_small : (last : ℕ) (vs : List Value) → list_any (is_large last) vs ≡ false → All (λ v. v ≤ VALUE_MAX) (map (value_of last) vs)
+-- if none is too large, each is at most VALUE_MAX
+pub all_small : (last : ℕ) (vs : List Value) → list_any (is_large last) vs ≡ false → All (λ v. v ≤ VALUE_MAX) (map (eval last) vs)
 all_small last [] none k d within = absurd (omega (arith, within))
 all_small last (v ∷ vs) none zero d within = ltb-false _ _ (or_false (is_large last v) (list_any (is_large last) vs) none).0
 all_small last (v ∷ vs) none (suc k) d within = all_small last vs (or_false (is_large last v) (list_any (is_large last) vs) none).1 k d (omega (arith, within))

@@ -1,17 +1,17 @@
--- What the frames of a machine stand for.
+-- The commands that the frames of an interpreter represent.
 use Rattle.std.specs.Prelude.{◌≡◌, ℕ, ◌+◌, ◌≤◌, ◌<◌, true, List, [], ◌∷◌, ◌++◌, length}
 use Rattle.ec_machine.specs.declared.command.Command.{Command}
 use Rattle.ec_machine.specs.declared.remaining.Frame.{Frame}
 use Rattle.ec_machine.specs.Limits.{nesting, is_sound}
-use Rattle.ec_machine.specs.Written.{written, repeated}
+use Rattle.ec_machine.specs.Unrolled.{unroll, repeated}
 
-abbrev pub frame_left : Frame → List Command
-frame_left f = written f.rest.now ++ repeated f.times (written f.block.now)
+abbrev pub frame_commands : Frame → List Command
+frame_commands f = unroll f.rest.now ++ repeated f.times (unroll f.block.now)
 
--- the outermost frame stands first
+-- the outermost frame is the first
 unfoldable pub left_of : List Frame → List Command
 left_of [] = []
-left_of (f ∷ fs) = left_of fs ++ frame_left f
+left_of (f ∷ fs) = left_of fs ++ frame_commands f
 
 -- a frame with so many frames around it
 pub record FrameFits (i : ℕ) (f : Frame) : Type 0 where

@@ -10,5 +10,5 @@ pub mod Standing
 pub mod Steps
 pub mod Tasks
 pub mod Values
-pub mod Written
+pub mod Unrolled
 pub mod Joined

@@ -10,9 +10,10 @@ use Rattle.ec_machine.specs.declared.command.Command.TheOpen.{Command-F}
 use Rattle.ec_machine.specs.declared.command.Command.TheOpen as layer
 use Rattle.ec_machine.specs.declared.command.Command.TheFolds.{fold-Command}
 
--- A layer is a command in which each command of its block, if it is a repeat, stands as what was found of it
+-- A layer is a command; if it is a repeat, each command of its block is replaced by the result for
+-- it
 
--- how deep repeats stand in one another
+-- how deep repeats are nested
 abbrev pub most : List ℕ → ℕ
 most [] = 0
 most (n ∷ ns) = max n (most ns)

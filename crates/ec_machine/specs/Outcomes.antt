@@ -8,13 +8,13 @@ is_running outcomes.Running = true
 is_running _ = false
 
 -- whether it comes from outside, by `refuse`
-abbrev pub is_set : Outcome → Bool
-is_set (outcomes.Refused r) = true
-is_set outcomes.Stopped = true
-is_set outcomes.OutOfTurns = true
-is_set outcomes.Memory = true
-is_set _ = false
+abbrev pub is_external : Outcome → Bool
+is_external (outcomes.Refused r) = true
+is_external outcomes.Stopped = true
+is_external outcomes.OutOfTurns = true
+is_external outcomes.Memory = true
+is_external _ = false
 
 -- the outcome after `refuse`, which takes effect only if the program is running and the new outcome comes from outside
-abbrev pub refused : Outcome → Outcome → Outcome
-refused old new = if is_running old && is_set new then new else old
+abbrev pub outcome_after_refusal : Outcome → Outcome → Outcome
+outcome_after_refusal old new = if is_running old && is_external new then new else old

@@ -1,7 +1,7 @@
--- The command that a machine is at.
+-- The command that an interpreter is executing.
 use Rattle.std.specs.Prelude.{Bool, true, false, List, Option, None, if◌then◌else◌}
 use Rattle.ec_core.specs.declared.act.Act.{Act}
-use Rattle.ec_core.specs.Following.{Told}
+use Rattle.ec_core.specs.Following.{CompletedCall}
 use Rattle.ec_buffer.specs.contracts.produce.ProduceProcedure.TheImpl as produce
 use Rattle.ec_buffer.specs.contracts.consume.ConsumeProcedure.TheImpl as consume
 use Rattle.ec_database.specs.contracts.write.WriteAllProcedure.TheImpl as write
@@ -18,7 +18,7 @@ use Rattle.ec_machine.specs.declared.large_task.LargeTask.TheVariants as large
 use Rattle.ec_machine.specs.declared.task.Task.{Task}
 use Rattle.ec_machine.specs.Runs.{one_call}
 
-abbrev pub one_rest : OneCall → List Told → Option Act
+abbrev pub one_rest : OneCall → List CompletedCall → Option Act
 one_rest s calls = if s.is_over then None else one_call s.act calls
 
 -- whether a command keeps a value for each cell of a database
@@ -28,7 +28,7 @@ is_large_task (Snapshot d tries) = true
 is_large_task _ = false
 
 -- the call that comes after these further calls of the command, or none
-abbrev pub small_rest : SmallTask → List Told → Option Act
+abbrev pub small_rest : SmallTask → List CompletedCall → Option Act
 small_rest small.Nothing calls = None
 small_rest (small.One s) calls = one_rest s calls
 small_rest (small.Produce s) calls = produce.ghosts.rest s calls
@@ -37,12 +37,12 @@ small_rest (small.Down s) calls = down.ghosts.rest s calls
 small_rest (small.Up s) calls = up.ghosts.rest s calls
 small_rest (small.DownBoth s) calls = both.ghosts.rest s calls
 
-abbrev pub large_rest : LargeTask → List Told → Option Act
+abbrev pub large_rest : LargeTask → List CompletedCall → Option Act
 large_rest large.Nothing calls = None
 large_rest (large.WriteAll s) calls = write.ghosts.rest s calls
 large_rest (large.Snapshot s) calls = snapshot.ghosts.rest s calls
 
-abbrev pub task_rest : Task → List Told → Option Act
+abbrev pub task_rest : Task → List CompletedCall → Option Act
 task_rest t calls = if t.is_large then large_rest t.large calls else small_rest t.small calls
 
 -- whether its last reply was Pending

@@ -9,10 +9,10 @@ use ec_semaphore::SemaphoreShape;
 pub enum Value {
     /// This number, of at most VALUE_MAX.
     Number(u64),
-    /// The number that the worker's last completed call answered, of those that answered one, calls
+    /// The number that the worker's last completed call returned, of those that returned one, calls
     /// of procedures among them; 0 before any.
     Last,
-    /// That number and so many more, from 1 to VALUE_MAX.
+    /// The same plus this number, from 1 to VALUE_MAX.
     LastPlus(u64),
 }
 
@@ -48,6 +48,6 @@ pub enum Command {
     /// P on two semaphores at once, the second and the third: the first is the common one, with
     /// initial value 1. The three are different.
     DownBoth(SemaphoreShape, SemaphoreShape, SemaphoreShape),
-    /// A block of at least one command, so many times, from 1 to 1000000.
+    /// A block of at least one command, repeated so many times, from 1 to 1000000.
     Repeat(u64, Vec<Command>),
 }

@@ -19,13 +19,8 @@ fn is_same_act(act: &Act, other: &Act) -> bool
     act == other
 }
 
-fn is_own(entry: &Entry, worker: WorkerId) -> bool
-    ensures { result ≡ (entry.now.worker == worker) }
-{
-    entry.worker.get() == worker.get()
-}
-
-/// Takes a step, if it is what is asked for.
+/// Passes the reply of a step to the interpreter, if its act is the one that is due. Returns
+/// whether it is.
 fn goes_with(machine: &mut Machine<'_>, entry: &Entry) -> bool
     requires { IsReply entry.now.act entry.now.reply }
     ensures yes { (cs : List Command) (past : List Entry) → StandsFor cs machine.old past → is_refused machine.old ≡ false → result ≡ true
@@ -43,9 +38,9 @@ fn goes_with(machine: &mut Machine<'_>, entry: &Entry) -> bool
     true
 }
 
-/// Returns a machine at the start of a worker's program: a missing one is empty.
+/// Returns an interpreter at the start of a worker's program; a missing one is empty.
 fn machine_for(programs: &[Program], place: usize) -> Machine<'_>
-    ensures stands { StandsFor (program_at programs.now place) result [] }
+    ensures represents { StandsFor (program_at programs.now place) result [] }
     ensures unset { is_refused result ≡ false }
 {
     match programs.get(place) {
@@ -54,15 +49,15 @@ fn machine_for(programs: &[Program], place: usize) -> Machine<'_>
     }
 }
 
-/// Returns whether the worker's entries are a run of its program, perhaps unfinished.
+/// Returns whether the worker's entries are a run of its program, perhaps incomplete.
 fn follows_one(run: &Run, programs: &[Program], worker: WorkerId) -> bool
     ensures { IsTrue result ↔ Follows programs.now run.now.entries worker }
 {
-    run.known();
+    run.invariant();
     replies_fit_their_acts();
     let mut machine = machine_for(programs, worker.get());
     for entry in run.entries() {
-        if !is_own(&entry, worker) {
+        if !entry.is_of(worker) {
             continue;
         }
         if !goes_with(&mut machine, &entry) {
@@ -72,9 +67,9 @@ fn follows_one(run: &Run, programs: &[Program], worker: WorkerId) -> bool
     true
 }
 
-/// Returns the first worker whose entries are no run of its program, perhaps unfinished; `None` if
-/// each worker's are one. The programs are those of the workers in order of declaration; a missing
-/// one is empty. It takes no memory.
+/// Returns the first worker whose entries are no run of its program, or `None` if each worker's are
+/// one. A run may be incomplete. The programs are those of the workers in order of declaration; a
+/// missing one is empty. Allocates nothing.
 pub fn follows(run: &Run, programs: &[Program]) -> Option<WorkerId>
     ensures { MatchOption result
         ((w : ℕ) → w < run.now.setup.workers → Follows programs.now run.now.entries w)

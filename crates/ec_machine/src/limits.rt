@@ -11,10 +11,11 @@ use ec_semaphore::SemaphoreShape;
 /// The greatest count of a repeat.
 pub const TIMES_MAX: u64 = 1_000_000;
 
-/// How deep repeats may stand in one another.
+/// How deep repeats may be nested.
 pub const NESTING_MAX: usize = 4;
 
-/// How many commands a program may have; a repeat is one, and each command of its block.
+/// How many commands a program may have. A repeat counts as one, and so does each command of its
+/// block.
 pub const COMMANDS_MAX: usize = 4096;
 
 /// The greatest number of tries of a snapshot.
@@ -25,11 +26,11 @@ pub(crate) fn keeps_limits(commands: &[Command]) -> bool
     ensures { IsTrue result ↔ IsProgram commands.now }
 {
     is_within(NESTING_MAX, commands)
-        && left_of(COMMANDS_MAX, commands).is_some()
+        && room_within(COMMANDS_MAX, commands).is_some()
         && is_sound(commands)
 }
 
-/// Returns whether repeats stand no deeper in one another than this.
+/// Returns whether repeats are nested no deeper than this.
 #[cycle(nesting)]
 fn is_within(bound: usize, commands: &[Command]) -> bool
     ensures { IsTrue result ↔ (nesting commands.now ≤ bound) }
@@ -44,10 +45,10 @@ fn is_within(bound: usize, commands: &[Command]) -> bool
     true
 }
 
-/// Returns how many commands there may be beside these within a bound; `None` if these are more
-/// than the bound.
+/// Returns how many more commands there may be than these within a bound, or `None` if these are
+/// more than the bound.
 #[cycle(count)]
-fn left_of(bound: usize, commands: &[Command]) -> Option<usize>
+fn room_within(bound: usize, commands: &[Command]) -> Option<usize>
     ensures variant { IsSome result ↔ (count commands.now ≤ bound) }
     ensures value { IfSome result (λ left. left ≡ bound - count commands.now) }
 {
@@ -65,7 +66,7 @@ fn left_of_one(bound: usize, command: &Command) -> Option<usize>
 {
     let left = bound.checked_sub(1)?;
     match command {
-        Command::Repeat(_, block) => left_of(left, block.as_slice()),
+        Command::Repeat(_, block) => room_within(left, block.as_slice()),
         _ => Some(left),
     }
 }

@@ -1,6 +1,6 @@
 //! One call.
 ghost use Rattle.std.specs.Prelude.{◌≡◌, false, List};
-ghost use Rattle.ec_core.specs.Following.{Told};
+ghost use Rattle.ec_core.specs.Following.{CompletedCall};
 ghost use Rattle.ec_machine.specs.Runs.{one_call};
 ghost use Rattle.ec_machine.specs.Tasks.{one_rest};
 
@@ -16,7 +16,7 @@ pub(crate) struct OneCall {
 
 impl OneCall {
     pub(crate) fn new(act: Act) -> Self
-        ensures whole { (calls : List Told) → ⟦<OneCall as Procedure>⟧.rest result calls ≡ one_call act calls }
+        ensures whole { (calls : List CompletedCall) → ⟦<OneCall as Procedure>⟧.rest result calls ≡ one_call act calls }
         ensures fresh { ⟦<OneCall as Procedure>⟧.is_going result ≡ false }
     {
         OneCall {

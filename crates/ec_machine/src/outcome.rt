@@ -10,9 +10,9 @@ pub enum Outcome {
     Finished,
     /// A step that it asked for was refused.
     Refused(Refusal),
-    /// The command now due has a value above VALUE_MAX.
+    /// The command that is due has a value above VALUE_MAX.
     ValueTooLarge,
-    /// It was stopped, since nothing could go on.
+    /// It was stopped, because the workers were deadlocked.
     Stopped,
     /// It was given no more turns.
     OutOfTurns,

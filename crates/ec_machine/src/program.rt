@@ -1,7 +1,7 @@
 //! Programs.
 ghost use Rattle.std.specs.Prelude.{◌≡◌, ◌≤◌, ◌↔◌, true, IsTrue, IsSome, IfSome};
 ghost use Rattle.ec_machine.specs.Programs.{IsProgram};
-ghost use Rattle.ec_machine.specs.Written.{written};
+ghost use Rattle.ec_machine.specs.Unrolled.{unroll};
 
 use crate::Command;
 use crate::limits::keeps_limits;
@@ -31,12 +31,12 @@ impl Model for Program {
 }
 
 impl Program {
-    /// Returns a program of these commands, if they keep the limits: at most 4096 commands,
-    /// repeats among them, and at most four repeats in one another; each count of a repeat from 1
-    /// to 1000000, and a command in each block; as many values of a WriteAll as cells; from 1 to
-    /// 1000 tries of a Snapshot; three different semaphores of a DownBoth, the common one with
-    /// initial value 1; each written number at most VALUE_MAX, and that of LastPlus at least 1.
-    /// Else None, and the commands are dropped.
+    /// Returns a program of these commands if they keep the limits, or `None` if not; then the
+    /// commands are dropped. There are at most 4096 commands, repeats among them, and repeats are
+    /// nested at most four deep. The count of each repeat is from 1 to 1000000, and its block has a
+    /// command. A WriteAll has as many values as cells, and a Snapshot from 1 to 1000 tries. The
+    /// three semaphores of a DownBoth are different, and the common one has initial value 1. Each
+    /// written number is at most VALUE_MAX, and that of LastPlus is at least 1.
     pub fn new(commands: Vec<Command>) -> Option<Program>
         ensures variant { IsSome result ↔ IsProgram commands.items }
         ensures value { IfSome result (λ p. p ≡ commands.items) }
@@ -47,15 +47,15 @@ impl Program {
         None
     }
 
-    /// Returns its commands, with their repeats written out, at their start.
+    /// Returns all its commands, with their repeats unrolled.
     pub(crate) fn remaining(&self) -> Remaining<'_>
-        ensures { result ≡ written self.now }
+        ensures { result ≡ unroll self.now }
     {
         Remaining::new(self.commands.as_slice())
     }
 
     /// States what is true of a program: its commands keep the limits.
-    pub fn known(&self)
+    pub fn invariant(&self)
         ensures { IsProgram self.now }
     {
         let _ = &self.commands;

@@ -1,14 +1,15 @@
-//! The commands that are left of a program, each repeat written out, kept as counters.
+//! The commands that are left of a program with its repeats unrolled, kept as counters.
 ghost use Rattle.std.specs.Prelude.{◌≡◌, ◌+◌, ◌≤◌, ◌<◌, ◌++◌, ◌∷◌, [], MatchOption, IfSome, IfNone, length, true};
 ghost use Rattle.ec_machine.specs.Limits.{nesting, nesting_one, is_sound, is_sound_one};
-ghost use Rattle.ec_machine.specs.Written.{written, written_one, repeated, is_single};
-ghost use Rattle.ec_machine.specs.Left.{left_of, frame_left, FrameFits, FramesFit};
+ghost use Rattle.ec_machine.specs.Unrolled.{unroll, unroll_command, repeated, is_single};
+ghost use Rattle.ec_machine.specs.Left.{left_of, frame_commands, FrameFits, FramesFit};
 
 use crate::Command;
 use arrayvec::ArrayVec;
 use std::marker::Model;
 
-/// The rest of a block that is being gone through, the block, and how many times it is still to be done after that.
+/// A block that is being executed: its rest, the whole block, and how many times it is to be
+/// executed after that.
 #[derive(Clone, Copy)]
 pub(crate) struct Frame<'a> {
     rest: &'a [Command],
@@ -26,7 +27,7 @@ impl<'a> Default for Frame<'a> {
     }
 }
 
-/// Adds what is left of a block, if anything is.
+/// Adds a frame for what is left of a block, if anything is.
 fn push_rest<'a>(
     frames: &mut ArrayVec<Frame<'a>, 5>,
     rest: &'a [Command],
@@ -38,7 +39,7 @@ fn push_rest<'a>(
     requires block_some { 0 < length block.now }
     requires sound { (is_sound rest.now ≡ true) × (is_sound block.now ≡ true) }
     requires nesting { (length frames.old.items + nesting rest.now ≤ 4) × (length frames.old.items + nesting block.now ≤ 4) }
-    ensures left { left_of frames.new.items ≡ (written rest.now ++ repeated times (written block.now)) ++ left_of frames.old.items }
+    ensures left { left_of frames.new.items ≡ (unroll rest.now ++ repeated times (unroll block.now)) ++ left_of frames.old.items }
     ensures fit { FramesFit 0 frames.new.items }
     ensures few { length frames.new.items ≤ length frames.old.items + 1 }
 {
@@ -53,13 +54,13 @@ fn push_rest<'a>(
     }
 }
 
-/// Returns the first plain command of those that a command stands for. If the command is a
-/// repeat, frames for what remains of it are added.
+/// Returns the first command of a command with its repeats unrolled. If the command is a repeat,
+/// frames for what remains of it are added.
 fn enter<'a>(frames: &mut ArrayVec<Frame<'a>, 5>, command: &'a Command) -> &'a Command
     requires fit { FramesFit 0 frames.old.items }
     requires sound { is_sound_one command.now ≡ true }
     requires nesting { length frames.old.items + nesting_one command.now ≤ 5 }
-    ensures left { written_one command.now ++ left_of frames.old.items ≡ result.now ∷ left_of frames.new.items }
+    ensures left { unroll_command command.now ++ left_of frames.old.items ≡ result.now ∷ left_of frames.new.items }
     ensures fit { FramesFit 0 frames.new.items }
     ensures single { is_single result.now ≡ true }
     ensures sound { is_sound_one result.now ≡ true }
@@ -76,12 +77,12 @@ fn enter<'a>(frames: &mut ArrayVec<Frame<'a>, 5>, command: &'a Command) -> &'a C
     }
 }
 
-/// Takes the innermost frame off.
+/// Removes and returns the innermost frame.
 fn pop_frame<'a>(frames: &mut ArrayVec<Frame<'a>, 5>) -> Option<Frame<'a>>
     requires fit { FramesFit 0 frames.old.items }
     ensures none { IfNone result (left_of frames.old.items ≡ []) }
     ensures same { IfNone result (frames.new ≡ frames.old) }
-    ensures left { IfSome result (λ f. left_of frames.old.items ≡ frame_left f ++ left_of frames.new.items) }
+    ensures left { IfSome result (λ f. left_of frames.old.items ≡ frame_commands f ++ left_of frames.new.items) }
     ensures fit { FramesFit 0 frames.new.items }
     ensures fits { IfSome result (λ f. FrameFits (length frames.new.items) f) }
 {
@@ -91,7 +92,7 @@ fn pop_frame<'a>(frames: &mut ArrayVec<Frame<'a>, 5>) -> Option<Frame<'a>>
     }
 }
 
-/// Takes the first command that is left off.
+/// Removes and returns the first command that is left.
 fn take_from<'a>(frames: &mut ArrayVec<Frame<'a>, 5>) -> Option<&'a Command>
     requires fit { FramesFit 0 frames.old.items }
     ensures fit { FramesFit 0 frames.new.items }
@@ -134,7 +135,7 @@ impl<'a> Remaining<'a> {
     pub(crate) fn new(block: &'a [Command]) -> Self
         requires sound { is_sound block.now ≡ true }
         requires nesting { nesting block.now ≤ 4 }
-        ensures { result ≡ written block.now }
+        ensures { result ≡ unroll block.now }
     {
         let mut frames = ArrayVec::new();
         if block.is_empty() {
@@ -144,7 +145,7 @@ impl<'a> Remaining<'a> {
         Remaining { frames }
     }
 
-    /// Takes the first command off.
+    /// Removes and returns the first command.
     pub(crate) fn take(&mut self) -> Option<&'a Command>
         ensures left { MatchOption result ((self.old ≡ []) × (self.new ≡ [])) (λ c. self.old ≡ c.now ∷ self.new) }
         ensures single { IfSome result (λ c. (is_single c.now ≡ true) × (is_sound_one c.now ≡ true)) }

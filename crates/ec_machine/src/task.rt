@@ -1,18 +1,18 @@
-//! The command that a machine is at.
+//! The command that an interpreter is executing.
 ghost use Rattle.std.specs.Prelude.{◌≡◌, false, List, None};
-ghost use Rattle.ec_core.specs.Following.{Told};
+ghost use Rattle.ec_core.specs.Following.{CompletedCall};
 ghost use Rattle.ec_machine.specs.Tasks.{small_rest, small_going, large_rest, large_going, task_rest, task_going};
 
 use crate::large_task::LargeTask;
 use crate::small_task::SmallTask;
 use ec_core::{Act, Procedure, Reply};
 
-/// The command that a machine is at: what is left of its list of calls. The two kinds of commands
-/// have a place each, so that a small one is begun, taken on and ended without a large one being
-/// built or moved.
+/// The command that an interpreter is executing: the rest of its list of calls. Small and large
+/// commands have a field each, so that a small one is executed without building or moving a large
+/// one.
 #[derive(Drop)]
 pub(crate) struct Task {
-    /// Which of the two is due; the other one means nothing.
+    /// Which of the two is due; the other one is ignored.
     is_large: bool,
     small: SmallTask,
     large: LargeTask,
@@ -21,7 +21,7 @@ pub(crate) struct Task {
 impl Task {
     /// Returns the task in which no command is due.
     pub(crate) fn nothing() -> Self
-        ensures rest { (calls : List Told) → task_rest result calls ≡ None }
+        ensures rest { (calls : List CompletedCall) → task_rest result calls ≡ None }
         ensures going { task_going result ≡ false }
     {
         Task {
@@ -31,18 +31,20 @@ impl Task {
         }
     }
 
-    /// Makes this one the one that is due from now on.
+    /// Makes this small command the one that is due.
     pub(crate) fn put_small(&mut self, small: SmallTask)
-        ensures rest { (calls : List Told) → task_rest self.new calls ≡ small_rest small calls }
+        ensures rest { (calls : List CompletedCall)
+            → task_rest self.new calls ≡ small_rest small calls }
         ensures going { task_going self.new ≡ small_going small }
     {
         self.is_large = false;
         self.small = small;
     }
 
-    /// Makes this one the one that is due from now on.
+    /// Makes this large command the one that is due.
     pub(crate) fn put_large(&mut self, large: LargeTask)
-        ensures rest { (calls : List Told) → task_rest self.new calls ≡ large_rest large calls }
+        ensures rest { (calls : List CompletedCall)
+            → task_rest self.new calls ≡ large_rest large calls }
         ensures going { task_going self.new ≡ large_going large }
     {
         self.is_large = true;

@@ -1,20 +1,20 @@
-//! The numbers that a command's values mean.
+//! The numbers that the values of a command evaluate to.
 ghost use Rattle.std.specs.Prelude.{◌≡◌, ◌≤◌, true, length};
 ghost use Rattle.std.specs.List.{list_all, list_any};
 ghost use Rattle.arrayvec.specs.ArrayVec.{array_vec_len};
 ghost use Rattle.ec_core.specs.declared.act.TheConstants.{VALUE_MAX};
 ghost use Rattle.ec_machine.specs.Limits.{is_value, is_sound_one};
-ghost use Rattle.ec_machine.specs.Values.{value_of, values_of, is_large, has_large};
+ghost use Rattle.ec_machine.specs.Values.{eval, values_of, is_large, has_large};
 
 use crate::{Command, Value};
 use arrayvec::ArrayVec;
 use ec_core::VALUE_MAX;
 
-/// Returns the number that a value means, if the last number told is `last`.
-pub(crate) fn value_of(last: u64, value: &Value) -> u64
+/// Returns the number that a value evaluates to, if `last` is the last number returned.
+pub(crate) fn eval(last: u64, value: &Value) -> u64
     requires last { last ≤ VALUE_MAX }
     requires sound { is_value value.now ≡ true }
-    ensures { result ≡ value_of last value.now }
+    ensures { result ≡ eval last value.now }
 {
     match *value {
         Value::Number(number) => number,
@@ -28,7 +28,7 @@ fn is_large(last: u64, value: &Value) -> bool
     requires sound { is_value value.now ≡ true }
     ensures { result ≡ is_large last value.now }
 {
-    value_of(last, value) > VALUE_MAX
+    eval(last, value) > VALUE_MAX
 }
 
 fn has_large_of(last: u64, values: &[Value]) -> bool
@@ -42,7 +42,7 @@ fn has_large_of(last: u64, values: &[Value]) -> bool
     }
 }
 
-/// Returns whether a value of the command is above the greatest.
+/// Returns whether a value of the command is above VALUE_MAX.
 pub(crate) fn has_large(last: u64, command: &Command) -> bool
     requires last { last ≤ VALUE_MAX }
     requires sound { is_sound_one command.now ≡ true }
@@ -57,7 +57,7 @@ pub(crate) fn has_large(last: u64, command: &Command) -> bool
     }
 }
 
-/// Returns the numbers that values mean.
+/// Returns the numbers that values evaluate to.
 pub(crate) fn values_of(last: u64, values: &[Value]) -> ArrayVec<u64, 256>
     requires last { last ≤ VALUE_MAX }
     requires sound { list_all is_value values.now ≡ true }
@@ -67,7 +67,7 @@ pub(crate) fn values_of(last: u64, values: &[Value]) -> ArrayVec<u64, 256>
 {
     let mut numbers = ArrayVec::new();
     for value in values {
-        numbers.push(value_of(last, value));
+        numbers.push(eval(last, value));
     }
     numbers
 }

@@ -17,17 +17,18 @@ enum Width {
     Wide(Vec<u64>),
 }
 
-/// Numbers in order: in 32 bits each as long as all of them fit, and in 64 bits from the first one
-/// on that does not.
+/// A list of numbers in 32 bits each, or in 64.
+///
+/// The first number that does not fit in 32 bits widens the whole list, which then stays wide.
 #[derive(Drop)]
 pub struct NumberList {
     list: Width,
 }
 
 impl Model for NumberList {
-    ghost use Rattle.ec_numbers.specs.Numbers.{KeptNumbers, numbers_in};
+    ghost use Rattle.ec_numbers.specs.Numbers.{NumberListModel, numbers_in};
 
-    ghost Value = { KeptNumbers };
+    ghost Value = { NumberListModel };
 
     ghost view = { λ s. numbers_in s.list };
 }
@@ -41,7 +42,7 @@ fn is_wide(number: u64) -> bool
 }
 
 /// Returns the numbers of a list in 64 bits each, with room for one more.
-fn widened(list: &Vec<u32>) -> Result<Vec<u64>, AllocError>
+fn widen(list: &Vec<u32>) -> Result<Vec<u64>, AllocError>
     ensures items { IfOk result (λ wide. wide.items ≡ list.now.items) }
     ensures room { IfOk result (λ wide. vec_len wide < vec_capacity wide) }
 {
@@ -69,7 +70,7 @@ fn make_room_in<T: Copy>(list: &mut Vec<T>) -> Result<(), AllocError>
     list.reserve(1)
 }
 
-/// Puts one in at a place, for which there is room.
+/// Inserts a number at a position of a list that has room for it.
 #[inline(always)]
 fn put_in<T: Copy>(list: &mut Vec<T>, place: usize, number: T)
     requires room { vec_len list.old < vec_capacity list.old }
@@ -86,7 +87,7 @@ fn put_in<T: Copy>(list: &mut Vec<T>, place: usize, number: T)
 }
 
 impl NumberList {
-    /// Makes a list of no numbers, for numbers of 32 bits. It takes no memory.
+    /// Makes an empty list of numbers of 32 bits, without allocating.
     pub fn new(alloc: Global) -> Self
         ensures { result ≡ record { list = []; wide = false; room = 0 } }
     {
@@ -95,7 +96,7 @@ impl NumberList {
         }
     }
 
-    /// Returns how many there are.
+    /// Returns how many numbers there are.
     pub fn len(&self) -> usize
         ensures { result ≡ length self.now.list }
     {
@@ -105,7 +106,7 @@ impl NumberList {
         }
     }
 
-    /// Returns the number at a place, counted from 0.
+    /// Returns the number at a position, counted from 0.
     #[inline(always)]
     pub fn at(&self, place: usize) -> u64
         requires { place < length self.now.list }
@@ -117,7 +118,7 @@ impl NumberList {
         }
     }
 
-    /// Returns the number at a place, counted from 0, if there are so many.
+    /// Returns the number at a position, counted from 0; `None` if the list ends before it.
     #[inline(always)]
     pub fn get(&self, place: usize) -> Option<u64>
         ensures value { result ≡ slice_get self.now.list place }
@@ -130,8 +131,10 @@ impl NumberList {
         }
     }
 
-    /// Takes 64 bits for each number from now on, and makes room for one more. (It stands apart
-    /// from `make_room`, which is put into its callers, since a list calls it once at most.)
+    /// Widens each number to 64 bits, and makes room for one more.
+    ///
+    /// It is not inlined into `reserve_for`, which is inlined into its callers: a list widens at
+    /// most once.
     #[inline(never)]
     fn widen(&mut self) -> Result<(), AllocError>
         ensures same { self.new.list ≡ self.old.list }
@@ -140,16 +143,17 @@ impl NumberList {
         ensures err { OnErr result (self.new ≡ self.old) }
     {
         match &mut self.list {
-            Width::Narrow(list) => self.list = Width::Wide(widened(list)?),
+            Width::Narrow(list) => self.list = Width::Wide(widen(list)?),
             Width::Wide(list) => list.reserve(1)?,
         }
         Ok(())
     }
 
-    /// Makes room for this number. If there is room for it already, nothing changes; there is
-    /// none if the list is full, or where this is its first number that needs 64 bits.
+    /// Makes room for this number, or changes nothing if there is room.
+    ///
+    /// There is no room if the list is full, or if this is its first number that needs 64 bits.
     #[inline(always)]
-    pub fn make_room(&mut self, number: u64) -> Result<(), AllocError>
+    pub fn reserve_for(&mut self, number: u64) -> Result<(), AllocError>
         ensures same { self.new.list ≡ self.old.list }
         ensures room { OnOk result (HasRoom self.new number) }
         ensures wide { OnOk result (self.new.wide ≡ is_wide_with self.old number) }
@@ -165,7 +169,7 @@ impl NumberList {
         Ok(())
     }
 
-    /// Adds one at the end, for which there is room. It takes no memory.
+    /// Adds a number at the end of a list that has room for it, without allocating.
     #[inline(always)]
     fn put(&mut self, number: u64)
         requires { HasRoom self.old number }
@@ -179,7 +183,9 @@ impl NumberList {
         }
     }
 
-    /// Adds one at the end, or changes nothing. If there is room for it, it stands in that room.
+    /// Adds a number at the end; if an allocation fails, changes nothing.
+    ///
+    /// If there is room for the number, nothing is allocated.
     #[inline(always)]
     pub fn push(&mut self, number: u64) -> Result<(), AllocError>
         ensures ok { OnOk result (self.new.list ≡ self.old.list ++ number ∷ []) }
@@ -188,13 +194,14 @@ impl NumberList {
         ensures err { OnErr result (self.new ≡ self.old) }
         ensures full { OnErr result (HasRoom self.old number → ⊥) }
     {
-        self.make_room(number)?;
+        self.reserve_for(number)?;
         self.put(number);
         Ok(())
     }
 
-    /// Puts one in at a place, which is mostly behind the last, if there is room for it. It
-    /// takes no memory.
+    /// Inserts a number at a position, usually the end, without allocating.
+    ///
+    /// The list has room for it.
     pub fn insert(&mut self, place: usize, number: u64)
         requires room { HasRoom self.old number }
         requires within { place ≤ length self.old.list }
@@ -208,7 +215,7 @@ impl NumberList {
         }
     }
 
-    /// Keeps the first n. What memory the list has stays with it, and so does its width.
+    /// Keeps the first n numbers, and the memory and width of the list.
     pub fn truncate(&mut self, n: usize)
         ensures list { self.new.list ≡ take n self.old.list }
         ensures wide { self.new.wide ≡ self.old.wide }

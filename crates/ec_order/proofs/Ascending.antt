@@ -1,4 +1,5 @@
--- The order by points ascends: by point, at one point the readings before the act, and these by their last steps.
+-- The order by points ascends: at one point the readings come before the act, in order of their
+-- responses.
 use Rattle.std.proofs.Common.{◌≡◌, ℕ, zero, suc, inl, inr, ◌<◌, Bool, true, false, not, List, length, map, refl, ap, sym, ◌∙◌, arith, subst, reverse, ◌==◌, get_or}
 use Rattle.std.specs.List.{All, AllPairs, Contains, filter}
 use Rattle.std.proofs.lemmas.Bool.{true≢false, eqb-true, and_parts}
@@ -13,7 +14,7 @@ use Rattle.ec_order.specs.Calls.{finished_calls, is_reading}
 use Rattle.ec_order.specs.Cuts.{IsFinishedCall}
 use Rattle.ec_order.specs.Orders.{calls_in}
 use Rattle.ec_order.specs.Points.{IsPoint, point_of, reads_at, acts_at, at_moment, by_moments, with_point, ordered_by_points}
-use Rattle.ec_order.specs.Verdicts.{IsGood}
+use Rattle.ec_order.specs.Verdicts.{IsLinearizationWithPoints}
 use Rattle.ec_order.specs.Laws.{ComesFirst, OrderByPointsAscends, OrderByPointsIsTheOnlyOne}
 use Rattle.ec_order.proofs.Fits.{acts_there}
 use Rattle.ec_order.proofs.Finished.{calls_cut}
@@ -26,7 +27,7 @@ use Rattle.ec_order.proofs.Sorting.{AllPairs-append, AllPairs-map, moment_is, mo
 abbrev EndsFirst : Placed → Placed → Type 0
 EndsFirst p q = p.call.last < q.call.last
 
--- an act stands at its own position
+-- the point of an act is its own position
 abbrev StandsThere : Placed → Type 0
 StandsThere p = is_reading p.call.op ≡ false → p.point ≡ p.call.last
 
@@ -97,7 +98,7 @@ same_place : (p q : Placed) → p.call ≡ q.call → p.point ≡ q.point → p 
 same_place p q e f = ap (λ c. record { call = c; point = p.point }) e ∙ ap (λ k. record { call = q.call; point = k }) f
 
 module _ (t : Tables) (h : List Entry) (d : IsDeclared t) (acc : IsAccepted t (reverse h)) where
-  good : IsGood t (reverse h) (ordered_by_points t (reverse h))
+  good : IsLinearizationWithPoints t (reverse h) (ordered_by_points t (reverse h))
   good = order_good t (reverse h) d acc
 
   point_there : (p : Placed) → Contains (finished_calls t (reverse h)) p.call → p.point ≡ point_of (reverse h) p.call → IsPoint h p.call p.point

@@ -1,10 +1,10 @@
--- The entries of a call stand one after another.
+-- The entries of a call come one after another.
 use Rattle.std.proofs.Common.{◌≡◌, ℕ, zero, suc, ◌+◌, ◌<◌, ◌≤◌, Bool, true, false, List, [], ◌∷◌, ◌++◌, length, Option, Some, None, refl, ap, sym, ◌∙◌, arith, cond, ◌==◌, take, get_or, append_assoc, length-append}
 use Rattle.ec_count.specs.Tables.{Tables}
 use Rattle.ec_core.specs.declared.act.Act.{Act}
 use Rattle.ec_core.specs.declared.act.Act.TheVariants.{Go}
 use Rattle.ec_core.specs.declared.act.Entry.{Entry}
-use Rattle.ec_core.specs.Calls.{CallSoFar, under_way, gone_on, is_pending}
+use Rattle.ec_core.specs.Calls.{CallSoFar, under_way, call_with_act, is_pending}
 use Rattle.ec_core.specs.Rounds.{sum_read, IsPastOf, IsPastOfEach, EachIsPastOf}
 use Rattle.ec_core.specs.Counts.{component_total}
 use Rattle.ec_core.proofs.shared.Pasts.{past_itself}
@@ -21,7 +21,7 @@ past_before x p late h = past_trans p (x ∷ p) late (past_next x p p (past_itse
 pub past_shorter : (p late : List Entry) → IsPastOf p late → length p ≤ length late
 past_shorter p late h = omega (arith, ap length h.is, length-append h.since p)
 
--- each is a past of the one before it, and the first of late
+-- each is a past of the one before it in the list, and the first is a past of late
 abbrev pub IsChain : List Entry → List (List Entry) → Type 0
 IsChain late [] = Unit {0}
 IsChain late (p ∷ ps) = IsPastOf p late × IsChain p ps
@@ -52,12 +52,6 @@ chain_of_each late [] n c h = absurd (omega arith)
 chain_of_each late (p ∷ ps) zero c h = (past_itself p, tt)
 chain_of_each late (p ∷ ps) (suc n) c h = (chain_at p ps n c.1 (omega arith), chain_of_each p ps n c.1 (omega arith))
 
-pub sum_take : (t : Tables) (e n : ℕ) (ps : List (List Entry)) → sum_read t e n (take n ps) ≡ sum_read t e n ps
-unfolding sum_read
-sum_take t e zero ps = refl
-sum_take t e (suc n) [] = refl
-sum_take t e (suc n) (p ∷ ps) = ap (λ s. component_total t e n p + s) (sum_take t e n ps)
-
 -- what is known of a call under way after a past
 abbrev pub IsChained : List Entry → Option CallSoFar → Type 0
 IsChained past None = Unit {0}
@@ -68,7 +62,7 @@ abbrev pub IsGone : List Entry → Option CallSoFar → Type 0
 IsGone past None = Unit {0}
 IsGone past (Some call) = (rest : List (List Entry)) × (call.moments ≡ past ∷ rest) × IsChain past rest
 
-pub gone_chain : (act : Act) (past : List Entry) (o : Option CallSoFar) → IsChained past o → IsGone past (gone_on act past o)
+pub gone_chain : (act : Act) (past : List Entry) (o : Option CallSoFar) → IsChained past o → IsGone past (call_with_act act past o)
 gone_chain Go past None h = tt
 gone_chain Go past (Some call) h = (call.moments, refl, h)
 gone_chain act past o h = ([], refl, tt)
@@ -86,7 +80,7 @@ pub call_chain : (w : ℕ) (past : List Entry) → IsChained past (under_way w p
 unfolding under_way
 call_chain w [] = tt
 call_chain w (x ∷ past) =
-    elim (x.worker == w) as (λ b. IsChained (x ∷ past) (cond b (cond (is_pending x.reply) (gone_on x.act past (under_way w past)) None) (under_way w past))) [
-      | true ↦ gone_kept x past (gone_on x.act past (under_way w past)) (is_pending x.reply) (gone_chain x.act past (under_way w past) (call_chain w past))
+    elim (x.worker == w) as (λ b. IsChained (x ∷ past) (cond b (cond (is_pending x.reply) (call_with_act x.act past (under_way w past)) None) (under_way w past))) [
+      | true ↦ gone_kept x past (call_with_act x.act past (under_way w past)) (is_pending x.reply) (gone_chain x.act past (under_way w past) (call_chain w past))
       | false ↦ chained_later x past (under_way w past) (call_chain w past)
     ]

@@ -6,14 +6,14 @@ use Rattle.std.proofs.lemmas.List.Elements.{All-weaker, All-contains}
 use Rattle.std.proofs.lemmas.Option.{slice_get_within, slice_get-get_or, get_or_from_slice_get}
 use Rattle.ec_count.specs.Tables.{Tables, IsDeclared}
 use Rattle.ec_core.specs.declared.act.Entry.{Entry}
-use Rattle.ec_core.specs.Calls.{under_way, gone_on}
+use Rattle.ec_core.specs.Calls.{under_way, call_with_act}
 use Rattle.ec_core.specs.Acceptance.{IsAccepted}
 use Rattle.ec_order.specs.declared.call.Call.{Call}
 use Rattle.ec_order.specs.declared.placed.Placed.{Placed}
 use Rattle.ec_order.specs.Calls.{finished_calls, ended_by}
-use Rattle.ec_order.specs.Sequential.{zero_state, IsSequentialRun}
-use Rattle.ec_order.specs.Orders.{FinishedBefore, calls_in}
-use Rattle.ec_order.specs.Verdicts.{IsGood}
+use Rattle.ec_order.specs.Sequential.{zero_state, IsLegalHistory}
+use Rattle.ec_order.specs.Orders.{Precedes, calls_in}
+use Rattle.ec_order.specs.Verdicts.{IsLinearizationWithPoints}
 use Rattle.ec_order.specs.Verdicts.{AreSound}
 use Rattle.ec_order.proofs.Fits.{Fits, all_fit}
 use Rattle.ec_order.proofs.Ends.{Ends, ends}
@@ -30,8 +30,8 @@ taken_more ps i p at =
 pub calls_more : (ps : List Placed) (p : Placed) → calls_in (ps ++ p ∷ []) ≡ calls_in ps ++ p.call ∷ []
 calls_more ps p = map-append (λ (q : Placed). q.call) ps (p ∷ [])
 
--- sound places run
-run_upto : (t : Tables) (past : List Entry) (ps : List Placed) (i : ℕ) → i ≤ length ps → AreSound t past ps i → IsSequentialRun zero_state (calls_in (take i ps))
+-- the calls at sound places are a legal sequential history
+run_upto : (t : Tables) (past : List Entry) (ps : List Placed) (i : ℕ) → i ≤ length ps → AreSound t past ps i → IsLegalHistory zero_state (calls_in (take i ps))
 run_upto t past ps zero h s = tt
 run_upto t past ps (suc i) h s =
     let a = at_index ps i (omega arith) in
@@ -39,9 +39,9 @@ run_upto t past ps (suc i) h s =
     let one : i + 1 ≡ suc i = omega arith in
     let more : take (suc i) ps ≡ take i ps ++ p ∷ [] = ap (λ n. take n ps) (sym one) ∙ taken_more ps i p a.1 in
     let here = s i p (omega arith) a.1 in
-    let run : IsSequentialRun zero_state (calls_in (take i ps) ++ p.call ∷ []) =
+    let run : IsLegalHistory zero_state (calls_in (take i ps) ++ p.call ∷ []) =
     run_append zero_state (calls_in (take i ps)) (p.call ∷ []) (run_upto t past ps i (omega arith) (λ k q lt at. s k q (omega arith) at)) (here.right, tt) in
-    subst (IsSequentialRun zero_state) (sym (ap calls_in more ∙ calls_more (take i ps) p)) run
+    subst (IsLegalHistory zero_state) (sym (ap calls_in more ∙ calls_more (take i ps) p)) run
 
 -- sound places have different calls
 has_last : {X : Type 0} (xs : List X) (x z : X) → Has (xs ++ x ∷ []) z → Has xs z ⊎ (x ≡ z)
@@ -78,12 +78,12 @@ known_upto t past ps (suc i) h s z k =
       | inr e ↦ subst (λ (c : Call). Has (finished_calls t past) c) e (has_from (finished_calls t past) p.call here.known)
     ]
 
--- the finished calls end one after another
+-- the completed calls end one after another
 abbrev pub EndsFirst : Call → Call → Type 0
 EndsFirst a b = a.last < b.last
 
 ended_alone : (t : Tables) (x : Entry) (past : List Entry) → Ends t x past (under_way x.worker past)
-    → AllPairs EndsFirst (ended_by t x (gone_on x.act past (under_way x.worker past))) × All (λ (c : Call). c.last ≡ length past) (ended_by t x (gone_on x.act past (under_way x.worker past)))
+    → AllPairs EndsFirst (ended_by t x (call_with_act x.act past (under_way x.worker past))) × All (λ (c : Call). c.last ≡ length past) (ended_by t x (call_with_act x.act past (under_way x.worker past)))
 ended_alone t x past (inl n) = rw n.is (λ i j d lt le. absurd (omega arith), λ k d lt. absurd (omega arith))
 ended_alone t x past (inr (inl r)) = (rw r.is (λ i j d lt le. absurd (omega arith)), ended_last t x past (inr (inl r)))
 ended_alone t x past (inr (inr a)) = (rw a.is (λ i j d lt le. absurd (omega arith)), ended_last t x past (inr (inr a)))
@@ -93,9 +93,9 @@ unfolding finished_calls
 ends_rise t [] d acc = λ i j e lt le. absurd (omega arith)
 ends_rise t (x ∷ past) d acc =
     let k = ended_alone t x past (ends t x past d acc) in
-    AllPairs-append EndsFirst (finished_calls t past) (ended_by t x (gone_on x.act past (under_way x.worker past))) (ends_rise t past d acc.1) k.0
-    (All-weaker (Fits past) (λ c. All (EndsFirst c) (ended_by t x (gone_on x.act past (under_way x.worker past))))
-    (λ c f. All-weaker (λ (b : Call). b.last ≡ length past) (EndsFirst c) (λ b e. (let lt : c.last < length past = f.last in omega arith)) (ended_by t x (gone_on x.act past (under_way x.worker past))) k.1)
+    AllPairs-append EndsFirst (finished_calls t past) (ended_by t x (call_with_act x.act past (under_way x.worker past))) (ends_rise t past d acc.1) k.0
+    (All-weaker (Fits past) (λ c. All (EndsFirst c) (ended_by t x (call_with_act x.act past (under_way x.worker past))))
+    (λ c f. All-weaker (λ (b : Call). b.last ≡ length past) (EndsFirst c) (λ b e. (let lt : c.last < length past = f.last in omega arith)) (ended_by t x (call_with_act x.act past (under_way x.worker past))) k.1)
     (finished_calls t past) (all_fit t past d acc.1))
 
 differ_from : (cs : List Call) → AllPairs EndsFirst cs → Differ cs
@@ -106,7 +106,7 @@ differ_from (c ∷ cs) h =
     (λ k. (let lt : c.last < c.last = All-contains (EndsFirst c) cs c first (contains_from cs c k) in omega arith), differ_from cs rest)
 
 in_time_at : (t : Tables) (past : List Entry) (ps : List Placed) → AreSound t past ps (length ps) → (i j : ℕ) (e : Placed) → i < j → j < length ps
-    → FinishedBefore (get_or ps j e).call (get_or ps i e).call → ⊥
+    → Precedes (get_or ps j e).call (get_or ps i e).call → ⊥
 in_time_at t past ps s i j e lt le h =
     let b = get_or ps j e in
     let a = get_or ps i e in
@@ -114,9 +114,9 @@ in_time_at t past ps s i j e lt le h =
     let there : get_or (take j ps) i a ≡ a = get_or-take j ps i a lt ∙ get_or_default ps i a e (omega arith) in
     (s j b le (slice_get-get_or ps j e le)).in_time (i, a, (let low : i < length (take j ps) = omega arith in low), there, h)
 
--- a list of sound places that lacks no finished call is good
+-- a list of sound places that lacks no completed call is good
 pub sound_good : (t : Tables) (past : List Entry) (ps : List Placed) → IsDeclared t → IsAccepted t past → AreSound t past ps (length ps)
-    → ((c : Call) → Contains (finished_calls t past) c → Contains (calls_in ps) c) → IsGood t past ps
+    → ((c : Call) → Contains (finished_calls t past) c → Contains (calls_in ps) c) → IsLinearizationWithPoints t past ps
 sound_good t past ps d acc s all =
     let whole : take (length ps) ps ≡ ps = take_all (length ps) ps (omega arith) in
     let n = length ps in
@@ -126,8 +126,8 @@ sound_good t past ps d acc s all =
             (subst (λ (zs : List Placed). Differ (calls_in zs)) whole (differ_upto t past ps n (omega arith) s))
             (λ z h. has_from (calls_in ps) z (all z (contains_from (finished_calls t past) z h)))
             (λ z h. known_upto t past ps n (omega arith) s z (subst (λ (zs : List Placed). Has (calls_in zs) z) (sym whole) h));
-        in_order = AllPairs-map (λ a b. FinishedBefore b a → ⊥) (λ (p : Placed). p.call) ps (λ i j e lt le h. in_time_at t past ps s i j e lt le h);
-        run = subst (λ (zs : List Placed). IsSequentialRun zero_state (calls_in zs)) whole (run_upto t past ps n (omega arith) s);
+        in_order = AllPairs-map (λ a b. Precedes b a → ⊥) (λ (p : Placed). p.call) ps (λ i j e lt le h. in_time_at t past ps s i j e lt le h);
+        run = subst (λ (zs : List Placed). IsLegalHistory zero_state (calls_in zs)) whole (run_upto t past ps n (omega arith) s);
       };
       points = λ k e lt. (s k (get_or ps k e) lt (slice_get-get_or ps k e lt)).there;
     }

@@ -1,4 +1,4 @@
--- The finished calls are what the workers' entries are cut into.
+-- The completed calls are what the workers' entries are cut into.
 use Rattle.std.proofs.Common.{◌≡◌, ℕ, zero, suc, ◌+◌, ◌<◌, ◌≤◌, inl, inr, Bool, true, false, List, [], ◌∷◌, ◌++◌, length, Option, Some, None, refl, ap, sym, ◌∙◌, arith, cond, subst, ◌==◌, get_or, count_by, length-append}
 use Rattle.std.specs.List.{All}
 use Rattle.std.proofs.lemmas.Bool.{eqb-true, eq-eqb, cases_order, cases_lt}
@@ -9,11 +9,12 @@ use Rattle.ec_core.specs.declared.act.Act.TheVariants.{Go}
 use Rattle.ec_core.specs.declared.act.Reply.{Reply}
 use Rattle.ec_core.specs.declared.act.Reply.TheVariants.{Done, Number, Pending}
 use Rattle.ec_core.specs.declared.act.Entry.{Entry}
-use Rattle.ec_core.specs.Calls.{CallSoFar, under_way, gone_on, is_go, is_pending}
+use Rattle.ec_core.specs.Calls.{CallSoFar, under_way, call_with_act, is_go, is_pending}
 use Rattle.ec_core.specs.Rounds.{IsPastOf}
-use Rattle.ec_core.proofs.shared.Pasts.{past_itself}
+use Rattle.ec_core.proofs.shared.Pasts.{pending_is, past_itself}
 use Rattle.ec_order.proofs.Chains.{past_trans, past_before, past_next}
 use Rattle.ec_order.proofs.Positions.{entry_at, entry_here, entry_before, entry_since, entry_within, entry_in, find_entry, past_of_both, same_some}
+use Rattle.ec_core.proofs.shared.Scans.{call_other as other_now}
 
 -- a worker's entries
 
@@ -47,7 +48,7 @@ own_rises w p q late x own a b lt =
     let c : IsPastOf (x ∷ p) q = past_of_both (x ∷ p) q late a b (omega arith) in
     omega (arith, ap (own_count w) c.is, own_since w c.since (x ∷ p), own_here w x p own)
 
--- THE ENTRIES OF A CALL UNDER WAY
+-- THE ENTRIES OF A PENDING CALL
 
 -- the worker's latest entry, with its past
 pub record Latest (w : ℕ) (late p : List Entry) (act : Act) : Type 0 where
@@ -56,10 +57,11 @@ pub record Latest (w : ℕ) (late p : List Entry) (act : Act) : Type 0 where
   pub is : late ≡ others ++ entry ∷ p
   pub own : entry.worker ≡ w
   pub act_is : entry.act ≡ act
-  pub told : entry.reply ≡ Pending
+  pub returned : entry.reply ≡ Pending
   pub none : All (λ (y : Entry). (y.worker == w) ≡ false) others
 
--- these are the pasts of the worker's latest entries, each told Pending: goes, up to one of op
+-- these are the pasts of the worker's latest entries, each with reply Pending: goes, back to one of
+-- op
 abbrev pub Own : ℕ → Act → List Entry → List (List Entry) → Type 0
 Own w op late [] = ⊥
 Own w op late (p ∷ []) = Latest w late p op
@@ -104,17 +106,17 @@ pub record OwnEntry (w : ℕ) (late p : List Entry) : Type 0 where
   pub entry : Entry
   pub in_late : IsPastOf (entry ∷ p) late
   pub own : entry.worker ≡ w
-  pub told : entry.reply ≡ Pending
+  pub returned : entry.reply ≡ Pending
 
 latest_entry : (w : ℕ) (late p : List Entry) (act : Act) → Latest w late p act → OwnEntry w late p
-latest_entry w late p act s = record { entry = s.entry; in_late = latest_in w late p act s; own = s.own; told = s.told }
+latest_entry w late p act s = record { entry = s.entry; in_late = latest_in w late p act s; own = s.own; returned = s.returned }
 
 entry_later : (w : ℕ) (late p q : List Entry) (act : Act) → Latest w late p act → OwnEntry w p q → OwnEntry w late q
 entry_later w late p q act s e = record {
   entry = e.entry;
   in_late = past_trans (e.entry ∷ q) p late e.in_late (past_before s.entry p late (latest_in w late p act s));
   own = e.own;
-  told = e.told;
+  returned = e.returned;
 }
 
 own_entry_at : (w : ℕ) (op : Act) (late : List Entry) (ps : List (List Entry)) (i : ℕ) → Own w op late ps → i < length ps → OwnEntry w late (get_or ps i [])
@@ -130,11 +132,11 @@ pub record OwnFirst (w : ℕ) (op : Act) (late p : List Entry) : Type 0 where
   pub in_late : IsPastOf (entry ∷ p) late
   pub own : entry.worker ≡ w
   pub act_is : entry.act ≡ op
-  pub told : entry.reply ≡ Pending
+  pub returned : entry.reply ≡ Pending
 
 pub own_first : (w : ℕ) (op : Act) (late : List Entry) (ps : List (List Entry)) → Own w op late ps → OwnFirst w op late (first_past ps)
 own_first w op late [] h = absurd h
-own_first w op late (p ∷ []) h = record { entry = h.entry; in_late = latest_in w late p op h; own = h.own; act_is = h.act_is; told = h.told }
+own_first w op late (p ∷ []) h = record { entry = h.entry; in_late = latest_in w late p op h; own = h.own; act_is = h.act_is; returned = h.returned }
 own_first w op late (p ∷ q ∷ ps) h =
     let r = own_first w op p (q ∷ ps) h.1 in
     let s = h.0 in
@@ -143,7 +145,7 @@ own_first w op late (p ∷ q ∷ ps) h =
       in_late = past_trans (r.entry ∷ first_past (q ∷ ps)) p late r.in_late (past_before s.entry p late (latest_in w late p Go s));
       own = r.own;
       act_is = r.act_is;
-      told = r.told;
+      returned = r.returned;
     }
 
 -- after the first they are goes
@@ -157,7 +159,7 @@ own_goes w op late (p ∷ q ∷ ps) i y h lt at own =
     elim (cases_order i (length p)) [
       | inl same ↦
           (let e : s.entry ≡ y = same_some s.entry y (sym (entry_in p late s.entry in') ∙ ap (entry_at late) (sym same) ∙ at) in
-          (ap (λ (z : Entry). z.act) (sym e) ∙ s.act_is, ap (λ (z : Entry). z.reply) (sym e) ∙ s.told))
+          (ap (λ (z : Entry). z.act) (sym e) ∙ s.act_is, ap (λ (z : Entry). z.reply) (sym e) ∙ s.returned))
       | inr (inl less) ↦
           (let in_p : IsPastOf p late = past_before s.entry p late in' in
           let here : entry_at p i ≡ Some y = sym (ap (λ l. entry_at l i) in_p.is ∙ entry_since in_p.since p i less) ∙ at in
@@ -166,7 +168,7 @@ own_goes w op late (p ∷ q ∷ ps) i y h lt at own =
     ]
 
 latest_now : (w : ℕ) (x : Entry) (late : List Entry) (act : Act) → x.worker ≡ w → x.act ≡ act → x.reply ≡ Pending → Latest w (x ∷ late) late act
-latest_now w x late act own is told = record { others = []; entry = x; is = refl; own = own; act_is = is; told = told; none = All-nil (λ (y : Entry). (y.worker == w) ≡ false) }
+latest_now w x late act own is returned = record { others = []; entry = x; is = refl; own = own; act_is = is; returned = returned; none = All-nil (λ (y : Entry). (y.worker == w) ≡ false) }
 
 latest_next : (w : ℕ) (x : Entry) (late p : List Entry) (act : Act) → (x.worker == w) ≡ false → Latest w late p act → Latest w (x ∷ late) p act
 latest_next w x late p act other s = record {
@@ -175,11 +177,11 @@ latest_next w x late p act other s = record {
   is = ap (λ z. x ∷ z) s.is;
   own = s.own;
   act_is = s.act_is;
-  told = s.told;
+  returned = s.returned;
   none = All-cons (λ (y : Entry). (y.worker == w) ≡ false) x s.others other s.none;
 }
 
--- what is known of a call under way
+-- what is known of a pending call
 abbrev pub OwnCall : ℕ → List Entry → Option CallSoFar → Type 0
 OwnCall w past None = Unit {0}
 OwnCall w past (Some call) = Own w call.op past call.moments × (is_go call.op ≡ false)
@@ -190,56 +192,47 @@ own_next w op x late (p ∷ []) other h = latest_next w x late p op other h
 own_next w op x late (p ∷ q ∷ ps) other h = (latest_next w x late p Go other h.0, h.1)
 
 own_more : (w : ℕ) (op : Act) (x : Entry) (late : List Entry) (ps : List (List Entry)) → x.worker ≡ w → x.act ≡ Go → x.reply ≡ Pending → Own w op late ps → Own w op (x ∷ late) (late ∷ ps)
-own_more w op x late [] own go told h = absurd h
-own_more w op x late (p ∷ ps) own go told h = (latest_now w x late Go own go told, h)
+own_more w op x late [] own go returned h = absurd h
+own_more w op x late (p ∷ ps) own go returned h = (latest_now w x late Go own go returned, h)
 
-own_gone : (w : ℕ) (x : Entry) (act : Act) (late : List Entry) (o : Option CallSoFar) → x.worker ≡ w → x.act ≡ act → x.reply ≡ Pending → OwnCall w late o → OwnCall w (x ∷ late) (gone_on act late o)
-own_gone w x Go late None own is told h = tt
-own_gone w x Go late (Some call) own is told h = (own_more w call.op x late call.moments own is told h.0, h.1)
-own_gone w x act late o own is told h = (latest_now w x late act own is told, refl)
+own_gone : (w : ℕ) (x : Entry) (act : Act) (late : List Entry) (o : Option CallSoFar) → x.worker ≡ w → x.act ≡ act → x.reply ≡ Pending → OwnCall w late o → OwnCall w (x ∷ late) (call_with_act act late o)
+own_gone w x Go late None own is returned h = tt
+own_gone w x Go late (Some call) own is returned h = (own_more w call.op x late call.moments own is returned h.0, h.1)
+own_gone w x act late o own is returned h = (latest_now w x late act own is returned, refl)
 
 own_stays : (w : ℕ) (x : Entry) (late : List Entry) (o : Option CallSoFar) → (x.worker == w) ≡ false → OwnCall w late o → OwnCall w (x ∷ late) o
 own_stays w x late None other h = tt
 own_stays w x late (Some call) other h = (own_next w call.op x late call.moments other h.0, h.1)
 
-pending_is : (reply : Reply) → is_pending reply ≡ true → reply ≡ Pending
-pending_is Done h = cc
-pending_is (Number n) h = cc
-pending_is Pending h = refl
-
 pub own_under_way : (w : ℕ) (past : List Entry) → OwnCall w past (under_way w past)
 unfolding under_way
 own_under_way w [] = tt
 own_under_way w (x ∷ past) =
-    elim (x.worker == w) as (λ b. (x.worker == w) ≡ b → OwnCall w (x ∷ past) (cond b (cond (is_pending x.reply) (gone_on x.act past (under_way w past)) None) (under_way w past))) [
+    elim (x.worker == w) as (λ b. (x.worker == w) ≡ b → OwnCall w (x ∷ past) (cond b (cond (is_pending x.reply) (call_with_act x.act past (under_way w past)) None) (under_way w past))) [
       | true ↦ λ own.
-          (elim (is_pending x.reply) as (λ b. is_pending x.reply ≡ b → OwnCall w (x ∷ past) (cond b (gone_on x.act past (under_way w past)) None)) [
-            | true ↦ λ told. own_gone w x x.act past (under_way w past) (eqb-true x.worker w own) refl (pending_is x.reply told) (own_under_way w past)
-            | false ↦ λ told. tt
+          (elim (is_pending x.reply) as (λ b. is_pending x.reply ≡ b → OwnCall w (x ∷ past) (cond b (call_with_act x.act past (under_way w past)) None)) [
+            | true ↦ λ returned. own_gone w x x.act past (under_way w past) (eqb-true x.worker w own) refl (pending_is x.reply returned) (own_under_way w past)
+            | false ↦ λ returned. tt
           ] refl)
       | false ↦ λ other. own_stays w x past (under_way w past) other (own_under_way w past)
     ] refl
 
--- and a worker whose latest entries are so has that call under way
+-- and a worker whose latest entries are so has that pending call
 pub record IsUnderWay (w : ℕ) (op : Act) (late q : List Entry) : Type 0 where
   pub rest : List (List Entry)
   pub is : under_way w late ≡ Some (record { op = op; moments = rest })
   pub own : Own w op late rest
   pub first : first_past rest ≡ q
 
-pub gone_begins : (act : Act) (past : List Entry) (o : Option CallSoFar) → is_go act ≡ false → gone_on act past o ≡ Some (record { op = act; moments = past ∷ [] })
+pub gone_begins : (act : Act) (past : List Entry) (o : Option CallSoFar) → is_go act ≡ false → call_with_act act past o ≡ Some (record { op = act; moments = past ∷ [] })
 gone_begins Go past o h = cc
 gone_begins act past o h = refl
 
-own_now : (w : ℕ) (x : Entry) (past : List Entry) → x.worker ≡ w → x.reply ≡ Pending → under_way w (x ∷ past) ≡ gone_on x.act past (under_way w past)
+own_now : (w : ℕ) (x : Entry) (past : List Entry) → x.worker ≡ w → x.reply ≡ Pending → under_way w (x ∷ past) ≡ call_with_act x.act past (under_way w past)
 unfolding under_way
-own_now w x past own told =
-    ap (λ b. cond b (cond (is_pending x.reply) (gone_on x.act past (under_way w past)) None) (under_way w past)) (eq-eqb x.worker w own)
-    ∙ ap (λ r. cond (is_pending r) (gone_on x.act past (under_way w past)) None) told
-
-other_now : (w : ℕ) (x : Entry) (past : List Entry) → (x.worker == w) ≡ false → under_way w (x ∷ past) ≡ under_way w past
-unfolding under_way
-other_now w x past other = ap (λ b. cond b (cond (is_pending x.reply) (gone_on x.act past (under_way w past)) None) (under_way w past)) other
+own_now w x past own returned =
+    ap (λ b. cond b (cond (is_pending x.reply) (call_with_act x.act past (under_way w past)) None) (under_way w past)) (eq-eqb x.worker w own)
+    ∙ ap (λ r. cond (is_pending r) (call_with_act x.act past (under_way w past)) None) returned
 
 pub first_more : (p late : List Entry) (w : ℕ) (op : Act) (ps : List (List Entry)) → Own w op late ps → first_past (p ∷ ps) ≡ first_past ps
 first_more p late w op [] h = absurd h
@@ -247,16 +240,16 @@ first_more p late w op (q ∷ ps) h = refl
 
 pub under_way_is : (w : ℕ) (op : Act) (since q : List Entry) (x : Entry) → x.worker ≡ w → x.act ≡ op → x.reply ≡ Pending → is_go op ≡ false
     → ((i : ℕ) (y : Entry) → length q < i → entry_at (since ++ x ∷ q) i ≡ Some y → y.worker ≡ w → (y.act ≡ Go) × (y.reply ≡ Pending)) → IsUnderWay w op (since ++ x ∷ q) q
-under_way_is w op [] q x own is told begins goes = record {
+under_way_is w op [] q x own is returned begins goes = record {
   rest = q ∷ [];
-  is = own_now w x q own told ∙ ap (λ a. gone_on a q (under_way w q)) is ∙ gone_begins op q (under_way w q) begins;
-  own = latest_now w x q op own is told;
+  is = own_now w x q own returned ∙ ap (λ a. call_with_act a q (under_way w q)) is ∙ gone_begins op q (under_way w q) begins;
+  own = latest_now w x q op own is returned;
   first = refl;
 }
-under_way_is w op (y ∷ since) q x own is told begins goes =
+under_way_is w op (y ∷ since) q x own is returned begins goes =
     let late = since ++ x ∷ q in
     let long : length late ≡ length since + suc (length q) = length-append since (x ∷ q) in
-    let r = under_way_is w op since q x own is told begins
+    let r = under_way_is w op since q x own is returned begins
     (λ i z lt at mine. goes i z lt (entry_before y late i (entry_within late i z at) ∙ at) mine) in
     elim (y.worker == w) as (λ b. (y.worker == w) ≡ b → IsUnderWay w op (y ∷ late) q) [
       | true ↦ λ mine.
@@ -264,7 +257,7 @@ under_way_is w op (y ∷ since) q x own is told begins goes =
           let g = goes (length late) y (omega arith) (entry_here y late) same in
           record {
             rest = late ∷ r.rest;
-            is = own_now w y late same g.1 ∙ ap (λ a. gone_on a late (under_way w late)) g.0 ∙ ap (gone_on Go late) r.is;
+            is = own_now w y late same g.1 ∙ ap (λ a. call_with_act a late (under_way w late)) g.0 ∙ ap (call_with_act Go late) r.is;
             own = own_more w op y late r.rest same g.0 g.1 r.own;
             first = first_more late late w op r.rest r.own ∙ r.first;
           })
@@ -325,7 +318,7 @@ whole_more w op x p q ps own go begins h = record {
             (let f = own_first w op p (q ∷ ps) h in
             let same : length (first_past (q ∷ ps)) ≡ i = omega arith in
             let e : f.entry ≡ y = same_some f.entry y (sym (entry_in (first_past (q ∷ ps)) p f.entry f.in_late) ∙ ap (entry_at p) same ∙ here) in
-            ap (λ (z : Entry). z.reply) (sym e) ∙ f.told)
+            ap (λ (z : Entry). z.reply) (sym e) ∙ f.returned)
       ]);
 }
 
@@ -349,8 +342,8 @@ whole_begun : (w : ℕ) (x : Entry) (act : Act) (p : List Entry) (op : Act) (res
 whole_begun w x act p op rest own is begins h =
     let a : x.act ≡ op = is ∙ same_op act op (p ∷ []) (p ∷ rest) h in
     let none : [] ≡ rest = same_rest act op p [] rest h in
-    let alone : IsWhole w x.act x p [] = whole_alone w x p own (ap is_go is ∙ begins) in
-    subst (IsWhole w op x p) none (subst (λ o. IsWhole w o x p []) a alone)
+    let one_entry_calls : IsWhole w x.act x p [] = whole_alone w x p own (ap is_go is ∙ begins) in
+    subst (IsWhole w op x p) none (subst (λ o. IsWhole w o x p []) a one_entry_calls)
 
 whole_gone : (w : ℕ) (x : Entry) (p : List Entry) (a op : Act) (ms rest : List (List Entry)) → x.worker ≡ w → x.act ≡ Go → Own w a p ms × (is_go a ≡ false)
     → Some (record { op = a; moments = p ∷ ms }) ≡ Some (so_far op (p ∷ rest)) → IsWhole w op x p rest
@@ -361,7 +354,7 @@ whole_gone w x p a op (q ∷ ps) rest own go h gone =
     subst (IsWhole w op x p) tail (subst (λ o. IsWhole w o x p (q ∷ ps)) same (whole_more w a x p q ps own go h.1 h.0))
 
 -- the entries before a go
-pub rest_own : (w : ℕ) (p : List Entry) (o : Option CallSoFar) (op : Act) (rest : List (List Entry)) → OwnCall w p o → gone_on Go p o ≡ Some (so_far op (p ∷ rest)) → Own w op p rest
+pub rest_own : (w : ℕ) (p : List Entry) (o : Option CallSoFar) (op : Act) (rest : List (List Entry)) → OwnCall w p o → call_with_act Go p o ≡ Some (so_far op (p ∷ rest)) → Own w op p rest
 rest_own w p None op rest h gone = cc
 rest_own w p (Some call) op rest h gone =
     let same : call.op ≡ op = same_op call.op op (p ∷ call.moments) (p ∷ rest) gone in
@@ -370,7 +363,7 @@ rest_own w p (Some call) op rest h gone =
 
 -- what the call is that x goes on with
 pub whole_from : (w : ℕ) (x : Entry) (act : Act) (p : List Entry) (o : Option CallSoFar) (op : Act) (rest : List (List Entry)) → x.worker ≡ w → x.act ≡ act → OwnCall w p o
-    → gone_on act p o ≡ Some (so_far op (p ∷ rest)) → IsWhole w op x p rest
+    → call_with_act act p o ≡ Some (so_far op (p ∷ rest)) → IsWhole w op x p rest
 whole_from w x Go p None op rest own is h gone = cc
 whole_from w x Go p (Some call) op rest own is h gone = whole_gone w x p call.op op call.moments rest own is h gone
 whole_from w x act p o op rest own is h gone = whole_begun w x act p op rest own is refl gone

@@ -15,9 +15,9 @@ use Rattle.ec_order.specs.declared.verdict.Verdict.{Verdict}
 use Rattle.ec_order.specs.declared.verdict.Verdict.TheVariants.{Good, Missing, Repeated, OutOfOrder, WrongReply, WrongPoint}
 use Rattle.ec_order.specs.Calls.{finished_calls}
 use Rattle.ec_order.specs.Points.{point_of}
-use Rattle.ec_order.specs.Sequential.{SequentialState, zero_state, sequential_reply, sequential_after, sequential_after_all, IsSequentialRun}
-use Rattle.ec_order.specs.Orders.{FinishedBefore, calls_in}
-use Rattle.ec_order.specs.Verdicts.{IsGood}
+use Rattle.ec_order.specs.Sequential.{SequentialState, zero_state, sequential_reply, sequential_after, sequential_after_all, IsLegalHistory}
+use Rattle.ec_order.specs.Orders.{Precedes, calls_in}
+use Rattle.ec_order.specs.Verdicts.{IsLinearizationWithPoints}
 use Rattle.ec_order.specs.Verdicts.{IsSound, IsVerdict, IsLate}
 use Rattle.ec_order.proofs.Checking.{EndsFirst, ends_rise}
 
@@ -40,7 +40,7 @@ distinct_from (c ∷ cs) h =
     let rest : AllPairs EndsFirst cs = λ i j e lt le. h (suc i) (suc j) e (omega arith) (omega arith) in
     (recursion_from_All (λ (d : Call). same_end c d ≡ false) cs first, distinct_from cs rest)
 
--- different elements stand at different places
+-- equal elements are at one place
 distinct_at : (cs : List Call) → IsDistinct same_end cs → (i j : ℕ) (c : Call) → i < j → slice_get cs i ≡ Some c → slice_get cs j ≡ Some c → ⊥
 unfolding IsDistinct
 distinct_at [] d i j c lt a b = cc
@@ -75,25 +75,25 @@ placed_before (q ∷ ps) zero k a lt e = absurd (omega arith)
 placed_before (q ∷ ps) (suc i) zero a lt e = (omega arith, ap Some e)
 placed_before (q ∷ ps) (suc i) (suc k) a lt e = (let r = placed_before ps i k a (omega arith) e in ((let l : k < i = r.0 in omega arith), r.1))
 
-run_at : (o : SequentialState) (ps : List Placed) (i : ℕ) (p : Placed) → IsSequentialRun o (calls_in ps) → slice_get ps i ≡ Some p → sequential_reply (sequential_after_all o (calls_in (take i ps))) p.call.op ≡ Some p.call.reply
+run_at : (o : SequentialState) (ps : List Placed) (i : ℕ) (p : Placed) → IsLegalHistory o (calls_in ps) → slice_get ps i ≡ Some p → sequential_reply (sequential_after_all o (calls_in (take i ps))) p.call.op ≡ Some p.call.reply
 run_at o [] i p r h = cc
 run_at o (q ∷ ps) zero p r h = (let same : q ≡ p = cc in subst (λ (x : Placed). sequential_reply o x.call.op ≡ Some x.call.reply) same r.0)
 run_at o (q ∷ ps) (suc i) p r h = run_at (sequential_after o q.call.op) ps i p r.1 h
 
-late_off : (t : Tables) (past : List Entry) (ps : List Placed) (i : ℕ) (p : Placed) → IsGood t past ps → slice_get (calls_in ps) i ≡ Some p.call → IsLate (take i ps) p → ⊥
+late_off : (t : Tables) (past : List Entry) (ps : List Placed) (i : ℕ) (p : Placed) → IsLinearizationWithPoints t past ps → slice_get (calls_in ps) i ≡ Some p.call → IsLate (take i ps) p → ⊥
 late_off t past ps i p g here (k, a, lt, e, before) =
     let cs = calls_in ps in
     let r = placed_before ps i k a lt e in
     let less : k < i = r.0 in
     let there : get_or cs k p.call ≡ a.call = get_or_from_slice_get cs k a.call p.call (call_there ps k a r.1) in
     let now : get_or cs i p.call ≡ p.call = get_or_from_slice_get cs i p.call p.call here in
-    let fact : FinishedBefore (get_or cs i p.call) (get_or cs k p.call) → ⊥ = g.legal.in_order k i p.call less (slice_get_within cs i p.call here) in
+    let fact : Precedes (get_or cs i p.call) (get_or cs k p.call) → ⊥ = g.legal.in_order k i p.call less (slice_get_within cs i p.call here) in
     let later : p.call.last < a.call.first = before in
     let ends : (get_or cs i p.call).last ≡ p.call.last = ap (λ (c : Call). c.last) now in
     let begins : (get_or cs k p.call).first ≡ a.call.first = ap (λ (c : Call). c.first) there in
     fact (let less' : (get_or cs i p.call).last < (get_or cs k p.call).first = omega arith in less')
 
-good_sound : (t : Tables) (past : List Entry) (ps : List Placed) (i : ℕ) (p : Placed) → IsDeclared t → IsAccepted t past → IsGood t past ps → slice_get ps i ≡ Some p → IsSound t past (take i ps) p
+good_sound : (t : Tables) (past : List Entry) (ps : List Placed) (i : ℕ) (p : Placed) → IsDeclared t → IsAccepted t past → IsLinearizationWithPoints t past ps → slice_get ps i ≡ Some p → IsSound t past (take i ps) p
 good_sound t past ps i p d acc g at =
     let cs = calls_in ps in
     let distinct : IsDistinct same_end cs = IsDistinct-IsPermutation same_end (λ a b. swaps a.last b.last) (finished_calls t past) cs g.legal.each_once (distinct_from (finished_calls t past) (ends_rise t past d acc)) in
@@ -109,7 +109,7 @@ good_sound t past ps i p d acc g at =
     }
 
 -- only the one verdict is right of a good list
-pub only_good : (t : Tables) (past : List Entry) (ps : List Placed) (v : Verdict) → IsDeclared t → IsAccepted t past → IsGood t past ps → IsVerdict t past ps v → v ≡ Good
+pub only_good : (t : Tables) (past : List Entry) (ps : List Placed) (v : Verdict) → IsDeclared t → IsAccepted t past → IsLinearizationWithPoints t past ps → IsVerdict t past ps v → v ≡ Good
 only_good t past ps Good d acc g h = refl
 only_good t past ps (Missing i) d acc g (inl f) = absurd (f.fails (good_sound t past ps i f.place d acc g f.at).known)
 only_good t past ps (Missing i) d acc g (inr (e, l)) = absurd (l.nowhere (Contains-permutation (finished_calls t past) (calls_in ps) l.call g.legal.each_once l.known))

@@ -1,4 +1,4 @@
--- The finished calls of an accepted history are exactly what it is cut into.
+-- The completed calls of an accepted history are exactly what it is cut into.
 use Rattle.std.proofs.Common.{◌≡◌, ℕ, zero, suc, ◌+◌, ◌-◌, ◌*◌, ◌/◌, ◌%◌, ◌<◌, ◌≤◌, inl, inr, Bool, true, false, List, [], ◌∷◌, ◌++◌, length, Some, refl, ap, sym, ◌∙◌, arith, cond, subst, reverse, slice_get, get_or, append_assoc}
 use Rattle.std.specs.Prelude.{MatchBool}
 use Rattle.std.specs.List.{Contains}
@@ -13,8 +13,8 @@ use Rattle.ec_core.specs.declared.act.Act.TheVariants.{Go}
 use Rattle.ec_core.specs.declared.act.Reply.TheVariants.{Pending}
 use Rattle.ec_core.specs.declared.act.Entry.{Entry}
 use Rattle.ec_core.specs.Acceptance.{IsAccepted}
-use Rattle.ec_core.specs.Calls.{under_way, gone_on, is_go, is_pending}
-use Rattle.ec_core.specs.Rounds.{event_or, width, IsPastOf, position_of}
+use Rattle.ec_core.specs.Calls.{under_way, call_with_act, is_go, is_pending}
+use Rattle.ec_core.specs.Rounds.{event_or, component_count, IsPastOf, position_of}
 use Rattle.ec_order.specs.declared.call.Call.{Call}
 use Rattle.ec_order.specs.Calls.{call_of_entries, ended_by, finished_calls, is_reading}
 use Rattle.ec_order.specs.Cuts.{own_entries, IsLastRound, IsFinishedCall}
@@ -34,7 +34,7 @@ own_entries_is : (w : ℕ) (whole q : List Entry) → IsPastOf q whole → own_e
 own_entries_is w whole q h =
     ap (own_count w) (sym (first_is_past_at (reverse whole) (length q)) ∙ ap (first_entries (length q)) (reverse-reverse whole) ∙ first_of_past q whole h)
 
--- EACH FINISHED CALL IS CUT SO
+-- EACH COMPLETED CALL IS CUT SO
 
 -- the call that x ends, if these are its entries
 module _ (t : Tables) (whole : List Entry) (op : Act) (x : Entry) (p : List Entry) (rest : List (List Entry))
@@ -74,10 +74,10 @@ module _ (t : Tables) (whole : List Entry) (op : Act) (x : Entry) (p : List Entr
       }
 
   -- the last round, if it is whole
-  pub last_round : suc (length rest % width t (event_or op)) ≡ width t (event_or op) → IsLastRound t (reverse whole) the_call
+  pub last_round : suc (length rest % component_count t (event_or op)) ≡ component_count t (event_or op) → IsLastRound t (reverse whole) the_call
   last_round whole_is =
       let w = x.worker in
-      let n = width t (event_or op) in
+      let n = component_count t (event_or op) in
       let len = length rest in
       let i = len % n in
       let i_le : i ≤ len = mod-le len n in
@@ -119,7 +119,7 @@ one_in a c (suc k, lt, e) = absurd (omega arith)
 
 -- each call that x ends is cut so
 ended_cut : (t : Tables) (whole : List Entry) (x : Entry) (p : List Entry) → IsPastOf (x ∷ p) whole → Ends t x p (under_way x.worker p)
-    → (c : Call) → Contains (ended_by t x (gone_on x.act p (under_way x.worker p))) c → IsFinishedCall t (reverse whole) c
+    → (c : Call) → Contains (ended_by t x (call_with_act x.act p (under_way x.worker p))) c → IsFinishedCall t (reverse whole) c
 ended_cut t whole x p in' (inl n) c h = absurd (none_in c (subst (λ zs. Contains zs c) n.is h))
 ended_cut t whole x p in' (inr (inl r)) c h =
     let k : IsWhole x.worker r.op x p r.rest = whole_from x.worker x x.act p (under_way x.worker p) r.op r.rest refl refl (own_under_way x.worker p) r.gone in
@@ -132,7 +132,7 @@ ended_cut t whole x p in' (inr (inr a)) c h =
     let k : IsWhole x.worker x.act x p [] = whole_alone x.worker x p refl a.begins in
     let the = call_of_entries t x x.act (p ∷ []) in
     let is : the ≡ c = one_in the c (subst (λ zs. Contains zs c) a.is h) in
-    let n = width t (event_or x.act) in
+    let n = component_count t (event_or x.act) in
     let zero_mod : 0 % n ≡ 0 = (let le : 0 % n ≤ 0 = mod-le 0 n in omega arith) in
     let round : the.round ≡ the.last = ap (position_of (p ∷ [])) zero_mod in
     let R : Bool → Type 0 = λ b. MatchBool b (IsLastRound t (reverse whole) the) ((the.first ≡ the.last) × (the.round ≡ the.last)) in
@@ -144,25 +144,25 @@ each_cut t whole since [] d acc is c h = absurd (none_in c h)
 each_cut t whole since (x ∷ past) d acc is c h =
     let here : IsPastOf (x ∷ past) whole = record { since = since; is = is } in
     let next : whole ≡ (since ++ x ∷ []) ++ past = is ∙ sym (append_assoc since (x ∷ []) past) in
-    elim (Contains-append_cases (finished_calls t past) (ended_by t x (gone_on x.act past (under_way x.worker past))) c h) [
+    elim (Contains-append_cases (finished_calls t past) (ended_by t x (call_with_act x.act past (under_way x.worker past))) c h) [
       | inl a ↦ each_cut t whole (since ++ x ∷ []) past d acc.1 next c a
       | inr b ↦ ended_cut t whole x past here (ends t x past d acc) c b
     ]
 
--- WHATEVER IS CUT SO IS A FINISHED CALL
+-- WHATEVER IS CUT SO IS A COMPLETED CALL
 
--- what x ends is a finished call of the whole
-ended_contained : (t : Tables) (since : List Entry) (x : Entry) (p : List Entry) (c : Call) → Contains (ended_by t x (gone_on x.act p (under_way x.worker p))) c → Contains (finished_calls t (since ++ x ∷ p)) c
+-- what x ends is a completed call of the whole
+ended_contained : (t : Tables) (since : List Entry) (x : Entry) (p : List Entry) (c : Call) → Contains (ended_by t x (call_with_act x.act p (under_way x.worker p))) c → Contains (finished_calls t (since ++ x ∷ p)) c
 unfolding finished_calls
-ended_contained t [] x p c h = Contains-append_right (finished_calls t p) (ended_by t x (gone_on x.act p (under_way x.worker p))) c h
+ended_contained t [] x p c h = Contains-append_right (finished_calls t p) (ended_by t x (call_with_act x.act p (under_way x.worker p))) c h
 ended_contained t (y ∷ since) x p c h =
     let past = since ++ x ∷ p in
-    Contains-append_left (finished_calls t past) (ended_by t y (gone_on y.act past (under_way y.worker past))) c (ended_contained t since x p c h)
+    Contains-append_left (finished_calls t past) (ended_by t y (call_with_act y.act past (under_way y.worker past))) c (ended_contained t since x p c h)
 
 -- the entries of a call that is cut so
 record Parts (c : Call) (x : Entry) (p q : List Entry) : Type 0 where
   pub rest : List (List Entry)
-  pub gone : gone_on x.act p (under_way x.worker p) ≡ Some (so_far c.op (p ∷ rest))
+  pub gone : call_with_act x.act p (under_way x.worker p) ≡ Some (so_far c.op (p ∷ rest))
   pub first : first_past (p ∷ rest) ≡ q
 
 parts_alone : (t : Tables) (whole : List Entry) (c : Call) (k : IsFinishedCall t (reverse whole) c) (p q : List Entry) → IsPastOf (k.closing ∷ p) whole → IsPastOf (k.opening ∷ q) whole
@@ -192,21 +192,21 @@ parts_of c x p late q is mine go r =
     let way : under_way x.worker p ≡ Some (so_far c.op r.rest) = ap (λ v. under_way v p) mine ∙ ap (under_way c.worker) is ∙ r.is in
     record {
       rest = r.rest;
-      gone = ap (λ a. gone_on a p (under_way x.worker p)) go ∙ ap (gone_on Go p) way;
+      gone = ap (λ a. call_with_act a p (under_way x.worker p)) go ∙ ap (call_with_act Go p) way;
       first = first_more p late c.worker c.op r.rest r.own ∙ r.first;
     }
 
 parts_from : (t : Tables) (whole : List Entry) (c : Call) (k : IsFinishedCall t (reverse whole) c) (p q s : List Entry) → IsPastOf p whole → p ≡ s ++ k.opening ∷ q
     → length p ≡ c.last → length q ≡ c.first → c.first < c.last → Parts c k.closing p q
 parts_from t whole c k p q s p_in is at_p at_q less =
-    let told : k.opening.reply ≡ Pending = k.pending c.first k.opening (omega arith) less k.opens k.opener in
+    let returned : k.opening.reply ≡ Pending = k.pending c.first k.opening (omega arith) less k.opens k.opener in
     let goes : (i : ℕ) (y : Entry) → length q < i → entry_at (s ++ k.opening ∷ q) i ≡ Some y → y.worker ≡ c.worker → (y.act ≡ Go) × (y.reply ≡ Pending) =
     λ i y lt at mine.
     (let g = past_entry p whole i y p_in (entry_of (k.opening ∷ q) s p i y is at) in
     let low : i < length p = g.0 in
     (k.goes i y (omega arith) (omega arith) g.1 mine, k.pending i y (omega arith) (omega arith) g.1 mine)) in
     parts_of c k.closing p (s ++ k.opening ∷ q) q is k.closer (k.goes c.last k.closing less (omega arith) k.closes k.closer)
-    (under_way_is c.worker c.op s q k.opening k.opener k.opening_act told k.begins goes)
+    (under_way_is c.worker c.op s q k.opening k.opener k.opening_act returned k.begins goes)
 
 parts_more : (t : Tables) (whole : List Entry) (c : Call) (k : IsFinishedCall t (reverse whole) c) (p q : List Entry) → IsPastOf (k.closing ∷ p) whole → IsPastOf (k.opening ∷ q) whole
     → length p ≡ c.last → length q ≡ c.first → c.first < c.last → Parts c k.closing p q
@@ -230,22 +230,22 @@ module _ (t : Tables) (whole : List Entry) (c : Call) (x : Entry) (p q : List En
     (in_p : IsPastOf (x ∷ p) whole) (at_p : length p ≡ c.last) (at_q : length q ≡ c.first) (mine : x.worker ≡ c.worker)
     (first : first_past (p ∷ rest) ≡ q) (k : IsWhole x.worker c.op x p rest) where
   abbrev round_past : List Entry
-  round_past = get_or (p ∷ rest) (length rest % width t (event_or c.op)) []
+  round_past = get_or (p ∷ rest) (length rest % component_count t (event_or c.op)) []
 
   round_at : (call_of_entries t x c.op (p ∷ rest)).round ≡ length round_past
   round_at =
       let one : suc (length rest) - 1 ≡ length rest = omega arith in
-      ap (λ j. position_of (p ∷ rest) (j % width t (event_or c.op))) one
+      ap (λ j. position_of (p ∷ rest) (j % component_count t (event_or c.op))) one
 
-  counts : (own_count x.worker (x ∷ p) ≡ own_count x.worker round_past + (length rest % width t (event_or c.op) + 1)) × (own_count x.worker (x ∷ p) ≡ own_count x.worker q + (length rest + 1))
+  counts : (own_count x.worker (x ∷ p) ≡ own_count x.worker round_past + (length rest % component_count t (event_or c.op) + 1)) × (own_count x.worker (x ∷ p) ≡ own_count x.worker q + (length rest + 1))
   counts = (
-    k.count (length rest % width t (event_or c.op)) (mod-le (length rest) (width t (event_or c.op))),
+    k.count (length rest % component_count t (event_or c.op)) (mod-le (length rest) (component_count t (event_or c.op))),
     k.count (length rest) (omega arith) ∙ ap (λ z. own_count x.worker z + (length rest + 1)) (first_at_end p rest ∙ first),
   )
 
-  -- from which entry on the last round is
+  -- the entry at which the last round begins
   round_entry : (y : Entry) × IsPastOf (y ∷ round_past) (x ∷ p) × (y.worker ≡ x.worker)
-  round_entry = k.entry (length rest % width t (event_or c.op)) (mod-le (length rest) (width t (event_or c.op)))
+  round_entry = k.entry (length rest % component_count t (event_or c.op)) (mod-le (length rest) (component_count t (event_or c.op)))
 
   round_in : IsPastOf (round_entry.0 ∷ round_past) whole
   round_in = past_trans (round_entry.0 ∷ round_past) (x ∷ p) whole round_entry.1 in_p
@@ -255,7 +255,7 @@ module _ (t : Tables) (whole : List Entry) (c : Call) (x : Entry) (p q : List En
       let w = x.worker in
       let f = k.first in
       let q_in : IsPastOf q (x ∷ p) = subst (λ z. IsPastOf z (x ∷ p)) first (past_before f.0 (first_past (p ∷ rest)) (x ∷ p) f.1) in
-      let le : length rest % width t (event_or c.op) ≤ length rest = mod-le (length rest) (width t (event_or c.op)) in
+      let le : length rest % component_count t (event_or c.op) ≤ length rest = mod-le (length rest) (component_count t (event_or c.op)) in
       elim (cases_lt (length round_past) (length q)) [
         | inl lt ↦ (let up : own_count w round_past < own_count w q = own_rises w round_past q (x ∷ p) round_entry.0 round_entry.2 round_entry.1 q_in lt in absurd (omega (arith, counts.0, counts.1)))
         | inr ge ↦ ge
@@ -271,7 +271,7 @@ module _ (t : Tables) (whole : List Entry) (c : Call) (x : Entry) (p q : List En
   reading_is : IsLastRound t (reverse whole) c → (call_of_entries t x c.op (p ∷ rest)).round ≡ c.round
   reading_is l =
       let w = x.worker in
-      let n = width t (event_or c.op) in
+      let n = component_count t (event_or c.op) in
       let len = length rest in
       let f = find_entry whole c.round l.entry l.at in
       let r = f.before in
@@ -316,7 +316,7 @@ module _ (t : Tables) (whole : List Entry) (c : Call) (x : Entry) (p q : List En
       ] h in
       call_is the c mine refl reply first_is round_is at_p
 
--- whatever is cut so is a finished call
+-- whatever is cut so is a completed call
 every_from : (t : Tables) (whole : List Entry) (c : Call) (k : IsFinishedCall t (reverse whole) c) (p q : List Entry) → IsPastOf (k.closing ∷ p) whole
     → length p ≡ c.last → length q ≡ c.first → Parts c k.closing p q → Contains (finished_calls t whole) c
 every_from t whole c k p q in_p at_p at_q r =
@@ -325,8 +325,8 @@ every_from t whole c k p q in_p at_p at_q r =
     let is : call_of_entries t x c.op (p ∷ r.rest) ≡ c = cut_is t whole c x p q r.rest in_p at_p at_q k.closer r.first w k.round k.closing_reply in
     let the = call_of_entries t x c.op (p ∷ r.rest) in
     let final : is_pending x.reply ≡ false = ap is_pending k.closing_reply ∙ k.finished in
-    let ended : ended_by t x (gone_on x.act p (under_way x.worker p)) ≡ the ∷ [] = ap (ended_by t x) r.gone ∙ ap (λ b. cond b [] (the ∷ [])) final in
-    let here : Contains (ended_by t x (gone_on x.act p (under_way x.worker p))) c = subst (λ zs. Contains zs c) (sym ended) (zero, omega arith, is) in
+    let ended : ended_by t x (call_with_act x.act p (under_way x.worker p)) ≡ the ∷ [] = ap (ended_by t x) r.gone ∙ ap (λ b. cond b [] (the ∷ [])) final in
+    let here : Contains (ended_by t x (call_with_act x.act p (under_way x.worker p))) c = subst (λ zs. Contains zs c) (sym ended) (zero, omega arith, is) in
     subst (λ z. Contains (finished_calls t z) c) (sym in_p.is) (ended_contained t in_p.since x p c here)
 
 pub every_cut : (t : Tables) (whole : List Entry) (c : Call) → IsFinishedCall t (reverse whole) c → Contains (finished_calls t whole) c

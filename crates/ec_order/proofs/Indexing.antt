@@ -8,23 +8,23 @@ use Rattle.ec_core.specs.declared.act.Act.{Act}
 use Rattle.ec_core.specs.declared.act.Act.TheVariants.{Advance}
 use Rattle.ec_core.specs.declared.act.Entry.{Entry}
 use Rattle.ec_core.specs.Counts.{is_advance}
-use Rattle.ec_numbers.specs.Numbers.{KeptNumbers}
-use Rattle.ec_order.specs.Index.{advanced, moments_in, IsIndex, NotesAct, raised_by}
+use Rattle.ec_numbers.specs.Numbers.{NumberListModel}
+use Rattle.ec_order.specs.Index.{advance_moments, moments_in, IsIndex, NotesAct, advanced_event}
 use Rattle.ec_order.proofs.Scanning.{prefix_more, prefix_long}
 
-pub moments_empty : (lists : List KeptNumbers) → All (λ (v : KeptNumbers). v.list ≡ []) lists → (e : ℕ) → moments_in lists e ≡ []
+pub moments_empty : (lists : List NumberListModel) → All (λ (v : NumberListModel). v.list ≡ []) lists → (e : ℕ) → moments_in lists e ≡ []
 moments_empty [] h e = refl
-moments_empty (v ∷ lists) h zero = All-head (λ (v : KeptNumbers). v.list ≡ []) v lists h
-moments_empty (v ∷ lists) h (suc e) = moments_empty lists (All-tail (λ (v : KeptNumbers). v.list ≡ []) v lists h) e
+moments_empty (v ∷ lists) h zero = All-head (λ (v : NumberListModel). v.list ≡ []) v lists h
+moments_empty (v ∷ lists) h (suc e) = moments_empty lists (All-tail (λ (v : NumberListModel). v.list ≡ []) v lists h) e
 
-pub moments_read : (lists : List KeptNumbers) (e : ℕ) (v : KeptNumbers) → e < length lists → v ≡ get_or lists e v → v.list ≡ moments_in lists e
+pub moments_read : (lists : List NumberListModel) (e : ℕ) (v : NumberListModel) → e < length lists → v ≡ get_or lists e v → v.list ≡ moments_in lists e
 moments_read lists e v low is =
-    let items = λ (x : KeptNumbers). x.list in
+    let items = λ (x : NumberListModel). x.list in
     ap items is ∙ sym (get_or-map items lists e v [] low)
 
-moments_set : (lists : List KeptNumbers) (e f : ℕ) (v : KeptNumbers) → e < length lists → moments_in (set lists e v) f ≡ cond (e == f) v.list (moments_in lists f)
+moments_set : (lists : List NumberListModel) (e f : ℕ) (v : NumberListModel) → e < length lists → moments_in (set lists e v) f ≡ cond (e == f) v.list (moments_in lists f)
 moments_set lists e f v low =
-    let items = λ (x : KeptNumbers). x.list in
+    let items = λ (x : NumberListModel). x.list in
     elim (e == f) as (λ b. (e == f) ≡ b → moments_in (set lists e v) f ≡ cond b v.list (moments_in lists f)) [
       | true ↦ λ q.
           (let same : e ≡ f = eqb-true e f q in
@@ -35,31 +35,24 @@ moments_set lists e f v low =
           ap (λ (xs : List (List ℕ)). get_or xs f []) (map-set items lists e v) ∙ get_or-set_other (map items lists) e f v.list [] other)
     ] refl
 
-pub raises : (act : Act) (f e : ℕ) → raised_by act ≡ Some e → is_advance f act ≡ (e == f)
+pub raises : (act : Act) (f e : ℕ) → advanced_event act ≡ Some e → is_advance f act ≡ (e == f)
 raises (Advance g) f e h = (let same : g ≡ e = cc in ap (λ k. k == f) same)
 raises act f e h = cc
 
-pub raises_none : (act : Act) (f : ℕ) → raised_by act ≡ None → is_advance f act ≡ false
+pub raises_none : (act : Act) (f : ℕ) → advanced_event act ≡ None → is_advance f act ≡ false
 raises_none (Advance g) f h = cc
 raises_none act f h = refl
 
 -- what is so after the scan of the first i entries
-pub record IsIndexed (h : List Entry) (i : ℕ) (lists : List KeptNumbers) : Type 0 where
+pub record IsIndexed (h : List Entry) (i : ℕ) (lists : List NumberListModel) : Type 0 where
   pub long : length lists ≡ 32
   pub index : IsIndex (reverse (take i h)) lists
 
-pub indexed_start : (h : List Entry) (lists : List KeptNumbers) → length lists ≡ 32 → ((e : ℕ) → moments_in lists e ≡ []) → IsIndexed h 0 lists
-unfolding advanced
+pub indexed_start : (h : List Entry) (lists : List NumberListModel) → length lists ≡ 32 → ((e : ℕ) → moments_in lists e ≡ []) → IsIndexed h 0 lists
+unfolding advance_moments
 indexed_start h lists long none = record { long = long; index = λ e lt. none e }
 
--- the moment after an act is noted
-pub noted_none : (lists : List KeptNumbers) (act : Act) (moment : ℕ) → None ≡ raised_by act → NotesAct lists act moment lists
-noted_none lists act moment none = record {
-  long = refl;
-  moments = λ e. sym (append-nil (moments_in lists e)) ∙ ap (λ b. moments_in lists e ++ cond b (moment ∷ []) []) (sym (raises_none act e (sym none)));
-}
-
-pub noted_one : (lists lists' : List KeptNumbers) (act : Act) (moment e : ℕ) (v : KeptNumbers) → Some e ≡ raised_by act → e < length lists
+pub noted_one : (lists lists' : List NumberListModel) (act : Act) (moment e : ℕ) (v : NumberListModel) → Some e ≡ advanced_event act → e < length lists
     → v.list ≡ moments_in lists e ++ moment ∷ [] → lists' ≡ set lists e v → NotesAct lists act moment lists'
 noted_one lists lists' act moment e v raised low items is = record {
   long = ap length is ∙ length-set lists e v;
@@ -72,13 +65,13 @@ noted_one lists lists' act moment e v raised low items is = record {
       ∙ ap (λ b. moments_in lists f ++ cond b (moment ∷ []) []) (sym (raises act f e (sym raised)));
 }
 
-pub index_next : (x : Entry) (past : List Entry) (i : ℕ) (lists lists' : List KeptNumbers) → i ≡ length past → IsIndex past lists → NotesAct lists x.act (i + 1) lists' → IsIndex (x ∷ past) lists'
-unfolding advanced
+pub index_next : (x : Entry) (past : List Entry) (i : ℕ) (lists lists' : List NumberListModel) → i ≡ length past → IsIndex past lists → NotesAct lists x.act (i + 1) lists' → IsIndex (x ∷ past) lists'
+unfolding advance_moments
 index_next x past i lists lists' here s notes = λ e lt.
     notes.moments e ∙ ap (λ ms. ms ++ cond (is_advance e x.act) ((i + 1) ∷ []) []) (s e lt)
-    ∙ ap (λ k. advanced e past ++ cond (is_advance e x.act) ((k + 1) ∷ []) []) here
+    ∙ ap (λ k. advance_moments e past ++ cond (is_advance e x.act) ((k + 1) ∷ []) []) here
 
-pub indexed_more : (h : List Entry) (i : ℕ) (x : Entry) (lists lists' : List KeptNumbers) → Some x ≡ slice_get h i → IsIndexed h i lists → NotesAct lists x.act (i + 1) lists' → IsIndexed h (i + 1) lists'
+pub indexed_more : (h : List Entry) (i : ℕ) (x : Entry) (lists lists' : List NumberListModel) → Some x ≡ slice_get h i → IsIndexed h i lists → NotesAct lists x.act (i + 1) lists' → IsIndexed h (i + 1) lists'
 indexed_more h i x lists lists' at s notes =
     let past = reverse (take i h) in
     record {

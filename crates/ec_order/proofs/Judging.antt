@@ -1,4 +1,4 @@
--- What the check of a list keeps, and the verdicts that it comes to.
+-- The state of the check of a list, and its verdicts.
 use Rattle.std.proofs.Common.{◌≡◌, ℕ, ◌+◌, ◌<◌, ◌≤◌, ◌⊎◌, inl, inr, max, Bool, true, false, List, [], ◌∷◌, ◌++◌, length, Some, None, refl, ap, sym, ◌∙◌, arith, subst, cond, ◌==◌, nat_le, get_or, set, take, slice_get, slice_index, slice_set, length-set, get_or-set_same, get_or-set_other, length-append}
 use Rattle.std.specs.List.{All, AllPairs, Any, Contains}
 use Rattle.std.proofs.lemmas.Bool.{true≢false, eqb-true, eqb-false, cases_order, cases_eq, cases_lt}
@@ -13,14 +13,14 @@ use Rattle.ec_core.specs.declared.act.Entry.{Entry}
 use Rattle.ec_core.specs.Acceptance.{IsAccepted}
 use Rattle.ec_core.specs.Fields.{IsNamed}
 use Rattle.ec_core.proofs.shared.Places.{get_set}
-use Rattle.ec_numbers.specs.Numbers.{KeptNumbers}
+use Rattle.ec_numbers.specs.Numbers.{NumberListModel}
 use Rattle.ec_order.specs.declared.call.Call.{Call}
 use Rattle.ec_order.specs.declared.placed.Placed.{Placed}
 use Rattle.ec_order.specs.declared.numbers.Numbers.{Numbers}
 use Rattle.ec_order.specs.declared.verdict.Verdict.TheVariants.{Good, Missing, Repeated, OutOfOrder, WrongReply, WrongPoint}
 use Rattle.ec_order.specs.Calls.{finished_calls}
 use Rattle.ec_order.specs.Points.{point_of}
-use Rattle.ec_order.specs.Sequential.{SequentialState, zero_state, put_at, sequential_reply, sequential_after, sequential_after_all}
+use Rattle.ec_order.specs.Sequential.{SequentialState, zero_state, update_at, sequential_reply, sequential_after, sequential_after_all}
 use Rattle.ec_order.specs.Orders.{calls_in}
 use Rattle.ec_order.specs.Index.{IsIndex, point_in}
 use Rattle.ec_order.specs.Verdicts.{IsSound, AreSound, IsVerdict, IsLate}
@@ -48,7 +48,7 @@ told_same n o (Ticket q) s k = ap (λ v. Some (Number v)) (s.sequencers q k)
 told_same n o (Get x) s k = ap (λ v. Some (Number v)) (s.cells x k)
 told_same n o op s k = refl
 
-put_same : (xs : List ℕ) (f : ℕ → ℕ) (n m v : ℕ) → n < length xs → get_or xs m 0 ≡ f m → get_or (set xs n v) m 0 ≡ put_at f n v m
+put_same : (xs : List ℕ) (f : ℕ → ℕ) (n m v : ℕ) → n < length xs → get_or xs m 0 ≡ f m → get_or (set xs n v) m 0 ≡ update_at f n v m
 put_same xs f n m v lt h =
     elim (n == m) as (λ b. (n == m) ≡ b → get_or (set xs n v) m 0 ≡ cond b v (f m)) [
       | true ↦ λ e. (let same : n ≡ m = eqb-true n m e in ap (λ k. get_or (set xs n v) k 0) (sym same) ∙ get_or-set_same xs n v 0 lt)
@@ -57,7 +57,7 @@ put_same xs f n m v lt h =
 
 shown_after : (n : Numbers) (o : SequentialState) (op : Act) → IsShown n o → IsNamed op → IsShown (after_in n op) (sequential_after o op)
 shown_after n o (Advance e) s k = record {
-  events = λ f lt. put_same n.events o.events e f (slice_index n.events e + 1) (let l : length n.events ≡ 32 = s.long_events in omega arith) (s.events f lt) ∙ ap (λ v. put_at o.events e (v + 1) f) (s.events e k);
+  events = λ f lt. put_same n.events o.events e f (slice_index n.events e + 1) (let l : length n.events ≡ 32 = s.long_events in omega arith) (s.events f lt) ∙ ap (λ v. update_at o.events e (v + 1) f) (s.events e k);
   sequencers = s.sequencers;
   cells = s.cells;
   long_events = length-set n.events e (slice_index n.events e + 1) ∙ s.long_events;
@@ -66,7 +66,7 @@ shown_after n o (Advance e) s k = record {
 }
 shown_after n o (Ticket q) s k = record {
   events = s.events;
-  sequencers = λ f lt. put_same n.sequencers o.sequencers q f (slice_index n.sequencers q + 1) (let l : length n.sequencers ≡ 32 = s.long_sequencers in omega arith) (s.sequencers f lt) ∙ ap (λ v. put_at o.sequencers q (v + 1) f) (s.sequencers q k);
+  sequencers = λ f lt. put_same n.sequencers o.sequencers q f (slice_index n.sequencers q + 1) (let l : length n.sequencers ≡ 32 = s.long_sequencers in omega arith) (s.sequencers f lt) ∙ ap (λ v. update_at o.sequencers q (v + 1) f) (s.sequencers q k);
   cells = s.cells;
   long_events = s.long_events;
   long_sequencers = length-set n.sequencers q (slice_index n.sequencers q + 1) ∙ s.long_sequencers;
@@ -103,7 +103,7 @@ few_after n i op f = record { events = λ k. few_next n.events i k f.events; seq
 
 -- THE CHECK OF THE FIRST i PLACES
 
--- a mark tells whether a finished call is at a place before
+-- a mark says whether a completed call is at an earlier place
 abbrev pub Marks : List Call → List Bool → List Placed → Type 0
 Marks cs seen before = (j : ℕ) (c : Call) → slice_get cs j ≡ Some c
     → (slice_get seen j ≡ Some true → Contains (calls_in before) c) × (slice_get seen j ≡ Some false → Contains (calls_in before) c → ⊥)
@@ -162,12 +162,12 @@ module _ (t : Tables) (past : List Entry) (ps : List Placed) (i : ℕ) (cs : Lis
     );
   }
 
-  point_same : (lists : List KeptNumbers) (j : ℕ) → IsIndex past lists → slice_get cs j ≡ Some p.call → point_in lists p.call ≡ point_of past p.call
+  point_same : (lists : List NumberListModel) (j : ℕ) → IsIndex past lists → slice_get cs j ≡ Some p.call → point_in lists p.call ≡ point_of past p.call
   point_same lists j index c =
       let f : Fits past p.call = All-contains (Fits past) (finished_calls t past) p.call (all_fit t past g.declared g.accepted) (known_at t past cs j p.call g c) in
       ap (λ (q : Placed). q.point) (placed_is past lists p.call index f)
 
-  pub wrong_point_at : (lists : List KeptNumbers) (j : ℕ) → IsIndex past lists → slice_get cs j ≡ Some p.call → slice_get seen j ≡ Some false → latest ≤ p.call.last → IsNamed p.call.op
+  pub wrong_point_at : (lists : List NumberListModel) (j : ℕ) → IsIndex past lists → slice_get cs j ≡ Some p.call → slice_get seen j ≡ Some false → latest ≤ p.call.last → IsNamed p.call.op
       → reply_in n p.call.op ≡ Some p.call.reply → (p.point ≡ point_in lists p.call → ⊥) → IsVerdict t past ps (WrongPoint i)
   wrong_point_at lists j index c m le k r h = record {
     sound = s.sound;
@@ -182,7 +182,7 @@ module _ (t : Tables) (past : List Entry) (ps : List Placed) (i : ℕ) (cs : Lis
     );
   }
 
-  sound_here : (lists : List KeptNumbers) (j : ℕ) → IsIndex past lists → slice_get cs j ≡ Some p.call → slice_get seen j ≡ Some false → latest ≤ p.call.last → IsNamed p.call.op
+  sound_here : (lists : List NumberListModel) (j : ℕ) → IsIndex past lists → slice_get cs j ≡ Some p.call → slice_get seen j ≡ Some false → latest ≤ p.call.last → IsNamed p.call.op
       → reply_in n p.call.op ≡ Some p.call.reply → p.point ≡ point_in lists p.call → IsSound t past (take i ps) p
   sound_here lists j index c m le k r e = record {
     known = known_at t past cs j p.call g c;
@@ -280,7 +280,7 @@ checked_start t past ps cs seen n long none shown few = record {
   few = few;
 }
 
-pub checked_more : (t : Tables) (past : List Entry) (ps : List Placed) (i : ℕ) (cs : List Call) (seen : List Bool) (latest : ℕ) (n : Numbers) (p : Placed) (lists : List KeptNumbers) (j : ℕ)
+pub checked_more : (t : Tables) (past : List Entry) (ps : List Placed) (i : ℕ) (cs : List Call) (seen : List Bool) (latest : ℕ) (n : Numbers) (p : Placed) (lists : List NumberListModel) (j : ℕ)
     → IsGiven t past cs → IsChecked t past ps i cs seen latest n → slice_get ps i ≡ Some p
     → IsIndex past lists → slice_get cs j ≡ Some p.call → slice_get seen j ≡ Some false → latest ≤ p.call.last → IsNamed p.call.op
     → reply_in n p.call.op ≡ Some p.call.reply → p.point ≡ point_in lists p.call

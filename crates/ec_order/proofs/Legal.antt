@@ -1,4 +1,4 @@
--- The order by points is legal, whatever the history.
+-- The order by points is a linearization, whatever the history.
 use Rattle.std.proofs.Common.{◌≡◌, ◌<◌, ◌≤◌, List, [], ◌∷◌, length, map, refl, ap, arith, subst}
 use Rattle.std.specs.List.{All, AllPairs}
 use Rattle.std.specs.List.Sorted.{IsPermutation}
@@ -11,8 +11,8 @@ use Rattle.ec_order.specs.declared.call.Call.{Call}
 use Rattle.ec_order.specs.declared.placed.Placed.{Placed}
 use Rattle.ec_order.specs.Calls.{finished_calls}
 use Rattle.ec_order.specs.Points.{point_of}
-use Rattle.ec_order.specs.Orders.{FinishedBefore, calls_in}
-use Rattle.ec_order.specs.Verdicts.{IsGood}
+use Rattle.ec_order.specs.Orders.{Precedes, calls_in}
+use Rattle.ec_order.specs.Verdicts.{IsLinearizationWithPoints}
 use Rattle.ec_order.specs.Points.{with_point, ordered_by_points}
 use Rattle.ec_order.proofs.Fits.{Fits, all_fit, point_bounds}
 use Rattle.ec_order.proofs.Sorting.{moments_move, moments_rise, AllPairs-map, IsNoLater}
@@ -23,7 +23,7 @@ calls_again past [] = refl
 calls_again past (c ∷ cs) = ap (λ z. c ∷ z) (calls_again past cs)
 
 -- a call whose point is no later did not begin after the other ended
-not_after : (past : List Entry) (a b : Placed) → IsPlaced past a → IsPlaced past b → a.point ≤ b.point → FinishedBefore b.call a.call → ⊥
+not_after : (past : List Entry) (a b : Placed) → IsPlaced past a → IsPlaced past b → a.point ≤ b.point → Precedes b.call a.call → ⊥
 not_after past a b x y le h =
     let u = point_bounds past a.call x.fits in
     let v = point_bounds past b.call y.fits in
@@ -32,7 +32,7 @@ not_after past a b x y le h =
     let before : b.call.last < a.call.first = h in
     omega arith
 
-pub order_good : (t : Tables) (past : List Entry) → IsDeclared t → IsAccepted t past → IsGood t past (ordered_by_points t past)
+pub order_good : (t : Tables) (past : List Entry) → IsDeclared t → IsAccepted t past → IsLinearizationWithPoints t past (ordered_by_points t past)
 order_good t past d acc =
     let cs = finished_calls t past in
     let ps = map (with_point past) cs in
@@ -48,7 +48,7 @@ order_good t past d acc =
     record {
       legal = record {
         each_once = subst (λ zs. IsPermutation zs (calls_in (ordered_by_points t past))) (calls_again past cs) once;
-        in_order = AllPairs-map (λ a b. FinishedBefore b a → ⊥) (λ (p : Placed). p.call) (ordered_by_points t past)
+        in_order = AllPairs-map (λ a b. Precedes b a → ⊥) (λ (p : Placed). p.call) (ordered_by_points t past)
             (λ i j e lt le. not_after past _ _ (all' i e (omega arith)) (all' j e le) (rise i j e lt le));
         run = runs.run;
       };

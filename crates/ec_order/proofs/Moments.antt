@@ -1,4 +1,5 @@
--- What has its point at a moment: the read or await that is told at once there, the others, and then the act.
+-- What has its point at a moment: the read or await that returns at once there, the others, and
+-- then the act.
 use Rattle.std.proofs.Common.{◌≡◌, ℕ, suc, ◌<◌, ◌==◌, inl, inr, Bool, true, false, not, ◌&&◌, List, [], ◌∷◌, ◌++◌, length, map, Some, refl, ap, sym, ◌∙◌, arith, cond, subst, append_assoc, append-nil, if◌then◌else◌}
 use Rattle.std.specs.List.{All, filter}
 use Rattle.std.proofs.lemmas.Bool.{cases_lt, eq-eqb, ne_eqb}
@@ -6,13 +7,13 @@ use Rattle.std.proofs.lemmas.List.Elements.{All-head, All-tail, All-map, All-wea
 use Rattle.ec_count.specs.Tables.{Tables, IsDeclared}
 use Rattle.ec_core.specs.declared.act.Entry.{Entry}
 use Rattle.ec_core.specs.Acceptance.{IsAccepted}
-use Rattle.ec_core.specs.Calls.{under_way, gone_on}
+use Rattle.ec_core.specs.Calls.{under_way, call_with_act}
 use Rattle.ec_core.proofs.shared.Moments.{accepted_before}
 use Rattle.ec_order.specs.declared.placed.Placed.{Placed}
-use Rattle.ec_order.specs.Calls.{ended_by, finished_calls, is_reading, stands_alone}
+use Rattle.ec_order.specs.Calls.{ended_by, finished_calls, is_reading, is_one_entry_call}
 use Rattle.ec_order.specs.Points.{acts_at, at_moment, point_of, reads_at, with_point}
-use Rattle.ec_order.specs.Timeline.{is_long, long_readings}
-use Rattle.ec_order.specs.Walk.{alone_at, is_alone, own_calls, reads, readings}
+use Rattle.ec_order.specs.Linearizer.{is_long, long_readings}
+use Rattle.ec_order.specs.Walk.{alone_at, is_one_entry_act, own_calls, reads, readings}
 use Rattle.ec_order.proofs.Ends.{ends}
 use Rattle.ec_order.proofs.Fits.{Fits, all_fit, point_bounds}
 use Rattle.ec_order.proofs.Gathering.{alone_whole, placed, placed_more, whole_parts}
@@ -22,9 +23,11 @@ use Rattle.ec_order.proofs.Sorting.{filter_none, filter_within}
 use Rattle.ec_order.proofs.Walking.{acts_here}
 use Rattle.ec_order.proofs.Wholes.{IsLongReading, long_read, not_long, others_long, placed_whole, reading_or_alone}
 
--- the call of one entry, whose position and point are k, if it is a read or an await that is told at once
+-- the call of one entry, whose position and point are k, if it is a read or an await that returns
+-- at once
 abbrev pub told_calls : ℕ → Entry → List Placed
-told_calls k x = if stands_alone x && not (is_alone x.act) then alone_at k x ∷ [] else []
+told_calls k x =
+    if is_one_entry_call x && not (is_one_entry_act x.act) then alone_at k x ∷ [] else []
 
 -- whether a call is a read or an await of more entries whose point is k
 abbrev long_at : ℕ → Placed → Bool
@@ -69,12 +72,12 @@ both_long a true true h l = refl
 both_long a false c h l = cc
 both_long a true false h l = cc
 
--- no whole call
-part_adds : (t : Tables) (y : Entry) (past : List Entry) (k : ℕ) → IsDeclared t → IsAccepted t (y ∷ past) → stands_alone y ≡ false
-    → filter (reads_at k) (map (with_point (y ∷ past)) (ended_by t y (gone_on y.act past (under_way y.worker past)))) ≡ filter (long_at k) (map (with_point (y ∷ past)) (ended_by t y (gone_on y.act past (under_way y.worker past))))
+-- an entry that is no whole call
+part_adds : (t : Tables) (y : Entry) (past : List Entry) (k : ℕ) → IsDeclared t → IsAccepted t (y ∷ past) → is_one_entry_call y ≡ false
+    → filter (reads_at k) (map (with_point (y ∷ past)) (ended_by t y (call_with_act y.act past (under_way y.worker past)))) ≡ filter (long_at k) (map (with_point (y ∷ past)) (ended_by t y (call_with_act y.act past (under_way y.worker past))))
 part_adds t y past k d acc part =
     let f = with_point (y ∷ past) in
-    let cs = ended_by t y (gone_on y.act past (under_way y.worker past)) in
+    let cs = ended_by t y (call_with_act y.act past (under_way y.worker past)) in
     same_kept (reads_at k) (long_at k) (map f cs)
     (All-map (λ p. reads_at k p ≡ long_at k p) f cs
     (All-weaker IsLongReading (λ c. reads_at k (f c) ≡ long_at k (f c)) (λ c l. both_long ((f c).point == k) (is_reading c.op) (is_long (f c)) l.0 l.1) cs (others_long t y past part (ends t y past d acc))))
@@ -84,11 +87,11 @@ whole_long k n y =
     let q = alone_at n y in
     ap (λ b. cond b (q ∷ []) []) (no_length (reads q) (is_long q) (reads_at k q) (not_long n y))
 
--- at an earlier moment
+-- an entry, at an earlier moment
 adds_before : (t : Tables) (y : Entry) (past : List Entry) (k : ℕ) → IsDeclared t → IsAccepted t (y ∷ past) → k < length past
-    → filter (reads_at k) (map (with_point (y ∷ past)) (ended_by t y (gone_on y.act past (under_way y.worker past)))) ≡ filter (long_at k) (map (with_point (y ∷ past)) (ended_by t y (gone_on y.act past (under_way y.worker past))))
+    → filter (reads_at k) (map (with_point (y ∷ past)) (ended_by t y (call_with_act y.act past (under_way y.worker past)))) ≡ filter (long_at k) (map (with_point (y ∷ past)) (ended_by t y (call_with_act y.act past (under_way y.worker past))))
 adds_before t y past k d acc lt =
-    elim (stands_alone y) as (λ b. stands_alone y ≡ b → filter (reads_at k) (map (with_point (y ∷ past)) (ended_by t y (gone_on y.act past (under_way y.worker past)))) ≡ filter (long_at k) (map (with_point (y ∷ past)) (ended_by t y (gone_on y.act past (under_way y.worker past))))) [
+    elim (is_one_entry_call y) as (λ b. is_one_entry_call y ≡ b → filter (reads_at k) (map (with_point (y ∷ past)) (ended_by t y (call_with_act y.act past (under_way y.worker past)))) ≡ filter (long_at k) (map (with_point (y ∷ past)) (ended_by t y (call_with_act y.act past (under_way y.worker past))))) [
       | true ↦ λ whole.
           (let q = alone_at (length past) y in
           let is = placed_whole t y past (y ∷ past) whole in
@@ -97,21 +100,21 @@ adds_before t y past k d acc lt =
       | false ↦ λ part. part_adds t y past k d acc part
     ] refl
 
--- at its own
+-- an entry, at its own moment
 adds_here : (t : Tables) (y : Entry) (past : List Entry) → IsDeclared t → IsAccepted t (y ∷ past)
-    → filter (reads_at (length past)) (map (with_point (y ∷ past)) (ended_by t y (gone_on y.act past (under_way y.worker past))))
-    ≡ told_calls (length past) y ++ filter (long_at (length past)) (map (with_point (y ∷ past)) (ended_by t y (gone_on y.act past (under_way y.worker past))))
+    → filter (reads_at (length past)) (map (with_point (y ∷ past)) (ended_by t y (call_with_act y.act past (under_way y.worker past))))
+    ≡ told_calls (length past) y ++ filter (long_at (length past)) (map (with_point (y ∷ past)) (ended_by t y (call_with_act y.act past (under_way y.worker past))))
 adds_here t y past d acc =
     let n = length past in
     let q = alone_at n y in
-    let more = map (with_point (y ∷ past)) (ended_by t y (gone_on y.act past (under_way y.worker past))) in
-    elim (stands_alone y) as (λ b. stands_alone y ≡ b → filter (reads_at n) more ≡ cond (b && not (is_alone y.act)) (q ∷ []) [] ++ filter (long_at n) more) [
+    let more = map (with_point (y ∷ past)) (ended_by t y (call_with_act y.act past (under_way y.worker past))) in
+    elim (is_one_entry_call y) as (λ b. is_one_entry_call y ≡ b → filter (reads_at n) more ≡ cond (b && not (is_one_entry_act y.act)) (q ∷ []) [] ++ filter (long_at n) more) [
       | true ↦ λ whole.
           (let is : more ≡ q ∷ [] = placed_whole t y past (y ∷ past) whole in
-          let reading : is_reading y.act ≡ not (is_alone y.act) = reading_or_alone y.act (whole_parts y whole).0 in
-          let told = cond (not (is_alone y.act)) (q ∷ []) [] in
+          let reading : is_reading y.act ≡ not (is_one_entry_act y.act) = reading_or_alone y.act (whole_parts y whole).0 in
+          let returned = cond (not (is_one_entry_act y.act)) (q ∷ []) [] in
           ap (filter (reads_at n)) is ∙ ap (λ b. cond (b && is_reading y.act) (q ∷ []) []) (eq-eqb n n refl) ∙ ap (λ b. cond b (q ∷ []) []) reading
-          ∙ sym (ap (λ ps. told ++ ps) (ap (filter (long_at n)) is ∙ whole_long n n y) ∙ append-nil told))
+          ∙ sym (ap (λ ps. returned ++ ps) (ap (filter (long_at n)) is ∙ whole_long n n y) ∙ append-nil returned))
       | false ↦ λ part. part_adds t y past n d acc part
     ] refl
 
@@ -123,7 +126,7 @@ reads_here t [] k x d acc at = (let in' : k < 0 = entry_within [] k x at in absu
 reads_here t (y ∷ past) k x d acc at =
     let n = length past in
     let ps = placed t past in
-    let more = map (with_point (y ∷ past)) (ended_by t y (gone_on y.act past (under_way y.worker past))) in
+    let more = map (with_point (y ∷ past)) (ended_by t y (call_with_act y.act past (under_way y.worker past))) in
     let all : placed t (y ∷ past) ≡ ps ++ more = placed_more t y past d acc in
     let read : filter (reads_at k) (placed t (y ∷ past)) ≡ filter (reads_at k) ps ++ filter (reads_at k) more = ap (filter (reads_at k)) all ∙ filter-append (reads_at k) ps more in
     let long : filter (long_at k) (placed t (y ∷ past)) ≡ filter (long_at k) ps ++ filter (long_at k) more = ap (filter (long_at k)) all ∙ filter-append (long_at k) ps more in
@@ -148,7 +151,7 @@ long_here t past k =
 -- what is so at a moment, if these are all calls and the long ones, and this is its entry
 pub record IsMoment (all longs : List Placed) (k : ℕ) (x : Entry) : Type 0 where
   pub calls : at_moment all k ≡ told_calls k x ++ (at_moment longs k ++ own_calls k x)
-  pub whole : is_alone x.act ≡ true → stands_alone x ≡ true
+  pub whole : is_one_entry_act x.act ≡ true → is_one_entry_call x ≡ true
 
 pub moment_of : (t : Tables) (past : List Entry) (k : ℕ) (x : Entry) → IsDeclared t → IsAccepted t past → entry_at past k ≡ Some x → IsMoment (placed t past) (long_readings t past) k x
 moment_of t past k x d acc at =
@@ -158,5 +161,5 @@ moment_of t past k x d acc at =
     record {
       calls = ap (λ ps. ps ++ filter (acts_at k) all) (reads_here t past k x d acc at) ∙ ap (λ ps. (told_calls k x ++ filter (long_at k) all) ++ ps) (acts_here t past k x d acc at)
           ∙ append_assoc (told_calls k x) (filter (long_at k) all) (own_calls k x) ∙ ap (λ ps. told_calls k x ++ (ps ++ own_calls k x)) (sym (long_here t past k));
-      whole = λ alone. alone_whole t x f.before alone (ends t x f.before d acc');
+      whole = λ one_entry_calls. alone_whole t x f.before one_entry_calls (ends t x f.before d acc');
     }

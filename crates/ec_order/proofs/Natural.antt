@@ -1,4 +1,4 @@
--- The laws over a history in its natural order.
+-- The theorems over a history in its natural order.
 use Rattle.std.proofs.Common.{◌≡◌, ℕ, ◌≤◌, inl, inr, true, false, List, ◌++◌, length, refl, ap, sym, ◌∙◌, arith, take, drop, reverse}
 use Rattle.std.specs.Prelude.{MatchBool}
 use Rattle.std.specs.List.{Contains}

@@ -1,4 +1,4 @@
--- Each finished read and await has a point.
+-- Each completed read and await has a point.
 use Rattle.std.proofs.Common.{◌≡◌, ℕ, zero, suc, ◌+◌, ◌<◌, ◌≤◌, Bool, true, false, List, [], ◌∷◌, ◌++◌, length, refl, ap, sym, ◌∙◌, arith, cond, ◌==◌, nat_le, length-append}
 use Rattle.std.proofs.lemmas.Bool.{eqb-true, eqb-false, leb-true, leb-false, le-leb, lt-leb}
 use Rattle.ec_core.specs.declared.act.Entry.{Entry}

@@ -9,6 +9,7 @@ use Rattle.ec_order.specs.Points.{first_entries}
 use Rattle.ec_core.proofs.shared.Pasts.{past_itself}
 use Rattle.ec_order.proofs.Chains.{past_next}
 use Rattle.ec_order.proofs.Points.{first_since, first_of_past}
+use Rattle.ec_core.proofs.shared.Joining.{get_front as get_left}
 
 abbrev pub entry_at : List Entry → ℕ → Option Entry
 entry_at past i = slice_get (reverse past) i
@@ -17,12 +18,7 @@ get_last : {X : Type 0} (xs : List X) (x : X) → slice_get (xs ++ x ∷ []) (le
 get_last [] x = refl
 get_last (y ∷ xs) x = get_last xs x
 
-get_left : {X : Type 0} (xs ys : List X) (i : ℕ) → i < length xs → slice_get (xs ++ ys) i ≡ slice_get xs i
-get_left [] ys i h = absurd (omega arith)
-get_left (x ∷ xs) ys zero h = refl
-get_left (x ∷ xs) ys (suc i) h = get_left xs ys i (omega arith)
-
-reverse_cons : (x : Entry) (p : List Entry) → reverse (x ∷ p) ≡ reverse p ++ x ∷ []
+pub reverse_cons : (x : Entry) (p : List Entry) → reverse (x ∷ p) ≡ reverse p ++ x ∷ []
 reverse_cons x p = reverse-append (x ∷ []) p
 
 pub entry_here : (x : Entry) (p : List Entry) → entry_at (x ∷ p) (length p) ≡ Some x

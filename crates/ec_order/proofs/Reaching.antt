@@ -5,12 +5,13 @@ use Rattle.std.proofs.lemmas.List.{get_or_append_left, get_or_push}
 use Rattle.ec_core.specs.declared.act.Entry.{Entry}
 use Rattle.ec_core.specs.Counts.{total, is_advance}
 use Rattle.ec_core.specs.Rounds.{event_or}
-use Rattle.ec_numbers.specs.Numbers.{KeptNumbers}
+use Rattle.ec_numbers.specs.Numbers.{NumberListModel}
 use Rattle.ec_order.specs.declared.call.Call.{Call}
 use Rattle.ec_order.specs.declared.placed.Placed.{Placed}
-use Rattle.ec_order.specs.Calls.{is_reading, number_of}
+use Rattle.ec_order.specs.Calls.{is_reading}
+use Rattle.ec_core.specs.CallLists.{reply_number}
 use Rattle.ec_order.specs.Points.{first_entries, first_moment, point_of, with_point}
-use Rattle.ec_order.specs.Index.{advanced, moment_of, moments_in, IsIndex, point_by, point_in, placed_in}
+use Rattle.ec_order.specs.Index.{advance_moments, moment_of_advance, moments_in, IsIndex, point_by, point_in, placed_in}
 use Rattle.ec_order.proofs.Points.{first_at, first_next}
 use Rattle.ec_order.proofs.Fits.{Fits, acts_there}
 
@@ -37,13 +38,13 @@ total_mono e j k (x ∷ past) h =
       | false ↦ λ t. total_upto e j (x ∷ past)
     ] refl
 
-pub length_advanced : (e : ℕ) (past : List Entry) → length (advanced e past) ≡ total e past
-unfolding advanced total
+pub length_advanced : (e : ℕ) (past : List Entry) → length (advance_moments e past) ≡ total e past
+unfolding advance_moments total
 length_advanced e [] = refl
 length_advanced e (x ∷ past) =
-    elim (is_advance e x.act) as (λ b. length (advanced e past ++ cond b ((length past + 1) ∷ []) []) ≡ cond b 1 0 + total e past) [
-      | true ↦ (let rest : length (advanced e past) ≡ total e past = length_advanced e past in omega (arith, length-append (advanced e past) ((length past + 1) ∷ [])))
-      | false ↦ (let rest : length (advanced e past) ≡ total e past = length_advanced e past in omega (arith, length-append (advanced e past) []))
+    elim (is_advance e x.act) as (λ b. length (advance_moments e past ++ cond b ((length past + 1) ∷ []) []) ≡ cond b 1 0 + total e past) [
+      | true ↦ (let rest : length (advance_moments e past) ≡ total e past = length_advanced e past in omega (arith, length-append (advance_moments e past) ((length past + 1) ∷ [])))
+      | false ↦ (let rest : length (advance_moments e past) ≡ total e past = length_advanced e past in omega (arith, length-append (advance_moments e past) []))
     ]
 
 -- m is the first moment at which the total is r
@@ -79,28 +80,29 @@ first_none [] = refl
 first_none (x ∷ past) = ap (λ b. cond b (first_entries 0 past) (x ∷ past)) (le-leb 0 (length past) (omega arith)) ∙ first_none past
 
 -- the moment after the r-th advance
-pub reached : (e r : ℕ) (past : List Entry) → r ≤ total e past → IsReached e r past (moment_of (advanced e past) r)
-unfolding advanced total
+pub reached : (e r : ℕ) (past : List Entry) → r ≤ total e past → IsReached e r past (moment_of_advance (advance_moments e past) r)
+unfolding advance_moments total
 reached e zero past h = record { within = omega arith; number = (let none : total e (first_entries 0 past) ≡ 0 = ap (total e) (first_none past) in none); before = λ j lt. absurd (omega arith) }
 reached e (suc r) [] h = absurd (omega arith)
 reached e (suc r) (x ∷ past) h =
-    elim (is_advance e x.act) as (λ b. is_advance e x.act ≡ b → suc r ≤ cond b 1 0 + total e past → IsReached e (suc r) (x ∷ past) (get_or (advanced e past ++ cond b ((length past + 1) ∷ []) []) r 0)) [
+    elim (is_advance e x.act) as (λ b. is_advance e x.act ≡ b → suc r ≤ cond b 1 0 + total e past → IsReached e (suc r) (x ∷ past) (get_or (advance_moments e past ++ cond b ((length past + 1) ∷ []) []) r 0)) [
       | true ↦ λ is le.
-          (let long : length (advanced e past) ≡ total e past = length_advanced e past in
+          (let long : length (advance_moments e past) ≡ total e past = length_advanced e past in
           elim (cases_lt r (total e past)) [
             | inl lt ↦
-                (let at : get_or (advanced e past ++ (length past + 1) ∷ []) r 0 ≡ get_or (advanced e past) r 0 = get_or_append_left (advanced e past) ((length past + 1) ∷ []) 0 r (omega arith) in
-                rw at (reached_later e (suc r) (get_or (advanced e past) r 0) x past (reached e (suc r) past (omega arith))))
+                (let at : get_or (advance_moments e past ++ (length past + 1) ∷ []) r 0 ≡ get_or (advance_moments e past) r 0 = get_or_append_left (advance_moments e past) ((length past + 1) ∷ []) 0 r (omega arith) in
+                rw at (reached_later e (suc r) (get_or (advance_moments e past) r 0) x past (reached e (suc r) past (omega arith))))
             | inr ge ↦
-                (let at : get_or (advanced e past ++ (length past + 1) ∷ []) r 0 ≡ length past + 1 = get_or_push (advanced e past) (length past + 1) 0 r (omega arith) in
+                (let at : get_or (advance_moments e past ++ (length past + 1) ∷ []) r 0 ≡ length past + 1 = get_or_push (advance_moments e past) (length past + 1) 0 r (omega arith) in
                 rw at (reached_now e (suc r) x past is (omega arith)))
           ])
       | false ↦ λ is le.
-          (let none : advanced e past ++ [] ≡ advanced e past = append-nil (advanced e past) in
-          rw none (reached_later e (suc r) (get_or (advanced e past) r 0) x past (reached e (suc r) past (omega arith))))
+          (let none : advance_moments e past ++ [] ≡ advance_moments e past =
+          append-nil (advance_moments e past) in
+          rw none (reached_later e (suc r) (get_or (advance_moments e past) r 0) x past (reached e (suc r) past (omega arith))))
     ] refl h
 
--- the one moment that is the first to pass
+-- only one moment is the first to pass
 first_unique : (test : ℕ → Bool) (m k n : ℕ) → test m ≡ true → k ≤ m → m ≤ k + n → ((j : ℕ) → k ≤ j → j < m → test j ≡ false) → first_moment test k n ≡ m
 unfolding first_moment
 first_unique test m k zero is low high before = omega arith
@@ -126,20 +128,20 @@ at_greater f r a b h g =
       | inr ge ↦ (let m : max a b ≡ b = omega arith in rw m (h ge))
     ]
 
--- the point of a finished call, by the index
-pub point_is : (past : List Entry) (c : Call) → Fits past c → point_of past c ≡ point_by (advanced (event_or c.op) past) c
+-- the point of a completed call, by the index
+pub point_is : (past : List Entry) (c : Call) → Fits past c → point_of past c ≡ point_by (advance_moments (event_or c.op) past) c
 point_is past c f =
-    elim (is_reading c.op) as (λ b. is_reading c.op ≡ b → point_of past c ≡ cond b (max c.round (moment_of (advanced (event_or c.op) past) (number_of c.reply))) c.last) [
+    elim (is_reading c.op) as (λ b. is_reading c.op ≡ b → point_of past c ≡ cond b (max c.round (moment_of_advance (advance_moments (event_or c.op) past) (reply_number c.reply))) c.last) [
       | true ↦ λ r.
           (let e = event_or c.op in
-          let n = number_of c.reply in
+          let n = reply_number c.reply in
           let total_at : ℕ → ℕ = λ k. total e (first_entries k past) in
           let low : total_at c.round ≤ n = f.low r in
           let high : n ≤ total_at c.last = f.high r in
           let order : c.round ≤ c.last = f.round in
           let up : total_at c.last ≤ total e past = total_upto e c.last past in
-          let here : IsReached e n past (moment_of (advanced e past) n) = reached e n past (omega arith) in
-          let m = moment_of (advanced e past) n in
+          let here : IsReached e n past (moment_of_advance (advance_moments e past) n) = reached e n past (omega arith) in
+          let m = moment_of_advance (advance_moments e past) n in
           let at : total_at m ≡ n = here.number in
           let before_last : m ≤ c.last = not_later total_at n m c.last here.before high in
           let is : total_at (max c.round m) ≡ n = at_greater total_at n c.round m (λ le. at)
@@ -151,12 +153,12 @@ point_is past c f =
     ] refl
 
 -- a call is placed as the index says
-pub placed_is : (past : List Entry) (lists : List KeptNumbers) (c : Call) → IsIndex past lists → Fits past c → placed_in lists c ≡ with_point past c
+pub placed_is : (past : List Entry) (lists : List NumberListModel) (c : Call) → IsIndex past lists → Fits past c → placed_in lists c ≡ with_point past c
 placed_is past lists c index f =
     let at : ℕ → Placed = λ k. record { call = c; point = k } in
     let same : point_in lists c ≡ point_of past c =
     elim (is_reading c.op) as (λ b. is_reading c.op ≡ b → point_in lists c ≡ point_of past c) [
       | true ↦ λ r. ap (λ ms. point_by ms c) (index (event_or c.op) (f.known r)) ∙ sym (point_is past c f)
-      | false ↦ λ r. ap (λ b. cond b (max c.round (moment_of (moments_in lists (event_or c.op)) (number_of c.reply))) c.last) r ∙ sym (acts_there past c r)
+      | false ↦ λ r. ap (λ b. cond b (max c.round (moment_of_advance (moments_in lists (event_or c.op)) (reply_number c.reply))) c.last) r ∙ sym (acts_there past c r)
     ] refl in
     ap at same

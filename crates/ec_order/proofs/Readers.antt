@@ -1,4 +1,4 @@
--- How many reads and awaits of an eventcount are under way, with one more entry.
+-- How many reads and awaits of an eventcount are pending, with one more entry.
 use Rattle.std.proofs.Common.{◌≡◌, ◌≢◌, ℕ, zero, suc, ◌+◌, ◌<◌, ◌≤◌, true, false, not, ◌&&◌, is_some, List, [], ◌∷◌, Option, Some, None, refl, ap, sym, ◌∙◌, arith, cond, ◌==◌}
 use Rattle.std.proofs.lemmas.Bool.{eqb-true, eqb-false, leb-false}
 use Rattle.ec_count.specs.Tables.{Tables, IsDeclared}
@@ -6,15 +6,15 @@ use Rattle.ec_core.specs.declared.act.Act.{Act}
 use Rattle.ec_core.specs.declared.act.Act.TheVariants.{Read, Await, Go}
 use Rattle.ec_core.specs.declared.act.Entry.{Entry}
 use Rattle.ec_core.specs.Acceptance.{IsAccepted}
-use Rattle.ec_core.specs.Calls.{CallSoFar, under_way, gone_on, call_with, is_go, is_pending}
+use Rattle.ec_core.specs.Calls.{CallSoFar, under_way, call_with_act, call_with, is_go, is_pending}
 use Rattle.ec_core.specs.Counts.{sum_to}
-use Rattle.ec_core.specs.Rounds.{read_of}
+use Rattle.ec_core.specs.Rounds.{read_event}
 use Rattle.ec_core.proofs.shared.Answering.{allowed}
 use Rattle.ec_core.proofs.shared.Scans.{call_own, call_other}
 use Rattle.ec_order.specs.declared.call.Call.{Call}
-use Rattle.ec_order.specs.Calls.{call_of_entries, ended_by, stands_alone}
-use Rattle.ec_order.specs.Raised.{is_reading_of, reads_event, readers}
-use Rattle.ec_order.specs.Walk.{is_alone}
+use Rattle.ec_order.specs.Calls.{call_of_entries, ended_by, is_one_entry_call}
+use Rattle.ec_order.specs.AdvanceLogModel.{is_reading_of, reads_event, readers}
+use Rattle.ec_order.specs.Walk.{is_one_entry_act}
 use Rattle.ec_order.proofs.Gathering.{whole_leaves}
 
 -- COUNTS OF WORKERS
@@ -27,7 +27,7 @@ sum_below f g (suc n) h =
     let rest : sum_to f n ≡ sum_to g n = sum_below f g n (λ w lt. h w (omega arith)) in
     omega arith
 
--- the sums of two that agree but at one worker differ by that worker alone
+-- the sums of two functions that agree except at one worker differ only by their values there
 sum_but_one : (f g : ℕ → ℕ) (v n : ℕ) → v < n → ((w : ℕ) → (v == w) ≡ false → f w ≡ g w) → sum_to f n + g v ≡ sum_to g n + f v
 unfolding sum_to
 sum_but_one f g v zero lt h = absurd (omega arith)
@@ -60,7 +60,7 @@ unfolding sum_to
 sum_few f zero h = omega arith
 sum_few f (suc n) h = (let here : f n ≤ 1 = h n in let rest : sum_to f n ≤ n = sum_few f n h in omega arith)
 
--- READS AND AWAITS UNDER WAY
+-- PENDING READS AND AWAITS
 
 abbrev one_if : ℕ → Option CallSoFar → ℕ
 one_if e o = cond (reads_event e o) 1 0
@@ -89,12 +89,12 @@ none_reads e past w call none lt is reads =
     let one_here : one_if e (under_way w past) ≡ 1 = ap (one_if e) is ∙ ap (λ b. cond b 1 0) reads in
     omega arith
 
-pub reads_read : (op : Act) (f e : ℕ) → read_of op ≡ Some e → is_reading_of f op ≡ (e == f)
+pub reads_read : (op : Act) (f e : ℕ) → read_event op ≡ Some e → is_reading_of f op ≡ (e == f)
 reads_read (Read g) f e is = (let same : g ≡ e = cc in ap (λ k. k == f) same)
 reads_read (Await g v) f e is = (let same : g ≡ e = cc in ap (λ k. k == f) same)
 reads_read op f e is = cc
 
-pub reads_none : (op : Act) (f : ℕ) → read_of op ≡ None → is_reading_of f op ≡ false
+pub reads_none : (op : Act) (f : ℕ) → read_event op ≡ None → is_reading_of f op ≡ false
 reads_none (Read g) f is = cc
 reads_none (Await g v) f is = cc
 reads_none op f is = refl
@@ -104,8 +104,8 @@ reads_none op f is = refl
 abbrev IsFree : Act → Option CallSoFar → Type 0
 IsFree act o = ((is_some o && not (is_go act)) ≡ false) × ((not (is_some o) && is_go act) ≡ false)
 
-pending_adds : (e : ℕ) (act : Act) (past : List Entry) (o : Option CallSoFar) → is_alone act ≡ false → IsFree act o
-    → one_if e (gone_on act past o) ≡ one_if e o + cond (is_reading_of e act) 1 0
+pending_adds : (e : ℕ) (act : Act) (past : List Entry) (o : Option CallSoFar) → is_one_entry_act act ≡ false → IsFree act o
+    → one_if e (call_with_act act past o) ≡ one_if e o + cond (is_reading_of e act) 1 0
 pending_adds e Go past None other free = (let busy = free.1 in cc)
 pending_adds e Go past (Some call) other free = omega arith
 pending_adds e (Read f) past None other free = omega arith
@@ -114,26 +114,26 @@ pending_adds e (Read f) past (Some call) other free = (let busy = free.0 in cc)
 pending_adds e (Await f v) past (Some call) other free = (let busy = free.0 in cc)
 pending_adds e act past o other free = cc
 
--- the call that it ends, where it ends one
+-- 1 if an entry with this act ends a call that was pending on e
 abbrev pub left_on : ℕ → Act → Call → ℕ
 left_on e act c = cond (is_go act && is_reading_of e c.op) 1 0
 
-told_leaves : (t : Tables) (e : ℕ) (x : Entry) (act : Act) (past : List Entry) (o : Option CallSoFar) (c : Call) → is_alone act ≡ false → IsFree act o → is_pending x.reply ≡ false
-    → ended_by t x (gone_on act past o) ≡ c ∷ [] → one_if e o ≡ left_on e act c
-told_leaves t e x Go past None c other free told is = cc
-told_leaves t e x Go past (Some call) c other free told is =
+told_leaves : (t : Tables) (e : ℕ) (x : Entry) (act : Act) (past : List Entry) (o : Option CallSoFar) (c : Call) → is_one_entry_act act ≡ false → IsFree act o → is_pending x.reply ≡ false
+    → ended_by t x (call_with_act act past o) ≡ c ∷ [] → one_if e o ≡ left_on e act c
+told_leaves t e x Go past None c other free returned is = cc
+told_leaves t e x Go past (Some call) c other free returned is =
     let the = call_of_entries t x call.op (past ∷ call.moments) in
-    let same : the ∷ [] ≡ c ∷ [] = sym (ap (λ b. cond b [] (the ∷ [])) told) ∙ is in
+    let same : the ∷ [] ≡ c ∷ [] = sym (ap (λ b. cond b [] (the ∷ [])) returned) ∙ is in
     let op : call.op ≡ c.op = cc in
     ap (λ op. cond (is_reading_of e op) 1 0) op
-told_leaves t e x (Read f) past None c other free told is = refl
-told_leaves t e x (Await f v) past None c other free told is = refl
-told_leaves t e x (Read f) past (Some call) c other free told is = (let busy = free.0 in cc)
-told_leaves t e x (Await f v) past (Some call) c other free told is = (let busy = free.0 in cc)
-told_leaves t e x act past o c other free told is = cc
+told_leaves t e x (Read f) past None c other free returned is = refl
+told_leaves t e x (Await f v) past None c other free returned is = refl
+told_leaves t e x (Read f) past (Some call) c other free returned is = (let busy = free.0 in cc)
+told_leaves t e x (Await f v) past (Some call) c other free returned is = (let busy = free.0 in cc)
+told_leaves t e x act past o c other free returned is = cc
 
--- whether an entry is told Pending, by what it ends
-some_gone : (act : Act) (past : List Entry) (o : Option CallSoFar) → is_alone act ≡ false → IsFree act o → (call : CallSoFar) × (gone_on act past o ≡ Some call)
+-- whether the reply to an entry is Pending, by what it ends
+some_gone : (act : Act) (past : List Entry) (o : Option CallSoFar) → is_one_entry_act act ≡ false → IsFree act o → (call : CallSoFar) × (call_with_act act past o ≡ Some call)
 some_gone Go past None other free = (let busy = free.1 in cc)
 some_gone Go past (Some call) other free = (record { op = call.op; moments = past ∷ call.moments }, refl)
 some_gone (Read f) past o other free = (record { op = Read f; moments = past ∷ [] }, refl)
@@ -168,11 +168,11 @@ free_at t x past acc = (let k = (allowed t past x.worker x.act x.reply acc.0).0 
 -- WITH ONE MORE ENTRY
 
 -- a whole call
-pub readers_whole : (t : Tables) (e : ℕ) (x : Entry) (past : List Entry) → IsDeclared t → IsAccepted t (x ∷ past) → stands_alone x ≡ true → readers e (x ∷ past) ≡ readers e past
+pub readers_whole : (t : Tables) (e : ℕ) (x : Entry) (past : List Entry) → IsDeclared t → IsAccepted t (x ∷ past) → is_one_entry_call x ≡ true → readers e (x ∷ past) ≡ readers e past
 readers_whole t e x past d acc whole = readers_same e x past (λ w. whole_leaves t x past w d acc whole)
 
--- one of a read or an await: where it ends no call
-pub readers_begun : (t : Tables) (e : ℕ) (x : Entry) (past : List Entry) → IsDeclared t → IsAccepted t (x ∷ past) → is_alone x.act ≡ false → ended_by t x (call_with x past) ≡ []
+-- an entry of a read or an await, if it ends no call
+pub readers_begun : (t : Tables) (e : ℕ) (x : Entry) (past : List Entry) → IsDeclared t → IsAccepted t (x ∷ past) → is_one_entry_act x.act ≡ false → ended_by t x (call_with x past) ≡ []
     → readers e (x ∷ past) ≡ readers e past + cond (is_reading_of e x.act) 1 0
 readers_begun t e x past d acc other none =
     let o = under_way x.worker past in
@@ -184,8 +184,8 @@ readers_begun t e x past d acc other none =
     let next : readers e (x ∷ past) + one_if e o ≡ readers e past + one_if e (under_way x.worker (x ∷ past)) = readers_next e x past (few_workers t x past d acc) in
     omega arith
 
--- where it ends one
-pub readers_told : (t : Tables) (e : ℕ) (x : Entry) (past : List Entry) (c : Call) → IsDeclared t → IsAccepted t (x ∷ past) → is_alone x.act ≡ false → ended_by t x (call_with x past) ≡ c ∷ []
+-- an entry of a read or an await, if it ends one
+pub readers_told : (t : Tables) (e : ℕ) (x : Entry) (past : List Entry) (c : Call) → IsDeclared t → IsAccepted t (x ∷ past) → is_one_entry_act x.act ≡ false → ended_by t x (call_with x past) ≡ c ∷ []
     → readers e (x ∷ past) + left_on e x.act c ≡ readers e past
 readers_told t e x past c d acc other is =
     let o = under_way x.worker past in

@@ -1,4 +1,5 @@
--- The order by points is a run of the sequential object: after what has its point below moment k, the object shows moment k.
+-- The order by points is a legal sequential history: after the calls whose point is below moment k,
+-- the object has the numbers of moment k.
 use Rattle.std.proofs.Common.{◌≡◌, ℕ, suc, ◌+◌, ◌<◌, ◌≤◌, inl, inr, true, false, not, ◌&&◌, List, [], ◌∷◌, ◌++◌, length, Some, None, map, refl, ap, sym, ◌∙◌, arith, cond, subst, ◌==◌, unwrap_or, append_assoc, append-nil, length-append}
 use Rattle.std.proofs.Math.Nat.{zero-add, add_comm}
 use Rattle.std.specs.List.{All, filter}
@@ -11,15 +12,16 @@ use Rattle.ec_core.specs.declared.act.Act.TheVariants.{Advance, Read, Await, Tic
 use Rattle.ec_core.specs.declared.act.Reply.{Reply}
 use Rattle.ec_core.specs.declared.act.Entry.{Entry}
 use Rattle.ec_core.specs.Counts.{total, issued, cell_value}
-use Rattle.ec_core.specs.Calls.{under_way, gone_on}
+use Rattle.ec_core.specs.Calls.{under_way, call_with_act}
 use Rattle.ec_core.specs.Rounds.{event_or, IsPastOf}
 use Rattle.ec_core.specs.Acceptance.{IsAccepted}
 use Rattle.ec_core.proofs.shared.Moments.{accepted_before}
 use Rattle.ec_order.specs.declared.call.Call.{Call}
 use Rattle.ec_order.specs.declared.placed.Placed.{Placed}
-use Rattle.ec_order.specs.Calls.{call_of_entries, ended_by, finished_calls, is_reading, number_of}
+use Rattle.ec_order.specs.Calls.{call_of_entries, ended_by, finished_calls, is_reading}
+use Rattle.ec_core.specs.CallLists.{reply_number}
 use Rattle.ec_order.specs.Points.{point_of, first_entries}
-use Rattle.ec_order.specs.Sequential.{SequentialState, zero_state, put_at, sequential_reply, sequential_after, sequential_after_all, IsSequentialRun}
+use Rattle.ec_order.specs.Sequential.{SequentialState, zero_state, update_at, sequential_reply, sequential_after, sequential_after_all, IsLegalHistory}
 use Rattle.ec_order.specs.Orders.{calls_in}
 use Rattle.ec_order.specs.Points.{with_point, reads_at, acts_at, at_moment, by_moments}
 use Rattle.ec_order.proofs.Chains.{past_before}
@@ -28,9 +30,9 @@ use Rattle.ec_order.proofs.Ends.{Shows, Ends, ends}
 use Rattle.ec_order.proofs.Fits.{Fits, all_fit, has_point, acts_there}
 use Rattle.ec_order.proofs.Sorting.{filter_none}
 
--- RUNS
+-- SEQUENTIAL HISTORIES
 
-pub run_append : (o : SequentialState) (xs ys : List Call) → IsSequentialRun o xs → IsSequentialRun (sequential_after_all o xs) ys → IsSequentialRun o (xs ++ ys)
+pub run_append : (o : SequentialState) (xs ys : List Call) → IsLegalHistory o xs → IsLegalHistory (sequential_after_all o xs) ys → IsLegalHistory o (xs ++ ys)
 run_append o [] ys a b = b
 run_append o (x ∷ xs) ys a b = (a.0, run_append (sequential_after o x.op) xs ys a.1 b)
 
@@ -38,26 +40,26 @@ pub after_append : (o : SequentialState) (xs ys : List Call) → sequential_afte
 after_append o [] ys = refl
 after_append o (x ∷ xs) ys = after_append (sequential_after o x.op) xs ys
 
--- an object that has run the calls of ps shows a past
+-- an object has run the calls of ps, and has the numbers after a past
 pub record RunsTo (ps : List Placed) (o s : SequentialState) (past : List Entry) : Type 0 where
-  pub run : IsSequentialRun o (calls_in ps)
+  pub run : IsLegalHistory o (calls_in ps)
   pub ends_in : sequential_after_all o (calls_in ps) ≡ s
   pub shows : Shows s past
 
 runs_on : (xs ys : List Placed) (o m s : SequentialState) (early late : List Entry) → RunsTo xs o m early → RunsTo ys m s late → RunsTo (xs ++ ys) o s late
 runs_on xs ys o m s early late a b =
     let e : calls_in (xs ++ ys) ≡ calls_in xs ++ calls_in ys = map-append (λ (p : Placed). p.call) xs ys in
-    let r : IsSequentialRun (sequential_after_all o (calls_in xs)) (calls_in ys) = subst (λ n. IsSequentialRun n (calls_in ys)) (sym a.ends_in) b.run in
-    let run : IsSequentialRun o (calls_in xs ++ calls_in ys) = run_append o (calls_in xs) (calls_in ys) a.run r in
+    let r : IsLegalHistory (sequential_after_all o (calls_in xs)) (calls_in ys) = subst (λ n. IsLegalHistory n (calls_in ys)) (sym a.ends_in) b.run in
+    let run : IsLegalHistory o (calls_in xs ++ calls_in ys) = run_append o (calls_in xs) (calls_in ys) a.run r in
     record {
-      run = subst (IsSequentialRun o) (sym e) run;
+      run = subst (IsLegalHistory o) (sym e) run;
       ends_in = ap (sequential_after_all o) e ∙ after_append o (calls_in xs) (calls_in ys) ∙ ap (λ n. sequential_after_all n (calls_in ys)) a.ends_in ∙ b.ends_in;
       shows = b.shows;
     }
 
 -- ONE STEP
 
-raised_at : (f : ℕ → ℕ) (n m k : ℕ) → f n ≡ k → put_at f m (f m + 1) n ≡ cond (m == n) 1 0 + k
+raised_at : (f : ℕ → ℕ) (n m k : ℕ) → f n ≡ k → update_at f m (f m + 1) n ≡ cond (m == n) 1 0 + k
 raised_at f n m k h =
     elim (m == n) as (λ b. (m == n) ≡ b → cond b (f m + 1) (f n) ≡ cond b 1 0 + k) [
       | true ↦ λ e. (let same : m ≡ n = eqb-true m n e in ap (λ v. f v + 1) same ∙ ap (λ v. v + 1) h ∙ add_comm k 1)
@@ -67,10 +69,10 @@ raised_at f n m k h =
 kept : (a k : ℕ) → a ≡ k → a ≡ 0 + k
 kept a k h = h ∙ sym (zero-add k)
 
-stored_at : (f : ℕ → ℕ) (n m v k : ℕ) → f n ≡ k → put_at f m v n ≡ unwrap_or (cond (m == n) (Some v) None) k
+stored_at : (f : ℕ → ℕ) (n m v k : ℕ) → f n ≡ k → update_at f m v n ≡ unwrap_or (cond (m == n) (Some v) None) k
 stored_at f n m v k h = elim (m == n) as (λ b. cond b v (f n) ≡ unwrap_or (cond b (Some v) None) k) [ true ↦ refl | false ↦ h ]
 
--- what the object shows after an act
+-- the numbers of the object after an act
 pub shows_after : (o : SequentialState) (w : ℕ) (act : Act) (reply : Reply) (past : List Entry) → Shows o past → Shows (sequential_after o act) (record { worker = w; act = act; reply = reply } ∷ past)
 unfolding total issued cell_value
 shows_after o w (Advance f) reply past h = record { events = λ e. raised_at o.events e f (total e past) (h.events e); sequencers = λ q. kept (o.sequencers q) (issued q past) (h.sequencers q); cells = h.cells }
@@ -99,7 +101,7 @@ quiet_runs o past (p ∷ ps) h all =
     let here : IsQuietRun o p = All-head (IsQuietRun o) p ps all in
     let rest = quiet_runs o past ps h (All-tail (IsQuietRun o) p ps all) in
     record {
-      run = (here.0, subst (λ s. IsSequentialRun s (calls_in ps)) (sym here.1) rest.run);
+      run = (here.0, subst (λ s. IsLegalHistory s (calls_in ps)) (sym here.1) rest.run);
       ends_in = ap (λ s. sequential_after_all s (calls_in ps)) here.1 ∙ rest.ends_in;
       shows = h;
     }
@@ -111,9 +113,9 @@ read_runs whole past p o in' h shows at =
     let b = and_parts (p.point == k) (is_reading p.call.op) at in
     let here : point_of whole p.call ≡ k = sym h.point ∙ eqb-true p.point k b.0 in
     let point = has_point whole p.call h.fits b.1 in
-    let number : o.events e ≡ number_of p.call.reply =
+    let number : o.events e ≡ reply_number p.call.reply =
     shows.events e ∙ ap (total e) (sym (first_of_past past whole in')) ∙ ap (λ j. total e (first_entries j whole)) (sym here) ∙ point.total in
-    (h.fits.told b.1 o number, reading_quiet p.call.op o b.1)
+    (h.fits.returned b.1 o number, reading_quiet p.call.op o b.1)
 
 reads_run : (whole past : List Entry) (ps : List Placed) (o : SequentialState) → IsPastOf past whole → All (IsPlaced whole) ps → Shows o past
     → RunsTo (filter (reads_at (length past)) ps) o o past
@@ -133,7 +135,7 @@ acts_last whole k c h =
           ap (λ b. b && true) (ne_eqb (point_of whole c) k (λ e. h (sym there ∙ e))))
     ] refl
 
--- of the calls that ended elsewhere none acts there
+-- a call that did not end at a position does not act there
 acts_elsewhere : (whole : List Entry) (k : ℕ) (cs : List Call) → All (λ (c : Call). c.last ≡ k → ⊥) cs → filter (acts_at k) (map (with_point whole) cs) ≡ []
 acts_elsewhere whole k cs h =
     filter_none (acts_at k) (map (with_point whole) cs)
@@ -143,7 +145,7 @@ acts_elsewhere whole k cs h =
 abbrev EndedFrom : ℕ → Call → Type 0
 EndedFrom k c = k ≤ c.last
 
-pub ended_last : (t : Tables) (x : Entry) (past : List Entry) → Ends t x past (under_way x.worker past) → All (λ (c : Call). c.last ≡ length past) (ended_by t x (gone_on x.act past (under_way x.worker past)))
+pub ended_last : (t : Tables) (x : Entry) (past : List Entry) → Ends t x past (under_way x.worker past) → All (λ (c : Call). c.last ≡ length past) (ended_by t x (call_with_act x.act past (under_way x.worker past)))
 ended_last t x past (inl n) = rw n.is (All-nil (λ (c : Call). c.last ≡ length past))
 ended_last t x past (inr (inl r)) = rw r.is (All-cons (λ (c : Call). c.last ≡ length past) (call_of_entries t x r.op (past ∷ r.rest)) [] refl (All-nil (λ (c : Call). c.last ≡ length past)))
 ended_last t x past (inr (inr a)) = rw a.is (All-cons (λ (c : Call). c.last ≡ length past) (call_of_entries t x x.act (past ∷ [])) [] refl (All-nil (λ (c : Call). c.last ≡ length past)))
@@ -160,7 +162,7 @@ later t [] early d acc = record { calls = []; is = sym (append-nil (finished_cal
 later t (x ∷ since) early d acc =
     let k = later t since early d acc.1 in
     let past = since ++ early in
-    let more = ended_by t x (gone_on x.act past (under_way x.worker past)) in
+    let more = ended_by t x (call_with_act x.act past (under_way x.worker past)) in
     let long : length past ≡ length since + length early = length-append since early in
     record {
       calls = k.calls ++ more;
@@ -172,7 +174,7 @@ later t (x ∷ since) early d acc =
 -- what acts at a moment is what the entry there ends
 acts_here : (t : Tables) (whole since past : List Entry) (x : Entry) → IsDeclared t → IsAccepted t (since ++ x ∷ past)
     → filter (acts_at (length past)) (map (with_point whole) (finished_calls t (since ++ x ∷ past)))
-    ≡ filter (acts_at (length past)) (map (with_point whole) (ended_by t x (gone_on x.act past (under_way x.worker past))))
+    ≡ filter (acts_at (length past)) (map (with_point whole) (ended_by t x (call_with_act x.act past (under_way x.worker past))))
 unfolding finished_calls
 acts_here t whole since past x d acc =
     let k = length past in
@@ -180,7 +182,7 @@ acts_here t whole since past x d acc =
     let l = later t since (x ∷ past) d acc in
     let acc' : IsAccepted t (x ∷ past) = accepted_before t since (x ∷ past) acc in
     let before = finished_calls t past in
-    let here = ended_by t x (gone_on x.act past (under_way x.worker past)) in
+    let here = ended_by t x (call_with_act x.act past (under_way x.worker past)) in
     let split : (us vs : List Call) → F (us ++ vs) ≡ F us ++ F vs = λ us vs. ap (filter (acts_at k)) (map-append (with_point whole) us vs) ∙ filter-append (acts_at k) (map (with_point whole) us) (map (with_point whole) vs) in
     let old : F before ≡ [] = acts_elsewhere whole k before (All-weaker (Fits past) (λ (c : Call). c.last ≡ k → ⊥) (λ c f e. (let lt : c.last < length past = f.last in omega arith)) before (all_fit t past d acc'.1)) in
     let new : F l.calls ≡ [] = acts_elsewhere whole k l.calls (All-weaker (EndedFrom (suc k)) (λ (c : Call). c.last ≡ k → ⊥) (λ c h e. omega arith) l.calls l.since) in
@@ -188,7 +190,7 @@ acts_here t whole since past x d acc =
 
 -- the call at a moment runs, if there is one
 entry_runs : (t : Tables) (whole past : List Entry) (x : Entry) (o : SequentialState) → Ends t x past (under_way x.worker past) → Shows o past
-    → RunsTo (filter (acts_at (length past)) (map (with_point whole) (ended_by t x (gone_on x.act past (under_way x.worker past))))) o (sequential_after o x.act) (x ∷ past)
+    → RunsTo (filter (acts_at (length past)) (map (with_point whole) (ended_by t x (call_with_act x.act past (under_way x.worker past))))) o (sequential_after o x.act) (x ∷ past)
 entry_runs t whole past x o (inl n) h =
     rw n.is (record { run = tt; ends_in = sym (n.quiet o); shows = shows_after o x.worker x.act x.reply past h })
 entry_runs t whole past x o (inr (inl r)) h =
@@ -201,7 +203,7 @@ entry_runs t whole past x o (inr (inr a)) h =
     let there : point_of whole c ≡ length past = acts_there whole c a.acting in
     let one : filter (acts_at (length past)) (with_point whole c ∷ []) ≡ with_point whole c ∷ [] =
     ap (λ b. cond ((point_of whole c == length past) && not b) (with_point whole c ∷ []) []) a.acting ∙ ap (λ b. cond (b && true) (with_point whole c ∷ []) []) (eq-eqb (point_of whole c) (length past) there) in
-    rw (a.is, one) (record { run = (a.told o h, tt); ends_in = refl; shows = shows_after o x.worker x.act x.reply past h })
+    rw (a.is, one) (record { run = (a.returned o h, tt); ends_in = refl; shows = shows_after o x.worker x.act x.reply past h })
 
 -- THE WHOLE ORDER
 
@@ -224,9 +226,9 @@ reaches t whole (x ∷ past) since d acc all is =
     let o = before.object in
     let shows : Shows o past = before.runs.shows in
     let reads : RunsTo (filter (reads_at k) ps) o o past = reads_run whole past ps o (past_before x past whole in') all shows in
-    let here : RunsTo (filter (acts_at k) (map (with_point whole) (ended_by t x (gone_on x.act past (under_way x.worker past))))) o (sequential_after o x.act) (x ∷ past) =
+    let here : RunsTo (filter (acts_at k) (map (with_point whole) (ended_by t x (call_with_act x.act past (under_way x.worker past))))) o (sequential_after o x.act) (x ∷ past) =
     entry_runs t whole past x o (ends t x past d (accepted_before t since (x ∷ past) acc')) shows in
-    let same : filter (acts_at k) ps ≡ filter (acts_at k) (map (with_point whole) (ended_by t x (gone_on x.act past (under_way x.worker past)))) =
+    let same : filter (acts_at k) ps ≡ filter (acts_at k) (map (with_point whole) (ended_by t x (call_with_act x.act past (under_way x.worker past)))) =
     ap (λ w. filter (acts_at k) (map (with_point whole) (finished_calls t w))) is ∙ acts_here t whole since past x d acc' in
     let acts : RunsTo (filter (acts_at k) ps) o (sequential_after o x.act) (x ∷ past) = subst (λ ys. RunsTo ys o (sequential_after o x.act) (x ∷ past)) (sym same) here in
     record {

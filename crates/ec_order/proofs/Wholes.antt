@@ -8,19 +8,21 @@ use Rattle.ec_count.specs.Tables.{Tables}
 use Rattle.ec_core.specs.declared.act.Act.{Act}
 use Rattle.ec_core.specs.declared.act.Act.TheVariants.{Go}
 use Rattle.ec_core.specs.declared.act.Entry.{Entry}
-use Rattle.ec_core.specs.Calls.{call_with, gone_on, is_go, is_pending, under_way}
+use Rattle.ec_core.specs.Calls.{call_with, call_with_act, is_go, is_pending, under_way}
 use Rattle.ec_core.specs.Counts.{total}
-use Rattle.ec_core.specs.Rounds.{event_or, position_of, width}
+use Rattle.ec_core.specs.Rounds.{event_or, position_of, component_count}
 use Rattle.ec_order.specs.declared.call.Call.{Call}
-use Rattle.ec_order.specs.Calls.{call_of_entries, ended_by, is_reading, number_of, stands_alone}
+use Rattle.ec_order.specs.Calls.{call_of_entries, ended_by, is_reading, is_one_entry_call}
+use Rattle.ec_core.specs.CallLists.{reply_number}
 use Rattle.ec_order.specs.Points.{first_entries, first_moment, point_of, with_point}
-use Rattle.ec_order.specs.Timeline.{is_long, long_readings}
-use Rattle.ec_order.specs.Walk.{alone_at, is_alone, reads, readings}
+use Rattle.ec_order.specs.Linearizer.{is_long, long_readings}
+use Rattle.ec_order.specs.Walk.{alone_at, is_one_entry_act, reads, readings}
 use Rattle.ec_order.proofs.Chains.{past_shorter}
 use Rattle.ec_order.proofs.Cutting.{Own, first_at_end, first_more, first_past, gone_begins, own_first, own_under_way, rest_own}
 use Rattle.ec_order.proofs.Ends.{Ends}
 use Rattle.ec_order.proofs.Gathering.{placed, whole_from, whole_parts}
 use Rattle.ec_order.proofs.Inserting.{AllRead}
+use Rattle.ec_core.proofs.shared.Tracking.{go_is}
 
 -- A WHOLE CALL
 
@@ -28,10 +30,10 @@ use Rattle.ec_order.proofs.Inserting.{AllRead}
 abbrev pub call_alone : Entry → ℕ → Call
 call_alone x i = record { worker = x.worker; op = x.act; reply = x.reply; first = i; round = i; last = i }
 
-pub whole_ends : (t : Tables) (x : Entry) (past : List Entry) → stands_alone x ≡ true → ended_by t x (call_with x past) ≡ call_alone x (length past) ∷ []
+pub whole_ends : (t : Tables) (x : Entry) (past : List Entry) → is_one_entry_call x ≡ true → ended_by t x (call_with x past) ≡ call_alone x (length past) ∷ []
 whole_ends t x past whole =
     let parts = whole_parts x whole in
-    let n = width t (event_or x.act) in
+    let n = component_count t (event_or x.act) in
     let first : 0 % n ≡ 0 = (let le : 0 % n ≤ 0 = mod-le 0 n in omega arith) in
     ap (ended_by t x) (gone_begins x.act past (under_way x.worker past) parts.0)
     ∙ ap (λ b. cond b [] (call_of_entries t x x.act (past ∷ []) ∷ [])) parts.1
@@ -41,15 +43,15 @@ whole_ends t x past whole =
 point_alone : (whole : List Entry) (x : Entry) (i : ℕ) → point_of whole (call_alone x i) ≡ i
 unfolding first_moment
 point_alone whole x i =
-    let test = λ (k : ℕ). total (event_or x.act) (first_entries k whole) == number_of x.reply in
+    let test = λ (k : ℕ). total (event_or x.act) (first_entries k whole) == reply_number x.reply in
     let none : i - i ≡ 0 = omega arith in
     elim (is_reading x.act) as (λ b. cond b (first_moment test i (i - i)) i ≡ i) [
       | true ↦ ap (first_moment test i) none
       | false ↦ refl
     ]
 
-pub placed_whole : (t : Tables) (x : Entry) (past whole : List Entry) → stands_alone x ≡ true
-    → map (with_point whole) (ended_by t x (gone_on x.act past (under_way x.worker past))) ≡ alone_at (length past) x ∷ []
+pub placed_whole : (t : Tables) (x : Entry) (past whole : List Entry) → is_one_entry_call x ≡ true
+    → map (with_point whole) (ended_by t x (call_with_act x.act past (under_way x.worker past))) ≡ alone_at (length past) x ∷ []
 placed_whole t x past whole is =
     let i = length past in
     ap (map (with_point whole)) (whole_ends t x past is) ∙ ap (λ k. record { call = call_alone x i; point = k } ∷ []) (point_alone whole x i)
@@ -65,7 +67,7 @@ whole_short k x =
       | false ↦ refl
     ]
 
-pub reading_or_alone : (act : Act) → is_go act ≡ false → is_reading act ≡ not (is_alone act)
+pub reading_or_alone : (act : Act) → is_go act ≡ false → is_reading act ≡ not (is_one_entry_act act)
 reading_or_alone Go begins = cc
 reading_or_alone act begins = refl
 
@@ -86,21 +88,17 @@ rest_long t w x op past rest own =
     let first : position_of (past ∷ rest) (suc (length rest) - 1) ≡ length (first_past rest) = ap (position_of (past ∷ rest)) one ∙ ap length (first_at_end past rest ∙ first_more past past w op rest own) in
     lt-ltb (position_of (past ∷ rest) (suc (length rest) - 1)) (length past) (omega (arith, first, past_shorter (f.entry ∷ first_past rest) past f.in_late))
 
-go_is : (act : Act) → is_go act ≡ true → act ≡ Go
-go_is Go is = refl
-go_is act is = cc
-
 one_of : (a b : Bool) → (not a && not b) ≡ false → b ≡ false → a ≡ true
 one_of true b h is = refl
 one_of false b h is = (let other : b ≡ true = (elim b as (λ c. not c ≡ false → c ≡ true) [ true ↦ λ e. refl | false ↦ λ e. cc ] h) in cc)
 
--- what an entry ends that is no whole call
-pub others_long : (t : Tables) (x : Entry) (past : List Entry) → stands_alone x ≡ false → Ends t x past (under_way x.worker past)
-    → All IsLongReading (ended_by t x (gone_on x.act past (under_way x.worker past)))
+-- what an entry ends, if it is no whole call
+pub others_long : (t : Tables) (x : Entry) (past : List Entry) → is_one_entry_call x ≡ false → Ends t x past (under_way x.worker past)
+    → All IsLongReading (ended_by t x (call_with_act x.act past (under_way x.worker past)))
 others_long t x past part (inl n) = rw n.is (All-nil IsLongReading)
 others_long t x past part (inr (inl r)) =
     let go : x.act ≡ Go = go_is x.act (one_of (is_go x.act) (is_pending x.reply) part r.final) in
-    let gone : gone_on Go past (under_way x.worker past) ≡ Some (record { op = r.op; moments = past ∷ r.rest }) = ap (λ a. gone_on a past (under_way x.worker past)) (sym go) ∙ r.gone in
+    let gone : call_with_act Go past (under_way x.worker past) ≡ Some (record { op = r.op; moments = past ∷ r.rest }) = ap (λ a. call_with_act a past (under_way x.worker past)) (sym go) ∙ r.gone in
     let own : Own x.worker r.op past r.rest = rest_own x.worker past (under_way x.worker past) r.op r.rest (own_under_way x.worker past) gone in
     rw r.is (All-cons IsLongReading (call_of_entries t x r.op (past ∷ r.rest)) [] (r.reading, rest_long t x.worker x r.op past r.rest own) (All-nil IsLongReading))
-others_long t x past part (inr (inr a)) = (let whole : stands_alone x ≡ true = whole_from x a.begins a.final in cc)
+others_long t x past part (inr (inr a)) = (let whole : is_one_entry_call x ≡ true = whole_from x a.begins a.final in cc)

@@ -1,4 +1,4 @@
--- What a completed call is, read off a history in its natural order: the oldest entry first.
+-- What a completed call is, by the history in its natural order: the oldest entry first.
 use Rattle.std.specs.Prelude.{◌≡◌, ℕ, ◌+◌, ◌*◌, ◌<◌, ◌≤◌, false, ◌==◌, List, Some, slice_get, count_by, MatchBool}
 use Rattle.ec_count.specs.Tables.{Tables}
 use Rattle.ec_core.specs.declared.act.Act.TheVariants.{Go}
@@ -6,7 +6,7 @@ use Rattle.ec_core.specs.declared.act.Reply.TheVariants.{Pending}
 use Rattle.ec_core.specs.declared.act.Entry.{Entry}
 use Rattle.ec_core.specs.Counts.{past_at}
 use Rattle.ec_core.specs.Calls.{is_go, is_pending}
-use Rattle.ec_core.specs.Rounds.{event_or, width}
+use Rattle.ec_core.specs.Rounds.{event_or, component_count}
 use Rattle.ec_order.specs.declared.call.Call.{Call}
 use Rattle.ec_order.specs.Calls.{is_reading}
 
@@ -23,11 +23,12 @@ pub record IsLastRound (t : Tables) (h : List Entry) (c : Call) : Type 0 where
   pub from_first : c.first ≤ c.round
   pub to_last : c.round ≤ c.last
   pub rounds : ℕ
-  pub whole : own_entries c.worker c.round h ≡ own_entries c.worker c.first h + rounds * width t (event_or c.op)
-  pub one : own_entries c.worker (c.last + 1) h ≤ own_entries c.worker c.round h + width t (event_or c.op)
+  pub whole : own_entries c.worker c.round h ≡ own_entries c.worker c.first h + rounds * component_count t (event_or c.op)
+  pub one : own_entries c.worker (c.last + 1) h ≤ own_entries c.worker c.round h + component_count t (event_or c.op)
 
--- the entry at first began the call, and is no go; the one at last told its reply, which is not Pending; the worker's
--- entries between them went on with it, each told Pending but the last; and a call that is no read or await has one entry
+-- the entry at first is the invocation, and no go; the one at last is the response, whose reply is
+-- not Pending; the worker's entries after the first are goes, and all replies but the last are
+-- Pending; and a call that is no read or await has one entry
 pub record IsFinishedCall (t : Tables) (h : List Entry) (c : Call) : Type 0 where
   pub opening : Entry
   pub opens : slice_get h c.first ≡ Some opening

@@ -1,5 +1,5 @@
--- Laws of every accepted history, over the history in its natural order: the oldest entry first, so that `past_at k h`
--- is moment k, at which the first k entries have happened.
+-- Theorems about every accepted history, over the history in its natural order: the oldest entry
+-- first, so that `past_at k h` is moment k, at which the first k entries have happened.
 use Rattle.std.specs.Prelude.{◌≡◌, ◌⊎◌, ℕ, ◌<◌, ◌≤◌, ◌==◌, true, false, List, reverse, map}
 use Rattle.std.specs.List.{AllPairs, Contains, filter}
 use Rattle.ec_count.specs.Tables.{Tables, IsDeclared}
@@ -7,18 +7,19 @@ use Rattle.ec_core.specs.declared.act.Entry.{Entry}
 use Rattle.ec_core.specs.Counts.{total, past_at}
 use Rattle.ec_core.specs.Rounds.{event_or}
 use Rattle.ec_core.specs.Acceptance.{IsAccepted}
-use Rattle.ec_core.specs.Following.{Told}
-use Rattle.ec_core.specs.JoinedLists.{finished_by}
+use Rattle.ec_core.specs.Following.{CompletedCall}
+use Rattle.ec_core.specs.JoinedLists.{completed_calls_of}
 use Rattle.ec_order.specs.declared.call.Call.{Call}
 use Rattle.ec_order.specs.declared.placed.Placed.{Placed}
-use Rattle.ec_order.specs.Calls.{finished_calls, is_reading, number_of}
+use Rattle.ec_order.specs.Calls.{finished_calls, is_reading}
+use Rattle.ec_core.specs.CallLists.{reply_number}
 use Rattle.ec_order.specs.Cuts.{IsFinishedCall}
-use Rattle.ec_order.specs.Orders.{IsLegalOrder, calls_in}
+use Rattle.ec_order.specs.Orders.{IsLinearization, calls_in}
 use Rattle.ec_order.specs.Points.{IsPoint, point_of, ordered_by_points}
-use Rattle.ec_order.specs.Verdicts.{IsGood}
+use Rattle.ec_order.specs.Verdicts.{IsLinearizationWithPoints}
 
--- the completed calls are exactly the calls that the worker's entries are cut into, in order of their last
--- entries
+-- the completed calls are exactly the calls that the workers' entries are cut into, in order of
+-- their responses
 pub record AreFinishedCalls (t : Tables) (h : List Entry) (cs : List Call) : Type 0 where
   pub each : (c : Call) → Contains cs c → IsFinishedCall t h c
   pub every : (c : Call) → IsFinishedCall t h c → Contains cs c
@@ -27,43 +28,43 @@ pub record AreFinishedCalls (t : Tables) (h : List Entry) (cs : List Call) : Typ
 abbrev pub CallsAreCutInOrder : Type 0
 CallsAreCutInOrder = (t : Tables) (h : List Entry) → IsDeclared t → IsAccepted t (reverse h) → AreFinishedCalls t h (finished_calls t (reverse h))
 
--- what was asked and what was told
-abbrev pub told_of : Call → Told
-told_of c = record { op = c.op; reply = c.reply }
+-- the act and the reply of a call
+abbrev pub op_and_reply : Call → CompletedCall
+op_and_reply c = record { op = c.op; reply = c.reply }
 
--- the calls that w made, as what was asked and told
-abbrev pub told_by : ℕ → List Call → List Told
-told_by w calls = map told_of (filter (λ c. c.worker == w) calls)
+-- the calls of w among these, as acts and replies
+abbrev pub completed_by : ℕ → List Call → List CompletedCall
+completed_by w calls = map op_and_reply (filter (λ c. c.worker == w) calls)
 
--- the calls of a worker that protocols speak of, when they say that a history follows them, are its completed calls
--- here
+-- the completed calls of a worker that protocols speak of, when they say that a history follows
+-- them, are those listed here
 abbrev pub ProtocolsSpeakOfTheseCalls : Type 0
 ProtocolsSpeakOfTheseCalls = (t : Tables) (h : List Entry) (w : ℕ) → IsAccepted t (reverse h)
-    → told_by w (finished_calls t (reverse h)) ≡ finished_by w (reverse h)
+    → completed_by w (finished_calls t (reverse h)) ≡ completed_calls_of w (reverse h)
 
 -- each completed call has its point
 abbrev pub PointsExist : Type 0
 PointsExist = (t : Tables) (h : List Entry) (c : Call) → IsDeclared t → IsAccepted t (reverse h)
     → Contains (finished_calls t (reverse h)) c → IsPoint h c (point_of (reverse h) c)
 
--- a moment between the first and the last step of a call at which the total of its eventcount was its answer
+-- a moment between the invocation and the response of a call at which the total of its eventcount
+-- was its answer
 pub record StoodBetween (h : List Entry) (c : Call) : Type 0 where
   pub moment : ℕ
   pub from_first : c.first ≤ moment
   pub to_last : moment ≤ c.last
-  pub total_is : total (event_or c.op) (past_at moment h) ≡ number_of c.reply
+  pub total_is : total (event_or c.op) (past_at moment h) ≡ reply_number c.reply
 
--- the order by points is a linearization of the completed calls, in which each stands with its
--- point
+-- the order by points is a linearization of the completed calls, each with its point
 abbrev pub OrderByPointsIsGood : Type 0
-OrderByPointsIsGood = (t : Tables) (h : List Entry) → IsDeclared t → IsAccepted t (reverse h) → IsGood t (reverse h) (ordered_by_points t (reverse h))
+OrderByPointsIsGood = (t : Tables) (h : List Entry) → IsDeclared t → IsAccepted t (reverse h) → IsLinearizationWithPoints t (reverse h) (ordered_by_points t (reverse h))
 
 -- p comes before q: its point is less; or they have one point, p is a read or an await, and q is none or ended later
 abbrev pub ComesFirst : Placed → Placed → Type 0
 ComesFirst p q = (p.point < q.point) ⊎ ((p.point ≡ q.point) × (is_reading p.call.op ≡ true) × ((is_reading q.call.op ≡ false) ⊎ (p.call.last < q.call.last)))
 
--- the places are exactly the completed calls with their points, and each comes before each later one; so no call
--- stands twice, since a call has one point, and no place comes before itself
+-- the list has exactly the completed calls with their points, and each comes before each later one;
+-- so no call is there twice, since a call has one point, and nothing comes before itself
 pub record AreFinishedCallsByPoints (t : Tables) (h : List Entry) (ps : List Placed) : Type 0 where
   pub each : (p : Placed) → Contains ps p → IsFinishedCall t h p.call × IsPoint h p.call p.point
   pub every : (p : Placed) → IsFinishedCall t h p.call → IsPoint h p.call p.point → Contains ps p
@@ -73,18 +74,19 @@ pub record AreFinishedCallsByPoints (t : Tables) (h : List Entry) (ps : List Pla
 abbrev pub OrderByPointsAscends : Type 0
 OrderByPointsAscends = (t : Tables) (h : List Entry) → IsDeclared t → IsAccepted t (reverse h) → AreFinishedCallsByPoints t h (ordered_by_points t (reverse h))
 
--- and no other list is one
+-- no other list is one
 abbrev pub OrderByPointsIsTheOnlyOne : Type 0
 OrderByPointsIsTheOnlyOne = (t : Tables) (h : List Entry) (ps : List Placed) → IsDeclared t → IsAccepted t (reverse h) → AreFinishedCallsByPoints t h ps → ps ≡ ordered_by_points t (reverse h)
 
--- a list of the completed calls, each once, that keeps real-time order and is a run of the sequential object:
--- the one by points; and for every completed read or await a moment at which the total was its answer
+-- a linearization of the completed calls, the order by points; and for every completed read or
+-- await a moment during the call at which the total was its answer
 pub record HasAnOrder (t : Tables) (h : List Entry) : Type 0 where
   pub order : List Call
   pub by_points : order ≡ calls_in (ordered_by_points t (reverse h))
-  pub legal : IsLegalOrder t (reverse h) order
+  pub legal : IsLinearization t (reverse h) order
   pub stood : (c : Call) → Contains (finished_calls t (reverse h)) c → is_reading c.op ≡ true → StoodBetween h c
 
--- the headline: whatever the interleaving, every accepted history has an order, the one by points
+-- the main theorem: whatever the interleaving, every accepted history has a linearization, the
+-- order by points
 abbrev pub EveryAcceptedHistoryHasAnOrder : Type 0
 EveryAcceptedHistoryHasAnOrder = (t : Tables) (h : List Entry) → IsDeclared t → IsAccepted t (reverse h) → HasAnOrder t h

@@ -1,4 +1,4 @@
--- The sequential object as the check keeps it, in three tables.
+-- The sequential object as the check represents it, in three tables.
 use Rattle.std.specs.Prelude.{ℕ, ◌+◌, ◌≤◌, nat_le, Option, Some, None, slice_index, slice_set, if◌then◌else◌}
 use Rattle.ec_core.specs.declared.act.Act.{Act}
 use Rattle.ec_core.specs.declared.act.Act.TheVariants.{Advance, Read, Await, Go, Ticket, Put, Get, Hand}

@@ -1,6 +1,6 @@
--- Points: the moment at which a call counts as made, and the order of the completed calls by their
+-- Points: the moment at which a call takes effect, and the order of the completed calls by their
 -- points.
-use Rattle.std.specs.Prelude.{◌≡◌, ◌≢◌, ℕ, ◌+◌, ◌-◌, ◌<◌, ◌≤◌, Bool, ◌==◌, ◌&&◌, nat_le, not, List, zero, suc, [], ◌∷◌, ◌++◌, length, map, if◌then◌else◌, MatchBool}
+use Rattle.std.specs.Prelude.{◌≡◌, ◌≢◌, ℕ, ◌+◌, ◌-◌, ◌<◌, ◌≤◌, Bool, ◌==◌, ◌&&◌, nat_le, nat_lt, not, List, zero, suc, [], ◌∷◌, ◌++◌, length, map, if◌then◌else◌, MatchBool}
 use Rattle.std.specs.List.{filter}
 use Rattle.ec_count.specs.Tables.{Tables}
 use Rattle.ec_core.specs.declared.act.Entry.{Entry}
@@ -8,16 +8,17 @@ use Rattle.ec_core.specs.Counts.{total, past_at}
 use Rattle.ec_core.specs.Rounds.{event_or}
 use Rattle.ec_order.specs.declared.call.Call.{Call}
 use Rattle.ec_order.specs.declared.placed.Placed.{Placed}
-use Rattle.ec_order.specs.Calls.{finished_calls, is_reading, number_of}
+use Rattle.ec_order.specs.Calls.{finished_calls, is_reading}
+use Rattle.ec_core.specs.CallLists.{reply_number}
 
 -- POINTS, as a relation over a history in its natural order
 
--- the least moment from the last round's start to the last entry at which the total was the answer
+-- the least moment from the last round's start to the response at which the total was the answer
 pub record IsLeastMoment (h : List Entry) (c : Call) (k : ℕ) : Type 0 where
-  pub total_is : total (event_or c.op) (past_at k h) ≡ number_of c.reply
+  pub total_is : total (event_or c.op) (past_at k h) ≡ reply_number c.reply
   pub low : c.round ≤ k
   pub high : k ≤ c.last
-  pub least : (j : ℕ) → c.round ≤ j → j < k → total (event_or c.op) (past_at j h) ≢ number_of c.reply
+  pub least : (j : ℕ) → c.round ≤ j → j < k → total (event_or c.op) (past_at j h) ≢ reply_number c.reply
 
 -- that moment for a read or an await, and its position for any other call
 abbrev pub IsPoint : List Entry → Call → ℕ → Type 0
@@ -35,13 +36,17 @@ unfoldable pub first_moment : (ℕ → Bool) → ℕ → ℕ → ℕ
 first_moment test k zero = k
 first_moment test k (suc n) = if test k then k else first_moment test (k + 1) n
 
--- the point of a read or an await is the first moment from its last round on at which the total was what it answered,
--- and that of any other call is its position
+-- the point of a read or an await is the first moment from its last round on at which the total was
+-- what it returned, and that of any other call is its position
 abbrev pub point_of : List Entry → Call → ℕ
 point_of past c =
     if is_reading c.op
-    then first_moment (λ k. total (event_or c.op) (first_entries k past) == number_of c.reply) c.round (c.last - c.round)
+    then first_moment (λ k. total (event_or c.op) (first_entries k past) == reply_number c.reply) c.round (c.last - c.round)
     else c.last
+
+-- whether a call began before position `to`, and did not end before position `from`
+abbrev pub is_between : ℕ → ℕ → Placed → Bool
+is_between from to p = nat_lt p.call.first to && nat_le from p.call.last
 
 -- THE ORDER BY POINTS
 
@@ -63,7 +68,8 @@ unfoldable pub by_moments : List Placed → ℕ → List Placed
 by_moments ps zero = []
 by_moments ps (suc k) = by_moments ps k ++ at_moment ps k
 
--- the completed calls by point. At one point the reads and awaits come before the other call at that position,
--- and among themselves they go by their last entries, as the completed calls are listed
+-- the completed calls in order of their points. At one point the reads and awaits come before the
+-- other call at that position; among themselves they are in order of their responses, as the
+-- completed calls are listed
 abbrev pub ordered_by_points : Tables → List Entry → List Placed
 ordered_by_points t past = by_moments (map (with_point past) (finished_calls t past)) (length past)

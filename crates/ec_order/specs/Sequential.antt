@@ -16,8 +16,9 @@ pub record SequentialState : Type 0 where
 abbrev pub zero_state : SequentialState
 zero_state = record { events = λ e. 0; sequencers = λ q. 0; cells = λ x. 0 }
 
--- what a call is answered: an advance, a put and a hand are done; a read gives the number, and so does an await, which is
--- possible only if the number has reached its threshold; a ticket and a get give theirs. No call begins with a go
+-- the reply to a call: Done to an advance, a put and a hand; a read returns the number, and so does
+-- an await, which is possible only if the number has reached its threshold; a ticket and a get
+-- return theirs. No call begins with a go
 abbrev pub sequential_reply : SequentialState → Act → Option Reply
 sequential_reply s (Advance e) = Some Done
 sequential_reply s (Read e) = Some (Number (s.events e))
@@ -29,14 +30,15 @@ sequential_reply s (Hand e b) = Some Done
 sequential_reply s Go = None
 
 -- f with v at n
-abbrev pub put_at : (ℕ → ℕ) → ℕ → ℕ → ℕ → ℕ
-put_at f n v m = if n == m then v else f m
+abbrev pub update_at : (ℕ → ℕ) → ℕ → ℕ → ℕ → ℕ
+update_at f n v m = if n == m then v else f m
 
 -- the state after a call: an advance and a ticket add one, a put stores, and the others change nothing
 abbrev pub sequential_after : SequentialState → Act → SequentialState
-sequential_after s (Advance e) = record s { events = put_at s.events e (s.events e + 1) }
-sequential_after s (Ticket q) = record s { sequencers = put_at s.sequencers q (s.sequencers q + 1) }
-sequential_after s (Put x v) = record s { cells = put_at s.cells x v }
+sequential_after s (Advance e) = record s { events = update_at s.events e (s.events e + 1) }
+sequential_after s (Ticket q) =
+    record s { sequencers = update_at s.sequencers q (s.sequencers q + 1) }
+sequential_after s (Put x v) = record s { cells = update_at s.cells x v }
 sequential_after s _ = s
 
 -- the state after these calls, one after another
@@ -44,7 +46,8 @@ abbrev pub sequential_after_all : SequentialState → List Call → SequentialSt
 sequential_after_all s [] = s
 sequential_after_all s (c ∷ cs) = sequential_after_all (sequential_after s c.op) cs
 
--- the calls, one after another, are possible and are answered as they were
-abbrev pub IsSequentialRun : SequentialState → List Call → Type 0
-IsSequentialRun s [] = Unit {0}
-IsSequentialRun s (c ∷ cs) = (sequential_reply s c.op ≡ Some c.reply) × IsSequentialRun (sequential_after s c.op) cs
+-- a legal sequential history: the calls, one after another, are possible and get the replies that
+-- they had
+abbrev pub IsLegalHistory : SequentialState → List Call → Type 0
+IsLegalHistory s [] = Unit {0}
+IsLegalHistory s (c ∷ cs) = (sequential_reply s c.op ≡ Some c.reply) × IsLegalHistory (sequential_after s c.op) cs

@@ -2,7 +2,7 @@
 ghost use Rattle.std.specs.Prelude.{◌≡◌, ◌<◌, true, false, Some, length, reverse, slice_get, IfOk, MatchOption};
 ghost use Rattle.std.specs.List.{All, AllPairs, Contains};
 ghost use Rattle.std.specs.Bool.{Decides};
-ghost use Rattle.ec_order.specs.Verdicts.{IsGood, IsVerdict};
+ghost use Rattle.ec_order.specs.Verdicts.{IsLinearizationWithPoints, IsVerdict};
 
 use crate::index::{index, point};
 use crate::numbers::Numbers;
@@ -16,7 +16,7 @@ fn same_call(a: &Call, b: &Call) -> bool
     *a == *b
 }
 
-/// Returns the place of a call among calls that go by their last entries.
+/// Returns the place of a call among calls that are in order of their responses.
 fn find(calls: &[Call], call: &Call) -> Option<usize>
     requires { AllPairs (λ (a b : Call). a.last < b.last) calls.now }
     ensures { MatchOption result (Contains calls.now call.now → ⊥)
@@ -34,14 +34,14 @@ fn find(calls: &[Call], call: &Call) -> Option<usize>
     }
 }
 
-/// Marks that are not set.
+/// Returns n marks that are not set.
 fn unset(alloc: Global, n: usize) -> Result<Vec<bool>, AllocError>
     ensures { IfOk result (λ v. (length v.items ≡ n) × All (λ m. m ≡ false) v.items) }
 {
     vec![in alloc; false; n]
 }
 
-/// Returns the first place of a mark that is not set.
+/// Returns the place of the first mark that is not set.
 fn first_unset(marks: &[bool]) -> Option<usize>
     ensures { MatchOption result (All (λ m. m ≡ true) marks.now)
         (λ j. slice_get marks.now j ≡ Some false) }
@@ -54,14 +54,13 @@ fn first_unset(marks: &[bool]) -> Option<usize>
     None
 }
 
-/// Returns the first fault, by one walk over the places: the calls at them are looked up among the
-/// completed calls by their last entries, marked when they are met, and run on the sequential
-/// object.
+/// Returns the first fault, in one pass over the places. Each call is looked up among the completed
+/// calls by its response, marked there, and run on the sequential object.
 fn judge(alloc: Global, run: &Run, placed: &[Placed]) -> Result<Verdict, AllocError>
     ensures { IfOk result (λ v.
         IsVerdict run.now.setup (reverse run.now.entries) placed.now v) }
 {
-    run.known();
+    run.invariant();
     let calls = calls(alloc, run)?;
     let lists = index(alloc, run)?;
     let mut seen = unset(alloc, calls.len())?;
@@ -87,7 +86,7 @@ fn judge(alloc: Global, run: &Run, placed: &[Placed]) -> Result<Verdict, AllocEr
         }
         seen[j] = true;
         latest = latest.max(call.first);
-        numbers.take_in(call.op, i);
+        numbers.apply(call.op, i);
     }
     match first_unset(&seen) {
         Some(_) => Ok(Verdict::Missing(placed.len())),
@@ -95,15 +94,15 @@ fn judge(alloc: Global, run: &Run, placed: &[Placed]) -> Result<Verdict, AllocEr
     }
 }
 
-/// Returns whether a list is a linearization of the completed calls of a run, each with its point,
-/// and else what is first wrong. The run is as before, with want of memory too.
+/// Returns `Good` if a list is a linearization of the completed calls of a run, each with its
+/// point. Otherwise it returns the first fault. It fails only when out of memory.
 pub fn verify(alloc: Global, run: &Run, placed: &[Placed]) -> Result<Verdict, AllocError>
     ensures verdict { IfOk result (λ v.
         IsVerdict run.now.setup (reverse run.now.entries) placed.now v) }
     ensures only { IfOk result (λ v.
-        IsGood run.now.setup (reverse run.now.entries) placed.now → v ≡ Verdict.Good) }
+        IsLinearizationWithPoints run.now.setup (reverse run.now.entries) placed.now → v ≡ Verdict.Good) }
 {
-    run.known();
+    run.invariant();
     let verdict = judge(alloc, run, placed)?;
     Ok(verdict)
 }

@@ -1,14 +1,14 @@
-//! Why no order was given.
+//! Why no order was returned.
 ghost use Rattle.std.specs.Prelude.{◌≡◌};
 ghost use Rattle.ec_order.specs.declared.fault.OrderFault.TheVariants.{Memory};
 
 use std::alloc::AllocError;
 use thiserror::Error;
 
-/// Why `order` gave no order: want of memory, and nothing else, for every run has one.
+/// Why `order` returned no order. It can only be out of memory, since every run has an order.
 #[derive(Clone, Copy, Debug, PartialEq, Eq, Error)]
 pub enum OrderFault {
-    /// Memory was refused. The run is as before.
+    /// An allocation failed. The run is unchanged.
     #[error("memory was refused")]
     Memory,
 }

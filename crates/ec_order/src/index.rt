@@ -1,28 +1,16 @@
 //! Points by an index of the advances.
 ghost use Rattle.std.specs.Prelude.{◌≡◌, ℕ, ◌<◌, ◌+◌, [], ◌∷◌, ◌++◌, length, reverse, slice_set, slice_index_or, IfOk, OnOk, IfSome};
-ghost use Rattle.ec_order.specs.Calls.{number_of};
-ghost use Rattle.ec_order.specs.Index.{moment_of, moments_in, IsIndex, NotesAct, point_in, raised_by};
+ghost use Rattle.ec_order.specs.Index.{moment_of_advance, moments_in, IsIndex, NotesAct, point_in, advanced_event};
 
 use crate::Call;
-use ec_core::{Act, Reply, Run};
+use ec_core::{Act, Run};
 use ec_numbers::NumberList;
 use std::alloc::{AllocError, Global};
 
-/// Returns the number that a reply tells; 0 if it tells none.
-#[inline(always)]
-pub(crate) fn number_of(reply: Reply) -> u64
-    ensures { result ≡ number_of reply }
-{
-    match reply {
-        Reply::Number(n) => n,
-        Reply::Done | Reply::Pending => 0,
-    }
-}
-
 /// Returns the eventcount that an act advances.
 #[inline(always)]
-pub(crate) fn advanced(act: Act) -> Option<usize>
-    ensures value { result ≡ raised_by act }
+pub(crate) fn advanced_event(act: Act) -> Option<usize>
+    ensures value { result ≡ advanced_event act }
     ensures small { IfSome result (λ e. e < 32) }
 {
     match act {
@@ -31,7 +19,7 @@ pub(crate) fn advanced(act: Act) -> Option<usize>
     }
 }
 
-/// Adds a moment to those of eventcount e.
+/// Adds a moment to those of an eventcount.
 fn add_moment(lists: &mut Vec<NumberList>, event: usize, moment: usize) -> Result<(), AllocError>
     requires { event < length lists.old.items }
     ensures long { length lists.new.items ≡ length lists.old.items }
@@ -50,7 +38,7 @@ fn note(lists: &mut Vec<NumberList>, act: Act, moment: usize) -> Result<(), Allo
     ensures long { length lists.new.items ≡ 32 }
     ensures notes { OnOk result (NotesAct lists.old.items act moment lists.new.items) }
 {
-    if let Some(event) = advanced(act) {
+    if let Some(event) = advanced_event(act) {
         add_moment(lists, event, moment)?;
     }
     Ok(())
@@ -82,11 +70,10 @@ pub(crate) fn index(alloc: Global, run: &Run) -> Result<Vec<NumberList>, AllocEr
     Ok(lists)
 }
 
-/// Returns the moment after the r-th advance, by the list of the moments after each advance; moment
-/// 0 for r = 0.
+/// Returns the moment after the r-th advance, given the moments after each; moment 0 for r = 0.
 #[inline(always)]
-fn moment_of(moments: &NumberList, r: u64) -> usize
-    ensures { result ≡ moment_of moments.now.list r }
+fn moment_of_advance(moments: &NumberList, r: u64) -> usize
+    ensures { result ≡ moment_of_advance moments.now.list r }
 {
     if r == 0 {
         0
@@ -95,8 +82,9 @@ fn moment_of(moments: &NumberList, r: u64) -> usize
     }
 }
 
-/// Returns the point of a call: of a read or an await the greater of its round's start and the
-/// moment after the advance that made the total its answer, of any other call its position.
+/// Returns the point of a call. For a read or an await it is the later of the start of its last
+/// round and the moment after the advance that made the total its answer. For any other call it is
+/// its position.
 #[inline(always)]
 pub(crate) fn point(lists: &[NumberList], call: &Call) -> usize
     requires { length lists.now ≡ 32 }
@@ -105,7 +93,8 @@ pub(crate) fn point(lists: &[NumberList], call: &Call) -> usize
     match call.op {
         Act::Read(event) | Act::Await(event, _) => {
             let moments = &lists[event.get()];
-            call.round.max(moment_of(moments, number_of(call.reply)))
+            call.round
+                .max(moment_of_advance(moments, call.reply.number()))
         }
         Act::Advance(_)
         | Act::Go

@@ -6,16 +6,9 @@ ghost use Rattle.ec_order.specs.Numbered.{AreFew, reply_in, after_in};
 
 use crate::Call;
 use ec_core::{Act, Reply};
+use ec_count::filled;
 
-/// Returns an array with the same element everywhere.
-pub(crate) fn all_alike<T: Copy, const N: usize>(x: T) -> [T; N]
-    ensures at { (i : ℕ) → i < N → slice_get result i ≡ Some x }
-    ensures long { length result ≡ N }
-{
-    [x; N]
-}
-
-/// The numbers of the sequential object.
+/// The state of the sequential object: a number for each eventcount, sequencer and cell.
 #[derive(Drop)]
 pub(crate) struct Numbers {
     pub(crate) events: [u64; 32],
@@ -33,13 +26,13 @@ impl Numbers {
             × (length result.sequencers ≡ 32) × (length result.cells ≡ 256) }
     {
         Numbers {
-            events: all_alike(0),
-            sequencers: all_alike(0),
-            cells: all_alike(0),
+            events: filled(0),
+            sequencers: filled(0),
+            cells: filled(0),
         }
     }
 
-    /// Returns whether the call is answered as it was.
+    /// Returns whether the object gives the reply that the call got.
     pub(crate) fn is_answer(&self, call: &Call) -> bool
         ensures named { IsNamed call.now.op }
         ensures value { Decides result (reply_in self.now call.now.op ≡ Some call.now.reply) }
@@ -47,7 +40,7 @@ impl Numbers {
         self.reply(call.op) == Some(call.reply)
     }
 
-    /// Returns what a call is answered now; none if it is not possible.
+    /// Returns the reply to a call in this state; `None` if the call is not possible.
     fn reply(&self, op: Act) -> Option<Reply>
         ensures named { IsNamed op }
         ensures value { result ≡ reply_in self.now op }
@@ -77,8 +70,8 @@ impl Numbers {
         }
     }
 
-    /// Takes in the call at place i.
-    pub(crate) fn take_in(&mut self, op: Act, i: usize)
+    /// Changes the numbers as the call at place i does.
+    pub(crate) fn apply(&mut self, op: Act, i: usize)
         requires few { AreFew self.old i }
         requires small { i + 1 < 2 ^ 64 }
         ensures { self.new ≡ after_in self.old op }

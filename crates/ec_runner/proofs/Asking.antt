@@ -1,14 +1,14 @@
--- What workers were refused, asked of one walk over the run.
+-- The refusals of workers, checked in one pass over the run.
 use Rattle.std.proofs.Common.{◌≡◌, ◌<◌, ◌≤◌, ℕ, List, length, Option, Some, None, slice_get, inl, inr, refl, sym, subst, arith}
 use Rattle.std.proofs.lemmas.Bool.{cases_eq}
-use Rattle.ec_core.specs.Recorded.{Recorded}
+use Rattle.ec_core.specs.RunModel.{RunModel}
 use Rattle.ec_machine.specs.declared.outcome.Outcome.{Outcome}
 use Rattle.ec_machine.specs.declared.outcome.Outcome.TheVariants as outcomes
-use Rattle.ec_runner.specs.declared.told.Asked.{Asked}
-use Rattle.ec_runner.specs.declared.told.Told.{Told}
-use Rattle.ec_runner.specs.Fits.{IsBorneOut, MayBeBorneOut, IsRightAt, moment_of}
+use Rattle.ec_runner.specs.declared.summary.LastRequest.{LastRequest}
+use Rattle.ec_runner.specs.declared.summary.Summary.{Summary}
+use Rattle.ec_runner.specs.Fits.{IsBorneOut, MayBeBorneOut, IsRightAt, moment_of_summary}
 
-pub then_likely : (o : Outcome) (asked : Option Asked) (run : Recorded) (w : ℕ) → IsBorneOut o run w asked → MayBeBorneOut o run w asked
+pub then_likely : (o : Outcome) (asked : Option LastRequest) (run : RunModel) (w : ℕ) → IsBorneOut o run w asked → MayBeBorneOut o run w asked
 then_likely outcomes.Running asked run w b = tt
 then_likely outcomes.Finished asked run w b = tt
 then_likely (outcomes.Refused r) None run w b = b
@@ -18,7 +18,7 @@ then_likely outcomes.Stopped asked run w b = b
 then_likely outcomes.OutOfTurns asked run w b = tt
 then_likely outcomes.Memory asked run w b = tt
 
-pub then_right : (o : Outcome) (asked : Option Asked) (run : Recorded) (k w : ℕ) → IsBorneOut o run w asked → IsRightAt o asked run k w
+pub then_right : (o : Outcome) (asked : Option LastRequest) (run : RunModel) (k w : ℕ) → IsBorneOut o run w asked → IsRightAt o asked run k w
 then_right outcomes.Running asked run k w b = tt
 then_right outcomes.Finished asked run k w b = tt
 then_right (outcomes.Refused r) None run k w b = tt
@@ -29,8 +29,8 @@ then_right outcomes.OutOfTurns asked run k w b = tt
 then_right outcomes.Memory asked run k w b = tt
 
 -- a worker whose refusal is right at each moment up to the last one is borne out
-pub both_bear_out : (o : Outcome) (asked : Option Asked) (run : Recorded) (w last : ℕ) → MayBeBorneOut o run w asked
-    → (moment_of o asked ≤ length run.entries → moment_of o asked ≤ last) → ((k : ℕ) → k ≤ last → IsRightAt o asked run k w) → IsBorneOut o run w asked
+pub both_bear_out : (o : Outcome) (asked : Option LastRequest) (run : RunModel) (w last : ℕ) → MayBeBorneOut o run w asked
+    → (moment_of_summary o asked ≤ length run.entries → moment_of_summary o asked ≤ last) → ((k : ℕ) → k ≤ last → IsRightAt o asked run k w) → IsBorneOut o run w asked
 both_bear_out outcomes.Running asked run w last may up right = tt
 both_bear_out outcomes.Finished asked run w last may up right = tt
 both_bear_out (outcomes.Refused r) None run w last may up right = absurd may
@@ -41,12 +41,12 @@ both_bear_out outcomes.OutOfTurns asked run w last may up right = tt
 both_bear_out outcomes.Memory asked run w last may up right = tt
 
 -- what holds before a moment, and at it, holds up to it
-pub right_more : (run : Recorded) (tolds : List Told) (m k w : ℕ) (told : Told)
-    → ((j v : ℕ) (one : Told) → j < m → slice_get tolds v ≡ Some one → IsRightAt one.outcome one.asked run j v)
-    → ((v : ℕ) (one : Told) → slice_get tolds v ≡ Some one → IsRightAt one.outcome one.asked run m v)
-    → k ≤ m → slice_get tolds w ≡ Some told → IsRightAt told.outcome told.asked run k w
-right_more run tolds m k w told before here up is =
+pub right_more : (run : RunModel) (summaries : List Summary) (m k w : ℕ) (summary : Summary)
+    → ((j v : ℕ) (one : Summary) → j < m → slice_get summaries v ≡ Some one → IsRightAt one.outcome one.asked run j v)
+    → ((v : ℕ) (one : Summary) → slice_get summaries v ≡ Some one → IsRightAt one.outcome one.asked run m v)
+    → k ≤ m → slice_get summaries w ≡ Some summary → IsRightAt summary.outcome summary.asked run k w
+right_more run summaries m k w summary before here up is =
     elim (cases_eq k m) [
-      | inl same ↦ subst (λ (j : ℕ). IsRightAt told.outcome told.asked run j w) (sym same) (here w told is)
-      | inr not ↦ before k w told (omega arith) is
+      | inl same ↦ subst (λ (j : ℕ). IsRightAt summary.outcome summary.asked run j w) (sym same) (here w summary is)
+      | inr not ↦ before k w summary (omega arith) is
     ]

@@ -2,13 +2,11 @@
 use Rattle.std.proofs.Common.{◌≡◌, ◌<◌, ◌↔◌, ℕ, Bool, true, false, nat_lt, Option, Some, None, is_some, IsTrue, cond, refl, ap, ◌∙◌, arith}
 use Rattle.std.proofs.lemmas.Bool.Decides.{nat_tests}
 use Rattle.ec_core.specs.Counts.{total}
-use Rattle.ec_core.specs.Recorded.{Recorded}
+use Rattle.ec_core.specs.RunModel.{RunModel}
 use Rattle.ec_runner.specs.declared.wait.Wait.{Wait}
-use Rattle.ec_runner.specs.Boarded.{awaited, past_of, unmet}
-use Rattle.ec_runner.specs.RunReports.{IsCaught}
-
-is_below : (x y : ℕ) → nat_lt x y ≡ true → x < y
-is_below x y h = grind (arith, nat_tests)
+use Rattle.ec_runner.specs.BoardModel.{await_fallen_short, past_of, unmet}
+use Rattle.ec_runner.specs.RunReports.{WaitsForever}
+use Rattle.ec_runner.proofs.Boarding.{lt_of as is_below}
 
 below_is : (x y : ℕ) → x < y → nat_lt x y ≡ true
 below_is x y h = grind (arith, nat_tests)
@@ -17,7 +15,7 @@ kept_if : (b : Bool) (a : Wait) → is_some (cond b (Some a) None) ≡ true → 
 kept_if true a h = refl
 kept_if false a h = cc
 
-caught : (run : Recorded) (w : ℕ) (o : Option Wait) → awaited run.setup w (past_of run) ≡ o → is_some (unmet (past_of run) o) ≡ true → IsCaught run w
+caught : (run : RunModel) (w : ℕ) (o : Option Wait) → await_fallen_short run.setup w (past_of run) ≡ o → is_some (unmet (past_of run) o) ≡ true → WaitsForever run w
 caught run w None is h = cc
 caught run w (Some a) is h = record {
   wait = a;
@@ -26,9 +24,9 @@ caught run w (Some a) is h = record {
 }
 
 -- a worker whose await is unmet at the end waits for good, and no other does
-pub is_caught : (run : Recorded) (w : ℕ) → IsTrue (is_some (unmet (past_of run) (awaited run.setup w (past_of run)))) ↔ IsCaught run w
-is_caught run w = (
-  λ yes. caught run w (awaited run.setup w (past_of run)) refl yes,
+pub waits_forever : (run : RunModel) (w : ℕ) → IsTrue (is_some (unmet (past_of run) (await_fallen_short run.setup w (past_of run)))) ↔ WaitsForever run w
+waits_forever run w = (
+  λ yes. caught run w (await_fallen_short run.setup w (past_of run)) refl yes,
   λ c.
       ap (λ o. is_some (unmet (past_of run) o)) c.short
       ∙ ap (λ (b : Bool). is_some (cond b (Some c.wait) None)) (below_is (total c.wait.event (past_of run)) c.wait.threshold c.above),

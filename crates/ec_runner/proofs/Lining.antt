@@ -1,18 +1,19 @@
--- Lines of waiters: one more at its place, one less, and what the seats then say.
+-- Queues of waiters: one more inserted, one removed, and the worker states after that.
 use Rattle.std.proofs.Common.{◌≡◌, ◌≢◌, ℕ, zero, suc, ◌+◌, ◌<◌, ◌≤◌, Bool, true, false, ◌==◌, ◌&&◌, not, ◌||◌, nat_le, nat_lt, ◌⊎◌, inl, inr, List, [], ◌∷◌, length, Option, Some, None, slice_get, slice_set, cond, drop, map, is_some, refl, ap, sym, ◌∙◌, subst, arith}
 use Rattle.std.proofs.lemmas.Bool.{eqb-true, eqb-false, eq-eqb, leb-true, leb-false, le-leb, and_parts, and_from}
 use Rattle.std.proofs.lemmas.Bool.Decides.{nat_tests}
 use Rattle.std.proofs.lemmas.Option.{slice_get_within}
 use Rattle.std.specs.Option.{option_map_or}
 use Rattle.std.specs.List.{insert, list_any}
-use Rattle.ec_core.specs.Fields.{changed_at}
+use Rattle.ec_core.specs.Fields.{map_at}
 use Rattle.std.proofs.Math.ListN.{length-set}
 use Rattle.ec_core.proofs.shared.Places.{get_set}
-use Rattle.ec_runner.specs.declared.line.Waiter.{Waiter}
-use Rattle.ec_runner.specs.declared.seat.Seat.{Seat}
-use Rattle.ec_runner.specs.declared.seat.Seat.TheVariants.{Gone, Running, Waiting}
-use Rattle.ec_runner.specs.Seated.{is_waiting, kept}
-use Rattle.ec_runner.specs.Lined.{comes_before, Each, Stands, AreInOrder, placed, place_in, without, first_reached, dropped_out, waits_on, number_on, IsLine, AreLines}
+use Rattle.ec_runner.specs.declared.wait_queue.Waiter.{Waiter}
+use Rattle.ec_runner.specs.declared.worker_state.WorkerState.{WorkerState}
+use Rattle.ec_runner.specs.declared.worker_state.WorkerState.TheVariants.{Gone, Running, Waiting}
+use Rattle.ec_runner.specs.WorkerStates.{is_waiting, state_at_total}
+use Rattle.ec_runner.specs.WaitQueues.{comes_before, Each, IsAmong, AreInOrder, insert_waiter, insertion_index, without, first_ready, remove_waiter, waits_on, number_on, IsWaitQueue, AreWaitQueues}
+use Rattle.ec_semaphore.proofs.shared.Implying.{fits_or as or_right}
 
 -- ORDER
 
@@ -28,7 +29,7 @@ before_other a b g h = grind (arith, nat_tests)
 before_itself : (a b : Waiter) → comes_before a b ≡ true → a.threshold ≡ b.threshold → a.worker ≡ b.worker → ⊥
 before_itself a b h e w = grind (arith, nat_tests)
 
--- EACH OF A LINE
+-- EACH OF A QUEUE
 
 each_map : {P Q : Waiter → Type 0} → ((x : Waiter) → P x → Q x) → (xs : List Waiter) → Each P xs → Each Q xs
 each_map f [] h = tt
@@ -38,58 +39,60 @@ each_both : {P Q : Waiter → Type 0} → (R : Waiter → Type 0) → ((x : Wait
 each_both R f [] g h = tt
 each_both R f (x ∷ xs) g h = (f x g.0 h.0, each_both R f xs g.1 h.1)
 
-each_at : (P : Waiter → Type 0) (z : Waiter) (xs : List Waiter) → Each P xs → Stands z xs → P z
+each_at : (P : Waiter → Type 0) (z : Waiter) (xs : List Waiter) → Each P xs → IsAmong z xs → P z
 each_at P z [] h s = absurd s
 each_at P z (x ∷ xs) h s = elim s as (λ _. P z) [ inl e ↦ subst P (sym e) h.0 | inr t ↦ each_at P z xs h.1 t ]
 
 -- ONE MORE
 
-placed_each : (P : Waiter → Type 0) (y : Waiter) (xs : List Waiter) → P y → Each P xs → Each P (placed y xs)
+placed_each : (P : Waiter → Type 0) (y : Waiter) (xs : List Waiter) → P y → Each P xs → Each P (insert_waiter y xs)
 placed_each P y [] p h = (p, tt)
 placed_each P y (x ∷ xs) p h =
-    elim (comes_before x y) as (λ b. Each P (cond b (x ∷ placed y xs) (y ∷ x ∷ xs))) [
+    elim (comes_before x y) as (λ b. Each P (cond b (x ∷ insert_waiter y xs) (y ∷ x ∷ xs))) [
       | true ↦ (h.0, placed_each P y xs p h.1)
       | false ↦ (p, h)
     ]
 
-placed_order : (y : Waiter) (xs : List Waiter) → Each (λ x. x.worker ≢ y.worker) xs → AreInOrder xs → AreInOrder (placed y xs)
+placed_order : (y : Waiter) (xs : List Waiter) → Each (λ x. x.worker ≢ y.worker) xs → AreInOrder xs → AreInOrder (insert_waiter y xs)
 placed_order y [] n h = (tt, tt)
 placed_order y (x ∷ xs) n h =
-    elim (comes_before x y) as (λ b. comes_before x y ≡ b → AreInOrder (cond b (x ∷ placed y xs) (y ∷ x ∷ xs))) [
+    elim (comes_before x y) as (λ b. comes_before x y ≡ b → AreInOrder (cond b (x ∷ insert_waiter y xs) (y ∷ x ∷ xs))) [
       | true ↦ λ e. (placed_each (λ z. comes_before x z ≡ true) y xs e h.0, placed_order y xs n.1 h.1)
       | false ↦ λ e.
           (let first : comes_before y x ≡ true = before_other x y n.0 e in
           ((first, each_map (λ z g. before_trans y x z first g) xs h.0), h))
     ] refl
 
-placed_own : (y : Waiter) (xs : List Waiter) → Stands y (placed y xs)
+placed_own : (y : Waiter) (xs : List Waiter) → IsAmong y (insert_waiter y xs)
 placed_own y [] = inl refl
 placed_own y (x ∷ xs) =
-    elim (comes_before x y) as (λ b. Stands y (cond b (x ∷ placed y xs) (y ∷ x ∷ xs))) [
+    elim (comes_before x y) as (λ b. IsAmong y (cond b (x ∷ insert_waiter y xs) (y ∷ x ∷ xs))) [
       | true ↦ inr (placed_own y xs)
       | false ↦ inl refl
     ]
 
-placed_stands : (z y : Waiter) (xs : List Waiter) → Stands z xs → Stands z (placed y xs)
+placed_stands : (z y : Waiter) (xs : List Waiter) → IsAmong z xs → IsAmong z (insert_waiter y xs)
 placed_stands z y [] s = absurd s
 placed_stands z y (x ∷ xs) s =
-    elim (comes_before x y) as (λ b. Stands z (cond b (x ∷ placed y xs) (y ∷ x ∷ xs))) [
-      | true ↦ elim s as (λ _. Stands z (x ∷ placed y xs)) [ inl e ↦ inl e | inr t ↦ inr (placed_stands z y xs t) ]
+    elim (comes_before x y) as (λ b. IsAmong z (cond b (x ∷ insert_waiter y xs) (y ∷ x ∷ xs))) [
+      | true ↦ elim s as (λ _. IsAmong z (x ∷ insert_waiter y xs)) [ inl e ↦ inl e | inr t ↦ inr (placed_stands z y xs t) ]
       | false ↦ inr s
     ]
 
-placed_length : (y : Waiter) (xs : List Waiter) → length (placed y xs) ≡ length xs + 1
+placed_length : (y : Waiter) (xs : List Waiter) → length (insert_waiter y xs) ≡ length xs + 1
 placed_length y [] = refl
 placed_length y (x ∷ xs) =
-    elim (comes_before x y) as (λ b. length (cond b (x ∷ placed y xs) (y ∷ x ∷ xs)) ≡ length (x ∷ xs) + 1) [
-      | true ↦ (let rest : length (placed y xs) ≡ length xs + 1 = placed_length y xs in omega arith)
+    elim (comes_before x y) as (λ b. length (cond b (x ∷ insert_waiter y xs) (y ∷ x ∷ xs)) ≡ length (x ∷ xs) + 1) [
+      | true ↦ (let rest : length (insert_waiter y xs) ≡ length xs + 1 =
+          placed_length y xs in omega arith)
       | false ↦ omega arith
     ]
 
-pub placed_is : (y : Waiter) (xs : List Waiter) → insert xs (place_in y xs) y ≡ placed y xs
+pub placed_is : (y : Waiter) (xs : List Waiter)
+    → insert xs (insertion_index y xs) y ≡ insert_waiter y xs
 placed_is y [] = refl
 placed_is y (x ∷ xs) =
-    elim (comes_before x y) as (λ b. insert (x ∷ xs) (cond b (suc (place_in y xs)) 0) y ≡ cond b (x ∷ placed y xs) (y ∷ x ∷ xs)) [
+    elim (comes_before x y) as (λ b. insert (x ∷ xs) (cond b (suc (insertion_index y xs)) 0) y ≡ cond b (x ∷ insert_waiter y xs) (y ∷ x ∷ xs)) [
       | true ↦ ap (λ ys. x ∷ ys) (placed_is y xs)
       | false ↦ refl
     ]
@@ -128,12 +131,12 @@ without_order w (x ∷ xs) h =
       | false ↦ without_order w xs h.1
     ]
 
-without_stands : (z : Waiter) (w : ℕ) (xs : List Waiter) → z.worker ≢ w → Stands z xs → Stands z (without w xs)
+without_stands : (z : Waiter) (w : ℕ) (xs : List Waiter) → z.worker ≢ w → IsAmong z xs → IsAmong z (without w xs)
 without_stands z w [] n s = absurd s
 without_stands z w (x ∷ xs) n s =
-    elim (not (x.worker == w)) as (λ b. not (x.worker == w) ≡ b → Stands z (cond b (x ∷ without w xs) (without w xs))) [
-      | true ↦ λ e. (elim s as (λ _. Stands z (x ∷ without w xs)) [ inl i ↦ inl i | inr t ↦ inr (without_stands z w xs n t) ])
-      | false ↦ λ e. (elim s as (λ _. Stands z (without w xs)) [
+    elim (not (x.worker == w)) as (λ b. not (x.worker == w) ≡ b → IsAmong z (cond b (x ∷ without w xs) (without w xs))) [
+      | true ↦ λ e. (elim s as (λ _. IsAmong z (x ∷ without w xs)) [ inl i ↦ inl i | inr t ↦ inr (without_stands z w xs n t) ])
+      | false ↦ λ e. (elim s as (λ _. IsAmong z (without w xs)) [
         | inl i ↦ absurd (n (ap (λ (y : Waiter). y.worker) i ∙ eqb-true x.worker w (not_true (x.worker == w) e)))
         | inr t ↦ without_stands z w xs n t
       ])
@@ -147,7 +150,7 @@ without_shorter w (x ∷ xs) =
       | false ↦ (let rest : length (without w xs) ≤ length xs = without_shorter w xs in omega arith)
     ]
 
-without_short : (z : Waiter) (w : ℕ) (xs : List Waiter) → z.worker ≡ w → Stands z xs → length (without w xs) < length xs
+without_short : (z : Waiter) (w : ℕ) (xs : List Waiter) → z.worker ≡ w → IsAmong z xs → length (without w xs) < length xs
 without_short z w [] e s = absurd s
 without_short z w (x ∷ xs) e s =
     elim (not (x.worker == w)) as (λ b. not (x.worker == w) ≡ b → length (cond b (x ∷ without w xs) (without w xs)) < length (x ∷ xs)) [
@@ -160,15 +163,16 @@ without_short z w (x ∷ xs) e s =
 
 -- HOW MANY
 
-number_set : (e : ℕ) (seats : List Seat) (i : ℕ) (was now : Seat) → slice_get seats i ≡ Some was
-    → number_on e (slice_set seats i now) + cond (waits_on e was) 1 0 ≡ number_on e seats + cond (waits_on e now) 1 0
+number_set : (e : ℕ) (states : List WorkerState) (i : ℕ) (was now : WorkerState)
+    → slice_get states i ≡ Some was
+    → number_on e (slice_set states i now) + cond (waits_on e was) 1 0 ≡ number_on e states + cond (waits_on e now) 1 0
 number_set e [] i was now h = cc
-number_set e (s ∷ seats) zero was now h =
+number_set e (s ∷ states) zero was now h =
     let same : s ≡ was = cc in
-    let P : Seat → Type 0 = λ r. (cond (waits_on e now) 1 0 + number_on e seats) + cond (waits_on e r) 1 0 ≡ (cond (waits_on e s) 1 0 + number_on e seats) + cond (waits_on e now) 1 0 in
+    let P : WorkerState → Type 0 = λ r. (cond (waits_on e now) 1 0 + number_on e states) + cond (waits_on e r) 1 0 ≡ (cond (waits_on e s) 1 0 + number_on e states) + cond (waits_on e now) 1 0 in
     subst P same (omega arith)
-number_set e (s ∷ seats) (suc i) was now h =
-    let rest : number_on e (slice_set seats i now) + cond (waits_on e was) 1 0 ≡ number_on e seats + cond (waits_on e now) 1 0 = number_set e seats i was now h in
+number_set e (s ∷ states) (suc i) was now h =
+    let rest : number_on e (slice_set states i now) + cond (waits_on e was) 1 0 ≡ number_on e states + cond (waits_on e now) 1 0 = number_set e states i was now h in
     omega arith
 
 one_more : (b c : Bool) (m n : ℕ) → b ≡ false → c ≡ true → m + cond b 1 0 ≡ n + cond c 1 0 → m ≡ n + 1
@@ -190,135 +194,132 @@ at_most_one : (b : Bool) → cond b 1 0 ≤ 1
 at_most_one true = omega arith
 at_most_one false = omega arith
 
-number_within : (e : ℕ) (seats : List Seat) → number_on e seats ≤ length seats
+number_within : (e : ℕ) (states : List WorkerState) → number_on e states ≤ length states
 number_within e [] = omega arith
-number_within e (s ∷ seats) =
-    let rest : number_on e seats ≤ length seats = number_within e seats in
+number_within e (s ∷ states) =
+    let rest : number_on e states ≤ length states = number_within e states in
     let one : cond (waits_on e s) 1 0 ≤ 1 = at_most_one (waits_on e s) in omega arith
 
-number_less : (e : ℕ) (seats : List Seat) (i : ℕ) (was : Seat) → slice_get seats i ≡ Some was → waits_on e was ≡ false → number_on e seats < length seats
+number_less : (e : ℕ) (states : List WorkerState) (i : ℕ) (was : WorkerState) → slice_get states i ≡ Some was → waits_on e was ≡ false → number_on e states < length states
 number_less e [] i was h n = cc
-number_less e (s ∷ seats) zero was h n =
+number_less e (s ∷ states) zero was h n =
     let none : waits_on e s ≡ false = ap (waits_on e) (let same : s ≡ was = cc in same) ∙ n in
-    let rest : number_on e seats ≤ length seats = number_within e seats in
-    let P : Bool → Type 0 = λ b. cond b 1 0 + number_on e seats < suc (length seats) in
+    let rest : number_on e states ≤ length states = number_within e states in
+    let P : Bool → Type 0 = λ b. cond b 1 0 + number_on e states < suc (length states) in
     subst P (sym none) (omega arith)
-number_less e (s ∷ seats) (suc i) was h n =
-    let rest : number_on e seats < length seats = number_less e seats i was h n in
+number_less e (s ∷ states) (suc i) was h n =
+    let rest : number_on e states < length states = number_less e states i was h n in
     let one : cond (waits_on e s) 1 0 ≤ 1 = at_most_one (waits_on e s) in omega arith
 
--- SEATS
+-- WORKER STATES
 
 waits_itself : (e v : ℕ) → waits_on e (Waiting e v) ≡ true
 waits_itself e v = eq-eqb e e refl
 
-waits_nowhere : (e : ℕ) (s : Seat) → is_waiting s ≡ false → waits_on e s ≡ false
+waits_nowhere : (e : ℕ) (s : WorkerState) → is_waiting s ≡ false → waits_on e s ≡ false
 waits_nowhere e Gone h = refl
 waits_nowhere e Running h = refl
 waits_nowhere e (Waiting f v) h = cc
 
-no_waiter : (e v : ℕ) (s : Seat) → waits_on e s ≡ false → s ≡ Waiting e v → ⊥
+no_waiter : (e v : ℕ) (s : WorkerState) → waits_on e s ≡ false → s ≡ Waiting e v → ⊥
 no_waiter e v s h same = (let is : waits_on e s ≡ true = ap (waits_on e) same ∙ waits_itself e v in cc)
 
-pub seat_set : (seats : List Seat) (w : ℕ) (was s : Seat) → slice_get seats w ≡ Some was → slice_get (slice_set seats w s) w ≡ Some s
-seat_set seats w was s at = get_set seats w w s (slice_get_within seats w was at) ∙ ap (λ b. cond b (Some s) (slice_get seats w)) (eq-eqb w w refl)
+pub state_set : (states : List WorkerState) (w : ℕ) (was s : WorkerState) → slice_get states w ≡ Some was → slice_get (slice_set states w s) w ≡ Some s
+state_set states w was s at = get_set states w w s (slice_get_within states w was at) ∙ ap (λ b. cond b (Some s) (slice_get states w)) (eq-eqb w w refl)
 
-pub seat_kept : (seats : List Seat) (w u : ℕ) (was s r : Seat) → slice_get seats w ≡ Some was → u ≢ w → slice_get seats u ≡ Some r → slice_get (slice_set seats w s) u ≡ Some r
-seat_kept seats w u was s r at n h =
-    get_set seats w u s (slice_get_within seats w was at)
-    ∙ elim (w == u) as (λ b. (w == u) ≡ b → cond b (Some s) (slice_get seats u) ≡ Some r) [
+pub state_kept : (states : List WorkerState) (w u : ℕ) (was s r : WorkerState) → slice_get states w ≡ Some was → u ≢ w → slice_get states u ≡ Some r → slice_get (slice_set states w s) u ≡ Some r
+state_kept states w u was s r at n h =
+    get_set states w u s (slice_get_within states w was at)
+    ∙ elim (w == u) as (λ b. (w == u) ≡ b → cond b (Some s) (slice_get states u) ≡ Some r) [
       | true ↦ λ e. absurd (n (sym (eqb-true w u e)))
       | false ↦ λ e. h
     ] refl
 
-pub moved_to : (seats : List Seat) (w u : ℕ) (s r : Seat) → w < length seats → slice_get (slice_set seats w s) u ≡ Some r
-    → ((u ≡ w) × (s ≡ r)) ⊎ ((u ≢ w) × (slice_get seats u ≡ Some r))
-moved_to seats w u s r within h =
-    let now : cond (w == u) (Some s) (slice_get seats u) ≡ Some r = sym (get_set seats w u s within) ∙ h in
-    elim (w == u) as (λ b. (w == u) ≡ b → cond b (Some s) (slice_get seats u) ≡ Some r → ((u ≡ w) × (s ≡ r)) ⊎ ((u ≢ w) × (slice_get seats u ≡ Some r))) [
+pub moved_to : (states : List WorkerState) (w u : ℕ) (s r : WorkerState) → w < length states → slice_get (slice_set states w s) u ≡ Some r
+    → ((u ≡ w) × (s ≡ r)) ⊎ ((u ≢ w) × (slice_get states u ≡ Some r))
+moved_to states w u s r within h =
+    let now : cond (w == u) (Some s) (slice_get states u) ≡ Some r = sym (get_set states w u s within) ∙ h in
+    elim (w == u) as (λ b. (w == u) ≡ b → cond b (Some s) (slice_get states u) ≡ Some r → ((u ≡ w) × (s ≡ r)) ⊎ ((u ≢ w) × (slice_get states u ≡ Some r))) [
       | true ↦ λ e k. inl (sym (eqb-true w u e), (let same : s ≡ r = cc in same))
       | false ↦ λ e k. inr ((λ same. eqb-false w u e (sym same)), k)
     ] refl now
 
-pub seat_moved : (seats : List Seat) (w u : ℕ) (was s r : Seat) → slice_get seats w ≡ Some was → slice_get (slice_set seats w s) u ≡ Some r
-    → ((u ≡ w) × (s ≡ r)) ⊎ ((u ≢ w) × (slice_get seats u ≡ Some r))
-seat_moved seats w u was s r at h = moved_to seats w u s r (slice_get_within seats w was at) h
+pub state_moved : (states : List WorkerState) (w u : ℕ) (was s r : WorkerState) → slice_get states w ≡ Some was → slice_get (slice_set states w s) u ≡ Some r
+    → ((u ≡ w) × (s ≡ r)) ⊎ ((u ≢ w) × (slice_get states u ≡ Some r))
+state_moved states w u was s r at h = moved_to states w u s r (slice_get_within states w was at) h
 
 pub set_again : {X : Type 0} (xs : List X) (i : ℕ) (x y : X) → slice_set (slice_set xs i x) i y ≡ slice_set xs i y
 set_again [] i x y = refl
 set_again (z ∷ zs) zero x y = refl
 set_again (z ∷ zs) (suc i) x y = ap (λ ys. z ∷ ys) (set_again zs i x y)
 
-pub set_gets : {X : Type 0} (xs : List X) (i : ℕ) (x : X) → i < length xs → slice_get (slice_set xs i x) i ≡ Some x
-set_gets xs i x within = get_set xs i i x within ∙ ap (λ b. cond b (Some x) (slice_get xs i)) (eq-eqb i i refl)
-
 -- ONE LINE
 
 abbrev waiter : ℕ → ℕ → Waiter
 waiter v w = record { threshold = v; worker = w }
 
-elsewhere : (e w : ℕ) (seats : List Seat) (was : Seat) (x : Waiter) → slice_get seats w ≡ Some was → waits_on e was ≡ false
-    → slice_get seats x.worker ≡ Some (Waiting e x.threshold) → x.worker ≢ w
-elsewhere e w seats was x at n p same =
-    (let q : slice_get seats w ≡ Some (Waiting e x.threshold) = ap (slice_get seats) (sym same) ∙ p in
+elsewhere : (e w : ℕ) (states : List WorkerState) (was : WorkerState) (x : Waiter) → slice_get states w ≡ Some was → waits_on e was ≡ false
+    → slice_get states x.worker ≡ Some (Waiting e x.threshold) → x.worker ≢ w
+elsewhere e w states was x at n p same =
+    (let q : slice_get states w ≡ Some (Waiting e x.threshold) = ap (slice_get states) (sym same) ∙ p in
     let is : was ≡ Waiting e x.threshold = cc in
     no_waiter e x.threshold was n is)
 
-line_join : (e w v : ℕ) (seats : List Seat) (line : List Waiter) → slice_get seats w ≡ Some Running → IsLine e seats line
-    → IsLine e (slice_set seats w (Waiting e v)) (placed (waiter v w) line)
-line_join e w v seats line at h =
+line_join : (e w v : ℕ) (states : List WorkerState) (queue : List Waiter) → slice_get states w ≡ Some Running → IsWaitQueue e states queue
+    → IsWaitQueue e (slice_set states w (Waiting e v)) (insert_waiter (waiter v w) queue)
+line_join e w v states queue at h =
     let y : Waiter = waiter v w in
-    let s : Seat = Waiting e v in
+    let s : WorkerState = Waiting e v in
     record {
-      order = placed_order y line (each_map (λ x p. elsewhere e w seats Running x at refl p) line h.wait) h.order;
-      wait = placed_each (λ x. slice_get (slice_set seats w s) x.worker ≡ Some (Waiting e x.threshold)) y line (seat_set seats w Running s at)
-          (each_map (λ x p. seat_kept seats w x.worker Running s (Waiting e x.threshold) at (elsewhere e w seats Running x at refl p) p) line h.wait);
-      all = λ u z k. elim (seat_moved seats w u Running s (Waiting e z) at k) as (λ _. Stands (waiter z u) (placed y line)) [
-        | inl p ↦ (let threshold : v ≡ z = (let same = p.1 in cc) in let same : y ≡ waiter z u = (let worker = p.0 in cc) in subst (λ (x : Waiter). Stands x (placed y line)) same (placed_own y line))
-        | inr p ↦ placed_stands (waiter z u) y line (h.all u z p.1)
+      order = placed_order y queue (each_map (λ x p. elsewhere e w states Running x at refl p) queue h.wait) h.order;
+      wait = placed_each (λ x. slice_get (slice_set states w s) x.worker ≡ Some (Waiting e x.threshold)) y queue (state_set states w Running s at)
+          (each_map (λ x p. state_kept states w x.worker Running s (Waiting e x.threshold) at (elsewhere e w states Running x at refl p) p) queue h.wait);
+      all = λ u z k. elim (state_moved states w u Running s (Waiting e z) at k) as (λ _. IsAmong (waiter z u) (insert_waiter y queue)) [
+        | inl p ↦ (let threshold : v ≡ z = (let same = p.1 in cc) in let same : y ≡ waiter z u = (let worker = p.0 in cc) in subst (λ (x : Waiter). IsAmong x (insert_waiter y queue)) same (placed_own y queue))
+        | inr p ↦ placed_stands (waiter z u) y queue (h.all u z p.1)
       ];
-      few = (let more : number_on e (slice_set seats w s) ≡ number_on e seats + 1 = one_more (waits_on e Running) (waits_on e s) _ _ refl (waits_itself e v) (number_set e seats w Running s at) in
-          let long : length (placed y line) ≡ length line + 1 = placed_length y line in
+      few = (let more : number_on e (slice_set states w s) ≡ number_on e states + 1 = one_more (waits_on e Running) (waits_on e s) _ _ refl (waits_itself e v) (number_set e states w Running s at) in
+          let long : length (insert_waiter y queue) ≡ length queue + 1 = placed_length y queue in
           let few = h.few in omega arith);
     }
 
-line_drop : (e w v : ℕ) (s : Seat) (seats : List Seat) (line : List Waiter) → slice_get seats w ≡ Some (Waiting e v) → is_waiting s ≡ false → IsLine e seats line
-    → IsLine e (slice_set seats w s) (without w line)
-line_drop e w v s seats line at n h =
-    let was : Seat = Waiting e v in
+line_drop : (e w v : ℕ) (s : WorkerState) (states : List WorkerState) (queue : List Waiter) → slice_get states w ≡ Some (Waiting e v) → is_waiting s ≡ false → IsWaitQueue e states queue
+    → IsWaitQueue e (slice_set states w s) (without w queue)
+line_drop e w v s states queue at n h =
+    let was : WorkerState = Waiting e v in
     record {
-      order = without_order w line h.order;
-      wait = each_both (λ x. slice_get (slice_set seats w s) x.worker ≡ Some (Waiting e x.threshold))
-          (λ x p other. seat_kept seats w x.worker was s (Waiting e x.threshold) at other p) (without w line)
-          (without_each (λ x. slice_get seats x.worker ≡ Some (Waiting e x.threshold)) w line h.wait) (without_other w line);
-      all = λ u z k. elim (seat_moved seats w u was s (Waiting e z) at k) as (λ _. Stands (waiter z u) (without w line)) [
+      order = without_order w queue h.order;
+      wait = each_both (λ x. slice_get (slice_set states w s) x.worker ≡ Some (Waiting e x.threshold))
+          (λ x p other. state_kept states w x.worker was s (Waiting e x.threshold) at other p) (without w queue)
+          (without_each (λ x. slice_get states x.worker ≡ Some (Waiting e x.threshold)) w queue h.wait) (without_other w queue);
+      all = λ u z k. elim (state_moved states w u was s (Waiting e z) at k) as (λ _. IsAmong (waiter z u) (without w queue)) [
         | inl p ↦ absurd (no_waiter e z s (waits_nowhere e s n) p.1)
-        | inr p ↦ without_stands (waiter z u) w line p.0 (h.all u z p.1)
+        | inr p ↦ without_stands (waiter z u) w queue p.0 (h.all u z p.1)
       ];
-      few = (let less : number_on e (slice_set seats w s) + 1 ≡ number_on e seats = one_less (waits_on e was) (waits_on e s) _ _ (waits_itself e v) (waits_nowhere e s n) (number_set e seats w was s at) in
-          let short : length (without w line) < length line = without_short (waiter v w) w line refl (h.all w v at) in
+      few = (let less : number_on e (slice_set states w s) + 1 ≡ number_on e states = one_less (waits_on e was) (waits_on e s) _ _ (waits_itself e v) (waits_nowhere e s n) (number_set e states w was s at) in
+          let short : length (without w queue) < length queue = without_short (waiter v w) w queue refl (h.all w v at) in
           let few = h.few in omega arith);
     }
 
-line_same : (e w : ℕ) (s was : Seat) (seats : List Seat) (line : List Waiter) → slice_get seats w ≡ Some was → waits_on e was ≡ false → waits_on e s ≡ false → IsLine e seats line
-    → IsLine e (slice_set seats w s) line
-line_same e w s was seats line at before after h = record {
+line_same : (e w : ℕ) (s was : WorkerState) (states : List WorkerState) (queue : List Waiter) → slice_get states w ≡ Some was → waits_on e was ≡ false → waits_on e s ≡ false → IsWaitQueue e states queue
+    → IsWaitQueue e (slice_set states w s) queue
+line_same e w s was states queue at before after h = record {
   order = h.order;
-  wait = each_map (λ x p. seat_kept seats w x.worker was s (Waiting e x.threshold) at (elsewhere e w seats was x at before p) p) line h.wait;
-  all = λ u z k. elim (seat_moved seats w u was s (Waiting e z) at k) as (λ _. Stands (waiter z u) line) [
+  wait = each_map (λ x p. state_kept states w x.worker was s (Waiting e x.threshold) at (elsewhere e w states was x at before p) p) queue h.wait;
+  all = λ u z k. elim (state_moved states w u was s (Waiting e z) at k) as (λ _. IsAmong (waiter z u) queue) [
     | inl p ↦ absurd (no_waiter e z s after p.1)
     | inr p ↦ h.all u z p.1
   ];
-  few = (let same : number_on e (slice_set seats w s) ≡ number_on e seats = none_more (waits_on e was) (waits_on e s) _ _ before after (number_set e seats w was s at) in
+  few = (let same : number_on e (slice_set states w s) ≡ number_on e states = none_more (waits_on e was) (waits_on e s) _ _ before after (number_set e states w was s at) in
       let few = h.few in omega arith);
 }
 
--- nobody stands in a line twice
-others : (e : ℕ) (seats : List Seat) (x : Waiter) (xs : List Waiter) → slice_get seats x.worker ≡ Some (Waiting e x.threshold)
-    → Each (λ y. comes_before x y ≡ true) xs → Each (λ y. slice_get seats y.worker ≡ Some (Waiting e y.threshold)) xs → Each (λ y. y.worker ≢ x.worker) xs
-others e seats x xs at order wait =
+-- nobody is in a queue twice
+others : (e : ℕ) (states : List WorkerState) (x : Waiter) (xs : List Waiter) → slice_get states x.worker ≡ Some (Waiting e x.threshold)
+    → Each (λ y. comes_before x y ≡ true) xs → Each (λ y. slice_get states y.worker ≡ Some (Waiting e y.threshold)) xs → Each (λ y. y.worker ≢ x.worker) xs
+others e states x xs at order wait =
     each_both (λ y. y.worker ≢ x.worker) (λ y before p same.
-    (let q : slice_get seats x.worker ≡ Some (Waiting e y.threshold) = ap (slice_get seats) (sym same) ∙ p in
+    (let q : slice_get states x.worker ≡ Some (Waiting e y.threshold) = ap (slice_get states) (sym same) ∙ p in
     let equal : x.threshold ≡ y.threshold = cc in
     before_itself x y before equal (sym same))) xs order wait
 
@@ -333,76 +334,78 @@ without_none w (x ∷ xs) h =
 without_first : (x : Waiter) (xs : List Waiter) → Each (λ y. y.worker ≢ x.worker) xs → without x.worker (x ∷ xs) ≡ xs
 without_first x xs h = ap (λ b. cond (not b) (x ∷ without x.worker xs) (without x.worker xs)) (eq-eqb x.worker x.worker refl) ∙ without_none x.worker xs h
 
-line_pop : (e : ℕ) (seats : List Seat) (x : Waiter) (xs : List Waiter) → IsLine e seats (x ∷ xs) → IsLine e (slice_set seats x.worker Running) xs
-line_pop e seats x xs h =
-    subst (λ line. IsLine e (slice_set seats x.worker Running) line) (without_first x xs (others e seats x xs h.wait.0 h.order.0 h.wait.1))
-    (line_drop e x.worker x.threshold Running seats (x ∷ xs) h.wait.0 refl h)
+line_pop : (e : ℕ) (states : List WorkerState) (x : Waiter) (xs : List Waiter) → IsWaitQueue e states (x ∷ xs) → IsWaitQueue e (slice_set states x.worker Running) xs
+line_pop e states x xs h =
+    subst (λ queue. IsWaitQueue e (slice_set states x.worker Running) queue) (without_first x xs (others e states x xs h.wait.0 h.order.0 h.wait.1))
+    (line_drop e x.worker x.threshold Running states (x ∷ xs) h.wait.0 refl h)
 
--- ALL LINES
+-- ALL QUEUES
 
-lines_set : (seats : List Seat) (lines : List (List Waiter)) (e w : ℕ) (s was : Seat) (line now : List Waiter) → AreLines seats lines
-    → slice_get seats w ≡ Some was → slice_get lines e ≡ Some line
+lines_set : (states : List WorkerState) (queues : List (List Waiter)) (e w : ℕ) (s was : WorkerState) (queue now : List Waiter) → AreWaitQueues states queues
+    → slice_get states w ≡ Some was → slice_get queues e ≡ Some queue
     → ((f : ℕ) → (e == f) ≡ false → (waits_on f was ≡ false) × (waits_on f s ≡ false))
-    → IsLine e (slice_set seats w s) now → AreLines (slice_set seats w s) (slice_set lines e now)
-lines_set seats lines e w s was line now h at here other new = record {
-  workers = length-set seats w s ∙ h.workers;
-  events = length-set lines e now ∙ h.events;
+    → IsWaitQueue e (slice_set states w s) now
+    → AreWaitQueues (slice_set states w s) (slice_set queues e now)
+lines_set states queues e w s was queue now h at here other new = record {
+  workers = length-set states w s ∙ h.workers;
+  events = length-set queues e now ∙ h.events;
   each = λ f l k.
-      (let found : cond (e == f) (Some now) (slice_get lines f) ≡ Some l = sym (get_set lines e f now (slice_get_within lines e line here)) ∙ k in
-      elim (e == f) as (λ b. (e == f) ≡ b → cond b (Some now) (slice_get lines f) ≡ Some l → IsLine f (slice_set seats w s) l) [
+      (let found : cond (e == f) (Some now) (slice_get queues f) ≡ Some l = sym (get_set queues e f now (slice_get_within queues e queue here)) ∙ k in
+      elim (e == f) as (λ b. (e == f) ≡ b → cond b (Some now) (slice_get queues f) ≡ Some l → IsWaitQueue f (slice_set states w s) l) [
         | true ↦ λ t g. (let is : now ≡ l = cc in
-            subst (λ (d : ℕ). IsLine d (slice_set seats w s) l) (eqb-true e f t) (subst (λ (m : List Waiter). IsLine e (slice_set seats w s) m) is new))
-        | false ↦ λ t g. line_same f w s was seats l at (other f t).0 (other f t).1 (h.each f l g)
+            subst (λ (d : ℕ). IsWaitQueue d (slice_set states w s) l) (eqb-true e f t) (subst (λ (m : List Waiter). IsWaitQueue e (slice_set states w s) m) is new))
+        | false ↦ λ t g. line_same f w s was states l at (other f t).0 (other f t).1 (h.each f l g)
       ] refl found);
 }
 
-lines_still : (seats : List Seat) (lines : List (List Waiter)) (w : ℕ) (s was : Seat) → AreLines seats lines → slice_get seats w ≡ Some was
-    → ((f : ℕ) (l : List Waiter) → slice_get lines f ≡ Some l → waits_on f was ≡ false) → is_waiting s ≡ false → AreLines (slice_set seats w s) lines
-lines_still seats lines w s was h at other n = record {
-  workers = length-set seats w s ∙ h.workers;
+lines_still : (states : List WorkerState) (queues : List (List Waiter)) (w : ℕ) (s was : WorkerState) → AreWaitQueues states queues → slice_get states w ≡ Some was
+    → ((f : ℕ) (l : List Waiter) → slice_get queues f ≡ Some l → waits_on f was ≡ false) → is_waiting s ≡ false → AreWaitQueues (slice_set states w s) queues
+lines_still states queues w s was h at other n = record {
+  workers = length-set states w s ∙ h.workers;
   events = h.events;
-  each = λ f l k. line_same f w s was seats l at (other f l k) (waits_nowhere f s n) (h.each f l k);
+  each = λ f l k. line_same f w s was states l at (other f l k) (waits_nowhere f s n) (h.each f l k);
 }
 
-pub settled : (seats : List Seat) (lines : List (List Waiter)) (w : ℕ) (s was : Seat) → AreLines seats lines → slice_get seats w ≡ Some was → is_waiting s ≡ false
-    → AreLines (slice_set seats w s) (dropped_out was w lines)
-settled seats lines w s Gone h at n = lines_still seats lines w s Gone h at (λ f l k. refl) n
-settled seats lines w s Running h at n = lines_still seats lines w s Running h at (λ f l k. refl) n
-settled seats lines w s (Waiting e v) h at n =
-    elim (slice_get lines e) as (λ o. slice_get lines e ≡ o → AreLines (slice_set seats w s) (option_map_or (λ line. slice_set lines e (without w line)) o lines)) [
-      | None ↦ λ none. lines_still seats lines w s (Waiting e v) h at
+pub settled : (states : List WorkerState) (queues : List (List Waiter)) (w : ℕ) (s was : WorkerState) → AreWaitQueues states queues → slice_get states w ≡ Some was → is_waiting s ≡ false
+    → AreWaitQueues (slice_set states w s) (remove_waiter was w queues)
+settled states queues w s Gone h at n = lines_still states queues w s Gone h at (λ f l k. refl) n
+settled states queues w s Running h at n =
+    lines_still states queues w s Running h at (λ f l k. refl) n
+settled states queues w s (Waiting e v) h at n =
+    elim (slice_get queues e) as (λ o. slice_get queues e ≡ o → AreWaitQueues (slice_set states w s) (option_map_or (λ queue. slice_set queues e (without w queue)) o queues)) [
+      | None ↦ λ none. lines_still states queues w s (Waiting e v) h at
           (λ f l k. elim (e == f) as (λ b. (e == f) ≡ b → b ≡ false) [
-            | true ↦ λ t. absurd (let same : slice_get lines e ≡ Some l = ap (slice_get lines) (eqb-true e f t) ∙ k in cc)
+            | true ↦ λ t. absurd (let same : slice_get queues e ≡ Some l = ap (slice_get queues) (eqb-true e f t) ∙ k in cc)
             | false ↦ λ t. refl
           ] refl) n
-      | Some line ↦ λ some. lines_set seats lines e w s (Waiting e v) line (without w line) h at some (λ f t. (t, waits_nowhere f s n))
-          (line_drop e w v s seats line at n (h.each e line some))
+      | Some queue ↦ λ some. lines_set states queues e w s (Waiting e v) queue (without w queue) h at some (λ f t. (t, waits_nowhere f s n))
+          (line_drop e w v s states queue at n (h.each e queue some))
     ] refl
 
-some_line : (lines : List (List Waiter)) (e : ℕ) → e < length lines → (line : List Waiter) × (slice_get lines e ≡ Some line)
+some_line : (queues : List (List Waiter)) (e : ℕ) → e < length queues → (queue : List Waiter) × (slice_get queues e ≡ Some queue)
 some_line [] e h = absurd (omega arith)
-some_line (l ∷ lines) zero h = (l, refl)
-some_line (l ∷ lines) (suc e) h = some_line lines e (omega arith)
+some_line (l ∷ queues) zero h = (l, refl)
+some_line (l ∷ queues) (suc e) h = some_line queues e (omega arith)
 
--- there is a line for each eventcount
-pub line_at : (seats : List Seat) (lines : List (List Waiter)) (e : ℕ) → AreLines seats lines → e < 32 → (line : List Waiter) × (slice_get lines e ≡ Some line)
-line_at seats lines e h lt = some_line lines e (let events = h.events in omega arith)
+-- there is a queue for each eventcount
+pub line_at : (states : List WorkerState) (queues : List (List Waiter)) (e : ℕ) → AreWaitQueues states queues → e < 32 → (queue : List Waiter) × (slice_get queues e ≡ Some queue)
+line_at states queues e h lt = some_line queues e (let events = h.events in omega arith)
 
-changed_is : (f : List Waiter → List Waiter) (lines : List (List Waiter)) (e : ℕ) (line : List Waiter) → slice_get lines e ≡ Some line → changed_at f lines e ≡ slice_set lines e (f line)
-changed_is f lines e line h = ap (λ o. option_map_or (λ (x : List Waiter). slice_set lines e (f x)) o lines) h
+changed_is : (f : List Waiter → List Waiter) (queues : List (List Waiter)) (e : ℕ) (queue : List Waiter) → slice_get queues e ≡ Some queue → map_at f queues e ≡ slice_set queues e (f queue)
+changed_is f queues e queue h = ap (λ o. option_map_or (λ (x : List Waiter). slice_set queues e (f x)) o queues) h
 
-pub waited : (seats : List Seat) (lines : List (List Waiter)) (e w v : ℕ) → AreLines seats lines → slice_get seats w ≡ Some Running → e < 32
-    → AreLines (slice_set seats w (Waiting e v)) (changed_at (placed (record { threshold = v; worker = w })) lines e)
-waited seats lines e w v h at lt =
-    let l = line_at seats lines e h lt in
-    subst (λ (ls : List (List Waiter)). AreLines (slice_set seats w (Waiting e v)) ls) (sym (changed_is (placed (waiter v w)) lines e l.0 l.1))
-    (lines_set seats lines e w (Waiting e v) Running l.0 (placed (waiter v w) l.0) h at l.1 (λ f t. (refl, t)) (line_join e w v seats l.0 at (h.each e l.0 l.1)))
+pub waited : (states : List WorkerState) (queues : List (List Waiter)) (e w v : ℕ) → AreWaitQueues states queues → slice_get states w ≡ Some Running → e < 32
+    → AreWaitQueues (slice_set states w (Waiting e v)) (map_at (insert_waiter (record { threshold = v; worker = w })) queues e)
+waited states queues e w v h at lt =
+    let l = line_at states queues e h lt in
+    subst (λ (ls : List (List Waiter)). AreWaitQueues (slice_set states w (Waiting e v)) ls) (sym (changed_is (insert_waiter (waiter v w)) queues e l.0 l.1))
+    (lines_set states queues e w (Waiting e v) Running l.0 (insert_waiter (waiter v w) l.0) h at l.1 (λ f t. (refl, t)) (line_join e w v states l.0 at (h.each e l.0 l.1)))
 
 -- there is room for one more
-pub has_room : (seats : List Seat) (lines : List (List Waiter)) (e w : ℕ) (line : List Waiter) → AreLines seats lines → slice_get seats w ≡ Some Running → slice_get lines e ≡ Some line → length line < 16
-has_room seats lines e w line h at here =
-    let few = (h.each e line here).few in
-    let less : number_on e seats < length seats = number_less e seats w Running at refl in
+pub has_room : (states : List WorkerState) (queues : List (List Waiter)) (e w : ℕ) (queue : List Waiter) → AreWaitQueues states queues → slice_get states w ≡ Some Running → slice_get queues e ≡ Some queue → length queue < 16
+has_room states queues e w queue h at here =
+    let few = (h.each e queue here).few in
+    let less : number_on e states < length states = number_less e states w Running at refl in
     let workers = h.workers in omega arith
 
 reached_first : (sum : ℕ) (y x : Waiter) (xs : List Waiter) → cond (nat_le y.threshold sum) (Some y) None ≡ Some x → (y ≡ x) × (y.threshold ≤ sum)
@@ -412,32 +415,32 @@ reached_first sum y x xs h =
       | false ↦ λ t k. cc
     ] refl h
 
--- what is so after the first in line was let go, or nobody was
+-- what holds after the first of a queue was released, or nobody was
 abbrev pub rest_of : Option Waiter → List Waiter → List Waiter
-rest_of o line = cond (is_some o) (drop 1 line) line
+rest_of o queue = cond (is_some o) (drop 1 queue) queue
 
-pub record IsLetGo (seats : List Seat) (lines : List (List Waiter)) (e sum : ℕ) (x : Waiter) : Type 0 where
-  pub waits : slice_get seats x.worker ≡ Some (Waiting e x.threshold)
+pub record IsLetGo (states : List WorkerState) (queues : List (List Waiter)) (e sum : ℕ) (x : Waiter) : Type 0 where
+  pub waits : slice_get states x.worker ≡ Some (Waiting e x.threshold)
   pub reached : x.threshold ≤ sum
-  pub keeps : AreLines (slice_set seats x.worker Running) (changed_at (drop 1) lines e)
+  pub keeps : AreWaitQueues (slice_set states x.worker Running) (map_at (drop 1) queues e)
 
-let_first_go : (seats : List Seat) (lines : List (List Waiter)) (e sum : ℕ) (line : List Waiter) (x : Waiter) → AreLines seats lines → slice_get lines e ≡ Some line → first_reached sum line ≡ Some x
-    → IsLetGo seats lines e sum x
-let_first_go seats lines e sum [] x h here first = cc
-let_first_go seats lines e sum (y ∷ ys) x h here first =
+let_first_go : (states : List WorkerState) (queues : List (List Waiter)) (e sum : ℕ) (queue : List Waiter) (x : Waiter) → AreWaitQueues states queues → slice_get queues e ≡ Some queue → first_ready sum queue ≡ Some x
+    → IsLetGo states queues e sum x
+let_first_go states queues e sum [] x h here first = cc
+let_first_go states queues e sum (y ∷ ys) x h here first =
     (let k = reached_first sum y x ys first in
     let own = h.each e (y ∷ ys) here in
-    subst (λ (z : Waiter). IsLetGo seats lines e sum z) k.0 (record {
+    subst (λ (z : Waiter). IsLetGo states queues e sum z) k.0 (record {
       waits = own.wait.0;
       reached = k.1;
-      keeps = subst (λ (ls : List (List Waiter)). AreLines (slice_set seats y.worker Running) ls) (sym (changed_is (drop 1) lines e (y ∷ ys) here))
-          (lines_set seats lines e y.worker Running (Waiting e y.threshold) (y ∷ ys) ys h own.wait.0 here (λ f t. (t, refl)) (line_pop e seats y ys own));
+      keeps = subst (λ (ls : List (List Waiter)). AreWaitQueues (slice_set states y.worker Running) ls) (sym (changed_is (drop 1) queues e (y ∷ ys) here))
+          (lines_set states queues e y.worker Running (Waiting e y.threshold) (y ∷ ys) ys h own.wait.0 here (λ f t. (t, refl)) (line_pop e states y ys own));
     }))
 
-pub let_go : (seats : List Seat) (lines : List (List Waiter)) (e sum : ℕ) (x : Waiter) → AreLines seats lines → e < 32
-    → ((line : List Waiter) → slice_get lines e ≡ Some line → Some x ≡ first_reached sum line) → IsLetGo seats lines e sum x
-let_go seats lines e sum x h lt first =
-    let l = line_at seats lines e h lt in let_first_go seats lines e sum l.0 x h l.1 (sym (first l.0 l.1))
+pub let_go : (states : List WorkerState) (queues : List (List Waiter)) (e sum : ℕ) (x : Waiter) → AreWaitQueues states queues → e < 32
+    → ((queue : List Waiter) → slice_get queues e ≡ Some queue → Some x ≡ first_ready sum queue) → IsLetGo states queues e sum x
+let_go states queues e sum x h lt first =
+    let l = line_at states queues e h lt in let_first_go states queues e sum l.0 x h l.1 (sym (first l.0 l.1))
 
 reached_none : (sum : ℕ) (y : Waiter) → cond (nat_le y.threshold sum) (Some y) None ≡ None → sum < y.threshold
 reached_none sum y h =
@@ -446,17 +449,17 @@ reached_none sum y h =
       | false ↦ λ t k. leb-false y.threshold sum t
     ] refl h
 
-all_above : (sum : ℕ) (line : List Waiter) → AreInOrder line → first_reached sum line ≡ None → Each (λ x. sum < x.threshold) line
+all_above : (sum : ℕ) (queue : List Waiter) → AreInOrder queue → first_ready sum queue ≡ None → Each (λ x. sum < x.threshold) queue
 all_above sum [] h none = tt
 all_above sum (y ∷ ys) h none =
     (let first : sum < y.threshold = reached_none sum y none in
     (first, each_map (λ z before. (let up : y.threshold ≤ z.threshold = before_below y z before in omega arith)) ys h.0))
 
-kept_none : (e sum : ℕ) (seats : List Seat) → ((w v : ℕ) → slice_get seats w ≡ Some (Waiting e v) → sum < v) → map (kept e sum) seats ≡ seats
+kept_none : (e sum : ℕ) (states : List WorkerState) → ((w v : ℕ) → slice_get states w ≡ Some (Waiting e v) → sum < v) → map (state_at_total e sum) states ≡ states
 kept_none e sum [] h = refl
-kept_none e sum (Gone ∷ seats) h = ap (λ ss. Gone ∷ ss) (kept_none e sum seats (λ w v k. h (suc w) v k))
-kept_none e sum (Running ∷ seats) h = ap (λ ss. Running ∷ ss) (kept_none e sum seats (λ w v k. h (suc w) v k))
-kept_none e sum (Waiting f v ∷ seats) h =
+kept_none e sum (Gone ∷ states) h = ap (λ ss. Gone ∷ ss) (kept_none e sum states (λ w v k. h (suc w) v k))
+kept_none e sum (Running ∷ states) h = ap (λ ss. Running ∷ ss) (kept_none e sum states (λ w v k. h (suc w) v k))
+kept_none e sum (Waiting f v ∷ states) h =
     let here : cond (f == e && nat_le v sum) Running (Waiting f v) ≡ Waiting f v =
     elim (f == e && nat_le v sum) as (λ b. (f == e && nat_le v sum) ≡ b → cond b Running (Waiting f v) ≡ Waiting f v) [
       | true ↦ λ t.
@@ -465,31 +468,31 @@ kept_none e sum (Waiting f v ∷ seats) h =
           let below : v ≤ sum = leb-true v sum p.1 in absurd (omega arith))
       | false ↦ λ t. refl
     ] refl in
-    ap (λ s. s ∷ map (kept e sum) seats) here ∙ ap (λ ss. Waiting f v ∷ ss) (kept_none e sum seats (λ w u k. h (suc w) u k))
+    ap (λ s. s ∷ map (state_at_total e sum) states) here ∙ ap (λ ss. Waiting f v ∷ ss) (kept_none e sum states (λ w u k. h (suc w) u k))
 
-none_first : (seats : List Seat) (lines : List (List Waiter)) (e sum : ℕ) (line : List Waiter) → AreLines seats lines → slice_get lines e ≡ Some line → first_reached sum line ≡ None
-    → map (kept e sum) seats ≡ seats
-none_first seats lines e sum line h here none =
-    let own = h.each e line here in
-    kept_none e sum seats (λ w v k. each_at (λ x. sum < x.threshold) (waiter v w) line (all_above sum line own.order none) (own.all w v k))
+none_first : (states : List WorkerState) (queues : List (List Waiter)) (e sum : ℕ) (queue : List Waiter) → AreWaitQueues states queues → slice_get queues e ≡ Some queue → first_ready sum queue ≡ None
+    → map (state_at_total e sum) states ≡ states
+none_first states queues e sum queue h here none =
+    let own = h.each e queue here in
+    kept_none e sum states (λ w v k. each_at (λ x. sum < x.threshold) (waiter v w) queue (all_above sum queue own.order none) (own.all w v k))
 
-pub none_let_go : (seats : List Seat) (lines : List (List Waiter)) (e sum : ℕ) → AreLines seats lines → e < 32
-    → ((line : List Waiter) → slice_get lines e ≡ Some line → None ≡ first_reached sum line) → map (kept e sum) seats ≡ seats
-none_let_go seats lines e sum h lt none =
-    let l = line_at seats lines e h lt in none_first seats lines e sum l.0 h l.1 (sym (none l.0 l.1))
+pub none_let_go : (states : List WorkerState) (queues : List (List Waiter)) (e sum : ℕ) → AreWaitQueues states queues → e < 32
+    → ((queue : List Waiter) → slice_get queues e ≡ Some queue → None ≡ first_ready sum queue) → map (state_at_total e sum) states ≡ states
+none_let_go states queues e sum h lt none =
+    let l = line_at states queues e h lt in none_first states queues e sum l.0 h l.1 (sym (none l.0 l.1))
 
-pub kept_again : (e sum : ℕ) (seats : List Seat) (w v : ℕ) → slice_get seats w ≡ Some (Waiting e v) → v ≤ sum → map (kept e sum) (slice_set seats w Running) ≡ map (kept e sum) seats
+pub kept_again : (e sum : ℕ) (states : List WorkerState) (w v : ℕ) → slice_get states w ≡ Some (Waiting e v) → v ≤ sum → map (state_at_total e sum) (slice_set states w Running) ≡ map (state_at_total e sum) states
 kept_again e sum [] w v h le = refl
-kept_again e sum (s ∷ seats) zero v h le =
+kept_again e sum (s ∷ states) zero v h le =
     let same : s ≡ Waiting e v = cc in
-    let goes : kept e sum s ≡ Running =
-    ap (kept e sum) same ∙ ap (λ b. cond b Running (Waiting e v)) (and_from (e == e) (nat_le v sum) (eq-eqb e e refl) (le-leb v sum le)) in
-    ap (λ r. r ∷ map (kept e sum) seats) (sym goes)
-kept_again e sum (s ∷ seats) (suc w) v h le = ap (λ ss. kept e sum s ∷ ss) (kept_again e sum seats w v h le)
+    let goes : state_at_total e sum s ≡ Running =
+    ap (state_at_total e sum) same ∙ ap (λ b. cond b Running (Waiting e v)) (and_from (e == e) (nat_le v sum) (eq-eqb e e refl) (le-leb v sum le)) in
+    ap (λ r. r ∷ map (state_at_total e sum) states) (sym goes)
+kept_again e sum (s ∷ states) (suc w) v h le = ap (λ ss. state_at_total e sum s ∷ ss) (kept_again e sum states w v h le)
 
-pub number_falls : (e : ℕ) (seats : List Seat) (w v : ℕ) → slice_get seats w ≡ Some (Waiting e v) → number_on e (slice_set seats w Running) < number_on e seats
-number_falls e seats w v at =
-    let less : number_on e (slice_set seats w Running) + 1 ≡ number_on e seats = one_less (waits_on e (Waiting e v)) (waits_on e Running) _ _ (waits_itself e v) refl (number_set e seats w (Waiting e v) Running at) in
+pub number_falls : (e : ℕ) (states : List WorkerState) (w v : ℕ) → slice_get states w ≡ Some (Waiting e v) → number_on e (slice_set states w Running) < number_on e states
+number_falls e states w v at =
+    let less : number_on e (slice_set states w Running) + 1 ≡ number_on e states = one_less (waits_on e (Waiting e v)) (waits_on e Running) _ _ (waits_itself e v) refl (number_set e states w (Waiting e v) Running at) in
     omega arith
 
 same_set : {X : Type 0} (xs : List X) (i : ℕ) (x : X) → slice_get xs i ≡ Some x → slice_set xs i x ≡ xs
@@ -497,15 +500,15 @@ same_set [] i x h = refl
 same_set (y ∷ ys) zero x h = (let same : y ≡ x = cc in ap (λ z. z ∷ ys) (sym same))
 same_set (y ∷ ys) (suc i) x h = ap (λ zs. y ∷ zs) (same_set ys i x h)
 
--- a line that is written again as it was
-pub lines_again : (seats : List Seat) (lines : List (List Waiter)) (e : ℕ) → AreLines seats lines → e < 32 → AreLines seats (changed_at (λ line. line) lines e)
-lines_again seats lines e h lt =
-    let l = line_at seats lines e h lt in
-    subst (λ (ls : List (List Waiter)). AreLines seats ls) (sym (same_set lines e l.0 l.1) ∙ sym (changed_is (λ line. line) lines e l.0 l.1)) h
+-- a queue that is written back unchanged
+pub lines_again : (states : List WorkerState) (queues : List (List Waiter)) (e : ℕ) → AreWaitQueues states queues → e < 32 → AreWaitQueues states (map_at (λ queue. queue) queues e)
+lines_again states queues e h lt =
+    let l = line_at states queues e h lt in
+    subst (λ (ls : List (List Waiter)). AreWaitQueues states ls) (sym (same_set queues e l.0 l.1) ∙ sym (changed_is (λ queue. queue) queues e l.0 l.1)) h
 
 -- nobody waits
-nobody : (e : ℕ) (seats : List Seat) → ((w : ℕ) (s : Seat) → slice_get seats w ≡ Some s → is_waiting s ≡ false) → IsLine e seats []
-nobody e seats h = record {
+nobody : (e : ℕ) (states : List WorkerState) → ((w : ℕ) (s : WorkerState) → slice_get states w ≡ Some s → is_waiting s ≡ false) → IsWaitQueue e states []
+nobody e states h = record {
   order = tt;
   wait = tt;
   all = λ w v k. absurd (let none : is_waiting (Waiting e v) ≡ false = h w (Waiting e v) k in cc);
@@ -516,45 +519,41 @@ opened_seat : (b : Bool) → is_waiting (cond b Running Gone) ≡ false
 opened_seat true = refl
 opened_seat false = refl
 
-pub opened : (n : ℕ) (seats : List Seat) (lines : List (List Waiter)) → length seats ≡ 16 → length lines ≡ 32
-    → ((w : ℕ) → w < 16 → slice_get seats w ≡ Some (cond (nat_lt w n) Running Gone))
-    → ((e : ℕ) (line : List Waiter) → slice_get lines e ≡ Some line → line ≡ []) → AreLines seats lines
-opened n seats lines ws es h k = record {
+pub opened : (n : ℕ) (states : List WorkerState) (queues : List (List Waiter)) → length states ≡ 16 → length queues ≡ 32
+    → ((w : ℕ) → w < 16 → slice_get states w ≡ Some (cond (nat_lt w n) Running Gone))
+    → ((e : ℕ) (queue : List Waiter) → slice_get queues e ≡ Some queue → queue ≡ []) → AreWaitQueues states queues
+opened n states queues ws es h k = record {
   workers = ws;
   events = es;
-  each = λ e line here. subst (λ (l : List Waiter). IsLine e seats l) (sym (k e line here)) (nobody e seats
-      (λ w s at. (let within : w < length seats = slice_get_within seats w s at in
+  each = λ e queue here. subst (λ (l : List Waiter). IsWaitQueue e states l) (sym (k e queue here)) (nobody e states
+      (λ w s at. (let within : w < length states = slice_get_within states w s at in
       let is : s ≡ cond (nat_lt w n) Running Gone = (let there = h w (omega arith) in cc) in
       ap is_waiting is ∙ opened_seat (nat_lt w n))));
 }
 
 -- WHETHER ANYBODY WAITS
 
-none_waits : (e : ℕ) (seats : List Seat) → ((w v : ℕ) → slice_get seats w ≡ Some (Waiting e v) → ⊥) → list_any (waits_on e) seats ≡ false
+none_waits : (e : ℕ) (states : List WorkerState) → ((w v : ℕ) → slice_get states w ≡ Some (Waiting e v) → ⊥) → list_any (waits_on e) states ≡ false
 none_waits e [] none = refl
-none_waits e (Gone ∷ seats) none = none_waits e seats (λ w v at. none (suc w) v at)
-none_waits e (Running ∷ seats) none = none_waits e seats (λ w v at. none (suc w) v at)
-none_waits e (Waiting f u ∷ seats) none =
-    elim (f == e) as (λ (b : Bool). (f == e) ≡ b → (b || list_any (waits_on e) seats) ≡ false) [
+none_waits e (Gone ∷ states) none = none_waits e states (λ w v at. none (suc w) v at)
+none_waits e (Running ∷ states) none = none_waits e states (λ w v at. none (suc w) v at)
+none_waits e (Waiting f u ∷ states) none =
+    elim (f == e) as (λ (b : Bool). (f == e) ≡ b → (b || list_any (waits_on e) states) ≡ false) [
       | true ↦ λ h. (let same : f ≡ e = eqb-true f e h in absurd (none 0 u (ap (λ k. Some (Waiting k u)) same)))
-      | false ↦ λ h. none_waits e seats (λ w v at. none (suc w) v at)
+      | false ↦ λ h. none_waits e states (λ w v at. none (suc w) v at)
     ] refl
 
-or_right : (b c : Bool) → c ≡ true → (b || c) ≡ true
-or_right true c h = refl
-or_right false c h = h
-
-one_waits : (e : ℕ) (seats : List Seat) (w v : ℕ) → slice_get seats w ≡ Some (Waiting e v) → list_any (waits_on e) seats ≡ true
+one_waits : (e : ℕ) (states : List WorkerState) (w v : ℕ) → slice_get states w ≡ Some (Waiting e v) → list_any (waits_on e) states ≡ true
 one_waits e [] w v at = cc
-one_waits e (s ∷ seats) zero v at =
+one_waits e (s ∷ states) zero v at =
     (let same : s ≡ Waiting e v = cc in
-    ap (λ t. waits_on e t || list_any (waits_on e) seats) same ∙ ap (λ b. b || list_any (waits_on e) seats) (eq-eqb e e refl))
-one_waits e (s ∷ seats) (suc w) v at = or_right (waits_on e s) (list_any (waits_on e) seats) (one_waits e seats w v at)
+    ap (λ t. waits_on e t || list_any (waits_on e) states) same ∙ ap (λ b. b || list_any (waits_on e) states) (eq-eqb e e refl))
+one_waits e (s ∷ states) (suc w) v at = or_right (waits_on e s) (list_any (waits_on e) states) (one_waits e states w v at)
 
 holds_one : (n : ℕ) → 0 < n → not (n == 0) ≡ true
 holds_one n h = grind (arith, nat_tests)
 
--- somebody waits if the line isn't empty
-pub line_tells : (e : ℕ) (seats : List Seat) (line : List Waiter) → IsLine e seats line → not (length line == 0) ≡ list_any (waits_on e) seats
-line_tells e seats [] is = sym (none_waits e seats (λ w v at. is.all w v at))
-line_tells e seats (x ∷ line) is = holds_one (length (x ∷ line)) (omega arith) ∙ sym (one_waits e seats x.worker x.threshold is.wait.0)
+-- somebody waits exactly if the queue isn't empty
+pub line_tells : (e : ℕ) (states : List WorkerState) (queue : List Waiter) → IsWaitQueue e states queue → not (length queue == 0) ≡ list_any (waits_on e) states
+line_tells e states [] is = sym (none_waits e states (λ w v at. is.all w v at))
+line_tells e states (x ∷ queue) is = holds_one (length (x ∷ queue)) (omega arith) ∙ sym (one_waits e states x.worker x.threshold is.wait.0)

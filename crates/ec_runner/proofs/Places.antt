@@ -8,7 +8,7 @@ use Rattle.ec_core.specs.declared.act.Act.{Act}
 use Rattle.ec_core.specs.declared.act.Entry.{Entry}
 use Rattle.ec_core.specs.declared.act.Reply.{Reply}
 use Rattle.ec_core.specs.declared.act.Refusal.{Refusal}
-use Rattle.ec_core.specs.Recorded.{Recorded}
+use Rattle.ec_core.specs.RunModel.{RunModel}
 use Rattle.ec_core.proofs.shared.Places.{get_set}
 use Rattle.ec_machine.specs.declared.command.Command.{Command}
 use Rattle.ec_machine.specs.declared.machine.Machine.{Machine}
@@ -16,27 +16,27 @@ use Rattle.ec_machine.specs.Follows.{program_at}
 use Rattle.ec_machine.specs.Runs.{outcome_of}
 use Rattle.ec_machine.specs.Standing.{StandsFor}
 use Rattle.ec_machine.specs.Steps.{own}
-use Rattle.ec_runner.specs.declared.playing.Played.{Played}
-use Rattle.ec_runner.specs.declared.playing.Played.TheVariants as played
+use Rattle.ec_runner.specs.declared.playing.TurnOutcome.{TurnOutcome}
+use Rattle.ec_runner.specs.declared.playing.TurnOutcome.TheVariants as played
 use Rattle.ec_runner.specs.Machines.{IsMachineOf, AreMachines, Takes, HasPlayed, IsPlayed, PlaysOne}
-use Rattle.ec_runner.specs.Schedules.{Turn, with_answer, entries_of, refusal_told, refusal_or, ended_by}
+use Rattle.ec_runner.specs.Schedules.{Turn, with_answer, entries_of, refusal_in_turns, refusal_or, ended_by}
 
 own_other : (i w : ℕ) (act : Act) (answer : Result Reply Refusal) (past : List Entry) → w ≢ i → own i (with_answer w act answer past) ≡ own i past
 own_other i w act (Ok reply) past other =
     ap (λ b. cond b (record { worker = w; act = act; reply = reply } ∷ own i past) (own i past)) (ne_eqb w i other)
 own_other i w act (Err r) past other = refl
 
--- a turn is nothing to the machines of the other workers
+-- a turn leaves the interpreters of the other workers as they were
 pub others_stay : (programs : List (List Command)) (turns : List Turn) (x : Turn) (i : ℕ) (m : Machine) → x.worker ≢ i → IsMachineOf programs turns i m
     → IsMachineOf programs (x ∷ turns) i m
 others_stay programs turns x i m other machine =
     let same : own i (entries_of (x ∷ turns)) ≡ own i (entries_of turns) = own_other i x.worker x.act x.answer (entries_of turns) other in
-    let told : refusal_told i (x ∷ turns) ≡ refusal_told i turns = ap (λ b. cond b (refusal_or x.answer (refusal_told i turns)) (refusal_told i turns)) (ne_eqb x.worker i other) in
+    let returned : refusal_in_turns i (x ∷ turns) ≡ refusal_in_turns i turns = ap (λ b. cond b (refusal_or x.answer (refusal_in_turns i turns)) (refusal_in_turns i turns)) (ne_eqb x.worker i other) in
     record {
-      stands = subst (StandsFor (program_at programs i) m) (sym same) machine.stands;
+      represents = subst (StandsFor (program_at programs i) m) (sym same) machine.represents;
       outcome = machine.outcome
-          ∙ sym (ap (λ o. ended_by o (outcome_of (program_at programs i) (own i (entries_of (x ∷ turns))))) told
-          ∙ ap (λ past. ended_by (refusal_told i turns) (outcome_of (program_at programs i) past)) same);
+          ∙ sym (ap (λ o. ended_by o (outcome_of (program_at programs i) (own i (entries_of (x ∷ turns))))) returned
+          ∙ ap (λ past. ended_by (refusal_in_turns i turns) (outcome_of (program_at programs i) past)) same);
     }
 
 some_is : (m k : Machine) → Some m ≡ Some k → m ≡ k
@@ -50,7 +50,7 @@ machines_after programs turns x machines w n within worker each machine = λ i k
       | false ↦ λ e found. others_stay programs turns x i k (λ is. eqb-false w i e (sym worker ∙ is)) (each i k found)
     ] refl (sym (get_set machines w i n within) ∙ at)
 
-pub place_played : (t : Tables) (programs : List (List Command)) (turns : List Turn) (machines : List Machine) (w : ℕ) (new : Recorded) (n : Machine) (p : Played)
+pub place_played : (t : Tables) (programs : List (List Command)) (turns : List Turn) (machines : List Machine) (w : ℕ) (new : RunModel) (n : Machine) (p : TurnOutcome)
     → w < length machines → AreMachines programs turns machines → Takes p t programs turns w new n → PlaysOne p t programs turns w new (slice_set machines w n)
 place_played t programs turns machines w new n played.Made within each has = record {
   turn = has.turn;
@@ -63,7 +63,7 @@ place_played t programs turns machines w new n played.Ended within each ended = 
 place_played t programs turns machines w new n played.Memory within each due = due
 
 -- one place more of a schedule has been played
-pub place_more : (t : Tables) (programs : List (List Command)) (schedule : List ℕ) (k w : ℕ) (run new : Recorded) (machines others : List Machine)
+pub place_more : (t : Tables) (programs : List (List Command)) (schedule : List ℕ) (k w : ℕ) (run new : RunModel) (machines others : List Machine)
     → k < length schedule → w ≡ get_or schedule k w
     → (turns : List Turn) × IsPlayed t programs (take k schedule) turns run machines
     → ((turns : List Turn) → IsPlayed t programs (take k schedule) turns run machines → HasPlayed t programs turns w new others)

@@ -7,30 +7,22 @@ use Rattle.ec_core.specs.declared.act.Entry.{Entry}
 use Rattle.ec_core.specs.declared.act.Reply.{Reply}
 use Rattle.ec_core.specs.declared.act.Refusal.{Refusal}
 use Rattle.ec_core.specs.Acceptance.{answer_of}
-use Rattle.ec_core.specs.Recorded.{Recorded}
+use Rattle.ec_core.specs.RunModel.{RunModel}
 use Rattle.ec_machine.specs.declared.command.Command.{Command}
 use Rattle.ec_machine.specs.declared.machine.Machine.{Machine}
 use Rattle.ec_machine.specs.declared.outcome.Outcome.{Outcome}
 use Rattle.ec_machine.specs.declared.outcome.Outcome.TheVariants as outcomes
 use Rattle.ec_machine.specs.Follows.{program_at}
-use Rattle.ec_machine.specs.Outcomes.{is_running, is_set, refused}
+use Rattle.ec_machine.specs.Outcomes.{is_running, is_external, outcome_after_refusal}
 use Rattle.ec_machine.specs.Runs.{next_act, outcome_of}
-use Rattle.ec_machine.specs.Standing.{StandsFor, kept_outcome, is_refused}
+use Rattle.ec_machine.specs.Standing.{StandsFor, machine_outcome, is_refused}
 use Rattle.ec_machine.specs.Steps.{own}
-use Rattle.ec_runner.specs.Machines.{IsMachineOf, IsRunOf, HasTurn, MayTakeTurn}
-use Rattle.ec_runner.specs.Schedules.{Turn, entries_of, refusal_told, ended_by, outcome_after}
+use Rattle.ec_runner.specs.Machines.{IsMachineOf, IsMadeByTurns, HasTurn, MayTakeTurn}
+use Rattle.ec_runner.specs.Schedules.{Turn, entries_of, refusal_in_turns, ended_by, outcome_after}
+use Rattle.ec_machine.proofs.Going.{running_is}
 
-running_is : (o : Outcome) → is_running o ≡ true → o ≡ outcomes.Running
-running_is outcomes.Running is = refl
-running_is outcomes.Finished is = cc
-running_is outcomes.ValueTooLarge is = cc
-running_is (outcomes.Refused r) is = cc
-running_is outcomes.Stopped is = cc
-running_is outcomes.OutOfTurns is = cc
-running_is outcomes.Memory is = cc
-
-pub not_set : (o : Outcome) → is_running o ≡ true → is_set o ≡ false
-not_set o is = ap is_set (running_is o is)
+pub not_set : (o : Outcome) → is_running o ≡ true → is_external o ≡ false
+not_set o is = ap is_external (running_is o is)
 
 pub none_told : (o : Option Refusal) (outcome : Outcome) → ended_by o outcome ≡ outcomes.Running → o ≡ None
 none_told None outcome is = refl
@@ -43,37 +35,38 @@ either false o = refl
 pub own_mine : (w : ℕ) (x : Entry) (past : List Entry) → x.worker ≡ w → own w (x ∷ past) ≡ x ∷ own w past
 own_mine w x past is = ap (λ b. cond b (x ∷ own w past) (own w past)) (eq-eqb _ _ is)
 
-answer_then : (t : Tables) (turns : List Turn) (w : ℕ) (r : Recorded) (act : Act) → IsRunOf t turns r
+answer_then : (t : Tables) (turns : List Turn) (w : ℕ) (r : RunModel) (act : Act) → IsMadeByTurns t turns r
     → answer_of t (entries_of turns) w act ≡ answer_of r.setup (reverse r.entries) w act
 answer_then t turns w r act of =
     ap (λ s. answer_of s (entries_of turns) w act) (sym of.setup) ∙ ap (λ past. answer_of r.setup past w act) (sym of.entries)
 
 -- a turn that made an entry
-pub turn_made : (t : Tables) (programs : List (List Command)) (turns : List Turn) (w : ℕ) (old new : Recorded) (m n : Machine) (act : Act) (reply : Reply)
-    → IsRunOf t turns old → IsMachineOf programs turns w m → is_running (kept_outcome m) ≡ true
+pub turn_made : (t : Tables) (programs : List (List Command)) (turns : List Turn) (w : ℕ) (old new : RunModel) (m n : Machine) (act : Act) (reply : Reply)
+    → IsMadeByTurns t turns old → IsMachineOf programs turns w m
+    → is_running (machine_outcome m) ≡ true
     → next_act (program_at programs w) (own w (entries_of turns)) ≡ Some act
     → answer_of old.setup (reverse old.entries) w act ≡ Ok reply
     → new ≡ record old { entries = old.entries ++ record { worker = w; act = act; reply = reply } ∷ [] }
     → StandsFor (program_at programs w) n (record { worker = w; act = act; reply = reply } ∷ own w (entries_of turns)) → is_refused n ≡ false
     → HasTurn t programs turns w new n
-turn_made t programs turns w old new m n act reply of machine running due answer made stands unset =
+turn_made t programs turns w old new m n act reply of machine running due answer made represents unset =
     let x : Entry = record { worker = w; act = act; reply = reply } in
-    let on : outcome_after programs w turns ≡ outcomes.Running = sym machine.outcome ∙ running_is (kept_outcome m) running in
-    let told : refusal_told w turns ≡ None = none_told (refusal_told w turns) (outcome_of (program_at programs w) (own w (entries_of turns))) on in
+    let on : outcome_after programs w turns ≡ outcomes.Running = sym machine.outcome ∙ running_is (machine_outcome m) running in
+    let returned : refusal_in_turns w turns ≡ None = none_told (refusal_in_turns w turns) (outcome_of (program_at programs w) (own w (entries_of turns))) on in
     let mine : own w (x ∷ entries_of turns) ≡ x ∷ own w (entries_of turns) = own_mine w x (entries_of turns) refl in
-    let stand : StandsFor (program_at programs w) n (own w (x ∷ entries_of turns)) = subst (StandsFor (program_at programs w) n) (sym mine) stands in
+    let stand : StandsFor (program_at programs w) n (own w (x ∷ entries_of turns)) = subst (StandsFor (program_at programs w) n) (sym mine) represents in
     record {
       turn = record { worker = w; act = act; answer = Ok reply };
       worker = refl;
       right = record { running = on; due = due; answer = answer_then t turns w old act of ∙ answer };
       made = record {
-        setup = ap (λ (r : Recorded). r.setup) made ∙ of.setup;
-        entries = ap (λ (r : Recorded). reverse r.entries) made ∙ reverse-append old.entries (x ∷ []) ∙ ap (λ past. x ∷ past) of.entries;
+        setup = ap (λ (r : RunModel). r.setup) made ∙ of.setup;
+        entries = ap (λ (r : RunModel). reverse r.entries) made ∙ reverse-append old.entries (x ∷ []) ∙ ap (λ past. x ∷ past) of.entries;
       };
       machine = record {
-        stands = stand;
+        represents = stand;
         outcome = stand.outcome unset
-            ∙ ap (λ o. ended_by o (outcome_of (program_at programs w) (own w (x ∷ entries_of turns)))) (sym (either (w == w) (refusal_told w turns) ∙ told));
+            ∙ ap (λ o. ended_by o (outcome_of (program_at programs w) (own w (x ∷ entries_of turns)))) (sym (either (w == w) (refusal_in_turns w turns) ∙ returned));
       };
     }
 
@@ -81,34 +74,36 @@ told_now : (w : ℕ) (r : Refusal) (o : Option Refusal) → cond (w == w) (Some 
 told_now w r o = ap (λ b. cond b (Some r) o) (eq-eqb w w refl)
 
 -- a turn that was refused
-pub turn_refused : (t : Tables) (programs : List (List Command)) (turns : List Turn) (w : ℕ) (old new : Recorded) (m n : Machine) (act : Act) (r : Refusal)
-    → IsRunOf t turns old → IsMachineOf programs turns w m → is_running (kept_outcome m) ≡ true
+pub turn_refused : (t : Tables) (programs : List (List Command)) (turns : List Turn) (w : ℕ) (old new : RunModel) (m n : Machine) (act : Act) (r : Refusal)
+    → IsMadeByTurns t turns old → IsMachineOf programs turns w m
+    → is_running (machine_outcome m) ≡ true
     → next_act (program_at programs w) (own w (entries_of turns)) ≡ Some act
     → answer_of old.setup (reverse old.entries) w act ≡ Err r → new ≡ old
-    → StandsFor (program_at programs w) n (own w (entries_of turns)) → kept_outcome n ≡ refused (kept_outcome m) (outcomes.Refused r)
+    → StandsFor (program_at programs w) n (own w (entries_of turns)) → machine_outcome n ≡ outcome_after_refusal (machine_outcome m) (outcomes.Refused r)
     → HasTurn t programs turns w new n
-turn_refused t programs turns w old new m n act r of machine running due answer same stands ends =
-    let is : kept_outcome m ≡ outcomes.Running = running_is (kept_outcome m) running in
+turn_refused t programs turns w old new m n act r of machine running due answer same represents ends =
+    let is : machine_outcome m ≡ outcomes.Running = running_is (machine_outcome m) running in
     record {
       turn = record { worker = w; act = act; answer = Err r };
       worker = refl;
       right = record { running = sym machine.outcome ∙ is; due = due; answer = answer_then t turns w old act of ∙ answer };
-      made = record { setup = ap (λ (r : Recorded). r.setup) same ∙ of.setup; entries = ap (λ (r : Recorded). reverse r.entries) same ∙ of.entries };
+      made = record { setup = ap (λ (r : RunModel). r.setup) same ∙ of.setup; entries = ap (λ (r : RunModel). reverse r.entries) same ∙ of.entries };
       machine = record {
-        stands = stands;
-        outcome = ends ∙ ap (λ o. refused o (outcomes.Refused r)) is
-            ∙ ap (λ o. ended_by o (outcome_of (program_at programs w) (own w (entries_of turns)))) (sym (told_now w r (refusal_told w turns)));
+        represents = represents;
+        outcome = ends ∙ ap (λ o. outcome_after_refusal o (outcomes.Refused r)) is
+            ∙ ap (λ o. ended_by o (outcome_of (program_at programs w) (own w (entries_of turns)))) (sym (told_now w r (refusal_in_turns w turns)));
       };
     }
 
 -- a turn for whose step there was no memory
-pub turn_short : (t : Tables) (programs : List (List Command)) (turns : List Turn) (w : ℕ) (old : Recorded) (m : Machine) (act : Act)
-    → IsRunOf t turns old → IsMachineOf programs turns w m → is_running (kept_outcome m) ≡ true
+pub turn_short : (t : Tables) (programs : List (List Command)) (turns : List Turn) (w : ℕ) (old : RunModel) (m : Machine) (act : Act)
+    → IsMadeByTurns t turns old → IsMachineOf programs turns w m
+    → is_running (machine_outcome m) ≡ true
     → next_act (program_at programs w) (own w (entries_of turns)) ≡ Some act
     → IsOk (answer_of old.setup (reverse old.entries) w act) → MayTakeTurn t programs turns w
 turn_short t programs turns w old m act of machine running due ok = record {
   act = act;
-  running = sym machine.outcome ∙ running_is (kept_outcome m) running;
+  running = sym machine.outcome ∙ running_is (machine_outcome m) running;
   due = due;
   answered = subst (λ (r : Result Reply Refusal). IsOk r) (sym (answer_then t turns w old act of)) ok;
 }

@@ -1,4 +1,4 @@
--- Who is woken by a hold.
+-- Which workers a critical section wakes.
 use Rattle.std.proofs.Common.{◌≡◌, ◌≢◌, ℕ, zero, suc, ◌+◌, ◌<◌, Bool, true, false, ◌==◌, ◌&&◌, ◌||◌, not, nat_le, List, [], ◌∷◌, ◌++◌, length, map, reverse, Option, Some, None, unwrap_or, slice_get, slice_set, cond, refl, ap, sym, ◌∙◌, arith}
 use Rattle.std.proofs.lemmas.Bool.{eqb-true, eqb-false}
 use Rattle.std.proofs.lemmas.Bool.Decides.{nat_tests}
@@ -12,18 +12,18 @@ use Rattle.ec_core.specs.Counts.{total}
 use Rattle.ec_core.proofs.shared.Places.{get_set}
 use Rattle.ec_runner.specs.declared.holding.Next.{Next}
 use Rattle.ec_runner.specs.declared.holding.Next.TheVariants as next
-use Rattle.ec_runner.specs.declared.seat.Seat.{Seat}
-use Rattle.ec_runner.specs.declared.seat.Seat.TheVariants.{Gone, Running, Waiting}
+use Rattle.ec_runner.specs.declared.worker_state.WorkerState.{WorkerState}
+use Rattle.ec_runner.specs.declared.worker_state.WorkerState.TheVariants.{Gone, Running, Waiting}
 use Rattle.ec_runner.specs.declared.wait.Wait.{Wait}
-use Rattle.ec_runner.specs.Seated.{is_waiting, kept, seat_of, woken}
-use Rattle.ec_runner.specs.Lined.{waits_on}
-use Rattle.ec_runner.specs.Boarded.{Boarded, after_entry, wait_of}
-use Rattle.ec_runner.specs.Holds.{is_asleep, is_awaited, is_woken, waiting_for, parked, after_hold, is_sleep, IsMade, IsNext}
+use Rattle.ec_runner.specs.WorkerStates.{is_waiting, state_at_total, worker_state, states_after_act}
+use Rattle.ec_runner.specs.WaitQueues.{waits_on}
+use Rattle.ec_runner.specs.BoardModel.{BoardModel, after_entry, wait_of}
+use Rattle.ec_runner.specs.Holds.{is_asleep, is_awaited, is_woken, waiting_for, park, after_hold, is_sleep, IsMade, IsNext}
 
 below : (n k : ℕ) → (n == k) ≡ false → k < n + 1 → k < n
 below n k e h = grind (arith, nat_tests)
 
--- a table that is filled from the first place on
+-- a table that is filled from its first element on
 pub set_below : {X : Type 0} (xs : List X) (f : ℕ → X) (n : ℕ) (y : X) → n < length xs → ((k : ℕ) → k < n → slice_get xs k ≡ Some (f k)) → y ≡ f n
     → (k : ℕ) → k < n + 1 → slice_get (slice_set xs n y) k ≡ Some (f k)
 set_below xs f n y within h is k lt =
@@ -33,7 +33,7 @@ set_below xs f n y within h is k lt =
       | false ↦ λ e. h k (below n k e lt)
     ] refl)
 
-get_other : (xs : List Seat) (i j : ℕ) (y : Seat) → i ≢ j → slice_get (slice_set xs i y) j ≡ slice_get xs j
+get_other : (xs : List WorkerState) (i j : ℕ) (y : WorkerState) → i ≢ j → slice_get (slice_set xs i y) j ≡ slice_get xs j
 get_other [] i j y h = refl
 get_other (x ∷ xs) zero zero y h = absurd (h refl)
 get_other (x ∷ xs) zero (suc j) y h = refl
@@ -44,153 +44,156 @@ or_parts : (b c : Bool) → (b || c) ≡ false → (b ≡ false) × (c ≡ false
 or_parts true c h = cc
 or_parts false c h = (refl, h)
 
-kept_one : (e sum : ℕ) (s : Seat) → waits_on e s ≡ false → kept e sum s ≡ s
+kept_one : (e sum : ℕ) (s : WorkerState) → waits_on e s ≡ false → state_at_total e sum s ≡ s
 kept_one e sum Gone h = refl
 kept_one e sum Running h = refl
 kept_one e sum (Waiting f v) h = ap (λ (b : Bool). cond (b && nat_le v sum) Running (Waiting f v)) h
 
-kept_all : (e sum : ℕ) (seats : List Seat) → list_any (waits_on e) seats ≡ false → map (kept e sum) seats ≡ seats
+kept_all : (e sum : ℕ) (states : List WorkerState) → list_any (waits_on e) states ≡ false → map (state_at_total e sum) states ≡ states
 kept_all e sum [] h = refl
-kept_all e sum (s ∷ seats) h =
-    (let p = or_parts (waits_on e s) (list_any (waits_on e) seats) h in
-    ap (λ (t : Seat). t ∷ map (kept e sum) seats) (kept_one e sum s p.0) ∙ ap (λ (ts : List Seat). s ∷ ts) (kept_all e sum seats p.1))
+kept_all e sum (s ∷ states) h =
+    (let p = or_parts (waits_on e s) (list_any (waits_on e) states) h in
+    ap (λ (t : WorkerState). t ∷ map (state_at_total e sum) states) (kept_one e sum s p.0) ∙ ap (λ (ts : List WorkerState). s ∷ ts) (kept_all e sum states p.1))
 
-none_waits_still : (e : ℕ) (seats : List Seat) (w : ℕ) → list_any (waits_on e) seats ≡ false → list_any (waits_on e) (slice_set seats w Running) ≡ false
+none_waits_still : (e : ℕ) (states : List WorkerState) (w : ℕ) → list_any (waits_on e) states ≡ false → list_any (waits_on e) (slice_set states w Running) ≡ false
 none_waits_still e [] w h = refl
-none_waits_still e (s ∷ seats) zero h = (or_parts (waits_on e s) (list_any (waits_on e) seats) h).1
-none_waits_still e (s ∷ seats) (suc w) h =
-    (let p = or_parts (waits_on e s) (list_any (waits_on e) seats) h in
-    ap (λ (b : Bool). b || list_any (waits_on e) (slice_set seats w Running)) p.0 ∙ none_waits_still e seats w p.1)
+none_waits_still e (s ∷ states) zero h =
+    (or_parts (waits_on e s) (list_any (waits_on e) states) h).1
+none_waits_still e (s ∷ states) (suc w) h =
+    (let p = or_parts (waits_on e s) (list_any (waits_on e) states) h in
+    ap (λ (b : Bool). b || list_any (waits_on e) (slice_set states w Running)) p.0 ∙ none_waits_still e states w p.1)
 
-none_let_go : (act : Act) (past : List Entry) (seats : List Seat) (w : ℕ) → is_awaited act seats ≡ false → woken act past (slice_set seats w Running) ≡ slice_set seats w Running
-none_let_go (acts.Advance e) past seats w h = kept_all e (total e past) (slice_set seats w Running) (none_waits_still e seats w h)
-none_let_go (acts.Read e) past seats w h = refl
-none_let_go (acts.Await e v) past seats w h = refl
-none_let_go acts.Go past seats w h = refl
-none_let_go (acts.Ticket q) past seats w h = refl
-none_let_go (acts.Put x v) past seats w h = refl
-none_let_go (acts.Get x) past seats w h = refl
-none_let_go (acts.Hand e b) past seats w h = refl
+none_let_go : (act : Act) (past : List Entry) (states : List WorkerState) (w : ℕ) → is_awaited act states ≡ false → states_after_act act past (slice_set states w Running) ≡ slice_set states w Running
+none_let_go (acts.Advance e) past states w h = kept_all e (total e past) (slice_set states w Running) (none_waits_still e states w h)
+none_let_go (acts.Read e) past states w h = refl
+none_let_go (acts.Await e v) past states w h = refl
+none_let_go acts.Go past states w h = refl
+none_let_go (acts.Ticket q) past states w h = refl
+none_let_go (acts.Put x v) past states w h = refl
+none_let_go (acts.Get x) past states w h = refl
+none_let_go (acts.Hand e b) past states w h = refl
 
-wait_stays : (d : Boarded) (w v : ℕ) (o : Option Wait) → w ≢ v → slice_get (waiting_for d w o).seats v ≡ slice_get d.seats v
+wait_stays : (d : BoardModel) (w v : ℕ) (o : Option Wait) → w ≢ v → slice_get (waiting_for d w o).states v ≡ slice_get d.states v
 wait_stays d w v None not = refl
-wait_stays d w v (Some a) not = get_other d.seats w v (Waiting a.event a.threshold) not
+wait_stays d w v (Some a) not = get_other d.states w v (Waiting a.event a.threshold) not
 
-hold_stays : (b : Boarded) (w v : ℕ) (act : Act) (may_park : Bool) (reply : Reply) → is_awaited act b.seats ≡ false → w ≢ v
-    → slice_get (after_hold b w act may_park reply).seats v ≡ slice_get b.seats v
+hold_stays : (b : BoardModel) (w v : ℕ) (act : Act) (may_park : Bool) (reply : Reply) → is_awaited act b.states ≡ false → w ≢ v
+    → slice_get (after_hold b w act may_park reply).states v ≡ slice_get b.states v
 hold_stays b w v act may_park reply quiet not =
     let x : Entry = record { worker = w; act = act; reply = reply } in
-    let d : Boarded = after_entry b x in
-    let step : slice_get d.seats v ≡ slice_get b.seats v =
-    ap (λ (xs : List Seat). slice_get xs v) (none_let_go act (reverse (b.run.entries ++ x ∷ [])) b.seats w quiet) ∙ get_other b.seats w v Running not in
-    elim (may_park && is_pending reply) as (λ (t : Bool). slice_get (cond t (parked d w) d).seats v ≡ slice_get b.seats v) [
+    let d : BoardModel = after_entry b x in
+    let step : slice_get d.states v ≡ slice_get b.states v =
+    ap (λ (xs : List WorkerState). slice_get xs v) (none_let_go act (reverse (b.run.entries ++ x ∷ [])) b.states w quiet) ∙ get_other b.states w v Running not in
+    elim (may_park && is_pending reply) as (λ (t : Bool). slice_get (cond t (park d w) d).states v ≡ slice_get b.states v) [
       | true ↦ wait_stays d w v (wait_of d w) not ∙ step
       | false ↦ step
     ]
 
-made_stays : (b d : Boarded) (w v : ℕ) (act : Act) (may_park : Bool) (reply : Reply) → is_awaited act b.seats ≡ false → w ≢ v → IsMade reply b w act may_park d
-    → slice_get d.seats v ≡ slice_get b.seats v
+made_stays : (b d : BoardModel) (w v : ℕ) (act : Act) (may_park : Bool) (reply : Reply) → is_awaited act b.states ≡ false → w ≢ v → IsMade reply b w act may_park d
+    → slice_get d.states v ≡ slice_get b.states v
 made_stays b d w v act may_park reply quiet not made =
-    ap (λ (c : Boarded). slice_get c.seats v) made.board ∙ hold_stays b w v act may_park reply quiet not
+    ap (λ (c : BoardModel). slice_get c.states v) made.board ∙ hold_stays b w v act may_park reply quiet not
 
--- a hold without an advance of what somebody waits for changes nobody else's seat
-pub others_stay : (n : Next) (b d : Boarded) (w : ℕ) (act : Act) (may_park : Bool) → is_awaited act b.seats ≡ false → IsNext n b w act may_park d
-    → (v : ℕ) → w ≢ v → slice_get d.seats v ≡ slice_get b.seats v
+-- a critical section without an advance of what somebody waits for changes no other worker's state
+pub others_stay : (n : Next) (b d : BoardModel) (w : ℕ) (act : Act) (may_park : Bool) → is_awaited act b.states ≡ false → IsNext n b w act may_park d
+    → (v : ℕ) → w ≢ v → slice_get d.states v ≡ slice_get b.states v
 others_stay (next.GoOn reply) b d w act may_park quiet h v not = made_stays b d w v act may_park reply quiet not h.0
 others_stay (next.Sleep reply) b d w act may_park quiet h v not = made_stays b d w v act may_park reply quiet not h.0
-others_stay (next.Leave outcome moment) b d w act may_park quiet h v not = ap (λ (c : Boarded). slice_get c.seats v) h.0
+others_stay (next.Leave outcome moment) b d w act may_park quiet h v not = ap (λ (c : BoardModel). slice_get c.states v) h.0
 
--- who is woken if nobody else's seat is changed, by the flags before and after
-woken_by : (b d : Boarded) (w : ℕ) (s t : Bool) → b.stuck ≡ s → d.stuck ≡ t → ((v : ℕ) → w ≢ v → slice_get d.seats v ≡ slice_get b.seats v) → (v : ℕ)
-    → is_woken b w d v ≡ (not (v == w) && ((is_waiting (seat_of d.seats v) && not s) && not (is_waiting (seat_of d.seats v) && not t)))
+-- which workers are woken if no other worker's state is changed, by the flags before and after
+woken_by : (b d : BoardModel) (w : ℕ) (s t : Bool) → b.deadlocked ≡ s → d.deadlocked ≡ t → ((v : ℕ) → w ≢ v → slice_get d.states v ≡ slice_get b.states v) → (v : ℕ)
+    → is_woken b w d v ≡ (not (v == w) && ((is_waiting (worker_state d.states v) && not s) && not (is_waiting (worker_state d.states v) && not t)))
 woken_by b d w s t was is same v =
-    let sits : Bool = is_waiting (seat_of d.seats v) in
+    let sits : Bool = is_waiting (worker_state d.states v) in
     elim (v == w) as (λ (e : Bool). (v == w) ≡ e → (not e && (is_asleep b v && not (is_asleep d v))) ≡ (not e && ((sits && not s) && not (sits && not t)))) [
       | true ↦ λ e. refl
       | false ↦ λ e.
-          (let seat : is_waiting (seat_of b.seats v) ≡ sits =
-          ap (λ (o : Option Seat). is_waiting (unwrap_or o Gone)) (sym (same v (λ k. eqb-false v w e (sym k)))) in
-          ap (λ (x : Bool). (x && not b.stuck) && not (sits && not d.stuck)) seat
-          ∙ ap (λ (x : Bool). (sits && not x) && not (sits && not d.stuck)) was
+          (let state : is_waiting (worker_state b.states v) ≡ sits =
+          ap (λ (o : Option WorkerState). is_waiting (unwrap_or o Gone)) (sym (same v (λ k. eqb-false v w e (sym k)))) in
+          ap (λ (x : Bool). (x && not b.deadlocked) && not (sits && not d.deadlocked)) state
+          ∙ ap (λ (x : Bool). (sits && not x) && not (sits && not d.deadlocked)) was
           ∙ ap (λ (x : Bool). (sits && not s) && not (sits && not x)) is)
     ] refl
 
-was_stuck : (x y z : Bool) → (x && ((y && not true) && z)) ≡ false
-was_stuck false y z = refl
-was_stuck true false z = refl
-was_stuck true true z = refl
+was_deadlocked : (x y z : Bool) → (x && ((y && not true) && z)) ≡ false
+was_deadlocked false y z = refl
+was_deadlocked true false z = refl
+was_deadlocked true true z = refl
 
--- nobody is woken on a board that was stuck
-pub none_slept : (b d : Boarded) (w : ℕ) → b.stuck ≡ true → (v : ℕ) → is_woken b w d v ≡ false
+-- nobody is woken on a board that was deadlocked
+pub none_slept : (b d : BoardModel) (w : ℕ) → b.deadlocked ≡ true → (v : ℕ)
+    → is_woken b w d v ≡ false
 none_slept b d w was v =
-    ap (λ (s : Bool). not (v == w) && ((is_waiting (seat_of b.seats v) && not s) && not (is_asleep d v))) was
-    ∙ was_stuck (not (v == w)) (is_waiting (seat_of b.seats v)) (not (is_asleep d v))
+    ap (λ (s : Bool). not (v == w) && ((is_waiting (worker_state b.states v) && not s) && not (is_asleep d v))) was
+    ∙ was_deadlocked (not (v == w)) (is_waiting (worker_state b.states v)) (not (is_asleep d v))
 
 sleeps_on : (x y : Bool) → (x && ((y && not false) && not (y && not false))) ≡ false
 sleeps_on false y = refl
 sleeps_on true false = refl
 sleeps_on true true = refl
 
--- nor if the board is not stuck yet
-pub none_released : (b d : Boarded) (w : ℕ) → b.stuck ≡ false → d.stuck ≡ false → ((v : ℕ) → w ≢ v → slice_get d.seats v ≡ slice_get b.seats v)
+-- nor on a board that is not deadlocked yet
+pub none_released : (b d : BoardModel) (w : ℕ) → b.deadlocked ≡ false → d.deadlocked ≡ false → ((v : ℕ) → w ≢ v → slice_get d.states v ≡ slice_get b.states v)
     → (v : ℕ) → is_woken b w d v ≡ false
 none_released b d w was is same v =
-    woken_by b d w false false was is same v ∙ sleeps_on (not (v == w)) (is_waiting (seat_of d.seats v))
+    woken_by b d w false false was is same v ∙ sleeps_on (not (v == w)) (is_waiting (worker_state d.states v))
 
 sleeps_no_more : (x y : Bool) → (x && ((y && not false) && not (y && not true))) ≡ (x && y)
 sleeps_no_more false y = refl
 sleeps_no_more true false = refl
 sleeps_no_more true true = refl
 
--- if it has come to be stuck, all who wait are
-pub all_released : (b d : Boarded) (w : ℕ) → b.stuck ≡ false → d.stuck ≡ true → ((v : ℕ) → w ≢ v → slice_get d.seats v ≡ slice_get b.seats v)
-    → (v : ℕ) → is_woken b w d v ≡ (not (v == w) && is_waiting (seat_of d.seats v))
+-- if it has become deadlocked, all others that wait are
+pub all_released : (b d : BoardModel) (w : ℕ) → b.deadlocked ≡ false → d.deadlocked ≡ true → ((v : ℕ) → w ≢ v → slice_get d.states v ≡ slice_get b.states v)
+    → (v : ℕ) → is_woken b w d v ≡ (not (v == w) && is_waiting (worker_state d.states v))
 all_released b d w was is same v =
-    woken_by b d w false true was is same v ∙ sleeps_no_more (not (v == w)) (is_waiting (seat_of d.seats v))
+    woken_by b d w false true was is same v ∙ sleeps_no_more (not (v == w)) (is_waiting (worker_state d.states v))
 
-runs_on : (e sum : ℕ) (seats : List Seat) (w : ℕ) → is_waiting (seat_of (map (kept e sum) (slice_set seats w Running)) w) ≡ false
+runs_on : (e sum : ℕ) (states : List WorkerState) (w : ℕ) → is_waiting (worker_state (map (state_at_total e sum) (slice_set states w Running)) w) ≡ false
 runs_on e sum [] w = refl
-runs_on e sum (s ∷ seats) zero = refl
-runs_on e sum (s ∷ seats) (suc w) = runs_on e sum seats w
+runs_on e sum (s ∷ states) zero = refl
+runs_on e sum (s ∷ states) (suc w) = runs_on e sum states w
 
 not_asleep : (x y : Bool) → x ≡ false → (x && y) ≡ false
 not_asleep true y h = cc
 not_asleep false y h = refl
 
-stays_up : (seats : List Seat) (w : ℕ) → is_waiting (seat_of (slice_set seats w Running) w) ≡ false
+stays_up : (states : List WorkerState) (w : ℕ)
+    → is_waiting (worker_state (slice_set states w Running) w) ≡ false
 stays_up [] w = refl
-stays_up (s ∷ seats) zero = refl
-stays_up (s ∷ seats) (suc w) = stays_up seats w
+stays_up (s ∷ states) zero = refl
+stays_up (s ∷ states) (suc w) = stays_up states w
 
--- who made a step runs
-runs_after : (act : Act) (past : List Entry) (seats : List Seat) (w : ℕ) → is_waiting (seat_of (woken act past (slice_set seats w Running)) w) ≡ false
-runs_after (acts.Advance e) past seats w = runs_on e (total e past) seats w
-runs_after (acts.Read e) past seats w = stays_up seats w
-runs_after (acts.Await e v) past seats w = stays_up seats w
-runs_after acts.Go past seats w = stays_up seats w
-runs_after (acts.Ticket q) past seats w = stays_up seats w
-runs_after (acts.Put x v) past seats w = stays_up seats w
-runs_after (acts.Get x) past seats w = stays_up seats w
-runs_after (acts.Hand e c) past seats w = stays_up seats w
+-- a worker that made a step doesn't wait
+runs_after : (act : Act) (past : List Entry) (states : List WorkerState) (w : ℕ) → is_waiting (worker_state (states_after_act act past (slice_set states w Running)) w) ≡ false
+runs_after (acts.Advance e) past states w = runs_on e (total e past) states w
+runs_after (acts.Read e) past states w = stays_up states w
+runs_after (acts.Await e v) past states w = stays_up states w
+runs_after acts.Go past states w = stays_up states w
+runs_after (acts.Ticket q) past states w = stays_up states w
+runs_after (acts.Put x v) past states w = stays_up states w
+runs_after (acts.Get x) past states w = stays_up states w
+runs_after (acts.Hand e c) past states w = stays_up states w
 
-unparked : (b d : Boarded) (w : ℕ) (act : Act) (reply : Reply) → d ≡ after_entry b (record { worker = w; act = act; reply = reply }) → is_asleep d w ≡ false
+unparked : (b d : BoardModel) (w : ℕ) (act : Act) (reply : Reply) → d ≡ after_entry b (record { worker = w; act = act; reply = reply }) → is_asleep d w ≡ false
 unparked b d w act reply after =
     let x : Entry = record { worker = w; act = act; reply = reply } in
-    not_asleep (is_waiting (seat_of d.seats w)) (not d.stuck)
-    (ap (λ (c : Boarded). is_waiting (seat_of c.seats w)) after ∙ runs_after act (reverse (b.run.entries ++ x ∷ [])) b.seats w)
+    not_asleep (is_waiting (worker_state d.states w)) (not d.deadlocked)
+    (ap (λ (c : BoardModel). is_waiting (worker_state c.states w)) after ∙ runs_after act (reverse (b.run.entries ++ x ∷ [])) b.states w)
 
-awake : (b d : Boarded) (w e : ℕ) (may_park : Bool) (reply : Reply) → IsMade reply b w (acts.Advance e) may_park d → is_asleep d w ≡ false
+awake : (b d : BoardModel) (w e : ℕ) (may_park : Bool) (reply : Reply) → IsMade reply b w (acts.Advance e) may_park d → is_asleep d w ≡ false
 awake b d w e may_park reply made =
     let x : Entry = record { worker = w; act = acts.Advance e; reply = reply } in
     let after : d ≡ after_entry b x =
-    made.board ∙ (elim may_park as (λ (t : Bool). cond (t && is_pending reply) (parked (after_entry b x) w) (after_entry b x) ≡ after_entry b x) [
-      | true ↦ ap (λ (r : Reply). cond (is_pending r) (parked (after_entry b x) w) (after_entry b x)) made.kind
+    made.board ∙ (elim may_park as (λ (t : Bool). cond (t && is_pending reply) (park (after_entry b x) w) (after_entry b x) ≡ after_entry b x) [
+      | true ↦ ap (λ (r : Reply). cond (is_pending r) (park (after_entry b x) w) (after_entry b x)) made.kind
       | false ↦ refl
     ]) in
     unparked b d w (acts.Advance e) reply after
 
--- who made an advance doesn't go to sleep
-pub advancer_awake : (n : Next) (b d : Boarded) (w : ℕ) (act : Act) (may_park : Bool) → is_awaited act b.seats ≡ true → IsNext n b w act may_park d → is_sleep n ≡ false
+-- a worker that made an advance doesn't go to sleep
+pub advancer_awake : (n : Next) (b d : BoardModel) (w : ℕ) (act : Act) (may_park : Bool) → is_awaited act b.states ≡ true → IsNext n b w act may_park d → is_sleep n ≡ false
 advancer_awake (next.GoOn reply) b d w act may_park a h = refl
 advancer_awake (next.Leave outcome moment) b d w act may_park a h = refl
 advancer_awake (next.Sleep reply) b d w (acts.Advance e) may_park a h = (let no = awake b d w e may_park reply h.0 in let yes = h.1 in cc)
@@ -207,14 +210,14 @@ free_below false s h = cc
 free_below true false h = refl
 free_below true true h = cc
 
--- where somebody sleeps the board isn't stuck
-pub asleep_free : (n : Next) (b d : Boarded) (w : ℕ) (act : Act) (may_park : Bool) → IsNext n b w act may_park d → is_sleep n ≡ true → d.stuck ≡ false
+-- if a worker goes to sleep the board isn't deadlocked
+pub asleep_free : (n : Next) (b d : BoardModel) (w : ℕ) (act : Act) (may_park : Bool) → IsNext n b w act may_park d → is_sleep n ≡ true → d.deadlocked ≡ false
 asleep_free (next.GoOn reply) b d w act may_park h s = cc
 asleep_free (next.Leave outcome moment) b d w act may_park h s = cc
-asleep_free (next.Sleep reply) b d w act may_park h s = free_below (is_waiting (seat_of d.seats w)) d.stuck h.1
+asleep_free (next.Sleep reply) b d w act may_park h s = free_below (is_waiting (worker_state d.states w)) d.deadlocked h.1
 
--- who may not wait doesn't go to sleep
-pub may_sleep : (n : Next) (b d : Boarded) (w : ℕ) (act : Act) (may_park : Bool) → IsNext n b w act may_park d → is_sleep n ≡ true → may_park ≡ true
+-- a worker that may not wait doesn't go to sleep
+pub may_sleep : (n : Next) (b d : BoardModel) (w : ℕ) (act : Act) (may_park : Bool) → IsNext n b w act may_park d → is_sleep n ≡ true → may_park ≡ true
 may_sleep (next.GoOn reply) b d w act may_park h s = cc
 may_sleep (next.Leave outcome moment) b d w act may_park h s = cc
 may_sleep (next.Sleep reply) b d w act true h s = refl

@@ -1,4 +1,4 @@
--- One step of the walk over a run and the logs of its workers.
+-- One step of the pass over a run and the logs of its workers.
 use Rattle.std.proofs.Common.{◌≡◌, ◌≢◌, ℕ, zero, suc, ◌+◌, ◌<◌, true, false, ◌==◌, nat_le, inl, inr, List, [], ◌∷◌, ◌++◌, length, reverse, take, Option, Some, None, MatchOption, cond, slice_get, slice_index, slice_set, get_or, length-take-le, refl, ap, sym, subst, ◌∙◌, arith}
 use Rattle.std.proofs.lemmas.Grind.{common_steps}
 use Rattle.std.proofs.lemmas.Bool.{cases_eq, eqb-true, eq-eqb}
@@ -13,9 +13,9 @@ use Rattle.ec_core.specs.Counts.{past_at}
 use Rattle.ec_core.specs.Laws.{AcceptedMeansAnswered}
 use Rattle.ec_core.proofs.shared.Answering.{allowed}
 use Rattle.ec_machine.specs.Steps.{own}
-use Rattle.ec_machine.proofs.shared.OwnSteps.{own_append}
-use Rattle.ec_runner.specs.declared.told.Told.{Told}
-use Rattle.ec_runner.specs.Walks.{AreWalked, AreLogsOf, IsUnfinished, IsUnlike}
+use Rattle.ec_machine.proofs.shared.OwnSteps.{slice_here as get_at, own_append}
+use Rattle.ec_runner.specs.declared.summary.Summary.{Summary}
+use Rattle.ec_runner.specs.LogComparison.{AreComparedSoFar, AreLogsOf, IsUnfinished, IsLogMismatch}
 
 pub append_none : (xs : List Entry) → xs ++ [] ≡ xs
 append_none [] = refl
@@ -37,8 +37,9 @@ pub take_next : (xs : List Entry) (k : ℕ) (x : Entry) → slice_get xs k ≡ S
 take_next xs k x is =
     take_more xs k x (slice_get_within xs k x is) ∙ ap (λ y. take k xs ++ y ∷ []) (get_or_from_slice_get xs k x x is)
 
-pub index_is : (tolds : List Told) (w : ℕ) (told : Told) → told ≡ get_or tolds w told → w < length tolds → slice_get tolds w ≡ Some told
-index_is tolds w told is within = slice_get-get_or tolds w told within ∙ ap (λ t. Some t) (sym is)
+pub index_is : (summaries : List Summary) (w : ℕ) (summary : Summary) → summary ≡ get_or summaries w summary → w < length summaries → slice_get summaries w ≡ Some summary
+index_is summaries w summary is within = slice_get-get_or summaries w summary within
+    ∙ ap (λ t. Some t) (sym is)
 
 -- if the entry at a place is another worker's, a worker has no more entries after it
 pub none_there : (w : ℕ) (h : List Entry) (k : ℕ) (x : Entry) → slice_get h k ≡ Some x → (x.worker == w) ≡ false → own w (take (k + 1) h) ≡ own w (take k h)
@@ -60,33 +61,34 @@ not_same v w n =
       | false ↦ λ t. refl
     ] refl
 
-pub walks : (tolds : List Told) (cursors : List ℕ) (done : List Entry) (x : Entry) (told : Told) → AreWalked tolds cursors done → x.worker < 16
-    → slice_get tolds x.worker ≡ Some told → slice_get told.log.items (slice_index cursors x.worker) ≡ Some x
-    → AreWalked tolds (slice_set cursors x.worker (slice_index cursors x.worker + 1)) (done ++ x ∷ [])
-walks tolds cursors done x told h small is next =
+pub walks : (summaries : List Summary) (cursors : List ℕ) (done : List Entry) (x : Entry) (summary : Summary) → AreComparedSoFar summaries cursors done → x.worker < 16
+    → slice_get summaries x.worker ≡ Some summary → slice_get summary.log.items (slice_index cursors x.worker) ≡ Some x
+    → AreComparedSoFar summaries (slice_set cursors x.worker (slice_index cursors x.worker + 1)) (done ++ x ∷ [])
+walks summaries cursors done x summary h small is next =
     let at = slice_index cursors x.worker in
     let in_table : x.worker < length cursors = omega (arith, h.room) in
     record {
       room = set_long cursors x.worker (at + 1) ∙ h.room;
       walked = λ w one one_is. elim (cases_eq w x.worker) [
         | inl same ↦
-            let same_told : told ≡ one = cc in
-            let before : own w done ≡ take at told.log.items = h.walked w one one_is ∙ ap (λ v. take (slice_index cursors v) one.log.items) same ∙ ap (λ (t : Told). take at t.log.items) (sym same_told) in
-            own_more w done x (eq-eqb x.worker w (sym same)) ∙ ap (λ xs. xs ++ x ∷ []) before ∙ sym (take_next told.log.items at x next)
-            ∙ ap (λ n. take n told.log.items) (sym (set_here cursors x.worker (at + 1) in_table))
-            ∙ ap (λ v. take (slice_index (slice_set cursors x.worker (at + 1)) v) told.log.items) (sym same)
-            ∙ ap (λ (t : Told). take (slice_index (slice_set cursors x.worker (at + 1)) w) t.log.items) same_told
+            let same_told : summary ≡ one = cc in
+            let before : own w done ≡ take at summary.log.items = h.walked w one one_is ∙ ap (λ v. take (slice_index cursors v) one.log.items) same ∙ ap (λ (t : Summary). take at t.log.items) (sym same_told) in
+            own_more w done x (eq-eqb x.worker w (sym same)) ∙ ap (λ xs. xs ++ x ∷ []) before ∙ sym (take_next summary.log.items at x next)
+            ∙ ap (λ n. take n summary.log.items) (sym (set_here cursors x.worker (at + 1) in_table))
+            ∙ ap (λ v. take (slice_index (slice_set cursors x.worker (at + 1)) v) summary.log.items) (sym same)
+            ∙ ap (λ (t : Summary). take (slice_index (slice_set cursors x.worker (at + 1)) w) t.log.items) same_told
         | inr not ↦
             own_same w done x (not_same x.worker w not) ∙ h.walked w one one_is
             ∙ ap (λ n. take n one.log.items) (sym (set_there cursors x.worker w (at + 1) not))
       ];
       within = λ w one one_is. elim (cases_eq w x.worker) [
         | inl same ↦
-            let same_told : told ≡ one = cc in
+            let same_told : summary ≡ one = cc in
             let here : slice_index (slice_set cursors x.worker (at + 1)) w ≡ at + 1 =
             ap (slice_index (slice_set cursors x.worker (at + 1))) same ∙ set_here cursors x.worker (at + 1) in_table in
-            let in_log : at < length told.log.items = slice_get_within told.log.items at x next in
-            let in_one : at < length one.log.items = subst (λ (t : Told). at < length t.log.items) same_told in_log in
+            let in_log : at < length summary.log.items =
+            slice_get_within summary.log.items at x next in
+            let in_one : at < length one.log.items = subst (λ (t : Summary). at < length t.log.items) same_told in_log in
             omega (arith, here, in_one)
         | inr not ↦
             let there = set_there cursors x.worker w (at + 1) not in
@@ -94,21 +96,12 @@ walks tolds cursors done x told h small is next =
       ];
     }
 
--- if each log is gone through to its end, the entries gone through are those of the logs
-pub all_walked : (tolds : List Told) (cursors : List ℕ) (done : List Entry) → AreWalked tolds cursors done
-    → ((w : ℕ) (told : Told) → slice_get tolds w ≡ Some told → slice_index cursors w ≡ length told.log.items)
-    → AreLogsOf tolds done
-all_walked tolds cursors done h ends w told is =
-    h.walked w told is ∙ ap (λ n. take n told.log.items) (ends w told is) ∙ take-length told.log.items
-
-get_at : (ys zs : List Entry) (x : Entry) → slice_get (ys ++ x ∷ zs) (length ys) ≡ Some x
-get_at [] zs x = refl
-get_at (y ∷ ys) zs x = get_at ys zs x
-
--- the entry that a walk comes to next
-pub entry_there : (h done rest others : List Entry) (x : Entry) → done ++ rest ≡ h → rest ≡ x ∷ others → slice_get h (length done) ≡ Some x
-entry_there h done rest others x is first =
-    ap (λ (xs : List Entry). slice_get xs (length done)) (sym is ∙ ap (λ r. done ++ r) first) ∙ get_at done others x
+-- if each cursor is at the end of its log, the logs are those of the entries passed
+pub all_walked : (summaries : List Summary) (cursors : List ℕ) (done : List Entry) → AreComparedSoFar summaries cursors done
+    → ((w : ℕ) (summary : Summary) → slice_get summaries w ≡ Some summary → slice_index cursors w ≡ length summary.log.items)
+    → AreLogsOf summaries done
+all_walked summaries cursors done h ends w summary is =
+    h.walked w summary is ∙ ap (λ n. take n summary.log.items) (ends w summary is) ∙ take-length summary.log.items
 
 below : (n w : ℕ) → nat_le n w ≡ false → w < n
 below n w h = grind (arith, nat_tests)
@@ -124,37 +117,38 @@ own_there w done rest x mine =
     ∙ get_at (own w done) (own w rest) x
 
 -- a log in which another entry comes next is not its worker's
-pub unlike : (tolds : List Told) (cursors : List ℕ) (done rest : List Entry) (x : Entry) (told : Told) → AreWalked tolds cursors done
-    → slice_get tolds x.worker ≡ Some told → slice_get told.log.items (slice_index cursors x.worker) ≢ Some x → IsUnlike tolds (done ++ x ∷ rest) x.worker
-unlike tolds cursors done rest x told h is not =
+pub unlike : (summaries : List Summary) (cursors : List ℕ) (done rest : List Entry) (x : Entry) (summary : Summary) → AreComparedSoFar summaries cursors done
+    → slice_get summaries x.worker ≡ Some summary → slice_get summary.log.items (slice_index cursors x.worker) ≢ Some x → IsLogMismatch summaries (done ++ x ∷ rest) x.worker
+unlike summaries cursors done rest x summary h is not =
     let w = x.worker in
     let at = slice_index cursors w in
-    let log = told.log.items in
-    let len : length (own w done) ≡ at = ap length (h.walked w told is) ∙ length-take-le at log (h.within w told is) in
+    let log = summary.log.items in
+    let len : length (own w done) ≡ at = ap length (h.walked w summary is) ∙ length-take-le at log (h.within w summary is) in
     record {
-      told = told;
+      summary = summary;
       at = is;
       not = λ same. not
           (ap (slice_get log) (sym len) ∙ ap (λ (xs : List Entry). slice_get xs (length (own w done))) (sym same)
           ∙ own_there w done rest x (eq-eqb x.worker w refl));
     }
 
-pub unlike_there : (tolds : List Told) (h done rest others : List Entry) (x : Entry) → done ++ rest ≡ h → rest ≡ x ∷ others
-    → ((more : List Entry) → IsUnlike tolds (done ++ x ∷ more) x.worker) → IsUnlike tolds h x.worker
-unlike_there tolds h done rest others x is first f = subst (λ (xs : List Entry). IsUnlike tolds xs x.worker) (ap (λ r. done ++ r) (sym first) ∙ is) (f others)
+pub unlike_there : (summaries : List Summary) (h done rest others : List Entry) (x : Entry) → done ++ rest ≡ h → rest ≡ x ∷ others
+    → ((more : List Entry) → IsLogMismatch summaries (done ++ x ∷ more) x.worker)
+    → IsLogMismatch summaries h x.worker
+unlike_there summaries h done rest others x is first f = subst (λ (xs : List Entry). IsLogMismatch summaries xs x.worker) (ap (λ r. done ++ r) (sym first) ∙ is) (f others)
 
 -- nor is one that goes on beyond its cursor
-pub unfinished : (tolds : List Told) (cursors : List ℕ) (done : List Entry) (w : ℕ) → AreWalked tolds cursors done → IsUnfinished tolds cursors w → IsUnlike tolds done w
-unfinished tolds cursors done w h u =
+pub unfinished : (summaries : List Summary) (cursors : List ℕ) (done : List Entry) (w : ℕ) → AreComparedSoFar summaries cursors done → IsUnfinished summaries cursors w → IsLogMismatch summaries done w
+unfinished summaries cursors done w h u =
     let at = slice_index cursors w in
-    let log = u.told.log.items in
+    let log = u.summary.log.items in
     record {
-      told = u.told;
+      summary = u.summary;
       at = u.at;
-      not = λ same. u.not (sym (length-take-le at log (h.within w u.told u.at)) ∙ ap length (sym (h.walked w u.told u.at) ∙ same));
+      not = λ same. u.not (sym (length-take-le at log (h.within w u.summary u.at)) ∙ ap length (sym (h.walked w u.summary u.at) ∙ same));
     }
 
--- a worker's entry stands among its own behind as many as it had made before
+-- a worker's entry is among its own, after as many as it had made before
 pub own_at : (w : ℕ) (h : List Entry) (k : ℕ) (x : Entry) → slice_get h k ≡ Some x → (x.worker == w) ≡ true → slice_get (own w h) (length (own w (take k h))) ≡ Some x
 own_at w [] k x is mine = cc
 own_at w (y ∷ h) zero x is mine =

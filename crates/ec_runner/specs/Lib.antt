@@ -1,12 +1,12 @@
-pub mod Seated
-pub mod Lined
-pub mod Boarded
+pub mod WorkerStates
+pub mod WaitQueues
+pub mod BoardModel
 pub mod Works
 pub mod Holds
-pub mod Promised
+pub mod WorkPromises
 pub mod BoardFaults
 pub mod RunReports
-pub mod Walks
+pub mod LogComparison
 pub mod Fits
 pub mod RunFaults
 pub mod Schedules

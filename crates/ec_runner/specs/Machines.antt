@@ -1,42 +1,42 @@
--- How the run and the machines stand while a schedule is played.
+-- The run and the interpreters while a schedule is played.
 use Rattle.std.specs.Prelude.{◌≡◌, ◌≢◌, ◌⊎◌, ℕ, List, ◌∷◌, reverse, take, slice_get, Some, Result, Ok, Err, IsOk}
 use Rattle.ec_count.specs.Tables.{Tables}
 use Rattle.ec_core.specs.declared.act.Act.{Act}
-use Rattle.ec_core.specs.Recorded.{Recorded}
+use Rattle.ec_core.specs.RunModel.{RunModel}
 use Rattle.ec_core.specs.Acceptance.{answer_of}
 use Rattle.ec_machine.specs.declared.command.Command.{Command}
 use Rattle.ec_machine.specs.declared.machine.Machine.{Machine}
 use Rattle.ec_machine.specs.declared.outcome.Outcome.TheVariants.{Running}
 use Rattle.ec_machine.specs.Follows.{program_at}
 use Rattle.ec_machine.specs.Runs.{next_act}
-use Rattle.ec_machine.specs.Standing.{StandsFor, kept_outcome}
+use Rattle.ec_machine.specs.Standing.{StandsFor, machine_outcome}
 use Rattle.ec_machine.specs.Steps.{own}
-use Rattle.ec_runner.specs.declared.playing.Played.{Played}
-use Rattle.ec_runner.specs.declared.playing.Played.TheVariants as played
+use Rattle.ec_runner.specs.declared.playing.TurnOutcome.{TurnOutcome}
+use Rattle.ec_runner.specs.declared.playing.TurnOutcome.TheVariants as played
 use Rattle.ec_runner.specs.declared.report.SimFault.{SimFault}
 use Rattle.ec_runner.specs.declared.report.SimFault.TheVariants.{Ended, Memory}
-use Rattle.ec_runner.specs.Schedules.{Turn, IsTurn, HasEnded, Plays, entries_of, outcome_after}
+use Rattle.ec_runner.specs.Schedules.{Turn, IsTurn, EndsBeforePlace, Plays, entries_of, outcome_after}
 
--- the machine is that of w after these turns
+-- the interpreter is that of w after these turns
 pub record IsMachineOf (programs : List (List Command)) (turns : List Turn) (w : ℕ) (m : Machine) : Type 0 where
-  pub stands : StandsFor (program_at programs w) m (own w (entries_of turns))
-  pub outcome : kept_outcome m ≡ outcome_after programs w turns
+  pub represents : StandsFor (program_at programs w) m (own w (entries_of turns))
+  pub outcome : machine_outcome m ≡ outcome_after programs w turns
 
--- each machine is that of its worker
+-- each interpreter is that of its worker
 abbrev pub AreMachines : List (List Command) → List Turn → List Machine → Type 0
 AreMachines programs turns machines = (w : ℕ) (m : Machine) → slice_get machines w ≡ Some m → IsMachineOf programs turns w m
 
 -- the run is the one that these turns made
-pub record IsRunOf (t : Tables) (turns : List Turn) (run : Recorded) : Type 0 where
+pub record IsMadeByTurns (t : Tables) (turns : List Turn) (run : RunModel) : Type 0 where
   pub setup : run.setup ≡ t
   pub entries : reverse run.entries ≡ entries_of turns
 
 -- w had one more turn
-pub record HasTurn (t : Tables) (programs : List (List Command)) (turns : List Turn) (w : ℕ) (run : Recorded) (m : Machine) : Type 0 where
+pub record HasTurn (t : Tables) (programs : List (List Command)) (turns : List Turn) (w : ℕ) (run : RunModel) (m : Machine) : Type 0 where
   pub turn : Turn
   pub worker : turn.worker ≡ w
   pub right : IsTurn t programs turns turn
-  pub made : IsRunOf t (turn ∷ turns) run
+  pub made : IsMadeByTurns t (turn ∷ turns) run
   pub machine : IsMachineOf programs (turn ∷ turns) w m
 
 -- after these turns w is due a turn whose step is not refused
@@ -46,34 +46,36 @@ pub record MayTakeTurn (t : Tables) (programs : List (List Command)) (turns : Li
   pub due : next_act (program_at programs w) (own w (entries_of turns)) ≡ Some act
   pub answered : IsOk (answer_of t (entries_of turns) w act)
 
--- what became of the turn of w after these turns; out of memory is reported only of a turn whose step is not refused
-abbrev pub Takes : Played → Tables → List (List Command) → List Turn → ℕ → Recorded → Machine → Type 0
+-- the result of the turn of w after these turns; out of memory is reported only of a turn whose
+-- step is not refused
+abbrev pub Takes : TurnOutcome → Tables → List (List Command) → List Turn → ℕ → RunModel → Machine → Type 0
 Takes played.Made t programs turns w run m = HasTurn t programs turns w run m
 Takes played.Ended t programs turns w run m = outcome_after programs w turns ≢ Running
 Takes played.Memory t programs turns w run m = MayTakeTurn t programs turns w
 
--- the schedule was played by these turns, the newest first, and the run and the machines are those after them
-pub record IsPlayed (t : Tables) (programs : List (List Command)) (schedule : List ℕ) (turns : List Turn) (run : Recorded) (machines : List Machine) : Type 0 where
+-- the schedule was played by these turns, the newest first, and the run and the interpreters are
+-- those after them
+pub record IsPlayed (t : Tables) (programs : List (List Command)) (schedule : List ℕ) (turns : List Turn) (run : RunModel) (machines : List Machine) : Type 0 where
   pub plays : Plays t programs schedule turns
-  pub made : IsRunOf t turns run
+  pub made : IsMadeByTurns t turns run
   pub each : AreMachines programs turns machines
 
--- w had one more turn, and each machine is that of its worker
-pub record HasPlayed (t : Tables) (programs : List (List Command)) (turns : List Turn) (w : ℕ) (run : Recorded) (machines : List Machine) : Type 0 where
+-- w had one more turn, and each interpreter is that of its worker
+pub record HasPlayed (t : Tables) (programs : List (List Command)) (turns : List Turn) (w : ℕ) (run : RunModel) (machines : List Machine) : Type 0 where
   pub turn : Turn
   pub worker : turn.worker ≡ w
   pub right : IsTurn t programs turns turn
-  pub made : IsRunOf t (turn ∷ turns) run
+  pub made : IsMadeByTurns t (turn ∷ turns) run
   pub each : AreMachines programs (turn ∷ turns) machines
 
--- what became of the place of w after these turns
-abbrev pub PlaysOne : Played → Tables → List (List Command) → List Turn → ℕ → Recorded → List Machine → Type 0
+-- the result of the place of w after these turns
+abbrev pub PlaysOne : TurnOutcome → Tables → List (List Command) → List Turn → ℕ → RunModel → List Machine → Type 0
 PlaysOne played.Made t programs turns w run machines = HasPlayed t programs turns w run machines
 PlaysOne played.Ended t programs turns w run machines = outcome_after programs w turns ≢ Running
 PlaysOne played.Memory t programs turns w run machines = MayTakeTurn t programs turns w
 
 -- at a place of the schedule there was no memory for a step that is not refused
-pub record LacksMemory (t : Tables) (programs : List (List Command)) (schedule : List ℕ) : Type 0 where
+pub record RunsOutOfMemory (t : Tables) (programs : List (List Command)) (schedule : List ℕ) : Type 0 where
   pub place : ℕ
   pub w : ℕ
   pub turns : List Turn
@@ -81,14 +83,14 @@ pub record LacksMemory (t : Tables) (programs : List (List Command)) (schedule :
   pub named : slice_get schedule place ≡ Some w
   pub due : MayTakeTurn t programs turns w
 
--- what became of a schedule
-abbrev pub PlaysAll : Result Unit SimFault → Tables → List (List Command) → List ℕ → Recorded → List Machine → Type 0
+-- the result of a schedule
+abbrev pub PlaysAll : Result Unit SimFault → Tables → List (List Command) → List ℕ → RunModel → List Machine → Type 0
 PlaysAll (Ok done) t programs schedule run machines = (turns : List Turn) × IsPlayed t programs schedule turns run machines
-PlaysAll (Err (Ended place w)) t programs schedule run machines = HasEnded t programs schedule place w
-PlaysAll (Err Memory) t programs schedule run machines = LacksMemory t programs schedule
+PlaysAll (Err (Ended place w)) t programs schedule run machines = EndsBeforePlace t programs schedule place w
+PlaysAll (Err Memory) t programs schedule run machines = RunsOutOfMemory t programs schedule
 
--- why machines gave no report of a schedule: it names one that has ended, or there was no memory for a step that is not refused or,
--- once all places were played, for the report
+-- why there is no report of a schedule: it names a worker that has ended, or there was no memory
+-- for a step that is not refused or, once all places were played, for the report
 abbrev pub IsPlayFault : Tables → List (List Command) → List ℕ → SimFault → Type 0
-IsPlayFault t programs schedule (Ended place w) = HasEnded t programs schedule place w
-IsPlayFault t programs schedule Memory = LacksMemory t programs schedule ⊎ ((turns : List Turn) × Plays t programs schedule turns)
+IsPlayFault t programs schedule (Ended place w) = EndsBeforePlace t programs schedule place w
+IsPlayFault t programs schedule Memory = RunsOutOfMemory t programs schedule ⊎ ((turns : List Turn) × Plays t programs schedule turns)

@@ -1,4 +1,4 @@
--- What is told of a schedule that was played.
+-- The report of a schedule that was played.
 use Rattle.std.specs.Prelude.{◌≡◌, ℕ, ◌<◌, List, length, map, reverse, slice_get, Some, Vec}
 use Rattle.std.specs.declared.alloc.Global.{Global}
 use Rattle.ec_count.specs.Tables.{Tables}
@@ -9,7 +9,7 @@ use Rattle.ec_machine.specs.Steps.{own}
 use Rattle.ec_runner.specs.declared.report.Report.{Report}
 use Rattle.ec_runner.specs.declared.report.SimFault.{SimFault}
 use Rattle.ec_runner.specs.declared.report.SimFault.TheVariants.{Ended, Memory}
-use Rattle.ec_runner.specs.Schedules.{Turn, Plays, HasEnded, entries_of, outcome_after}
+use Rattle.ec_runner.specs.Schedules.{Turn, Plays, EndsBeforePlace, entries_of, outcome_after}
 
 -- a list for each of so many workers, and in each the worker's entries in order
 pub record AreLogs (workers : ℕ) (h : List Entry) (logs : List (List Entry)) : Type 0 where
@@ -30,7 +30,7 @@ pub record IsReport (t : Tables) (programs : List (List Command)) (schedule : Li
   pub logs : AreLogs t.workers r.run.entries (map (λ (log : Vec Entry Global). log.items) r.logs.items)
   pub outcomes : AreOutcomes programs t.workers turns r.outcomes.items
 
--- the place that is told names a worker that has ended; nothing is said of want of memory
+-- the reported place names a worker that has ended; nothing is said of out of memory
 abbrev pub IsSimFault : Tables → List (List Command) → List ℕ → SimFault → Type 0
-IsSimFault t programs schedule (Ended place w) = HasEnded t programs schedule place w
+IsSimFault t programs schedule (Ended place w) = EndsBeforePlace t programs schedule place w
 IsSimFault t programs schedule Memory = Unit {0}

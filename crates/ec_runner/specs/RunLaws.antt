@@ -13,14 +13,15 @@ use Rattle.ec_machine.specs.Steps.{own}
 use Rattle.ec_runner.specs.declared.report.Report.{Report}
 use Rattle.ec_runner.specs.RunReports.{IsReportOf}
 
--- each entry of the run stands in the log of its worker, behind so many as the worker had made before: the run is the logs,
--- interleaved, and nothing else
+-- each entry of the run is in the log of its worker, after so many as the worker had made before:
+-- the run is the logs, interleaved, and nothing else
 abbrev pub ReportsInterleave : Type 0
 ReportsInterleave = (t : Tables) (programs : List (List Command)) (turns : ℕ) (r : Report) → IsReportOf t programs turns r → IsAccepted t (reverse r.run.entries)
     → (k : ℕ) (x : Entry) → slice_get r.run.entries k ≡ Some x
     → (log : Vec Entry) × (slice_get r.logs.items x.worker ≡ Some log) × (slice_get log.items (length (own x.worker (take k r.run.entries))) ≡ Some x)
 
--- no worker is told that it still runs, and where its program has ended after its log it is told how
+-- no outcome is Running, and if a program has ended after the log of its worker, the outcome says
+-- how
 abbrev pub OutcomesAreTheirs : Type 0
 OutcomesAreTheirs = (t : Tables) (programs : List (List Command)) (turns : ℕ) (r : Report) → IsReportOf t programs turns r
     → (w : ℕ) (log : Vec Entry) (outcome : Outcome) → slice_get r.logs.items w ≡ Some log → slice_get r.outcomes.items w ≡ Some outcome

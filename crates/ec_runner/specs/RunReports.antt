@@ -5,7 +5,7 @@ use Rattle.ec_count.specs.Tables.{Tables}
 use Rattle.ec_core.specs.declared.act.Act.{Act}
 use Rattle.ec_core.specs.declared.act.Entry.{Entry}
 use Rattle.ec_core.specs.declared.act.Refusal.{Refusal}
-use Rattle.ec_core.specs.Recorded.{Recorded}
+use Rattle.ec_core.specs.RunModel.{RunModel}
 use Rattle.ec_core.specs.Counts.{total, past_at}
 use Rattle.ec_core.specs.Acceptance.{answer_of}
 use Rattle.ec_machine.specs.declared.command.Command.{Command}
@@ -18,16 +18,16 @@ use Rattle.ec_runner.specs.declared.wait.Wait.{Wait}
 use Rattle.ec_runner.specs.declared.report.Report.{Report}
 use Rattle.ec_runner.specs.declared.run_fault.RunFault.{RunFault}
 use Rattle.ec_runner.specs.declared.run_fault.RunFault.TheVariants as faults
-use Rattle.ec_runner.specs.Boarded.{past_of, awaited}
+use Rattle.ec_runner.specs.BoardModel.{past_of, await_fallen_short}
 
 -- the call of w that is pending at the end is an await that has just fallen short, and its threshold is above the total
-pub record IsCaught (run : Recorded) (w : ℕ) : Type 0 where
+pub record WaitsForever (run : RunModel) (w : ℕ) : Type 0 where
   pub wait : Wait
-  pub short : awaited run.setup w (past_of run) ≡ Some wait
+  pub short : await_fallen_short run.setup w (past_of run) ≡ Some wait
   pub above : total wait.event (past_of run) < wait.threshold
 
 -- the act due after the log was refused with r at a moment by which the whole log had happened
-pub record WasRefused (run : Recorded) (w : ℕ) (cs : List Command) (log : List Entry) (r : Refusal) : Type 0 where
+pub record WasRefused (run : RunModel) (w : ℕ) (cs : List Command) (log : List Entry) (r : Refusal) : Type 0 where
   pub act : Act
   pub due : next_act cs (reverse log) ≡ Some act
   pub moment : ℕ
@@ -35,34 +35,34 @@ pub record WasRefused (run : Recorded) (w : ℕ) (cs : List Command) (log : List
   pub whole : own w (take moment run.entries) ≡ log
   pub refused : answer_of run.setup (past_at moment run.entries) w act ≡ Err r
 
--- what more there is to say of a worker whose program had not ended after its log, if there were so many turns
-abbrev pub IsCutOff : Outcome → Recorded → ℕ → List Command → ℕ → List Entry → Type 0
+-- what else holds of a worker whose program had not ended after its log, given so many turns
+abbrev pub IsCutOff : Outcome → RunModel → ℕ → List Command → ℕ → List Entry → Type 0
 IsCutOff (outcomes.Refused r) run w cs turns log = WasRefused run w cs log r
-IsCutOff outcomes.Stopped run w cs turns log = IsCaught run w
+IsCutOff outcomes.Stopped run w cs turns log = WaitsForever run w
 IsCutOff outcomes.OutOfTurns run w cs turns log = length log ≡ turns
 IsCutOff outcomes.Memory run w cs turns log = Unit {0}
 IsCutOff _ run w cs turns log = ⊥
 
--- how a worker ended: its program had ended so after its log, or else had not ended
-abbrev pub HasEnded : Outcome → Recorded → ℕ → List Command → ℕ → List Entry → Type 0
-HasEnded outcomes.Finished run w cs turns log = outcome_of cs (reverse log) ≡ outcomes.Finished
-HasEnded outcomes.ValueTooLarge run w cs turns log = outcome_of cs (reverse log) ≡ outcomes.ValueTooLarge
-HasEnded outcome run w cs turns log = (outcome_of cs (reverse log) ≡ outcomes.Running) × IsCutOff outcome run w cs turns log
+-- how a worker ended: its program had ended so after its log, or had not ended and was cut off
+abbrev pub EndedAs : Outcome → RunModel → ℕ → List Command → ℕ → List Entry → Type 0
+EndedAs outcomes.Finished run w cs turns log = outcome_of cs (reverse log) ≡ outcomes.Finished
+EndedAs outcomes.ValueTooLarge run w cs turns log = outcome_of cs (reverse log) ≡ outcomes.ValueTooLarge
+EndedAs outcome run w cs turns log = (outcome_of cs (reverse log) ≡ outcomes.Running) × IsCutOff outcome run w cs turns log
 
 -- a worker's log and outcome: the log is exactly its entries in the run, and a run of its program of at most so many steps
-pub record IsTold (run : Recorded) (w : ℕ) (cs : List Command) (turns : ℕ) (log : List Entry) (outcome : Outcome) : Type 0 where
+pub record IsWorkerReport (run : RunModel) (w : ℕ) (cs : List Command) (turns : ℕ) (log : List Entry) (outcome : Outcome) : Type 0 where
   pub entries : own w run.entries ≡ log
   pub follows : IsRunOf cs (reverse log)
   pub few : length log ≤ turns
-  pub ended : HasEnded outcome run w cs turns log
+  pub ended : EndedAs outcome run w cs turns log
 
 -- THE REPORT: the run is on these declarations, and each declared worker has a log and an outcome that are its own
 pub record IsReportOf (t : Tables) (programs : List (List Command)) (turns : ℕ) (r : Report) : Type 0 where
   pub setup : r.run.setup ≡ t
   pub logs : length r.logs.items ≡ t.workers
   pub outcomes : length r.outcomes.items ≡ t.workers
-  pub told : (w : ℕ) (log : Vec Entry) (outcome : Outcome) → slice_get r.logs.items w ≡ Some log → slice_get r.outcomes.items w ≡ Some outcome
-      → IsTold r.run w (program_at programs w) turns log.items outcome
+  pub returned : (w : ℕ) (log : Vec Entry) (outcome : Outcome) → slice_get r.logs.items w ≡ Some log → slice_get r.outcomes.items w ≡ Some outcome
+      → IsWorkerReport r.run w (program_at programs w) turns log.items outcome
 
 -- a worker that is named in place of a report is a declared one, if any is declared
 abbrev pub NamesDeclared : Tables → RunFault → Type 0

@@ -3,22 +3,24 @@ ghost use Rattle.std.specs.Prelude.{◌≡◌, ℕ, ◌<◌, ◌++◌, ◌∷◌
 ghost use Rattle.ec_core.specs.Acceptance.{names_unknown_object};
 ghost use Rattle.ec_core.specs.Values.{TellsAtMost};
 ghost use Rattle.ec_core.specs.Procedures.{IsReply};
-ghost use Rattle.ec_core.specs.Recorded.{Recorded};
+ghost use Rattle.ec_core.specs.RunModel.{RunModel};
 ghost use Rattle.ec_runner.specs.declared.wait.Wait.{Wait};
-ghost use Rattle.ec_runner.specs.declared.seat.Seat.TheVariants.{Gone, Running, Waiting};
-ghost use Rattle.ec_runner.specs.Seated.{is_live, is_waiting, seat_of, woken};
+ghost use Rattle.ec_runner.specs.declared.worker_state.WorkerState.TheVariants.{Gone, Running};
+ghost use Rattle.ec_runner.specs.declared.worker_state.WorkerState.TheVariants.{Waiting};
+ghost use Rattle.ec_runner.specs.WorkerStates.{is_active, is_waiting, worker_state};
+ghost use Rattle.ec_runner.specs.WorkerStates.{states_after_act};
 
-use crate::Seat;
-use crate::seats::Seats;
+use crate::WorkerState;
 use crate::wait::{Wait, unmet_await};
+use crate::worker_states::WorkerStates;
 use ec_core::{Act, Refusal, Reply, Run, StepFault, VALUE_MAX};
 use ec_count::{Setup, WorkerId};
 use std::alloc::{AllocError, Global};
 use std::marker::Model;
 use thiserror::Error;
 
-/// Why a board makes no step: the first of these that holds, in this order. After each everything is
-/// as before.
+/// Why a board makes no step. The first of these that holds, in this order, is reported, and the
+/// board is unchanged.
 #[derive(Clone, Copy, Debug, PartialEq, Eq, Error)]
 pub enum BoardFault {
     /// The board is deadlocked, or the worker is a declared one that has left.
@@ -27,74 +29,73 @@ pub enum BoardFault {
     /// The step is refused.
     #[error("the step is refused: {0}")]
     Refused(Refusal),
-    /// The step is right, and there was no memory for its entry.
+    /// The step is not refused, and there was no memory for its entry.
     #[error("there was no memory for the step's entry")]
     Memory,
 }
 
-/// What a worker that would wait is told.
+/// What `Board::park` did.
 #[derive(Clone, Copy, Debug, PartialEq, Eq)]
-pub enum Parked {
-    /// Every active worker waits, for good.
+pub enum ParkOutcome {
+    /// The board is deadlocked: every active worker waits, for good.
     Stuck,
-    /// There is nothing to wait for.
+    /// The worker has nothing to wait for.
     Ready,
-    /// The worker is a waiter now.
+    /// The worker waits, and may still be released.
     Asleep,
 }
 
-/// A run, who of its workers is active, who of them waits and for what, and whether all that are
-/// active wait. A waiter has begun an await whose last round fell short, and the total is still
-/// below its threshold.
+/// A run, the state of each of its workers, and whether the board is deadlocked. A waiter's latest
+/// entry ended a round of an await that fell short, and the total is still below the threshold.
 #[derive(Drop)]
 pub struct Board {
     run: Run,
-    seats: Seats,
-    stuck: bool,
+    states: WorkerStates,
+    deadlocked: bool,
 }
 
 impl Model for Board {
-    ghost use Rattle.ec_runner.specs.Boarded.{Boarded, AreWaiters};
+    ghost use Rattle.ec_runner.specs.BoardModel.{BoardModel, AreWaiters};
 
-    ghost Value = { Boarded };
+    ghost Value = { BoardModel };
 
-    ghost view = { λ b. record { run = b.run; seats = b.seats; stuck = b.stuck } };
+    ghost view = { λ b. record { run = b.run; states = b.states; deadlocked = b.deadlocked } };
 
-    ghost invariant = { λ b. AreWaiters (record { run = b.run; seats = b.seats; stuck = b.stuck }) };
+    ghost invariant = { λ b. AreWaiters (record { run = b.run; states = b.states; deadlocked = b.deadlocked }) };
 }
 
-ghost use Rattle.ec_runner.specs.Boarded.{AreWaiters, wait_of, with_seat, after_entry, is_stopped, has_left, answer_on};
+ghost use Rattle.ec_runner.specs.BoardModel.{AreWaiters, wait_of, with_worker_state, after_entry, is_stopped, has_left, answer_on};
 
 impl Board {
     ghost use Rattle.ec_runner.specs.BoardFaults.{IsBoardFault};
     ghost use Rattle.ec_runner.specs.Holds.{is_asleep, is_awaited};
 
-    /// Makes a board with an empty run on these declarations, which are dropped if there is no
-    /// memory. Every declared worker is active, and nobody waits.
+    /// Makes a board with an empty run on these declarations. Every declared worker is active, and
+    /// nobody waits. If there is no memory, the declarations are dropped.
     pub fn open(alloc: Global, setup: Setup) -> Result<Self, AllocError>
         ensures run { IfOk result (λ b. b.run ≡ record { setup = setup; entries = [] }) }
-        ensures seats { IfOk result (λ b. (w : ℕ) → w < 16 → slice_get b.seats w ≡ Some (if nat_lt w setup.workers then Running else Gone)) }
-        ensures stuck { IfOk result (λ b. b.stuck ≡ false) }
+        ensures states { IfOk result (λ b. (w : ℕ) → w < 16 → slice_get b.states w ≡ Some (if nat_lt w setup.workers then Running else Gone)) }
+        ensures deadlocked { IfOk result (λ b. b.deadlocked ≡ false) }
     {
         let workers = setup.workers();
         let run = Run::open(alloc, setup)?;
         Ok(Board {
             run,
-            seats: Seats::open(workers),
-            stuck: false,
+            states: WorkerStates::open(workers),
+            deadlocked: false,
         })
     }
 
-    /// States what is true of the active workers and of the waiters of a board: nobody is active
-    /// who is not declared.
-    pub fn known(&self)
+    /// States what is true of the active workers and of the waiters of a board. For example, every
+    /// active worker is declared.
+    pub fn invariant(&self)
         ensures { AreWaiters self.now }
     {
         let _ = &self.run;
     }
 
-    /// Makes one step, which adds its entry: the worker waits no more, and after an advance those
-    /// don't whose threshold the total has come to.
+    /// Makes one step, whose entry is added to the run. The worker stops waiting, and an advance
+    /// releases the waiters whose threshold the total has reached.
     pub fn step(&mut self, worker: WorkerId, act: Act) -> Result<Reply, BoardFault>
         ensures answer { MatchResult result
             (λ reply. (is_stopped self.old worker ≡ false) × (answer_on self.old worker act ≡ Ok reply))
@@ -104,7 +105,7 @@ impl Board {
         ensures kind { IfOk result (IsReply act) }
         ensures err { OnErr result (self.new ≡ self.old) }
     {
-        if self.stuck || self.has_left(worker) {
+        if self.deadlocked || self.has_left(worker) {
             return Err(BoardFault::Stopped);
         }
         let reply = match self.run.step(worker, act) {
@@ -112,44 +113,46 @@ impl Board {
             Err(StepFault::Refused(refusal)) => return Err(BoardFault::Refused(refusal)),
             Err(StepFault::Memory) => return Err(BoardFault::Memory),
         };
-        self.seats.note(&self.run, worker, &act);
+        self.states.note(&self.run, worker, &act);
         Ok(reply)
     }
 
-    /// Makes a worker a waiter, if it is active and has something to wait for. It takes no
-    /// memory.
-    pub fn park(&mut self, worker: WorkerId) -> Parked
-        ensures stuck { self.old.stuck ≡ true → (result ≡ Parked.Stuck) × (self.new ≡ self.old) }
-        ensures ready { self.old.stuck ≡ false → wait_of self.old worker ≡ None → (result ≡ Parked.Ready) × (self.new ≡ self.old) }
-        ensures waits { (a : Wait) → self.old.stuck ≡ false → wait_of self.old worker ≡ Some a
-            → (self.new ≡ with_seat self.old worker (Waiting a.event a.threshold)) × (result ≡ (if self.new.stuck then Parked.Stuck else Parked.Asleep)) }
+    /// Makes a worker a waiter, if it is active and has something to wait for. Allocates nothing.
+    pub fn park(&mut self, worker: WorkerId) -> ParkOutcome
+        ensures deadlocked { self.old.deadlocked ≡ true → (result ≡ ParkOutcome.Stuck)
+            × (self.new ≡ self.old) }
+        ensures ready { self.old.deadlocked ≡ false → wait_of self.old worker ≡ None → (result ≡ ParkOutcome.Ready) × (self.new ≡ self.old) }
+        ensures waits { (a : Wait) → self.old.deadlocked ≡ false → wait_of self.old worker ≡ Some a
+            → (self.new ≡ with_worker_state self.old worker (Waiting a.event a.threshold)) × (result ≡ (if self.new.deadlocked then ParkOutcome.Stuck else ParkOutcome.Asleep)) }
     {
-        if self.stuck {
-            return Parked::Stuck;
+        if self.deadlocked {
+            return ParkOutcome::Stuck;
         }
         let Some(wait) = self.wait_of(worker) else {
-            return Parked::Ready;
+            return ParkOutcome::Ready;
         };
-        self.seats.settle(worker, Seat::Running);
-        self.seats.wait(worker, wait.event, wait.threshold);
-        self.stuck = self.seats.are_stuck();
-        if self.stuck {
-            Parked::Stuck
+        self.states.stop_waiting(worker, WorkerState::Running);
+        self.states.wait(worker, wait.event, wait.threshold);
+        self.deadlocked = self.states.are_deadlocked();
+        if self.deadlocked {
+            ParkOutcome::Stuck
         } else {
-            Parked::Asleep
+            ParkOutcome::Asleep
         }
     }
 
-    /// Has an active worker leave for good, and wait no more. It takes no memory.
+    /// Makes an active worker leave for good, and stop waiting. If others are left and all of them
+    /// wait, the board is deadlocked. Allocates nothing.
     pub fn leave(&mut self, worker: WorkerId)
-        ensures gone { is_live (seat_of self.old.seats worker) ≡ true → self.new ≡ with_seat self.old worker Gone }
-        ensures same { is_live (seat_of self.old.seats worker) ≡ false → self.new ≡ self.old }
+        ensures gone { is_active (worker_state self.old.states worker) ≡ true → self.new ≡ with_worker_state self.old worker Gone }
+        ensures same { is_active (worker_state self.old.states worker) ≡ false
+            → self.new ≡ self.old }
     {
-        if !self.is_live(worker) {
+        if !self.is_active(worker) {
             return;
         }
-        self.seats.settle(worker, Seat::Gone);
-        self.stuck = self.stuck || self.seats.are_stuck();
+        self.states.stop_waiting(worker, WorkerState::Gone);
+        self.deadlocked = self.deadlocked || self.states.are_deadlocked();
     }
 
     /// Returns the run so far.
@@ -159,7 +162,7 @@ impl Board {
         &self.run
     }
 
-    /// Returns the run, once nobody makes a step any more.
+    /// Consumes the board and returns its run.
     pub fn into_run(self) -> Run
         ensures { result ≡ self.run }
     {
@@ -167,42 +170,42 @@ impl Board {
     }
 
     /// Returns whether the worker is a declared one that has not left.
-    pub fn is_live(&self, worker: WorkerId) -> bool
-        ensures { result ≡ is_live (seat_of self.now.seats worker) }
+    pub fn is_active(&self, worker: WorkerId) -> bool
+        ensures { result ≡ is_active (worker_state self.now.states worker) }
     {
-        let seat = self.seats.get(worker);
-        seat.is_live()
+        let state = self.states.get(worker);
+        state.is_active()
     }
 
     /// Returns whether the worker waits.
     pub fn is_waiting(&self, worker: WorkerId) -> bool
-        ensures { result ≡ is_waiting (seat_of self.now.seats worker) }
+        ensures { result ≡ is_waiting (worker_state self.now.states worker) }
     {
-        let seat = self.seats.get(worker);
-        seat.is_waiting()
+        let state = self.states.get(worker);
+        state.is_waiting()
     }
 
-    /// Returns whether at some moment some worker was active and every active worker waited. Nobody
-    /// makes a step from then on.
-    pub fn is_stuck(&self) -> bool
-        ensures { result ≡ self.now.stuck }
+    /// Returns whether the board is deadlocked: at some moment some worker was active, and every
+    /// active worker waited. Nobody makes a step from then on.
+    pub fn is_deadlocked(&self) -> bool
+        ensures { result ≡ self.now.deadlocked }
     {
-        self.stuck
+        self.deadlocked
     }
 
-    /// Returns whether the worker waits, and somebody may still let it go.
+    /// Returns whether the worker waits and may still be released.
     pub(crate) fn is_asleep(&self, worker: WorkerId) -> bool
         ensures { result ≡ is_asleep self.now worker }
     {
-        self.is_waiting(worker) && !self.stuck
+        self.is_waiting(worker) && !self.deadlocked
     }
 
-    /// Returns whether somebody waits for what an act advances.
+    /// Returns whether somebody waits for the eventcount that an act advances.
     pub(crate) fn is_awaited(&self, act: &Act) -> bool
-        ensures { result ≡ is_awaited act.now self.now.seats }
+        ensures { result ≡ is_awaited act.now self.now.states }
     {
         match act {
-            Act::Advance(event) => self.seats.has_waiters(*event),
+            Act::Advance(event) => self.states.has_waiters(*event),
             _ => false,
         }
     }
@@ -210,13 +213,13 @@ impl Board {
     fn has_left(&self, worker: WorkerId) -> bool
         ensures { result ≡ has_left self.now worker }
     {
-        worker.get() < self.run.setup().workers() && !self.is_live(worker)
+        worker.get() < self.run.setup().workers() && !self.is_active(worker)
     }
 
     fn wait_of(&self, worker: WorkerId) -> Option<Wait>
         ensures { result ≡ wait_of self.now worker }
     {
-        if !self.is_live(worker) {
+        if !self.is_active(worker) {
             return None;
         }
         unmet_await(&self.run, worker)

@@ -1,17 +1,17 @@
-//! How workers ended, held against the run.
+//! The comparison of how workers ended with the run.
 ghost use Rattle.std.specs.Prelude.{◌≡◌, ◌↔◌, ◌<◌, ◌≤◌, ℕ, length, Some, slice_get, IsTrue, MatchOption};
-ghost use Rattle.ec_runner.specs.declared.told.Told.{Told};
-ghost use Rattle.ec_runner.specs.Fits.{IsAtEnd, IsBorneOut, IsUnborne, IsWithin, MayBeBorneOut, asked_at, moment_of};
+ghost use Rattle.ec_runner.specs.declared.summary.Summary.{Summary};
+ghost use Rattle.ec_runner.specs.Fits.{IsAtEnd, IsBorneOut, IsUnborne, IsWithin, MayBeBorneOut, asked_at, moment_of_summary};
 
-use crate::caught::is_caught;
+use crate::endless_wait::waits_forever;
 use crate::refused::first_wrong;
-use crate::told::{Asked, Told};
+use crate::summary::{LastRequest, Summary};
 use ec_core::Run;
 use ec_count::WorkerId;
 use ec_machine::Outcome;
 
-/// Returns whether a worker tells of a moment of the run.
-fn is_within(run: &Run, asked: Option<Asked>) -> bool
+/// Returns whether there is a last request, made at a moment of the run.
+fn is_within(run: &Run, asked: Option<LastRequest>) -> bool
     ensures { IsTrue result ↔ IsWithin asked run.now }
 {
     match asked {
@@ -20,8 +20,8 @@ fn is_within(run: &Run, asked: Option<Asked>) -> bool
     }
 }
 
-/// Returns whether a worker tells of the end of the run.
-fn is_at_end(run: &Run, asked: Option<Asked>) -> bool
+/// Returns whether there is a last request, made at the end of the run.
+fn is_at_end(run: &Run, asked: Option<LastRequest>) -> bool
     ensures { IsTrue result ↔ IsAtEnd asked run.now }
 {
     match asked {
@@ -30,18 +30,18 @@ fn is_at_end(run: &Run, asked: Option<Asked>) -> bool
     }
 }
 
-/// Returns whether the run bears out how a worker ended, but for what it was refused at its moment.
-fn may_be_borne_out(run: &Run, worker: WorkerId, told: &Told) -> bool
-    ensures { IsTrue result ↔ MayBeBorneOut told.now.outcome run.now worker told.now.asked }
+/// Returns whether the run bears out how a worker ended. Of a refusal only the moment is checked.
+fn may_be_borne_out(run: &Run, worker: WorkerId, summary: &Summary) -> bool
+    ensures { IsTrue result ↔ MayBeBorneOut summary.now.outcome run.now worker summary.now.asked }
 {
-    match told.outcome {
-        Outcome::Refused(_) => is_within(run, told.asked),
-        Outcome::Stopped => is_at_end(run, told.asked) && is_caught(run, worker),
+    match summary.outcome {
+        Outcome::Refused(_) => is_within(run, summary.asked),
+        Outcome::Stopped => is_at_end(run, summary.asked) && waits_forever(run, worker),
         _ => true,
     }
 }
 
-fn asked_at(asked: Option<Asked>) -> usize
+fn asked_at(asked: Option<LastRequest>) -> usize
     ensures { result ≡ asked_at asked }
 {
     match asked {
@@ -50,60 +50,61 @@ fn asked_at(asked: Option<Asked>) -> usize
     }
 }
 
-/// Returns the moment that a worker tells of, 0 if it was not refused.
-fn moment_of(told: &Told) -> usize
-    ensures { result ≡ moment_of told.now.outcome told.now.asked }
+/// Returns the moment of a worker's refusal, 0 if it was not refused.
+fn moment_of_summary(summary: &Summary) -> usize
+    ensures { result ≡ moment_of_summary summary.now.outcome summary.now.asked }
 {
-    match told.outcome {
-        Outcome::Refused(_) => asked_at(told.asked),
+    match summary.outcome {
+        Outcome::Refused(_) => asked_at(summary.asked),
         _ => 0,
     }
 }
 
 /// Returns a moment after which no worker was refused.
-fn last_moment(tolds: &[Told]) -> usize
-    ensures { (w : ℕ) (told : Told) → slice_get tolds.now w ≡ Some told → moment_of told.outcome told.asked ≤ result }
+fn last_moment(summaries: &[Summary]) -> usize
+    ensures { (w : ℕ) (summary : Summary) → slice_get summaries.now w ≡ Some summary → moment_of_summary summary.outcome summary.asked ≤ result }
 {
     let mut last = 0;
-    for w in 0..tolds.len() {
-        last = moment_of(&tolds[w]).max(last);
+    for w in 0..summaries.len() {
+        last = moment_of_summary(&summaries[w]).max(last);
     }
     last
 }
 
-/// Returns the worker of a number.
-pub(crate) fn worker_of(number: usize) -> WorkerId
+/// Returns the worker with this number.
+pub(crate) fn nth_worker(number: usize) -> WorkerId
     requires { number < 16 }
     ensures { result ≡ number }
 {
     WorkerId::new(number).unwrap()
 }
 
-/// Returns the first worker that ended otherwise than the run bears out, but for what was refused.
-fn first_unlikely(run: &Run, tolds: &[Told]) -> Option<WorkerId>
-    requires { length tolds.now ≤ 16 }
+/// Returns the first worker whose end the run does not bear out. Of refusals only the moments are
+/// checked.
+fn first_implausible_end(run: &Run, summaries: &[Summary]) -> Option<WorkerId>
+    requires { length summaries.now ≤ 16 }
     ensures { MatchOption result
-        ((w : ℕ) (told : Told) → slice_get tolds.now w ≡ Some told → MayBeBorneOut told.outcome run.now w told.asked)
-        (IsUnborne run.now tolds.now) }
+        ((w : ℕ) (summary : Summary) → slice_get summaries.now w ≡ Some summary → MayBeBorneOut summary.outcome run.now w summary.asked)
+        (IsUnborne run.now summaries.now) }
 {
-    for w in 0..tolds.len() {
-        let worker = worker_of(w);
-        if !may_be_borne_out(run, worker, &tolds[w]) {
+    for w in 0..summaries.len() {
+        let worker = nth_worker(w);
+        if !may_be_borne_out(run, worker, &summaries[w]) {
             return Some(worker);
         }
     }
     None
 }
 
-/// Returns a worker that ended otherwise than the run bears out.
-pub(crate) fn first_not_borne_out(run: &Run, tolds: &[Told]) -> Option<WorkerId>
-    requires { length tolds.now ≤ 16 }
+/// Returns a worker whose end the run does not bear out.
+pub(crate) fn first_not_borne_out(run: &Run, summaries: &[Summary]) -> Option<WorkerId>
+    requires { length summaries.now ≤ 16 }
     ensures { MatchOption result
-        ((w : ℕ) (told : Told) → slice_get tolds.now w ≡ Some told → IsBorneOut told.outcome run.now w told.asked)
-        (IsUnborne run.now tolds.now) }
+        ((w : ℕ) (summary : Summary) → slice_get summaries.now w ≡ Some summary → IsBorneOut summary.outcome run.now w summary.asked)
+        (IsUnborne run.now summaries.now) }
 {
-    match first_unlikely(run, tolds) {
+    match first_implausible_end(run, summaries) {
         Some(worker) => Some(worker),
-        None => first_wrong(run, tolds, last_moment(tolds).min(run.len())),
+        None => first_wrong(run, summaries, last_moment(summaries).min(run.len())),
     }
 }

@@ -1,14 +1,13 @@
-//! Workers on one run: the board that they share, and the playing of a schedule.
+//! The workers of a script: on threads that share one board, or in the turns of a schedule.
 #![tactic(auto)]
 
 mod board;
-mod caught;
-mod duty;
 mod ending;
+mod endless_wait;
 mod gate;
 mod holding;
 mod laws;
-mod line;
+mod log_comparison;
 mod logs;
 mod mismatch;
 mod playing;
@@ -16,15 +15,16 @@ mod refused;
 mod report;
 mod run_fault;
 mod schedule;
-mod seat;
-mod seats;
+mod summary;
 mod threads;
-mod told;
 mod wait;
-mod walk;
+mod wait_queue;
+mod work_promise;
+mod worker_state;
+mod worker_states;
 mod workers;
 
-pub use board::{Board, BoardFault, Parked};
+pub use board::{Board, BoardFault, ParkOutcome};
 pub use gate::{Gate, OpenGate};
 pub use laws::{
     ended_has_no_history, ended_is_after_a_history, ended_is_not_played, histories_are_of_turns,
@@ -34,5 +34,5 @@ pub use laws::{
 pub use report::{Report, SimFault};
 pub use run_fault::RunFault;
 pub use schedule::simulate;
-use seat::Seat;
+use worker_state::WorkerState;
 pub use workers::run_workers;

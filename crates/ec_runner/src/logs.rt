@@ -1,5 +1,5 @@
-//! The entries of each worker.
-ghost use Rattle.std.specs.Prelude.{◌≡◌, ◌==◌, ◌∷◌, ◌++◌, [], IfOk, OnOk, map, Vec};
+//! The logs of the workers: the entries of each.
+ghost use Rattle.std.specs.Prelude.{◌≡◌, ◌∷◌, ◌++◌, [], IfOk, OnOk, map, Vec};
 ghost use Rattle.std.specs.declared.alloc.Global.{Global};
 ghost use Rattle.ec_core.specs.declared.act.Entry.{Entry};
 ghost use Rattle.ec_machine.specs.Steps.{own};
@@ -8,12 +8,6 @@ ghost use Rattle.ec_runner.specs.Reported.{AreLogs};
 use ec_core::{Act, Entry, Reply, Run};
 use ec_count::WorkerId;
 use std::alloc::{AllocError, Global};
-
-fn is_own(entry: &Entry, worker: WorkerId) -> bool
-    ensures { result ≡ (entry.now.worker == worker) }
-{
-    entry.worker.get() == worker.get()
-}
 
 /// Adds one entry.
 fn add_step(
@@ -34,7 +28,7 @@ fn log_of(alloc: Global, run: &Run, worker: WorkerId) -> Result<Vec<Entry>, Allo
 {
     let mut log = Vec::new(alloc);
     for entry in run.entries() {
-        if !is_own(&entry, worker) {
+        if !entry.is_of(worker) {
             continue;
         }
         add_step(&mut log, entry.worker, entry.act, entry.reply)?;

@@ -2,7 +2,7 @@
 ghost use Rattle.std.specs.Prelude.{◌≡◌, ◌<◌, ◌∷◌, [], List, length, reverse, true};
 ghost use Rattle.ec_count.specs.Tables.{Tables};
 ghost use Rattle.ec_machine.specs.declared.command.Command.{Command};
-ghost use Rattle.ec_runner.specs.Machines.{AreMachines, IsMachineOf, IsPlayed, IsRunOf, PlaysAll, PlaysOne, Takes};
+ghost use Rattle.ec_runner.specs.Machines.{AreMachines, IsMachineOf, IsPlayed, IsMadeByTurns, PlaysAll, PlaysOne, Takes};
 ghost use Rattle.std.specs.List.{All};
 ghost use Rattle.ec_runner.specs.Schedules.{Turn};
 
@@ -11,10 +11,10 @@ use ec_core::{Run, StepFault};
 use ec_count::WorkerId;
 use ec_machine::{Machine, Outcome};
 
-/// What became of a place of a schedule.
+/// The result of a turn.
 #[derive(Clone, Copy, Debug, PartialEq, Eq)]
-pub(crate) enum Played {
-    /// The worker made its step, or was refused it.
+pub(crate) enum TurnOutcome {
+    /// The worker made its step, or the step was refused.
     Made,
     /// The worker had ended, and nothing was done.
     Ended,
@@ -22,33 +22,32 @@ pub(crate) enum Played {
     Memory,
 }
 
-/// Returns the turn of a worker: the step that its program asks for next. A refusal ends the
-/// program.
-fn take_turn(run: &mut Run, machine: &mut Machine<'_>, worker: WorkerId) -> Played
+/// Makes the turn of a worker: the step that its program asks for next. A refusal ends the program.
+fn take_turn(run: &mut Run, machine: &mut Machine<'_>, worker: WorkerId) -> TurnOutcome
     ensures { (t : Tables) (programs : List (List Command)) (turns : List Turn)
-        → IsRunOf t turns run.old → IsMachineOf programs turns worker machine.old → Takes result t programs turns worker run.new machine.new }
+        → IsMadeByTurns t turns run.old → IsMachineOf programs turns worker machine.old → Takes result t programs turns worker run.new machine.new }
 {
     let Some(act) = machine.next() else {
-        return Played::Ended;
+        return TurnOutcome::Ended;
     };
     match run.step(worker, act) {
         Ok(reply) => {
             machine.take(reply);
-            Played::Made
+            TurnOutcome::Made
         }
         Err(StepFault::Refused(refusal)) => {
             machine.refuse(Outcome::Refused(refusal));
-            Played::Made
+            TurnOutcome::Made
         }
-        Err(StepFault::Memory) => Played::Memory,
+        Err(StepFault::Memory) => TurnOutcome::Memory,
     }
 }
 
-/// Returns the turn of the worker that stands at a place.
-fn play_place(run: &mut Run, machines: &mut [Machine<'_>], worker: WorkerId) -> Played
+/// Makes the turn of the worker that is named at a place.
+fn play_place(run: &mut Run, machines: &mut [Machine<'_>], worker: WorkerId) -> TurnOutcome
     requires { worker < length machines.old }
     ensures { (t : Tables) (programs : List (List Command)) (turns : List Turn)
-        → IsRunOf t turns run.old → AreMachines programs turns machines.old → PlaysOne result t programs turns worker run.new machines.new }
+        → IsMadeByTurns t turns run.old → AreMachines programs turns machines.old → PlaysOne result t programs turns worker run.new machines.new }
 {
     let machine = &mut machines[worker.get()];
     take_turn(run, machine, worker)
@@ -66,14 +65,14 @@ pub(crate) fn play_places(
 {
     for (place, worker) in schedule.iter().enumerate() {
         match play_place(run, machines, *worker) {
-            Played::Made => {}
-            Played::Ended => {
+            TurnOutcome::Made => {}
+            TurnOutcome::Ended => {
                 return Err(SimFault::Ended {
                     place,
                     worker: *worker,
                 });
             }
-            Played::Memory => return Err(SimFault::Memory),
+            TurnOutcome::Memory => return Err(SimFault::Memory),
         }
     }
     Ok(())

@@ -1,15 +1,15 @@
-//! What a worker was refused, held against the run.
+//! The comparison of the workers' refusals with the run.
 ghost use Rattle.std.specs.Prelude.{◌≡◌, ◌≢◌, ℕ, ◌≤◌, ◌<◌, ◌↔◌, ◌==◌, ◌+◌, ◌∷◌, ◌++◌, false, [], List, length, reverse, take, slice_get, Some, Ok, Err, IsTrue, MatchOption};
 ghost use Rattle.ec_core.specs.declared.act.Entry.{Entry};
 ghost use Rattle.ec_core.specs.Acceptance.{answer_of};
 ghost use Rattle.ec_core.specs.Counts.{past_at};
 ghost use Rattle.ec_core.specs.Standing.{StandsFor};
 ghost use Rattle.ec_machine.specs.Steps.{own};
-ghost use Rattle.ec_runner.specs.declared.told.Told.{Told};
+ghost use Rattle.ec_runner.specs.declared.summary.Summary.{Summary};
 ghost use Rattle.ec_runner.specs.Fits.{IsDoneBy, IsRefusedSo, IsRightThen, IsRightAt, IsUnborne};
 
-use crate::ending::worker_of;
-use crate::told::{Asked, Told};
+use crate::ending::nth_worker;
+use crate::summary::{LastRequest, Summary};
 use ec_core::{Act, Entry, Refusal, Run, World, accepted_means_answered};
 use ec_count::WorkerId;
 use ec_machine::Outcome;
@@ -20,9 +20,9 @@ fn is_same_refusal(refusal: Refusal, other: Refusal) -> bool
     refusal == other
 }
 
-/// Makes the step of an entry, to which it is the answer.
+/// Makes the step of an entry, whose reply is the world's answer to it.
 fn make(world: &mut World, entry: &Entry)
-    ensures stands { (h : List Entry) → StandsFor world.old h → answer_of world.old.setup (reverse h) entry.now.worker entry.now.act ≡ Ok entry.now.reply
+    ensures represents { (h : List Entry) → StandsFor world.old h → answer_of world.old.setup (reverse h) entry.now.worker entry.now.act ≡ Ok entry.now.reply
         → StandsFor world.new (h ++ entry.now ∷ []) }
     ensures setup { world.new.setup ≡ world.old.setup }
 {
@@ -32,10 +32,10 @@ fn make(world: &mut World, entry: &Entry)
 /// Makes the step of the entry at a place of a run.
 fn go_on(world: &mut World, run: &Run, place: usize)
     requires { place < length run.now.entries }
-    ensures stands { StandsFor world.old (take place run.now.entries) → world.old.setup ≡ run.now.setup → StandsFor world.new (take (place + 1) run.now.entries) }
+    ensures represents { StandsFor world.old (take place run.now.entries) → world.old.setup ≡ run.now.setup → StandsFor world.new (take (place + 1) run.now.entries) }
     ensures setup { world.new.setup ≡ world.old.setup }
 {
-    run.known();
+    run.invariant();
     accepted_means_answered();
     let Some(entry) = run.entry(place) else {
         return;
@@ -43,7 +43,7 @@ fn go_on(world: &mut World, run: &Run, place: usize)
     make(world, &entry);
 }
 
-/// Returns whether an act is refused so by a world that has come to a moment of a run.
+/// Returns whether a world that has come to a moment of a run refuses an act with this refusal.
 fn is_refused_by(
     run: &Run,
     world: &World,
@@ -52,7 +52,7 @@ fn is_refused_by(
     act: &Act,
     refusal: Refusal,
 ) -> bool
-    requires stands { StandsFor world.now (take moment run.now.entries) }
+    requires represents { StandsFor world.now (take moment run.now.entries) }
     requires setup { world.now.setup ≡ run.now.setup }
     ensures { IsTrue result ↔ (answer_of run.now.setup (past_at moment run.now.entries) worker act.now ≡ Err refusal) }
 {
@@ -60,12 +60,6 @@ fn is_refused_by(
         Ok(_) => false,
         Err(found) => is_same_refusal(found, refusal),
     }
-}
-
-fn is_own(entry: &Entry, worker: WorkerId) -> bool
-    ensures { result ≡ (entry.now.worker == worker) }
-{
-    entry.worker.get() == worker.get()
 }
 
 /// Returns whether the entry at a place is another worker's.
@@ -77,7 +71,7 @@ fn is_of_another(run: &Run, place: usize, worker: WorkerId) -> bool
     let Some(entry) = run.entry(place) else {
         return false;
     };
-    !is_own(&entry, worker)
+    !entry.is_of(worker)
 }
 
 /// Returns whether a worker had made all its steps by a moment.
@@ -95,16 +89,16 @@ fn is_done_by(run: &Run, moment: usize, worker: WorkerId) -> bool
     true
 }
 
-/// Returns whether what a worker asked for was refused so at its moment, to which the world has
-/// come, and by which all its steps were made.
+/// Returns whether what a worker asked for was refused with this refusal at its moment, to which
+/// the world has come. All the worker's steps must have been made by then.
 fn is_refused_so(
     run: &Run,
     world: &World,
     worker: WorkerId,
     refusal: Refusal,
-    asked: &Asked,
+    asked: &LastRequest,
 ) -> bool
-    requires stands { StandsFor world.now (take asked.now.moment run.now.entries) }
+    requires represents { StandsFor world.now (take asked.now.moment run.now.entries) }
     requires setup { world.now.setup ≡ run.now.setup }
     ensures { IsTrue result ↔ IsRefusedSo run.now worker refusal asked.now }
 {
@@ -114,17 +108,17 @@ fn is_refused_so(
     is_refused_by(run, world, asked.moment, worker, &asked.act, refusal)
 }
 
-/// Returns whether what a worker was refused is right, if it tells of the moment to which the world
-/// has come.
+/// Returns whether a worker's refusal is right, if it was at the moment to which the world has
+/// come; `true` if it was at another.
 fn is_right_then(
     run: &Run,
     world: &World,
     moment: usize,
     worker: WorkerId,
     refusal: Refusal,
-    asked: Option<Asked>,
+    asked: Option<LastRequest>,
 ) -> bool
-    requires stands { StandsFor world.now (take moment run.now.entries) }
+    requires represents { StandsFor world.now (take moment run.now.entries) }
     requires setup { world.now.setup ≡ run.now.setup }
     ensures { IsTrue result ↔ IsRightThen asked run.now moment worker refusal }
 {
@@ -139,15 +133,15 @@ fn is_right_then(
     }
 }
 
-/// Returns the same of a worker that may have ended otherwise.
-fn is_right_at(run: &Run, world: &World, moment: usize, worker: WorkerId, told: &Told) -> bool
-    requires stands { StandsFor world.now (take moment run.now.entries) }
+/// Returns the same of a worker's summary; `true` if the worker was not refused.
+fn is_right_at(run: &Run, world: &World, moment: usize, worker: WorkerId, summary: &Summary) -> bool
+    requires represents { StandsFor world.now (take moment run.now.entries) }
     requires setup { world.now.setup ≡ run.now.setup }
-    ensures { IsTrue result ↔ IsRightAt told.now.outcome told.now.asked run.now moment worker }
+    ensures { IsTrue result ↔ IsRightAt summary.now.outcome summary.now.asked run.now moment worker }
 {
-    match told.outcome {
+    match summary.outcome {
         Outcome::Refused(refusal) => {
-            is_right_then(run, world, moment, worker, refusal, told.asked)
+            is_right_then(run, world, moment, worker, refusal, summary.asked)
         }
         _ => true,
     }
@@ -155,38 +149,43 @@ fn is_right_at(run: &Run, world: &World, moment: usize, worker: WorkerId, told: 
 
 /// Returns the first worker whose refusal at this moment, to which the world has come, is not
 /// right.
-fn first_wrong_at(run: &Run, world: &World, moment: usize, tolds: &[Told]) -> Option<WorkerId>
-    requires few { length tolds.now ≤ 16 }
-    requires stands { StandsFor world.now (take moment run.now.entries) }
+fn first_wrong_at(
+    run: &Run,
+    world: &World,
+    moment: usize,
+    summaries: &[Summary],
+) -> Option<WorkerId>
+    requires few { length summaries.now ≤ 16 }
+    requires represents { StandsFor world.now (take moment run.now.entries) }
     requires setup { world.now.setup ≡ run.now.setup }
     ensures { MatchOption result
-        ((w : ℕ) (told : Told) → slice_get tolds.now w ≡ Some told → IsRightAt told.outcome told.asked run.now moment w)
-        (IsUnborne run.now tolds.now) }
+        ((w : ℕ) (summary : Summary) → slice_get summaries.now w ≡ Some summary → IsRightAt summary.outcome summary.asked run.now moment w)
+        (IsUnborne run.now summaries.now) }
 {
-    for w in 0..tolds.len() {
-        let worker = worker_of(w);
-        if !is_right_at(run, world, moment, worker, &tolds[w]) {
+    for w in 0..summaries.len() {
+        let worker = nth_worker(w);
+        if !is_right_at(run, world, moment, worker, &summaries[w]) {
             return Some(worker);
         }
     }
     None
 }
 
-/// Returns a worker whose refusal at a moment up to this one is not right, found in one walk over
-/// the entries with a world that makes their steps.
-pub(crate) fn first_wrong(run: &Run, tolds: &[Told], last: usize) -> Option<WorkerId>
-    requires few { length tolds.now ≤ 16 }
+/// Returns a worker whose refusal at a moment up to this one is not right. It is found in one pass
+/// over the run, with a world that makes its steps.
+pub(crate) fn first_wrong(run: &Run, summaries: &[Summary], last: usize) -> Option<WorkerId>
+    requires few { length summaries.now ≤ 16 }
     requires within { last ≤ length run.now.entries }
     ensures { MatchOption result
-        ((k w : ℕ) (told : Told) → k ≤ last → slice_get tolds.now w ≡ Some told → IsRightAt told.outcome told.asked run.now k w)
-        (IsUnborne run.now tolds.now) }
+        ((k w : ℕ) (summary : Summary) → k ≤ last → slice_get summaries.now w ≡ Some summary → IsRightAt summary.outcome summary.asked run.now k w)
+        (IsUnborne run.now summaries.now) }
 {
     let mut world = World::open(run.setup().copy());
     for k in 0..last {
-        match first_wrong_at(run, &world, k, tolds) {
+        match first_wrong_at(run, &world, k, summaries) {
             Some(worker) => return Some(worker),
             None => go_on(&mut world, run, k),
         }
     }
-    first_wrong_at(run, &world, last, tolds)
+    first_wrong_at(run, &world, last, summaries)
 }

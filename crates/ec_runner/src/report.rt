@@ -1,11 +1,11 @@
-//! What is told of a plan that was played.
+//! The report of a script that was run.
 use ec_core::{Entry, Run};
 use ec_count::WorkerId;
 use ec_machine::Outcome;
 use thiserror::Error;
 
-/// What the workers of a plan did: the run that they made, and, for each declared worker in order of
-/// declaration, its entries in order, and how its program has ended.
+/// What the workers of a script did: the run that they made, and, for each declared worker in order
+/// of declaration, its entries in order, and how its program has ended.
 #[derive(Drop)]
 pub struct Report {
     pub run: Run,

@@ -1,11 +1,11 @@
-//! Schedules.
+//! The playing of a schedule on one thread.
 ghost use Rattle.std.specs.Prelude.{◌≡◌, ◌<◌, ℕ, List, [], IfOk, MatchResult, Some, Vec, length, map, slice_get};
 ghost use Rattle.std.specs.List.{All};
 ghost use Rattle.std.specs.declared.alloc.Global.{Global};
 ghost use Rattle.ec_core.specs.declared.act.Entry.{Entry};
 ghost use Rattle.ec_machine.specs.declared.command.Command.{Command};
 ghost use Rattle.ec_machine.specs.declared.machine.Machine.{Machine};
-ghost use Rattle.ec_machine.specs.Standing.{kept_outcome};
+ghost use Rattle.ec_machine.specs.Standing.{machine_outcome};
 ghost use Rattle.ec_runner.specs.Machines.{AreMachines, IsPlayFault};
 ghost use Rattle.ec_runner.specs.Reported.{AreLogs, IsReport, IsSimFault};
 
@@ -18,8 +18,8 @@ use ec_machine::{Machine, Outcome, Program};
 use ec_script::Plan;
 use std::alloc::{AllocError, Global};
 
-/// Returns a machine at the start of each program.
-fn started(alloc: Global, programs: &[Program]) -> Result<Vec<Machine<'_>>, AllocError>
+/// Returns an interpreter for each program, at the start of it.
+fn start_machines(alloc: Global, programs: &[Program]) -> Result<Vec<Machine<'_>>, AllocError>
     ensures each { IfOk result (λ machines. length machines.items ≡ length programs.now) }
     ensures start { IfOk result (λ machines. AreMachines programs.now [] machines.items) }
 {
@@ -30,9 +30,9 @@ fn started(alloc: Global, programs: &[Program]) -> Result<Vec<Machine<'_>>, Allo
     Ok(machines)
 }
 
-/// Returns how the program of each machine has ended, if it has.
+/// Returns how the program of each interpreter has ended, if it has.
 fn outcomes_of(alloc: Global, machines: &[Machine<'_>]) -> Result<Vec<Outcome>, AllocError>
-    ensures { IfOk result (λ outcomes. outcomes.items ≡ map kept_outcome machines.now) }
+    ensures { IfOk result (λ outcomes. outcomes.items ≡ map machine_outcome machines.now) }
 {
     let mut outcomes = Vec::with_capacity(alloc, machines.len())?;
     for machine in machines {
@@ -41,11 +41,11 @@ fn outcomes_of(alloc: Global, machines: &[Machine<'_>]) -> Result<Vec<Outcome>, 
     Ok(outcomes)
 }
 
-/// Returns what is told of a run that was played by these machines.
+/// Returns the report of a run that these interpreters made.
 fn report_of(alloc: Global, run: Run, machines: &[Machine<'_>]) -> Result<Report, AllocError>
     ensures run { IfOk result (λ report. report.run ≡ run) }
     ensures logs { IfOk result (λ report. AreLogs run.setup.workers run.entries (map (λ (log : Vec Entry Global). log.items) report.logs.items)) }
-    ensures outcomes { IfOk result (λ report. report.outcomes.items ≡ map kept_outcome machines.now) }
+    ensures outcomes { IfOk result (λ report. report.outcomes.items ≡ map machine_outcome machines.now) }
 {
     let logs = logs_of(alloc, &run)?;
     let outcomes = outcomes_of(alloc, machines)?;
@@ -56,7 +56,7 @@ fn report_of(alloc: Global, run: Run, machines: &[Machine<'_>]) -> Result<Report
     })
 }
 
-/// Plays a schedule by machines that stand at the start of their programs.
+/// Plays a schedule with interpreters that are at the start of their programs.
 fn play_out(
     alloc: Global,
     mut run: Run,
@@ -92,15 +92,15 @@ fn play(
     let Ok(run) = Run::open(alloc, setup) else {
         return Err(SimFault::Memory);
     };
-    let Ok(mut machines) = started(alloc, programs) else {
+    let Ok(mut machines) = start_machines(alloc, programs) else {
         return Err(SimFault::Memory);
     };
     play_out(alloc, run, machines.as_mut_slice(), schedule)
 }
 
-/// Plays the schedule of a plan, one turn for each place, on one thread. In its turn a worker makes
-/// the step that its program asks for next; if the step is refused, no entry is made, and the
-/// program has ended. The time is linear in the number of places.
+/// Plays the schedule of a parsed script on one thread, one turn for each place. In its turn a
+/// worker makes the step that its program asks for next. If the step is refused, no entry is made,
+/// and the program has ended. The time is linear in the number of places.
 pub fn simulate(alloc: Global, plan: &Plan) -> Result<Report, SimFault>
     requires programs { length plan.now.programs.items ≡ plan.now.heading.setup.workers }
     requires schedule { All (λ w. w < plan.now.heading.setup.workers) plan.now.schedule.items }

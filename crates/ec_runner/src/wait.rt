@@ -1,21 +1,21 @@
 //! What a worker waits for.
 ghost use Rattle.std.specs.Prelude.{◌≡◌, ◌<◌, Some, length};
 ghost use Rattle.ec_runner.specs.declared.wait.Wait.{Wait};
-ghost use Rattle.ec_runner.specs.Boarded.{awaited, past_of, unmet};
+ghost use Rattle.ec_runner.specs.BoardModel.{await_fallen_short, past_of, unmet};
 
 use ec_core::{Act, Run};
 use ec_count::{EventId, WorkerId};
 
-/// The total of an eventcount is to come to a threshold.
+/// What a waiter waits for: the total of an eventcount has to reach a threshold.
 #[derive(Clone, Copy, Debug, PartialEq, Eq)]
 pub(crate) struct Wait {
     pub event: EventId,
     pub threshold: u64,
 }
 
-/// Returns the await whose last round fell short, if the worker's latest entry ended it.
-fn awaited(run: &Run, worker: WorkerId) -> Option<Wait>
-    ensures { result ≡ awaited run.now.setup worker (past_of run.now) }
+/// Returns the await whose last round fell short, if the worker's latest entry ended that round.
+fn await_fallen_short(run: &Run, worker: WorkerId) -> Option<Wait>
+    ensures { result ≡ await_fallen_short run.now.setup worker (past_of run.now) }
 {
     let call = run.world().under_way(worker)?;
     match call.op() {
@@ -24,7 +24,7 @@ fn awaited(run: &Run, worker: WorkerId) -> Option<Wait>
     }
 }
 
-/// Returns the same if the total has not come to the threshold.
+/// Returns this await, if the total has not reached its threshold.
 fn unmet(run: &Run, wait: Option<Wait>) -> Option<Wait>
     requires { (a : Wait) → wait ≡ Some a → a.event < length run.now.setup.events }
     ensures { result ≡ unmet (past_of run.now) wait }
@@ -39,11 +39,12 @@ fn unmet(run: &Run, wait: Option<Wait>) -> Option<Wait>
 }
 
 /// Returns the await of a worker whose last round fell short, if the worker's latest entry ended
-/// it and the total has not come to the threshold since.
+/// that round and the total has not reached the threshold since.
 pub(crate) fn unmet_await(run: &Run, worker: WorkerId) -> Option<Wait>
-    ensures { result ≡ unmet (past_of run.now) (awaited run.now.setup worker (past_of run.now)) }
+    ensures { result ≡ unmet (past_of run.now)
+        (await_fallen_short run.now.setup worker (past_of run.now)) }
 {
-    run.known();
-    let wait = awaited(run, worker);
+    run.invariant();
+    let wait = await_fallen_short(run, worker);
     unmet(run, wait)
 }

@@ -1,18 +1,19 @@
 //! Workers on threads of their own.
 ghost use Rattle.std.specs.Prelude.{◌≡◌, ℕ, ◌≤◌, map, length, Err, IfOk, IfErr, MatchResult};
 ghost use Rattle.ec_runner.specs.Fits.{AllFit, IsVerdict};
-ghost use Rattle.ec_runner.specs.Promised.{IsJoined, IsOneMore, AreJoined, AreToldOf, IsWant};
+ghost use Rattle.ec_runner.specs.WorkPromises.{IsJoinResult, IsOneMore, AreJoinResults};
+ghost use Rattle.ec_runner.specs.WorkPromises.{AreSummariesOf, IsThreadFault};
 ghost use Rattle.ec_runner.specs.RunReports.{IsReportOf, NamesDeclared};
 ghost use Rattle.ec_runner.specs.RunFaults.{IsRunFault};
 
 use crate::board::Board;
-use crate::duty::Duty;
 use crate::gate::Gate;
-use crate::mismatch::mismatched;
+use crate::mismatch::find_mismatch;
 use crate::report::Report;
 use crate::run_fault::RunFault;
-use crate::threads::{Shared, start_each};
-use crate::told::Told;
+use crate::summary::Summary;
+use crate::threads::{SharedState, start_each};
+use crate::work_promise::WorkPromise;
 use ec_core::Run;
 use ec_count::Setup;
 use ec_machine::Program;
@@ -22,17 +23,21 @@ use std::sync::{Condvar, Mutex, Wait};
 use std::thread;
 use std::thread::{PromisedHandle, Scope, Threads};
 
-/// Returns the report of a run and what its workers tell.
-fn made_report(alloc: Global, run: Run, tolds: Vec<Told>) -> Result<Report, AllocError>
+/// Returns the report of a run and its workers' summaries.
+fn report_of_summaries(
+    alloc: Global,
+    run: Run,
+    summaries: Vec<Summary>,
+) -> Result<Report, AllocError>
     ensures run { IfOk result (λ r. r.run ≡ run) }
-    ensures logs { IfOk result (λ r. r.logs.items ≡ map (λ t. t.log) tolds.items) }
-    ensures outcomes { IfOk result (λ r. r.outcomes.items ≡ map (λ t. t.outcome) tolds.items) }
+    ensures logs { IfOk result (λ r. r.logs.items ≡ map (λ t. t.log) summaries.items) }
+    ensures outcomes { IfOk result (λ r. r.outcomes.items ≡ map (λ t. t.outcome) summaries.items) }
 {
     let mut logs = Vec::new(alloc);
     let mut outcomes = Vec::new(alloc);
-    for told in tolds {
-        logs.push(told.log)?;
-        outcomes.push(told.outcome)?;
+    for summary in summaries {
+        logs.push(summary.log)?;
+        outcomes.push(summary.outcome)?;
     }
     Ok(Report {
         run,
@@ -41,24 +46,30 @@ fn made_report(alloc: Global, run: Run, tolds: Vec<Told>) -> Result<Report, Allo
     })
 }
 
-/// Returns what one more worker tells, behind the others. A thread that was not started comes
-/// before want of memory.
-fn with_told(tolds: Result<Vec<Told>, RunFault>, told: Option<Told>) -> Result<Vec<Told>, RunFault>
-    ensures { IsOneMore tolds told result }
+/// Adds the summary of one more worker. A thread that was not started is reported rather than out
+/// of memory.
+fn push_summary(
+    summaries: Result<Vec<Summary>, RunFault>,
+    summary: Option<Summary>,
+) -> Result<Vec<Summary>, RunFault>
+    ensures { IsOneMore summaries summary result }
 {
-    let Some(told) = told else {
+    let Some(summary) = summary else {
         return Err(RunFault::Spawn);
     };
-    let mut tolds = tolds?;
-    match tolds.push(told) {
-        Ok(()) => Ok(tolds),
+    let mut summaries = summaries?;
+    match summaries.push(summary) {
+        Ok(()) => Ok(summaries),
         Err(_) => Err(RunFault::Memory),
     }
 }
 
-/// Returns what a thread tells, if it was started.
-fn joined<R: Threads>(rt: &R, handle: Option<PromisedHandle<Told, Duty<'_>>>) -> Option<Told>
-    ensures { IsJoined handle.entry result }
+/// Joins a thread and returns its summary, if the thread was started.
+fn join_worker<R: Threads>(
+    rt: &R,
+    handle: Option<PromisedHandle<Summary, WorkPromise<'_>>>,
+) -> Option<Summary>
+    ensures { IsJoinResult handle.entry result }
 {
     match handle {
         Some(handle) => Some(handle.join(rt)),
@@ -66,20 +77,20 @@ fn joined<R: Threads>(rt: &R, handle: Option<PromisedHandle<Told, Duty<'_>>>) ->
     }
 }
 
-/// Joins all threads, and gives what their workers tell, in order.
+/// Joins all threads, and returns the summaries of their workers in order.
 fn join_each<R: Threads>(
     rt: &R,
     alloc: Global,
-    handles: Vec<Option<PromisedHandle<Told, Duty<'_>>>>,
-) -> Result<Vec<Told>, RunFault>
-    ensures { AreJoined handles.entry.items result }
+    handles: Vec<Option<PromisedHandle<Summary, WorkPromise<'_>>>>,
+) -> Result<Vec<Summary>, RunFault>
+    ensures { AreJoinResults handles.entry.items result }
 {
-    let mut tolds = Ok(Vec::new(alloc));
+    let mut summaries = Ok(Vec::new(alloc));
     for handle in handles {
-        let told = joined(rt, handle);
-        tolds = with_told(tolds, told);
+        let summary = join_worker(rt, handle);
+        summaries = push_summary(summaries, summary);
     }
-    tolds
+    summaries
 }
 
 /// Starts a thread for each program, and joins them all.
@@ -87,21 +98,21 @@ fn start_and_join<'s, E: 's, R: Threads + Wait + Sync, G: Gate + Sync>(
     rt: &'s R,
     scope: &Scope<'s, E>,
     board: &'s Mutex<Board>,
-    sleeps: &'s [Condvar; 16],
+    condvars: &'s [Condvar; 16],
     programs: &'s [Program],
     gate: &'s G,
     turns: u64,
     alloc: Global,
-) -> Result<Vec<Told>, RunFault>
+) -> Result<Vec<Summary>, RunFault>
     requires { length programs.now ≤ 16 }
-    ensures { MatchResult result (λ v. AreToldOf programs.now turns v.items) IsWant }
+    ensures { MatchResult result (λ v. AreSummariesOf programs.now turns v.items) IsThreadFault }
 {
     let Ok(room) = Vec::with_capacity(alloc, programs.len()) else {
         return Err(RunFault::Memory);
     };
-    let shared = Shared {
+    let shared = SharedState {
         board,
-        sleeps,
+        condvars,
         gate,
         turns,
         alloc,
@@ -110,72 +121,87 @@ fn start_and_join<'s, E: 's, R: Threads + Wait + Sync, G: Gate + Sync>(
     join_each(rt, alloc, handles)
 }
 
-/// Returns what each worker sleeps on.
-fn sleeps() -> [Condvar; 16] {
+/// Returns a condition variable for each worker.
+fn new_condvars() -> [Condvar; 16] {
     std::array::from_fn(|_| Condvar::new())
 }
 
-/// Runs each program in a thread of its own, all at once, on one board. The run is that of the board
-/// when all threads have ended.
-fn ran<R: Threads + Wait + Sync, G: Gate + Sync>(
+/// Runs each program in a thread of its own, all at once, on one board. Returns the board's run,
+/// once all threads have ended, and their summaries.
+fn run_threads<R: Threads + Wait + Sync, G: Gate + Sync>(
     rt: &R,
     alloc: Global,
     setup: &Setup,
     programs: &[Program],
     gate: &G,
     turns: u64,
-) -> Result<(Run, Vec<Told>), RunFault>
+) -> Result<(Run, Vec<Summary>), RunFault>
     requires { length programs.now ≤ 16 }
-    ensures { MatchResult result (λ r. AreToldOf programs.now turns r.1.items) IsWant }
+    ensures { MatchResult result (λ r. AreSummariesOf programs.now turns r.1.items) IsThreadFault }
 {
     let Ok(board) = Board::open(alloc, setup.copy()) else {
         return Err(RunFault::Memory);
     };
     let board = Mutex::new(board);
-    let sleeps = sleeps();
+    let condvars = new_condvars();
     let lock = &board;
-    let beds = &sleeps;
-    let tolds = thread::scope(
+    let shared_condvars = &condvars;
+    let summaries = thread::scope(
         thread::scope_env(),
         rt,
-        |scope| -> Result<Vec<Told>, RunFault>
+        |scope| -> Result<Vec<Summary>, RunFault>
             requires { length programs.now ≤ 16 }
-            ensures { MatchResult result (λ v. AreToldOf programs.entry.now turns v.items) IsWant }
-        { start_and_join(rt, scope, lock, beds, programs, gate, turns, alloc) },
+            ensures { MatchResult result (λ v. AreSummariesOf programs.entry.now turns v.items)
+                IsThreadFault }
+        {
+            start_and_join(
+                rt,
+                scope,
+                lock,
+                shared_condvars,
+                programs,
+                gate,
+                turns,
+                alloc,
+            )
+        },
     )?;
-    Ok((board.into_inner().into_run(), tolds))
+    Ok((board.into_inner().into_run(), summaries))
 }
 
-/// Returns what is told of a run: its report, if what the workers tell fits it, and else the
-/// mismatch.
-fn reported(alloc: Global, setup: &Setup, run: Run, tolds: Vec<Told>) -> Result<Report, RunFault>
-    requires few { length tolds.items ≤ 16 }
-    requires each { length tolds.items ≡ setup.now.workers }
-    ensures { IsVerdict result setup.now run tolds.items }
+/// Returns the report of a run, if the workers' summaries fit it, and otherwise the mismatch.
+fn report_or_mismatch(
+    alloc: Global,
+    setup: &Setup,
+    run: Run,
+    summaries: Vec<Summary>,
+) -> Result<Report, RunFault>
+    requires few { length summaries.items ≤ 16 }
+    requires each { length summaries.items ≡ setup.now.workers }
+    ensures { IsVerdict result setup.now run summaries.items }
 {
-    match mismatched(setup, &run, tolds.as_slice()) {
+    match find_mismatch(setup, &run, summaries.as_slice()) {
         Some(worker) => return Err(RunFault::Mismatch(worker)),
         None => {}
     }
-    match made_report(alloc, run, tolds) {
+    match report_of_summaries(alloc, run, summaries) {
         Ok(report) => Ok(report),
         Err(_) => Err(RunFault::Memory),
     }
 }
 
-/// Returns what is told of workers that have ended: why nothing is known of them, if so, and else
-/// what their run and what they tell come to.
-fn answered(
+/// Returns the report of workers that have ended, or why there is none.
+fn conclude(
     alloc: Global,
     setup: &Setup,
-    ran: Result<(Run, Vec<Told>), RunFault>,
+    ran: Result<(Run, Vec<Summary>), RunFault>,
 ) -> Result<Report, RunFault>
     requires few { IfOk ran (λ r. length r.1.items ≤ 16) }
     requires each { IfOk ran (λ r. length r.1.items ≡ setup.now.workers) }
     ensures { MatchResult ran (λ r. IsVerdict result setup.now r.0 r.1.items) (λ fault. result ≡ Err fault) }
 {
-    let (run, tolds) = ran?;
-    reported(alloc, setup, run, tolds)
+    let (run, summaries) = ran?;
+    report_or_mismatch(alloc, setup, run, summaries)
 }
 
 /// Runs programs of the workers of these declarations, each in a thread of its own.
@@ -192,18 +218,19 @@ fn run_on<R: Threads + Wait + Sync, G: Gate + Sync>(
     ensures named { IfErr result (NamesDeclared setup.now) }
     ensures fault { IfErr result (IsRunFault setup.now programs.now turns) }
 {
-    setup.known();
-    let ended = ran(rt, alloc, setup, programs, gate, turns);
-    answered(alloc, setup, ended)
+    setup.invariant();
+    let ended = run_threads(rt, alloc, setup, programs, gate, turns);
+    conclude(alloc, setup, ended)
 }
 
-/// Runs the programs of a plan, each worker's in a thread of its own, all at once, on one board
-/// under one lock; the plan's schedule is not used. A turn is one step that a worker asks the board
-/// for, in one hold of the lock, and no worker has more than `turns`. If a worker's await has
-/// fallen short it sleeps until the total has come to its threshold, or until no active worker is
-/// left that doesn't wait. The gate is called before each hold. When all have ended, what they were
-/// told is held against the run: a mismatch names a declared worker. A thread that could not be
-/// started comes before want of memory for what workers tell.
+/// Runs the programs of a parsed script, each worker's in a thread of its own, all at once, on one
+/// board under one lock. The script's schedule is not used. A turn is one step that a worker asks
+/// the board for, in one critical section, and no worker has more than `turns`. A worker whose
+/// await has fallen short sleeps, unless that was its last turn. It sleeps until the total has
+/// reached its threshold, or until every active worker waits. The gate is called before each
+/// critical section. When all have ended, their logs and outcomes are compared with the run: a
+/// mismatch names a declared worker. `Spawn` is reported rather than out of memory for the
+/// summaries.
 pub fn run_workers<R: Threads + Wait + Sync, G: Gate + Sync>(
     rt: &R,
     alloc: Global,

@@ -1,4 +1,4 @@
--- No object belongs to two groups of a heading: each declaration takes the objects that come next.
+-- No object belongs to two groups of a header: each declaration uses the objects that come next.
 use Rattle.std.proofs.Common.{◌≡◌, ◌⊎◌, inl, inr, ℕ, ◌+◌, ◌<◌, ◌≤◌, List, [], ◌∷◌, ◌++◌, length, true, ◌&&◌, ◌||◌, Option, Some, None, sym, ◌∙◌, subst, arith, append-nil, length-append, nat_le, nat_lt, eqb, eqb-true, leb-true, ltb-true}
 use Rattle.std.specs.List.{Contains, cons_option}
 use Rattle.std.proofs.lemmas.Bool.{and_parts, or_cases}
@@ -8,10 +8,10 @@ use Rattle.ec_count.specs.Tables.{Tables}
 use Rattle.ec_count.specs.declared.setup.Rights.{Rights}
 use Rattle.ec_count.specs.declared.setup.Access.{Access}
 use Rattle.ec_heading.specs.declared.group.Group.{Group}
-use Rattle.ec_heading.specs.declared.sort.Sort.{Sort}
-use Rattle.ec_heading.specs.declared.sort.Sort.TheVariants as sorts
-use Rattle.ec_heading.specs.Objects.{group_of}
-use Rattle.ec_heading.specs.Outline.{with_objects}
+use Rattle.ec_heading.specs.declared.decl_kind.DeclKind.{DeclKind}
+use Rattle.ec_heading.specs.declared.decl_kind.DeclKind.TheVariants as sorts
+use Rattle.ec_heading.specs.Objects.{group_of_declaration}
+use Rattle.ec_heading.specs.HeaderTree.{with_objects}
 use Rattle.ec_script.specs.declared.object.Object.{Object}
 use Rattle.ec_script.specs.declared.object.Object.TheVariants.{Event, Sequencer, Cell, Handed}
 use Rattle.ec_script.specs.Objects.{owns}
@@ -39,7 +39,7 @@ stays t u (Cell x) grow of = omega (arith, grow.cells, of)
 stays t u (Handed e b) grow of = omega (arith, grow.events, of)
 stays t u _ grow of = tt
 
-pub tables_grow : (s : Sort) (t : Tables) (n : ℕ) (first second : List ℕ) → Grow t (with_objects s t n first second)
+pub tables_grow : (s : DeclKind) (t : Tables) (n : ℕ) (first second : List ℕ) → Grow t (with_objects s t n first second)
 tables_grow sorts.EventCount t n first second = record { events = omega (arith, length-append {A = Rights}); takers = omega arith; cells = omega arith }
 tables_grow sorts.Sequencer t n first second = record { events = omega arith; takers = omega (arith, length-append {A = List ℕ}); cells = omega arith }
 tables_grow sorts.Cells t n first second = record { events = omega arith; takers = omega arith; cells = omega (arith, length-append {A = Access}) }
@@ -72,7 +72,7 @@ buffer_events t n first second e own =
     let i = either_is (length t.events) (length t.events + 1) e own in
     ((λ of. omega (arith, i, of)), omega (arith, i, length-append {A = Rights}))
 
-buffer_new : (t : Tables) (n : ℕ) (first second : List ℕ) → AreNew t (with_objects sorts.Buffer t n first second) (group_of sorts.Buffer t n)
+buffer_new : (t : Tables) (n : ℕ) (first second : List ℕ) → AreNew t (with_objects sorts.Buffer t n first second) (group_of_declaration sorts.Buffer t n)
 buffer_new t n first second (Event e) own = buffer_events t n first second e own
 buffer_new t n first second (Handed e b) own = buffer_events t n first second e own
 buffer_new t n first second (Sequencer q) own =
@@ -88,7 +88,7 @@ database_events t n first second e own =
     let i = either_is (length t.events) (length t.events + 1) e own in
     ((λ of. omega (arith, i, of)), omega (arith, i, length-append {A = Rights}))
 
-database_new : (t : Tables) (n : ℕ) (first second : List ℕ) → AreNew t (with_objects sorts.Database t n first second) (group_of sorts.Database t n)
+database_new : (t : Tables) (n : ℕ) (first second : List ℕ) → AreNew t (with_objects sorts.Database t n first second) (group_of_declaration sorts.Database t n)
 database_new t n first second (Event e) own = database_events t n first second e own
 database_new t n first second (Handed e b) own = database_events t n first second e own
 database_new t n first second (Sequencer q) own =
@@ -104,7 +104,7 @@ semaphore_events t n first second e own =
     let i = one_is (length t.events) e own in
     ((λ of. omega (arith, i, of)), omega (arith, i, length-append {A = Rights}))
 
-semaphore_new : (t : Tables) (n : ℕ) (first second : List ℕ) → AreNew t (with_objects sorts.Semaphore t n first second) (group_of sorts.Semaphore t n)
+semaphore_new : (t : Tables) (n : ℕ) (first second : List ℕ) → AreNew t (with_objects sorts.Semaphore t n first second) (group_of_declaration sorts.Semaphore t n)
 semaphore_new t n first second (Event e) own = semaphore_events t n first second e own
 semaphore_new t n first second (Handed e b) own = semaphore_events t n first second e own
 semaphore_new t n first second (Sequencer q) own =
@@ -117,7 +117,7 @@ both_events t n first second e own =
     let i = one_is (length t.events) e own in
     ((λ of. omega (arith, i, of)), omega (arith, i, length-append {A = Rights}))
 
-both_new : (t : Tables) (n : ℕ) (first second : List ℕ) → AreNew t (with_objects sorts.Both t n first second) (group_of sorts.Both t n)
+both_new : (t : Tables) (n : ℕ) (first second : List ℕ) → AreNew t (with_objects sorts.Both t n first second) (group_of_declaration sorts.Both t n)
 both_new t n first second (Event e) own = both_events t n first second e own
 both_new t n first second (Handed e b) own = both_events t n first second e own
 both_new t n first second (Sequencer q) own =
@@ -125,7 +125,7 @@ both_new t n first second (Sequencer q) own =
     ((λ of. omega (arith, i, of)), omega (arith, i, length-append {A = List ℕ}))
 both_new t n first second _ own = cc
 
-pub group_new : (s : Sort) (t : Tables) (n : ℕ) (first second : List ℕ) → AreNew t (with_objects s t n first second) (group_of s t n)
+pub group_new : (s : DeclKind) (t : Tables) (n : ℕ) (first second : List ℕ) → AreNew t (with_objects s t n first second) (group_of_declaration s t n)
 group_new sorts.EventCount t n first second = tt
 group_new sorts.Sequencer t n first second = tt
 group_new sorts.Cells t n first second = tt
@@ -166,6 +166,6 @@ apart_more : (t u : Tables) (gs : List Group) (o : Option Group) → Grow t u �
 apart_more t u gs None grow new keep = subst (KeepApart u) (sym (append-nil gs)) (record { below = λ o g c own. stays t u o grow (keep.below o g c own); apart = keep.apart })
 apart_more t u gs (Some g) grow new keep = apart_push t u gs g grow new keep
 
--- and so it stays with one more declaration
-pub declared_apart : (s : Sort) (t : Tables) (n : ℕ) (first second : List ℕ) (gs : List Group) → KeepApart t gs → KeepApart (with_objects s t n first second) (gs ++ cons_option (group_of s t n) [])
-declared_apart s t n first second gs keep = apart_more t (with_objects s t n first second) gs (group_of s t n) (tables_grow s t n first second) (group_new s t n first second) keep
+-- so it stays with one more declaration
+pub declared_apart : (s : DeclKind) (t : Tables) (n : ℕ) (first second : List ℕ) (gs : List Group) → KeepApart t gs → KeepApart (with_objects s t n first second) (gs ++ cons_option (group_of_declaration s t n) [])
+declared_apart s t n first second gs keep = apart_more t (with_objects s t n first second) gs (group_of_declaration s t n) (tables_grow s t n first second) (group_new s t n first second) keep

@@ -1,4 +1,4 @@
--- A word that spells a cell is the one that spells it.
+-- A word that names a cell is its canonical encoding.
 use Rattle.std.proofs.Common.{◌≡◌, ℕ, ◌+◌, ◌<◌, List, [], ◌∷◌, ◌++◌, cond, eqb, true, false, Option, None, Some, refl, sym, ap, ◌∙◌, decimal, append_assoc, nat_lt}
 use Rattle.std.specs.Prelude.{option_map}
 use Rattle.std.specs.Option.{option_and_then}
@@ -6,35 +6,35 @@ use Rattle.std.proofs.lemmas.Bool.{eqb-true, ltb-true}
 use Rattle.ec_count.specs.Names.{find_name}
 use Rattle.ec_count.specs.declared.target.Target.{Target}
 use Rattle.ec_count.specs.declared.target.Target.TheVariants.{Cells}
-use Rattle.ec_text.specs.Words.{number_of}
+use Rattle.ec_text.specs.Words.{number_in_word}
 use Rattle.ec_text.proofs.shared.NumberLemmas.{number_takes, guarded}
 use Rattle.ec_heading.specs.Spelling.{cell_word}
-use Rattle.ec_heading.specs.Spelled.{Named, cut_at, closed_number, block_of, cell_at, cell_of, cell_by, cell_in_word}
+use Rattle.ec_heading.specs.EntryWords.{NameTable, cut_at, closed_number, block_of, cell_at, cell_of, cell_by, cell_in_word}
 use Rattle.ec_heading.proofs.shared.ReadNames.{AreApart, bracketed, cell_back}
 
 pub and_then_back : {A B : Type 0} (f : A → Option B) (o : Option A) (y : B) → option_and_then f o ≡ Some y → (x : A) × (o ≡ Some x) × (f x ≡ Some y)
 and_then_back f None y e = cc
 and_then_back f (Some x) y e = (x, refl, e)
 
-front_back : (b : ℕ) (o : Option (List ℕ × List ℕ)) (front rest : List ℕ) → option_map {U = List ℕ × List ℕ} (λ (p : List ℕ × List ℕ). (b ∷ p.0, p.1)) o ≡ Some (front, rest)
-    → (mid : List ℕ) × (o ≡ Some (mid, rest)) × (front ≡ b ∷ mid)
-front_back b None front rest e = cc
-front_back b (Some p) front rest e = (
-    let same : (b ∷ p.0, p.1) ≡ (front, rest) = cc in
+front_back : (b : ℕ) (o : Option (List ℕ × List ℕ)) (prefix rest : List ℕ) → option_map {U = List ℕ × List ℕ} (λ (p : List ℕ × List ℕ). (b ∷ p.0, p.1)) o ≡ Some (prefix, rest)
+    → (mid : List ℕ) × (o ≡ Some (mid, rest)) × (prefix ≡ b ∷ mid)
+front_back b None prefix rest e = cc
+front_back b (Some p) prefix rest e = (
+    let same : (b ∷ p.0, p.1) ≡ (prefix, rest) = cc in
     let tail : p.1 ≡ rest = ap (λ (q : List ℕ × List ℕ). q.1) same in
     (p.0, ap (λ (r : List ℕ). Some (p.0, r)) tail, sym (ap (λ (q : List ℕ × List ℕ). q.0) same)))
 
 -- the pieces, with the byte between them, are the word
-cut_joins : (c : ℕ) (word front rest : List ℕ) → cut_at c word ≡ Some (front, rest) → word ≡ front ++ c ∷ rest
+cut_joins : (c : ℕ) (word prefix rest : List ℕ) → cut_at c word ≡ Some (prefix, rest) → word ≡ prefix ++ c ∷ rest
 unfolding cut_at
-cut_joins c [] front rest e = cc
-cut_joins c (b ∷ word) front rest e =
-    elim (eqb b c) as (λ t. eqb b c ≡ t → cond t (Some ([], word)) (option_map {U = List ℕ × List ℕ} (λ (p : List ℕ × List ℕ). (b ∷ p.0, p.1)) (cut_at c word)) ≡ Some (front, rest) → b ∷ word ≡ front ++ c ∷ rest) [
+cut_joins c [] prefix rest e = cc
+cut_joins c (b ∷ word) prefix rest e =
+    elim (eqb b c) as (λ t. eqb b c ≡ t → cond t (Some ([], word)) (option_map {U = List ℕ × List ℕ} (λ (p : List ℕ × List ℕ). (b ∷ p.0, p.1)) (cut_at c word)) ≡ Some (prefix, rest) → b ∷ word ≡ prefix ++ c ∷ rest) [
       | true ↦ λ q g.
-          (let same : ([], word) ≡ (front, rest) = cc in
+          (let same : ([], word) ≡ (prefix, rest) = cc in
           ap (λ (x : ℕ). x ∷ word) (eqb-true b c q) ∙ ap (λ (p : List ℕ × List ℕ). p.0 ++ c ∷ p.1) same)
       | false ↦ λ q g.
-          (let k = front_back b (cut_at c word) front rest g in
+          (let k = front_back b (cut_at c word) prefix rest g in
           ap (λ (r : List ℕ). b ∷ r) (cut_joins c word k.0 rest k.1) ∙ ap (λ (r : List ℕ). r ++ c ∷ rest) (sym k.2))
     ] refl e
 
@@ -48,12 +48,12 @@ inside_back i first n x e =
     (ltb-true _ _ g.0, cc)
 
 -- the number before the bracket
-closed_back : (p : Option (List ℕ × List ℕ)) (i : ℕ) → closed_number p ≡ Some i → (digits : List ℕ) × (p ≡ Some (digits, [])) × (number_of digits ≡ Some i)
+closed_back : (p : Option (List ℕ × List ℕ)) (i : ℕ) → closed_number p ≡ Some i → (digits : List ℕ) × (p ≡ Some (digits, [])) × (number_in_word digits ≡ Some i)
 closed_back None i e = cc
 closed_back (Some (digits, [])) i e = (digits, refl, e)
 closed_back (Some (digits, b ∷ bs)) i e = cc
 
-record IsCell (names : Named) (word : List ℕ) (x : ℕ) : Type 0 where
+record IsCell (names : NameTable) (word : List ℕ) (x : ℕ) : Type 0 where
   block : List ℕ
   first : ℕ
   count : ℕ
@@ -63,7 +63,7 @@ record IsCell (names : Named) (word : List ℕ) (x : ℕ) : Type 0 where
   is : first + place ≡ x
   spelled : word ≡ bracketed block place
 
-cell_parts : (names : Named) (word : List ℕ) (p : Option (List ℕ × List ℕ)) (x : ℕ) → cut_at 91 word ≡ p → cell_by names p ≡ Some x → IsCell names word x
+cell_parts : (names : NameTable) (word : List ℕ) (p : Option (List ℕ × List ℕ)) (x : ℕ) → cut_at 91 word ≡ p → cell_by names p ≡ Some x → IsCell names word x
 cell_parts names word None x at e = cc
 cell_parts names word (Some (name, rest)) x at e =
     let n = and_then_back (cell_of names name) (closed_number (cut_at 93 rest)) x e in
@@ -84,11 +84,11 @@ cell_parts names word (Some (name, rest)) x at e =
       spelled = outer ∙ ap (λ (r : List ℕ). name ++ 91 ∷ r) inner ∙ sym (append_assoc (name ++ 91 ∷ []) (decimal n.0) (93 ∷ []) ∙ append_assoc name (91 ∷ []) (decimal n.0 ++ 93 ∷ []));
     }
 
-cell_is : (names : Named) (word : List ℕ) (x : ℕ) → cell_in_word names word ≡ Some x → IsCell names word x
+cell_is : (names : NameTable) (word : List ℕ) (x : ℕ) → cell_in_word names word ≡ Some x → IsCell names word x
 unfolding cell_in_word
 cell_is names word x e = cell_parts names word (cut_at 91 word) x refl e
 
-pub cell_spelled : (names : Named) (word : List ℕ) (x : ℕ) → AreApart names → cell_in_word names word ≡ Some x → cell_word names x ≡ word
+pub cell_spelled : (names : NameTable) (word : List ℕ) (x : ℕ) → AreApart names → cell_in_word names word ≡ Some x → cell_word names x ≡ word
 cell_spelled names word x apart e =
     let c = cell_is names word x e in
     ap (cell_word names) (sym c.is) ∙ cell_back names c.block c.first c.count c.place apart c.inside c.found ∙ sym c.spelled

@@ -1,4 +1,4 @@
--- The common semaphore of a heading: it has initial value 1, and no object of another group.
+-- The common semaphore of a header: it has initial value 1, and no object of another group.
 use Rattle.std.proofs.Common.{◌≡◌, inl, inr, ℕ, suc, ◌==◌, false, List, [], ◌∷◌, ◌++◌, Some, refl, sym, ap, ◌∙◌, subst, arith}
 use Rattle.std.specs.List.{AllByRecursion, Contains, cons_option}
 use Rattle.std.proofs.lemmas.Bool.{eq-eqb, false_from_ne_true}
@@ -7,14 +7,14 @@ use Rattle.ec_count.specs.Tables.{Tables}
 use Rattle.ec_semaphore.specs.Shapes.{Semaphore}
 use Rattle.ec_heading.specs.declared.group.Group.{Group}
 use Rattle.ec_heading.specs.declared.group.Group.TheVariants as groups
-use Rattle.ec_heading.specs.declared.sort.Sort.{Sort}
-use Rattle.ec_heading.specs.declared.sort.Sort.TheVariants as sorts
-use Rattle.ec_heading.specs.Objects.{group_of}
-use Rattle.ec_heading.specs.Headed.{Headed}
-use Rattle.ec_heading.specs.Outline.{Declaration, Outline, opened, declared_by, declared_all}
-use Rattle.ec_heading.specs.Outlined.{IsHeading}
+use Rattle.ec_heading.specs.declared.decl_kind.DeclKind.{DeclKind}
+use Rattle.ec_heading.specs.declared.decl_kind.DeclKind.TheVariants as sorts
+use Rattle.ec_heading.specs.Objects.{group_of_declaration}
+use Rattle.ec_heading.specs.HeadingModel.{HeadingModel}
+use Rattle.ec_heading.specs.HeaderTree.{Declaration, HeaderTree, empty_heading, with_declaration, with_declarations}
+use Rattle.ec_heading.specs.HeadingInvariant.{IsHeading}
 use Rattle.ec_script.specs.declared.object.Object.TheVariants.{Event}
-use Rattle.ec_script.specs.Objects.{both_of}
+use Rattle.ec_heading.specs.Groups.{both_of}
 use Rattle.ec_script.specs.Confined.{AreApart}
 use Rattle.ec_script.proofs.Apart.{KeepApart, none_apart, declared_apart}
 
@@ -24,7 +24,7 @@ abbrev StartsAtOne : Group → Type 0
 StartsAtOne (groups.Both s) = s.initial ≡ 1
 StartsAtOne _ = Unit {0}
 
-new_starts : (s : Sort) (t : Tables) (n : ℕ) → AllByRecursion StartsAtOne (cons_option (group_of s t n) [])
+new_starts : (s : DeclKind) (t : Tables) (n : ℕ) → AllByRecursion StartsAtOne (cons_option (group_of_declaration s t n) [])
 new_starts sorts.EventCount t n = tt
 new_starts sorts.Sequencer t n = tt
 new_starts sorts.Cells t n = tt
@@ -37,16 +37,16 @@ starts_more : (gs ks : List Group) → AllByRecursion StartsAtOne gs → AllByRe
 starts_more [] ks a b = b
 starts_more (g ∷ gs) ks a b = (a.0, starts_more gs ks a.1 b)
 
-all_start : (h : Headed) (ds : List Declaration) → AllByRecursion StartsAtOne h.groups → AllByRecursion StartsAtOne (declared_all h ds).groups
+all_start : (h : HeadingModel) (ds : List Declaration) → AllByRecursion StartsAtOne h.groups → AllByRecursion StartsAtOne (with_declarations h ds).groups
 all_start h [] start = start
 all_start h (d ∷ ds) start =
-    all_start (declared_by h d) ds (starts_more h.groups (cons_option (group_of d.sort h.setup d.number) []) start (new_starts d.sort h.setup d.number))
+    all_start (with_declaration h d) ds (starts_more h.groups (cons_option (group_of_declaration d.sort h.setup d.number) []) start (new_starts d.sort h.setup d.number))
 
-heading_starts : (h : Headed) → IsHeading h → AllByRecursion StartsAtOne h.groups
-heading_starts h (inl (is, within)) = subst (λ (g : Headed). AllByRecursion StartsAtOne g.groups) (sym is) tt
+heading_starts : (h : HeadingModel) → IsHeading h → AllByRecursion StartsAtOne h.groups
+heading_starts h (inl (is, within)) = subst (λ (g : HeadingModel). AllByRecursion StartsAtOne g.groups) (sym is) tt
 heading_starts h (inr has) =
-    let o : Outline = has.outline in
-    subst (λ (g : Headed). AllByRecursion StartsAtOne g.groups) has.declares (all_start (opened o.version o.limit o.workers) o.declarations tt)
+    let o : HeaderTree = has.outline in
+    subst (λ (g : HeadingModel). AllByRecursion StartsAtOne g.groups) has.declares (all_start (empty_heading o.version o.limit o.workers) o.declarations tt)
 
 both_starts : (gs : List Group) (s : Semaphore) → AllByRecursion StartsAtOne gs → both_of gs ≡ Some s → s.initial ≡ 1
 both_starts [] s start is = cc
@@ -55,25 +55,25 @@ both_starts (groups.Database d ∷ gs) s start is = both_starts gs s start.1 is
 both_starts (groups.Semaphore u ∷ gs) s start is = both_starts gs s start.1 is
 both_starts (groups.Both u ∷ gs) s start is = ap (λ (x : Semaphore). x.initial) (sym (same_Some u s is)) ∙ start.0
 
-pub common_starts : (h : Headed) (s : Semaphore) → IsHeading h → both_of h.groups ≡ Some s → s.initial ≡ 1
+pub common_starts : (h : HeadingModel) (s : Semaphore) → IsHeading h → both_of h.groups ≡ Some s → s.initial ≡ 1
 common_starts h s is both = both_starts h.groups s (heading_starts h is) both
 
 -- ITS OBJECTS
 
-all_apart : (h : Headed) (ds : List Declaration) → KeepApart h.setup h.groups → KeepApart (declared_all h ds).setup (declared_all h ds).groups
+all_apart : (h : HeadingModel) (ds : List Declaration) → KeepApart h.setup h.groups → KeepApart (with_declarations h ds).setup (with_declarations h ds).groups
 all_apart h [] keep = keep
-all_apart h (d ∷ ds) keep = all_apart (declared_by h d) ds (declared_apart d.sort h.setup d.number d.first d.second h.groups keep)
+all_apart h (d ∷ ds) keep = all_apart (with_declaration h d) ds (declared_apart d.sort h.setup d.number d.first d.second h.groups keep)
 
-heading_apart : (h : Headed) → IsHeading h → AreApart h.groups
-heading_apart h (inl (is, within)) = subst (λ (g : Headed). AreApart g.groups) (sym is) (none_apart h.setup).apart
+heading_apart : (h : HeadingModel) → IsHeading h → AreApart h.groups
+heading_apart h (inl (is, within)) = subst (λ (g : HeadingModel). AreApart g.groups) (sym is) (none_apart h.setup).apart
 heading_apart h (inr has) =
-    let o : Outline = has.outline in
-    subst (λ (g : Headed). AreApart g.groups) has.declares (all_apart (opened o.version o.limit o.workers) o.declarations (none_apart (opened o.version o.limit o.workers).setup)).apart
+    let o : HeaderTree = has.outline in
+    subst (λ (g : HeadingModel). AreApart g.groups) has.declares (all_apart (empty_heading o.version o.limit o.workers) o.declarations (none_apart (empty_heading o.version o.limit o.workers).setup)).apart
 
 later_there : (g k : Group) (gs : List Group) → Contains gs k → Contains (g ∷ gs) k
 later_there g k gs c = (suc c.0, omega (arith, c.1), c.2)
 
-both_there : (gs : List Group) (s : Semaphore) → both_of gs ≡ Some s → Contains gs (groups.Both s)
+pub both_there : (gs : List Group) (s : Semaphore) → both_of gs ≡ Some s → Contains gs (groups.Both s)
 both_there [] s is = cc
 both_there (groups.Buffer b ∷ gs) s is = later_there (groups.Buffer b) (groups.Both s) gs (both_there gs s is)
 both_there (groups.Database d ∷ gs) s is = later_there (groups.Database d) (groups.Both s) gs (both_there gs s is)
@@ -81,7 +81,7 @@ both_there (groups.Semaphore u ∷ gs) s is = later_there (groups.Semaphore u) (
 both_there (groups.Both u ∷ gs) s is = (0, omega arith, ap groups.Both (same_Some u s is))
 
 -- its eventcount is not that of a declared semaphore
-pub common_counts : (h : Headed) (common s : Semaphore) → IsHeading h → both_of h.groups ≡ Some common → Contains h.groups (groups.Semaphore s) → (common.count == s.count) ≡ false
+pub common_counts : (h : HeadingModel) (common s : Semaphore) → IsHeading h → both_of h.groups ≡ Some common → Contains h.groups (groups.Semaphore s) → (common.count == s.count) ≡ false
 common_counts h common s is both there =
     false_from_ne_true (common.count == s.count) (λ same.
     (let e : groups.Both common ≡ groups.Semaphore s =

@@ -1,4 +1,4 @@
--- A line without fault makes confined commands alone, and such as the version has.
+-- A line without fault makes only commands that are confined and that the version has.
 use Rattle.std.proofs.Common.{◌≡◌, ◌≢◌, ℕ, List, Bool, true, false, not, Option, Some, None, option_map, option_and_then, refl, sym, ap, ◌∙◌, subst, eq-eqb}
 use Rattle.std.specs.List.{Contains, slice_get}
 use Rattle.std.specs.Option.{IfSome}
@@ -18,33 +18,34 @@ use Rattle.ec_machine.specs.declared.command.Command.TheViews.{roll-Command}
 use Rattle.ec_heading.specs.declared.group.Group.{Group}
 use Rattle.ec_heading.specs.declared.group.Group.TheVariants as groups
 use Rattle.ec_heading.specs.declared.version.Version.{Version}
-use Rattle.ec_heading.specs.Headed.{Headed}
+use Rattle.ec_heading.specs.HeadingModel.{HeadingModel}
 use Rattle.ec_heading.specs.Lists.{worker_in}
-use Rattle.ec_heading.specs.Spelled.{event_in, sequencer_in, cell_in_word}
-use Rattle.ec_script.specs.declared.verb.Verb.{Verb}
-use Rattle.ec_script.specs.declared.verb.Verb.TheVariants as verbs
+use Rattle.ec_heading.specs.EntryWords.{event_in, sequencer_in, cell_in_word}
+use Rattle.ec_script.specs.declared.verb.LineWord.{LineWord}
+use Rattle.ec_script.specs.declared.verb.LineWord.TheVariants as verbs
 use Rattle.ec_script.specs.declared.object.Object.{Object}
 use Rattle.ec_script.specs.declared.object.Object.TheVariants.{Nothing, Worker, Event, Sequencer, Cell, Handed, OfBuffer, OfDatabase, OfSemaphore, SemaphorePair}
-use Rattle.ec_script.specs.declared.order.Order.{Order}
-use Rattle.ec_script.specs.declared.order.Order.TheVariants.{Do}
-use Rattle.ec_heading.specs.Versions.{has_hand}
+use Rattle.ec_script.specs.declared.block_item.BlockItem.{BlockItem}
+use Rattle.ec_script.specs.declared.block_item.BlockItem.TheVariants.{Do}
+use Rattle.ec_heading.specs.Versions.{has_transfer}
 use Rattle.ec_script.specs.Verbs.{has_verb}
 use Rattle.ec_script.specs.Forms.{only_in}
-use Rattle.ec_script.specs.Objects.{place_of, group_in, buffer_of, database_of, semaphore_of, semaphore_in, both_of, pair_of, handed_of, object_for, is_owned}
+use Rattle.ec_script.specs.Objects.{group_place, group_in, semaphore_in, semaphore_pair, transfer_object, object_for, is_owned}
+use Rattle.ec_heading.specs.Groups.{buffer_of, database_of, semaphore_of, both_of}
 use Rattle.ec_script.specs.Kinds.{or_nothing, has_two_roles}
-use Rattle.ec_script.specs.Orders.{event_order, cell_order, buffer_order, database_order, semaphore_order, command_in, amount_in, size_in}
-use Rattle.ec_script.specs.Versioned.{has_command, HasOrder}
+use Rattle.ec_script.specs.BlockItems.{event_item, cell_item, buffer_item, database_item, semaphore_item, command_in, amount_in, size_in}
+use Rattle.ec_script.specs.Versioned.{has_command, HasItem}
 use Rattle.ec_script.specs.Confined.{UsesGroups, IsConfined, AreApart}
 use Rattle.ec_script.proofs.shared.WrittenOut.{by_layer}
 
 -- OBJECTS
 
--- what an object must be of which confined commands are made, such as the version has
+-- an object of which only commands are made that are confined and that the version has
 abbrev pub IsFit : List Group → Version → Object → Type 0
 IsFit gs v (Event e) = is_owned gs (Event e) ≡ false
 IsFit gs v (Sequencer q) = is_owned gs (Sequencer q) ≡ false
 IsFit gs v (Cell x) = is_owned gs (Cell x) ≡ false
-IsFit gs v (Handed e b) = (is_owned gs (Event e) ≡ false) × (has_hand v ≡ true)
+IsFit gs v (Handed e b) = (is_owned gs (Event e) ≡ false) × (has_transfer v ≡ true)
 IsFit gs v (OfBuffer b) = Contains gs (groups.Buffer b)
 IsFit gs v (OfDatabase d) = Contains gs (groups.Database d)
 IsFit gs v (OfSemaphore s) = Contains gs (groups.Semaphore s)
@@ -65,7 +66,7 @@ cell_fits : (gs : List Group) (v : Version) (o : Option ℕ) → is_owned gs (or
 cell_fits gs v None free = tt
 cell_fits gs v (Some x) free = free
 
-handed_fits : (gs : List Group) (v : Version) (x y : Option ℕ) → is_owned gs (or_nothing (handed_of x y)) ≡ false → has_hand v ≡ true → IsFit gs v (or_nothing (handed_of x y))
+handed_fits : (gs : List Group) (v : Version) (x y : Option ℕ) → is_owned gs (or_nothing (transfer_object x y)) ≡ false → has_transfer v ≡ true → IsFit gs v (or_nothing (transfer_object x y))
 handed_fits gs v (Some e) (Some b) free has = (free, has)
 handed_fits gs v _ _ free has = tt
 
@@ -77,8 +78,8 @@ worker_fits gs v (Some w) = tt
 at_place : (gs : List Group) (i : ℕ) (g : Group) → slice_get gs i ≡ Some g → Contains gs g
 at_place gs i g is = (i, slice_get_within gs i g is, get_or_from_slice_get gs i g g is)
 
-pub found_group : (h : Headed) (word : List ℕ) (g : Group) → group_in h word ≡ Some g → Contains h.groups g
-found_group h word g is = option_and_then_some (λ (i : ℕ). slice_get h.groups i) (option_and_then place_of (find_name word h.names)) g is (λ i at e. at_place h.groups i g e)
+pub found_group : (h : HeadingModel) (word : List ℕ) (g : Group) → group_in h word ≡ Some g → Contains h.groups g
+found_group h word g is = option_and_then_some (λ (i : ℕ). slice_get h.groups i) (option_and_then group_place (find_name word h.names)) g is (λ i at e. at_place h.groups i g e)
 
 buffer_fits : (gs : List Group) (v : Version) (o : Option Group) → ((g : Group) → o ≡ Some g → Contains gs g) → IsFit gs v (or_nothing (option_map OfBuffer (option_and_then buffer_of o)))
 buffer_fits gs v None found = tt
@@ -95,7 +96,7 @@ semaphore_in_groups gs None s found is = cc
 semaphore_in_groups gs (Some (groups.Semaphore u)) s found is = let e : u ≡ s = cc in subst (λ (t : Semaphore). Contains gs (groups.Semaphore t)) e (found (groups.Semaphore u) refl)
 semaphore_in_groups gs (Some _) s found is = cc
 
-pub found_semaphore : (h : Headed) (word : List ℕ) (s : Semaphore) → semaphore_in h word ≡ Some s → Contains h.groups (groups.Semaphore s)
+pub found_semaphore : (h : HeadingModel) (word : List ℕ) (s : Semaphore) → semaphore_in h word ≡ Some s → Contains h.groups (groups.Semaphore s)
 found_semaphore h word s is = semaphore_in_groups h.groups (group_in h word) s (found_group h word) is
 
 semaphore_fits : (gs : List Group) (v : Version) (o : Option Semaphore) → ((s : Semaphore) → o ≡ Some s → Contains gs (groups.Semaphore s)) → IsFit gs v (or_nothing (option_map OfSemaphore o))
@@ -104,7 +105,7 @@ semaphore_fits gs v (Some s) found = found s refl
 
 -- TWO SEMAPHORES
 
-itself : (s : Semaphore) → is_same s s ≡ true
+pub itself : (s : Semaphore) → is_same s s ≡ true
 itself s = rw (eq-eqb s.count s.count refl, eq-eqb s.line s.line refl, eq-eqb s.initial s.initial refl) refl
 
 not_true : (t : Bool) → not t ≡ true → t ≡ false
@@ -121,7 +122,8 @@ lines_differ gs common one other apart a b differ = λ e.
     true≢false (sym (itself one) ∙ ap (is_same one) g ∙ not_true (is_same one other) p.1)
 
 three_fits : (gs : List Group) (v : Version) (c o u : Option Semaphore) → AreApart gs → both_of gs ≡ c → ((s : Semaphore) → o ≡ Some s → Contains gs (groups.Semaphore s)) → ((s : Semaphore) → u ≡ Some s → Contains gs (groups.Semaphore s))
-    → has_two_roles (or_nothing (pair_of c o u)) ≡ false → IsFit gs v (or_nothing (pair_of c o u))
+    → has_two_roles (or_nothing (semaphore_pair c o u)) ≡ false
+    → IsFit gs v (or_nothing (semaphore_pair c o u))
 three_fits gs v (Some common) (Some one) (Some other) apart both first second roles =
     let a = first one refl in
     let b = second other refl in
@@ -130,12 +132,12 @@ three_fits gs v None _ _ apart both first second roles = tt
 three_fits gs v (Some common) None _ apart both first second roles = tt
 three_fits gs v (Some common) (Some one) None apart both first second roles = tt
 
-pub only_semaphore : (h : Headed) (word : Option (List ℕ)) (s : Semaphore) → option_and_then (semaphore_in h) word ≡ Some s → Contains h.groups (groups.Semaphore s)
+pub only_semaphore : (h : HeadingModel) (word : Option (List ℕ)) (s : Semaphore) → option_and_then (semaphore_in h) word ≡ Some s → Contains h.groups (groups.Semaphore s)
 only_semaphore h None s is = cc
 only_semaphore h (Some w) s is = found_semaphore h w s is
 
 -- the object of a line without fault
-pub object_fits : (h : Headed) (v : Verb) (w : List ℕ) (ws : List (List ℕ)) → AreApart h.groups → has_verb h.version v ≡ true
+pub object_fits : (h : HeadingModel) (v : LineWord) (w : List ℕ) (ws : List (List ℕ)) → AreApart h.groups → has_verb h.version v ≡ true
     → is_owned h.groups (or_nothing (object_for h v w ws)) ≡ false → has_two_roles (or_nothing (object_for h v w ws)) ≡ false → IsFit h.groups h.version (or_nothing (object_for h v w ws))
 object_fits h verbs.Advance w ws apart has free roles = event_fits h.groups h.version (event_in h.words w) free
 object_fits h verbs.Read w ws apart has free roles = event_fits h.groups h.version (event_in h.words w) free
@@ -159,44 +161,44 @@ object_fits h verbs.Schedule w ws apart has free roles = tt
 
 -- COMMANDS
 
--- an order that the programs of a script may have
-abbrev pub IsProper : List Group → Version → Order → Type 0
-IsProper gs v o = IsConfined gs o × HasOrder v o
+-- an item that the programs of a script may have
+abbrev pub IsProper : List Group → Version → BlockItem → Type 0
+IsProper gs v o = IsConfined gs o × HasItem v o
 
 proper_of : (gs : List Group) (ver : Version) (d : Command-F Command) (c : Command) → roll-Command d ≡ c → UsesGroups gs d → has_command ver d ≡ true → IsProper gs ver (Do c)
 proper_of gs ver d c is uses has = (by_layer (UsesGroups gs) d c is uses, by_layer (λ x. has_command ver x ≡ true) d c is has)
 
-event_proper : (gs : List Group) (ver : Version) (v : Verb) (e : ℕ) (x : amounts.Value) → is_owned gs (Event e) ≡ false → IsProper gs ver (event_order v e x)
+event_proper : (gs : List Group) (ver : Version) (v : LineWord) (e : ℕ) (x : amounts.Value) → is_owned gs (Event e) ≡ false → IsProper gs ver (event_item v e x)
 event_proper gs ver verbs.Advance e x free = proper_of gs ver (layer.Advance e) (commands.Advance e) (commands.rolls-Advance e) free refl
 event_proper gs ver verbs.Read e x free = proper_of gs ver (layer.Read e) (commands.Read e) (commands.rolls-Read e) free refl
 event_proper gs ver _ e x free = proper_of gs ver (layer.Await e x) (commands.Await e x) (commands.rolls-Await e x) free refl
 
-cell_proper : (gs : List Group) (ver : Version) (giving : Bool) (i : ℕ) (x : amounts.Value) → is_owned gs (Cell i) ≡ false → IsProper gs ver (cell_order giving i x)
+cell_proper : (gs : List Group) (ver : Version) (update : Bool) (i : ℕ) (x : amounts.Value) → is_owned gs (Cell i) ≡ false → IsProper gs ver (cell_item update i x)
 cell_proper gs ver true i x free = proper_of gs ver (layer.Put i x) (commands.Put i x) (commands.rolls-Put i x) free refl
 cell_proper gs ver false i x free = proper_of gs ver (layer.Get i) (commands.Get i) (commands.rolls-Get i) free refl
 
-buffer_proper : (gs : List Group) (ver : Version) (giving : Bool) (b : Buffer) (x : amounts.Value) → Contains gs (groups.Buffer b) → IsProper gs ver (buffer_order giving b x)
+buffer_proper : (gs : List Group) (ver : Version) (update : Bool) (b : Buffer) (x : amounts.Value) → Contains gs (groups.Buffer b) → IsProper gs ver (buffer_item update b x)
 buffer_proper gs ver true b x declared = proper_of gs ver (layer.Produce b x) (commands.Produce b x) (commands.rolls-Produce b x) declared refl
 buffer_proper gs ver false b x declared = proper_of gs ver (layer.Consume b) (commands.Consume b) (commands.rolls-Consume b) declared refl
 
-database_proper : (gs : List Group) (ver : Version) (v : Verb) (d : Database) (ws : List (List ℕ)) → Contains gs (groups.Database d) → IfSome (database_order v d ws) (IsProper gs ver)
+database_proper : (gs : List Group) (ver : Version) (v : LineWord) (d : Database) (ws : List (List ℕ)) → Contains gs (groups.Database d) → IfSome (database_item v d ws) (IsProper gs ver)
 database_proper gs ver verbs.Write d ws declared = (declared, refl)
 database_proper gs ver verbs.Snapshot d ws declared = proper_of gs ver (layer.Snapshot d (size_in ws)) (commands.Snapshot d (size_in ws)) (commands.rolls-Snapshot d (size_in ws)) declared refl
 database_proper gs ver _ d ws declared = tt
 
-semaphore_proper : (gs : List Group) (ver : Version) (v : Verb) (s : Semaphore) → Contains gs (groups.Semaphore s) → IsProper gs ver (semaphore_order v s)
+semaphore_proper : (gs : List Group) (ver : Version) (v : LineWord) (s : Semaphore) → Contains gs (groups.Semaphore s) → IsProper gs ver (semaphore_item v s)
 semaphore_proper gs ver verbs.Down s declared = proper_of gs ver (layer.Down s) (commands.Down s) (commands.rolls-Down s) declared refl
 semaphore_proper gs ver _ s declared = proper_of gs ver (layer.Up s) (commands.Up s) (commands.rolls-Up s) declared refl
 
 -- the command that is made with such an object
-pub command_proper : (gs : List Group) (ver : Version) (v : Verb) (giving : Bool) (o : Object) (ws : List (List ℕ)) → IsFit gs ver o → IfSome (command_in v giving o ws) (IsProper gs ver)
-command_proper gs ver v giving (Event e) ws fit = event_proper gs ver v e (amount_in ws) fit
-command_proper gs ver v giving (Sequencer q) ws fit = proper_of gs ver (layer.Ticket q) (commands.Ticket q) (commands.rolls-Ticket q) fit refl
-command_proper gs ver v giving (Cell x) ws fit = cell_proper gs ver giving x (amount_in ws) fit
-command_proper gs ver v giving (Handed e b) ws fit = proper_of gs ver (layer.Hand e b) (commands.Hand e b) (commands.rolls-Hand e b) fit.0 fit.1
-command_proper gs ver v giving (OfBuffer b) ws fit = buffer_proper gs ver giving b (amount_in ws) fit
-command_proper gs ver v giving (OfDatabase d) ws fit = database_proper gs ver v d ws fit
-command_proper gs ver v giving (OfSemaphore s) ws fit = semaphore_proper gs ver v s fit
-command_proper gs ver v giving (SemaphorePair common one other) ws fit = proper_of gs ver (layer.DownBoth common one other) (commands.DownBoth common one other) (commands.rolls-DownBoth common one other) fit refl
-command_proper gs ver v giving Nothing ws fit = tt
-command_proper gs ver v giving (Worker w) ws fit = tt
+pub command_proper : (gs : List Group) (ver : Version) (v : LineWord) (update : Bool) (o : Object) (ws : List (List ℕ)) → IsFit gs ver o → IfSome (command_in v update o ws) (IsProper gs ver)
+command_proper gs ver v update (Event e) ws fit = event_proper gs ver v e (amount_in ws) fit
+command_proper gs ver v update (Sequencer q) ws fit = proper_of gs ver (layer.Ticket q) (commands.Ticket q) (commands.rolls-Ticket q) fit refl
+command_proper gs ver v update (Cell x) ws fit = cell_proper gs ver update x (amount_in ws) fit
+command_proper gs ver v update (Handed e b) ws fit = proper_of gs ver (layer.Hand e b) (commands.Hand e b) (commands.rolls-Hand e b) fit.0 fit.1
+command_proper gs ver v update (OfBuffer b) ws fit = buffer_proper gs ver update b (amount_in ws) fit
+command_proper gs ver v update (OfDatabase d) ws fit = database_proper gs ver v d ws fit
+command_proper gs ver v update (OfSemaphore s) ws fit = semaphore_proper gs ver v s fit
+command_proper gs ver v update (SemaphorePair common one other) ws fit = proper_of gs ver (layer.DownBoth common one other) (commands.DownBoth common one other) (commands.rolls-DownBoth common one other) fit refl
+command_proper gs ver v update Nothing ws fit = tt
+command_proper gs ver v update (Worker w) ws fit = tt

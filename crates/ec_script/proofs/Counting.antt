@@ -1,16 +1,16 @@
--- The lines of the open block come to what its draft says of them.
+-- The counts of the builder of the open block are those of its lines.
 use Rattle.std.proofs.Common.{◌≡◌, ◌≢◌, ℕ, ◌+◌, ◌<◌, ◌==◌, ◌&&◌, List, [], ◌∷◌, ◌++◌, length, Bool, true, false, not, cond, Option, Some, None, Result, Ok, Err, refl, sym, ap, ◌∙◌, subst, arith, nat_lt, slice_set}
 use Rattle.std.specs.Option.{IfSome}
 use Rattle.std.proofs.lemmas.Bool.{eqb-false}
 use Rattle.std.proofs.lemmas.Option.{same_Some}
-use Rattle.ec_text.specs.Words.{words_of, number_of}
+use Rattle.ec_text.specs.Words.{words_of, number_in_word}
 use Rattle.ec_heading.specs.Versions.{is_limit, version_of}
-use Rattle.ec_script.specs.Headers.{script_header, bounded}
+use Rattle.ec_script.specs.Headers.{script_header, version_limit}
 use Rattle.ec_heading.specs.declared.version.Version.{Version}
 use Rattle.ec_heading.specs.declared.heading.HeadFault.{HeadFault}
-use Rattle.ec_heading.specs.Headed.{Headed}
+use Rattle.ec_heading.specs.HeadingModel.{HeadingModel}
 use Rattle.ec_heading.specs.Heading.{head_step, is_no_line}
-use Rattle.ec_heading.specs.Outline.{opened as heading_opened}
+use Rattle.ec_heading.specs.HeaderTree.{empty_heading as heading_opened}
 use Rattle.ec_machine.specs.declared.command.Value as amounts
 use Rattle.ec_database.specs.Shapes.{Database}
 use Rattle.ec_semaphore.specs.Shapes.{Semaphore}
@@ -19,182 +19,184 @@ use Rattle.ec_script.specs.declared.fault.Kind.{Kind}
 use Rattle.ec_script.specs.declared.fault.Kind.TheVariants as kinds
 use Rattle.ec_script.specs.declared.object.Object.{Object}
 use Rattle.ec_script.specs.declared.object.Object.TheVariants.{Nothing, Worker, Event, Sequencer, Cell, Handed, OfBuffer, OfDatabase, OfSemaphore, SemaphorePair}
-use Rattle.ec_script.specs.declared.order.Order.{Order}
-use Rattle.ec_script.specs.declared.order.Order.TheVariants.{Do, Write, Begin, End}
-use Rattle.ec_script.specs.declared.script.Block.{Block}
+use Rattle.ec_script.specs.declared.block_item.BlockItem.{BlockItem}
+use Rattle.ec_script.specs.declared.block_item.BlockItem.TheVariants.{Do, Write, Begin, End}
+use Rattle.ec_script.specs.declared.script.OpenBlock.{OpenBlock}
 use Rattle.ec_script.specs.declared.stage.Stage.{Stage}
 use Rattle.ec_script.specs.declared.stage.Stage.TheVariants.{Opening, Limiting, Naming, Reading}
-use Rattle.ec_script.specs.declared.verb.Verb.{Verb}
-use Rattle.ec_script.specs.declared.verb.Verb.TheVariants as verbs
-use Rattle.ec_script.specs.Counted.{begins_in, ends_in, EndsInBegin, IsCounted, BlocksAreCounted}
-use Rattle.ec_script.specs.Drafted.{Drafted, nothing_drafted, with_order}
+use Rattle.ec_script.specs.declared.verb.LineWord.{LineWord}
+use Rattle.ec_script.specs.declared.verb.LineWord.TheVariants as verbs
+use Rattle.ec_script.specs.Counted.{begins_in, ends_in, EndsInBegin, HasCounts, BlocksAreCounted}
+use Rattle.ec_script.specs.DraftModel.{DraftModel, empty_draft, draft_with_item}
 use Rattle.ec_script.specs.Forms.{Phrase, phrase_in}
 use Rattle.ec_script.specs.Grammar.{Leads}
 use Rattle.ec_script.specs.Kinds.{phrase_fault, or_nothing}
 use Rattle.ec_script.specs.Layout.{commands_in}
 use Rattle.ec_script.specs.Objects.{object_in}
-use Rattle.ec_script.specs.Orders.{size_in, event_order, cell_order, buffer_order, database_order, semaphore_order, command_in}
-use Rattle.ec_script.specs.Reading.{seen, began, ordered_in, commanded, ended_in, after_verb, after, fault_or, phrased, headed_on, is_declaring, opens_outer, script_step, limiting, limited, limit_digits, limit_or, limit_step, script_of, named_on, step}
-use Rattle.ec_script.specs.Scripted.{Scripted}
-use Rattle.ec_script.specs.Verbs.{is_giving}
+use Rattle.ec_script.specs.BlockItems.{size_in, event_item, cell_item, buffer_item, database_item, semaphore_item, command_in}
+use Rattle.ec_script.specs.Reading.{context_of_script, with_worker_block, block_with_item, after_command, with_block_end, after_verb, after, fault_or, after_phrase, map_heading, is_declaring, opens_outer, script_step, stage_of_version, after_limit, limit_digits, limit_or, limit_step, script_of, stage_of_heading, step}
+use Rattle.ec_script.specs.ScriptModel.{ScriptModel}
+use Rattle.ec_script.specs.Verbs.{is_update}
 use Rattle.ec_script.proofs.Passing.{read_back}
 use Rattle.ec_script.proofs.Said.{IsStep}
 
 -- ONE MORE LINE
 
-commands_push : (os : List Order) (o : Order) → commands_in (os ++ o ∷ []) ≡ commands_in os + commands_in (o ∷ [])
+commands_push : (os : List BlockItem) (o : BlockItem) → commands_in (os ++ o ∷ []) ≡ commands_in os + commands_in (o ∷ [])
 commands_push [] o = omega arith
 commands_push (Do c ∷ os) o = omega (arith, commands_push os o)
 commands_push (Write d vs ∷ os) o = omega (arith, commands_push os o)
 commands_push (Begin n ∷ os) o = omega (arith, commands_push os o)
 commands_push (End ∷ os) o = commands_push os o
 
-begins_push : (os : List Order) (o : Order) → begins_in (os ++ o ∷ []) ≡ begins_in os + begins_in (o ∷ [])
+begins_push : (os : List BlockItem) (o : BlockItem) → begins_in (os ++ o ∷ []) ≡ begins_in os + begins_in (o ∷ [])
 begins_push [] o = omega arith
 begins_push (Do c ∷ os) o = begins_push os o
 begins_push (Write d vs ∷ os) o = begins_push os o
 begins_push (Begin n ∷ os) o = omega (arith, begins_push os o)
 begins_push (End ∷ os) o = begins_push os o
 
-ends_push : (os : List Order) (o : Order) → ends_in (os ++ o ∷ []) ≡ ends_in os + ends_in (o ∷ [])
+ends_push : (os : List BlockItem) (o : BlockItem)
+    → ends_in (os ++ o ∷ []) ≡ ends_in os + ends_in (o ∷ [])
 ends_push [] o = omega arith
 ends_push (Do c ∷ os) o = ends_push os o
 ends_push (Write d vs ∷ os) o = ends_push os o
 ends_push (Begin n ∷ os) o = ends_push os o
 ends_push (End ∷ os) o = omega (arith, ends_push os o)
 
-abbrev last_of : List Order → Option Order
+abbrev last_of : List BlockItem → Option BlockItem
 last_of [] = None
 last_of (o ∷ []) = Some o
 last_of (o ∷ p ∷ os) = last_of (p ∷ os)
 
-last_push : (os : List Order) (o : Order) → last_of (os ++ o ∷ []) ≡ Some o
+last_push : (os : List BlockItem) (o : BlockItem) → last_of (os ++ o ∷ []) ≡ Some o
 last_push [] o = refl
 last_push (p ∷ []) o = refl
 last_push (p ∷ q ∷ os) o = last_push (q ∷ os) o
 
-last_is : (os : List Order) (o : Order) (t : EndsInBegin (os ++ o ∷ [])) → o ≡ Begin t.1
+last_is : (os : List BlockItem) (o : BlockItem) (t : EndsInBegin (os ++ o ∷ [])) → o ≡ Begin t.1
 last_is os o t = same_Some o (Begin t.1) (sym (last_push os o) ∙ ap last_of t.2 ∙ last_push t.0 (Begin t.1))
 
-counted_more : (d : Drafted) (o : Order) → IsCounted d → (o ≡ End → 0 < d.depth) → IsCounted (with_order d o)
+counted_more : (d : DraftModel) (o : BlockItem) → HasCounts d → (o ≡ End → 0 < d.depth) → HasCounts (draft_with_item d o)
 counted_more d (Do c) is deep = record {
-  commands = omega (arith, is.commands, commands_push d.orders (Do c));
-  repeats = omega (arith, is.repeats, begins_push d.orders (Do c), ends_push d.orders (Do c));
-  last = λ some. ((λ e. cc), λ t. (let e = last_is d.orders (Do c) t in cc));
+  commands = omega (arith, is.commands, commands_push d.block_items (Do c));
+  repeats = omega (arith, is.repeats, begins_push d.block_items (Do c), ends_push d.block_items (Do c));
+  last = λ some. ((λ e. cc), λ t. (let e = last_is d.block_items (Do c) t in cc));
 }
 counted_more d (Write b vs) is deep = record {
-  commands = omega (arith, is.commands, commands_push d.orders (Write b vs));
-  repeats = omega (arith, is.repeats, begins_push d.orders (Write b vs), ends_push d.orders (Write b vs));
-  last = λ some. ((λ e. cc), λ t. (let e = last_is d.orders (Write b vs) t in cc));
+  commands = omega (arith, is.commands, commands_push d.block_items (Write b vs));
+  repeats = omega (arith, is.repeats, begins_push d.block_items (Write b vs), ends_push d.block_items (Write b vs));
+  last = λ some. ((λ e. cc), λ t. (let e = last_is d.block_items (Write b vs) t in cc));
 }
 counted_more d (Begin n) is deep = record {
-  commands = omega (arith, is.commands, commands_push d.orders (Begin n));
-  repeats = omega (arith, is.repeats, begins_push d.orders (Begin n), ends_push d.orders (Begin n));
-  last = λ some. ((λ e. (d.orders, n, refl)), λ t. refl);
+  commands = omega (arith, is.commands, commands_push d.block_items (Begin n));
+  repeats = omega (arith, is.repeats, begins_push d.block_items (Begin n), ends_push d.block_items (Begin n));
+  last = λ some. ((λ e. (d.block_items, n, refl)), λ t. refl);
 }
 counted_more d End is deep = record {
-  commands = omega (arith, is.commands, commands_push d.orders End);
-  repeats = omega (arith, is.repeats, begins_push d.orders End, ends_push d.orders End, deep refl);
-  last = λ some. ((λ e. cc), λ t. (let e = last_is d.orders End t in cc));
+  commands = omega (arith, is.commands, commands_push d.block_items End);
+  repeats = omega (arith, is.repeats, begins_push d.block_items End, ends_push d.block_items End, deep refl);
+  last = λ some. ((λ e. cc), λ t. (let e = last_is d.block_items End t in cc));
 }
 
-none_counted : IsCounted nothing_drafted
+none_counted : HasCounts empty_draft
 none_counted = record { commands = refl; repeats = refl; last = λ some. absurd (omega (arith, some)) }
 
 -- COMMANDS BEGIN AND END NO REPEAT
 
-event_steps : (v : Verb) (e : ℕ) (a : amounts.Value) → IsStep (event_order v e a)
+event_steps : (v : LineWord) (e : ℕ) (a : amounts.Value) → IsStep (event_item v e a)
 event_steps verbs.Advance e a = tt
 event_steps verbs.Read e a = tt
 event_steps _ e a = tt
 
-cell_steps : (giving : Bool) (x : ℕ) (a : amounts.Value) → IsStep (cell_order giving x a)
+cell_steps : (update : Bool) (x : ℕ) (a : amounts.Value) → IsStep (cell_item update x a)
 cell_steps true x a = tt
 cell_steps false x a = tt
 
-buffer_steps : (giving : Bool) (b : Buffer) (a : amounts.Value) → IsStep (buffer_order giving b a)
+buffer_steps : (update : Bool) (b : Buffer) (a : amounts.Value) → IsStep (buffer_item update b a)
 buffer_steps true b a = tt
 buffer_steps false b a = tt
 
-database_steps : (v : Verb) (d : Database) (ws : List (List ℕ)) → IfSome (database_order v d ws) IsStep
+database_steps : (v : LineWord) (d : Database) (ws : List (List ℕ)) → IfSome (database_item v d ws) IsStep
 database_steps verbs.Write d ws = tt
 database_steps verbs.Snapshot d ws = tt
 database_steps _ d ws = tt
 
-semaphore_steps : (v : Verb) (s : Semaphore) → IsStep (semaphore_order v s)
+semaphore_steps : (v : LineWord) (s : Semaphore) → IsStep (semaphore_item v s)
 semaphore_steps verbs.Down s = tt
 semaphore_steps _ s = tt
 
-command_steps : (v : Verb) (giving : Bool) (o : Object) (ws : List (List ℕ)) → IfSome (command_in v giving o ws) IsStep
-command_steps v giving (Event e) ws = event_steps v e _
-command_steps v giving (Sequencer q) ws = tt
-command_steps v giving (Cell x) ws = cell_steps giving x _
-command_steps v giving (Handed e b) ws = tt
-command_steps v giving (OfBuffer b) ws = buffer_steps giving b _
-command_steps v giving (OfDatabase d) ws = database_steps v d ws
-command_steps v giving (OfSemaphore s) ws = semaphore_steps v s
-command_steps v giving (SemaphorePair common one other) ws = tt
-command_steps v giving Nothing ws = tt
-command_steps v giving (Worker w) ws = tt
+command_steps : (v : LineWord) (update : Bool) (o : Object) (ws : List (List ℕ)) → IfSome (command_in v update o ws) IsStep
+command_steps v update (Event e) ws = event_steps v e _
+command_steps v update (Sequencer q) ws = tt
+command_steps v update (Cell x) ws = cell_steps update x _
+command_steps v update (Handed e b) ws = tt
+command_steps v update (OfBuffer b) ws = buffer_steps update b _
+command_steps v update (OfDatabase d) ws = database_steps v d ws
+command_steps v update (OfSemaphore s) ws = semaphore_steps v s
+command_steps v update (SemaphorePair common one other) ws = tt
+command_steps v update Nothing ws = tt
+command_steps v update (Worker w) ws = tt
 
 -- A LINE
 
-abbrev BlockCounts : Option Block → Type 0
+abbrev BlockCounts : Option OpenBlock → Type 0
 BlockCounts None = Unit {0}
-BlockCounts (Some b) = IsCounted b.draft
+BlockCounts (Some b) = HasCounts b.draft
 
-ordered_counts : (s : Scripted) (o : Order) (b : Option Block) → s.block ≡ b → BlockCounts s.block → ((x : Block) → b ≡ Some x → o ≡ End → 0 < x.draft.depth) → BlockCounts (ordered_in s b o).block
+ordered_counts : (s : ScriptModel) (o : BlockItem) (b : Option OpenBlock) → s.block ≡ b → BlockCounts s.block → ((x : OpenBlock) → b ≡ Some x → o ≡ End → 0 < x.draft.depth) → BlockCounts (block_with_item s b o).block
 ordered_counts s o None is counts deep = counts
 ordered_counts s o (Some x) is counts deep = counted_more x.draft o (subst BlockCounts is counts) (deep x refl)
 
-no_end : (o : Order) → IsStep o → o ≡ End → ⊥
+no_end : (o : BlockItem) → IsStep o → o ≡ End → ⊥
 no_end o step is = subst IsStep is step
 
-commanded_counts : (s : Scripted) (o : Option Order) → BlockCounts s.block → IfSome o IsStep → BlockCounts (commanded s o).block
+commanded_counts : (s : ScriptModel) (o : Option BlockItem) → BlockCounts s.block → IfSome o IsStep → BlockCounts (after_command s o).block
 commanded_counts s None counts step = counts
 commanded_counts s (Some o) counts step = ordered_counts s o s.block refl counts (λ x at is. absurd (no_end o step is))
 
-ended_counts : (s : Scripted) (b : Option Block) → s.block ≡ b → BlockCounts s.block → BlockCounts (ended_in s b).block
+ended_counts : (s : ScriptModel) (b : Option OpenBlock) → s.block ≡ b → BlockCounts s.block → BlockCounts (with_block_end s b).block
 ended_counts s None is counts = counts
 ended_counts s (Some x) is counts =
-    (elim (x.draft.depth == 0) as (λ t. (x.draft.depth == 0) ≡ t → BlockCounts (cond t (record s { programs = slice_set s.programs x.worker x.draft.orders; block = None }) (ordered_in s (Some x) End)).block) [
+    (elim (x.draft.depth == 0) as (λ t. (x.draft.depth == 0) ≡ t → BlockCounts (cond t (record s { programs = slice_set s.programs x.worker x.draft.block_items; block = None }) (block_with_item s (Some x) End)).block) [
       | true ↦ λ e. tt
       | false ↦ λ e. counted_more x.draft End (subst BlockCounts is counts) (λ end. (let other : x.draft.depth ≢ 0 = eqb-false x.draft.depth 0 e in omega (arith, other)))
     ]) refl
 
-began_counts : (s : Scripted) (o : Object) → BlockCounts s.block → BlockCounts (began s o).block
+began_counts : (s : ScriptModel) (o : Object) → BlockCounts s.block
+    → BlockCounts (with_worker_block s o).block
 began_counts s (Worker w) counts = none_counted
 began_counts s _ counts = counts
 
-after_counts : (s : Scripted) (v : Verb) (o : Object) (ws : List (List ℕ)) → BlockCounts s.block → BlockCounts (after_verb v s o ws).block
+after_counts : (s : ScriptModel) (v : LineWord) (o : Object) (ws : List (List ℕ)) → BlockCounts s.block → BlockCounts (after_verb v s o ws).block
 after_counts s verbs.Worker o ws counts = began_counts s o counts
 after_counts s verbs.Schedule o ws counts = counts
 after_counts s verbs.Repeat o ws counts = ordered_counts s (Begin (size_in ws)) s.block refl counts (λ x at is. cc)
 after_counts s verbs.End o ws counts = ended_counts s s.block refl counts
-after_counts s v o ws counts = commanded_counts s (command_in v (is_giving v) o ws) counts (command_steps v (is_giving v) o ws)
+after_counts s v o ws counts = commanded_counts s (command_in v (is_update v) o ws) counts (command_steps v (is_update v) o ws)
 
-unfaulted : (o : Option Kind) (s t : Scripted) → fault_or o s ≡ Ok t → s ≡ t
+pub unfaulted : (o : Option Kind) (s t : ScriptModel) → fault_or o s ≡ Ok t → s ≡ t
 unfaulted None s t is = cc
 unfaulted (Some k) s t is = cc
 
-phrased_counts : (s t : Scripted) (o : Option Phrase) → BlockCounts s.block → phrased s o ≡ Ok t → BlockCounts t.block
+phrased_counts : (s t : ScriptModel) (o : Option Phrase) → BlockCounts s.block → after_phrase s o ≡ Ok t → BlockCounts t.block
 phrased_counts s t None counts is = cc
 phrased_counts s t (Some p) counts is =
-    subst (λ (x : Scripted). BlockCounts x.block) (unfaulted (phrase_fault (seen s) p (object_in s.heading p)) (after s p) t is) (after_counts s p.verb (or_nothing (object_in s.heading p)) p.rest counts)
+    subst (λ (x : ScriptModel). BlockCounts x.block) (unfaulted (phrase_fault (context_of_script s) p (object_in s.heading p)) (after s p) t is) (after_counts s p.verb (or_nothing (object_in s.heading p)) p.rest counts)
 
-headed_counts : (s t : Scripted) (r : Result Headed HeadFault) → BlockCounts s.block → headed_on s r ≡ Ok t → BlockCounts t.block
-headed_counts s t (Ok h) counts is = (let same : record s { heading = h } ≡ t = cc in subst (λ (x : Scripted). BlockCounts x.block) same counts)
+headed_counts : (s t : ScriptModel) (r : Result HeadingModel HeadFault) → BlockCounts s.block → map_heading s r ≡ Ok t → BlockCounts t.block
+headed_counts s t (Ok h) counts is = (let same : record s { heading = h } ≡ t = cc in subst (λ (x : ScriptModel). BlockCounts x.block) same counts)
 headed_counts s t (Err f) counts is = cc
 
-whole_counts : (s t : Scripted) (b : Bool) (o : Option Phrase) → BlockCounts s.block → cond b (Err kinds.BadLine) (phrased s o) ≡ Ok t → BlockCounts t.block
+whole_counts : (s t : ScriptModel) (b : Bool) (o : Option Phrase) → BlockCounts s.block → cond b (Err kinds.BadLine) (after_phrase s o) ≡ Ok t → BlockCounts t.block
 whole_counts s t true o counts is = cc
 whole_counts s t false o counts is = phrased_counts s t o counts is
 
-either_counts : (s t : Scripted) (a b : Bool) (r : Result Headed HeadFault) (o : Option Phrase) → BlockCounts s.block → cond a (headed_on s r) (cond b (Err kinds.BadLine) (phrased s o)) ≡ Ok t → BlockCounts t.block
+either_counts : (s t : ScriptModel) (a b : Bool) (r : Result HeadingModel HeadFault) (o : Option Phrase) → BlockCounts s.block → cond a (map_heading s r) (cond b (Err kinds.BadLine) (after_phrase s o)) ≡ Ok t → BlockCounts t.block
 either_counts s t true b r o counts is = headed_counts s t r counts is
 either_counts s t false b r o counts is = whole_counts s t b o counts is
 
-line_counts : (s t : Scripted) (line : List ℕ) → BlockCounts s.block → script_step s line ≡ Ok t → BlockCounts t.block
+line_counts : (s t : ScriptModel) (line : List ℕ) → BlockCounts s.block → script_step s line ≡ Ok t → BlockCounts t.block
 unfolding script_step
 line_counts s t line counts is = either_counts s t (is_declaring s && not (opens_outer (words_of line))) (is_no_line line) (head_step s.heading line) (phrase_in (words_of line)) counts is
 
@@ -204,28 +206,29 @@ abbrev StageCounts : Stage → Type 0
 StageCounts (Reading s) = BlockCounts s.block
 StageCounts _ = Unit {0}
 
-opening_counts : (o : Option Version) (t : Stage) → limiting o ≡ Ok t → StageCounts t
+opening_counts : (o : Option Version) (t : Stage) → stage_of_version o ≡ Ok t → StageCounts t
 opening_counts (Some v) t is = (let e : Limiting v ≡ t = cc in subst StageCounts e tt)
 opening_counts None t is = cc
 
-range_counts : (b : Bool) (v : Version) (n : ℕ) (t : Stage) → cond b (Ok (Naming (bounded v n))) (Err kinds.BadNumber) ≡ Ok t → StageCounts t
-range_counts true v n t is = (let e : Naming (bounded v n) ≡ t = cc in subst StageCounts e tt)
+range_counts : (b : Bool) (v : Version) (n : ℕ) (t : Stage) → cond b (Ok (Naming (version_limit v n))) (Err kinds.BadNumber) ≡ Ok t → StageCounts t
+range_counts true v n t is = (let e : Naming (version_limit v n) ≡ t = cc in subst StageCounts e tt)
 range_counts false v n t is = cc
 
-limited_counts : (v : Version) (o : Option ℕ) (t : Stage) → limited v o ≡ Ok t → StageCounts t
+limited_counts : (v : Version) (o : Option ℕ) (t : Stage) → after_limit v o ≡ Ok t → StageCounts t
 limited_counts v None t is = cc
 limited_counts v (Some n) t is = range_counts (is_limit v n) v n t is
 
 limit_counts : (v : Version) (b : Bool) (o : Option (List ℕ)) (t : Stage) → cond b (Err kinds.BadLine) (limit_or v o) ≡ Ok t → StageCounts t
 limit_counts v true o t is = cc
 limit_counts v false None t is = cc
-limit_counts v false (Some digits) t is = limited_counts v (number_of digits) t is
+limit_counts v false (Some digits) t is = limited_counts v (number_in_word digits) t is
 
 limit_line_counts : (v : Version) (line : List ℕ) (t : Stage) → limit_step v line ≡ Ok t → StageCounts t
 unfolding limit_step
 limit_line_counts v line t is = limit_counts v (nat_lt 8192 (length line)) (limit_digits (words_of line)) t is
 
-named_counts : (r : Result Headed HeadFault) (t : Stage) → named_on r ≡ Ok t → StageCounts t
+named_counts : (r : Result HeadingModel HeadFault) (t : Stage) → stage_of_heading r ≡ Ok t
+    → StageCounts t
 named_counts (Ok h) t is = (let e : Reading (script_of h) ≡ t = cc in subst StageCounts e tt)
 named_counts (Err f) t is = cc
 

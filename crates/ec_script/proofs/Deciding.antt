@@ -10,12 +10,12 @@ use Rattle.std.proofs.lemmas.List.Folds.{Any-from_list_any, list_any-from_Any}
 use Rattle.std.proofs.lemmas.Option.{same_Some}
 use Rattle.std.proofs.lemmas.Slice.Eq.{bytes_eq-Decides}
 use Rattle.ec_count.specs.Members.{is_member, has_repeat}
-use Rattle.ec_text.specs.Words.{number_of}
+use Rattle.ec_text.specs.Words.{number_in_word}
 use Rattle.ec_text.proofs.shared.NumberLemmas.{number_again, number_takes}
 use Rattle.ec_heading.specs.Lists.{has_word_twice}
-use Rattle.ec_script.specs.declared.script.Block.{Block}
-use Rattle.ec_script.specs.declared.kinds.BlockView.{BlockView}
-use Rattle.ec_script.specs.Holding.{StandsTwice}
+use Rattle.ec_script.specs.declared.script.OpenBlock.{OpenBlock}
+use Rattle.ec_script.specs.declared.kinds.BlockContext.{BlockContext}
+use Rattle.ec_script.specs.Holding.{OccursTwice}
 use Rattle.ec_script.specs.Reading.{view_of_block}
 
 -- SMALL TESTS
@@ -49,66 +49,66 @@ decides_any p P each xs = (
 pub decides_member : (w : ℕ) (ws : List ℕ) → Decides (is_member w ws) (Contains ws w)
 decides_member w ws = Decides-contains ws w (is_member w ws) (Decides-by_or (λ v. v == w) (λ v. v ≡ w) (is_member w) (λ v. Decides-eqb v w) refl (λ v vs. refl) ws)
 
--- SOMETHING STANDS TWICE
+-- AN ELEMENT OCCURS TWICE
 
--- an element of this kind, and what stands around it
+-- an element of this kind, and the elements around it
 record IsThere {A : Type 0} (p : A → Bool) (xs : List A) : Type 0 where
-  front : List A
+  prefix : List A
   one : A
   rest : List A
-  are : xs ≡ front ++ one ∷ rest
+  are : xs ≡ prefix ++ one ∷ rest
   holds : p one ≡ true
 
 there : {A : Type 0} (p : A → Bool) (xs : List A) → list_any p xs ≡ true → IsThere p xs
 there p [] is = cc
 there p (x ∷ xs) is =
     (elim (p x) as (λ b. p x ≡ b → (b || list_any p xs) ≡ true → IsThere p (x ∷ xs)) [
-      | true ↦ λ e h. record { front = []; one = x; rest = xs; are = refl; holds = e }
-      | false ↦ λ e h. (let t : IsThere p xs = there p xs h in record { front = x ∷ t.front; one = t.one; rest = t.rest; are = ap (λ ys. x ∷ ys) t.are; holds = t.holds })
+      | true ↦ λ e h. record { prefix = []; one = x; rest = xs; are = refl; holds = e }
+      | false ↦ λ e h. (let t : IsThere p xs = there p xs h in record { prefix = x ∷ t.prefix; one = t.one; rest = t.rest; are = ap (λ ys. x ∷ ys) t.are; holds = t.holds })
     ]) refl is
 
-any_there : {A : Type 0} (p : A → Bool) (front : List A) (x : A) (rest : List A) → p x ≡ true → list_any p (front ++ x ∷ rest) ≡ true
+any_there : {A : Type 0} (p : A → Bool) (prefix : List A) (x : A) (rest : List A) → p x ≡ true → list_any p (prefix ++ x ∷ rest) ≡ true
 any_there p [] x rest holds = or_left (p x) (list_any p rest) holds
-any_there p (y ∷ front) x rest holds = or_right (p y) (list_any p (front ++ x ∷ rest)) (any_there p front x rest holds)
+any_there p (y ∷ prefix) x rest holds = or_right (p y) (list_any p (prefix ++ x ∷ rest)) (any_there p prefix x rest holds)
 
-twice_here : {A : Type 0} (w : A) (ws : List A) (p : A → Bool) → ((x : A) → p x ≡ true → w ≡ x) → list_any p ws ≡ true → StandsTwice (w ∷ ws)
-twice_here w ws p same is = (let t : IsThere p ws = there p ws is in (w, [], t.front, t.rest, ap (λ ys. w ∷ ys) (t.are ∙ ap (λ x. t.front ++ x ∷ t.rest) (sym (same t.one t.holds)))))
+twice_here : {A : Type 0} (w : A) (ws : List A) (p : A → Bool) → ((x : A) → p x ≡ true → w ≡ x) → list_any p ws ≡ true → OccursTwice (w ∷ ws)
+twice_here w ws p same is = (let t : IsThere p ws = there p ws is in (w, [], t.prefix, t.rest, ap (λ ys. w ∷ ys) (t.are ∙ ap (λ x. t.prefix ++ x ∷ t.rest) (sym (same t.one t.holds)))))
 
-twice_later : {A : Type 0} (w : A) (ws : List A) → StandsTwice ws → StandsTwice (w ∷ ws)
+twice_later : {A : Type 0} (w : A) (ws : List A) → OccursTwice ws → OccursTwice (w ∷ ws)
 twice_later w ws t = (t.0, w ∷ t.1, t.2, t.3, ap (λ ys. w ∷ ys) t.4)
 
 -- f is a test of it by recursion, and p w the test whether an element is w
 module _ {A : Type 0} (p : A → A → Bool) (f : List A → Bool) (same : (w x : A) → Decides (p w x) (w ≡ x)) (none : f [] ≡ false) (more : (w : A) (ws : List A) → f (w ∷ ws) ≡ (list_any (p w) ws || f ws)) where
-  is_twice : (ws : List A) → f ws ≡ true → StandsTwice ws
+  is_twice : (ws : List A) → f ws ≡ true → OccursTwice ws
   is_twice [] is = absurd (true≢false (sym is ∙ none))
   is_twice (w ∷ ws) is =
-      (elim (list_any (p w) ws) as (λ b. list_any (p w) ws ≡ b → (b || f ws) ≡ true → StandsTwice (w ∷ ws)) [
+      (elim (list_any (p w) ws) as (λ b. list_any (p w) ws ≡ b → (b || f ws) ≡ true → OccursTwice (w ∷ ws)) [
         | true ↦ λ e h. twice_here w ws (p w) (λ x. (same w x).0) e
         | false ↦ λ e h. twice_later w ws (is_twice ws h)
       ]) refl (sym (more w ws) ∙ is)
 
-  twice_is : (x : A) (front between rest : List A) → f (front ++ x ∷ (between ++ x ∷ rest)) ≡ true
+  twice_is : (x : A) (prefix between rest : List A) → f (prefix ++ x ∷ (between ++ x ∷ rest)) ≡ true
   twice_is x [] between rest = more x (between ++ x ∷ rest) ∙ or_left _ _ (any_there (p x) between x rest ((same x x).1 refl))
-  twice_is x (y ∷ front) between rest = more y (front ++ x ∷ (between ++ x ∷ rest)) ∙ or_right _ _ (twice_is x front between rest)
+  twice_is x (y ∷ prefix) between rest = more y (prefix ++ x ∷ (between ++ x ∷ rest)) ∙ or_right _ _ (twice_is x prefix between rest)
 
-  decides_twice : (ws : List A) → Decides (f ws) (StandsTwice ws)
+  decides_twice : (ws : List A) → Decides (f ws) (OccursTwice ws)
   decides_twice ws = (is_twice ws, λ t. ap f t.4 ∙ twice_is t.0 t.1 t.2 t.3)
 
-pub decides_repeat : (ws : List ℕ) → Decides (has_repeat ws) (StandsTwice ws)
+pub decides_repeat : (ws : List ℕ) → Decides (has_repeat ws) (OccursTwice ws)
 decides_repeat = decides_twice (λ w v. v == w) has_repeat (λ w x. Decides-like (x == w) sym sym (Decides-eqb x w)) refl (λ w ws. refl)
 
-pub decides_word_twice : (ws : List (List ℕ)) → Decides (has_word_twice ws) (StandsTwice ws)
+pub decides_word_twice : (ws : List (List ℕ)) → Decides (has_word_twice ws) (OccursTwice ws)
 decides_word_twice = decides_twice (λ w v. bytes_eq w v) has_word_twice (λ w x. bytes_eq-Decides w x) refl (λ w ws. refl)
 
 -- NUMBERS
 
--- these digits spell none that passes
-pub decides_number : (p : ℕ → Bool) → ((n : ℕ) → p n ≡ true → n < 1000000000000000000) → (w : List ℕ) → Decides (not (option_map_or p (number_of w) false)) ((n : ℕ) → p n ≡ true → w ≢ decimal n)
+-- these digits are the decimal encoding of no number that passes
+pub decides_number : (p : ℕ → Bool) → ((n : ℕ) → p n ≡ true → n < 1000000000000000000) → (w : List ℕ) → Decides (not (option_map_or p (number_in_word w) false)) ((n : ℕ) → p n ≡ true → w ≢ decimal n)
 decides_number p few w = (
   (λ off n on is.
-      true≢false (sym on ∙ ap (λ o. option_map_or p o false) (sym (ap number_of is ∙ number_again n (few n on))) ∙ (decides_not (option_map_or p (number_of w) false)).0 off)),
-  λ none. (decides_not (option_map_or p (number_of w) false)).1 (false_from_ne_true _ (λ on.
-      (elim (number_of w) as (λ o. number_of w ≡ o → option_map_or p o false ≡ true → ⊥) [
+      true≢false (sym on ∙ ap (λ o. option_map_or p o false) (sym (ap number_in_word is ∙ number_again n (few n on))) ∙ (decides_not (option_map_or p (number_in_word w) false)).0 off)),
+  λ none. (decides_not (option_map_or p (number_in_word w) false)).1 (false_from_ne_true _ (λ on.
+      (elim (number_in_word w) as (λ o. number_in_word w ≡ o → option_map_or p o false ≡ true → ⊥) [
         | None ↦ λ e h. cc
         | Some n ↦ λ e h. none n h (number_takes w n e).0
       ]) refl on)),
@@ -117,7 +117,7 @@ decides_number p few w = (
 -- WHAT MAY BE MISSING
 
 -- a block is open, of which the test decides
-pub decides_block : (o : Option Block) (t : Option BlockView → Bool) (T : Block → Type 0) → t None ≡ false → ((b : Block) → Decides (t (Some (view_of_block b))) (T b))
-    → Decides (t (option_map view_of_block o)) ((b : Block) × (o ≡ Some b) × T b)
+pub decides_block : (o : Option OpenBlock) (t : Option BlockContext → Bool) (T : OpenBlock → Type 0) → t None ≡ false → ((b : OpenBlock) → Decides (t (Some (view_of_block b))) (T b))
+    → Decides (t (option_map view_of_block o)) ((b : OpenBlock) × (o ≡ Some b) × T b)
 decides_block None t T none each = ((λ e. absurd (true≢false (sym e ∙ none))), λ h. (let k : None ≡ Some h.0 = h.1 in cc))
 decides_block (Some b) t T none each = ((λ e. (b, refl, (each b).0 e)), λ h. (each b).1 (subst T (sym (same_Some b h.0 h.1)) h.2))

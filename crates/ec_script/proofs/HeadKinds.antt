@@ -1,4 +1,5 @@
--- Which kinds hold of a limit, of a line of workers and of a declaration: what the tests of headings decide.
+-- Which kinds hold of a limit, of a line of workers and of a declaration: what the tests of headers
+-- decide.
 use Rattle.std.proofs.Common.{◌≡◌, ◌≢◌, ◌⊎◌, inl, inr, ℕ, ◌+◌, ◌<◌, ◌≤◌, ◌||◌, ◌&&◌, List, [], ◌∷◌, ◌++◌, length, Bool, true, false, not, Option, Some, None, option_map, is_some, is_none, refl, arith, decimal, nat_le, nat_lt, length-append, replicate}
 use Rattle.std.specs.Bool.{Decides}
 use Rattle.std.specs.List.{Any, Contains, list_any}
@@ -10,39 +11,41 @@ use Rattle.ec_count.specs.Members.{is_member, has_repeat}
 use Rattle.ec_count.specs.Names.{find_name}
 use Rattle.ec_count.specs.Reserved.{is_name}
 use Rattle.ec_count.specs.Tables.{Tables, first_that}
-use Rattle.ec_text.specs.Words.{number_of}
+use Rattle.ec_text.specs.Words.{number_in_word}
 use Rattle.ec_heading.specs.Versions.{is_limit}
 use Rattle.ec_heading.specs.declared.version.Version.{Version}
 use Rattle.ec_heading.proofs.shared.VersionFacts.{limit_low, limit_from, limit_parts}
 use Rattle.ec_heading.specs.declared.heading.HeadFault.TheVariants as heads
-use Rattle.ec_heading.specs.declared.sort.Sort.{Sort}
-use Rattle.ec_heading.specs.declared.sort.Sort.TheVariants as sorts
+use Rattle.ec_heading.specs.declared.decl_kind.DeclKind.{DeclKind}
+use Rattle.ec_heading.specs.declared.decl_kind.DeclKind.TheVariants as sorts
 use Rattle.ec_heading.specs.Form as headings
-use Rattle.ec_heading.specs.Headed.{Headed}
+use Rattle.ec_heading.specs.HeadingModel.{HeadingModel}
 use Rattle.ec_heading.specs.Kinds.{workers_fault, declaration_fault, declaration_of, second_list, is_taken, has_unknown_word, is_bad_number, is_full_for, is_too_many, has_two_roles}
 use Rattle.ec_heading.specs.Lists.{worker_in, ids_in, has_unknown, has_word_twice}
-use Rattle.ec_heading.specs.Outline.{Declaration, with_objects}
-use Rattle.ec_heading.specs.Sorts.{has_number, needs_disjoint_lists, is_called, is_in_range, least as least_number, greatest}
-use Rattle.ec_heading.proofs.shared.AddedObjects.{Bounds}
+use Rattle.ec_heading.specs.HeaderTree.{Declaration, with_objects}
+use Rattle.ec_heading.specs.DeclKinds.{has_number, needs_disjoint_lists, is_called, is_in_range, least as least_number, greatest}
+use Rattle.ec_heading.proofs.shared.AddedObjects.{counted_cells as filled, counted_twice as pushed_twice, counted as pushed, Bounds}
 use Rattle.ec_script.specs.declared.fault.Kind.{Kind}
 use Rattle.ec_script.specs.declared.fault.Kind.TheVariants as kinds
 use Rattle.ec_script.specs.Faults.{kind_of_head}
 use Rattle.ec_script.specs.Holding.{LimitHas, WorkersHave, IsTaken, IsOver, PassesBounds, SharesWorker, DeclarationHas}
 use Rattle.ec_script.proofs.Deciding.{never, decides_none, decides_some, decides_not, decides_itself, decides_any, decides_member, decides_repeat, decides_word_twice, decides_number}
 use Rattle.ec_script.proofs.Least.{least}
+use Rattle.ec_heading.proofs.shared.DeclKindFacts.{greatest_small as few_numbers}
 
 -- THE LIMIT
 
 abbrev pub limit_tests : Version → List ℕ → Kind → Bool
-limit_tests v digits kinds.BadNumber = not (option_map_or (is_limit v) (number_of digits) false)
+limit_tests v digits kinds.BadNumber =
+    not (option_map_or (is_limit v) (number_in_word digits) false)
 limit_tests v digits _ = false
 
 limit_few : (v : Version) (n : ℕ) → is_limit v n ≡ true → n < 1000000000000000000
 limit_few v n on = omega (arith, limit_low v n (limit_parts v n on).1)
 
-limit_number : (v : Version) (digits : List ℕ) → Decides (not (option_map_or (is_limit v) (number_of digits) false)) (LimitHas v digits kinds.BadNumber)
+limit_number : (v : Version) (digits : List ℕ) → Decides (not (option_map_or (is_limit v) (number_in_word digits) false)) (LimitHas v digits kinds.BadNumber)
 limit_number v digits =
-    Decides-like (not (option_map_or (is_limit v) (number_of digits) false)) (λ h n low high. h n (limit_from v n low high))
+    Decides-like (not (option_map_or (is_limit v) (number_in_word digits) false)) (λ h n low high. h n (limit_from v n low high))
     (λ h n on. (let p = limit_parts v n on in h n p.0 p.1))
     (decides_number (is_limit v) (limit_few v) digits)
 
@@ -75,11 +78,11 @@ workers_least names = three (list_any (λ w. not (is_name w)) names) (has_word_t
 
 -- A DECLARATION
 
-abbrev pub declaration_tests : Headed → headings.Phrase → Kind → Bool
+abbrev pub declaration_tests : HeadingModel → headings.Phrase → Kind → Bool
 declaration_tests h p kinds.BadName = not (is_called p.sort p.name)
 declaration_tests h p kinds.NameTaken = is_taken h.words (declaration_of h.words p)
 declaration_tests h p kinds.UnknownName = has_unknown_word h.words p
-declaration_tests h p kinds.BadNumber = is_bad_number p.sort (number_of p.number)
+declaration_tests h p kinds.BadNumber = is_bad_number p.sort (number_in_word p.number)
 declaration_tests h p kinds.TooMany = is_too_many h.setup (declaration_of h.words p)
 declaration_tests h p kinds.TwoRoles = has_two_roles (declaration_of h.words p)
 declaration_tests h p _ = false
@@ -95,45 +98,36 @@ six false false false false true f = refl
 six false false false false false true = refl
 six false false false false false false = refl
 
-pub declaration_least : (h : Headed) (p : headings.Phrase) → option_map kind_of_head (declaration_fault h.setup h.words p) ≡ least (declaration_tests h p)
+pub declaration_least : (h : HeadingModel) (p : headings.Phrase) → option_map kind_of_head (declaration_fault h.setup h.words p) ≡ least (declaration_tests h p)
 declaration_least h p =
-    six (not (is_called p.sort p.name)) (is_taken h.words (declaration_of h.words p)) (has_unknown_word h.words p) (is_bad_number p.sort (number_of p.number)) (is_too_many h.setup (declaration_of h.words p))
+    six (not (is_called p.sort p.name)) (is_taken h.words (declaration_of h.words p)) (has_unknown_word h.words p) (is_bad_number p.sort (number_in_word p.number)) (is_too_many h.setup (declaration_of h.words p))
     (has_two_roles (declaration_of h.words p))
 
-taken_decided : (h : Headed) (p : headings.Phrase) → Decides (is_taken h.words (declaration_of h.words p)) (IsTaken h p)
+taken_decided : (h : HeadingModel) (p : headings.Phrase) → Decides (is_taken h.words (declaration_of h.words p)) (IsTaken h p)
 taken_decided h p =
     Decides-or (is_some (find_name p.name h.words)) (has_repeat (ids_in h.words p.first) || has_repeat (ids_in h.words (second_list p))) (decides_some (find_name p.name h.words))
     (Decides-or (has_repeat (ids_in h.words p.first)) (has_repeat (ids_in h.words (second_list p))) (decides_repeat (ids_in h.words p.first)) (decides_repeat (ids_in h.words (second_list p))))
 
-pub unknown_decided : (h : Headed) (ws : List (List ℕ)) → Decides (has_unknown h.words ws) (Any (λ w. worker_in h.words w ≡ None) ws)
+pub unknown_decided : (h : HeadingModel) (ws : List (List ℕ)) → Decides (has_unknown h.words ws) (Any (λ w. worker_in h.words w ≡ None) ws)
 unknown_decided h ws = decides_any (λ w. is_none (worker_in h.words w)) (λ w. worker_in h.words w ≡ None) (λ w. decides_none (worker_in h.words w)) ws
 
-few_numbers : (s : Sort) → greatest s ≤ 1000000
-few_numbers sorts.EventCount = omega arith
-few_numbers sorts.Sequencer = omega arith
-few_numbers sorts.Cells = omega arith
-few_numbers sorts.Buffer = omega arith
-few_numbers sorts.Database = omega arith
-few_numbers sorts.Semaphore = omega arith
-few_numbers sorts.Both = omega arith
-
-small_number : (s : Sort) (n : ℕ) → is_in_range s n ≡ true → n < 1000000000000000000
+small_number : (s : DeclKind) (n : ℕ) → is_in_range s n ≡ true → n < 1000000000000000000
 small_number s n on = (let high : n ≤ greatest s = leb-true n (greatest s) (and_parts (nat_le (least_number s) n) (nat_le n (greatest s)) on).1 in omega (arith, few_numbers s, high))
 
 and_true : (b : Bool) → b ≡ (b && true)
 and_true true = refl
 and_true false = refl
 
-bad_number : (s : Sort) (o : Option ℕ) → is_bad_number s o ≡ (has_number s && not (option_map_or (is_in_range s) o false))
+bad_number : (s : DeclKind) (o : Option ℕ) → is_bad_number s o ≡ (has_number s && not (option_map_or (is_in_range s) o false))
 bad_number s None = and_true (has_number s)
 bad_number s (Some n) = refl
 
-number_decided : (s : Sort) (w : List ℕ) → Decides (is_bad_number s (number_of w)) ((has_number s ≡ true) × ((n : ℕ) → is_in_range s n ≡ true → w ≢ decimal n))
+number_decided : (s : DeclKind) (w : List ℕ) → Decides (is_bad_number s (number_in_word w)) ((has_number s ≡ true) × ((n : ℕ) → is_in_range s n ≡ true → w ≢ decimal n))
 number_decided s w =
-    Decides-at (is_bad_number s (number_of w)) (has_number s && not (option_map_or (is_in_range s) (number_of w) false)) (bad_number s (number_of w))
-    (Decides-and (has_number s) (not (option_map_or (is_in_range s) (number_of w) false)) (decides_itself (has_number s)) (decides_number (is_in_range s) (small_number s) w))
+    Decides-at (is_bad_number s (number_in_word w)) (has_number s && not (option_map_or (is_in_range s) (number_in_word w) false)) (bad_number s (number_in_word w))
+    (Decides-and (has_number s) (not (option_map_or (is_in_range s) (number_in_word w) false)) (decides_itself (has_number s)) (decides_number (is_in_range s) (small_number s) w))
 
-roles_decided : (h : Headed) (p : headings.Phrase) → Decides (has_two_roles (declaration_of h.words p)) ((needs_disjoint_lists p.sort ≡ true) × SharesWorker h p)
+roles_decided : (h : HeadingModel) (p : headings.Phrase) → Decides (has_two_roles (declaration_of h.words p)) ((needs_disjoint_lists p.sort ≡ true) × SharesWorker h p)
 roles_decided h p =
     let first : List ℕ = ids_in h.words p.first in
     let second : List ℕ = ids_in h.words (second_list p) in
@@ -143,19 +137,10 @@ roles_decided h p =
 
 -- ROOM
 
-pushed : {X : Type 0} (xs : List X) (x : X) → length (xs ++ x ∷ []) ≡ length xs + 1
-pushed xs x = length-append xs (x ∷ [])
-
-pushed_twice : {X : Type 0} (xs : List X) (x y : X) → length ((xs ++ x ∷ []) ++ y ∷ []) ≡ length xs + 2
-pushed_twice xs x y = omega (arith, length-append (xs ++ x ∷ []) (y ∷ []), length-append xs (x ∷ []))
-
-filled : {X : Type 0} (xs : List X) (n : ℕ) (x : X) → length (xs ++ replicate n x) ≡ length xs + n
-filled xs n x = omega (arith, length-append xs (replicate n x), length-replicate n x)
-
 decides_over : (m n k : ℕ) → k ≡ n → Decides (nat_lt m n) (m < k)
 decides_over m n k is = ((λ e. (let lt = ltb-true m n e in omega (arith, is, lt))), λ lt. lt-ltb m n (omega (arith, is, lt)))
 
--- the tables grow by so many
+-- the tables grow by these numbers
 record Grown (t u : Tables) (a b c : ℕ) : Type 0 where
   events : length u.events ≡ length t.events + a
   takers : length u.takers ≡ length t.takers + b
@@ -215,7 +200,7 @@ pair_over t u b g =
     ])
     (Decides-or (nat_lt 31 (length t.events)) (nat_lt 31 (length t.takers)) (Decides-ltb 31 (length t.events)) (Decides-ltb 31 (length t.takers)))
 
-full_decided : (s : Sort) (t : Tables) (n : ℕ) (ws vs : List ℕ) → Bounds t → Decides (is_full_for s t n) (IsOver (with_objects s t n ws vs))
+full_decided : (s : DeclKind) (t : Tables) (n : ℕ) (ws vs : List ℕ) → Bounds t → Decides (is_full_for s t n) (IsOver (with_objects s t n ws vs))
 full_decided sorts.EventCount t n ws vs b = event_over t (with_objects sorts.EventCount t n ws vs) b (record { events = pushed t.events _; takers = omega arith; cells = omega arith })
 full_decided sorts.Sequencer t n ws vs b = taker_over t (with_objects sorts.Sequencer t n ws vs) b (record { events = omega arith; takers = pushed t.takers _; cells = omega arith })
 full_decided sorts.Cells t n ws vs b = cells_over t (with_objects sorts.Cells t n ws vs) n b (record { events = omega arith; takers = omega arith; cells = filled t.cells n _ })
@@ -224,14 +209,14 @@ full_decided sorts.Database t n ws vs b = group_over t (with_objects sorts.Datab
 full_decided sorts.Semaphore t n ws vs b = pair_over t (with_objects sorts.Semaphore t n ws vs) b (record { events = pushed t.events _; takers = pushed t.takers _; cells = omega arith })
 full_decided sorts.Both t n ws vs b = pair_over t (with_objects sorts.Both t n ws vs) b (record { events = pushed t.events _; takers = pushed t.takers _; cells = omega arith })
 
-many_decided : (h : Headed) (p : headings.Phrase) → Bounds h.setup → Decides (is_too_many h.setup (declaration_of h.words p)) (PassesBounds h p)
+many_decided : (h : HeadingModel) (p : headings.Phrase) → Bounds h.setup → Decides (is_too_many h.setup (declaration_of h.words p)) (PassesBounds h p)
 many_decided h p b =
     let d : Declaration = declaration_of h.words p in
     Decides-or (nat_lt 16 (length d.first) || nat_lt 16 (length d.second)) (is_full_for d.sort h.setup d.number)
     (Decides-or (nat_lt 16 (length d.first)) (nat_lt 16 (length d.second)) (Decides-ltb 16 (length d.first)) (Decides-ltb 16 (length d.second)))
     (full_decided d.sort h.setup d.number d.first d.second b)
 
-pub declaration_decided : (h : Headed) (p : headings.Phrase) (k : Kind) → Bounds h.setup → Decides (declaration_tests h p k) (DeclarationHas h p k)
+pub declaration_decided : (h : HeadingModel) (p : headings.Phrase) (k : Kind) → Bounds h.setup → Decides (declaration_tests h p k) (DeclarationHas h p k)
 declaration_decided h p kinds.BadName b = decides_not (is_called p.sort p.name)
 declaration_decided h p kinds.NameTaken b = taken_decided h p
 declaration_decided h p kinds.UnknownName b = Decides-or (has_unknown h.words p.first) (has_unknown h.words (second_list p)) (unknown_decided h p.first) (unknown_decided h (second_list p))

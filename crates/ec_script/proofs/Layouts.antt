@@ -1,4 +1,4 @@
--- Every script is laid out as a heading, whole blocks and a schedule.
+-- Every script consists of a header, whole blocks and a schedule.
 use Rattle.std.proofs.Common.{◌≡◌, ℕ, ◌<◌, ◌≤◌, List, [], ◌∷◌, ◌++◌, length, map, replicate, true, false, not, ◌&&◌, cond, eqb, nat_lt, Option, Some, None, Result, Ok, Err, refl, sym, ap, ap₂, ◌∙◌, subst, arith, bytes_eq, codes, decimal, slice_set, get_or, eqb-true, length-set}
 use Rattle.std.specs.List.{range_with_len}
 use Rattle.std.proofs.lemmas.Bool.{and_parts, or_parts, eqb-false}
@@ -6,65 +6,65 @@ use Rattle.std.proofs.lemmas.Slice.Eq.{bytes_eq-Decides}
 use Rattle.std.proofs.lemmas.List.{ext_get_or, get_or-set_same, get_or-set_other, get_or-replicate, length-replicate}
 use Rattle.std.proofs.lemmas.List.FromFn.{get_or-map-range_with_len, length-map-range_with_len}
 use Rattle.ec_count.specs.Members.{is_member, has_repeat}
-use Rattle.ec_text.specs.Words.{words_of, number_of, is_number_form}
+use Rattle.ec_text.specs.Words.{words_of, number_in_word, is_number_form}
 use Rattle.ec_text.proofs.shared.NumberLemmas.{number_takes}
 use Rattle.ec_heading.specs.Versions.{greatest_limit, is_limit, version_of}
-use Rattle.ec_script.specs.Headers.{script_header, bounded}
+use Rattle.ec_script.specs.Headers.{script_header, version_limit}
 use Rattle.ec_heading.specs.declared.version.Version.{Version}
 use Rattle.ec_heading.proofs.shared.VersionFacts.{limit_parts, version_back}
-use Rattle.ec_heading.specs.Headed.{Headed}
-use Rattle.ec_heading.specs.Outline.{Outline, IsOutline, opened, headed}
+use Rattle.ec_heading.specs.HeadingModel.{HeadingModel}
+use Rattle.ec_heading.specs.HeaderTree.{HeaderTree, IsHeaderTree, empty_heading, heading_of_tree}
 use Rattle.ec_heading.specs.Heading.{head_step, is_no_line}
 use Rattle.ec_heading.specs.HeadingLaws.{LinesLead, Outlines, outline_lines}
-use Rattle.ec_heading.specs.Spelling.{limit_line, heading_lines}
+use Rattle.ec_heading.specs.Spelling.{limit_line, heading_lines, lines_text}
 use Rattle.ec_heading.specs.declared.heading.HeadFault.{HeadFault}
 use Rattle.ec_heading.proofs.shared.Declarable.{Heads, heads_opened, heads_all}
 use Rattle.ec_heading.proofs.shared.LeadLines.{leads_outline}
 use Rattle.ec_script.specs.declared.fault.Kind.TheVariants as kinds
-use Rattle.ec_script.specs.declared.order.Order.{Order}
+use Rattle.ec_script.specs.declared.block_item.BlockItem.{BlockItem}
 use Rattle.ec_script.specs.declared.stage.Stage.{Stage}
 use Rattle.ec_script.specs.declared.stage.Stage.TheVariants.{Opening, Limiting, Naming, Reading}
 use Rattle.ec_script.specs.Forms.{phrase_in}
-use Rattle.ec_script.specs.Scripted.{Scripted, Planned}
-use Rattle.ec_script.specs.Reading.{headed_on, phrased, opens_outer, script_step, limiting, limited, limit_digits, limit_or, limit_step, script_of, named_on, step}
+use Rattle.ec_script.specs.ScriptModel.{ScriptModel, PlanModel}
+use Rattle.ec_script.specs.Reading.{map_heading, after_phrase, opens_outer, script_step, stage_of_version, after_limit, limit_digits, limit_or, limit_step, script_of, stage_of_heading, step}
 use Rattle.ec_script.specs.Outcome.{plan_in}
-use Rattle.ec_script.specs.Grammar.{Leads, text_of}
-use Rattle.ec_script.specs.Layout.{Block, orders_of, workers_of, joined, layout_lines, program_of, ScriptsAreLaidOut}
+use Rattle.ec_script.specs.Grammar.{Leads}
+use Rattle.ec_script.specs.Layout.{Block, items_of, workers_of, concat_rows, layout_lines, program_of, ScriptsAreLaidOut}
 use Rattle.ec_script.proofs.Declaring.{HeadKeeps, Grows, first_keeps, head_grows}
 use Rattle.ec_script.proofs.Passing.{read_back}
-use Rattle.ec_script.proofs.Blocks.{state, set_all, planned, Closed, AreBehind, line_of, rests}
+use Rattle.ec_script.proofs.Blocks.{state, set_all, planned, Closed, AreNoDeclarations, line_of, rests}
 
 -- THE PROGRAMS
 
-set_all_length : (bs : List Block) (ps : List (List Order)) → length (set_all ps bs) ≡ length ps
+set_all_length : (bs : List Block) (ps : List (List BlockItem)) → length (set_all ps bs) ≡ length ps
 set_all_length [] ps = refl
-set_all_length (b ∷ bs) ps = set_all_length bs (slice_set ps b.worker (orders_of b.lines)) ∙ length-set ps b.worker (orders_of b.lines)
+set_all_length (b ∷ bs) ps = set_all_length bs (slice_set ps b.worker (items_of b.lines)) ∙ length-set ps b.worker (items_of b.lines)
 
-untouched : (bs : List Block) (ps : List (List Order)) (w : ℕ) → is_member w (workers_of bs) ≡ false → get_or (set_all ps bs) w [] ≡ get_or ps w []
+untouched : (bs : List Block) (ps : List (List BlockItem)) (w : ℕ) → is_member w (workers_of bs) ≡ false → get_or (set_all ps bs) w [] ≡ get_or ps w []
 untouched [] ps w none = refl
 untouched (b ∷ bs) ps w none =
     let p = or_parts (eqb b.worker w) (is_member w (workers_of bs)) none in
-    untouched bs (slice_set ps b.worker (orders_of b.lines)) w p.1
-    ∙ get_or-set_other ps b.worker w (orders_of b.lines) [] (λ e. eqb-false b.worker w p.0 (sym e))
+    untouched bs (slice_set ps b.worker (items_of b.lines)) w p.1
+    ∙ get_or-set_other ps b.worker w (items_of b.lines) [] (λ e. eqb-false b.worker w p.0 (sym e))
 
-program_is : (bs : List Block) (ps : List (List Order)) (w : ℕ) → has_repeat (workers_of bs) ≡ false → w < length ps → get_or ps w [] ≡ [] → get_or (set_all ps bs) w [] ≡ program_of bs w
+program_is : (bs : List Block) (ps : List (List BlockItem)) (w : ℕ) → has_repeat (workers_of bs) ≡ false → w < length ps → get_or ps w [] ≡ [] → get_or (set_all ps bs) w [] ≡ program_of bs w
 program_is [] ps w differ within none = none
 program_is (b ∷ bs) ps w differ within none =
     let p = or_parts (is_member b.worker (workers_of bs)) (has_repeat (workers_of bs)) differ in
-    (elim (eqb b.worker w) as (λ t. eqb b.worker w ≡ t → get_or (set_all (slice_set ps b.worker (orders_of b.lines)) bs) w [] ≡ cond t (orders_of b.lines) (program_of bs w)) [
+    (elim (eqb b.worker w) as (λ t. eqb b.worker w ≡ t → get_or (set_all (slice_set ps b.worker (items_of b.lines)) bs) w [] ≡ cond t (items_of b.lines) (program_of bs w)) [
       | true ↦ λ e.
           (let same : b.worker ≡ w = eqb-true b.worker w e in
-          untouched bs (slice_set ps b.worker (orders_of b.lines)) w (ap (λ i. is_member i (workers_of bs)) (sym same) ∙ p.0)
-          ∙ ap (λ i. get_or (slice_set ps i (orders_of b.lines)) w []) same
-          ∙ get_or-set_same ps w (orders_of b.lines) [] within)
+          untouched bs (slice_set ps b.worker (items_of b.lines)) w (ap (λ i. is_member i (workers_of bs)) (sym same) ∙ p.0)
+          ∙ ap (λ i. get_or (slice_set ps i (items_of b.lines)) w []) same
+          ∙ get_or-set_same ps w (items_of b.lines) [] within)
       | false ↦ λ e.
-          program_is bs (slice_set ps b.worker (orders_of b.lines)) w p.1 (omega (arith, within, length-set ps b.worker (orders_of b.lines)))
-          (get_or-set_other ps b.worker w (orders_of b.lines) [] (λ same. eqb-false b.worker w e (sym same)) ∙ none)
+          program_is bs (slice_set ps b.worker (items_of b.lines)) w p.1 (omega (arith, within, length-set ps b.worker (items_of b.lines)))
+          (get_or-set_other ps b.worker w (items_of b.lines) [] (λ same. eqb-false b.worker w e (sym same)) ∙ none)
     ]) refl
 
 pub programs_are : (bs : List Block) (n : ℕ) → has_repeat (workers_of bs) ≡ false → set_all (replicate n []) bs ≡ map (program_of bs) (range_with_len 0 n)
 programs_are bs n differ =
-    let none : List Order = [] in
+    let none : List BlockItem = [] in
     let long : length (set_all (replicate n none) bs) ≡ n = set_all_length bs (replicate n none) ∙ length-replicate n none in
     ext_get_or [] (set_all (replicate n none) bs) (map (program_of bs) (range_with_len 0 n)) (long ∙ sym (length-map-range_with_len (program_of bs) 0 n))
     (λ i within.
@@ -73,7 +73,7 @@ programs_are bs n differ =
 
 -- THE FIRST LINES
 
-limiting_back : (o : Option Version) (t : Stage) → limiting o ≡ Ok t → (v : Version) × (o ≡ Some v) × (t ≡ Limiting v)
+limiting_back : (o : Option Version) (t : Stage) → stage_of_version o ≡ Ok t → (v : Version) × (o ≡ Some v) × (t ≡ Limiting v)
 limiting_back None t is = cc
 limiting_back (Some v) t is = (v, refl, cc)
 
@@ -87,11 +87,11 @@ record Limits (v : Version) (words : List (List ℕ)) (t : Stage) : Type 0 where
   are : words ≡ codes "limit" ∷ decimal limit ∷ []
   low : 1 ≤ limit
   high : limit ≤ greatest_limit v
-  leads : t ≡ Naming (bounded v limit)
+  leads : t ≡ Naming (version_limit v limit)
 
-range_back : (v : Version) (w : List ℕ) (n : ℕ) (t : Stage) → number_of w ≡ Some n → cond (is_limit v n) (Ok (Naming (bounded v n))) (Err kinds.BadNumber) ≡ Ok t → Limits v (codes "limit" ∷ w ∷ []) t
+range_back : (v : Version) (w : List ℕ) (n : ℕ) (t : Stage) → number_in_word w ≡ Some n → cond (is_limit v n) (Ok (Naming (version_limit v n))) (Err kinds.BadNumber) ≡ Ok t → Limits v (codes "limit" ∷ w ∷ []) t
 range_back v w n t number is =
-    (elim (is_limit v n) as (λ b. is_limit v n ≡ b → cond b (Ok (Naming (bounded v n))) (Err kinds.BadNumber) ≡ Ok t → Limits v (codes "limit" ∷ w ∷ []) t) [
+    (elim (is_limit v n) as (λ b. is_limit v n ≡ b → cond b (Ok (Naming (version_limit v n))) (Err kinds.BadNumber) ≡ Ok t → Limits v (codes "limit" ∷ w ∷ []) t) [
       | true ↦ λ e h.
           (let p = limit_parts v n e in
           record {
@@ -104,7 +104,7 @@ range_back v w n t number is =
       | false ↦ λ e h. cc
     ]) refl is
 
-number_back : (v : Version) (w : List ℕ) (o : Option ℕ) (t : Stage) → number_of w ≡ o → limited v o ≡ Ok t → Limits v (codes "limit" ∷ w ∷ []) t
+number_back : (v : Version) (w : List ℕ) (o : Option ℕ) (t : Stage) → number_in_word w ≡ o → after_limit v o ≡ Ok t → Limits v (codes "limit" ∷ w ∷ []) t
 number_back v w None t number is = cc
 number_back v w (Some n) t number is = range_back v w n t number is
 
@@ -115,7 +115,7 @@ digits_back v (w ∷ n ∷ []) t is =
     (elim (bytes_eq w (codes "limit") && is_number_form n) as (λ b. (bytes_eq w (codes "limit") && is_number_form n) ≡ b → limit_or v (cond b (Some n) None) ≡ Ok t → Limits v (w ∷ n ∷ []) t) [
       | true ↦ λ e h.
           (let word : w ≡ codes "limit" = (bytes_eq-Decides w (codes "limit")).0 (and_parts (bytes_eq w (codes "limit")) (is_number_form n) e).0 in
-          subst (λ (x : List ℕ). Limits v (x ∷ n ∷ []) t) (sym word) (number_back v n (number_of n) t refl h))
+          subst (λ (x : List ℕ). Limits v (x ∷ n ∷ []) t) (sym word) (number_back v n (number_in_word n) t refl h))
       | false ↦ λ e h. cc
     ]) refl is
 digits_back v (w ∷ n ∷ x ∷ words) t is = cc
@@ -128,29 +128,29 @@ limit_back v line t is =
       | false ↦ λ h. digits_back v (words_of line) t h
     ]) is
 
-named_back : (r : Result Headed HeadFault) (t : Stage) → named_on r ≡ Ok t → (h : Headed) × (r ≡ Ok h) × (t ≡ Reading (script_of h))
+named_back : (r : Result HeadingModel HeadFault) (t : Stage) → stage_of_heading r ≡ Ok t → (h : HeadingModel) × (r ≡ Ok h) × (t ≡ Reading (script_of h))
 named_back (Ok h) t is = (h, refl, cc)
 named_back (Err f) t is = cc
 
 -- THE DECLARATIONS
 
 -- lines of declarations, and what follows them
-record Declares (h : Headed) (lines : List (List ℕ)) (t : Stage) : Type 0 where
-  front : List (List ℕ)
+record Declares (h : HeadingModel) (lines : List (List ℕ)) (t : Stage) : Type 0 where
+  prefix : List (List ℕ)
   rest : List (List ℕ)
-  end : Headed
-  are : lines ≡ front ++ rest
-  heads : LinesLead h front end
-  behind : AreBehind (script_of end) rest
+  end : HeadingModel
+  are : lines ≡ prefix ++ rest
+  heads : LinesLead h prefix end
+  behind : AreNoDeclarations (script_of end) rest
   leads : Leads (Reading (script_of end)) rest t
 
-headed_back : (s t : Scripted) (r : Result Headed HeadFault) → headed_on s r ≡ Ok t → (h : Headed) × (r ≡ Ok h) × (t ≡ record s { heading = h })
+headed_back : (s t : ScriptModel) (r : Result HeadingModel HeadFault) → map_heading s r ≡ Ok t → (h : HeadingModel) × (r ≡ Ok h) × (t ≡ record s { heading = h })
 headed_back s t (Ok h) is = (h, refl, cc)
 headed_back s t (Err f) is = cc
 
-declares_along : (h next : Headed) (line : List ℕ) (lines : List (List ℕ)) (t : Stage) → head_step h line ≡ Ok next → Declares next lines t → Declares h (line ∷ lines) t
+declares_along : (h next : HeadingModel) (line : List ℕ) (lines : List (List ℕ)) (t : Stage) → head_step h line ≡ Ok next → Declares next lines t → Declares h (line ∷ lines) t
 declares_along h next line lines t is d = record {
-  front = line ∷ d.front;
+  prefix = line ∷ d.prefix;
   rest = d.rest;
   end = d.end;
   are = ap (λ (ls : List (List ℕ)). line ∷ ls) d.are;
@@ -160,40 +160,40 @@ declares_along h next line lines t is d = record {
 }
 
 -- a line that is a declaration
-declared_line : (h : Headed) (line : List ℕ) (s : Scripted) → HeadKeeps h → not (opens_outer (words_of line)) ≡ true → script_step (script_of h) line ≡ Ok s → (next : Headed) × (head_step h line ≡ Ok next) × (s ≡ script_of next) × HeadKeeps next
+declared_line : (h : HeadingModel) (line : List ℕ) (s : ScriptModel) → HeadKeeps h → not (opens_outer (words_of line)) ≡ true → script_step (script_of h) line ≡ Ok s → (next : HeadingModel) × (head_step h line ≡ Ok next) × (s ≡ script_of next) × HeadKeeps next
 unfolding script_step
 declared_line h line s keeps declaring is =
-    let r = headed_back (script_of h) s (head_step h line) (ap (λ b. cond b (headed_on (script_of h) (head_step h line)) (cond (is_no_line line) (Err kinds.BadLine) (phrased (script_of h) (phrase_in (words_of line))))) (sym declaring) ∙ is) in
+    let r = headed_back (script_of h) s (head_step h line) (ap (λ b. cond b (map_heading (script_of h) (head_step h line)) (cond (is_no_line line) (Err kinds.BadLine) (after_phrase (script_of h) (phrase_in (words_of line))))) (sym declaring) ∙ is) in
     let grows : Grows h r.0 = head_grows h line r.0 keeps r.1 in
-    let none : List Order = [] in
+    let none : List BlockItem = [] in
     (r.0, r.1, r.2 ∙ ap (λ n. state r.0 [] (replicate n none) None []) (sym grows.workers), grows.keeps)
 
-declares : (h : Headed) (lines : List (List ℕ)) (t : Stage) → HeadKeeps h → Leads (Reading (script_of h)) lines t → Declares h lines t
+declares : (h : HeadingModel) (lines : List (List ℕ)) (t : Stage) → HeadKeeps h → Leads (Reading (script_of h)) lines t → Declares h lines t
 unfolding step
-declares h [] t keeps leads = record { front = []; rest = []; end = h; are = refl; heads = refl; behind = tt; leads = leads }
+declares h [] t keeps leads = record { prefix = []; rest = []; end = h; are = refl; heads = refl; behind = tt; leads = leads }
 declares h (line ∷ lines) t keeps leads =
     let r = read_back (script_step (script_of h) line) leads.0 leads.1 in
     (elim (not (opens_outer (words_of line))) as (λ b. not (opens_outer (words_of line)) ≡ b → Declares h (line ∷ lines) t) [
       | true ↦ λ e.
           (let d = declared_line h line r.0 keeps e r.1 in
           declares_along h d.0 line lines t d.1 (declares d.0 lines t d.3 (subst (λ (u : Stage). Leads u lines t) (r.2 ∙ ap Reading d.2) leads.2)))
-      | false ↦ λ e. record { front = []; rest = line ∷ lines; end = h; are = refl; heads = refl; behind = e; leads = leads }
+      | false ↦ λ e. record { prefix = []; rest = line ∷ lines; end = h; are = refl; heads = refl; behind = e; leads = leads }
     ]) refl
 
 -- ALL LINES
 
 record Headings (lines : List (List ℕ)) (t : Stage) : Type 0 where
-  outline : Outline
+  outline : HeaderTree
   rest : List (List ℕ)
-  is : IsOutline outline
+  is : IsHeaderTree outline
   are : lines ≡ script_header outline.version ∷ heading_lines outline ++ rest
-  behind : AreBehind (script_of (headed outline)) rest
-  leads : Leads (Reading (script_of (headed outline))) rest t
+  behind : AreNoDeclarations (script_of (heading_of_tree outline)) rest
+  leads : Leads (Reading (script_of (heading_of_tree outline))) rest t
 
-heading_of : (v : Version) (limit line : List ℕ) (lines : List (List ℕ)) (n : ℕ) (t : Stage) (h : Headed) → limit ≡ limit_line n → 1 ≤ n → n ≤ greatest_limit v → head_step (opened v n []) line ≡ Ok h → Declares h lines t
+heading_of : (v : Version) (limit line : List ℕ) (lines : List (List ℕ)) (n : ℕ) (t : Stage) (h : HeadingModel) → limit ≡ limit_line n → 1 ≤ n → n ≤ greatest_limit v → head_step (empty_heading v n []) line ≡ Ok h → Declares h lines t
     → Headings (script_header v ∷ limit ∷ line ∷ lines) t
 heading_of v limit line lines n t h is low high opens d =
-    let o : Outlines v n (line ∷ d.front) d.end = leads_outline v n line d.front d.end low high (h, opens, d.heads) in
+    let o : Outlines v n (line ∷ d.prefix) d.end = leads_outline v n line d.prefix d.end low high (h, opens, d.heads) in
     let all : line ∷ lines ≡ outline_lines o.outline ++ d.rest = ap (λ (ls : List (List ℕ)). line ∷ ls) d.are ∙ ap (λ (ls : List (List ℕ)). ls ++ d.rest) o.lines_are in
     let first : limit ≡ limit_line o.outline.limit = is ∙ ap limit_line (sym o.limit_is) in
     record {
@@ -203,27 +203,27 @@ heading_of v limit line lines n t h is low high opens d =
       are =
           ap (λ (w : Version). script_header w ∷ limit ∷ line ∷ lines) (sym o.version_is)
           ∙ ap₂ (λ (l : List ℕ) (ls : List (List ℕ)). script_header o.outline.version ∷ l ∷ ls) first all;
-      behind = subst (λ (g : Headed). AreBehind (script_of g) d.rest) o.end_is d.behind;
-      leads = subst (λ (g : Headed). Leads (Reading (script_of g)) d.rest t) o.end_is d.leads;
+      behind = subst (λ (g : HeadingModel). AreNoDeclarations (script_of g) d.rest) o.end_is d.behind;
+      leads = subst (λ (g : HeadingModel). Leads (Reading (script_of g)) d.rest t) o.end_is d.leads;
     }
 
-no_plan : (s t : Stage) (p : Planned) → plan_in s ≡ None → s ≡ t → plan_in t ≡ Some p → ⊥
+no_plan : (s t : Stage) (p : PlanModel) → plan_in s ≡ None → s ≡ t → plan_in t ≡ Some p → ⊥
 no_plan s t p none is plan = (let e : None ≡ Some p = sym none ∙ ap plan_in is ∙ plan in cc)
 
-named_leads : (v : Version) (n : ℕ) (limit : List ℕ) (lines : List (List ℕ)) (t : Stage) (p : Planned) → limit ≡ limit_line n → 1 ≤ n → n ≤ greatest_limit v → Leads (Naming (bounded v n)) lines t → plan_in t ≡ Some p → Headings (script_header v ∷ limit ∷ lines) t
+named_leads : (v : Version) (n : ℕ) (limit : List ℕ) (lines : List (List ℕ)) (t : Stage) (p : PlanModel) → limit ≡ limit_line n → 1 ≤ n → n ≤ greatest_limit v → Leads (Naming (version_limit v n)) lines t → plan_in t ≡ Some p → Headings (script_header v ∷ limit ∷ lines) t
 unfolding step
-named_leads v n limit [] t p is low high leads plan = absurd (no_plan (Naming (bounded v n)) t p refl leads plan)
+named_leads v n limit [] t p is low high leads plan = absurd (no_plan (Naming (version_limit v n)) t p refl leads plan)
 named_leads v n limit (line ∷ lines) t p is low high leads plan =
-    let r = named_back (head_step (opened v n []) line) leads.0 leads.1 in
+    let r = named_back (head_step (empty_heading v n []) line) leads.0 leads.1 in
     heading_of v limit line lines n t r.0 is low high r.1 (declares r.0 lines t (first_keeps v n line r.0 r.1) (subst (λ (u : Stage). Leads u lines t) r.2 leads.2))
 
-limit_leads : (v : Version) (lines : List (List ℕ)) (t : Stage) (p : Planned) → Leads (Limiting v) lines t → plan_in t ≡ Some p → Headings (script_header v ∷ lines) t
+limit_leads : (v : Version) (lines : List (List ℕ)) (t : Stage) (p : PlanModel) → Leads (Limiting v) lines t → plan_in t ≡ Some p → Headings (script_header v ∷ lines) t
 limit_leads v [] t p leads plan = absurd (no_plan (Limiting v) t p refl leads plan)
 limit_leads v (line ∷ lines) t p leads plan =
     let l : Limits v (words_of line) leads.0 = limit_back v line leads.0 leads.1 in
     named_leads v l.limit line lines t p (line_of line (codes "limit" ∷ decimal l.limit ∷ []) l.are) l.low l.high (subst (λ (u : Stage). Leads u lines t) l.leads leads.2) plan
 
-headings : (lines : List (List ℕ)) (t : Stage) (p : Planned) → Leads Opening lines t → plan_in t ≡ Some p → Headings lines t
+headings : (lines : List (List ℕ)) (t : Stage) (p : PlanModel) → Leads Opening lines t → plan_in t ≡ Some p → Headings lines t
 headings [] t p leads plan = absurd (no_plan Opening t p refl leads plan)
 headings (line ∷ lines) t p leads plan =
     let q = header_back line leads.0 leads.1 in
@@ -234,17 +234,17 @@ headings (line ∷ lines) t p leads plan =
 pub laid_out : ScriptsAreLaidOut
 laid_out bytes p is =
     let g : Headings is.lines is.stage = headings is.lines is.stage p is.leads is.plan in
-    let heads : Heads g.outline.workers (headed g.outline) = heads_all g.outline.workers (opened g.outline.version g.outline.limit g.outline.workers) g.outline.declarations (heads_opened g.outline.version g.outline.limit g.outline.workers) in
-    let none : List Order = [] in
-    let c : Closed (headed g.outline) g.outline.workers [] (replicate (headed g.outline).setup.workers none) [] g.rest p =
-    rests (headed g.outline) g.outline.workers heads p is.stage g.rest [] (replicate (headed g.outline).setup.workers none) None [] (omega arith) g.behind g.leads is.plan in
+    let heads : Heads g.outline.workers (heading_of_tree g.outline) = heads_all g.outline.workers (empty_heading g.outline.version g.outline.limit g.outline.workers) g.outline.declarations (heads_opened g.outline.version g.outline.limit g.outline.workers) in
+    let none : List BlockItem = [] in
+    let c : Closed (heading_of_tree g.outline) g.outline.workers [] (replicate (heading_of_tree g.outline).setup.workers none) [] g.rest p =
+    rests (heading_of_tree g.outline) g.outline.workers heads p is.stage g.rest [] (replicate (heading_of_tree g.outline).setup.workers none) None [] (omega arith) g.behind g.leads is.plan in
     let all : is.lines ≡ layout_lines (record { outline = g.outline; blocks = c.blocks; rows = c.rows }) = g.are ∙ ap (λ (ls : List (List ℕ)). script_header g.outline.version ∷ heading_lines g.outline ++ ls) c.are in
-    let programs : set_all (replicate (headed g.outline).setup.workers none) c.blocks ≡ map (program_of c.blocks) (range_with_len 0 (length g.outline.workers)) =
+    let programs : set_all (replicate (heading_of_tree g.outline).setup.workers none) c.blocks ≡ map (program_of c.blocks) (range_with_len 0 (length g.outline.workers)) =
     ap (λ n. set_all (replicate n none) c.blocks) heads.count ∙ programs_are c.blocks (length g.outline.workers) c.differ in
     record {
       layout = record { outline = g.outline; blocks = c.blocks; rows = c.rows };
       is = record { heading = g.is; blocks = c.each; differ = c.differ; rows = c.rows_are; few = c.few };
-      text = is.text ∙ ap text_of all;
+      text = is.text ∙ ap lines_text all;
       within = is.within;
-      plan = c.plan ∙ ap (λ (ps : List (List Order)). planned (headed g.outline) ps (joined c.rows)) programs;
+      plan = c.plan ∙ ap (λ (ps : List (List BlockItem)). planned (heading_of_tree g.outline) ps (concat_rows c.rows)) programs;
     }

@@ -53,7 +53,7 @@ in_range kinds.NoRight = record { low = omega arith; high = omega arith }
 in_range kinds.BadNesting = record { low = omega arith; high = omega arith }
 in_range kinds.Unfinished = record { low = omega arith; high = omega arith }
 
--- their numbers go on from this one
+-- their numbers are this one and those that follow
 abbrev AreNumbered : ℕ → List Kind → Type 0
 AreNumbered n [] = Unit {0}
 AreNumbered n (k ∷ ks) = (kind_number k ≡ n) × AreNumbered (n + 1) ks
@@ -112,7 +112,7 @@ first_so n t (i ∷ is) k num low high holds none = elim (cases_eq (kind_number 
   | inr later ↦ inr (none i (omega (arith, num.0, low, later)), first_so (n + 1) t is k num.1 (omega (arith, low, later)) (omega (arith, high)) holds none)
 ]
 
--- where each test decides what it is of
+-- if each test decides its proposition
 pub least_holds : (t : Kind → Bool) (T : Kind → Type 0) → ((k : Kind) → Decides (t k) (T k)) → (k : Kind) → (least t ≡ Some k) ↔ (T k × ((j : Kind) → kind_number j < kind_number k → T j → ⊥))
 least_holds t T decides k = (
   (λ is.
@@ -121,7 +121,7 @@ least_holds t T decides k = (
   λ h. is_first t all_kinds k (first_so 1 t all_kinds k all_numbered (in_range k).low (in_range k).high ((decides k).1 h.0) (λ j less. false_from_ne_true _ (λ on. h.1 j less ((decides j).0 on)))),
 )
 
--- WHERE NO TEST HOLDS
+-- IF NO TEST HOLDS
 
 all_off : (t : Kind → Bool) (ks : List Kind) → first_that (tested t ks) ≡ None → AllByRecursion (λ k. t k ≡ false) ks
 all_off t [] none = tt

@@ -27,12 +27,12 @@ pub mod Namings
 pub mod Sayings
 pub mod Spellings
 pub mod Cleans
-pub mod FaultsTold
+pub mod ReportedFaults
 pub mod Least
 pub mod Deciding
 pub mod HeadKinds
 pub mod OtherKinds
-pub mod KindsTold
+pub mod ReportedKinds
 pub mod Endings
 pub mod Counting
 pub mod HeadFails

@@ -1,4 +1,4 @@
--- What is declared is found again by its word, which may stand in a line.
+-- What is declared is found by its word, which may occur in a line.
 use Rattle.std.proofs.Common.{◌≡◌, ◌⊎◌, inl, inr, ℕ, ◌+◌, ◌-◌, ◌<◌, List, [], ◌∷◌, ◌++◌, length, Bool, true, false, cond, eqb, Option, Some, None, is_some, refl, sym, ap, ◌∙◌, subst, arith, bytes_eq, decimal, append_assoc, append-nil, length-append, ne_eqb, eq-eqb, nat_lt, lt-ltb}
 use Rattle.std.specs.List.{AllByRecursion, Contains, cons_option, slice_get}
 use Rattle.std.specs.Option.{option_and_then}
@@ -16,33 +16,34 @@ use Rattle.ec_count.specs.declared.target.Target.TheVariants as targets
 use Rattle.ec_text.proofs.shared.NumberLemmas.{own, number_again}
 use Rattle.ec_heading.specs.declared.group.Group.{Group}
 use Rattle.ec_heading.specs.declared.group.Group.TheVariants as groups
-use Rattle.ec_heading.specs.declared.sort.Sort.{Sort}
-use Rattle.ec_heading.specs.declared.sort.Sort.TheVariants as sorts
-use Rattle.ec_heading.specs.Sorts.{is_called, sort_word}
-use Rattle.ec_heading.specs.Objects.{objects_of, target_of, group_of, spelling, spelled_objects}
-use Rattle.ec_heading.specs.Headed.{Headed}
-use Rattle.ec_heading.specs.Outline.{Declaration, Outline, IsOutline, IsDeclarable, AreDeclarable, opened, numbered, next_of, named_as, declared_by, declared_all, headed}
-use Rattle.ec_heading.specs.Spelling.{word_of, cell_word}
-use Rattle.ec_heading.specs.Lists.{worker_of, worker_in}
-use Rattle.ec_heading.specs.Spelled.{cut_at, event_of, sequencer_of, event_in, sequencer_in, cell_in_word}
+use Rattle.ec_heading.specs.declared.decl_kind.DeclKind.{DeclKind}
+use Rattle.ec_heading.specs.declared.decl_kind.DeclKind.TheVariants as sorts
+use Rattle.ec_heading.specs.DeclKinds.{is_called, sort_word}
+use Rattle.ec_heading.specs.Objects.{objects_of, target_of, group_of_declaration, spelling, spelled_objects}
+use Rattle.ec_heading.specs.HeadingModel.{HeadingModel}
+use Rattle.ec_heading.specs.HeaderTree.{Declaration, HeaderTree, IsHeaderTree, IsDeclarable, AreDeclarable, empty_heading, number_names, next_ids, named_as, with_declaration, with_declarations, heading_of_tree}
+use Rattle.ec_heading.specs.Spelling.{target_name, cell_word}
+use Rattle.ec_heading.specs.Lists.{target_worker, worker_in}
+use Rattle.ec_heading.specs.EntryWords.{cut_at, target_event, target_sequencer, event_in, sequencer_in, cell_in_word}
 use Rattle.ec_heading.proofs.shared.Each.{each_append}
 use Rattle.ec_heading.proofs.shared.LineWords.{IsFit, AreNamed}
 use Rattle.ec_heading.proofs.shared.NameWords.{name_is_word, name_not_empty}
 use Rattle.ec_heading.proofs.shared.ReadNames.{bracketed, HasBlock, has_block, IsNamedBy, named_by, block_by, word_lacks}
-use Rattle.ec_heading.proofs.shared.ReadHeadings.{IsSound, sound, sound_all}
-use Rattle.ec_heading.proofs.shared.SortFacts.{name_called}
+use Rattle.ec_heading.proofs.shared.ReadHeadings.{new_name, IsSound, sound, sound_all}
+use Rattle.ec_heading.proofs.shared.DeclKindFacts.{name_called}
 use Rattle.ec_heading.proofs.shared.SpelledWords.{IsPlainWord, found_word, find-append_none}
 use Rattle.ec_script.specs.declared.object.Object.{Object}
-use Rattle.ec_script.specs.Objects.{place_of, group_in, owns}
+use Rattle.ec_script.specs.Objects.{group_place, group_in, owns}
 use Rattle.ec_script.specs.Spelling.{group_word}
-use Rattle.ec_script.proofs.Owners.{Named, Owning, group_spelled, get_push}
+use Rattle.ec_script.proofs.Owners.{Owning, group_spelled, get_push}
+use Rattle.ec_heading.proofs.shared.Listed.{Named}
 
 -- WORDS HAVE BYTES
 
 abbrev pub HaveBytes : Named → Type 0
 HaveBytes names = AllByRecursion (λ (e : List ℕ × Target). eqb (length e.0) 0 ≡ false) names
 
-numbered_bytes : (n : ℕ) (ws : List (List ℕ)) → AreNamed ws → HaveBytes (numbered n ws)
+numbered_bytes : (n : ℕ) (ws : List (List ℕ)) → AreNamed ws → HaveBytes (number_names n ws)
 numbered_bytes n [] all = tt
 numbered_bytes n (w ∷ ws) all = (name_not_empty w all.0, numbered_bytes (n + 1) ws all.1)
 
@@ -54,7 +55,8 @@ objects_bytes : (name : List ℕ) (os : Named) → eqb (length name) 0 ≡ false
 objects_bytes name [] some = tt
 objects_bytes name (o ∷ os) some = (spelling_bytes name o.0 some, objects_bytes name os some)
 
-called_bytes : (s : Sort) (name : List ℕ) → is_called s name ≡ true → eqb (length name) 0 ≡ false
+called_bytes : (s : DeclKind) (name : List ℕ) → is_called s name ≡ true
+    → eqb (length name) 0 ≡ false
 called_bytes sorts.Both name is = ap (λ (w : List ℕ). eqb (length w) 0) ((bytes_eq-Decides name (sort_word sorts.Both)).0 is)
 called_bytes sorts.EventCount name is = name_not_empty name is
 called_bytes sorts.Sequencer name is = name_not_empty name is
@@ -63,11 +65,11 @@ called_bytes sorts.Buffer name is = name_not_empty name is
 called_bytes sorts.Database name is = name_not_empty name is
 called_bytes sorts.Semaphore name is = name_not_empty name is
 
-bytes_all : (h : Headed) (ds : List Declaration) → HaveBytes h.words → AreDeclarable h ds → HaveBytes (declared_all h ds).words
+bytes_all : (h : HeadingModel) (ds : List Declaration) → HaveBytes h.words → AreDeclarable h ds → HaveBytes (with_declarations h ds).words
 bytes_all h [] have may = have
 bytes_all h (d ∷ ds) have may =
-    bytes_all (declared_by h d) ds
-    (each_append (λ (e : List ℕ × Target). eqb (length e.0) 0 ≡ false) h.words (spelled_objects d.name (objects_of d.sort (next_of h) d.number)) have (objects_bytes d.name (objects_of d.sort (next_of h) d.number) (called_bytes d.sort d.name may.0.word)))
+    bytes_all (with_declaration h d) ds
+    (each_append (λ (e : List ℕ × Target). eqb (length e.0) 0 ≡ false) h.words (spelled_objects d.name (objects_of d.sort (next_ids h) d.number)) have (objects_bytes d.name (objects_of d.sort (next_ids h) d.number) (called_bytes d.sort d.name may.0.word)))
     may.1
 
 -- EACH GROUP HAS A NAME
@@ -80,7 +82,7 @@ pub record HasGroup (names : Named) (i : ℕ) : Type 0 where
   name : List ℕ
   found : find_name name names ≡ Some (targets.Group i)
 
-abbrev pub AreCalled : Headed → Type 0
+abbrev pub AreCalled : HeadingModel → Type 0
 AreCalled h = (i : ℕ) (g : Group) → slice_get h.groups i ≡ Some g → is_common g ≡ false → HasGroup h.names i
 
 found_still : (w : List ℕ) (xs ys : Named) (t : Target) → find_name w xs ≡ Some t → find_name w (xs ++ ys) ≡ Some t
@@ -95,14 +97,8 @@ none_there : (o : Option Target) → ((t : Target) → o ≡ Some t → ⊥) →
 none_there None absent = refl
 none_there (Some t) absent = absurd (absent t refl)
 
-new_name : (h : Headed) (name : List ℕ) → IsSound h → find_name name h.words ≡ None → find_name name h.names ≡ None
-new_name h name is none =
-    none_there (find_name name h.names) (λ t found.
-    let there : is_some (find_name name h.words) ≡ true = found_word (λ w. is_some (find_name w h.words) ≡ true) h.names name t is.known found in
-    true≢false (sym there ∙ ap is_some none))
-
 -- a group that is declared with a name
-group_called : (s : Sort) (h : Headed) (n : ℕ) (name : List ℕ) (g : Group) → find_name name h.names ≡ None → group_of s h.setup n ≡ Some g → is_common g ≡ false → HasGroup (h.names ++ named_as s name (target_of s (next_of h) n)) (length h.groups)
+group_called : (s : DeclKind) (h : HeadingModel) (n : ℕ) (name : List ℕ) (g : Group) → find_name name h.names ≡ None → group_of_declaration s h.setup n ≡ Some g → is_common g ≡ false → HasGroup (h.names ++ named_as s name (target_of s (next_ids h) n)) (length h.groups)
 group_called sorts.EventCount h n name g new is named = cc
 group_called sorts.Sequencer h n name g new is named = cc
 group_called sorts.Cells h n name g new is named = cc
@@ -111,7 +107,8 @@ group_called sorts.Database h n name g new is named = record { name = name; foun
 group_called sorts.Semaphore h n name g new is named = record { name = name; found = find-append_none name h.names ((name, targets.Group (length h.groups)) ∷ []) new ∙ ap (λ b. cond b (Some (targets.Group (length h.groups))) None) ((bytes_eq-Decides name name).1 refl) }
 group_called sorts.Both h n name g new is named = absurd (true≢false (both_common g is ∙ named))
   where
-    both_common : (k : Group) → group_of sorts.Both h.setup n ≡ Some k → true ≡ is_common k
+    both_common : (k : Group) → group_of_declaration sorts.Both h.setup n ≡ Some k
+        → true ≡ is_common k
     both_common (groups.Both s) e = refl
     both_common (groups.Buffer b) e = cc
     both_common (groups.Database d) e = cc
@@ -122,67 +119,68 @@ group_cases : (gs : List Group) (o : Option Group) (i : ℕ) (g : Group) → sli
 group_cases gs None i g is = inl (ap (λ xs. slice_get xs i) (sym (append-nil gs)) ∙ is)
 group_cases gs (Some x) i g is = elim (get_push gs x i g is) [ inl old ↦ inl old | inr new ↦ inr (new.0, ap Some new.1) ]
 
-called_more : (h : Headed) (d : Declaration) → IsSound h → IsDeclarable h d → AreCalled h → AreCalled (declared_by h d)
+called_more : (h : HeadingModel) (d : Declaration) → IsSound h → IsDeclarable h d → AreCalled h → AreCalled (with_declaration h d)
 called_more h d is may all = λ i g at named.
-    elim (group_cases h.groups (group_of d.sort h.setup d.number) i g at) [
+    elim (group_cases h.groups (group_of_declaration d.sort h.setup d.number) i g at) [
       | inl old ↦
           (let k : HasGroup h.names i = all i g old named in
-          record { name = k.name; found = found_still k.name h.names (named_as d.sort d.name (target_of d.sort (next_of h) d.number)) (targets.Group i) k.found })
+          record { name = k.name; found = found_still k.name h.names (named_as d.sort d.name (target_of d.sort (next_ids h) d.number)) (targets.Group i) k.found })
       | inr new ↦
-          subst (HasGroup (h.names ++ named_as d.sort d.name (target_of d.sort (next_of h) d.number))) (sym new.0)
+          subst (HasGroup (h.names ++ named_as d.sort d.name (target_of d.sort (next_ids h) d.number))) (sym new.0)
           (group_called d.sort h d.number d.name g (new_name h d.name is may.new) new.1 named)
     ]
 
-called_all : (h : Headed) (ds : List Declaration) → IsSound h → AreDeclarable h ds → AreCalled h → AreCalled (declared_all h ds)
+called_all : (h : HeadingModel) (ds : List Declaration) → IsSound h → AreDeclarable h ds → AreCalled h → AreCalled (with_declarations h ds)
 called_all h [] is may all = all
-called_all h (d ∷ ds) is may all = called_all (declared_by h d) ds (sound_all h (d ∷ []) is (may.0, tt)) may.1 (called_more h d is may.0 all)
+called_all h (d ∷ ds) is may all = called_all (with_declaration h d) ds (sound_all h (d ∷ []) is (may.0, tt)) may.1 (called_more h d is may.0 all)
 
--- ALL OF A HEADING
+-- ALL OF A HEADER
 
-pub record IsFound (h : Headed) : Type 0 where
+pub record IsFound (h : HeadingModel) : Type 0 where
   pub is : IsSound h
   pub bytes : HaveBytes h.words
   pub called : AreCalled h
   pub owning : Owning h
 
-pub found_in : (o : Outline) → IsOutline o → Owning (headed o) → IsFound (headed o)
+pub found_in : (o : HeaderTree) → IsHeaderTree o → Owning (heading_of_tree o)
+    → IsFound (heading_of_tree o)
 found_in o is own = record {
   is = sound o is;
-  bytes = bytes_all (opened o.version o.limit o.workers) o.declarations (numbered_bytes 0 o.workers (recursion_from_All (λ w. is_name w ≡ true) o.workers is.workers.each)) is.declarations;
-  called = called_all (opened o.version o.limit o.workers) o.declarations (sound (record { version = o.version; limit = o.limit; workers = o.workers; declarations = [] }) (record { low = is.low; high = is.high; workers = is.workers; declarations = tt })) is.declarations (λ i g at named. cc);
+  bytes = bytes_all (empty_heading o.version o.limit o.workers) o.declarations (numbered_bytes 0 o.workers (recursion_from_All (λ w. is_name w ≡ true) o.workers is.workers.each)) is.declarations;
+  called = called_all (empty_heading o.version o.limit o.workers) o.declarations (sound (record { version = o.version; limit = o.limit; workers = o.workers; declarations = [] }) (record { low = is.low; high = is.high; workers = is.workers; declarations = tt })) is.declarations (λ i g at named. cc);
   owning = own;
 }
 
 -- WORKERS, EVENTCOUNTS AND SEQUENCERS
 
-word_fits : (h : Headed) → IsFound h → (t : Target) (word : List ℕ) → IsNamedBy h.words t word → IsFit word
+word_fits : (h : HeadingModel) → IsFound h → (t : Target) (word : List ℕ) → IsNamedBy h.words t word → IsFit word
 word_fits h f t word by = record {
   word = All-from_recursion (λ b. eqb b 32 ≡ false) word (word_lacks 32 word refl by.plain);
   some = found_word (λ w. eqb (length w) 0 ≡ false) h.words word t f.bytes by.found;
 }
 
-pub worker_again : (h : Headed) → IsFound h → (w : ℕ) → w < h.setup.workers → (worker_in h.words (word_of h.words (targets.Worker w)) ≡ Some w) × IsFit (word_of h.words (targets.Worker w))
+pub worker_again : (h : HeadingModel) → IsFound h → (w : ℕ) → w < h.setup.workers → (worker_in h.words (target_name h.words (targets.Worker w)) ≡ Some w) × IsFit (target_name h.words (targets.Worker w))
 worker_again h f w within =
-    let by : IsNamedBy h.words (targets.Worker w) (word_of h.words (targets.Worker w)) = named_by h.words (targets.Worker w) f.is.words (f.is.workers w within) in
-    (ap (option_and_then worker_of) by.found, word_fits h f (targets.Worker w) (word_of h.words (targets.Worker w)) by)
+    let by : IsNamedBy h.words (targets.Worker w) (target_name h.words (targets.Worker w)) = named_by h.words (targets.Worker w) f.is.words (f.is.workers w within) in
+    (ap (option_and_then target_worker) by.found, word_fits h f (targets.Worker w) (target_name h.words (targets.Worker w)) by)
 
-pub event_again : (h : Headed) → IsFound h → (e : ℕ) → e < length h.setup.events → (event_in h.words (word_of h.words (targets.Event e)) ≡ Some e) × IsFit (word_of h.words (targets.Event e))
+pub event_again : (h : HeadingModel) → IsFound h → (e : ℕ) → e < length h.setup.events → (event_in h.words (target_name h.words (targets.Event e)) ≡ Some e) × IsFit (target_name h.words (targets.Event e))
 event_again h f e within =
-    let by : IsNamedBy h.words (targets.Event e) (word_of h.words (targets.Event e)) = named_by h.words (targets.Event e) f.is.words (f.is.events e within) in
-    (ap (option_and_then event_of) by.found, word_fits h f (targets.Event e) (word_of h.words (targets.Event e)) by)
+    let by : IsNamedBy h.words (targets.Event e) (target_name h.words (targets.Event e)) = named_by h.words (targets.Event e) f.is.words (f.is.events e within) in
+    (ap (option_and_then target_event) by.found, word_fits h f (targets.Event e) (target_name h.words (targets.Event e)) by)
 
-pub sequencer_again : (h : Headed) → IsFound h → (q : ℕ) → q < length h.setup.takers → (sequencer_in h.words (word_of h.words (targets.Sequencer q)) ≡ Some q) × IsFit (word_of h.words (targets.Sequencer q))
+pub sequencer_again : (h : HeadingModel) → IsFound h → (q : ℕ) → q < length h.setup.takers → (sequencer_in h.words (target_name h.words (targets.Sequencer q)) ≡ Some q) × IsFit (target_name h.words (targets.Sequencer q))
 sequencer_again h f q within =
-    let by : IsNamedBy h.words (targets.Sequencer q) (word_of h.words (targets.Sequencer q)) = named_by h.words (targets.Sequencer q) f.is.words (f.is.sequencers q within) in
-    (ap (option_and_then sequencer_of) by.found, word_fits h f (targets.Sequencer q) (word_of h.words (targets.Sequencer q)) by)
+    let by : IsNamedBy h.words (targets.Sequencer q) (target_name h.words (targets.Sequencer q)) = named_by h.words (targets.Sequencer q) f.is.words (f.is.sequencers q within) in
+    (ap (option_and_then target_sequencer) by.found, word_fits h f (targets.Sequencer q) (target_name h.words (targets.Sequencer q)) by)
 
 -- CELLS
 
 -- a word with no such byte before this one
-cut_append : (c : ℕ) (front rest : List ℕ) → AllByRecursion (λ b. eqb b c ≡ false) front → cut_at c (front ++ c ∷ rest) ≡ Some (front, rest)
+cut_append : (c : ℕ) (prefix rest : List ℕ) → AllByRecursion (λ b. eqb b c ≡ false) prefix → cut_at c (prefix ++ c ∷ rest) ≡ Some (prefix, rest)
 unfolding cut_at
 cut_append c [] rest all = let e : eqb c c ≡ true = eq-eqb c c refl in rw e refl
-cut_append c (b ∷ front) rest all = rw (all.0, cut_append c front rest all.1) refl
+cut_append c (b ∷ prefix) rest all = rw (all.0, cut_append c prefix rest all.1) refl
 
 decimal_lacks : (c n : ℕ) → n < 1000000000000000000 → ¬ (IsInRange 48 57 c) → AllByRecursion (λ b. eqb b c ≡ false) (decimal n)
 decimal_lacks c n small out =
@@ -194,11 +192,11 @@ unfolding cell_in_word
 bracketed_read names block first n i by inside small =
     let shape : bracketed block i ≡ block ++ 91 ∷ (decimal i ++ 93 ∷ []) =
     append_assoc (block ++ 91 ∷ []) (decimal i) (93 ∷ []) ∙ append_assoc block (91 ∷ []) (decimal i ++ 93 ∷ []) in
-    let front : cut_at 91 (bracketed block i) ≡ Some (block, decimal i ++ 93 ∷ []) =
+    let prefix : cut_at 91 (bracketed block i) ≡ Some (block, decimal i ++ 93 ∷ []) =
     ap (cut_at 91) shape ∙ cut_append 91 block (decimal i ++ 93 ∷ []) (word_lacks 91 block refl by.plain) in
     let back : cut_at 93 (decimal i ++ 93 ∷ []) ≡ Some (decimal i, []) = cut_append 93 (decimal i) [] (decimal_lacks 93 i small (λ r. omega arith)) in
     let below : nat_lt i n ≡ true = lt-ltb _ _ inside in
-    rw front (rw back (rw (number_again i small) (rw by.found (rw below refl))))
+    rw prefix (rw back (rw (number_again i small) (rw by.found (rw below refl))))
 
 bracketed_fits : (block : List ℕ) (i : ℕ) → IsPlainWord block → i < 1000000000000000000 → IsFit (bracketed block i)
 bracketed_fits block i plain small = record {
@@ -209,7 +207,7 @@ bracketed_fits block i plain small = record {
   some = ne_eqb (length (bracketed block i)) 0 (λ e. omega (arith, e, length-append ((block ++ 91 ∷ []) ++ decimal i) (93 ∷ [])));
 }
 
-pub cell_again : (h : Headed) → IsFound h → (x : ℕ) → x < length h.setup.cells → (cell_in_word h.words (cell_word h.words x) ≡ Some x) × IsFit (cell_word h.words x)
+pub cell_again : (h : HeadingModel) → IsFound h → (x : ℕ) → x < length h.setup.cells → (cell_in_word h.words (cell_word h.words x) ≡ Some x) × IsFit (cell_word h.words x)
 cell_again h f x within =
     let b : HasBlock h.words x = has_block h.words x (f.is.cells x within) in
     let by : IsNamedBy h.words (targets.Cells b.first b.count) b.block = block_by h.words x f.is.words b in
@@ -222,13 +220,13 @@ cell_again h f x within =
 
 -- GROUPS
 
-pub group_again : (h : Headed) → IsFound h → (g : Group) (o : Object) → Contains h.groups g → is_common g ≡ false → owns o g ≡ true → (group_in h (group_word h o) ≡ Some g) × IsFit (group_word h o)
+pub group_again : (h : HeadingModel) → IsFound h → (g : Group) (o : Object) → Contains h.groups g → is_common g ≡ false → owns o g ≡ true → (group_in h (group_word h o) ≡ Some g) × IsFit (group_word h o)
 group_again h f g o has named own =
     let at : slice_get h.groups has.0 ≡ Some g = slice_get-get_or h.groups has.0 g has.1 ∙ ap Some has.2 in
     let k : HasGroup h.names has.0 = f.called has.0 g at named in
     let word : group_word h o ≡ k.name = group_spelled h k.name has.0 g o f.owning k.found at own in
     let name : is_name k.name ≡ true = found_word (λ w. is_name w ≡ true) h.names k.name (targets.Group has.0) (recursion_from_All (λ (e : List ℕ × Target). is_name e.0 ≡ true) h.names f.is.names.each) k.found in (
-      ap (group_in h) word ∙ ap (λ x. option_and_then (λ (i : ℕ). slice_get h.groups i) (option_and_then place_of x)) k.found ∙ at,
+      ap (group_in h) word ∙ ap (λ x. option_and_then (λ (i : ℕ). slice_get h.groups i) (option_and_then group_place x)) k.found ∙ at,
       subst IsFit (sym word) (record { word = name_is_word k.name name; some = name_not_empty k.name name }),
     )
 
@@ -247,16 +245,16 @@ name_clean name is = bytes_clean name (name_called name is).bytes
 pub decimal_clean : (n : ℕ) → n < 1000000000000000000 → IsClean (decimal n)
 decimal_clean n small = decimal_lacks 10 n small (λ r. omega arith)
 
-pub worker_clean : (h : Headed) → IsFound h → (w : ℕ) → w < h.setup.workers → IsClean (word_of h.words (targets.Worker w))
-worker_clean h f w within = word_lacks 10 (word_of h.words (targets.Worker w)) refl (named_by h.words (targets.Worker w) f.is.words (f.is.workers w within)).plain
+pub worker_clean : (h : HeadingModel) → IsFound h → (w : ℕ) → w < h.setup.workers → IsClean (target_name h.words (targets.Worker w))
+worker_clean h f w within = word_lacks 10 (target_name h.words (targets.Worker w)) refl (named_by h.words (targets.Worker w) f.is.words (f.is.workers w within)).plain
 
-pub event_clean : (h : Headed) → IsFound h → (e : ℕ) → e < length h.setup.events → IsClean (word_of h.words (targets.Event e))
-event_clean h f e within = word_lacks 10 (word_of h.words (targets.Event e)) refl (named_by h.words (targets.Event e) f.is.words (f.is.events e within)).plain
+pub event_clean : (h : HeadingModel) → IsFound h → (e : ℕ) → e < length h.setup.events → IsClean (target_name h.words (targets.Event e))
+event_clean h f e within = word_lacks 10 (target_name h.words (targets.Event e)) refl (named_by h.words (targets.Event e) f.is.words (f.is.events e within)).plain
 
-pub sequencer_clean : (h : Headed) → IsFound h → (q : ℕ) → q < length h.setup.takers → IsClean (word_of h.words (targets.Sequencer q))
-sequencer_clean h f q within = word_lacks 10 (word_of h.words (targets.Sequencer q)) refl (named_by h.words (targets.Sequencer q) f.is.words (f.is.sequencers q within)).plain
+pub sequencer_clean : (h : HeadingModel) → IsFound h → (q : ℕ) → q < length h.setup.takers → IsClean (target_name h.words (targets.Sequencer q))
+sequencer_clean h f q within = word_lacks 10 (target_name h.words (targets.Sequencer q)) refl (named_by h.words (targets.Sequencer q) f.is.words (f.is.sequencers q within)).plain
 
-pub cell_clean : (h : Headed) → IsFound h → (x : ℕ) → x < length h.setup.cells → IsClean (cell_word h.words x)
+pub cell_clean : (h : HeadingModel) → IsFound h → (x : ℕ) → x < length h.setup.cells → IsClean (cell_word h.words x)
 cell_clean h f x within =
     let b : HasBlock h.words x = has_block h.words x (f.is.cells x within) in
     let by : IsNamedBy h.words (targets.Cells b.first b.count) b.block = block_by h.words x f.is.words b in
@@ -266,7 +264,7 @@ cell_clean h f x within =
     (each_append (λ c. eqb c 10 ≡ false) (b.block ++ 91 ∷ []) (decimal (x - b.first)) (each_append (λ c. eqb c 10 ≡ false) b.block (91 ∷ []) (word_lacks 10 b.block refl by.plain) (refl, tt)) (decimal_clean (x - b.first) small))
     (refl, tt))
 
-pub group_clean : (h : Headed) → IsFound h → (g : Group) (o : Object) → Contains h.groups g → is_common g ≡ false → owns o g ≡ true → IsClean (group_word h o)
+pub group_clean : (h : HeadingModel) → IsFound h → (g : Group) (o : Object) → Contains h.groups g → is_common g ≡ false → owns o g ≡ true → IsClean (group_word h o)
 group_clean h f g o has named own =
     let at : slice_get h.groups has.0 ≡ Some g = slice_get-get_or h.groups has.0 g has.1 ∙ ap Some has.2 in
     let k : HasGroup h.names has.0 = f.called has.0 g at named in

@@ -1,4 +1,4 @@
--- Which kinds hold of a line behind the declarations: what its tests decide.
+-- Which kinds hold of a line after the declarations: what its tests decide.
 use Rattle.std.proofs.Common.{◌≡◌, ◌≢◌, ◌⊎◌, inl, inr, ℕ, ◌+◌, ◌<◌, ◌≤◌, ◌||◌, ◌&&◌, ◌==◌, List, [], ◌∷◌, length, Bool, true, false, not, cond, Option, Some, None, option_map, is_some, is_none, refl, sym, ap, ◌∙◌, subst, arith, decimal, codes, bytes_eq, nat_le, nat_lt}
 use Rattle.std.specs.Bool.{Decides}
 use Rattle.std.specs.List.{Any, list_any, list_all}
@@ -9,40 +9,41 @@ use Rattle.std.proofs.lemmas.Option.{same_Some}
 use Rattle.ec_core.specs.declared.act.TheConstants.{VALUE_MAX}
 use Rattle.ec_count.specs.Tables.{first_that}
 use Rattle.ec_database.specs.Shapes.{Database}
-use Rattle.ec_text.specs.Words.{number_of}
+use Rattle.ec_text.specs.Words.{number_in_word}
 use Rattle.ec_text.proofs.shared.NumberLemmas.{number_takes}
 use Rattle.ec_machine.specs.declared.command.Value.{Value}
 use Rattle.ec_machine.specs.declared.command.Value.TheVariants.{Number, Last, LastPlus}
 use Rattle.ec_machine.specs.Limits.{is_value}
 use Rattle.ec_heading.specs.declared.group.Group.{Group}
-use Rattle.ec_heading.specs.Headed.{Headed}
+use Rattle.ec_heading.specs.HeadingModel.{HeadingModel}
 use Rattle.ec_heading.specs.Lists.{worker_in, has_unknown}
-use Rattle.ec_heading.specs.Outlined.{IsHeading}
+use Rattle.ec_heading.specs.HeadingInvariant.{IsHeading}
 use Rattle.ec_heading.proofs.shared.Phrases.{same_word}
 use Rattle.ec_script.specs.declared.fault.Kind.{Kind}
 use Rattle.ec_script.specs.declared.fault.Kind.TheVariants as kinds
-use Rattle.ec_script.specs.declared.kinds.BlockView.{BlockView}
+use Rattle.ec_script.specs.declared.kinds.BlockContext.{BlockContext}
 use Rattle.ec_script.specs.declared.object.Object.{Object}
 use Rattle.ec_script.specs.declared.object.Object.TheVariants.{Nothing, Worker, OfDatabase}
-use Rattle.ec_script.specs.declared.script.Block.{Block}
-use Rattle.ec_script.specs.declared.verb.Verb.{Verb}
-use Rattle.ec_script.specs.declared.verb.Verb.TheVariants as verbs
+use Rattle.ec_script.specs.declared.script.OpenBlock.{OpenBlock}
+use Rattle.ec_script.specs.declared.verb.LineWord.{LineWord}
+use Rattle.ec_script.specs.declared.verb.LineWord.TheVariants as verbs
 use Rattle.ec_script.specs.Forms.{Phrase, is_value_form, only_in, more_in, last_plus, number_or_more, value_of, is_tail}
 use Rattle.ec_script.specs.Holding.{About, IsBegun, IsNoValue, IsBadNumber, IsTooLong, IsMisplaced, OtherHas}
 use Rattle.ec_script.specs.Kinds.{is_no_value, cells_of, is_count, is_allowed, is_named_again, has_unknown_name, is_bad_tail, is_too_many, has_two_roles, has_right, lacks_right, is_badly_nested, or_nothing, phrase_fault}
 use Rattle.ec_script.specs.Objects.{object_for, object_in, database_in, owns, is_owned}
-use Rattle.ec_script.specs.Reading.{view_of_block, seen}
-use Rattle.ec_script.specs.Scripted.{Scripted}
-use Rattle.ec_script.specs.Verbs.{has_verb, tail_of, is_giving, is_counted}
+use Rattle.ec_script.specs.Reading.{view_of_block, context_of_script}
+use Rattle.ec_script.specs.ScriptModel.{ScriptModel}
+use Rattle.ec_script.specs.Verbs.{has_verb, tail_of, is_update, is_counted}
 use Rattle.ec_script.proofs.Deciding.{never, decides_none, decides_not, decides_itself, decides_any, decides_member, decides_number, decides_block}
 use Rattle.ec_script.proofs.HeadKinds.{unknown_decided}
 use Rattle.ec_script.proofs.OrderLines.{value_back}
 use Rattle.ec_script.proofs.Sayings.{value_spelled}
 use Rattle.ec_script.proofs.TwoRoles.{two_roles, pair_verb, first_again}
+use Rattle.ec_script.proofs.Giving.{value_ranged as value_in_range}
 
 -- OBJECTS
 
--- a declared object is spelled, of which the test decides
+-- a declared object is named, of which the test decides
 decides_object : (o : Option Object) (t : Object → Bool) (T : Object → Type 0) → t Nothing ≡ false → ((x : Object) → Decides (t x) (T x)) → Decides (t (or_nothing o)) ((x : Object) × (o ≡ Some x) × T x)
 decides_object None t T none each = ((λ e. absurd (true≢false (sym e ∙ none))), λ h. (let k : None ≡ Some h.0 = h.1 in cc))
 decides_object (Some x) t T none each = ((λ e. (x, refl, (each x).0 e)), λ h. (each x).1 (subst T (sym (same_Some x h.0 h.1)) h.2))
@@ -57,35 +58,11 @@ none_owned (g ∷ gs) = none_owned gs
 
 -- NAMES OF A SCHEDULE
 
-schedule_decided : (h : Headed) (v : Verb) (ws : List (List ℕ)) → Decides (has_unknown_name h v ws) ((v ≡ verbs.Schedule) × Any (λ w. worker_in h.words w ≡ None) ws)
+schedule_decided : (h : HeadingModel) (v : LineWord) (ws : List (List ℕ)) → Decides (has_unknown_name h v ws) ((v ≡ verbs.Schedule) × Any (λ w. worker_in h.words w ≡ None) ws)
 schedule_decided h verbs.Schedule ws = Decides-like (has_unknown h.words ws) (λ a. (refl, a)) (λ a. a.1) (unknown_decided h ws)
 schedule_decided h _ ws = never (λ t. (let e = t.0 in cc))
 
 -- VALUES AND COUNTS
-
--- a value that is read is in its range
-in_range_of : (o : Option (List ℕ)) (w : List ℕ) (v : Value) → number_or_more o w ≡ Some v → is_value v ≡ true
-in_range_of None w v is =
-    (elim (number_of w) as (λ n. number_of w ≡ n → option_map Number n ≡ Some v → is_value v ≡ true) [
-      | None ↦ λ e h. cc
-      | Some n ↦ λ e h. (let t = number_takes w n e in subst (λ x. is_value x ≡ true) (same_Some (Number n) v h) (le-leb n VALUE_MAX (omega (arith, t.1))))
-    ]) refl is
-in_range_of (Some digits) w v is =
-    (elim (number_of digits) as (λ n. number_of digits ≡ n → option_and_then last_plus n ≡ Some v → is_value v ≡ true) [
-      | None ↦ λ e h. cc
-      | Some n ↦ λ e h. (elim (nat_le 1 n) as (λ b. nat_le 1 n ≡ b → cond b (Some (LastPlus n)) None ≡ Some v → is_value v ≡ true) [
-        | true ↦ λ some k. (let t = number_takes digits n e in subst (λ x. is_value x ≡ true) (same_Some (LastPlus n) v k) (and_from (nat_le 1 n) (nat_le n VALUE_MAX) some (le-leb n VALUE_MAX (omega (arith, t.1)))))
-        | false ↦ λ some k. cc
-      ]) refl h
-    ]) refl is
-
-value_in_range : (w : List ℕ) (v : Value) → value_of w ≡ Some v → is_value v ≡ true
-unfolding value_of
-value_in_range w v is =
-    (elim (bytes_eq w (codes "last")) as (λ b. cond b (Some Last) (number_or_more (more_in w) w) ≡ Some v → is_value v ≡ true) [
-      | true ↦ λ h. subst (λ x. is_value x ≡ true) (same_Some Last v h) refl
-      | false ↦ λ h. in_range_of (more_in w) w v h
-    ]) is
 
 no_value_decided : (w : List ℕ) → Decides (is_no_value w) (IsNoValue w)
 no_value_decided w = (
@@ -117,14 +94,14 @@ write_decided : (m : Option Database) (ws : List (List ℕ)) → ws ≢ []
 write_decided m ws some =
     Decides-or (list_any is_no_value ws) (not (length ws == cells_of (or_nothing (option_map OfDatabase m)))) (decides_any is_no_value IsNoValue no_value_decided ws) (cells_decided m ws some)
 
-count_decided : (most : ℕ) (ws : List (List ℕ)) → most ≤ 1000000 → Decides (not (is_count most (option_and_then number_of (only_in ws)))) ((n : ℕ) → 1 ≤ n → n ≤ most → ws ≢ decimal n ∷ [])
+count_decided : (most : ℕ) (ws : List (List ℕ)) → most ≤ 1000000 → Decides (not (is_count most (option_and_then number_in_word (only_in ws)))) ((n : ℕ) → 1 ≤ n → n ≤ most → ws ≢ decimal n ∷ [])
 count_decided most [] few = ((λ e n low high is. cc), λ t. refl)
 count_decided most (w ∷ []) few =
     let test : ℕ → Bool = λ n. nat_le 1 n && nat_le n most in
     let small : (n : ℕ) → test n ≡ true → n < 1000000000000000000 = λ n on. (let high = leb-true n most (and_parts (nat_le 1 n) (nat_le n most) on).1 in omega (arith, high)) in
     let same : (o : Option ℕ) → not (is_count most o) ≡ not (option_map_or test o false) = λ o. (elim o as (λ x. not (is_count most x) ≡ not (option_map_or test x false)) [ None ↦ refl | Some n ↦ refl ]) in
-    Decides-at (not (is_count most (number_of w))) (not (option_map_or test (number_of w) false)) (same (number_of w))
-    (Decides-like (not (option_map_or test (number_of w) false))
+    Decides-at (not (is_count most (number_in_word w))) (not (option_map_or test (number_in_word w) false)) (same (number_in_word w))
+    (Decides-like (not (option_map_or test (number_in_word w) false))
     (λ h n low high is. (let word : w ≡ decimal n = cc in h n (and_from (nat_le 1 n) (nat_le n most) (le-leb 1 n low) (le-leb n most high)) word))
     (λ h n on is. (let p = and_parts (nat_le 1 n) (nat_le n most) on in h n (leb-true 1 n p.0) (leb-true n most p.1) (ap (λ x. x ∷ []) is)))
     (decides_number test small w))
@@ -134,7 +111,7 @@ some_words : (ws : List (List ℕ)) → (nat_le 1 (length ws) && list_all is_val
 some_words [] is none = cc
 some_words (w ∷ ws) is none = cc
 
-number_decided : (h : Headed) (v : Verb) (w : List ℕ) (ws : List (List ℕ)) → is_tail (tail_of v) ws ≡ true
+number_decided : (h : HeadingModel) (v : LineWord) (w : List ℕ) (ws : List (List ℕ)) → is_tail (tail_of v) ws ≡ true
     → Decides (is_bad_tail (tail_of v) v ws (or_nothing (object_for h v w ws))) (IsBadNumber (tail_of v) h (record { verb = v; object = w; rest = ws }))
 number_decided h verbs.Await w ws tail = amount_decided ws
 number_decided h verbs.Put w ws tail = amount_decided ws
@@ -150,31 +127,31 @@ one_more : (n : ℕ) → Decides (nat_le 4096 n) (4096 < n + 1)
 one_more n = ((λ e. (let le = leb-true 4096 n e in omega (arith, le))), λ lt. le-leb 4096 n (omega (arith, lt)))
 
 -- a line of a block
-block_many : (v : Verb) (n : ℕ) (o : Option Block) → Decides (option_map_or (λ (x : BlockView). is_counted v && nat_le 4096 x.commands) (option_map view_of_block o) false) ((b : Block) × (o ≡ Some b) × ((is_counted v ≡ true) × (4096 < b.draft.commands + 1)))
+block_many : (v : LineWord) (n : ℕ) (o : Option OpenBlock) → Decides (option_map_or (λ (x : BlockContext). is_counted v && nat_le 4096 x.commands) (option_map view_of_block o) false) ((b : OpenBlock) × (o ≡ Some b) × ((is_counted v ≡ true) × (4096 < b.draft.commands + 1)))
 block_many v n o =
-    decides_block o (λ x. option_map_or (λ (y : BlockView). is_counted v && nat_le 4096 y.commands) x false) (λ b. (is_counted v ≡ true) × (4096 < b.draft.commands + 1)) refl
+    decides_block o (λ x. option_map_or (λ (y : BlockContext). is_counted v && nat_le 4096 y.commands) x false) (λ b. (is_counted v ≡ true) × (4096 < b.draft.commands + 1)) refl
     (λ b. Decides-and (is_counted v) (nat_le 4096 b.draft.commands) (decides_itself (is_counted v)) (one_more b.draft.commands))
 
 -- the two cases of lines
-other_many : (v : Verb) (ws : List (List ℕ)) (o : Option BlockView) (n : ℕ) → v ≢ verbs.Schedule → is_too_many v ws o n ≡ option_map_or (λ (x : BlockView). is_counted v && nat_le 4096 x.commands) o false
+other_many : (v : LineWord) (ws : List (List ℕ)) (o : Option BlockContext) (n : ℕ) → v ≢ verbs.Schedule → is_too_many v ws o n ≡ option_map_or (λ (x : BlockContext). is_counted v && nat_le 4096 x.commands) o false
 other_many verbs.Schedule ws o n other = absurd (other refl)
 other_many v ws None n other = refl
 other_many v ws (Some x) n other = refl
 
-inner_many : (s : Scripted) (v : Verb) (w : List ℕ) (ws : List (List ℕ)) → v ≢ verbs.Schedule → Decides (is_too_many v ws (option_map view_of_block s.block) (length s.schedule)) (IsTooLong s (record { verb = v; object = w; rest = ws }))
+inner_many : (s : ScriptModel) (v : LineWord) (w : List ℕ) (ws : List (List ℕ)) → v ≢ verbs.Schedule → Decides (is_too_many v ws (option_map view_of_block s.block) (length s.schedule)) (IsTooLong s (record { verb = v; object = w; rest = ws }))
 inner_many s v w ws other =
-    Decides-at (is_too_many v ws (option_map view_of_block s.block) (length s.schedule)) (option_map_or (λ (x : BlockView). is_counted v && nat_le 4096 x.commands) (option_map view_of_block s.block) false)
+    Decides-at (is_too_many v ws (option_map view_of_block s.block) (length s.schedule)) (option_map_or (λ (x : BlockContext). is_counted v && nat_le 4096 x.commands) (option_map view_of_block s.block) false)
     (other_many v ws (option_map view_of_block s.block) (length s.schedule) other)
-    (Decides-like (option_map_or (λ (x : BlockView). is_counted v && nat_le 4096 x.commands) (option_map view_of_block s.block) false) inr (λ h. (elim h [ inl t ↦ absurd (other t.0) | inr t ↦ t ])) (block_many v 0 s.block))
+    (Decides-like (option_map_or (λ (x : BlockContext). is_counted v && nat_le 4096 x.commands) (option_map view_of_block s.block) false) inr (λ h. (elim h [ inl t ↦ absurd (other t.0) | inr t ↦ t ])) (block_many v 0 s.block))
 
-many_decided : (s : Scripted) (v : Verb) (w : List ℕ) (ws : List (List ℕ)) → Decides (is_too_many v ws (option_map view_of_block s.block) (length s.schedule)) (IsTooLong s (record { verb = v; object = w; rest = ws }))
+many_decided : (s : ScriptModel) (v : LineWord) (w : List ℕ) (ws : List (List ℕ)) → Decides (is_too_many v ws (option_map view_of_block s.block) (length s.schedule)) (IsTooLong s (record { verb = v; object = w; rest = ws }))
 many_decided s verbs.Schedule w ws =
     Decides-like (nat_lt 65536 (length s.schedule + length ws)) (λ lt. inl (refl, lt)) (λ h. (elim h [ inl t ↦ t.1 | inr t ↦ (let none = t.2.0 in absurd (true≢false (sym none))) ])) (Decides-ltb 65536 (length s.schedule + length ws))
 many_decided s v w ws = inner_many s v w ws (λ e. cc)
 
 -- ROLES, RIGHTS AND NESTING
 
-roles_decided : (h : Headed) (p : Phrase) → IsHeading h → Decides (has_two_roles (or_nothing (object_in h p))) ((p.verb ≡ verbs.DownBoth) × (p.rest ≡ p.object ∷ []) × (object_in h p ≢ None))
+roles_decided : (h : HeadingModel) (p : Phrase) → IsHeading h → Decides (has_two_roles (or_nothing (object_in h p))) ((p.verb ≡ verbs.DownBoth) × (p.rest ≡ p.object ∷ []) × (object_in h p ≢ None))
 roles_decided h p is = (
   (λ on.
       (let verb : p.verb ≡ verbs.DownBoth = pair_verb h p.verb p.object p.rest on in
@@ -193,11 +170,11 @@ roles_decided h p is = (
   ]) refl,
 )
 
-right_decided : (h : Headed) (v : Verb) (o : Option Object) (w : ℕ) → Decides (not (has_right h.version h.setup w (is_giving v) (or_nothing o))) ((x : Object) × (o ≡ Some x) × (has_right h.version h.setup w (is_giving v) x ≡ false))
+right_decided : (h : HeadingModel) (v : LineWord) (o : Option Object) (w : ℕ) → Decides (not (has_right h.version h.setup w (is_update v) (or_nothing o))) ((x : Object) × (o ≡ Some x) × (has_right h.version h.setup w (is_update v) x ≡ false))
 right_decided h v o w =
-    decides_object o (λ x. not (has_right h.version h.setup w (is_giving v) x)) (λ x. has_right h.version h.setup w (is_giving v) x ≡ false) refl (λ x. decides_not (has_right h.version h.setup w (is_giving v) x))
+    decides_object o (λ x. not (has_right h.version h.setup w (is_update v) x)) (λ x. has_right h.version h.setup w (is_update v) x ≡ false) refl (λ x. decides_not (has_right h.version h.setup w (is_update v) x))
 
-misplaced_decided : (v : Verb) (b : Block) → Decides (is_badly_nested v (Some (view_of_block b))) (IsMisplaced b v)
+misplaced_decided : (v : LineWord) (b : OpenBlock) → Decides (is_badly_nested v (Some (view_of_block b))) (IsMisplaced b v)
 misplaced_decided verbs.Worker b = ((λ e. tt), λ t. refl)
 misplaced_decided verbs.Schedule b = ((λ e. tt), λ t. refl)
 misplaced_decided verbs.Repeat b = (leb-true 4 b.draft.depth, le-leb 4 b.draft.depth)
@@ -206,7 +183,7 @@ misplaced_decided _ b = never (λ t. t)
 
 -- A LINE
 
-abbrev pub other_tests : Scripted → Phrase → Kind → Bool
+abbrev pub other_tests : ScriptModel → Phrase → Kind → Bool
 other_tests s p kinds.NameTaken = is_named_again s.named (or_nothing (object_in s.heading p))
 other_tests s p kinds.UnknownName = is_none (object_in s.heading p) || has_unknown_name s.heading p.verb p.rest
 other_tests s p kinds.BadNumber = is_bad_tail (tail_of p.verb) p.verb p.rest (or_nothing (object_in s.heading p))
@@ -217,7 +194,7 @@ other_tests s p kinds.NoRight = lacks_right s.heading (option_map view_of_block 
 other_tests s p kinds.BadNesting = is_badly_nested p.verb (option_map view_of_block s.block)
 other_tests s p _ = false
 
-pub other_decided : (s : Scripted) (p : Phrase) (k : Kind) → IsHeading s.heading → is_tail (tail_of p.verb) p.rest ≡ true → Decides (other_tests s p k) (OtherHas s p k)
+pub other_decided : (s : ScriptModel) (p : Phrase) (k : Kind) → IsHeading s.heading → is_tail (tail_of p.verb) p.rest ≡ true → Decides (other_tests s p k) (OtherHas s p k)
 other_decided s p kinds.NameTaken is tail = decides_object (object_in s.heading p) (is_named_again s.named) (IsBegun s.named) refl (begun_decided s.named)
 other_decided s p kinds.UnknownName is tail =
     Decides-or (is_none (object_in s.heading p)) (has_unknown_name s.heading p.verb p.rest) (decides_none (object_in s.heading p)) (schedule_decided s.heading p.verb p.rest)
@@ -228,13 +205,13 @@ other_decided s p kinds.Hidden is tail =
     (λ o. decides_any (owns o) (λ (g : Group). owns o g ≡ true) (λ g. decides_itself (owns o g)) s.heading.groups)
 other_decided s p kinds.TwoRoles is tail = roles_decided s.heading p is
 other_decided s p kinds.NoRight is tail =
-    decides_block s.block (λ n. lacks_right s.heading n p.verb (or_nothing (object_in s.heading p))) (λ b. About s p (λ o. has_right s.heading.version s.heading.setup b.worker (is_giving p.verb) o ≡ false)) refl
+    decides_block s.block (λ n. lacks_right s.heading n p.verb (or_nothing (object_in s.heading p))) (λ b. About s p (λ o. has_right s.heading.version s.heading.setup b.worker (is_update p.verb) o ≡ false)) refl
     (λ b. right_decided s.heading p.verb (object_in s.heading p) b.worker)
 other_decided s p kinds.BadNesting is tail = decides_block s.block (is_badly_nested p.verb) (λ b. IsMisplaced b p.verb) refl (misplaced_decided p.verb)
 other_decided s p _ is tail = never (λ t. t)
 
--- if such a line may stand, the first of these tests tells the fault
-pub other_least : (s : Scripted) (p : Phrase) → (has_verb s.heading.version p.verb && is_allowed p.verb (is_some (option_map view_of_block s.block)) (length s.schedule)) ≡ true → phrase_fault (seen s) p (object_in s.heading p) ≡ first_that (
+-- if such a line is allowed, the first test that holds gives the fault
+pub other_least : (s : ScriptModel) (p : Phrase) → (has_verb s.heading.version p.verb && is_allowed p.verb (is_some (option_map view_of_block s.block)) (length s.schedule)) ≡ true → phrase_fault (context_of_script s) p (object_in s.heading p) ≡ first_that (
     (is_named_again s.named (or_nothing (object_in s.heading p)), kinds.NameTaken)
     ∷ (is_none (object_in s.heading p) || has_unknown_name s.heading p.verb p.rest, kinds.UnknownName)
     ∷ (is_bad_tail (tail_of p.verb) p.verb p.rest (or_nothing (object_in s.heading p)), kinds.BadNumber)

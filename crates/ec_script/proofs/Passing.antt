@@ -1,4 +1,4 @@
--- A line behind the declarations that is taken passes each test.
+-- A line after the declarations that is accepted passes each test.
 use Rattle.std.proofs.Common.{◌≡◌, ℕ, List, [], ◌∷◌, Bool, true, false, not, ◌&&◌, ◌||◌, cond, Option, Some, None, is_some, is_none, Result, Ok, Err, refl, sym, ap, ◌∙◌}
 use Rattle.std.proofs.lemmas.Bool.{and_parts, and_from, or_parts, or_from, not-false, not_from_true}
 use Rattle.ec_count.specs.Tables.{first_that}
@@ -13,12 +13,13 @@ use Rattle.ec_script.specs.declared.stage.Stage.TheVariants.{Reading}
 use Rattle.ec_script.specs.Verbs.{has_verb, tail_of}
 use Rattle.ec_script.specs.Forms.{Phrase, phrase_in}
 use Rattle.ec_script.specs.Objects.{object_in, is_owned}
-use Rattle.ec_script.specs.Kinds.{Seen, phrase_fault, or_nothing, is_allowed, is_named_again, has_unknown_name, is_bad_tail, is_too_many, has_two_roles, lacks_right, is_badly_nested}
-use Rattle.ec_script.specs.Scripted.{Scripted}
-use Rattle.ec_script.specs.Reading.{seen, after, fault_or, phrased, headed_on, is_declaring, opens_outer, script_step, read_on}
+use Rattle.ec_script.specs.Kinds.{LineContextModel, phrase_fault, or_nothing, is_allowed, is_named_again, has_unknown_name, is_bad_tail, is_too_many, has_two_roles, lacks_right, is_badly_nested}
+use Rattle.ec_script.specs.ScriptModel.{ScriptModel}
+use Rattle.ec_script.specs.Reading.{context_of_script, after, fault_or, after_phrase, map_heading, is_declaring, opens_outer, script_step, read_on}
+use Rattle.ec_script.proofs.shared.Keeping.{unfaulted as faultless}
 
 -- no test holds of the line
-pub record Passes (s : Seen) (p : Phrase) (o : Option Object) : Type 0 where
+pub record Passes (s : LineContextModel) (p : Phrase) (o : Option Object) : Type 0 where
   pub version : has_verb s.heading.version p.verb ≡ true
   pub allowed : is_allowed p.verb (is_some s.block) s.scheduled ≡ true
   pub new : is_named_again s.named (or_nothing o) ≡ false
@@ -65,7 +66,8 @@ nine t1 t2 t3 t4 t5 t6 t7 t8 t9 is =
     let p9 = passed t9 kinds.BadNesting [] p8.1 in
     record { f1 = p1.0; f2 = p2.0; f3 = p3.0; f4 = p4.0; f5 = p5.0; f6 = p6.0; f7 = p7.0; f8 = p8.0; f9 = p9.0 }
 
-pub passes : (s : Seen) (p : Phrase) (o : Option Object) → phrase_fault s p o ≡ None → Passes s p o
+pub passes : (s : LineContextModel) (p : Phrase) (o : Option Object) → phrase_fault s p o ≡ None
+    → Passes s p o
 passes s p o is =
     let n = nine (not (has_verb s.heading.version p.verb && is_allowed p.verb (is_some s.block) s.scheduled)) (is_named_again s.named (or_nothing o)) (is_none o || has_unknown_name s.heading p.verb p.rest)
     (is_bad_tail (tail_of p.verb) p.verb p.rest (or_nothing o)) (is_too_many p.verb p.rest s.block s.scheduled) (is_owned s.heading.groups (or_nothing o))
@@ -74,8 +76,8 @@ passes s p o is =
     let u = or_parts (is_none o) (has_unknown_name s.heading p.verb p.rest) n.f3 in
     record { version = place.0; allowed = place.1; new = n.f2; found = u.0; known = u.1; range = n.f4; few = n.f5; apart = n.f6; differ = n.f7; right = n.f8; nested = n.f9 }
 
--- and where none holds there is no fault
-pub no_fault_of : (s : Seen) (p : Phrase) (o : Option Object) → Passes s p o → phrase_fault s p o ≡ None
+-- if none holds there is no fault
+pub no_fault_of : (s : LineContextModel) (p : Phrase) (o : Option Object) → Passes s p o → phrase_fault s p o ≡ None
 no_fault_of s p o h =
     let t1 : Bool = not (has_verb s.heading.version p.verb && is_allowed p.verb (is_some s.block) s.scheduled) in
     let t2 : Bool = is_named_again s.named (or_nothing o) in
@@ -99,47 +101,43 @@ no_fault_of s p o h =
 
 -- A LINE
 
--- the line is taken as a phrase, and leads on
-pub record IsTaken (s : Scripted) (line : List ℕ) (t : Scripted) : Type 0 where
+-- the line is accepted as a phrase, and leads on
+pub record IsAcceptedAs (s : ScriptModel) (line : List ℕ) (t : ScriptModel) : Type 0 where
   pub whole : is_no_line line ≡ false
   pub phrase : Phrase
   pub form : phrase_in (words_of line) ≡ Some phrase
-  pub passes : Passes (seen s) phrase (object_in s.heading phrase)
+  pub passes : Passes (context_of_script s) phrase (object_in s.heading phrase)
   pub leads : after s phrase ≡ t
 
 -- the line is not read as a declaration
-abbrev pub IsBehind : Scripted → List ℕ → Type 0
-IsBehind s line = (is_declaring s && not (opens_outer (words_of line))) ≡ false
+abbrev pub IsNoDeclaration : ScriptModel → List ℕ → Type 0
+IsNoDeclaration s line = (is_declaring s && not (opens_outer (words_of line))) ≡ false
 
-faultless : (o : Option Kind) (s t : Scripted) → fault_or o s ≡ Ok t → (o ≡ None) × (s ≡ t)
-faultless None s t is = (refl, cc)
-faultless (Some k) s t is = cc
-
-phrased_back : (s t : Scripted) (line : List ℕ) (o : Option Phrase) → is_no_line line ≡ false → phrase_in (words_of line) ≡ o → phrased s o ≡ Ok t → IsTaken s line t
+phrased_back : (s t : ScriptModel) (line : List ℕ) (o : Option Phrase) → is_no_line line ≡ false → phrase_in (words_of line) ≡ o → after_phrase s o ≡ Ok t → IsAcceptedAs s line t
 phrased_back s t line None whole form is = cc
 phrased_back s t line (Some p) whole form is =
-    let f = faultless (phrase_fault (seen s) p (object_in s.heading p)) (after s p) t is in
-    record { whole = whole; phrase = p; form = form; passes = passes (seen s) p (object_in s.heading p) f.0; leads = f.1 }
+    let f = faultless (phrase_fault (context_of_script s) p (object_in s.heading p)) (after s p) t is in
+    record { whole = whole; phrase = p; form = form; passes = passes (context_of_script s) p (object_in s.heading p) f.0; leads = f.1 }
 
-line_back : (s t : Scripted) (line : List ℕ) (b : Bool) → is_no_line line ≡ b → cond b (Err kinds.BadLine) (phrased s (phrase_in (words_of line))) ≡ Ok t → IsTaken s line t
+line_back : (s t : ScriptModel) (line : List ℕ) (b : Bool) → is_no_line line ≡ b → cond b (Err kinds.BadLine) (after_phrase s (phrase_in (words_of line))) ≡ Ok t → IsAcceptedAs s line t
 line_back s t line true whole is = cc
 line_back s t line false whole is = phrased_back s t line (phrase_in (words_of line)) whole refl is
 
-pub taken_back : (s t : Scripted) (line : List ℕ) → IsBehind s line → script_step s line ≡ Ok t → IsTaken s line t
+pub taken_back : (s t : ScriptModel) (line : List ℕ) → IsNoDeclaration s line → script_step s line ≡ Ok t → IsAcceptedAs s line t
 unfolding script_step
 taken_back s t line behind is =
     line_back s t line (is_no_line line) refl
-    (ap (λ b. cond b (headed_on s (head_step s.heading line)) (cond (is_no_line line) (Err kinds.BadLine) (phrased s (phrase_in (words_of line))))) (sym behind) ∙ is)
+    (ap (λ b. cond b (map_heading s (head_step s.heading line)) (cond (is_no_line line) (Err kinds.BadLine) (after_phrase s (phrase_in (words_of line))))) (sym behind) ∙ is)
 
--- and a line that passes is taken
-pub taken_so : (s : Scripted) (line : List ℕ) (p : Phrase) → IsBehind s line → is_no_line line ≡ false → phrase_in (words_of line) ≡ Some p → Passes (seen s) p (object_in s.heading p) → script_step s line ≡ Ok (after s p)
+-- a line that passes is accepted
+pub taken_so : (s : ScriptModel) (line : List ℕ) (p : Phrase) → IsNoDeclaration s line → is_no_line line ≡ false → phrase_in (words_of line) ≡ Some p → Passes (context_of_script s) p (object_in s.heading p) → script_step s line ≡ Ok (after s p)
 unfolding script_step
 taken_so s line p behind whole form h =
-    ap (λ b. cond b (headed_on s (head_step s.heading line)) (cond (is_no_line line) (Err kinds.BadLine) (phrased s (phrase_in (words_of line))))) behind
-    ∙ ap (λ b. cond b (Err kinds.BadLine) (phrased s (phrase_in (words_of line)))) whole
-    ∙ ap (phrased s) form
-    ∙ ap (λ o. fault_or o (after s p)) (no_fault_of (seen s) p (object_in s.heading p) h)
+    ap (λ b. cond b (map_heading s (head_step s.heading line)) (cond (is_no_line line) (Err kinds.BadLine) (after_phrase s (phrase_in (words_of line))))) behind
+    ∙ ap (λ b. cond b (Err kinds.BadLine) (after_phrase s (phrase_in (words_of line)))) whole
+    ∙ ap (after_phrase s) form
+    ∙ ap (λ o. fault_or o (after s p)) (no_fault_of (context_of_script s) p (object_in s.heading p) h)
 
-pub read_back : (r : Result Scripted Kind) (t : Stage) → read_on r ≡ Ok t → (s : Scripted) × (r ≡ Ok s) × (t ≡ Reading s)
+pub read_back : (r : Result ScriptModel Kind) (t : Stage) → read_on r ≡ Ok t → (s : ScriptModel) × (r ≡ Ok s) × (t ≡ Reading s)
 read_back (Ok s) t is = (s, refl, cc)
 read_back (Err k) t is = cc

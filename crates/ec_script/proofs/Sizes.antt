@@ -6,7 +6,7 @@ use Rattle.std.proofs.lemmas.Bool.{and_parts, and_from, leb-true}
 use Rattle.ec_machine.specs.declared.command.Value.{Value}
 use Rattle.ec_machine.specs.Limits.{is_value}
 use Rattle.ec_script.specs.Kinds.{is_count}
-use Rattle.ec_script.specs.Orders.{amount_of}
+use Rattle.ec_script.specs.BlockItems.{amount_of}
 
 -- as many values as words
 pub as_many : (ws : List (List ℕ)) (n : ℕ) → (length ws == n) ≡ true → (length (map amount_of ws) == n) ≡ true

@@ -1,57 +1,58 @@
--- A text is a script exactly if it spells a heading, blocks and a schedule.
+-- A text is a script exactly if it is the canonical encoding of a header, blocks and a schedule.
 use Rattle.std.proofs.Common.{◌≡◌, ◌==◌, ℕ, ◌≤◌, List, [], ◌∷◌, length, map, true, cond, refl, sym, ap, ap₂, ◌∙◌, subst}
 use Rattle.std.specs.List.{AllByRecursion, range_with_len}
 use Rattle.ec_count.specs.Members.{has_repeat}
-use Rattle.ec_heading.specs.Headed.{Headed}
-use Rattle.ec_heading.specs.Outline.{Outline, IsOutline, headed}
-use Rattle.ec_script.specs.declared.order.Order.{Order}
-use Rattle.ec_script.specs.Scripted.{Planned}
-use Rattle.ec_script.specs.Grammar.{IsScript, IsLine, text_of}
-use Rattle.ec_script.specs.Layout.{Says, Block, IsBlock, orders_of, workers_of, joined, AreNested, commands_in, IsLayout, layout_lines, program_of, plan_of, IsLaidOut, LayoutsAreScripts, Layout}
-use Rattle.ec_script.specs.Spelling.{order_line, script_lines, ordered_blocks}
+use Rattle.ec_heading.specs.HeadingModel.{HeadingModel}
+use Rattle.ec_heading.specs.HeaderTree.{HeaderTree, IsHeaderTree, heading_of_tree}
+use Rattle.ec_script.specs.declared.block_item.BlockItem.{BlockItem}
+use Rattle.ec_script.specs.ScriptModel.{PlanModel}
+use Rattle.ec_script.specs.Grammar.{IsScript, IsLine}
+use Rattle.ec_heading.specs.Spelling.{lines_text}
+use Rattle.ec_script.specs.Layout.{IsLineOfItem, Block, IsBlock, items_of, workers_of, concat_rows, AreNested, commands_in, IsLayout, layout_lines, program_of, plan_of, IsLaidOut, LayoutsAreScripts, Layout}
+use Rattle.ec_script.specs.Spelling.{item_line, script_lines, blocks_of_items}
 use Rattle.ec_script.specs.Given.{MayGive}
-use Rattle.ec_script.specs.Spelled.{IsGivenBlock, their_workers, orders_for, spelled_plan, IsSpelling, ScriptsAreSpelled, Spelled, IsSpelled}
+use Rattle.ec_script.specs.ScriptTree.{IsGivenBlock, their_workers, items_of_worker, plan_of_tree, IsSpelling, ScriptsAreSpelled, ScriptTree, IsScriptTree}
 use Rattle.ec_script.proofs.Layouts.{laid_out}
 use Rattle.ec_script.proofs.LayoutsLead.{layout_leads}
 use Rattle.ec_script.proofs.Cleans.{spelled_lines}
 use Rattle.ec_script.proofs.OrderLines.{layout_lines_are}
 use Rattle.ec_script.proofs.Sayings.{lines_say}
 
--- BLOCKS BY THEIR ORDERS
+-- BLOCKS BY THEIR ITEMS
 
-same_workers : (blocks : List Block) → workers_of blocks ≡ their_workers (ordered_blocks blocks)
+same_workers : (blocks : List Block) → workers_of blocks ≡ their_workers (blocks_of_items blocks)
 same_workers [] = refl
 same_workers (b ∷ blocks) = ap (λ (ws : List ℕ). b.worker ∷ ws) (same_workers blocks)
 
-same_program : (blocks : List Block) (w : ℕ) → program_of blocks w ≡ orders_for (ordered_blocks blocks) w
+same_program : (blocks : List Block) (w : ℕ) → program_of blocks w ≡ items_of_worker (blocks_of_items blocks) w
 same_program [] w = refl
-same_program (b ∷ blocks) w = ap (λ os. cond (b.worker == w) (orders_of b.lines) os) (same_program blocks w)
+same_program (b ∷ blocks) w = ap (λ os. cond (b.worker == w) (items_of b.lines) os) (same_program blocks w)
 
-same_programs : (blocks : List Block) (ws : List ℕ) → map (program_of blocks) ws ≡ map (orders_for (ordered_blocks blocks)) ws
+same_programs : (blocks : List Block) (ws : List ℕ) → map (program_of blocks) ws ≡ map (items_of_worker (blocks_of_items blocks)) ws
 same_programs blocks [] = refl
-same_programs blocks (w ∷ ws) = ap₂ (λ (os : List Order) (more : List (List Order)). os ∷ more) (same_program blocks w) (same_programs blocks ws)
+same_programs blocks (w ∷ ws) = ap₂ (λ (os : List BlockItem) (more : List (List BlockItem)). os ∷ more) (same_program blocks w) (same_programs blocks ws)
 
-same_plan : (o : Outline) (blocks : List Block) (rows : List (List ℕ)) → plan_of (record { outline = o; blocks = blocks; rows = rows }) ≡ spelled_plan (record { outline = o; blocks = ordered_blocks blocks; rows = rows })
-same_plan o blocks rows = ap (λ (ps : List (List Order)). let q : Planned = record { heading = headed o; programs = ps; schedule = joined rows } in q) (same_programs blocks (range_with_len 0 (length o.workers)))
+same_plan : (o : HeaderTree) (blocks : List Block) (rows : List (List ℕ)) → plan_of (record { outline = o; blocks = blocks; rows = rows }) ≡ plan_of_tree (record { outline = o; blocks = blocks_of_items blocks; rows = rows })
+same_plan o blocks rows = ap (λ (ps : List (List BlockItem)). let q : PlanModel = record { heading = heading_of_tree o; programs = ps; schedule = concat_rows rows } in q) (same_programs blocks (range_with_len 0 (length o.workers)))
 
--- WHAT LINES SAY IS GIVEN
+-- WHAT LINES SAY IS ALLOWED
 
-orders_given : (o : Outline) → IsOutline o → (w : ℕ) (lines : List (List ℕ × Order)) → AllByRecursion (λ (l : List ℕ × Order). Says (headed o) w l.0 l.1) lines → AllByRecursion (MayGive (headed o) w) (orders_of lines)
-orders_given o is w [] all = tt
-orders_given o is w (l ∷ lines) all = (((lines_say o w l.0 l.1 is).0 all.0).1, orders_given o is w lines all.1)
+items_given : (o : HeaderTree) → IsHeaderTree o → (w : ℕ) (lines : List (List ℕ × BlockItem)) → AllByRecursion (λ (l : List ℕ × BlockItem). IsLineOfItem (heading_of_tree o) w l.0 l.1) lines → AllByRecursion (MayGive (heading_of_tree o) w) (items_of lines)
+items_given o is w [] all = tt
+items_given o is w (l ∷ lines) all = (((lines_say o w l.0 l.1 is).0 all.0).1, items_given o is w lines all.1)
 
-blocks_given : (o : Outline) → IsOutline o → (blocks : List Block) → AllByRecursion (IsBlock (headed o)) blocks → AllByRecursion (IsGivenBlock (headed o)) (ordered_blocks blocks)
+blocks_given : (o : HeaderTree) → IsHeaderTree o → (blocks : List Block) → AllByRecursion (IsBlock (heading_of_tree o)) blocks → AllByRecursion (IsGivenBlock (heading_of_tree o)) (blocks_of_items blocks)
 blocks_given o is [] all = tt
 blocks_given o is (b ∷ blocks) all = (
-  record { worker = all.0.worker; each = orders_given o is b.worker b.lines all.0.each; nested = all.0.nested; few = all.0.few },
+  record { worker = all.0.worker; each = items_given o is b.worker b.lines all.0.each; nested = all.0.nested; few = all.0.few },
   blocks_given o is blocks all.1,
 )
 
 -- what a layout says
-abbrev spelled_of : Layout → Spelled
-spelled_of l = record { outline = l.outline; blocks = ordered_blocks l.blocks; rows = l.rows }
+abbrev spelled_of : Layout → ScriptTree
+spelled_of l = record { outline = l.outline; blocks = blocks_of_items l.blocks; rows = l.rows }
 
-is_spelled : (l : Layout) → IsLayout l → IsSpelled (spelled_of l)
+is_spelled : (l : Layout) → IsLayout l → IsScriptTree (spelled_of l)
 is_spelled l is = record {
   heading = is.heading;
   blocks = blocks_given l.outline is.heading l.blocks is.blocks;
@@ -60,75 +61,76 @@ is_spelled l is = record {
   few = is.few;
 }
 
-spells : (bytes : List ℕ) (p : Planned) → IsScript bytes p → IsSpelling bytes p
+spells : (bytes : List ℕ) (p : PlanModel) → IsScript bytes p → IsSpelling bytes p
 spells bytes p script =
     let d : IsLaidOut bytes p = laid_out bytes p script in
     record {
       spelled = spelled_of d.layout;
       is = is_spelled d.layout d.is;
-      text = d.text ∙ ap text_of (layout_lines_are d.layout d.is);
+      text = d.text ∙ ap lines_text (layout_lines_are d.layout d.is);
       within = d.within;
       plan = d.plan ∙ same_plan d.layout.outline d.layout.blocks d.layout.rows;
     }
 
--- its lines hold no LF
+-- its lines have no LF
 pub is_script : LayoutsAreScripts
 is_script bytes p d = layout_leads bytes p d (subst (AllByRecursion IsLine) (sym (layout_lines_are d.layout d.is)) (spelled_lines (spelled_of d.layout) (is_spelled d.layout d.is)))
 
--- WHAT IS GIVEN IS SAID BY LINES
+-- WHAT IS ALLOWED IS SAID BY LINES
 
--- an order with its line
-abbrev lined : Headed → List Order → List (List ℕ × Order)
-lined h os = map (λ (o : Order). (order_line h o, o)) os
+-- an item with its line
+abbrev lined : HeadingModel → List BlockItem → List (List ℕ × BlockItem)
+lined h os = map (λ (o : BlockItem). (item_line h o, o)) os
 
-abbrev lined_blocks : Headed → List (ℕ × List Order) → List Block
-lined_blocks h blocks = map (λ (b : ℕ × List Order). record { worker = b.0; lines = lined h b.1 }) blocks
+abbrev lined_blocks : HeadingModel → List (ℕ × List BlockItem) → List Block
+lined_blocks h blocks = map (λ (b : ℕ × List BlockItem). record { worker = b.0; lines = lined h b.1 }) blocks
 
-orders_again : (h : Headed) (os : List Order) → orders_of (lined h os) ≡ os
-orders_again h [] = refl
-orders_again h (o ∷ os) = ap (λ (xs : List Order). o ∷ xs) (orders_again h os)
+items_again : (h : HeadingModel) (os : List BlockItem) → items_of (lined h os) ≡ os
+items_again h [] = refl
+items_again h (o ∷ os) = ap (λ (xs : List BlockItem). o ∷ xs) (items_again h os)
 
-blocks_again : (h : Headed) (blocks : List (ℕ × List Order)) → ordered_blocks (lined_blocks h blocks) ≡ blocks
+blocks_again : (h : HeadingModel) (blocks : List (ℕ × List BlockItem)) → blocks_of_items (lined_blocks h blocks) ≡ blocks
 blocks_again h [] = refl
-blocks_again h (b ∷ blocks) = ap₂ (λ (os : List Order) (more : List (ℕ × List Order)). (b.0, os) ∷ more) (orders_again h b.1) (blocks_again h blocks)
+blocks_again h (b ∷ blocks) = ap₂ (λ (os : List BlockItem) (more : List (ℕ × List BlockItem)). (b.0, os) ∷ more) (items_again h b.1) (blocks_again h blocks)
 
-lines_said : (o : Outline) → IsOutline o → (w : ℕ) (os : List Order) → AllByRecursion (MayGive (headed o) w) os → AllByRecursion (λ (l : List ℕ × Order). Says (headed o) w l.0 l.1) (lined (headed o) os)
+lines_said : (o : HeaderTree) → IsHeaderTree o → (w : ℕ) (os : List BlockItem) → AllByRecursion (MayGive (heading_of_tree o) w) os → AllByRecursion (λ (l : List ℕ × BlockItem). IsLineOfItem (heading_of_tree o) w l.0 l.1) (lined (heading_of_tree o) os)
 lines_said o is w [] all = tt
-lines_said o is w (x ∷ os) all = ((lines_say o w (order_line (headed o) x) x is).1 (refl, all.0), lines_said o is w os all.1)
+lines_said o is w (x ∷ os) all = ((lines_say o w (item_line (heading_of_tree o) x) x is).1 (refl, all.0), lines_said o is w os all.1)
 
-blocks_said : (o : Outline) → IsOutline o → (blocks : List (ℕ × List Order)) → AllByRecursion (IsGivenBlock (headed o)) blocks → AllByRecursion (IsBlock (headed o)) (lined_blocks (headed o) blocks)
+blocks_said : (o : HeaderTree) → IsHeaderTree o → (blocks : List (ℕ × List BlockItem)) → AllByRecursion (IsGivenBlock (heading_of_tree o)) blocks → AllByRecursion (IsBlock (heading_of_tree o)) (lined_blocks (heading_of_tree o) blocks)
 blocks_said o is [] all = tt
 blocks_said o is (b ∷ blocks) all =
-    let same : b.1 ≡ orders_of (lined (headed o) b.1) = sym (orders_again (headed o) b.1) in (
+    let same : b.1 ≡ items_of (lined (heading_of_tree o) b.1) =
+    sym (items_again (heading_of_tree o) b.1) in (
       record {
         worker = all.0.worker;
         each = lines_said o is b.0 b.1 all.0.each;
         nested = subst (AreNested 0 true) same all.0.nested;
-        few = subst (λ (os : List Order). commands_in os ≤ 4096) same all.0.few;
+        few = subst (λ (os : List BlockItem). commands_in os ≤ 4096) same all.0.few;
       },
       blocks_said o is blocks all.1,
     )
 
-spelled_is_script : (bytes : List ℕ) (p : Planned) → IsSpelling bytes p → IsScript bytes p
+spelled_is_script : (bytes : List ℕ) (p : PlanModel) → IsSpelling bytes p → IsScript bytes p
 spelled_is_script bytes p s =
-    let again : ordered_blocks (lined_blocks (headed s.spelled.outline) s.spelled.blocks) ≡ s.spelled.blocks = blocks_again (headed s.spelled.outline) s.spelled.blocks in
-    let is : IsLayout (record { outline = s.spelled.outline; blocks = lined_blocks (headed s.spelled.outline) s.spelled.blocks; rows = s.spelled.rows }) = record {
+    let again : blocks_of_items (lined_blocks (heading_of_tree s.spelled.outline) s.spelled.blocks) ≡ s.spelled.blocks = blocks_again (heading_of_tree s.spelled.outline) s.spelled.blocks in
+    let is : IsLayout (record { outline = s.spelled.outline; blocks = lined_blocks (heading_of_tree s.spelled.outline) s.spelled.blocks; rows = s.spelled.rows }) = record {
       heading = s.is.heading;
       blocks = blocks_said s.spelled.outline s.is.heading s.spelled.blocks s.is.blocks;
-      differ = ap has_repeat (same_workers (lined_blocks (headed s.spelled.outline) s.spelled.blocks) ∙ ap their_workers again) ∙ s.is.differ;
+      differ = ap has_repeat (same_workers (lined_blocks (heading_of_tree s.spelled.outline) s.spelled.blocks) ∙ ap their_workers again) ∙ s.is.differ;
       rows = s.is.rows;
       few = s.is.few;
     } in
-    let lines : script_lines s.spelled.outline s.spelled.blocks s.spelled.rows ≡ layout_lines (record { outline = s.spelled.outline; blocks = lined_blocks (headed s.spelled.outline) s.spelled.blocks; rows = s.spelled.rows }) =
-    sym (layout_lines_are (record { outline = s.spelled.outline; blocks = lined_blocks (headed s.spelled.outline) s.spelled.blocks; rows = s.spelled.rows }) is ∙ ap (λ bs. script_lines s.spelled.outline bs s.spelled.rows) again) in
+    let lines : script_lines s.spelled.outline s.spelled.blocks s.spelled.rows ≡ layout_lines (record { outline = s.spelled.outline; blocks = lined_blocks (heading_of_tree s.spelled.outline) s.spelled.blocks; rows = s.spelled.rows }) =
+    sym (layout_lines_are (record { outline = s.spelled.outline; blocks = lined_blocks (heading_of_tree s.spelled.outline) s.spelled.blocks; rows = s.spelled.rows }) is ∙ ap (λ bs. script_lines s.spelled.outline bs s.spelled.rows) again) in
     is_script bytes p (record {
-      layout = record { outline = s.spelled.outline; blocks = lined_blocks (headed s.spelled.outline) s.spelled.blocks; rows = s.spelled.rows };
+      layout = record { outline = s.spelled.outline; blocks = lined_blocks (heading_of_tree s.spelled.outline) s.spelled.blocks; rows = s.spelled.rows };
       is = is;
-      text = s.text ∙ ap text_of lines;
+      text = s.text ∙ ap lines_text lines;
       within = s.within;
       plan = s.plan
-          ∙ sym (same_plan s.spelled.outline (lined_blocks (headed s.spelled.outline) s.spelled.blocks) s.spelled.rows
-          ∙ ap (λ bs. spelled_plan (record { outline = s.spelled.outline; blocks = bs; rows = s.spelled.rows })) again);
+          ∙ sym (same_plan s.spelled.outline (lined_blocks (heading_of_tree s.spelled.outline) s.spelled.blocks) s.spelled.rows
+          ∙ ap (λ bs. plan_of_tree (record { outline = s.spelled.outline; blocks = bs; rows = s.spelled.rows })) again);
     })
 
 pub scripts_spelled : ScriptsAreSpelled

@@ -6,54 +6,50 @@ use Rattle.ec_count.specs.Tables.{first_that}
 use Rattle.ec_semaphore.specs.Shapes.{Semaphore}
 use Rattle.ec_machine.specs.Limits.{is_same}
 use Rattle.ec_heading.specs.declared.group.Group.{Group}
-use Rattle.ec_heading.specs.Headed.{Headed}
+use Rattle.ec_heading.specs.HeadingModel.{HeadingModel}
 use Rattle.ec_heading.specs.Lists.{worker_in}
-use Rattle.ec_heading.specs.Outlined.{IsHeading}
-use Rattle.ec_heading.specs.Spelled.{event_in, sequencer_in, cell_in_word}
+use Rattle.ec_heading.specs.HeadingInvariant.{IsHeading}
+use Rattle.ec_heading.specs.EntryWords.{event_in, sequencer_in, cell_in_word}
 use Rattle.ec_heading.proofs.shared.Phrases.{same_word, is_itself}
 use Rattle.ec_script.specs.declared.fault.Kind.{Kind}
 use Rattle.ec_script.specs.declared.fault.Kind.TheVariants as kinds
-use Rattle.ec_script.specs.declared.kinds.BlockView.{BlockView}
-use Rattle.ec_script.specs.declared.verb.Verb.{Verb}
-use Rattle.ec_script.specs.declared.verb.Verb.TheVariants as verbs
+use Rattle.ec_script.specs.declared.kinds.BlockContext.{BlockContext}
+use Rattle.ec_script.specs.declared.verb.LineWord.{LineWord}
+use Rattle.ec_script.specs.declared.verb.LineWord.TheVariants as verbs
 use Rattle.ec_script.specs.declared.object.Object.{Object}
 use Rattle.ec_script.specs.declared.object.Object.TheVariants.{Worker, Event, Sequencer, Cell, OfBuffer, OfDatabase, OfSemaphore, SemaphorePair}
 use Rattle.ec_script.specs.Verbs.{has_verb}
 use Rattle.ec_script.specs.Forms.{Phrase, only_in}
-use Rattle.ec_script.specs.Objects.{buffer_in, database_in, semaphore_in, both_of, pair_of, handed_of, object_for, object_in, is_owned}
-use Rattle.ec_script.specs.Kinds.{Seen, is_allowed, is_named_again, is_too_many, has_two_roles, or_nothing, phrase_fault}
-use Rattle.ec_script.specs.Pairs.{TwoRolesAreOneName, NamesOneTwice, TwoRolesAreTold}
+use Rattle.ec_script.specs.Objects.{buffer_in, database_in, semaphore_in, semaphore_pair, transfer_object, object_for, object_in, is_owned}
+use Rattle.ec_heading.specs.Groups.{both_of}
+use Rattle.ec_script.specs.Kinds.{LineContextModel, is_allowed, is_named_again, is_too_many, has_two_roles, or_nothing, phrase_fault}
+use Rattle.ec_script.specs.Pairs.{TwoRolesAreOneName, NamesOneTwice, TwoRolesAreReported}
 use Rattle.ec_script.proofs.Commons.{common_starts, common_counts}
-use Rattle.ec_script.proofs.Confining.{found_semaphore}
+use Rattle.ec_script.proofs.Confining.{itself as same_itself, found_semaphore}
 use Rattle.ec_script.proofs.OneName.{one_name}
 
 -- THE THREE SEMAPHORES OF A LINE
 
-three_parts : (a b c : Option Semaphore) (o : Object) → pair_of a b c ≡ Some o
+three_parts : (a b c : Option Semaphore) (o : Object) → semaphore_pair a b c ≡ Some o
     → (x y z : Semaphore) × (a ≡ Some x) × (b ≡ Some y) × (c ≡ Some z) × (o ≡ SemaphorePair x y z)
 three_parts None b c o is = cc
 three_parts (Some x) None c o is = cc
 three_parts (Some x) (Some y) None o is = cc
 three_parts (Some x) (Some y) (Some z) o is = (x, y, z, refl, refl, refl, sym (same_Some (SemaphorePair x y z) o is))
 
-second_word : (h : Headed) (ws : List (List ℕ)) (z : Semaphore) → option_and_then (semaphore_in h) (only_in ws) ≡ Some z
+second_word : (h : HeadingModel) (ws : List (List ℕ)) (z : Semaphore) → option_and_then (semaphore_in h) (only_in ws) ≡ Some z
     → (other : List ℕ) × (ws ≡ other ∷ []) × (semaphore_in h other ≡ Some z)
 second_word h [] z is = cc
 second_word h (v ∷ []) z is = (v, refl, is)
 second_word h (v ∷ w ∷ ws) z is = cc
 
 -- the common one is none of the named ones
-common_differs : (h : Headed) (common s : Semaphore) (w : List ℕ) → IsHeading h → both_of h.groups ≡ Some common → semaphore_in h w ≡ Some s → is_same common s ≡ false
+common_differs : (h : HeadingModel) (common s : Semaphore) (w : List ℕ) → IsHeading h → both_of h.groups ≡ Some common → semaphore_in h w ≡ Some s → is_same common s ≡ false
 common_differs h common s w is both named =
     rw (common_counts h common s is both (found_semaphore h w s named)) refl
 
-same_itself : (s : Semaphore) → is_same s s ≡ true
-same_itself s =
-    and_from (s.count == s.count && s.line == s.line) (s.initial == s.initial)
-    (and_from (s.count == s.count) (s.line == s.line) (eq-eqb s.count s.count refl) (eq-eqb s.line s.line refl)) (eq-eqb s.initial s.initial refl)
-
 -- two named ones are one if their names are
-same_names : (h : Headed) (w v : List ℕ) (s u : Semaphore) → IsHeading h → semaphore_in h w ≡ Some s → semaphore_in h v ≡ Some u → is_same s u ≡ bytes_eq w v
+same_names : (h : HeadingModel) (w v : List ℕ) (s u : Semaphore) → IsHeading h → semaphore_in h w ≡ Some s → semaphore_in h v ≡ Some u → is_same s u ≡ bytes_eq w v
 same_names h w v s u is p q =
     elim (bytes_eq w v) as (λ b. bytes_eq w v ≡ b → is_same s u ≡ b) [
       | true ↦ λ e.
@@ -72,8 +68,8 @@ not_not false = refl
 roles_are : (c s u : Semaphore) (b : Bool) → c.initial ≡ 1 → is_same c s ≡ false → is_same c u ≡ false → is_same s u ≡ b → has_two_roles (SemaphorePair c s u) ≡ b
 roles_are c s u b first one other pair = rw (eq-eqb c.initial 1 first, one, other, pair) (not_not b)
 
--- what a line is about, and how its words relate
-record IsPair (h : Headed) (one : List ℕ) (ws : List (List ℕ)) (o : Object) : Type 0 where
+-- the object of a line, and how its words relate
+record IsPair (h : HeadingModel) (one : List ℕ) (ws : List (List ℕ)) (o : Object) : Type 0 where
   common : Semaphore
   first : Semaphore
   second : Semaphore
@@ -82,7 +78,7 @@ record IsPair (h : Headed) (one : List ℕ) (ws : List (List ℕ)) (o : Object) 
   is : o ≡ SemaphorePair common first second
   roles : has_two_roles (SemaphorePair common first second) ≡ bytes_eq one other
 
-pair_found : (h : Headed) (one : List ℕ) (ws : List (List ℕ)) (o : Object) → IsHeading h → object_for h verbs.DownBoth one ws ≡ Some o → IsPair h one ws o
+pair_found : (h : HeadingModel) (one : List ℕ) (ws : List (List ℕ)) (o : Object) → IsHeading h → object_for h verbs.DownBoth one ws ≡ Some o → IsPair h one ws o
 pair_found h one ws o is found =
     let p = three_parts (both_of h.groups) (semaphore_in h one) (option_and_then (semaphore_in h) (only_in ws)) o found in
     let s = second_word h ws p.2 p.5 in
@@ -108,11 +104,11 @@ plain : {X : Type 0} (f : X → Object) (m : Option X) → ((x : X) → has_two_
 plain f None off on = cc
 plain f (Some x) off on = true≢false (sym on ∙ off x)
 
-plain_hand : (x y : Option ℕ) → has_two_roles (or_nothing (handed_of x y)) ≡ true → ⊥
+plain_hand : (x y : Option ℕ) → has_two_roles (or_nothing (transfer_object x y)) ≡ true → ⊥
 plain_hand (Some e) (Some b) on = cc
 plain_hand _ _ on = cc
 
-pub pair_verb : (h : Headed) (v : Verb) (w : List ℕ) (ws : List (List ℕ)) → has_two_roles (or_nothing (object_for h v w ws)) ≡ true → v ≡ verbs.DownBoth
+pub pair_verb : (h : HeadingModel) (v : LineWord) (w : List ℕ) (ws : List (List ℕ)) → has_two_roles (or_nothing (object_for h v w ws)) ≡ true → v ≡ verbs.DownBoth
 pair_verb h verbs.Advance w ws on = absurd (plain Event (event_in h.words w) (λ x. refl) on)
 pair_verb h verbs.Read w ws on = absurd (plain Event (event_in h.words w) (λ x. refl) on)
 pair_verb h verbs.Await w ws on = absurd (plain Event (event_in h.words w) (λ x. refl) on)
@@ -153,17 +149,17 @@ record AreTold (line unknown many roles : Bool) : Type 0 where
   room : many ≡ false
   two : roles ≡ true
 
-told : (line taken unknown number many hidden roles right nesting : Bool) → least_of line taken unknown number many hidden roles right nesting ≡ Some kinds.TwoRoles → AreTold line unknown many roles
-told true b c d e f g h i is = cc
-told false true c d e f g h i is = cc
-told false false true d e f g h i is = cc
-told false false false true e f g h i is = cc
-told false false false false true f g h i is = cc
-told false false false false false true g h i is = cc
-told false false false false false false true h i is = record { inside = refl; known = refl; room = refl; two = refl }
-told false false false false false false false true i is = cc
-told false false false false false false false false true is = cc
-told false false false false false false false false false is = cc
+returned : (line taken unknown number many hidden roles right nesting : Bool) → least_of line taken unknown number many hidden roles right nesting ≡ Some kinds.TwoRoles → AreTold line unknown many roles
+returned true b c d e f g h i is = cc
+returned false true c d e f g h i is = cc
+returned false false true d e f g h i is = cc
+returned false false false true e f g h i is = cc
+returned false false false false true f g h i is = cc
+returned false false false false false true g h i is = cc
+returned false false false false false false true h i is = record { inside = refl; known = refl; room = refl; two = refl }
+returned false false false false false false false true i is = cc
+returned false false false false false false false false true is = cc
+returned false false false false false false false false false is = cc
 
 tells : (line taken unknown number many hidden roles right nesting : Bool) → line ≡ false → taken ≡ false → unknown ≡ false → number ≡ false → many ≡ false → hidden ≡ false → roles ≡ true
     → least_of line taken unknown number many hidden roles right nesting ≡ Some kinds.TwoRoles
@@ -175,13 +171,13 @@ some_object : (o : Option Object) (more : Bool) → (is_none o || more) ≡ fals
 some_object None more known = cc
 some_object (Some x) more known = (x, refl)
 
-in_block : (n : Option BlockView) → not (is_some n) ≡ false → is_some n ≡ true
+in_block : (n : Option BlockContext) → not (is_some n) ≡ false → is_some n ≡ true
 in_block None off = cc
 in_block (Some n) off = refl
 
-pub names_one : (s : Seen) (p : Phrase) → IsHeading s.heading → phrase_fault s p (object_in s.heading p) ≡ Some kinds.TwoRoles → NamesOneTwice s p
+pub names_one : (s : LineContextModel) (p : Phrase) → IsHeading s.heading → phrase_fault s p (object_in s.heading p) ≡ Some kinds.TwoRoles → NamesOneTwice s p
 names_one s p is fault =
-    let t = told _ _ _ _ _ _ _ _ _ fault in
+    let t = returned _ _ _ _ _ _ _ _ _ fault in
     let verb : p.verb ≡ verbs.DownBoth = pair_verb s.heading p.verb p.object p.rest t.two in
     let x = some_object (object_in s.heading p) _ t.known in
     let pair = two_roles s.heading p.object p.rest x.0 is (subst (λ v. object_for s.heading v p.object p.rest ≡ Some x.0) verb x.1) in
@@ -205,7 +201,7 @@ there_is (Some x) is = refl
 pub first_again : (w v : List ℕ) → w ∷ [] ≡ v ∷ [] → bytes_eq w v ≡ true
 first_again w v is = (let same : w ≡ v = cc in subst (λ x. bytes_eq w x ≡ true) same (is_itself w))
 
-two_told : (s : Seen) (w : List ℕ) → IsHeading s.heading → is_some (object_for s.heading verbs.DownBoth w (w ∷ [])) ≡ true → is_some s.block ≡ true
+two_told : (s : LineContextModel) (w : List ℕ) → IsHeading s.heading → is_some (object_for s.heading verbs.DownBoth w (w ∷ [])) ≡ true → is_some s.block ≡ true
     → is_too_many verbs.DownBoth (w ∷ []) s.block s.scheduled ≡ false
     → phrase_fault s (record { verb = verbs.DownBoth; object = w; rest = w ∷ [] }) (object_for s.heading verbs.DownBoth w (w ∷ [])) ≡ Some kinds.TwoRoles
 two_told s w is declared inside room =
@@ -220,12 +216,12 @@ two_told s w is declared inside room =
     (ap (λ (o : Option Object). is_owned s.heading.groups (or_nothing o)) found ∙ none_owned s.heading.groups pair.common pair.first pair.second)
     (ap (λ (o : Option Object). has_two_roles (or_nothing o)) found ∙ pair.roles ∙ first_again w pair.other pair.words)
 
-pub is_told : (s : Seen) (p : Phrase) → IsHeading s.heading → NamesOneTwice s p → phrase_fault s p (object_in s.heading p) ≡ Some kinds.TwoRoles
+pub is_told : (s : LineContextModel) (p : Phrase) → IsHeading s.heading → NamesOneTwice s p → phrase_fault s p (object_in s.heading p) ≡ Some kinds.TwoRoles
 is_told s p is names =
-    let P : Verb → List (List ℕ) → Type 0 = λ v ws.
+    let P : LineWord → List (List ℕ) → Type 0 = λ v ws.
     IsHeading s.heading → is_some (object_for s.heading v p.object ws) ≡ true → is_some s.block ≡ true → is_too_many v ws s.block s.scheduled ≡ false
     → phrase_fault s (record { verb = v; object = p.object; rest = ws }) (object_for s.heading v p.object ws) ≡ Some kinds.TwoRoles in
     subst (λ v. P v p.rest) (sym names.verb) (subst (P verbs.DownBoth) (sym names.twice) (two_told s p.object)) is names.declared names.inside names.room
 
-pub roles_told : TwoRolesAreTold
+pub roles_told : TwoRolesAreReported
 roles_told s p is = (names_one s p is, is_told s p is)

@@ -1,27 +1,29 @@
--- Which commands use the objects of groups by the groups' own procedures alone.
+-- Which commands use the objects of groups only by the groups' own procedures.
 use Rattle.std.specs.Prelude.{◌≡◌, ◌≢◌, ℕ, ◌<◌, ◌≤◌, true, false, List, length, map, Some, Ok}
 use Rattle.std.specs.List.{AllByRecursion, Contains}
 use Rattle.ec_machine.specs.declared.command.Command.{Command}
 use Rattle.ec_machine.specs.declared.command.Command.TheViews.{out-Command}
 use Rattle.ec_machine.specs.declared.command.Command.TheOpen.{Command-F}
 use Rattle.ec_machine.specs.declared.command.Command.TheOpen as layer
-use Rattle.ec_machine.specs.Written.{written}
+use Rattle.ec_machine.specs.Unrolled.{unroll}
 use Rattle.ec_heading.specs.declared.group.Group.{Group}
 use Rattle.ec_heading.specs.declared.group.Group.TheVariants as groups
 use Rattle.ec_script.specs.declared.object.Object.{Object}
 use Rattle.ec_script.specs.declared.object.Object.TheVariants.{Event, Sequencer, Cell}
-use Rattle.ec_script.specs.declared.order.Order.{Order}
-use Rattle.ec_script.specs.declared.order.Order.TheVariants.{Do, Write, Begin, End}
-use Rattle.ec_script.specs.Objects.{owns, is_owned, both_of}
-use Rattle.ec_script.specs.Versioned.{HasOrders}
+use Rattle.ec_script.specs.declared.block_item.BlockItem.{BlockItem}
+use Rattle.ec_script.specs.declared.block_item.BlockItem.TheVariants.{Do, Write, Begin, End}
+use Rattle.ec_script.specs.Objects.{owns, is_owned}
+use Rattle.ec_heading.specs.Groups.{both_of}
+use Rattle.ec_script.specs.Versioned.{HasItems}
 use Rattle.ec_script.specs.Flat.{flat}
-use Rattle.ec_script.specs.Scripted.{Planned}
-use Rattle.ec_script.specs.Outcome.{outcome}
+use Rattle.ec_script.specs.ScriptModel.{PlanModel}
+use Rattle.ec_script.specs.Outcome.{parse_result}
 
 -- ONE COMMAND
 
--- a raw command names no object of a group; a procedure is one of a declared group of its sort; P on two semaphores is by the common
--- one, on two declared ones that differ (a semaphore is told by its sequencer)
+-- a raw command names no object of a group; a procedure is one of a declared group of its kind; P
+-- on two semaphores uses the common one and two declared ones that differ (a semaphore is
+-- identified by its sequencer)
 abbrev pub UsesGroups : List Group → Command-F Command → Type 0
 UsesGroups gs (layer.Advance e) = is_owned gs (Event e) ≡ false
 UsesGroups gs (layer.Read e) = is_owned gs (Event e) ≡ false
@@ -42,14 +44,14 @@ UsesGroups gs (layer.Repeat n block) = Unit {0}
 
 -- BY THEIR LINES
 
-abbrev pub IsConfined : List Group → Order → Type 0
+abbrev pub IsConfined : List Group → BlockItem → Type 0
 IsConfined gs (Do c) = UsesGroups gs (out-Command c)
 IsConfined gs (Write d vs) = Contains gs (groups.Database d)
 IsConfined gs (Begin n) = Unit {0}
 IsConfined gs End = Unit {0}
 
 -- each line of each program
-abbrev pub AreConfined : List Group → List (List Order) → Type 0
+abbrev pub AreConfined : List Group → List (List BlockItem) → Type 0
 AreConfined gs programs = AllByRecursion (AllByRecursion (IsConfined gs)) programs
 
 -- no object belongs to two groups
@@ -57,28 +59,28 @@ abbrev pub AreApart : List Group → Type 0
 AreApart gs = (o : Object) (g k : Group) → Contains gs g → Contains gs k → owns o g ≡ true → owns o k ≡ true → g ≡ k
 
 -- some worker is declared, the groups are apart, there is a program for each declared worker, each confined and of commands that the
--- version of the heading has, and a schedule of declared workers
-pub record IsPlan (p : Planned) : Type 0 where
+-- version of the header has, and a schedule of declared workers
+pub record IsPlan (p : PlanModel) : Type 0 where
   pub some : 1 ≤ p.heading.setup.workers
   pub apart : AreApart p.heading.groups
   pub programs : length p.programs ≡ p.heading.setup.workers
   pub confined : AreConfined p.heading.groups p.programs
-  pub version : HasOrders p.heading.version p.programs
+  pub version : HasItems p.heading.version p.programs
   pub schedule : AllByRecursion (λ w. w < p.heading.setup.workers) p.schedule
 
 -- every script is such a plan
 abbrev pub PlansAreConfined : Type 0
-PlansAreConfined = (bytes : List ℕ) (p : Planned) → outcome bytes ≡ Ok p → IsPlan p
+PlansAreConfined = (bytes : List ℕ) (p : PlanModel) → parse_result bytes ≡ Ok p → IsPlan p
 
--- WRITTEN OUT
+-- UNROLLED
 
--- each command that a program comes to, with its repeats written out
+-- each command of a program with its repeats unrolled
 abbrev pub IsConfinedProgram : List Group → List Command → Type 0
-IsConfinedProgram gs cs = AllByRecursion (λ c. UsesGroups gs (out-Command c)) (written cs)
+IsConfinedProgram gs cs = AllByRecursion (λ c. UsesGroups gs (out-Command c)) (unroll cs)
 
 abbrev pub AreConfinedPrograms : List Group → List (List Command) → Type 0
 AreConfinedPrograms gs programs = AllByRecursion (IsConfinedProgram gs) programs
 
--- programs whose lines are confined come to confined commands alone
+-- programs whose lines are confined have only confined commands
 abbrev pub ConfinedLinesAreConfinedCommands : Type 0
 ConfinedLinesAreConfinedCommands = (gs : List Group) (programs : List (List Command)) → AreConfined gs (map flat programs) → AreConfinedPrograms gs programs

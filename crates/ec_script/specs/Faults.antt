@@ -1,4 +1,4 @@
--- The kinds of faults, by number and by name, and those of headings among them.
+-- The kinds of faults, by number and by name, and those of headers among them.
 use Rattle.std.specs.Prelude.{◌≡◌, ℕ, List, Some, codes}
 use Rattle.ec_script.specs.declared.fault.Kind.{Kind}
 use Rattle.ec_script.specs.declared.fault.Kind.TheVariants as kinds
@@ -36,7 +36,8 @@ kind_name kinds.NoRight = codes "NoRight"
 kind_name kinds.BadNesting = codes "BadNesting"
 kind_name kinds.Unfinished = codes "Unfinished"
 
--- the kind of a fault of a heading's line; no line is at fault for want of memory, of which the last case speaks
+-- the kind of a fault of a header's line; the last case is never used, since out of memory is no
+-- fault of a line
 abbrev pub kind_of_head : HeadFault → Kind
 kind_of_head heads.BadLine = kinds.BadLine
 kind_of_head heads.BadName = kinds.BadName
@@ -47,11 +48,11 @@ kind_of_head heads.TooMany = kinds.TooMany
 kind_of_head heads.TwoRoles = kinds.TwoRoles
 kind_of_head heads.Memory = kinds.BadLine
 
--- a fault of a heading's line has the number of its kind among the faults of scripts
+-- a fault of a header's line has the number of its kind among the faults of scripts
 abbrev pub HeadFaultsKeepTheirNumbers : Type 0
 HeadFaultsKeepTheirNumbers = (fault : HeadFault) (n : ℕ) → fault_number fault ≡ Some n → kind_number (kind_of_head fault) ≡ n
 
--- why a line was not taken that a heading refused
+-- the fault of a line that a header rejected
 abbrev pub stage_fault : HeadFault → StageFault
 stage_fault heads.Memory = faults.Memory
 stage_fault fault = faults.Of (kind_of_head fault)

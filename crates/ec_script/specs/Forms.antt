@@ -3,18 +3,18 @@ use Rattle.std.specs.Prelude.{ℕ, Bool, false, ◌||◌, ◌&&◌, ◌==◌, na
 use Rattle.std.specs.Option.{option_and_then, option_map_or}
 use Rattle.std.specs.List.{list_all}
 use Rattle.std.specs.Borrow.{Bor}
-use Rattle.ec_text.specs.Words.{words_of, number_of, is_number_form}
+use Rattle.ec_text.specs.Words.{words_of, number_in_word, is_number_form}
 use Rattle.ec_machine.specs.declared.command.Value.{Value}
 use Rattle.ec_machine.specs.declared.command.Value.TheVariants.{Number, Last, LastPlus}
-use Rattle.ec_script.specs.Verbs.{verb_of, has_object, tail_of}
-use Rattle.ec_script.specs.declared.verb.Verb.{Verb}
+use Rattle.ec_script.specs.Verbs.{parse_line_word, has_object, tail_of}
+use Rattle.ec_script.specs.declared.verb.LineWord.{LineWord}
 use Rattle.ec_script.specs.declared.verb.Tail.{Tail}
 use Rattle.ec_script.specs.declared.verb.Tail.TheVariants as tails
 use Rattle.ec_script.specs.declared.form.Parts.{Parts}
 
 -- VALUES
 
--- the digits behind `last+`
+-- the digits after `last+`
 abbrev pub more_in : List ℕ → Option (List ℕ)
 more_in w = if bytes_eq (take 5 w) (codes "last+") then Some (drop 5 w) else None
 
@@ -22,27 +22,27 @@ more_in w = if bytes_eq (take 5 w) (codes "last+") then Some (drop 5 w) else Non
 abbrev pub is_value_form : List ℕ → Bool
 is_value_form w = bytes_eq w (codes "last") || is_number_form (unwrap_or (more_in w) w)
 
--- `last+n` is for an n from 1 on
+-- `last+n`, for an n from 1 on
 abbrev pub last_plus : ℕ → Option Value
 last_plus n = if nat_le 1 n then Some (LastPlus n) else None
 
 abbrev pub number_or_more : Option (List ℕ) → List ℕ → Option Value
-number_or_more None w = option_map Number (number_of w)
-number_or_more (Some digits) w = option_and_then last_plus (number_of digits)
+number_or_more None w = option_map Number (number_in_word w)
+number_or_more (Some digits) w = option_and_then last_plus (number_in_word digits)
 
--- the value that a word spells, if its number is in range
+-- the value of a word, if it is one and its number is in range
 unfoldable pub value_of : List ℕ → Option Value
 value_of w = if bytes_eq w (codes "last") then Some Last else number_or_more (more_in w) w
 
 -- FORMS
 
--- the only word, if there is just one
+-- the only word, if there is exactly one
 abbrev pub only_in : List (List ℕ) → Option (List ℕ)
 only_in [] = None
 only_in (w ∷ []) = Some w
 only_in (w ∷ v ∷ ws) = None
 
--- whether these words are such a tail
+-- whether these words have the form of a tail
 abbrev pub is_tail : Tail → List (List ℕ) → Bool
 is_tail tails.Nothing ws = length ws == 0
 is_tail tails.Value ws = option_map_or is_value_form (only_in ws) false
@@ -53,32 +53,32 @@ is_tail tails.Words ws = nat_le 1 (length ws)
 
 -- a line of one of the forms: its object is [] if the form has none
 pub record Phrase : Type 0 where
-  pub verb : Verb
+  pub verb : LineWord
   pub object : List ℕ
   pub rest : List (List ℕ)
 
-abbrev pub tailed_in : Verb → List ℕ → List (List ℕ) → Option Phrase
+abbrev pub tailed_in : LineWord → List ℕ → List (List ℕ) → Option Phrase
 tailed_in v object ws = if is_tail (tail_of v) ws then Some (record { verb = v; object = object; rest = ws }) else None
 
-abbrev pub objected_in : Verb → List (List ℕ) → Option Phrase
+abbrev pub objected_in : LineWord → List (List ℕ) → Option Phrase
 objected_in v [] = None
 objected_in v (w ∷ ws) = tailed_in v w ws
 
-abbrev pub verbed_in : Option Verb → List (List ℕ) → Option Phrase
+abbrev pub verbed_in : Option LineWord → List (List ℕ) → Option Phrase
 verbed_in None ws = None
 verbed_in (Some v) ws = if has_object v then objected_in v ws else tailed_in v [] ws
 
 -- the parts of a line, if it has one of the forms
 unfoldable pub phrase_in : List (List ℕ) → Option Phrase
 phrase_in [] = None
-phrase_in (w ∷ ws) = verbed_in (verb_of w) ws
+phrase_in (w ∷ ws) = verbed_in (parse_line_word w) ws
 
--- AS THE CODE HOLDS THEM
+-- AS THE CODE REPRESENTS THEM
 
--- the words of what is left of a line, none if nothing is
+-- the words of the rest of a line, none if there is no rest
 abbrev pub rest_words : Option (Bor (List ℕ)) → List (List ℕ)
 rest_words None = []
 rest_words (Some r) = words_of r.now
 
-abbrev pub shown : Parts → Phrase
-shown p = record { verb = p.verb; object = p.object.now; rest = rest_words p.rest }
+abbrev pub phrase_of_parts : Parts → Phrase
+phrase_of_parts p = record { verb = p.verb; object = p.object.now; rest = rest_words p.rest }

@@ -1,4 +1,4 @@
--- Which orders a script may give to a worker, by what they say.
+-- Which items a script may give to a worker, by what they say.
 use Rattle.std.specs.Prelude.{◌≡◌, ◌↔◌, ℕ, ◌≤◌, ◌==◌, ◌&&◌, Bool, true, false, nat_le, List, length}
 use Rattle.std.specs.List.{list_all, Contains}
 use Rattle.ec_count.specs.Tables.{Tables, may_observe, may_take, may_write, may_read}
@@ -9,17 +9,17 @@ use Rattle.ec_machine.specs.declared.command.Command.TheOpen as layer
 use Rattle.ec_machine.specs.Limits.{is_value, are_apart}
 use Rattle.ec_heading.specs.declared.group.Group.TheVariants as groups
 use Rattle.ec_heading.specs.declared.version.Version.{Version}
-use Rattle.ec_heading.specs.Headed.{Headed}
-use Rattle.ec_heading.specs.Outline.{Outline, IsOutline, headed}
-use Rattle.ec_script.specs.declared.order.Order.{Order}
-use Rattle.ec_script.specs.declared.order.Order.TheVariants.{Do, Write, Begin, End}
+use Rattle.ec_heading.specs.HeadingModel.{HeadingModel}
+use Rattle.ec_heading.specs.HeaderTree.{HeaderTree, IsHeaderTree, heading_of_tree}
+use Rattle.ec_script.specs.declared.block_item.BlockItem.{BlockItem}
+use Rattle.ec_script.specs.declared.block_item.BlockItem.TheVariants.{Do, Write, Begin, End}
 use Rattle.ec_script.specs.Kinds.{may_signal, are_declared}
 use Rattle.ec_script.specs.Versioned.{has_command}
 use Rattle.ec_script.specs.Confined.{UsesGroups}
-use Rattle.ec_script.specs.Layout.{Says}
-use Rattle.ec_script.specs.Spelling.{order_line}
+use Rattle.ec_script.specs.Layout.{IsLineOfItem}
+use Rattle.ec_script.specs.Spelling.{item_line}
 
--- whether a script of the version may have the worker do such a thing, as the rights of its declarations go
+-- whether a script of the version may have the worker do this, by the rights of its declarations
 abbrev pub may_do : Version → Tables → ℕ → Command-F Command → Bool
 may_do v t w (layer.Advance e) = may_signal v t e w
 may_do v t w (layer.Read e) = may_observe t e w
@@ -37,7 +37,8 @@ may_do v t w (layer.Up s) = may_take t s.line w
 may_do v t w (layer.DownBoth common one other) = may_take t common.line w && may_take t one.line w && may_take t other.line w
 may_do v t w (layer.Repeat n block) = true
 
--- whether it is a command of one line without a list, its number is in range, and the semaphores of P on two of them differ
+-- whether it is a command of one line without a list, its number is in range, and the semaphores of
+-- a P on two of them differ
 abbrev pub is_line_of : Command-F Command → Bool
 is_line_of (layer.Await e v) = is_value v
 is_line_of (layer.Put x v) = is_value v
@@ -48,21 +49,21 @@ is_line_of (layer.WriteAll d vs) = false
 is_line_of (layer.Repeat n block) = false
 is_line_of _ = true
 
--- the order uses the objects of groups by the groups' procedures alone, the worker has the right, the numbers are in range, and the
--- version has the command
-abbrev pub IsGiven : Headed → ℕ → Order → Type 0
+-- the item is allowed to the worker: it uses the objects of groups only by the groups' procedures,
+-- the worker has the right, the numbers are in range, and the version has the command
+abbrev pub IsGiven : HeadingModel → ℕ → BlockItem → Type 0
 IsGiven h w (Do c) =
     UsesGroups h.groups (out-Command c) × (may_do h.version h.setup w (out-Command c) ≡ true) × (is_line_of (out-Command c) ≡ true) × (has_command h.version (out-Command c) ≡ true)
 IsGiven h w (Write d vs) = Contains h.groups (groups.Database d) × (may_take h.setup d.turn w ≡ true) × (1 ≤ length vs) × ((length vs == d.cells) ≡ true) × (list_all is_value vs ≡ true)
 IsGiven h w (Begin n) = (1 ≤ n) × (n ≤ 1000000)
 IsGiven h w End = Unit {0}
 
--- and its line has at most 8192 bytes
-abbrev pub MayGive : Headed → ℕ → Order → Type 0
-MayGive h w o = IsGiven h w o × (length (order_line h o) ≤ 8192)
+-- it is allowed, and its line has at most 8192 bytes
+abbrev pub MayGive : HeadingModel → ℕ → BlockItem → Type 0
+MayGive h w o = IsGiven h w o × (length (item_line h o) ≤ 8192)
 
--- LAWS
+-- THEOREMS
 
--- a line says an order exactly if it spells the order, and the order may be given
-abbrev pub LinesSayOrders : Type 0
-LinesSayOrders = (o : Outline) (w : ℕ) (line : List ℕ) (order : Order) → IsOutline o → Says (headed o) w line order ↔ ((line ≡ order_line (headed o) order) × MayGive (headed o) w order)
+-- a line says an item exactly if it is the canonical encoding of the item, and the item is allowed
+abbrev pub LinesMeanItems : Type 0
+LinesMeanItems = (o : HeaderTree) (w : ℕ) (line : List ℕ) (item : BlockItem) → IsHeaderTree o → IsLineOfItem (heading_of_tree o) w line item ↔ ((line ≡ item_line (heading_of_tree o) item) × MayGive (heading_of_tree o) w item)

@@ -8,9 +8,9 @@ script_header One = codes "evc-script 1"
 script_header Two = codes "evc-script 2"
 
 -- a version, and a limit of its texts
-pub record Bounded : Type 0 where
+pub record VersionLimitModel : Type 0 where
   pub version : Version
   pub limit : ℕ
 
-abbrev pub bounded : Version → ℕ → Bounded
-bounded v n = record { version = v; limit = n }
+abbrev pub version_limit : Version → ℕ → VersionLimitModel
+version_limit v n = record { version = v; limit = n }

@@ -4,12 +4,12 @@ pub mod Phrased
 pub mod Faults
 pub mod Flat
 pub mod Objects
-pub mod Orders
-pub mod Drafted
+pub mod BlockItems
+pub mod DraftModel
 pub mod Inner
 pub mod Kinds
 pub mod Pairs
-pub mod Scripted
+pub mod ScriptModel
 pub mod Rooms
 pub mod Headers
 pub mod Reading
@@ -20,7 +20,7 @@ pub mod Confined
 pub mod Layout
 pub mod Spelling
 pub mod Given
-pub mod Spelled
+pub mod ScriptTree
 pub mod Placed
 pub mod Holding
 pub mod Endings

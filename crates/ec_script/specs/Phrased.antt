@@ -1,12 +1,12 @@
--- How a line of a block or of the schedule is written: the words of a line of its form.
+-- The words of a line of a block or of the schedule, by its form.
 use Rattle.std.specs.Prelude.{◌≡◌, ℕ, Bool, true, false, List, [], ◌∷◌, codes}
-use Rattle.ec_script.specs.declared.verb.Verb.{Verb}
-use Rattle.ec_script.specs.declared.verb.Verb.TheVariants as verbs
+use Rattle.ec_script.specs.declared.verb.LineWord.{LineWord}
+use Rattle.ec_script.specs.declared.verb.LineWord.TheVariants as verbs
 use Rattle.ec_script.specs.Forms.{Phrase, is_tail}
 use Rattle.ec_script.specs.Verbs.{has_object, tail_of}
 
 -- the word that opens it
-abbrev pub verb_word : Verb → List ℕ
+abbrev pub verb_word : LineWord → List ℕ
 verb_word verbs.Advance = codes "advance"
 verb_word verbs.Read = codes "read"
 verb_word verbs.Await = codes "await"
@@ -26,7 +26,7 @@ verb_word verbs.End = codes "end"
 verb_word verbs.Worker = codes "worker"
 verb_word verbs.Schedule = codes "schedule"
 
--- the words behind the first one
+-- the words after the first one
 abbrev pub behind_verb : Bool → List ℕ → List (List ℕ) → List (List ℕ)
 behind_verb true object ws = object ∷ ws
 behind_verb false object ws = ws

@@ -1,20 +1,20 @@
--- Where there is room for one more line of a block.
+-- When there is room for one more line of a block.
 use Rattle.std.specs.Prelude.{◌≡◌, ◌<◌, false, Option, Some, None}
-use Rattle.ec_script.specs.declared.script.Block.{Block}
-use Rattle.ec_script.specs.declared.order.Order.{Order}
-use Rattle.ec_script.specs.Drafted.{MayFollow}
+use Rattle.ec_script.specs.declared.script.OpenBlock.{OpenBlock}
+use Rattle.ec_script.specs.declared.block_item.BlockItem.{BlockItem}
+use Rattle.ec_script.specs.DraftModel.{MayFollow}
 
--- the line may go on with the block, if one is open
-abbrev pub MayOrder : Option Block → Order → Type 0
-MayOrder None o = Unit {0}
-MayOrder (Some b) o = MayFollow b.draft o
+-- the line may come next in the block, if one is open
+abbrev pub MayTakeItem : Option OpenBlock → BlockItem → Type 0
+MayTakeItem None o = Unit {0}
+MayTakeItem (Some b) o = MayFollow b.draft o
 
 -- the innermost repeat of the block, if one is open, has a command
-abbrev pub MayEnd : Option Block → Type 0
+abbrev pub MayEnd : Option OpenBlock → Type 0
 MayEnd None = Unit {0}
 MayEnd (Some b) = 0 < b.draft.depth → b.draft.is_empty ≡ false
 
 -- the block has room for a command
-abbrev pub HasRoom : Option Block → Type 0
+abbrev pub HasRoom : Option OpenBlock → Type 0
 HasRoom None = Unit {0}
 HasRoom (Some b) = b.draft.commands < 4096

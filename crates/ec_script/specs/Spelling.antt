@@ -1,4 +1,4 @@
--- The one spelling of a line of a block, and so of a script.
+-- The canonical encoding of a line of a block, and so of a script.
 use Rattle.std.specs.Prelude.{◌≡◌, ℕ, Bool, false, List, [], ◌∷◌, ◌++◌, map, slice_get, codes, decimal, if◌then◌else◌}
 use Rattle.std.specs.Option.{option_map_or}
 use Rattle.std.specs.List.{flat_map, join_with_byte}
@@ -11,17 +11,16 @@ use Rattle.ec_machine.specs.declared.command.Command.TheViews.{out-Command}
 use Rattle.ec_machine.specs.declared.command.Command.TheOpen.{Command-F}
 use Rattle.ec_machine.specs.declared.command.Command.TheOpen as layer
 use Rattle.ec_heading.specs.declared.group.Group.{Group}
-use Rattle.ec_heading.specs.Headed.{Headed}
-use Rattle.ec_heading.specs.Outline.{Outline, IsOutline, headed}
-use Rattle.ec_heading.specs.Spelling.{Named, word_of, cell_word, heading_lines}
+use Rattle.ec_heading.specs.HeadingModel.{HeadingModel}
+use Rattle.ec_heading.specs.HeaderTree.{HeaderTree, IsHeaderTree, heading_of_tree}
+use Rattle.ec_heading.specs.Spelling.{NameTable, target_name, cell_word, heading_lines, lines_text}
 use Rattle.ec_script.specs.Headers.{script_header}
 use Rattle.ec_script.specs.declared.object.Object.{Object}
 use Rattle.ec_script.specs.declared.object.Object.TheVariants.{Event, Sequencer}
-use Rattle.ec_script.specs.declared.order.Order.{Order}
-use Rattle.ec_script.specs.declared.order.Order.TheVariants.{Do, Write, Begin, End}
+use Rattle.ec_script.specs.declared.block_item.BlockItem.{BlockItem}
+use Rattle.ec_script.specs.declared.block_item.BlockItem.TheVariants.{Do, Write, Begin, End}
 use Rattle.ec_script.specs.Objects.{owns}
-use Rattle.ec_script.specs.Grammar.{text_of}
-use Rattle.ec_script.specs.Layout.{Says, Block, orders_of, worker_line, schedule_line, Layout, IsLayout, layout_lines}
+use Rattle.ec_script.specs.Layout.{IsLineOfItem, Block, items_of, worker_line, schedule_line, Layout, IsLayout, layout_lines}
 
 -- VALUES
 
@@ -32,31 +31,31 @@ value_word (LastPlus n) = codes "last+" ++ decimal n
 
 -- GROUPS
 
--- whether the name stands for a group to which the object belongs
+-- whether the target of a name is a group to which the object belongs
 abbrev pub is_owner : List Group → Object → Target → Bool
 is_owner gs o (targets.Group i) = option_map_or (owns o) (slice_get gs i) false
 is_owner gs o _ = false
 
-abbrev pub owner_word : List Group → Named → Object → List ℕ
+abbrev pub owner_word : List Group → NameTable → Object → List ℕ
 owner_word gs [] o = []
 owner_word gs (e ∷ es) o = if is_owner gs o e.1 then e.0 else owner_word gs es o
 
 -- the name of the group to which the object belongs
-abbrev pub group_word : Headed → Object → List ℕ
+abbrev pub group_word : HeadingModel → Object → List ℕ
 group_word h o = owner_word h.groups h.names o
 
 -- A LINE
 
--- the words of a command of one line; a group goes by the name that its first eventcount, or a semaphore by the one that its
--- sequencer, belongs to
-abbrev pub command_words : Headed → Command-F Command → List (List ℕ)
-command_words h (layer.Advance e) = codes "advance" ∷ word_of h.words (targets.Event e) ∷ []
-command_words h (layer.Read e) = codes "read" ∷ word_of h.words (targets.Event e) ∷ []
-command_words h (layer.Await e v) = codes "await" ∷ word_of h.words (targets.Event e) ∷ value_word v ∷ []
-command_words h (layer.Ticket q) = codes "ticket" ∷ word_of h.words (targets.Sequencer q) ∷ []
+-- the words of a command of one line; the name of a group is found by its first eventcount, that of
+-- a semaphore by its sequencer
+abbrev pub command_words : HeadingModel → Command-F Command → List (List ℕ)
+command_words h (layer.Advance e) = codes "advance" ∷ target_name h.words (targets.Event e) ∷ []
+command_words h (layer.Read e) = codes "read" ∷ target_name h.words (targets.Event e) ∷ []
+command_words h (layer.Await e v) = codes "await" ∷ target_name h.words (targets.Event e) ∷ value_word v ∷ []
+command_words h (layer.Ticket q) = codes "ticket" ∷ target_name h.words (targets.Sequencer q) ∷ []
 command_words h (layer.Put x v) = codes "put" ∷ cell_word h.words x ∷ value_word v ∷ []
 command_words h (layer.Get x) = codes "get" ∷ cell_word h.words x ∷ []
-command_words h (layer.Hand e b) = codes "hand" ∷ word_of h.words (targets.Event e) ∷ word_of h.words (targets.Worker b) ∷ []
+command_words h (layer.Hand e b) = codes "hand" ∷ target_name h.words (targets.Event e) ∷ target_name h.words (targets.Worker b) ∷ []
 command_words h (layer.Produce b v) = codes "produce" ∷ group_word h (Event b.in_count) ∷ value_word v ∷ []
 command_words h (layer.Consume b) = codes "consume" ∷ group_word h (Event b.in_count) ∷ []
 command_words h (layer.Snapshot d n) = codes "snapshot" ∷ group_word h (Event d.start) ∷ decimal n ∷ []
@@ -66,38 +65,41 @@ command_words h (layer.DownBoth common one other) = codes "pboth" ∷ group_word
 command_words h (layer.WriteAll d vs) = []
 command_words h (layer.Repeat n block) = []
 
-abbrev pub order_words : Headed → Order → List (List ℕ)
-order_words h (Do c) = command_words h (out-Command c)
-order_words h (Write d vs) = codes "write" ∷ group_word h (Event d.start) ∷ map value_word vs
-order_words h (Begin n) = codes "repeat" ∷ decimal n ∷ []
-order_words h End = codes "end" ∷ []
+abbrev pub item_words : HeadingModel → BlockItem → List (List ℕ)
+item_words h (Do c) = command_words h (out-Command c)
+item_words h (Write d vs) = codes "write" ∷ group_word h (Event d.start) ∷ map value_word vs
+item_words h (Begin n) = codes "repeat" ∷ decimal n ∷ []
+item_words h End = codes "end" ∷ []
 
-unfoldable pub order_line : Headed → Order → List ℕ
-order_line h o = join_with_byte 32 (order_words h o)
+unfoldable pub item_line : HeadingModel → BlockItem → List ℕ
+item_line h o = join_with_byte 32 (item_words h o)
 
 -- A SCRIPT
 
--- the block of a worker with these orders
-abbrev pub spelled_block : Outline → ℕ × List Order → List (List ℕ)
-spelled_block o b = worker_line o.workers b.0 ∷ map (order_line (headed o)) b.1 ++ codes "end" ∷ []
+-- the lines of the block of a worker with these items
+abbrev pub spelled_block : HeaderTree → ℕ × List BlockItem → List (List ℕ)
+spelled_block o b = worker_line o.workers b.0 ∷ map (item_line (heading_of_tree o)) b.1
+    ++ codes "end" ∷ []
 
--- the lines of a heading, of blocks, each by its worker and its orders, and of a schedule, each by its workers
-abbrev pub script_lines : Outline → List (ℕ × List Order) → List (List ℕ) → List (List ℕ)
+-- the lines of a header, of blocks, each given by its worker and its items, and of a schedule, each
+-- given by its workers
+abbrev pub script_lines : HeaderTree → List (ℕ × List BlockItem) → List (List ℕ) → List (List ℕ)
 script_lines o blocks rows = script_header o.version ∷ heading_lines o ++ (flat_map (spelled_block o) blocks ++ map (schedule_line o.workers) rows)
 
 -- and their text
-abbrev pub script_text : Outline → List (ℕ × List Order) → List (List ℕ) → List ℕ
-script_text o blocks rows = text_of (script_lines o blocks rows)
+abbrev pub script_text : HeaderTree → List (ℕ × List BlockItem) → List (List ℕ) → List ℕ
+script_text o blocks rows = lines_text (script_lines o blocks rows)
 
-abbrev pub ordered_blocks : List Block → List (ℕ × List Order)
-ordered_blocks blocks = map (λ (b : Block). (b.worker, orders_of b.lines)) blocks
+abbrev pub blocks_of_items : List Block → List (ℕ × List BlockItem)
+blocks_of_items blocks = map (λ (b : Block). (b.worker, items_of b.lines)) blocks
 
--- LAWS
+-- THEOREMS
 
--- a line that says an order is the one that spells it
+-- a line that says an item is its canonical encoding
 abbrev pub LinesAreSpelled : Type 0
-LinesAreSpelled = (o : Outline) (w : ℕ) (line : List ℕ) (order : Order) → IsOutline o → Says (headed o) w line order → line ≡ order_line (headed o) order
+LinesAreSpelled = (o : HeaderTree) (w : ℕ) (line : List ℕ) (item : BlockItem) → IsHeaderTree o → IsLineOfItem (heading_of_tree o) w line item → line ≡ item_line (heading_of_tree o) item
 
--- and so the text of a layout is the one that spells its heading, its blocks by their workers and orders, and its schedule
+-- so the text of a layout is the canonical encoding of its header, its blocks as workers and items,
+-- and its schedule
 abbrev pub LayoutsAreSpelled : Type 0
-LayoutsAreSpelled = (l : Layout) → IsLayout l → text_of (layout_lines l) ≡ script_text l.outline (ordered_blocks l.blocks) l.rows
+LayoutsAreSpelled = (l : Layout) → IsLayout l → lines_text (layout_lines l) ≡ script_text l.outline (blocks_of_items l.blocks) l.rows

@@ -1,16 +1,16 @@
 -- The lines of blocks and of the schedule, as a table over the word that opens them.
 use Rattle.std.specs.Prelude.{ℕ, Bool, true, false, List, Option, Some, None, if◌then◌else◌, bytes_eq, codes}
 use Rattle.ec_heading.specs.declared.version.Version.{Version}
-use Rattle.ec_heading.specs.Versions.{has_hand}
-use Rattle.ec_script.specs.declared.verb.Verb.{Verb}
-use Rattle.ec_script.specs.declared.verb.Verb.TheVariants as verbs
+use Rattle.ec_heading.specs.Versions.{has_transfer}
+use Rattle.ec_script.specs.declared.verb.LineWord.{LineWord}
+use Rattle.ec_script.specs.declared.verb.LineWord.TheVariants as verbs
 use Rattle.ec_script.specs.declared.verb.Tail.{Tail}
 use Rattle.ec_script.specs.declared.verb.Tail.TheVariants as tails
 
 -- THE WORDS
 
 -- the words of raw calls
-abbrev pub raw_verb_of : List ℕ → Option Verb
+abbrev pub raw_verb_of : List ℕ → Option LineWord
 raw_verb_of w =
     if bytes_eq w (codes "advance") then Some verbs.Advance
     else (if bytes_eq w (codes "read") then Some verbs.Read
@@ -21,7 +21,7 @@ raw_verb_of w =
     else (if bytes_eq w (codes "hand") then Some verbs.Hand else None))))))
 
 -- the words of procedures
-abbrev pub procedure_verb_of : List ℕ → Option Verb
+abbrev pub procedure_verb_of : List ℕ → Option LineWord
 procedure_verb_of w =
     if bytes_eq w (codes "produce") then Some verbs.Produce
     else (if bytes_eq w (codes "consume") then Some verbs.Consume
@@ -31,40 +31,40 @@ procedure_verb_of w =
     else (if bytes_eq w (codes "v") then Some verbs.Up
     else (if bytes_eq w (codes "pboth") then Some verbs.DownBoth else None))))))
 
--- the words that order the lines
-abbrev pub order_verb_of : List ℕ → Option Verb
-order_verb_of w =
+-- the words that structure programs and scripts
+abbrev pub item_verb_of : List ℕ → Option LineWord
+item_verb_of w =
     if bytes_eq w (codes "repeat") then Some verbs.Repeat
     else (if bytes_eq w (codes "end") then Some verbs.End
     else (if bytes_eq w (codes "worker") then Some verbs.Worker
     else (if bytes_eq w (codes "schedule") then Some verbs.Schedule else None)))
 
-abbrev pub or_else : Option Verb → Option Verb → Option Verb
+abbrev pub or_else : Option LineWord → Option LineWord → Option LineWord
 or_else None other = other
 or_else (Some v) other = Some v
 
--- what a line that opens with this word does
-abbrev pub verb_of : List ℕ → Option Verb
-verb_of w = or_else (raw_verb_of w) (or_else (procedure_verb_of w) (order_verb_of w))
+-- the line word that a word is
+abbrev pub parse_line_word : List ℕ → Option LineWord
+parse_line_word w = or_else (raw_verb_of w) (or_else (procedure_verb_of w) (item_verb_of w))
 
 -- IN A VERSION
 
 -- whether its scripts have such lines
-abbrev pub has_verb : Version → Verb → Bool
-has_verb v verbs.Hand = has_hand v
+abbrev pub has_verb : Version → LineWord → Bool
+has_verb v verbs.Hand = has_transfer v
 has_verb v _ = true
 
 -- THE FORMS
 
--- whether the word of an object or of a worker stands behind it
-abbrev pub has_object : Verb → Bool
+-- whether the word of an object or of a worker follows it
+abbrev pub has_object : LineWord → Bool
 has_object verbs.Repeat = false
 has_object verbs.End = false
 has_object verbs.Schedule = false
 has_object _ = true
 
--- what stands behind that
-abbrev pub tail_of : Verb → Tail
+-- the form of what follows these
+abbrev pub tail_of : LineWord → Tail
 tail_of verbs.Await = tails.Value
 tail_of verbs.Put = tails.Value
 tail_of verbs.Produce = tails.Value
@@ -78,22 +78,22 @@ tail_of _ = tails.Nothing
 
 -- WHAT THEY DO
 
--- whether it signals, writes or produces; else it observes, reads, consumes or hands over
-abbrev pub is_giving : Verb → Bool
-is_giving verbs.Advance = true
-is_giving verbs.Put = true
-is_giving verbs.Produce = true
-is_giving verbs.Write = true
-is_giving _ = false
+-- whether it signals, writes or produces
+abbrev pub is_update : LineWord → Bool
+is_update verbs.Advance = true
+is_update verbs.Put = true
+is_update verbs.Produce = true
+is_update verbs.Write = true
+is_update _ = false
 
--- whether it opens a block or goes on with the schedule; else it stands in a block
-abbrev pub is_outer : Verb → Bool
+-- whether it opens a block or goes on with the schedule; otherwise it is inside a block
+abbrev pub is_outer : LineWord → Bool
 is_outer verbs.Worker = true
 is_outer verbs.Schedule = true
 is_outer _ = false
 
 -- whether it counts as a command of the block
-abbrev pub is_counted : Verb → Bool
+abbrev pub is_counted : LineWord → Bool
 is_counted verbs.End = false
 is_counted verbs.Worker = false
 is_counted verbs.Schedule = false

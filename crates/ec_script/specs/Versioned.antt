@@ -5,37 +5,37 @@ use Rattle.ec_machine.specs.declared.command.Command.{Command}
 use Rattle.ec_machine.specs.declared.command.Command.TheViews.{out-Command}
 use Rattle.ec_machine.specs.declared.command.Command.TheOpen.{Command-F}
 use Rattle.ec_machine.specs.declared.command.Command.TheOpen as layer
-use Rattle.ec_machine.specs.Written.{written}
+use Rattle.ec_machine.specs.Unrolled.{unroll}
 use Rattle.ec_heading.specs.declared.version.Version.{Version}
-use Rattle.ec_heading.specs.Versions.{has_hand}
-use Rattle.ec_script.specs.declared.order.Order.{Order}
-use Rattle.ec_script.specs.declared.order.Order.TheVariants.{Do, Write, Begin, End}
+use Rattle.ec_heading.specs.Versions.{has_transfer}
+use Rattle.ec_script.specs.declared.block_item.BlockItem.{BlockItem}
+use Rattle.ec_script.specs.declared.block_item.BlockItem.TheVariants.{Do, Write, Begin, End}
 
 -- whether scripts of the version have the command
 abbrev pub has_command : Version → Command-F Command → Bool
-has_command v (layer.Hand e b) = has_hand v
+has_command v (layer.Hand e b) = has_transfer v
 has_command v _ = true
 
 -- BY THEIR LINES
 
-abbrev pub has_order : Version → Order → Bool
-has_order v (Do c) = has_command v (out-Command c)
-has_order v (Write d vs) = true
-has_order v (Begin n) = true
-has_order v End = true
+abbrev pub has_item : Version → BlockItem → Bool
+has_item v (Do c) = has_command v (out-Command c)
+has_item v (Write d vs) = true
+has_item v (Begin n) = true
+has_item v End = true
 
-abbrev pub HasOrder : Version → Order → Type 0
-HasOrder v o = has_order v o ≡ true
+abbrev pub HasItem : Version → BlockItem → Type 0
+HasItem v o = has_item v o ≡ true
 
 -- each line of each program
-abbrev pub HasOrders : Version → List (List Order) → Type 0
-HasOrders v programs = AllByRecursion (AllByRecursion (HasOrder v)) programs
+abbrev pub HasItems : Version → List (List BlockItem) → Type 0
+HasItems v programs = AllByRecursion (AllByRecursion (HasItem v)) programs
 
--- WRITTEN OUT
+-- UNROLLED
 
--- each command that a program comes to, with its repeats written out
+-- each command of a program with its repeats unrolled
 abbrev pub HasProgram : Version → List Command → Type 0
-HasProgram v cs = AllByRecursion (λ c. has_command v (out-Command c) ≡ true) (written cs)
+HasProgram v cs = AllByRecursion (λ c. has_command v (out-Command c) ≡ true) (unroll cs)
 
 abbrev pub HasPrograms : Version → List (List Command) → Type 0
 HasPrograms v programs = AllByRecursion (HasProgram v) programs

@@ -1,19 +1,19 @@
-//! The command that a line of a block says.
+//! The command of a line of a block.
 ghost use Rattle.std.specs.Prelude.{◌≡◌, ◌==◌, false, true, IfOk, IfSome, map, length};
 ghost use Rattle.std.specs.List.{list_all};
 ghost use Rattle.std.specs.Option.{option_and_then};
-ghost use Rattle.ec_text.specs.Words.{number_of};
+ghost use Rattle.ec_text.specs.Words.{number_in_word};
 ghost use Rattle.ec_machine.specs.Limits.{is_value};
-ghost use Rattle.ec_script.specs.Verbs.{tail_of, is_giving};
+ghost use Rattle.ec_script.specs.Verbs.{tail_of, is_update};
 ghost use Rattle.ec_script.specs.Forms.{only_in, rest_words};
 ghost use Rattle.ec_script.specs.Kinds.{is_bad_tail, is_count, has_two_roles};
-ghost use Rattle.ec_script.specs.Orders.{amount_of, amount_in, size_in, event_order, cell_order, buffer_order, database_order, semaphore_order, command_in, IsSound};
+ghost use Rattle.ec_script.specs.BlockItems.{amount_of, amount_in, size_in, event_item, cell_item, buffer_item, database_item, semaphore_item, command_in, IsSound};
 
+use crate::block_item::{BlockItem, Values};
 use crate::form::{Parts, only_word};
 use crate::lists::{amount_of, push_values};
 use crate::object::Object;
-use crate::order::{Order, Values};
-use crate::verb::Verb;
+use crate::verb::LineWord;
 use ec_buffer::BufferShape;
 use ec_count::{CellId, EventId};
 use ec_database::DatabaseShape;
@@ -22,7 +22,7 @@ use ec_semaphore::SemaphoreShape;
 use ec_text::number;
 use std::alloc::{AllocError, Global};
 
-/// Returns the value that the only word spells.
+/// Returns the value of the only word; `last` if there is none.
 fn amount_in(rest: Option<&[u8]>) -> Value
     ensures value { result ≡ amount_in (rest_words rest.entry) }
     ensures sound { is_value result ≡ true }
@@ -33,7 +33,7 @@ fn amount_in(rest: Option<&[u8]>) -> Value
     }
 }
 
-/// Returns the number that the only word spells, 0 if it spells none.
+/// Returns the number of the only word; 0 if there is none.
 pub(crate) fn size_in(rest: Option<&[u8]>) -> u64
     ensures { result ≡ size_in (rest_words rest.entry) }
 {
@@ -46,7 +46,7 @@ pub(crate) fn size_in(rest: Option<&[u8]>) -> u64
     }
 }
 
-/// Returns the values that words spell.
+/// Returns the values of the words.
 fn amounts_in(alloc: Global, rest: Option<&[u8]>) -> Result<Values, AllocError>
     ensures value { IfOk result (λ values. values ≡ map amount_of (rest_words rest.entry)) }
     ensures sound { IfOk result (λ values. list_all is_value values ≡ true) }
@@ -58,120 +58,121 @@ fn amounts_in(alloc: Global, rest: Option<&[u8]>) -> Result<Values, AllocError>
     Ok(Values { items })
 }
 
-fn event_order(verb: Verb, event: EventId, value: Value) -> Order
+fn event_item(verb: LineWord, event: EventId, value: Value) -> BlockItem
     requires { is_value value ≡ true }
-    ensures value { result ≡ event_order verb event value }
+    ensures value { result ≡ event_item verb event value }
     ensures sound { IsSound result }
 {
     match verb {
-        Verb::Advance => Order::Do(Command::Advance(event)),
-        Verb::Read => Order::Do(Command::Read(event)),
-        _ => Order::Do(Command::Await(event, value)),
+        LineWord::Advance => BlockItem::Do(Command::Advance(event)),
+        LineWord::Read => BlockItem::Do(Command::Read(event)),
+        _ => BlockItem::Do(Command::Await(event, value)),
     }
 }
 
-fn cell_order(giving: bool, cell: CellId, value: Value) -> Order
+fn cell_item(update: bool, cell: CellId, value: Value) -> BlockItem
     requires { is_value value ≡ true }
-    ensures value { result ≡ cell_order giving cell value }
+    ensures value { result ≡ cell_item update cell value }
     ensures sound { IsSound result }
 {
-    if giving {
-        Order::Do(Command::Put(cell, value))
+    if update {
+        BlockItem::Do(Command::Put(cell, value))
     } else {
-        Order::Do(Command::Get(cell))
+        BlockItem::Do(Command::Get(cell))
     }
 }
 
-fn buffer_order(giving: bool, shape: BufferShape, value: Value) -> Order
+fn buffer_item(update: bool, shape: BufferShape, value: Value) -> BlockItem
     requires { is_value value ≡ true }
-    ensures value { result ≡ buffer_order giving shape value }
+    ensures value { result ≡ buffer_item update shape value }
     ensures sound { IsSound result }
 {
-    if giving {
-        Order::Do(Command::Produce(shape, value))
+    if update {
+        BlockItem::Do(Command::Produce(shape, value))
     } else {
-        Order::Do(Command::Consume(shape))
+        BlockItem::Do(Command::Consume(shape))
     }
 }
 
-fn semaphore_order(verb: Verb, shape: SemaphoreShape) -> Order
-    ensures value { result ≡ semaphore_order verb shape }
+fn semaphore_item(verb: LineWord, shape: SemaphoreShape) -> BlockItem
+    ensures value { result ≡ semaphore_item verb shape }
     ensures sound { IsSound result }
 {
     match verb {
-        Verb::Down => Order::Do(Command::Down(shape)),
-        _ => Order::Do(Command::Up(shape)),
+        LineWord::Down => BlockItem::Do(Command::Down(shape)),
+        _ => BlockItem::Do(Command::Up(shape)),
     }
 }
 
-/// Returns the order to write these values into a database.
+/// Returns the item that writes these values into a database.
 #[tactic(auto, using(crate::proofs::Sizes::as_many))]
-fn write_order(
+fn write_item(
     alloc: Global,
     shape: DatabaseShape,
     rest: Option<&[u8]>,
-) -> Result<Order, AllocError>
+) -> Result<BlockItem, AllocError>
     requires { (length (rest_words rest) == shape.cells) ≡ true }
-    ensures value { IfOk result (λ o. o ≡ Order.Write shape (map amount_of (rest_words rest.entry))) }
+    ensures value { IfOk result (λ o. o ≡ BlockItem.Write shape (map amount_of (rest_words rest.entry))) }
     ensures sound { IfOk result IsSound }
 {
-    Ok(Order::Write(shape, amounts_in(alloc, rest)?))
+    Ok(BlockItem::Write(shape, amounts_in(alloc, rest)?))
 }
 
-/// Returns the order to read a database in at most so many tries.
+/// Returns the item that reads a database in at most this many tries.
 #[tactic(auto, using(crate::proofs::Sizes::size_sound))]
-fn snapshot_order(shape: DatabaseShape, rest: Option<&[u8]>) -> Order
-    requires { is_count 1000 (option_and_then number_of (only_in (rest_words rest))) ≡ true }
-    ensures value { result ≡ Order.Do (Command.Snapshot shape (size_in (rest_words rest.entry))) }
+fn snapshot_item(shape: DatabaseShape, rest: Option<&[u8]>) -> BlockItem
+    requires { is_count 1000 (option_and_then number_in_word (only_in (rest_words rest))) ≡ true }
+    ensures value { result
+        ≡ BlockItem.Do (Command.Snapshot shape (size_in (rest_words rest.entry))) }
     ensures sound { IsSound result }
 {
-    Order::Do(Command::Snapshot(shape, size_in(rest) as usize))
+    BlockItem::Do(Command::Snapshot(shape, size_in(rest) as usize))
 }
 
-/// Returns what a line says that does this with a database.
-fn database_order(
+/// Returns the item of a line about a database; `None` if the verb is none of a database.
+fn database_item(
     alloc: Global,
-    verb: Verb,
+    verb: LineWord,
     shape: DatabaseShape,
     rest: Option<&[u8]>,
-) -> Result<Option<Order>, AllocError>
+) -> Result<Option<BlockItem>, AllocError>
     requires { is_bad_tail (tail_of verb) verb (rest_words rest) (Object.OfDatabase shape) ≡ false }
-    ensures value { IfOk result (λ o. o ≡ database_order verb shape (rest_words rest.entry)) }
+    ensures value { IfOk result (λ o. o ≡ database_item verb shape (rest_words rest.entry)) }
     ensures sound { IfOk result (λ o. IfSome o IsSound) }
 {
     match verb {
-        Verb::Write => Ok(Some(write_order(alloc, shape, rest)?)),
-        Verb::Snapshot => Ok(Some(snapshot_order(shape, rest))),
+        LineWord::Write => Ok(Some(write_item(alloc, shape, rest)?)),
+        LineWord::Snapshot => Ok(Some(snapshot_item(shape, rest))),
         _ => Ok(None),
     }
 }
 
-/// Returns what a line says of the worker's commands; none if it is about nothing.
+/// Returns the item of a line with this object; `None` if no command has such an object.
 pub(crate) fn command_in(
     alloc: Global,
     parts: &Parts<'_>,
     object: &Object,
-) -> Result<Option<Order>, AllocError>
+) -> Result<Option<BlockItem>, AllocError>
     requires numbers { is_bad_tail (tail_of parts.now.verb) parts.now.verb (rest_words parts.now.rest) object.now ≡ false }
     requires roles { has_two_roles object.now ≡ false }
-    ensures value { IfOk result (λ o. o ≡ command_in parts.now.verb (is_giving parts.now.verb) object.now (rest_words parts.now.rest)) }
+    ensures value { IfOk result (λ o. o ≡ command_in parts.now.verb (is_update parts.now.verb) object.now (rest_words parts.now.rest)) }
     ensures sound { IfOk result (λ o. IfSome o IsSound) }
 {
     let verb = parts.verb;
-    let giving = verb.is_giving();
+    let update = verb.is_update();
     let value = amount_in(parts.rest);
-    let order = match *object {
-        Object::Event(event) => event_order(verb, event, value),
-        Object::Sequencer(sequencer) => Order::Do(Command::Ticket(sequencer)),
-        Object::Cell(cell) => cell_order(giving, cell, value),
-        Object::Handed(event, to) => Order::Do(Command::Hand(event, to)),
-        Object::OfBuffer(shape) => buffer_order(giving, shape, value),
-        Object::OfDatabase(shape) => return database_order(alloc, verb, shape, parts.rest),
-        Object::OfSemaphore(shape) => semaphore_order(verb, shape),
-        Object::SemaphorePair(common, one, other) => Order::Do(Command::DownBoth(
+    let item = match *object {
+        Object::Event(event) => event_item(verb, event, value),
+        Object::Sequencer(sequencer) => BlockItem::Do(Command::Ticket(sequencer)),
+        Object::Cell(cell) => cell_item(update, cell, value),
+        Object::Handed(event, to) => BlockItem::Do(Command::Hand(event, to)),
+        Object::OfBuffer(shape) => buffer_item(update, shape, value),
+        Object::OfDatabase(shape) => return database_item(alloc, verb, shape, parts.rest),
+        Object::OfSemaphore(shape) => semaphore_item(verb, shape),
+        Object::SemaphorePair(common, one, other) => BlockItem::Do(Command::DownBoth(
             common, one, other,
         )),
         Object::Nothing | Object::Worker(_) => return Ok(None),
     };
-    Ok(Some(order))
+    Ok(Some(item))
 }

@@ -1,30 +1,30 @@
-//! A block of commands that is being read.
+//! A builder of a block of commands.
 ghost use Rattle.std.specs.Prelude.{◌≡◌, ◌<◌, ◌≤◌, ◌∷◌, [], ◌++◌, length, true, false, OnOk, ◌==◌};
 ghost use Rattle.std.specs.List.{list_all};
 ghost use Rattle.ec_machine.specs.Limits.{is_sound_one, is_value};
 ghost use Rattle.ec_script.specs.Flat.{flat, is_plain};
-ghost use Rattle.ec_script.specs.Drafted.{added, closed, nothing_drafted, opened, with_order, MayFollow};
+ghost use Rattle.ec_script.specs.DraftModel.{draft_with_command, draft_with_end, empty_draft, draft_with_repeat, draft_with_item, MayFollow};
 
-use crate::order::{Order, Values};
+use crate::block_item::{BlockItem, Values};
 use ec_database::DatabaseShape;
 use ec_machine::{Command, Program};
 use std::alloc::{AllocError, Global};
 use std::marker::Model;
 use std::mem;
 
-/// A repeat that is not closed yet: how many times, and the commands before it.
+/// An open repeat: how many times, and the commands before it in its block.
 #[derive(Drop)]
-pub(crate) struct Open {
+pub(crate) struct OpenRepeat {
     times: u64,
     before: Vec<Command>,
 }
 
-/// A block that is being read: the commands of its innermost open repeat, and those round it, the
-/// outermost first.
+/// A builder of a block: the commands of its innermost open repeat, the repeats around it, the
+/// outermost first, and the number of commands.
 #[derive(Drop)]
 pub(crate) struct Draft {
     current: Vec<Command>,
-    outer: Vec<Open>,
+    outer: Vec<OpenRepeat>,
     commands: usize,
     alloc: Global,
 }
@@ -33,24 +33,24 @@ impl Model for Draft {
     ghost use Rattle.std.specs.Prelude.{◌==◌, length, ◌++◌};
     ghost use Rattle.std.specs.Coded.{codes};
     ghost use Rattle.ec_machine.specs.contracts.command.Command as command;
-    ghost use Rattle.ec_script.specs.contracts.order.Order as order;
-    ghost use Rattle.ec_script.specs.Drafted.{Drafted};
+    ghost use Rattle.ec_script.specs.contracts.block_item.BlockItem as item;
+    ghost use Rattle.ec_script.specs.DraftModel.{DraftModel};
     ghost use Rattle.ec_script.specs.Flat.{flat};
     ghost use Rattle.ec_script.specs.Inner.{begun, IsDraft};
 
-    ghost Value = { Drafted };
+    ghost Value = { DraftModel };
 
-    ghost coded = { Prim.hlevel (codes, command.the_row.coded, order.the_row.coded) };
+    ghost coded = { Prim.hlevel (codes, command.the_row.coded, item.the_row.coded) };
 
-    ghost view = { λ d. record { orders = begun d.outer.items ++ flat d.current.items; depth = length d.outer.items; is_empty = length d.current.items == 0; commands = d.commands } };
+    ghost view = { λ d. record { block_items = begun d.outer.items ++ flat d.current.items; depth = length d.outer.items; is_empty = length d.current.items == 0; commands = d.commands } };
 
     ghost invariant = { λ d. IsDraft d.outer.items d.current.items d.commands };
 }
 
 impl Draft {
-    /// Makes a block without a line.
+    /// Makes a builder of a block without a line.
     pub(crate) fn new(alloc: Global) -> Self
-        ensures { result ≡ nothing_drafted }
+        ensures { result ≡ empty_draft }
     {
         Draft {
             current: Vec::new(alloc),
@@ -60,12 +60,12 @@ impl Draft {
         }
     }
 
-    /// Adds a command that holds no list.
+    /// Adds a command that has no list.
     fn add(&mut self, command: Command) -> Result<(), AllocError>
         requires plain { is_plain command ≡ true }
         requires sound { is_sound_one command ≡ true }
         requires room { self.old.commands < 4096 }
-        ensures { OnOk result (self.new ≡ added self.old (Order.Do command)) }
+        ensures { OnOk result (self.new ≡ draft_with_command self.old (BlockItem.Do command)) }
     {
         self.current.push(command)?;
         self.commands += 1;
@@ -77,7 +77,8 @@ impl Draft {
         requires as_many { (length values == shape.cells) ≡ true }
         requires sound { list_all is_value values ≡ true }
         requires room { self.old.commands < 4096 }
-        ensures { OnOk result (self.new ≡ added self.old (Order.Write shape values)) }
+        ensures { OnOk result (self.new
+            ≡ draft_with_command self.old (BlockItem.Write shape values)) }
     {
         let Values { items } = values;
         self.current.push(Command::WriteAll(shape, items))?;
@@ -91,10 +92,10 @@ impl Draft {
         requires few { times ≤ 1000000 }
         requires depth { self.old.depth < 4 }
         requires room { self.old.commands < 4096 }
-        ensures { OnOk result (self.new ≡ opened self.old times) }
+        ensures { OnOk result (self.new ≡ draft_with_repeat self.old times) }
     {
         let before = mem::replace(&mut self.current, Vec::new(self.alloc));
-        self.outer.push(Open { times, before })?;
+        self.outer.push(OpenRepeat { times, before })?;
         self.commands += 1;
         Ok(())
     }
@@ -103,7 +104,7 @@ impl Draft {
     fn close(&mut self) -> Result<(), AllocError>
         requires some { self.old.is_empty ≡ false }
         requires open { 0 < self.old.depth }
-        ensures { OnOk result (self.new ≡ closed self.old) }
+        ensures { OnOk result (self.new ≡ draft_with_end self.old) }
     {
         let Some(open) = self.outer.pop() else {
             return Ok(());
@@ -113,16 +114,16 @@ impl Draft {
         Ok(())
     }
 
-    /// Takes one more line.
-    pub(crate) fn take(&mut self, order: Order) -> Result<(), AllocError>
-        requires { MayFollow self.old order }
-        ensures { OnOk result (self.new ≡ with_order self.old order) }
+    /// Adds one more line.
+    pub(crate) fn take(&mut self, item: BlockItem) -> Result<(), AllocError>
+        requires { MayFollow self.old item }
+        ensures { OnOk result (self.new ≡ draft_with_item self.old item) }
     {
-        match order {
-            Order::Do(command) => self.add(command),
-            Order::Write(shape, values) => self.add_write(shape, values),
-            Order::Begin(times) => self.open(times),
-            Order::End => self.close(),
+        match item {
+            BlockItem::Do(command) => self.add(command),
+            BlockItem::Write(shape, values) => self.add_write(shape, values),
+            BlockItem::Begin(times) => self.open(times),
+            BlockItem::End => self.close(),
         }
     }
 
@@ -149,10 +150,10 @@ impl Draft {
 }
 
 impl Draft {
-    /// Returns the program that was read.
+    /// Returns the program.
     pub(crate) fn finish(self) -> Program
         requires { self.depth ≡ 0 }
-        ensures { flat result ≡ self.orders }
+        ensures { flat result ≡ self.block_items }
     {
         let Some(program) = Program::new(self.current) else {
             unreachable!();

@@ -5,7 +5,7 @@ ghost use Rattle.ec_script.specs.Faults.{kind_number, kind_name, kind_of_head, s
 use ec_heading::HeadFault;
 use thiserror::Error;
 
-/// Why a line of a script is refused: the least of these that holds of it.
+/// Why a line of a script is rejected: the least of these that holds of it.
 #[derive(Clone, Copy, Debug, PartialEq, Eq, Error)]
 pub enum Kind {
     /// Line 1 is neither `evc-script 1` nor `evc-script 2`.
@@ -20,7 +20,7 @@ pub enum Kind {
     /// A new name was used before, a list names a worker twice, or a block of the worker was begun.
     #[error("a name was used before")]
     NameTaken,
-    /// A word in the place of a worker or object spells none of the right sort.
+    /// A word in the place of a worker or object names none of the right kind.
     #[error("a name is not declared")]
     UnknownName,
     /// A number is outside its range, or there are not as many values as cells.
@@ -33,15 +33,15 @@ pub enum Kind {
     /// A raw command names an object of a group.
     #[error("the object belongs to a group")]
     Hidden,
-    /// A worker stands in both lists of a group, or P on two semaphores names one twice.
+    /// A worker is in both lists of a group, or P on two semaphores names one twice.
     #[error("one stands in both roles")]
     TwoRoles,
-    /// The worker of the block lacks the right. Under version 2 the right to signal an eventcount of no
-    /// group is not judged, since components are handed over there.
+    /// The worker of the block lacks the right. In version 2 the right to signal an eventcount of
+    /// no group is not tested, since components may be handed over.
     #[error("the worker lacks the right")]
     NoRight,
-    /// A line stands inside a block that must not, a fifth repeat inside the others, or an `end` of
-    /// a repeat without a command.
+    /// A line that must not be inside a block is, a fifth repeat is inside the others, or an `end`
+    /// closes a repeat without a command.
     #[error("bad nesting")]
     BadNesting,
     /// The text ends before its line of workers, inside a block, or without its last LF.
@@ -50,7 +50,7 @@ pub enum Kind {
 }
 
 impl Kind {
-    /// Returns its place in the order, from 1 to 12.
+    /// Returns its number, from 1 to 12, in the order of the variants.
     pub fn number(self) -> u64
         ensures { result ≡ kind_number self }
     {
@@ -91,25 +91,25 @@ impl Kind {
     }
 }
 
-/// Why no plan was read.
+/// Why `parse` returned no plan.
 #[derive(Clone, Copy, Debug, PartialEq, Eq, Error)]
 pub enum ScriptFault {
     /// The first faulty line, counted from 1, and its least kind.
     #[error("line {line}: {kind}")]
     At { line: u64, kind: Kind },
-    /// Memory was refused.
+    /// An allocation failed.
     #[error("memory was refused")]
     Memory,
 }
 
-/// Why a line was not taken.
+/// Why a line was not read: a kind of fault, or a failed allocation.
 #[derive(Clone, Copy, Debug, PartialEq, Eq)]
 pub(crate) enum StageFault {
     Of(Kind),
     Memory,
 }
 
-/// Returns the kind of a fault of a heading's line.
+/// Returns the kind of a fault of a header's line.
 fn kind_of_head(fault: HeadFault) -> Kind
     ensures { result ≡ kind_of_head fault }
 {
@@ -124,7 +124,7 @@ fn kind_of_head(fault: HeadFault) -> Kind
     }
 }
 
-/// Returns why a line was not taken that a heading refused.
+/// Returns the fault of a line that a header rejected.
 pub(crate) fn stage_fault(fault: HeadFault) -> StageFault
     ensures { result ≡ stage_fault fault }
 {

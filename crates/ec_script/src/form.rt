@@ -3,21 +3,21 @@ ghost use Rattle.std.specs.Prelude.{◌≡◌, ◌∷◌, [], option_map, IfSome
 ghost use Rattle.std.specs.List.{list_all};
 ghost use Rattle.ec_text.specs.Words.{words_of};
 ghost use Rattle.ec_machine.specs.Limits.{is_value};
-ghost use Rattle.ec_script.specs.Forms.{more_in, is_value_form, value_of, only_in, is_tail, tailed_in, phrase_in, rest_words, shown};
+ghost use Rattle.ec_script.specs.Forms.{more_in, is_value_form, value_of, only_in, is_tail, tailed_in, phrase_in, rest_words, phrase_of_parts};
 
-use crate::verb::{Tail, Verb, verb_of};
+use crate::verb::{LineWord, Tail, parse_line_word};
 use ec_machine::Value;
 use ec_text::{cut_word, is_number_form, number};
 
-/// A line of one of the forms, by its words: the object has no bytes if the form has none.
+/// The words of a line of one of the forms. The object is empty if the form has none.
 #[derive(Clone, Copy)]
 pub(crate) struct Parts<'a> {
-    pub(crate) verb: Verb,
+    pub(crate) verb: LineWord,
     pub(crate) object: &'a [u8],
     pub(crate) rest: Option<&'a [u8]>,
 }
 
-/// Returns the digits behind `last+`.
+/// Returns the digits after `last+`.
 fn more_of(word: &[u8]) -> Option<&[u8]>
     ensures { option_map (λ m. m.now) result ≡ more_in word.now }
 {
@@ -37,9 +37,9 @@ fn is_value_form(word: &[u8]) -> bool
     }
 }
 
-/// Returns the value that a word spells, if its number is in range.
+/// Returns the value of a word; `None` if it is none or its number is out of range.
 #[tactic(auto, unfolding(crate::specs::Forms::value_of))]
-pub(crate) fn value_of(word: &[u8]) -> Option<Value>
+pub(crate) fn parse_value(word: &[u8]) -> Option<Value>
     ensures value { result ≡ value_of word.now }
     ensures small { IfSome result (λ v. is_value v ≡ true) }
 {
@@ -72,7 +72,7 @@ fn are_value_forms(list: &[u8]) -> bool
     }
 }
 
-/// Returns the only word that is left, if it is the only one.
+/// Returns the only word that is left; `None` if there is not exactly one.
 #[tactic(auto, using(crate::proofs::Words::only_word))]
 pub(crate) fn only_word(rest: Option<&[u8]>) -> Option<&[u8]>
     ensures { option_map (λ w. w.now) result ≡ only_in (rest_words rest.entry) }
@@ -83,7 +83,7 @@ pub(crate) fn only_word(rest: Option<&[u8]>) -> Option<&[u8]>
     Some(word)
 }
 
-/// Returns whether this is such a tail.
+/// Returns whether the words that are left have the form of the tail.
 #[tactic(auto, using(crate::proofs::Words::some_words))]
 fn is_tail(tail: Tail, rest: Option<&[u8]>) -> bool
     ensures { result ≡ is_tail tail (rest_words rest.entry) }
@@ -107,9 +107,14 @@ fn is_tail(tail: Tail, rest: Option<&[u8]>) -> bool
     }
 }
 
-/// Returns the parts of a line from what stands behind its object on.
-fn tailed<'a>(verb: Verb, object: &'a [u8], rest: Option<&'a [u8]>) -> Option<Parts<'a>>
-    ensures { option_map shown result ≡ tailed_in verb object.now (rest_words rest.entry) }
+/// Returns the parts of a line, given what follows its object; `None` if that has a wrong form.
+fn parts_after_object<'a>(
+    verb: LineWord,
+    object: &'a [u8],
+    rest: Option<&'a [u8]>,
+) -> Option<Parts<'a>>
+    ensures { option_map phrase_of_parts result
+        ≡ tailed_in verb object.now (rest_words rest.entry) }
 {
     if !is_tail(verb.tail(), rest) {
         return None;
@@ -117,19 +122,19 @@ fn tailed<'a>(verb: Verb, object: &'a [u8], rest: Option<&'a [u8]>) -> Option<Pa
     Some(Parts { verb, object, rest })
 }
 
-/// Returns the parts of a line of one of the forms.
+/// Returns the parts of a line; `None` if it has none of the forms.
 #[tactic(auto, unfolding(crate::specs::Forms::phrase_in))]
-pub(crate) fn parts_of(line: &[u8]) -> Option<Parts<'_>>
-    ensures { option_map shown result ≡ phrase_in (words_of line.now) }
+pub(crate) fn split_line(line: &[u8]) -> Option<Parts<'_>>
+    ensures { option_map phrase_of_parts result ≡ phrase_in (words_of line.now) }
 {
     let (word, rest) = cut_word(line);
-    let verb = verb_of(word)?;
+    let verb = parse_line_word(word)?;
     if !verb.has_object() {
-        return tailed(verb, b"".as_slice(), rest);
+        return parts_after_object(verb, b"".as_slice(), rest);
     }
     let Some(rest) = rest else {
         return None;
     };
     let (object, rest) = cut_word(rest);
-    tailed(verb, object, rest)
+    parts_after_object(verb, object, rest)
 }

@@ -1,64 +1,65 @@
-//! Why a line behind the declarations is refused.
+//! The faults of a line after the declarations.
 ghost use Rattle.std.specs.Prelude.{◌≡◌, ◌+◌, ◌==◌, ◌||◌, not, nat_lt, length, option_map};
 ghost use Rattle.std.specs.Option.{option_and_then};
 ghost use Rattle.std.specs.List.{list_any};
 ghost use Rattle.ec_count.specs.Members.{is_member};
-ghost use Rattle.ec_text.specs.Words.{number_of};
-ghost use Rattle.ec_script.specs.Forms.{rest_words, shown};
+ghost use Rattle.ec_text.specs.Words.{number_in_word};
+ghost use Rattle.ec_script.specs.Forms.{rest_words, phrase_of_parts};
 ghost use Rattle.ec_script.specs.Verbs.{tail_of};
-ghost use Rattle.ec_script.specs.Kinds.{seen_of, is_no_value, is_count, is_allowed, is_named_again, has_unknown_name, cells_of, greatest, is_bad_tail, is_too_many, has_two_roles, may_signal, are_declared, has_right, lacks_right, is_badly_nested, or_nothing, phrase_fault};
+ghost use Rattle.ec_script.specs.Kinds.{context_model, is_no_value, is_count, is_allowed, is_named_again, has_unknown_name, cells_of, greatest, is_bad_tail, is_too_many, has_two_roles, may_signal, are_declared, has_right, lacks_right, is_badly_nested, or_nothing, phrase_fault};
 
 use crate::fault::Kind;
-use crate::form::{Parts, only_word, value_of};
+use crate::form::{Parts, only_word, parse_value};
 use crate::lists::has_no_value;
 use crate::object::{Object, is_owned};
-use crate::verb::{Tail, Verb};
+use crate::verb::{LineWord, Tail};
 use ec_count::{EventId, Setup, WorkerId};
 use ec_heading::{Heading, Version, count_words, has_unknown};
 use ec_machine::{COMMANDS_MAX, NESTING_MAX, TIMES_MAX, TRIES_MAX, are_apart};
 use ec_text::number;
 
-/// The block that a line stands in: its worker, how many repeats are open there, whether the
-/// innermost has no command yet, and how many commands there are.
+/// The block that a line is in: its worker, how many repeats are open, whether the innermost has no
+/// command yet, and how many commands there are.
 #[derive(Clone, Copy)]
-pub(crate) struct BlockView {
+pub(crate) struct BlockContext {
     pub(crate) worker: WorkerId,
     pub(crate) depth: usize,
     pub(crate) is_empty: bool,
     pub(crate) commands: usize,
 }
 
-/// Where a line stands.
+/// What the faults of a line depend on: the header, the workers whose blocks began, the open block,
+/// and how many names the schedule has.
 #[derive(Clone, Copy)]
-pub(crate) struct View<'a> {
+pub(crate) struct LineContext<'a> {
     pub(crate) heading: &'a Heading,
     pub(crate) named: &'a [WorkerId],
-    pub(crate) block: Option<BlockView>,
+    pub(crate) block: Option<BlockContext>,
     pub(crate) scheduled: usize,
 }
 
 /// The greatest number of names in a schedule.
 const SCHEDULE_MAX: usize = 65536;
 
-/// Returns whether such a line may stand there.
-fn is_allowed(verb: Verb, in_block: bool, scheduled: usize) -> bool
+/// Returns whether a line with this verb is allowed here.
+fn is_allowed(verb: LineWord, in_block: bool, scheduled: usize) -> bool
     ensures { result ≡ is_allowed verb in_block scheduled }
 {
     match verb {
-        Verb::Schedule => true,
-        Verb::Worker => in_block || scheduled == 0,
+        LineWord::Schedule => true,
+        LineWord::Worker => in_block || scheduled == 0,
         _ => in_block,
     }
 }
 
-/// Returns whether a worker stands in the list.
+/// Returns whether a worker is in the list.
 fn is_member(worker: WorkerId, named: &[WorkerId]) -> bool
     ensures { result ≡ is_member worker named.now }
 {
     named.iter().any(|id| id.get() == worker.get())
 }
 
-/// Returns whether the block of this worker began before.
+/// Returns whether the object is a worker whose block began before.
 fn is_named_again(named: &[WorkerId], object: &Object) -> bool
     ensures { result ≡ is_named_again named.now object.now }
 {
@@ -73,12 +74,12 @@ fn has_unknown_name(heading: &Heading, parts: &Parts<'_>) -> bool
     ensures { result ≡ has_unknown_name heading.now parts.now.verb (rest_words parts.now.rest) }
 {
     match (parts.verb, parts.rest) {
-        (Verb::Schedule, Some(rest)) => has_unknown(heading.words(), rest),
+        (LineWord::Schedule, Some(rest)) => has_unknown(heading.words(), rest),
         _ => false,
     }
 }
 
-/// Returns how many cells a database has.
+/// Returns how many cells a database has; 0 for another object.
 fn cells_of(object: &Object) -> usize
     ensures { result ≡ cells_of object.now }
 {
@@ -88,24 +89,24 @@ fn cells_of(object: &Object) -> usize
     }
 }
 
-/// Returns the greatest count of a repeat, and of tries.
-fn greatest(verb: Verb) -> u64
+/// Returns the greatest count of a repeat, or of tries.
+fn greatest(verb: LineWord) -> u64
     ensures { result ≡ greatest verb }
 {
     match verb {
-        Verb::Repeat => TIMES_MAX,
+        LineWord::Repeat => TIMES_MAX,
         _ => TRIES_MAX as u64,
     }
 }
 
-/// Returns whether this is no value in its range.
+/// Returns whether a word is no value in its range.
 fn is_no_value(word: &[u8]) -> bool
     ensures { result ≡ is_no_value word.now }
 {
-    value_of(word).is_none()
+    parse_value(word).is_none()
 }
 
-/// Returns whether the values are out of range, or not so many.
+/// Returns whether some value is out of range, or there are not as many as cells.
 fn are_bad_values(rest: Option<&[u8]>, cells: usize) -> bool
     ensures { result ≡ list_any is_no_value (rest_words rest.entry) || not (length (rest_words rest.entry) == cells) }
 {
@@ -115,9 +116,9 @@ fn are_bad_values(rest: Option<&[u8]>, cells: usize) -> bool
     }
 }
 
-/// Returns whether digits spell a number from 1 to the greatest.
+/// Returns whether the digits are a number from 1 to the greatest.
 fn is_count(most: u64, digits: Option<&[u8]>) -> bool
-    ensures { result ≡ is_count most (option_and_then number_of (option_map (λ w. w.now) digits.entry)) }
+    ensures { result ≡ is_count most (option_and_then number_in_word (option_map (λ w. w.now) digits.entry)) }
 {
     let Some(word) = digits else {
         return false;
@@ -153,7 +154,7 @@ fn count_rest(rest: Option<&[u8]>) -> usize
     }
 }
 
-/// Returns whether so many names and so many more are too many for a schedule.
+/// Returns whether a schedule of this many names and this many more is too long.
 fn is_over(scheduled: usize, more: usize) -> bool
     ensures { result ≡ nat_lt 65536 (scheduled + more) }
 {
@@ -161,11 +162,11 @@ fn is_over(scheduled: usize, more: usize) -> bool
 }
 
 /// Returns whether the commands of the block, or the names of the schedule, become too many.
-fn is_too_many(parts: &Parts<'_>, block: Option<BlockView>, scheduled: usize) -> bool
+fn is_too_many(parts: &Parts<'_>, block: Option<BlockContext>, scheduled: usize) -> bool
     ensures { result ≡ is_too_many parts.now.verb (rest_words parts.now.rest) block scheduled }
 {
     match (parts.verb, block) {
-        (Verb::Schedule, _) => is_over(scheduled, count_rest(parts.rest)),
+        (LineWord::Schedule, _) => is_over(scheduled, count_rest(parts.rest)),
         (verb, Some(block)) => verb.is_counted() && block.commands >= COMMANDS_MAX,
         (_, None) => false,
     }
@@ -181,9 +182,9 @@ fn has_two_roles(object: &Object) -> bool
     }
 }
 
-/// Returns whether a script of this version may have the worker signal the eventcount: under
-/// version 1 its declared signallers alone; under version 2 who signals it shows when the program
-/// runs.
+/// Returns whether a script of this version may have the worker signal the eventcount. In version 1
+/// only its declared signallers may. In version 2 the right is tested when the program runs, since
+/// components may be handed over.
 fn may_signal(version: Version, setup: &Setup, event: EventId, worker: WorkerId) -> bool
     ensures { result ≡ may_signal version setup.now event worker }
 {
@@ -200,19 +201,19 @@ fn are_declared(setup: &Setup, event: EventId, worker: WorkerId) -> bool
     event.get() < setup.events() && worker.get() < setup.workers()
 }
 
-/// Returns whether a script of this version may have the worker do such a thing with the object.
+/// Returns whether a script of this version may have the worker use the object in this way.
 fn has_right(
     version: Version,
     setup: &Setup,
     worker: WorkerId,
-    giving: bool,
+    update: bool,
     object: &Object,
 ) -> bool
-    ensures { result ≡ has_right version setup.now worker giving object.now }
+    ensures { result ≡ has_right version setup.now worker update object.now }
 {
     match *object {
         Object::Event(event) => {
-            if giving {
+            if update {
                 may_signal(version, setup, event, worker)
             } else {
                 setup.may_observe(event, worker)
@@ -220,7 +221,7 @@ fn has_right(
         }
         Object::Sequencer(sequencer) => setup.may_take(sequencer, worker),
         Object::Cell(cell) => {
-            if giving {
+            if update {
                 setup.may_write(cell, worker)
             } else {
                 setup.may_read(cell, worker)
@@ -228,7 +229,7 @@ fn has_right(
         }
         Object::Handed(event, to) => are_declared(setup, event, to),
         Object::OfBuffer(shape) => {
-            let line = if giving {
+            let line = if update {
                 shape.put_seq()
             } else {
                 shape.take_seq()
@@ -236,7 +237,7 @@ fn has_right(
             setup.may_take(line, worker)
         }
         Object::OfDatabase(shape) => {
-            if giving {
+            if update {
                 setup.may_take(shape.turn(), worker)
             } else {
                 setup.may_observe(shape.start(), worker)
@@ -252,8 +253,13 @@ fn has_right(
     }
 }
 
-/// Returns whether the worker of the block lacks the right to do such a thing with the object.
-fn lacks_right(heading: &Heading, block: Option<BlockView>, verb: Verb, object: &Object) -> bool
+/// Returns whether the worker of the block lacks the right to use the object as the verb does.
+fn lacks_right(
+    heading: &Heading,
+    block: Option<BlockContext>,
+    verb: LineWord,
+    object: &Object,
+) -> bool
     ensures { result ≡ lacks_right heading.now block verb object.now }
 {
     match block {
@@ -262,29 +268,29 @@ fn lacks_right(heading: &Heading, block: Option<BlockView>, verb: Verb, object: 
             heading.version(),
             heading.setup(),
             block.worker,
-            verb.is_giving(),
+            verb.is_update(),
             object,
         ),
     }
 }
 
-/// Returns whether a line stands inside a block that must not, a fifth repeat in the others, or an
-/// `end` of a repeat without a command.
-fn is_badly_nested(verb: Verb, block: Option<BlockView>) -> bool
+/// Returns whether a line that must not be inside a block is, or a fifth repeat is inside the
+/// others, or an `end` closes a repeat without a command.
+fn is_badly_nested(verb: LineWord, block: Option<BlockContext>) -> bool
     ensures { result ≡ is_badly_nested verb block }
 {
     let Some(block) = block else {
         return false;
     };
     match verb {
-        Verb::Worker | Verb::Schedule => true,
-        Verb::Repeat => block.depth >= NESTING_MAX,
-        Verb::End => block.depth > 0 && block.is_empty,
+        LineWord::Worker | LineWord::Schedule => true,
+        LineWord::Repeat => block.depth >= NESTING_MAX,
+        LineWord::End => block.depth > 0 && block.is_empty,
         _ => false,
     }
 }
 
-/// Returns the object, or nothing.
+/// Returns the object, or `Nothing`.
 pub(crate) fn or_nothing(object: Option<Object>) -> Object
     ensures { result ≡ or_nothing object }
 {
@@ -294,14 +300,14 @@ pub(crate) fn or_nothing(object: Option<Object>) -> Object
     }
 }
 
-/// Returns the least fault of a line that has one of the forms; `meant` is what its word for an
-/// object means.
+/// Returns the least fault of a line that has one of the forms; `found` is its object, if it names
+/// a declared one of the right kind.
 pub(crate) fn phrase_fault(
-    view: &View<'_>,
+    view: &LineContext<'_>,
     parts: &Parts<'_>,
     found: Option<Object>,
 ) -> Option<Kind>
-    ensures { result ≡ phrase_fault (seen_of view.now) (shown parts.now) found }
+    ensures { result ≡ phrase_fault (context_model view.now) (phrase_of_parts parts.now) found }
 {
     let object = or_nothing(found);
     if !parts.verb.is_of(view.heading.version())

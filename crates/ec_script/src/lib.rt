@@ -1,7 +1,7 @@
-//! Scripts: read exactly by their grammar.
+//! A parser of scripts that accepts exactly their grammar.
 #![tactic(auto)]
 
-mod bound;
+mod block_item;
 mod command;
 mod draft;
 mod fault;
@@ -10,25 +10,25 @@ mod kinds;
 mod laws;
 mod lists;
 mod object;
-mod order;
 mod pairs;
 mod parsing;
 mod plan;
 mod script;
 mod stage;
 mod verb;
+mod version_limit;
 
+pub use block_item::{BlockItem, Values};
 pub use fault::{Kind, ScriptFault};
 pub use laws::{
     blocks_are_counted, confined_lines_are_confined_commands, fault_is_the_first,
-    faultless_lines_are_taken, faults_are_told, head_faults_keep_their_numbers,
-    layouts_are_scripts, layouts_are_spelled, least_kind_is_told, lines_are_spelled,
-    lines_say_orders, long_is_line_1, plans_are_confined, read_is_script, script_is_read,
-    scripts_are_laid_out, scripts_are_spelled, scripts_have_a_mebibyte_at_most, unfinished_is_told,
+    faultless_lines_are_accepted, faults_are_reported, head_faults_keep_their_numbers,
+    layouts_are_scripts, layouts_are_spelled, least_kind_wins, lines_are_spelled, lines_mean_items,
+    long_is_line_1, plans_are_confined, read_is_script, script_is_read, scripts_are_laid_out,
+    scripts_are_spelled, scripts_have_a_mebibyte_at_most, unfinished_is_reported,
 };
-pub use order::{Order, Values};
 pub use pairs::{
-    lines_lead_to_headings, lines_of_two_roles, two_roles_are_one_name, two_roles_are_told,
+    lines_lead_to_headings, lines_of_two_roles, two_roles_are_one_name, two_roles_are_reported,
 };
 pub use parsing::{SCRIPT_MAX, parse};
 pub use plan::Plan;

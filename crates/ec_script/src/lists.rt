@@ -5,21 +5,21 @@ ghost use Rattle.ec_text.specs.Words.{words_of};
 ghost use Rattle.ec_machine.specs.Limits.{is_value};
 ghost use Rattle.ec_heading.specs.Lists.{ids_in};
 ghost use Rattle.ec_script.specs.Kinds.{is_no_value};
-ghost use Rattle.ec_script.specs.Orders.{amount_of};
+ghost use Rattle.ec_script.specs.BlockItems.{amount_of};
 
-use crate::form::value_of;
+use crate::form::parse_value;
 use ec_count::WorkerId;
 use ec_heading::Heading;
 use ec_machine::Value;
 use ec_text::cut_word;
 use std::alloc::AllocError;
 
-/// Returns whether a word spells no value in its range.
+/// Returns whether some word of the list is no value in its range.
 pub(crate) fn has_no_value(list: &[u8]) -> bool
     ensures { result ≡ list_any is_no_value (words_of list.now) }
 {
     let (word, rest) = cut_word(list);
-    if value_of(word).is_none() {
+    if parse_value(word).is_none() {
         return true;
     }
     match rest {
@@ -28,7 +28,7 @@ pub(crate) fn has_no_value(list: &[u8]) -> bool
     }
 }
 
-/// Adds the workers that are named.
+/// Adds the workers that the list names.
 pub(crate) fn push_ids(
     heading: &Heading,
     list: &[u8],
@@ -46,18 +46,18 @@ pub(crate) fn push_ids(
     }
 }
 
-/// Returns the value that a word spells, `last` if it spells none.
+/// Returns the value of a word; `last` if it is none.
 pub(crate) fn amount_of(word: &[u8]) -> Value
     ensures value { result ≡ amount_of word.now }
     ensures sound { is_value result ≡ true }
 {
-    match value_of(word) {
+    match parse_value(word) {
         Some(value) => value,
         None => Value::Last,
     }
 }
 
-/// Adds the values that words spell.
+/// Adds the values of the words of the list.
 #[tactic(auto, using(crate::proofs::Sizes::sound_more))]
 pub(crate) fn push_values(list: &[u8], values: &mut Vec<Value>) -> Result<(), AllocError>
     ensures items { OnOk result (values.new.items ≡ values.old.items ++ map amount_of (words_of list.now)) }

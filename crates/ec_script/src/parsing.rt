@@ -1,20 +1,20 @@
-//! Whole scripts.
+//! The parser of whole scripts.
 ghost use Rattle.std.specs.Prelude.{◌≡◌, ◌<◌, ◌^◌, Err, IfOk, length};
 ghost use Rattle.ec_script.specs.Confined.{AreConfinedPrograms, IsPlan};
-ghost use Rattle.ec_script.specs.Outcome.{Tells, ended, fault_at, finished, first_of, goes, long_kind, outcome, parts_of, plan_in, shown_plan, taken};
+ghost use Rattle.ec_script.specs.Outcome.{Returns, parse_end, fault_at, plan_or_fault, first_or_empty, parse_from, long_kind, parse_result, lines_of_text, plan_in, shown_plan, after_line};
 ghost use Rattle.ec_script.specs.Reading.{step};
 ghost use Rattle.ec_script.specs.Versioned.{HasPrograms};
 
 use crate::fault::{Kind, ScriptFault, StageFault};
 use crate::plan::Plan;
-use crate::stage::{Stage, version_of};
+use crate::stage::{Stage, parse_version};
 use ec_text::cut_line;
 use std::alloc::Global;
 
 /// The most bytes that a script may have.
 pub const SCRIPT_MAX: usize = 1_048_576;
 
-/// Returns why a line was not taken, with its number.
+/// Returns the fault of a line, with the line's number.
 fn fault_at(line: u64, fault: StageFault) -> ScriptFault
     ensures { result ≡ fault_at line fault }
 {
@@ -24,10 +24,10 @@ fn fault_at(line: u64, fault: StageFault) -> ScriptFault
     }
 }
 
-/// Returns the first line.
+/// Returns the first line of a text.
 #[tactic(auto, using(crate::proofs::Lines::first_lines))]
 fn first_line(text: &[u8]) -> &[u8]
-    ensures { result.now ≡ first_of (parts_of text.now) }
+    ensures { result.now ≡ first_or_empty (lines_of_text text.now) }
 {
     match cut_line(text) {
         Some((line, _)) => line,
@@ -37,9 +37,9 @@ fn first_line(text: &[u8]) -> &[u8]
 
 /// Returns the kind of a text that is too long, by its line 1.
 fn long_kind(text: &[u8]) -> Kind
-    ensures { result ≡ long_kind (first_of (parts_of text.now)) }
+    ensures { result ≡ long_kind (first_or_empty (lines_of_text text.now)) }
 {
-    match version_of(first_line(text)) {
+    match parse_version(first_line(text)) {
         Some(_) => Kind::TooMany,
         None => Kind::BadHeader,
     }
@@ -47,7 +47,7 @@ fn long_kind(text: &[u8]) -> Kind
 
 /// Returns the result of a text that ends with the LF before line n.
 fn end_here(stage: Stage, line: u64) -> Result<Plan, ScriptFault>
-    ensures { Tells (finished line (plan_in stage)) result }
+    ensures { Returns (plan_or_fault line (plan_in stage)) result }
 {
     match stage.plan() {
         Some(plan) => Ok(plan),
@@ -60,7 +60,8 @@ fn end_here(stage: Stage, line: u64) -> Result<Plan, ScriptFault>
 
 /// Returns the result of a text whose last line, of number n, lacks its LF.
 fn cut_off(alloc: Global, stage: Stage, line: u64, rest: &[u8]) -> Result<Plan, ScriptFault>
-    ensures { Tells (taken line (step stage rest.now) (λ t. Err (line, Kind.Unfinished))) result }
+    ensures { Returns (after_line line (step stage rest.now) (λ t. Err (line, Kind.Unfinished)))
+        result }
 {
     let mut stage = stage;
     match stage.line(alloc, rest) {
@@ -74,7 +75,7 @@ fn cut_off(alloc: Global, stage: Stage, line: u64, rest: &[u8]) -> Result<Plan, 
 
 /// Returns the result of a text that ends with these bytes, of line n.
 fn finish(alloc: Global, stage: Stage, line: u64, rest: &[u8]) -> Result<Plan, ScriptFault>
-    ensures { Tells (ended line stage rest.now) result }
+    ensures { Returns (parse_end line stage rest.now) result }
 {
     match rest {
         [] => end_here(stage, line),
@@ -82,10 +83,10 @@ fn finish(alloc: Global, stage: Stage, line: u64, rest: &[u8]) -> Result<Plan, S
     }
 }
 
-/// Returns what a text within the bound comes to.
+/// Parses a text within the bound.
 fn parse_lines(alloc: Global, text: &[u8]) -> Result<Plan, ScriptFault>
     requires { length text.now < 2 ^ 32 }
-    ensures { Tells (goes 1 Stage.Opening (parts_of text.now)) result }
+    ensures { Returns (parse_from 1 Stage.Opening (lines_of_text text.now)) result }
 {
     let mut stage = Stage::Opening;
     let mut number = 1u64;
@@ -100,15 +101,16 @@ fn parse_lines(alloc: Global, text: &[u8]) -> Result<Plan, ScriptFault>
     finish(alloc, stage, number, rest)
 }
 
-/// Returns the plan that a script says, or its first faulty line with the least kind of its faults.
+/// Returns the plan of a script, or its first faulty line with the least kind of its faults.
 ///
 /// Lines are counted from 1. A line is judged by those before it. A last line without its LF is
-/// judged like every line, and then the text is unfinished; so is one that ends before its line of
-/// workers or inside a block. Of a text of more than 1048576 bytes line 1 alone is looked at: too
-/// many if it is the first line of a version.
-#[tactic(auto, unfolding(crate::specs::Outcome::outcome))]
+/// judged like every line; if it has no other fault the text is `Unfinished`. So is a text that
+/// ends before its line of workers or inside a block. Of a text of more than 1048576 bytes only
+/// line 1 is read: the kind is `TooMany` if it is the first line of a version, otherwise
+/// `BadHeader`.
+#[tactic(auto, unfolding(crate::specs::Outcome::parse_result))]
 pub fn parse(alloc: Global, text: &[u8]) -> Result<Plan, ScriptFault>
-    ensures tells { Tells (outcome text.now) result }
+    ensures tells { Returns (parse_result text.now) result }
     ensures plan { IfOk result (λ plan. IsPlan (shown_plan plan)) }
     ensures commands { IfOk result (λ plan. AreConfinedPrograms plan.heading.groups plan.programs.items) }
     ensures version { IfOk result (λ plan. HasPrograms plan.heading.version plan.programs.items) }

@@ -1,10 +1,10 @@
-//! Plans.
+//! Parsed scripts.
 use ec_count::WorkerId;
 use ec_heading::Heading;
 use ec_machine::Program;
 
-/// What a script says: its heading, a program for each declared worker, in order of declaration,
-/// and the workers of its schedule in order.
+/// A parsed script. It has the header, a program for each declared worker, in order of declaration,
+/// and the workers of the schedule in order.
 #[derive(Drop)]
 pub struct Plan {
     pub heading: Heading,

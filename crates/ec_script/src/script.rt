@@ -1,27 +1,27 @@
-//! What the lines of a script have built, behind its line of workers.
+//! The state of the parser after the line of workers.
 ghost use Rattle.std.specs.Prelude.{◌≡◌, ◌++◌, [], false, map, option_map, replicate, length, slice_set, OnOk, IfOk, None, Some};
 ghost use Rattle.ec_heading.specs.Heading.{head_step};
 ghost use Rattle.ec_heading.specs.Lists.{ids_in};
 ghost use Rattle.ec_text.specs.Words.{words_of};
 ghost use Rattle.ec_script.specs.Flat.{flat};
-ghost use Rattle.ec_script.specs.Forms.{rest_words, shown};
+ghost use Rattle.ec_script.specs.Forms.{rest_words, phrase_of_parts};
 ghost use Rattle.ec_script.specs.Kinds.{phrase_fault, or_nothing, is_bad_tail, has_two_roles};
-ghost use Rattle.ec_script.specs.Orders.{command_in};
-ghost use Rattle.ec_script.specs.Verbs.{is_giving, tail_of};
-ghost use Rattle.ec_script.specs.Reading.{view_of_block, seen, began, ordered, commanded, ended_in, after_verb, phrased, headed_on, is_declaring, opens_outer, script_of, script_step, Steps};
+ghost use Rattle.ec_script.specs.BlockItems.{command_in};
+ghost use Rattle.ec_script.specs.Verbs.{is_update, tail_of};
+ghost use Rattle.ec_script.specs.Reading.{view_of_block, context_of_script, with_worker_block, after_item, after_command, with_block_end, after_verb, after_phrase, map_heading, is_declaring, opens_outer, script_of, script_step, Steps};
 ghost use Rattle.ec_script.specs.Outcome.{plan_or, shown_plan};
-ghost use Rattle.ec_script.specs.Rooms.{MayOrder, MayEnd, HasRoom};
+ghost use Rattle.ec_script.specs.Rooms.{MayTakeItem, MayEnd, HasRoom};
 
+use crate::block_item::BlockItem;
 use crate::command::{command_in, size_in};
 use crate::draft::Draft;
 use crate::fault::{Kind, StageFault, stage_fault};
-use crate::form::{Parts, parts_of};
-use crate::kinds::{BlockView, View, or_nothing, phrase_fault};
+use crate::form::{Parts, split_line};
+use crate::kinds::{BlockContext, LineContext, or_nothing, phrase_fault};
 use crate::lists::push_ids;
 use crate::object::{Object, object_in};
-use crate::order::Order;
 use crate::plan::Plan;
-use crate::verb::{Verb, verb_of};
+use crate::verb::{LineWord, parse_line_word};
 use ec_count::WorkerId;
 use ec_heading::{Heading, LINE_MAX};
 use ec_machine::Program;
@@ -29,19 +29,19 @@ use ec_text::{cut_word, has_blank};
 use std::alloc::{AllocError, Global};
 use std::marker::Model;
 
-/// The block of a worker that is being read.
+/// The open block of a worker.
 #[derive(Drop)]
-pub(crate) struct Block {
+pub(crate) struct OpenBlock {
     worker: WorkerId,
     draft: Draft,
 }
 
-impl Block {
-    /// Returns what a line sees of it.
-    fn view(&self) -> BlockView
+impl OpenBlock {
+    /// Returns what the faults of a line depend on.
+    fn view(&self) -> BlockContext
         ensures { result ≡ view_of_block self.now }
     {
-        BlockView {
+        BlockContext {
             worker: self.worker,
             depth: self.draft.depth(),
             is_empty: self.draft.is_empty(),
@@ -50,13 +50,14 @@ impl Block {
     }
 }
 
-/// What the lines have built.
+/// The header, the workers whose blocks began, the programs, the open block and the schedule, after
+/// the lines so far.
 #[derive(Drop)]
 pub(crate) struct Script {
     heading: Heading,
     named: Vec<WorkerId>,
     programs: Vec<Program>,
-    block: Option<Block>,
+    block: Option<OpenBlock>,
     schedule: Vec<WorkerId>,
     alloc: Global,
 }
@@ -65,13 +66,13 @@ impl Model for Script {
     ghost use Rattle.std.specs.Prelude.{map};
     ghost use Rattle.std.specs.Coded.{codes};
     ghost use Rattle.ec_machine.specs.contracts.command.Command as command;
-    ghost use Rattle.ec_script.specs.contracts.order.Order as order;
+    ghost use Rattle.ec_script.specs.contracts.block_item.BlockItem as item;
     ghost use Rattle.ec_script.specs.Flat.{flat};
-    ghost use Rattle.ec_script.specs.Scripted.{Scripted};
+    ghost use Rattle.ec_script.specs.ScriptModel.{ScriptModel};
 
-    ghost Value = { Scripted };
+    ghost Value = { ScriptModel };
 
-    ghost coded = { Prim.hlevel (codes, command.the_row.coded, order.the_row.coded) };
+    ghost coded = { Prim.hlevel (codes, command.the_row.coded, item.the_row.coded) };
 
     ghost view = { λ s. record { heading = s.heading; named = s.named.items; programs = map flat s.programs.items; block = s.block; schedule = s.schedule.items } };
 }
@@ -86,7 +87,7 @@ fn empty_program(alloc: Global) -> Program
     program
 }
 
-/// Makes so many empty programs.
+/// Returns this many empty programs.
 #[tactic(auto, using(crate::proofs::Drafts::flats_none))]
 fn empty_programs(alloc: Global, n: usize) -> Result<Vec<Program>, AllocError>
     ensures items { IfOk result (λ programs. programs.items ≡ replicate n []) }
@@ -99,7 +100,7 @@ fn empty_programs(alloc: Global, n: usize) -> Result<Vec<Program>, AllocError>
     Ok(programs)
 }
 
-/// Puts a program at a place, where there is one.
+/// Stores a program at a place, if there is one.
 fn set_program(programs: &mut Vec<Program>, place: usize, program: Program)
     ensures { map flat programs.new.items ≡ slice_set (map flat programs.old.items) place (flat program) }
 {
@@ -109,7 +110,7 @@ fn set_program(programs: &mut Vec<Program>, place: usize, program: Program)
 }
 
 impl Script {
-    /// Makes a script of this heading, before its blocks.
+    /// Makes a script with this header, before its blocks.
     pub(crate) fn new(alloc: Global, heading: Heading) -> Result<Self, AllocError>
         ensures { IfOk result (λ script. script ≡ script_of heading) }
     {
@@ -124,8 +125,8 @@ impl Script {
         })
     }
 
-    /// Returns the block that a line stands in.
-    fn block_view(&self) -> Option<BlockView>
+    /// Returns the block that the next line is in.
+    fn block_view(&self) -> Option<BlockContext>
         ensures { result ≡ option_map view_of_block self.now.block }
     {
         match &self.block {
@@ -135,83 +136,84 @@ impl Script {
     }
 
     /// Returns how many names the schedule has.
-    fn scheduled(&self) -> usize
+    fn schedule_length(&self) -> usize
         ensures { result ≡ length self.now.schedule }
     {
         self.schedule.len()
     }
 
-    /// Returns the least fault of a line of one of the forms, whose word for an object means this.
+    /// Returns the least fault of a line of one of the forms, which has this object.
     fn fault(&self, parts: &Parts<'_>, found: &Option<Object>) -> Option<Kind>
-        ensures { result ≡ phrase_fault (seen self.now) (shown parts.now) found.now }
+        ensures { result ≡ phrase_fault (context_of_script self.now) (phrase_of_parts parts.now)
+            found.now }
     {
-        let view = View {
+        let view = LineContext {
             heading: &self.heading,
             named: self.named.as_slice(),
             block: self.block_view(),
-            scheduled: self.scheduled(),
+            scheduled: self.schedule_length(),
         };
         phrase_fault(&view, parts, *found)
     }
 
     /// Begins the block of a worker.
     fn begin(&mut self, object: &Object) -> Result<(), AllocError>
-        ensures { OnOk result (self.new ≡ began self.old object.now) }
+        ensures { OnOk result (self.new ≡ with_worker_block self.old object.now) }
     {
         let Object::Worker(worker) = *object else {
             return Ok(());
         };
         self.named.push(worker)?;
         let draft = Draft::new(self.alloc);
-        self.block = Some(Block { worker, draft });
+        self.block = Some(OpenBlock { worker, draft });
         Ok(())
     }
 
-    /// Takes one more line of the block.
-    fn order(&mut self, order: Order) -> Result<(), AllocError>
-        requires { MayOrder self.old.block order }
-        ensures { OnOk result (self.new ≡ ordered self.old order) }
+    /// Adds one more line to the block.
+    fn add_item(&mut self, item: BlockItem) -> Result<(), AllocError>
+        requires { MayTakeItem self.old.block item }
+        ensures { OnOk result (self.new ≡ after_item self.old item) }
     {
         let Some(block) = self.block.take() else {
             return Ok(());
         };
-        let Block { worker, draft } = block;
+        let OpenBlock { worker, draft } = block;
         let mut draft = draft;
-        draft.take(order)?;
-        self.block = Some(Block { worker, draft });
+        draft.take(item)?;
+        self.block = Some(OpenBlock { worker, draft });
         Ok(())
     }
 
-    /// Takes a command.
+    /// Adds a command to the block.
     #[tactic(auto, using(crate::proofs::Room::may_command))]
     fn command(&mut self, parts: &Parts<'_>, object: &Object) -> Result<(), AllocError>
         requires numbers { is_bad_tail (tail_of parts.now.verb) parts.now.verb (rest_words parts.now.rest) object.now ≡ false }
         requires roles { has_two_roles object.now ≡ false }
         requires room { HasRoom self.old.block }
-        ensures { OnOk result (self.new ≡ commanded self.old (command_in parts.now.verb (is_giving parts.now.verb) object.now (rest_words parts.now.rest))) }
+        ensures { OnOk result (self.new ≡ after_command self.old (command_in parts.now.verb (is_update parts.now.verb) object.now (rest_words parts.now.rest))) }
     {
-        let Some(order) = command_in(self.alloc, parts, object)? else {
+        let Some(item) = command_in(self.alloc, parts, object)? else {
             return Ok(());
         };
-        self.order(order)
+        self.add_item(item)
     }
 
     /// Ends the innermost repeat, or the block, which then is the worker's program.
     fn end(&mut self) -> Result<(), AllocError>
         requires { MayEnd self.old.block }
-        ensures { OnOk result (self.new ≡ ended_in self.old self.old.block) }
+        ensures { OnOk result (self.new ≡ with_block_end self.old self.old.block) }
     {
         let Some(block) = self.block.take() else {
             return Ok(());
         };
-        let Block { worker, draft } = block;
+        let OpenBlock { worker, draft } = block;
         if draft.depth() == 0 {
             set_program(&mut self.programs, worker.get(), draft.finish());
             return Ok(());
         }
         let mut draft = draft;
-        draft.take(Order::End)?;
-        self.block = Some(Block { worker, draft });
+        draft.take(BlockItem::End)?;
+        self.block = Some(OpenBlock { worker, draft });
         Ok(())
     }
 
@@ -229,22 +231,23 @@ impl Script {
 impl Script {
     /// Does what a line without fault says.
     fn apply(&mut self, parts: &Parts<'_>, found: &Option<Object>) -> Result<(), AllocError>
-        requires { phrase_fault (seen self.old) (shown parts.now) found.now ≡ None }
+        requires { phrase_fault (context_of_script self.old) (phrase_of_parts parts.now) found.now
+            ≡ None }
         ensures { OnOk result (self.new ≡ after_verb parts.now.verb self.old (or_nothing found.now) (rest_words parts.now.rest)) }
     {
         let object = or_nothing(*found);
         match parts.verb {
-            Verb::Worker => self.begin(&object),
-            Verb::Schedule => self.extend(parts.rest),
-            Verb::Repeat => self.order(Order::Begin(size_in(parts.rest))),
-            Verb::End => self.end(),
+            LineWord::Worker => self.begin(&object),
+            LineWord::Schedule => self.extend(parts.rest),
+            LineWord::Repeat => self.add_item(BlockItem::Begin(size_in(parts.rest))),
+            LineWord::End => self.end(),
             _ => self.command(parts, &object),
         }
     }
 
-    /// Takes a line of one of the forms.
+    /// Reads a line of one of the forms.
     fn phrase(&mut self, parts: &Parts<'_>) -> Result<(), StageFault>
-        ensures { Steps result (phrased self.old (Some (shown parts.now))) self.new }
+        ensures { Steps result (after_phrase self.old (Some (phrase_of_parts parts.now))) self.new }
     {
         let found = object_in(&self.heading, parts);
         if let Some(kind) = self.fault(parts, &found) {
@@ -256,10 +259,10 @@ impl Script {
         }
     }
 
-    /// Takes a declaration.
+    /// Reads a declaration.
     #[tactic(auto, using(crate::proofs::HeadFails::fails_on))]
     fn declare(&mut self, line: &[u8]) -> Result<(), StageFault>
-        ensures { Steps result (headed_on self.old (head_step self.old.heading line.now)) self.new }
+        ensures { Steps result (map_heading self.old (head_step self.old.heading line.now)) self.new }
     {
         match self.heading.line(line) {
             Ok(()) => Ok(()),
@@ -274,7 +277,7 @@ impl Script {
         self.named.is_empty() && self.schedule.is_empty()
     }
 
-    /// Takes the next line, without its LF.
+    /// Reads the next line, without its LF.
     #[tactic(auto, unfolding(crate::specs::Reading::script_step))]
     pub(crate) fn line(&mut self, line: &[u8]) -> Result<(), StageFault>
         ensures { Steps result (script_step self.old line.now) self.new }
@@ -285,7 +288,7 @@ impl Script {
         if line.len() > LINE_MAX || has_blank(line) {
             return Err(StageFault::Of(Kind::BadLine));
         }
-        match parts_of(line) {
+        match split_line(line) {
             Some(parts) => self.phrase(&parts),
             None => Err(StageFault::Of(Kind::BadLine)),
         }
@@ -297,7 +300,7 @@ fn opens_outer(line: &[u8]) -> bool
     ensures { result ≡ opens_outer (words_of line.now) }
 {
     let (word, _) = cut_word(line);
-    match verb_of(word) {
+    match parse_line_word(word) {
         Some(verb) => verb.is_outer(),
         None => false,
     }

@@ -1,4 +1,4 @@
-//! What the lines of a script so far have built, from its first line on.
+//! The state of the parser, from the first line of a script on.
 ghost use Rattle.std.specs.Prelude.{◌≡◌, ◌≤◌, option_map, IfOk};
 ghost use Rattle.ec_heading.specs.Versions.{greatest_limit, version_of};
 ghost use Rattle.ec_script.specs.Headers.{script_header};
@@ -6,31 +6,31 @@ ghost use Rattle.ec_script.specs.Reading.{Steps, limit_digits, limit_or, LimitIs
 ghost use Rattle.ec_script.specs.Outcome.{plan_in, shown_plan};
 ghost use Rattle.ec_text.specs.Words.{words_of};
 
-use crate::bound::Bound;
 use crate::fault::{Kind, StageFault, stage_fault};
 use crate::plan::Plan;
 use crate::script::Script;
+use crate::version_limit::VersionLimit;
 use ec_count::Limit;
 use ec_heading::{LINE_MAX, Version};
 use ec_text::{cut_word, is_number_form, number};
 use std::alloc::Global;
 use std::mem;
 
-/// What the lines so far have built.
+/// The state of the parser after the lines so far.
 #[derive(Drop)]
 pub(crate) enum Stage {
-    /// Nothing.
+    /// No line was read.
     Opening,
-    /// The first line came, of this version.
+    /// After the first line, of this version.
     Limiting(Version),
-    /// The limit came, and the workers are due.
-    Naming(Bound),
-    /// The workers came.
+    /// After the line of the limit.
+    Naming(VersionLimit),
+    /// After the line of the workers.
     Reading(Script),
 }
 
 /// Returns the version whose first line this is.
-pub(crate) fn version_of(line: &[u8]) -> Option<Version>
+pub(crate) fn parse_version(line: &[u8]) -> Option<Version>
     ensures { result ≡ version_of script_header line.now }
 {
     if line == b"evc-script 1".as_slice() {
@@ -42,7 +42,7 @@ pub(crate) fn version_of(line: &[u8]) -> Option<Version>
     None
 }
 
-/// Returns the digits behind the word `limit`, which are all that stands there.
+/// Returns the digits after the word `limit`, if nothing else follows it.
 #[tactic(auto, using(crate::proofs::Words::third_word))]
 fn limit_digits(line: &[u8]) -> Option<&[u8]>
     ensures { option_map (λ w. w.now) result ≡ limit_digits (words_of line.now) }
@@ -60,8 +60,8 @@ fn limit_digits(line: &[u8]) -> Option<&[u8]>
     }
 }
 
-/// Returns the limit that a line gives, one that the version may have.
-fn limit_of(version: Version, line: &[u8]) -> Result<Limit, Kind>
+/// Returns the limit of a line, if the version allows it.
+fn parse_limit(version: Version, line: &[u8]) -> Result<Limit, Kind>
     ensures value { LimitIs version result (limit_or version (limit_digits (words_of line.now))) }
     ensures within { IfOk result (λ limit. limit ≤ greatest_limit version) }
 {
@@ -78,20 +78,20 @@ fn limit_of(version: Version, line: &[u8]) -> Result<Limit, Kind>
 }
 
 impl Stage {
-    /// Takes the first line.
+    /// Reads the first line.
     #[tactic(auto, unfolding(crate::specs::Reading::step))]
     fn open(&mut self, line: &[u8]) -> Result<(), StageFault>
         requires { self.old ≡ Stage.Opening }
         ensures { Steps result (step self.old line.now) self.new }
     {
-        let Some(version) = version_of(line) else {
+        let Some(version) = parse_version(line) else {
             return Err(StageFault::Of(Kind::BadHeader));
         };
         *self = Stage::Limiting(version);
         Ok(())
     }
 
-    /// Takes the line of the limit.
+    /// Reads the line of the limit.
     #[tactic(auto, unfolding(crate::specs::Reading::step, crate::specs::Reading::limit_step))]
     fn limit(&mut self, alloc: Global, version: Version, line: &[u8]) -> Result<(), StageFault>
         requires { self.old ≡ Stage.Limiting version }
@@ -100,23 +100,28 @@ impl Stage {
         if line.len() > LINE_MAX {
             return Err(StageFault::Of(Kind::BadLine));
         }
-        let limit = match limit_of(version, line) {
+        let limit = match parse_limit(version, line) {
             Ok(limit) => limit,
             Err(kind) => return Err(StageFault::Of(kind)),
         };
-        let Ok(bound) = Bound::new(alloc, version, limit) else {
+        let Ok(version_limit) = VersionLimit::new(alloc, version, limit) else {
             return Err(StageFault::Memory);
         };
-        *self = Stage::Naming(bound);
+        *self = Stage::Naming(version_limit);
         Ok(())
     }
 
-    /// Takes the line of the workers.
+    /// Reads the line of the workers.
     #[tactic(auto, using(crate::proofs::HeadFails::fails_named), unfolding(crate::specs::Reading::step))]
-    fn name(&mut self, alloc: Global, bound: Bound, line: &[u8]) -> Result<(), StageFault>
-        ensures { Steps result (step (Stage.Naming bound) line.now) self.new }
+    fn name(
+        &mut self,
+        alloc: Global,
+        version_limit: VersionLimit,
+        line: &[u8],
+    ) -> Result<(), StageFault>
+        ensures { Steps result (step (Stage.Naming version_limit) line.now) self.new }
     {
-        let mut heading = bound.into_heading();
+        let mut heading = version_limit.into_heading();
         if let Err(fault) = heading.line(line) {
             return Err(stage_fault(fault));
         }
@@ -127,7 +132,7 @@ impl Stage {
         Ok(())
     }
 
-    /// Takes the next line, without its LF.
+    /// Reads the next line, without its LF.
     #[tactic(auto, unfolding(crate::specs::Reading::step))]
     pub(crate) fn line(&mut self, alloc: Global, line: &[u8]) -> Result<(), StageFault>
         ensures { Steps result (step self.old line.now) self.new }
@@ -140,7 +145,7 @@ impl Stage {
                 self.limit(alloc, version, line)
             }
             Stage::Naming(_) => match mem::replace(self, Stage::Opening) {
-                Stage::Naming(bound) => self.name(alloc, bound, line),
+                Stage::Naming(version_limit) => self.name(alloc, version_limit, line),
                 _ => Err(StageFault::Of(Kind::BadHeader)),
             },
         }

@@ -1,12 +1,12 @@
 //! The words that open the lines of blocks and of the schedule.
 ghost use Rattle.std.specs.Prelude.{◌≡◌};
-ghost use Rattle.ec_script.specs.Verbs.{raw_verb_of, procedure_verb_of, order_verb_of, verb_of, has_verb, has_object, tail_of, is_giving, is_outer, is_counted};
+ghost use Rattle.ec_script.specs.Verbs.{raw_verb_of, procedure_verb_of, item_verb_of, parse_line_word, has_verb, has_object, tail_of, is_update, is_outer, is_counted};
 
 use ec_heading::Version;
 
-/// What a line of a block does, or a line that opens a block or goes on with the schedule.
+/// The first word of a line of a block, of a line that opens a block, or of the schedule.
 #[derive(Clone, Copy, Debug, PartialEq, Eq)]
-pub(crate) enum Verb {
+pub(crate) enum LineWord {
     Advance,
     Read,
     Await,
@@ -27,7 +27,7 @@ pub(crate) enum Verb {
     Schedule,
 }
 
-/// What stands behind the object of a line.
+/// The form of what follows the object of a line.
 #[derive(Clone, Copy, Debug, PartialEq, Eq)]
 pub(crate) enum Tail {
     Nothing,
@@ -43,84 +43,84 @@ pub(crate) enum Tail {
     Words,
 }
 
-/// Returns the raw call that a word stands for.
-fn raw_verb_of(word: &[u8]) -> Option<Verb>
+/// Returns the raw call that a word names.
+fn raw_verb_of(word: &[u8]) -> Option<LineWord>
     ensures { result ≡ raw_verb_of word.now }
 {
     if word == b"advance".as_slice() {
-        return Some(Verb::Advance);
+        return Some(LineWord::Advance);
     }
     if word == b"read".as_slice() {
-        return Some(Verb::Read);
+        return Some(LineWord::Read);
     }
     if word == b"await".as_slice() {
-        return Some(Verb::Await);
+        return Some(LineWord::Await);
     }
     if word == b"ticket".as_slice() {
-        return Some(Verb::Ticket);
+        return Some(LineWord::Ticket);
     }
     if word == b"put".as_slice() {
-        return Some(Verb::Put);
+        return Some(LineWord::Put);
     }
     if word == b"get".as_slice() {
-        return Some(Verb::Get);
+        return Some(LineWord::Get);
     }
     if word == b"hand".as_slice() {
-        return Some(Verb::Hand);
+        return Some(LineWord::Hand);
     }
     None
 }
 
-/// Returns the procedure that a word stands for.
-fn procedure_verb_of(word: &[u8]) -> Option<Verb>
+/// Returns the procedure that a word names.
+fn procedure_verb_of(word: &[u8]) -> Option<LineWord>
     ensures { result ≡ procedure_verb_of word.now }
 {
     if word == b"produce".as_slice() {
-        return Some(Verb::Produce);
+        return Some(LineWord::Produce);
     }
     if word == b"consume".as_slice() {
-        return Some(Verb::Consume);
+        return Some(LineWord::Consume);
     }
     if word == b"write".as_slice() {
-        return Some(Verb::Write);
+        return Some(LineWord::Write);
     }
     if word == b"snapshot".as_slice() {
-        return Some(Verb::Snapshot);
+        return Some(LineWord::Snapshot);
     }
     if word == b"p".as_slice() {
-        return Some(Verb::Down);
+        return Some(LineWord::Down);
     }
     if word == b"v".as_slice() {
-        return Some(Verb::Up);
+        return Some(LineWord::Up);
     }
     if word == b"pboth".as_slice() {
-        return Some(Verb::DownBoth);
+        return Some(LineWord::DownBoth);
     }
     None
 }
 
-/// Returns what a word stands for that orders the lines.
-fn order_verb_of(word: &[u8]) -> Option<Verb>
-    ensures { result ≡ order_verb_of word.now }
+/// Returns the structure word that a word is: `repeat`, `end`, `worker` or `schedule`.
+fn item_verb_of(word: &[u8]) -> Option<LineWord>
+    ensures { result ≡ item_verb_of word.now }
 {
     if word == b"repeat".as_slice() {
-        return Some(Verb::Repeat);
+        return Some(LineWord::Repeat);
     }
     if word == b"end".as_slice() {
-        return Some(Verb::End);
+        return Some(LineWord::End);
     }
     if word == b"worker".as_slice() {
-        return Some(Verb::Worker);
+        return Some(LineWord::Worker);
     }
     if word == b"schedule".as_slice() {
-        return Some(Verb::Schedule);
+        return Some(LineWord::Schedule);
     }
     None
 }
 
-/// Returns what a line does that opens with this word.
-pub(crate) fn verb_of(word: &[u8]) -> Option<Verb>
-    ensures { result ≡ verb_of word.now }
+/// Returns the line word that a word is, of any of the three sorts.
+pub(crate) fn parse_line_word(word: &[u8]) -> Option<LineWord>
+    ensures { result ≡ parse_line_word word.now }
 {
     if let Some(verb) = raw_verb_of(word) {
         return Some(verb);
@@ -128,61 +128,62 @@ pub(crate) fn verb_of(word: &[u8]) -> Option<Verb>
     if let Some(verb) = procedure_verb_of(word) {
         return Some(verb);
     }
-    order_verb_of(word)
+    item_verb_of(word)
 }
 
-impl Verb {
+impl LineWord {
     /// Returns whether scripts of the version have such lines.
     pub(crate) fn is_of(self, version: Version) -> bool
         ensures { result ≡ has_verb version self }
     {
         match self {
-            Verb::Hand => version.has_hand(),
+            LineWord::Hand => version.has_transfer(),
             _ => true,
         }
     }
 
-    /// Returns whether the word of an object or of a worker stands behind it.
+    /// Returns whether the word of an object or of a worker follows it.
     pub(crate) fn has_object(self) -> bool
         ensures { result ≡ has_object self }
     {
         match self {
-            Verb::Repeat | Verb::End | Verb::Schedule => false,
+            LineWord::Repeat | LineWord::End | LineWord::Schedule => false,
             _ => true,
         }
     }
 
-    /// Returns what stands behind that.
+    /// Returns the form of what follows these.
     pub(crate) fn tail(self) -> Tail
         ensures { result ≡ tail_of self }
     {
         match self {
-            Verb::Await | Verb::Put | Verb::Produce => Tail::Value,
-            Verb::Write => Tail::Values,
-            Verb::Snapshot | Verb::Repeat => Tail::Digits,
-            Verb::DownBoth | Verb::Hand => Tail::Word,
-            Verb::Schedule => Tail::Words,
+            LineWord::Await | LineWord::Put | LineWord::Produce => Tail::Value,
+            LineWord::Write => Tail::Values,
+            LineWord::Snapshot | LineWord::Repeat => Tail::Digits,
+            LineWord::DownBoth | LineWord::Hand => Tail::Word,
+            LineWord::Schedule => Tail::Words,
             _ => Tail::Nothing,
         }
     }
 
-    /// Returns whether it signals, writes or produces; else it observes, reads, consumes or hands
-    /// over.
-    pub(crate) fn is_giving(self) -> bool
-        ensures { result ≡ is_giving self }
+    /// Returns whether it signals, writes or produces. The right that the worker needs depends on
+    /// it.
+    pub(crate) fn is_update(self) -> bool
+        ensures { result ≡ is_update self }
     {
         match self {
-            Verb::Advance | Verb::Put | Verb::Produce | Verb::Write => true,
+            LineWord::Advance | LineWord::Put | LineWord::Produce | LineWord::Write => true,
             _ => false,
         }
     }
 
-    /// Returns whether it opens a block or goes on with the schedule; else it stands in a block.
+    /// Returns whether it opens a block or goes on with the schedule; otherwise it is inside a
+    /// block.
     pub(crate) fn is_outer(self) -> bool
         ensures { result ≡ is_outer self }
     {
         match self {
-            Verb::Worker | Verb::Schedule => true,
+            LineWord::Worker | LineWord::Schedule => true,
             _ => false,
         }
     }
@@ -192,7 +193,7 @@ impl Verb {
         ensures { result ≡ is_counted self }
     {
         match self {
-            Verb::End | Verb::Worker | Verb::Schedule => false,
+            LineWord::End | LineWord::Worker | LineWord::Schedule => false,
             _ => true,
         }
     }

@@ -1,14 +1,14 @@
--- Counting the finished P and V of a past, entry by entry.
+-- Counting the completed P and V of a history so far, entry by entry.
 use Rattle.std.proofs.Common.{◌≡◌, ℕ, ◌+◌, ◌≤◌, ◌&&◌, ◌<◌, ◌^◌, Bool, true, false, not, List, [], ◌∷◌, ◌++◌, length, refl, ap, sym, ◌∙◌, arith, cond, append_assoc}
 use Rattle.ec_core.specs.declared.act.Act.{Act}
 use Rattle.ec_core.specs.declared.act.Entry.{Entry}
 use Rattle.ec_core.specs.Counts.{total, is_advance}
 use Rattle.ec_core.specs.Calls.{is_pending}
-use Rattle.ec_core.specs.Scanning.{IsTracked}
+use Rattle.ec_core.specs.Scanning.{IsTrackerModel}
 use Rattle.ec_core.proofs.shared.Following.{op_at}
 use Rattle.ec_semaphore.specs.Shapes.{Semaphore}
-use Rattle.ec_semaphore.specs.Auditing.{Balancing, IsCounted}
-use Rattle.ec_semaphore.specs.Keeping.{kept_of_use}
+use Rattle.ec_semaphore.specs.Auditing.{BalanceAuditModel, RepresentsBalance}
+use Rattle.ec_semaphore.specs.Keeping.{list_progress_of_use}
 use Rattle.ec_semaphore.specs.Uses.{use_rules}
 use Rattle.ec_semaphore.specs.Balances.{is_await, is_down, downs, ups}
 
@@ -51,6 +51,6 @@ up_more s x past place n sum b at low is test more =
 pub order_more : (done left entries others : List Entry) (x : Entry) → done ++ left ≡ entries → left ≡ x ∷ others → (done ++ x ∷ []) ++ others ≡ entries
 order_more done left entries others x order next = append_assoc done (x ∷ []) others ∙ ap (λ r. done ++ r) (sym next) ∙ order
 
-pub counted_first : (a : Balancing) → a.downs ≡ 0 → a.ups ≡ 0 → IsTracked (use_rules a.shape) kept_of_use a.tracked [] → IsCounted a []
+pub counted_first : (a : BalanceAuditModel) → a.downs ≡ 0 → a.ups ≡ 0 → IsTrackerModel (use_rules a.shape) list_progress_of_use a.tracked [] → RepresentsBalance a []
 unfolding downs total
 counted_first a downs_none ups_none tracked = record { tracked = tracked; downs = downs_none; ups = ups_none }

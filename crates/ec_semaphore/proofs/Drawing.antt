@@ -13,21 +13,23 @@ use Rattle.ec_core.specs.declared.act.Entry.{Entry}
 use Rattle.ec_core.specs.Counts.{past_at, issued}
 use Rattle.ec_core.specs.Calls.{is_pending}
 use Rattle.ec_core.specs.Acceptance.{IsAccepted}
-use Rattle.ec_core.specs.Following.{Told, block, Follow}
-use Rattle.ec_core.specs.CallLists.{is_act, number_of}
+use Rattle.ec_core.specs.Following.{CompletedCall, block, Follow}
+use Rattle.ec_core.specs.CallLists.{is_act, reply_number}
 use Rattle.ec_core.proofs.shared.Answering.{IsReading}
-use Rattle.ec_core.proofs.shared.Joining.{get_back}
+use Rattle.ec_core.proofs.shared.Joining.{get_front as get_old, get_back}
 use Rattle.ec_core.proofs.shared.Breaks.{follow_of}
 use Rattle.ec_core.proofs.shared.Moments.{past_next, past_end, moment_before, beginnings}
-use Rattle.ec_core.proofs.shared.Queue.{Seat, turn_is}
-use Rattle.ec_core.proofs.shared.Following.{other_block, IsTold, op_at, step_told, step_opened, step_due, is_act-true, after_told, after_pending, off_block}
+use Rattle.ec_core.proofs.shared.Queue.{QueuePosition, turn_is}
+use Rattle.ec_core.proofs.shared.Following.{other_block, IsReplyTo, op_at, step_told, step_opened, step_due, is_act-true, after_told, after_pending, off_block}
 use Rattle.ec_semaphore.specs.declared.pair.Pair.{Pair}
 use Rattle.ec_semaphore.specs.Shapes.{Semaphore}
 use Rattle.ec_semaphore.specs.Uses.{is_on}
-use Rattle.ec_semaphore.specs.Both.{line_of, is_begun, both_rule, both_rules}
-use Rattle.ec_semaphore.specs.Pairs.{pair_of, pair_with, pairs_in}
+use Rattle.ec_semaphore.specs.Both.{sequencer_number, is_begun, both_rule, both_rules}
+use Rattle.ec_semaphore.specs.Pairs.{pair_after, pair_with, pairs_in}
 use Rattle.ec_semaphore.specs.InOrder.{calls_at, ticket_entry, DrawsPair, ArePairs}
-use Rattle.ec_semaphore.proofs.TicketOrder.{seat_of, pairs_at, no_pair, outside, paired}
+use Rattle.ec_semaphore.proofs.TicketOrder.{seat_of, pairs_at, no_pair, paired}
+use Rattle.ec_semaphore.proofs.shared.Implying.{outside}
+use Rattle.ec_core.proofs.shared.Stepping.{entry as entry_of}
 
 -- ONE ENTRY
 
@@ -38,134 +40,137 @@ act_is t x past q acc is =
       | inr k ↦ (let P : Act → Type 0 = λ a. IsReading t a in absurd (subst P is k.0))
     ]
 
-abbrev entry_of : ℕ → Act → Reply → Entry
-entry_of w act reply = record { worker = w; act = act; reply = reply }
-
 ticket_is : (x : Entry) (q n : ℕ) → x.act ≡ Ticket q → x.reply ≡ Number n → x ≡ ticket_entry x.worker q n
 ticket_is x q n act reply =
     let first : x ≡ entry_of x.worker (Ticket q) x.reply = ap (λ a. entry_of x.worker a x.reply) act in
     first ∙ ap (entry_of x.worker (Ticket q)) reply
 
--- the entry draws the first ticket of its worker's guarded part
-pub record DrawsFirst (c : Semaphore) (lines : ℕ → Bool) (x : Entry) (past : List Entry) (t r : Told) : Type 0 where
-  pub wait : Told
+-- the entry draws the first ticket of its worker's critical section
+pub record DrawsFirst (c : Semaphore) (lines : ℕ → Bool) (x : Entry) (past : List Entry) (t r : CompletedCall) : Type 0 where
+  pub wait : CompletedCall
   pub was : block (both_rule c lines) x.worker past ≡ t ∷ wait ∷ []
-  pub is : x ≡ ticket_entry x.worker (line_of r.op) (number_of r.reply)
+  pub is : x ≡ ticket_entry x.worker (sequencer_number r.op) (reply_number r.reply)
 
 -- the entry draws the second
 record DrawsSecond (c : Semaphore) (lines : ℕ → Bool) (x : Entry) (past : List Entry) : Type 0 where
-  ticket : Told
-  wait : Told
-  first : Told
+  ticket : CompletedCall
+  wait : CompletedCall
+  first : CompletedCall
   line : ℕ
   number : ℕ
   was : block (both_rule c lines) x.worker past ≡ ticket ∷ wait ∷ first ∷ []
   is : x ≡ ticket_entry x.worker line number
 
--- a worker that has three calls of its guarded part after an entry of its own drew the first ticket by it
-first_of : (c : Semaphore) (lines : ℕ → Bool) (t : Tables) (x : Entry) (past : List Entry) (calls : List Told) (u a r : Told) → IsAccepted t (x ∷ past)
-    → block (both_rule c lines) x.worker past ≡ calls → (is_begun calls || is_on c (op_at x past)) ≡ true → (both_rule c lines).fits calls (op_at x past) ≡ true → IsTold t past (op_at x past) x.reply
+-- a worker that has three calls of its critical section after an entry of its own drew the first
+-- ticket by it
+first_of : (c : Semaphore) (lines : ℕ → Bool) (t : Tables) (x : Entry) (past : List Entry) (calls : List CompletedCall) (u a r : CompletedCall) → IsAccepted t (x ∷ past)
+    → block (both_rule c lines) x.worker past ≡ calls → (is_begun calls || is_on c (op_at x past)) ≡ true → (both_rule c lines).fits calls (op_at x past) ≡ true → IsReplyTo t past (op_at x past) x.reply
     → block (both_rule c lines) x.worker (x ∷ past) ≡ u ∷ a ∷ r ∷ [] → DrawsFirst c lines x past u r
-first_of c lines t x past [] u a r acc at on due told three =
-    let P : Act → Type 0 = λ z. IsTold t past z x.reply in
+first_of c lines t x past [] u a r acc at on due returned three =
+    let P : Act → Type 0 = λ z. IsReplyTo t past z x.reply in
     let op : op_at x past ≡ Ticket c.line = sym (is_act-true (Ticket c.line) (op_at x past) (and_parts (is_act (Ticket c.line) (op_at x past)) true due).0) in
-    let reply : x.reply ≡ Number (issued c.line past) = subst P op told in
+    let reply : x.reply ≡ Number (issued c.line past) = subst P op returned in
     let next = after_told (both_rule c lines) x past [] (op_at x past) at refl on (ap is_pending reply) in
     absurd (cc)
-first_of c lines t x past (v ∷ []) u a r acc at on due told three =
-    let P : Act → Type 0 = λ z. IsTold t past z x.reply in
-    let op : op_at x past ≡ Await c.count (number_of v.reply) = sym (is_act-true (Await c.count (number_of v.reply)) (op_at x past) (and_parts (is_act (Await c.count (number_of v.reply)) (op_at x past)) true due).0) in
-    elim (subst P op told) [
+first_of c lines t x past (v ∷ []) u a r acc at on due returned three =
+    let P : Act → Type 0 = λ z. IsReplyTo t past z x.reply in
+    let op : op_at x past ≡ Await c.count (reply_number v.reply) = sym (is_act-true (Await c.count (reply_number v.reply)) (op_at x past) (and_parts (is_act (Await c.count (reply_number v.reply)) (op_at x past)) true due).0) in
+    elim (subst P op returned) [
       | inl pending ↦ (let same = after_pending (both_rule c lines) x past pending ∙ at in absurd (cc))
       | inr k ↦ (let next = after_told (both_rule c lines) x past (v ∷ []) (op_at x past) at refl on (ap is_pending k.3) in absurd (cc))
     ]
-first_of c lines t x past (v ∷ b ∷ []) u a r acc at on due told three =
-    let P : Act → Type 0 = λ z. IsTold t past z x.reply in
-    let q = line_of (op_at x past) in
-    let ok = and_parts (is_act (Ticket (line_of (op_at x past))) (op_at x past)) (lines (line_of (op_at x past))) due in
-    let op : op_at x past ≡ Ticket (line_of (op_at x past)) = sym (is_act-true (Ticket (line_of (op_at x past))) (op_at x past) ok.0) in
-    let reply : x.reply ≡ Number (issued (line_of (op_at x past)) past) = subst P op told in
-    let n : Told = record { op = op_at x past; reply = x.reply } in
+first_of c lines t x past (v ∷ b ∷ []) u a r acc at on due returned three =
+    let P : Act → Type 0 = λ z. IsReplyTo t past z x.reply in
+    let q = sequencer_number (op_at x past) in
+    let ok = and_parts (is_act (Ticket (sequencer_number (op_at x past))) (op_at x past)) (lines (sequencer_number (op_at x past))) due in
+    let op : op_at x past ≡ Ticket (sequencer_number (op_at x past)) = sym (is_act-true (Ticket (sequencer_number (op_at x past))) (op_at x past) ok.0) in
+    let reply : x.reply ≡ Number (issued (sequencer_number (op_at x past)) past) =
+    subst P op returned in
+    let n : CompletedCall = record { op = op_at x past; reply = x.reply } in
     let next : block (both_rule c lines) x.worker (x ∷ past) ≡ v ∷ b ∷ n ∷ [] = after_told (both_rule c lines) x past (v ∷ b ∷ []) (op_at x past) at refl on (ap is_pending reply) in
     let same : v ∷ b ∷ n ∷ [] ≡ u ∷ a ∷ r ∷ [] = sym next ∙ three in
     let first : v ≡ u = cc in
     let third : n ≡ r = cc in
-    let line : line_of (op_at x past) ≡ line_of r.op = ap (λ (z : Told). line_of z.op) third in
-    let number : number_of x.reply ≡ number_of r.reply = ap (λ (z : Told). number_of z.reply) third in
+    let line : sequencer_number (op_at x past) ≡ sequencer_number r.op =
+    ap (λ (z : CompletedCall). sequencer_number z.op) third in
+    let number : reply_number x.reply ≡ reply_number r.reply = ap (λ (z : CompletedCall). reply_number z.reply) third in
     record {
       wait = b;
       was = at ∙ ap (λ z. z ∷ b ∷ []) first;
-      is = ticket_is x (line_of r.op) (number_of r.reply) (act_is t x past (line_of (op_at x past)) acc op ∙ ap Ticket line) (reply ∙ ap Number (sym (ap number_of reply) ∙ number));
+      is = ticket_is x (sequencer_number r.op) (reply_number r.reply) (act_is t x past (sequencer_number (op_at x past)) acc op ∙ ap Ticket line) (reply ∙ ap Number (sym (ap reply_number reply) ∙ number));
     }
-first_of c lines t x past (v ∷ b ∷ s ∷ []) u a r acc at on due told three =
-    let P : Act → Type 0 = λ z. IsTold t past z x.reply in
-    let ok = and_parts (is_act (Ticket (line_of (op_at x past))) (op_at x past)) (lines (line_of (op_at x past)) && not (line_of s.op == line_of (op_at x past))) due in
-    let op : op_at x past ≡ Ticket (line_of (op_at x past)) = sym (is_act-true (Ticket (line_of (op_at x past))) (op_at x past) ok.0) in
-    let reply : x.reply ≡ Number (issued (line_of (op_at x past)) past) = subst P op told in
+first_of c lines t x past (v ∷ b ∷ s ∷ []) u a r acc at on due returned three =
+    let P : Act → Type 0 = λ z. IsReplyTo t past z x.reply in
+    let ok = and_parts (is_act (Ticket (sequencer_number (op_at x past))) (op_at x past)) (lines (sequencer_number (op_at x past)) && not (sequencer_number s.op == sequencer_number (op_at x past))) due in
+    let op : op_at x past ≡ Ticket (sequencer_number (op_at x past)) = sym (is_act-true (Ticket (sequencer_number (op_at x past))) (op_at x past) ok.0) in
+    let reply : x.reply ≡ Number (issued (sequencer_number (op_at x past)) past) =
+    subst P op returned in
     let next = after_told (both_rule c lines) x past (v ∷ b ∷ s ∷ []) (op_at x past) at refl on (ap is_pending reply) in
     absurd (cc)
-first_of c lines t x past (v ∷ b ∷ s ∷ y ∷ []) u a r acc at on due told three =
-    let P : Act → Type 0 = λ z. IsTold t past z x.reply in
+first_of c lines t x past (v ∷ b ∷ s ∷ y ∷ []) u a r acc at on due returned three =
+    let P : Act → Type 0 = λ z. IsReplyTo t past z x.reply in
     let op : op_at x past ≡ Advance c.count = sym (is_act-true (Advance c.count) (op_at x past) (and_parts (is_act (Advance c.count) (op_at x past)) true due).0) in
-    let reply : x.reply ≡ Done = subst P op told in
+    let reply : x.reply ≡ Done = subst P op returned in
     let next = after_told (both_rule c lines) x past (v ∷ b ∷ s ∷ y ∷ []) (op_at x past) at refl on (ap is_pending reply) in
     absurd (cc)
-first_of c lines t x past (v ∷ b ∷ s ∷ y ∷ z ∷ rest) u a r acc at on due told three = cc
+first_of c lines t x past (v ∷ b ∷ s ∷ y ∷ z ∷ rest) u a r acc at on due returned three = cc
 
 -- an entry that completes a pair draws the second ticket
-second_of : (c : Semaphore) (lines : ℕ → Bool) (t : Tables) (x : Entry) (past : List Entry) (calls : List Told) → IsAccepted t (x ∷ past)
-    → block (both_rule c lines) x.worker past ≡ calls → (both_rule c lines).fits calls (op_at x past) ≡ true → IsTold t past (op_at x past) x.reply
+second_of : (c : Semaphore) (lines : ℕ → Bool) (t : Tables) (x : Entry) (past : List Entry) (calls : List CompletedCall) → IsAccepted t (x ∷ past)
+    → block (both_rule c lines) x.worker past ≡ calls → (both_rule c lines).fits calls (op_at x past) ≡ true → IsReplyTo t past (op_at x past) x.reply
     → (pair_with calls x ≡ None) ⊎ DrawsSecond c lines x past
-second_of c lines t x past [] acc at due told = inl refl
-second_of c lines t x past (u ∷ []) acc at due told = inl refl
-second_of c lines t x past (u ∷ a ∷ []) acc at due told = inl refl
-second_of c lines t x past (u ∷ a ∷ r ∷ []) acc at due told =
-    let P : Act → Type 0 = λ z. IsTold t past z x.reply in
-    let ok = and_parts (is_act (Ticket (line_of (op_at x past))) (op_at x past)) (lines (line_of (op_at x past)) && not (line_of r.op == line_of (op_at x past))) due in
-    let op : op_at x past ≡ Ticket (line_of (op_at x past)) = sym (is_act-true (Ticket (line_of (op_at x past))) (op_at x past) ok.0) in
-    let reply : x.reply ≡ Number (issued (line_of (op_at x past)) past) = subst P op told in
+second_of c lines t x past [] acc at due returned = inl refl
+second_of c lines t x past (u ∷ []) acc at due returned = inl refl
+second_of c lines t x past (u ∷ a ∷ []) acc at due returned = inl refl
+second_of c lines t x past (u ∷ a ∷ r ∷ []) acc at due returned =
+    let P : Act → Type 0 = λ z. IsReplyTo t past z x.reply in
+    let ok = and_parts (is_act (Ticket (sequencer_number (op_at x past))) (op_at x past)) (lines (sequencer_number (op_at x past)) && not (sequencer_number r.op == sequencer_number (op_at x past))) due in
+    let op : op_at x past ≡ Ticket (sequencer_number (op_at x past)) = sym (is_act-true (Ticket (sequencer_number (op_at x past))) (op_at x past) ok.0) in
+    let reply : x.reply ≡ Number (issued (sequencer_number (op_at x past)) past) =
+    subst P op returned in
     inr (record {
       ticket = u;
       wait = a;
       first = r;
-      line = line_of (op_at x past);
-      number = issued (line_of (op_at x past)) past;
+      line = sequencer_number (op_at x past);
+      number = issued (sequencer_number (op_at x past)) past;
       was = at;
-      is = ticket_is x (line_of (op_at x past)) (issued (line_of (op_at x past)) past) (act_is t x past (line_of (op_at x past)) acc op) reply;
+      is = ticket_is x (sequencer_number (op_at x past)) (issued (sequencer_number (op_at x past)) past) (act_is t x past (sequencer_number (op_at x past)) acc op) reply;
     })
-second_of c lines t x past (u ∷ a ∷ r ∷ s ∷ rest) acc at due told = inl refl
+second_of c lines t x past (u ∷ a ∷ r ∷ s ∷ rest) acc at due returned = inl refl
 
-pair_at : (r : Told) (x : Entry) (q n : ℕ) → x ≡ ticket_entry x.worker q n
-    → pair_of r x x.act ≡ Some (record { worker = x.worker; first = line_of r.op; first_ticket = number_of r.reply; second = q; second_ticket = n })
+pair_at : (r : CompletedCall) (x : Entry) (q n : ℕ) → x ≡ ticket_entry x.worker q n
+    → pair_after r x x.act ≡ Some (record { worker = x.worker; first = sequencer_number r.op; first_ticket = reply_number r.reply; second = q; second_ticket = n })
 pair_at r x q n is =
     let act : x.act ≡ Ticket q = ap (λ (e : Entry). e.act) is in
-    let reply : number_of x.reply ≡ n = ap (λ (e : Entry). number_of e.reply) is in
-    ap (pair_of r x) act
-    ∙ ap (λ (m : ℕ). let p : Pair = record { worker = x.worker; first = line_of r.op; first_ticket = number_of r.reply; second = q; second_ticket = m } in Some p) reply
+    let reply : reply_number x.reply ≡ n = ap (λ (e : Entry). reply_number e.reply) is in
+    ap (pair_after r x) act
+    ∙ ap (λ (m : ℕ). let p : Pair = record { worker = x.worker; first = sequencer_number r.op; first_ticket = reply_number r.reply; second = q; second_ticket = m } in Some p) reply
 
 -- MOMENTS
 
 abbrev drawn_at : Semaphore → (ℕ → Bool) → List Entry → ℕ → List Pair
 drawn_at c lines h n = pairs_in c lines (past_at n h)
 
--- a worker that has drawn the first ticket of its guarded part, and not the second, drew it by an entry that is its latest
-record IsHolding (c : Semaphore) (lines : ℕ → Bool) (h : List Entry) (n w : ℕ) (t r : Told) : Type 0 where
+-- a worker that has drawn the first ticket of its critical section, and not the second, drew it by
+-- an entry that is its latest
+record IsHolding (c : Semaphore) (lines : ℕ → Bool) (h : List Entry) (n w : ℕ) (t r : CompletedCall) : Type 0 where
   at : ℕ
   before : at < n
-  entry : slice_get h at ≡ Some (ticket_entry w (line_of r.op) (number_of r.reply))
+  entry : slice_get h at ≡ Some (ticket_entry w (sequencer_number r.op) (reply_number r.reply))
   entered : length (calls_at c lines h at w) ≡ 2
   none_since : (j : ℕ) (x : Entry) → at < j → j < n → slice_get h j ≡ Some x → x.worker ≢ w
-  count : length (drawn_at c lines h at) ≡ number_of t.reply
+  count : length (drawn_at c lines h at) ≡ reply_number t.reply
 
 -- the pairs up to moment n are those that were drawn up to then
-record AreDrawn (c : Semaphore) (lines : ℕ → Bool) (h : List Entry) (n : ℕ) : Type 0 where
+record ArePairsDrawnUpTo (c : Semaphore) (lines : ℕ → Bool) (h : List Entry) (n : ℕ) : Type 0 where
   first_at : ℕ → ℕ
   second_at : ℕ → ℕ
   each : (i : ℕ) (p : Pair) → slice_get (drawn_at c lines h n) i ≡ Some p → DrawsPair c lines h p (first_at i) (second_at i)
   done : (i m : ℕ) → m ≤ n → i < length (drawn_at c lines h m) → second_at i < m
   in_order : (i j : ℕ) → i < j → j < length (drawn_at c lines h n) → first_at i < first_at j
   all : (p : Pair) (k l : ℕ) → DrawsPair c lines h p k l → l < n → (i : ℕ) × (slice_get (drawn_at c lines h n) i ≡ Some p) × (first_at i ≡ k)
-  holding : (w : ℕ) (t a r : Told) → calls_at c lines h n w ≡ t ∷ a ∷ r ∷ [] → IsHolding c lines h n w t r
+  holding : (w : ℕ) (t a r : CompletedCall) → calls_at c lines h n w ≡ t ∷ a ∷ r ∷ [] → IsHolding c lines h n w t r
 
 below_next : (j n : ℕ) → j < suc n → (j < n) ⊎ (j ≡ n)
 below_next j n lt =
@@ -191,7 +196,8 @@ calls_kept c lines h w k (suc m) lt none =
       | inr same ↦ ap (λ n. calls_at c lines h (suc n) w) (sym same)
     ]
 
-two_long : (calls : List Told) → length calls ≡ 2 → (t : Told) × (a : Told) × (calls ≡ t ∷ a ∷ [])
+two_long : (calls : List CompletedCall) → length calls ≡ 2 → (t : CompletedCall)
+    × (a : CompletedCall) × (calls ≡ t ∷ a ∷ [])
 two_long [] h = absurd (omega arith)
 two_long (t ∷ []) h = absurd (omega arith)
 two_long (t ∷ a ∷ []) h = (t, a, refl)
@@ -204,7 +210,7 @@ completes c lines h p k l x d is =
     let y = ticket_entry p.worker p.first p.first_ticket in
     let z = ticket_entry p.worker p.second p.second_ticket in
     let two = two_long (calls_at c lines h k p.worker) d.entered in
-    let n : Told = record { op = Ticket p.first; reply = Number p.first_ticket } in
+    let n : CompletedCall = record { op = Ticket p.first; reply = Number p.first_ticket } in
     let after : block (both_rule c lines) p.worker (y ∷ past_at k h) ≡ two.0 ∷ two.1 ∷ n ∷ [] =
     after_told (both_rule c lines) y (past_at k h) (two.0 ∷ two.1 ∷ []) (Ticket p.first) two.2 refl refl refl in
     let held : calls_at c lines h l p.worker ≡ two.0 ∷ two.1 ∷ n ∷ [] =
@@ -224,11 +230,6 @@ get_push (x ∷ xs) y z (suc i) h =
       | inl k ↦ (let lt : i < length xs = k.0 in inl (omega arith, k.1))
       | inr k ↦ (let same : i ≡ length xs = k.0 in inr (omega arith, k.1))
     ]
-
-get_old : {X : Type 0} (xs ys : List X) (i : ℕ) → i < length xs → slice_get (xs ++ ys) i ≡ slice_get xs i
-get_old [] ys i lt = absurd (omega arith)
-get_old (x ∷ xs) ys zero lt = refl
-get_old (x ∷ xs) ys (suc i) lt = get_old xs ys i (omega arith)
 
 element : {X : Type 0} (xs : List X) (i : ℕ) → i < length xs → (x : X) × (slice_get xs i ≡ Some x)
 element xs i below =
@@ -271,17 +272,17 @@ step_at c lines t h n x apart dec acc f is = record {
 }
 
 -- the worker whose turn it is: as many pairs are drawn as its ticket says
-turn_at : (c : Semaphore) (lines : ℕ → Bool) (t : Tables) (h : List Entry) (n : ℕ) (x : Entry) (w : ℕ) (u a : Told) (rest : List Told) → IsStep c lines t h n x
-    → calls_at c lines h n w ≡ u ∷ a ∷ rest → length rest ≤ 1 → length (drawn_at c lines h n) ≡ number_of u.reply
+turn_at : (c : Semaphore) (lines : ℕ → Bool) (t : Tables) (h : List Entry) (n : ℕ) (x : Entry) (w : ℕ) (u a : CompletedCall) (rest : List CompletedCall) → IsStep c lines t h n x
+    → calls_at c lines h n w ≡ u ∷ a ∷ rest → length rest ≤ 1 → length (drawn_at c lines h n) ≡ reply_number u.reply
 turn_at c lines t h n x w u a rest s at few =
     let b = paired c lines t (past_at n h) s.apart s.declared s.accepted.1 s.followed.1 in
     let seated = ap seat_of at in
-    let stage : (seat_of (calls_at c lines h n w)).stage ≡ 1 + length (a ∷ rest) = ap (λ (z : Seat). z.stage) seated in
-    let turn : (seat_of (calls_at c lines h n w)).turn ≡ number_of u.reply = ap (λ (z : Seat). z.turn) seated in
+    let stage : (seat_of (calls_at c lines h n w)).stage ≡ 1 + length (a ∷ rest) = ap (λ (z : QueuePosition). z.stage) seated in
+    let turn : (seat_of (calls_at c lines h n w)).turn ≡ reply_number u.reply = ap (λ (z : QueuePosition). z.turn) seated in
     let k = turn_is _ _ _ _ w b.queue (omega arith) (omega arith) in
     sym k.0 ∙ turn
 
-held_later : (c : Semaphore) (lines : ℕ → Bool) (h : List Entry) (n w : ℕ) (t r : Told) → ((x : Entry) → slice_get h n ≡ Some x → x.worker ≢ w) → IsHolding c lines h n w t r → IsHolding c lines h (suc n) w t r
+held_later : (c : Semaphore) (lines : ℕ → Bool) (h : List Entry) (n w : ℕ) (t r : CompletedCall) → ((x : Entry) → slice_get h n ≡ Some x → x.worker ≢ w) → IsHolding c lines h n w t r → IsHolding c lines h (suc n) w t r
 held_later c lines h n w t r other k = record {
   at = k.at;
   before = (let lt : k.at < n = k.before in omega arith);
@@ -296,7 +297,7 @@ held_later c lines h n w t r other k = record {
 }
 
 -- a worker that has drawn the first of two tickets, and not the second, after its own entry drew it by this one
-pub draws_first : (c : Semaphore) (lines : ℕ → Bool) (t : Tables) (x : Entry) (past : List Entry) (u a r : Told) → IsDeclared t → IsAccepted t (x ∷ past) → Follow (both_rules c lines) (x ∷ past)
+pub draws_first : (c : Semaphore) (lines : ℕ → Bool) (t : Tables) (x : Entry) (past : List Entry) (u a r : CompletedCall) → IsDeclared t → IsAccepted t (x ∷ past) → Follow (both_rules c lines) (x ∷ past)
     → block (both_rule c lines) x.worker (x ∷ past) ≡ u ∷ a ∷ r ∷ [] → DrawsFirst c lines x past u r
 draws_first c lines t x past u a r dec acc f at =
     elim (step_due t (both_rules c lines) x past dec acc f) [
@@ -308,7 +309,7 @@ draws_first c lines t x past u a r dec acc f at =
       | inr due ↦ first_of c lines t x past (block (both_rule c lines) x.worker past) u a r acc refl due.0 due.1 (step_told t x past dec acc) at
     ]
 
-held_now : (c : Semaphore) (lines : ℕ → Bool) (t : Tables) (h : List Entry) (n : ℕ) (x : Entry) (u a r : Told) → IsStep c lines t h n x → block (both_rule c lines) x.worker (x ∷ past_at n h) ≡ u ∷ a ∷ r ∷ []
+held_now : (c : Semaphore) (lines : ℕ → Bool) (t : Tables) (h : List Entry) (n : ℕ) (x : Entry) (u a r : CompletedCall) → IsStep c lines t h n x → block (both_rule c lines) x.worker (x ∷ past_at n h) ≡ u ∷ a ∷ r ∷ []
     → IsHolding c lines h (suc n) x.worker u r
 held_now c lines t h n x u a r s at =
     let d = draws_first c lines t x (past_at n h) u a r s.declared s.accepted s.followed at in
@@ -322,8 +323,8 @@ held_now c lines t h n x u a r s at =
     }
 
 holding_next : (c : Semaphore) (lines : ℕ → Bool) (t : Tables) (h : List Entry) (n : ℕ) (x : Entry) → IsStep c lines t h n x
-    → ((w : ℕ) (u a r : Told) → calls_at c lines h n w ≡ u ∷ a ∷ r ∷ [] → IsHolding c lines h n w u r)
-    → (w : ℕ) (u a r : Told) → calls_at c lines h (suc n) w ≡ u ∷ a ∷ r ∷ [] → IsHolding c lines h (suc n) w u r
+    → ((w : ℕ) (u a r : CompletedCall) → calls_at c lines h n w ≡ u ∷ a ∷ r ∷ [] → IsHolding c lines h n w u r)
+    → (w : ℕ) (u a r : CompletedCall) → calls_at c lines h (suc n) w ≡ u ∷ a ∷ r ∷ [] → IsHolding c lines h (suc n) w u r
 holding_next c lines t h n x s before w u a r at =
     let now : block (both_rule c lines) w (x ∷ past_at n h) ≡ u ∷ a ∷ r ∷ [] = ap (block (both_rule c lines) w) (sym (past_next h n x s.entry)) ∙ at in
     elim (x.worker == w) as (λ b. (x.worker == w) ≡ b → IsHolding c lines h (suc n) w u r) [
@@ -356,7 +357,7 @@ drawn_up c lines h m (suc n) le =
     ] refl
 
 -- an entry that completes no pair
-none_next : (c : Semaphore) (lines : ℕ → Bool) (t : Tables) (h : List Entry) (n : ℕ) (x : Entry) → IsStep c lines t h n x → pair_with (calls_at c lines h n x.worker) x ≡ None → AreDrawn c lines h n → AreDrawn c lines h (suc n)
+none_next : (c : Semaphore) (lines : ℕ → Bool) (t : Tables) (h : List Entry) (n : ℕ) (x : Entry) → IsStep c lines t h n x → pair_with (calls_at c lines h n x.worker) x ≡ None → ArePairsDrawnUpTo c lines h n → ArePairsDrawnUpTo c lines h (suc n)
 none_next c lines t h n x s none b =
     let same : drawn_at c lines h (suc n) ≡ drawn_at c lines h n = ap (pairs_in c lines) (past_next h n x s.entry) ∙ no_pair c lines x (past_at n h) (calls_at c lines h n x.worker) refl none in
     let long : length (drawn_at c lines h (suc n)) ≡ length (drawn_at c lines h n) = ap length same in
@@ -391,22 +392,22 @@ apart_cases a b other =
     ] refl
 
 -- a worker's latest entry before its second ticket is the one that drew the first
-one_first : (c : Semaphore) (lines : ℕ → Bool) (h : List Entry) (p : Pair) (k n : ℕ) (t r : Told) → DrawsPair c lines h p k n → (i : IsHolding c lines h n p.worker t r) → i.at ≡ k
+one_first : (c : Semaphore) (lines : ℕ → Bool) (h : List Entry) (p : Pair) (k n : ℕ) (t r : CompletedCall) → DrawsPair c lines h p k n → (i : IsHolding c lines h n p.worker t r) → i.at ≡ k
 one_first c lines h p k n t r d i =
     elim (i.at == k) as (λ b. (i.at == k) ≡ b → i.at ≡ k) [
       | true ↦ λ e. eqb-true i.at k e
       | false ↦ λ e.
           (elim (apart_cases i.at k (eqb-false i.at k e)) [
             | inl less ↦ absurd (i.none_since k (ticket_entry p.worker p.first p.first_ticket) less d.order d.first refl)
-            | inr more ↦ absurd (d.none_between i.at (ticket_entry p.worker (line_of r.op) (number_of r.reply)) more i.before i.entry refl)
+            | inr more ↦ absurd (d.none_between i.at (ticket_entry p.worker (sequencer_number r.op) (reply_number r.reply)) more i.before i.entry refl)
           ])
     ] refl
 
-abbrev pair_from : Entry → Told → ℕ → ℕ → Pair
-pair_from x r q n = record { worker = x.worker; first = line_of r.op; first_ticket = number_of r.reply; second = q; second_ticket = n }
+abbrev pair_from : Entry → CompletedCall → ℕ → ℕ → Pair
+pair_from x r q n = record { worker = x.worker; first = sequencer_number r.op; first_ticket = reply_number r.reply; second = q; second_ticket = n }
 
 -- an entry that completes one
-pair_next : (c : Semaphore) (lines : ℕ → Bool) (t : Tables) (h : List Entry) (n : ℕ) (x : Entry) → IsStep c lines t h n x → DrawsSecond c lines x (past_at n h) → AreDrawn c lines h n → AreDrawn c lines h (suc n)
+pair_next : (c : Semaphore) (lines : ℕ → Bool) (t : Tables) (h : List Entry) (n : ℕ) (x : Entry) → IsStep c lines t h n x → DrawsSecond c lines x (past_at n h) → ArePairsDrawnUpTo c lines h n → ArePairsDrawnUpTo c lines h (suc n)
 pair_next c lines t h n x s d b =
     let old = drawn_at c lines h n in
     let m = length (drawn_at c lines h n) in
@@ -499,7 +500,7 @@ pair_next c lines t h n x s d b =
 
 -- THE WHOLE HISTORY
 
-drawn_first : (c : Semaphore) (lines : ℕ → Bool) (h : List Entry) → AreDrawn c lines h 0
+drawn_first : (c : Semaphore) (lines : ℕ → Bool) (h : List Entry) → ArePairsDrawnUpTo c lines h 0
 unfolding pairs_in block
 drawn_first c lines h = record {
   first_at = λ i. 0;
@@ -511,7 +512,7 @@ drawn_first c lines h = record {
   holding = λ w t a r at. cc;
 }
 
-drawn_next : (c : Semaphore) (lines : ℕ → Bool) (t : Tables) (h : List Entry) (n : ℕ) (x : Entry) → IsStep c lines t h n x → AreDrawn c lines h n → AreDrawn c lines h (suc n)
+drawn_next : (c : Semaphore) (lines : ℕ → Bool) (t : Tables) (h : List Entry) (n : ℕ) (x : Entry) → IsStep c lines t h n x → ArePairsDrawnUpTo c lines h n → ArePairsDrawnUpTo c lines h (suc n)
 drawn_next c lines t h n x s b =
     let calls = calls_at c lines h n x.worker in
     elim (step_due t (both_rules c lines) x (past_at n h) s.declared s.accepted s.followed) [
@@ -526,7 +527,7 @@ drawn_next c lines t h n x s b =
     ]
 
 drawn_until : (c : Semaphore) (lines : ℕ → Bool) (t : Tables) (h : List Entry) (n : ℕ) → lines c.line ≡ false → IsDeclared t → IsAccepted t (reverse h) → Follow (both_rules c lines) (reverse h)
-    → n ≤ length h → AreDrawn c lines h n
+    → n ≤ length h → ArePairsDrawnUpTo c lines h n
 drawn_until c lines t h zero apart dec acc f le = drawn_first c lines h
 drawn_until c lines t h (suc n) apart dec acc f le =
     (let x = element h n (omega arith) in

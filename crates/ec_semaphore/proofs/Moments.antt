@@ -1,4 +1,4 @@
--- What holds of the past at each moment of a history.
+-- What holds of the history so far at each moment.
 use Rattle.std.proofs.Common.{◌≡◌, ℕ, zero, suc, ◌+◌, ◌≤◌, List, Option, Some, None, slice_get, refl, ap, sym, ◌∙◌, arith, cond, pos, ◌≤ℤ◌, ◌-ℤ◌}
 use Rattle.std.specs.Option.{option_map_or}
 use Rattle.std.proofs.Math.Nat.{zero-add}
@@ -11,7 +11,7 @@ use Rattle.ec_semaphore.specs.Shapes.{Semaphore}
 use Rattle.ec_semaphore.specs.Uses.{use_rules}
 use Rattle.ec_semaphore.specs.Balances.{is_down, downs}
 use Rattle.ec_semaphore.specs.InOrder.{down_at}
-use Rattle.ec_semaphore.specs.Laws.{DownsCountFinishedWaits, BalancesAreNeverNegative}
+use Rattle.ec_semaphore.specs.Laws.{DownsCountCompletedAwaits, BalancesAreNeverNegative}
 use Rattle.ec_semaphore.proofs.NeverNegative.{downs_few}
 
 -- one more entry, or none
@@ -21,7 +21,7 @@ unfolding downs
 grown_by s k h None at = ap (downs s) (past_end h k at) ∙ sym (zero-add (downs s (past_at k h)))
 grown_by s k h (Some x) at = ap (downs s) (past_next h k x at)
 
-pub downs_count : DownsCountFinishedWaits
+pub downs_count : DownsCountCompletedAwaits
 unfolding downs sum_to
 downs_count s zero h = refl
 downs_count s (suc k) h = grown_by s k h (slice_get h k) refl ∙ ap (λ n. down_at s h k + n) (downs_count s k h)

@@ -6,18 +6,18 @@ use Rattle.ec_core.specs.declared.act.Act.TheVariants.{Ticket}
 use Rattle.ec_core.specs.declared.act.Reply.TheVariants.{Number}
 use Rattle.ec_core.specs.declared.act.Entry.{Entry}
 use Rattle.ec_core.specs.Counts.{past_at}
-use Rattle.ec_core.specs.Following.{Told, block}
+use Rattle.ec_core.specs.Following.{CompletedCall, block}
 use Rattle.ec_semaphore.specs.declared.pair.Pair.{Pair}
 use Rattle.ec_semaphore.specs.Shapes.{Semaphore}
 use Rattle.ec_semaphore.specs.Balances.{is_down}
 use Rattle.ec_semaphore.specs.Both.{both_rule}
 
--- 1 if entry i finishes a P
+-- 1 if entry i completes a P
 abbrev pub down_at : Semaphore → List Entry → ℕ → ℕ
 down_at s h i = option_map_or (λ (x : Entry). if is_down s x (past_at i h) then 1 else 0) (slice_get h i) 0
 
--- the calls of its critical section that a worker has finished at moment k
-abbrev pub calls_at : Semaphore → (ℕ → Bool) → List Entry → ℕ → ℕ → List Told
+-- the calls of its critical section that a worker has completed at moment k
+abbrev pub calls_at : Semaphore → (ℕ → Bool) → List Entry → ℕ → ℕ → List CompletedCall
 calls_at c lines h k w = block (both_rule c lines) w (past_at k h)
 
 -- a worker draws a ticket

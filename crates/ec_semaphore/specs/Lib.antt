@@ -5,8 +5,8 @@ pub mod Auditing
 pub mod Both
 pub mod Pairs
 pub mod Spent
-pub mod DownPlaces
-pub mod BothPlaces
+pub mod DownPhases
+pub mod BothPhases
 pub mod Keeping
 pub mod Completing
 pub mod InOrder

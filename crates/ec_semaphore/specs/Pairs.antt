@@ -3,30 +3,30 @@ use Rattle.std.specs.Prelude.{◌≡◌, ℕ, ◌<◌, Bool, List, [], ◌∷◌
 use Rattle.ec_core.specs.declared.act.Act.{Act}
 use Rattle.ec_core.specs.declared.act.Act.TheVariants.{Ticket}
 use Rattle.ec_core.specs.declared.act.Entry.{Entry}
-use Rattle.ec_core.specs.Following.{Told, block}
-use Rattle.ec_core.specs.CallLists.{number_of}
+use Rattle.ec_core.specs.Following.{CompletedCall, block}
+use Rattle.ec_core.specs.CallLists.{reply_number}
 use Rattle.ec_semaphore.specs.declared.pair.Pair.{Pair}
 use Rattle.ec_semaphore.specs.Shapes.{Semaphore}
-use Rattle.ec_semaphore.specs.Both.{line_of, is_line, both_rule}
+use Rattle.ec_semaphore.specs.Both.{sequencer_number, is_semaphore_sequencer, both_rule}
 
 -- the first ticket, and one more, if the act draws one
-abbrev pub pair_of : Told → Entry → Act → Option Pair
-pair_of r x (Ticket q) = Some (record { worker = x.worker; first = line_of r.op; first_ticket = number_of r.reply; second = q; second_ticket = number_of x.reply })
-pair_of r x _ = None
+abbrev pub pair_after : CompletedCall → Entry → Act → Option Pair
+pair_after r x (Ticket q) = Some (record { worker = x.worker; first = sequencer_number r.op; first_ticket = reply_number r.reply; second = q; second_ticket = reply_number x.reply })
+pair_after r x _ = None
 
 -- the pair that an entry completes, if its worker has made these calls of its critical section
-abbrev pub pair_with : List Told → Entry → Option Pair
-pair_with (t ∷ a ∷ r ∷ []) x = pair_of r x x.act
+abbrev pub pair_with : List CompletedCall → Entry → Option Pair
+pair_with (t ∷ a ∷ r ∷ []) x = pair_after r x x.act
 pair_with calls x = None
 
--- the pairs of a past, in the order in which they were completed
+-- the pairs of a history so far, in the order in which they were completed
 unfoldable pub pairs_in : Semaphore → (ℕ → Bool) → List Entry → List Pair
 pairs_in c lines [] = []
 pairs_in c lines (x ∷ past) = pairs_in c lines past ++ option_to_list (pair_with (block (both_rule c lines) x.worker past) x)
 
 -- the pairs of a history
 abbrev pub pairs_of : Semaphore → List Semaphore → List Entry → List Pair
-pairs_of c shapes h = pairs_in c (is_line c shapes) (reverse h)
+pairs_of c shapes h = pairs_in c (is_semaphore_sequencer c shapes) (reverse h)
 
 -- each ticket of the pair on q is below n
 pub record IsBelow (q n : ℕ) (p : Pair) : Type 0 where

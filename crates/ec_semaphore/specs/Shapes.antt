@@ -7,7 +7,8 @@ use Rattle.ec_count.specs.Members.{has_repeat}
 use Rattle.ec_count.specs.Tables.{Tables, first_that, names_unknown, with_fixed_event}
 use Rattle.ec_semaphore.specs.declared.shape.TheConstants.{INITIAL_MAX}
 
--- the eventcount of a semaphore, the sequencer on which those who want to take one line up, and how many there are at first
+-- the eventcount of a semaphore, the sequencer from which each P draws its ticket, and the initial
+-- value
 pub record Semaphore : Type 0 where
   pub count : ℕ
   pub line : ℕ
@@ -22,7 +23,8 @@ semaphore_fault t initial users = first_that (
     ∷ (length users == 0, Empty)
     ∷ [])
 
--- the tables with one more semaphore: a fixed eventcount that its users signal and observe, then a sequencer that they draw from
+-- the tables with one more semaphore: an eventcount that its users signal and observe, whose
+-- components are not transferable, then a sequencer that they draw from
 abbrev pub with_semaphore : Tables → List ℕ → Tables
 with_semaphore t users = with_sequencer (with_fixed_event t users users) users
 

@@ -2,12 +2,12 @@
 use Rattle.std.specs.Prelude.{ℕ}
 use Rattle.ec_core.specs.declared.act.Act.TheVariants.{Go}
 use Rattle.ec_core.specs.declared.act.Reply.TheVariants.{Done, Number}
-use Rattle.ec_core.specs.Following.{Told}
+use Rattle.ec_core.specs.Following.{CompletedCall}
 
 -- one of which nothing is needed any more
-abbrev pub spent : Told
-spent = record { op = Go; reply = Done }
+abbrev pub unneeded_call : CompletedCall
+unneeded_call = record { op = Go; reply = Done }
 
--- one of which the number that it told is needed
-abbrev pub told_number : ℕ → Told
-told_number n = record { op = Go; reply = Number n }
+-- one of which the number that it returned is needed
+abbrev pub call_with_number : ℕ → CompletedCall
+call_with_number n = record { op = Go; reply = Number n }

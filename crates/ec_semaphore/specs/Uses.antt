@@ -3,8 +3,8 @@ use Rattle.std.specs.Prelude.{ℕ, ◌+◌, ◌-◌, Bool, true, false, ◌==◌
 use Rattle.ec_core.specs.declared.act.Act.{Act}
 use Rattle.ec_core.specs.declared.act.Act.TheVariants.{Advance, Await, Ticket}
 use Rattle.ec_core.specs.Counts.{is_advance}
-use Rattle.ec_core.specs.Following.{Told, Rule}
-use Rattle.ec_core.specs.CallLists.{is_among, is_due, number_of}
+use Rattle.ec_core.specs.Following.{CompletedCall, Rule}
+use Rattle.ec_core.specs.CallLists.{is_among, is_due, reply_number}
 use Rattle.ec_semaphore.specs.Shapes.{Semaphore}
 
 -- the total that a P with this ticket waits for
@@ -12,18 +12,18 @@ abbrev pub threshold : Semaphore → ℕ → ℕ
 threshold s ticket = ticket + 1 - s.initial
 
 -- P: the call that comes after these completed calls, or none
-abbrev pub down_call : Semaphore → List Told → Option Act
+abbrev pub down_call : Semaphore → List CompletedCall → Option Act
 down_call s [] = Some (Ticket s.line)
-down_call s (t ∷ []) = Some (Await s.count (threshold s (number_of t.reply)))
+down_call s (t ∷ []) = Some (Await s.count (threshold s (reply_number t.reply)))
 down_call s (t ∷ a ∷ rest) = None
 
 -- V: the same
-abbrev pub up_call : Semaphore → List Told → Option Act
+abbrev pub up_call : Semaphore → List CompletedCall → Option Act
 up_call s [] = Some (Advance s.count)
 up_call s (v ∷ rest) = None
 
 -- whether the calls are a whole V or a whole P
-abbrev pub is_whole : Semaphore → List Told → Bool
+abbrev pub is_whole : Semaphore → List CompletedCall → Bool
 is_whole s [] = false
 is_whole s (c ∷ []) = is_advance s.count c.op
 is_whole s (c ∷ d ∷ rest) = true

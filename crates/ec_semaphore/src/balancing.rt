@@ -7,8 +7,8 @@ ghost use Rattle.ec_core.specs.Calls.{is_pending};
 ghost use Rattle.ec_core.specs.Counts.{past_at, is_advance};
 ghost use Rattle.ec_core.specs.Ending.{EndsAt};
 ghost use Rattle.ec_core.specs.Following.{Follow};
-ghost use Rattle.ec_semaphore.specs.Auditing.{IsCounted};
-ghost use Rattle.ec_semaphore.specs.Balances.{is_await, balance_of, parts_of};
+ghost use Rattle.ec_semaphore.specs.Auditing.{RepresentsBalance};
+ghost use Rattle.ec_semaphore.specs.Balances.{is_await, balance_of, balance_parts};
 ghost use Rattle.ec_semaphore.specs.Uses.{use_rules};
 
 use crate::uses::Uses;
@@ -37,7 +37,7 @@ fn is_up(shape: &SemaphoreShape, act: &Act) -> bool
     }
 }
 
-/// Counts one more if it holds. The greatest number stays as it is.
+/// Adds one if `holds`, up to `u64::MAX`.
 #[inline(always)]
 fn count(count: &mut u64, holds: bool)
     ensures { count.old + 1 < 2 ^ 64 → count.new ≡ count.old + (if holds then 1 else 0) }
@@ -47,7 +47,7 @@ fn count(count: &mut u64, holds: bool)
     }
 }
 
-/// The audit of a semaphore in a walk over a run. An entry whose call is not on the semaphore may
+/// The audit of a semaphore in a pass over a run. An entry whose call is not on the semaphore may
 /// be left out.
 #[derive(Drop)]
 pub struct BalanceAudit {
@@ -58,9 +58,9 @@ pub struct BalanceAudit {
 }
 
 impl Model for BalanceAudit {
-    ghost use Rattle.ec_semaphore.specs.Auditing.{Balancing};
+    ghost use Rattle.ec_semaphore.specs.Auditing.{BalanceAuditModel};
 
-    ghost Value = { Balancing };
+    ghost Value = { BalanceAuditModel };
 
     ghost view = { λ s. record { shape = s.uses.shape; tracked = s.tracker; downs = s.downs; ups = s.ups } };
 }
@@ -68,7 +68,7 @@ impl Model for BalanceAudit {
 impl Audit for BalanceAudit {
     ghost use Rattle.ec_semaphore.specs.Auditing.{BalancesOn};
 
-    ghost stands = { BalancesOn };
+    ghost represents = { BalancesOn };
 
     #[inline(never)]
     fn take(&mut self, place: usize, op: &Act, entry: &Entry) {
@@ -83,7 +83,7 @@ impl BalanceAudit {
     /// Makes the audit before the first entry.
     pub fn new(shape: SemaphoreShape) -> Self
         ensures shape { result.shape ≡ shape }
-        ensures first { IsCounted result [] }
+        ensures first { RepresentsBalance result [] }
     {
         let uses = Uses::new(shape);
         BalanceAudit {
@@ -114,16 +114,16 @@ impl BalanceAudit {
     }
 
     /// Returns the parts of the balance after the entries so far, if the workers follow the
-    /// semaphore. Err is NotFollowed, with the first entry that breaks the lists of calls.
+    /// semaphore. The error is `NotFollowed`, with the first entry that breaks the call lists.
     pub fn finish(&self) -> Result<Balance, AuditFault>
-        ensures ok { (t : Tables) (h : List Entry) → EndsAt t (IsCounted self.now) h → IsOk result ↔ Follow (use_rules self.now.shape) (reverse h) }
-        ensures parts { (t : Tables) (h : List Entry) → EndsAt t (IsCounted self.now) h → IfOk result (λ b. b ≡ parts_of self.now.shape (reverse h)) }
-        ensures never_negative { (t : Tables) (h : List Entry) → EndsAt t (IsCounted self.now) h → IsOk result → (k : ℕ) → pos 0 ≤ℤ balance_of self.now.shape (past_at k h) }
-        ensures few { (t : Tables) (h : List Entry) → EndsAt t (IsCounted self.now) h → IfOk result (λ b. b.downs ≤ b.initial + b.ups) }
-        ensures small { (t : Tables) (h : List Entry) → EndsAt t (IsCounted self.now) h → IfOk result (λ b. b.initial + b.ups < 2 ^ 64) }
-        ensures err { (t : Tables) (h : List Entry) → EndsAt t (IsCounted self.now) h → IfErr result (IsFirstBreak (use_rules self.now.shape) h) }
+        ensures ok { (t : Tables) (h : List Entry) → EndsAt t (RepresentsBalance self.now) h → IsOk result ↔ Follow (use_rules self.now.shape) (reverse h) }
+        ensures parts { (t : Tables) (h : List Entry) → EndsAt t (RepresentsBalance self.now) h → IfOk result (λ b. b ≡ balance_parts self.now.shape (reverse h)) }
+        ensures never_negative { (t : Tables) (h : List Entry) → EndsAt t (RepresentsBalance self.now) h → IsOk result → (k : ℕ) → pos 0 ≤ℤ balance_of self.now.shape (past_at k h) }
+        ensures few { (t : Tables) (h : List Entry) → EndsAt t (RepresentsBalance self.now) h → IfOk result (λ b. b.downs ≤ b.initial + b.ups) }
+        ensures small { (t : Tables) (h : List Entry) → EndsAt t (RepresentsBalance self.now) h → IfOk result (λ b. b.initial + b.ups < 2 ^ 64) }
+        ensures err { (t : Tables) (h : List Entry) → EndsAt t (RepresentsBalance self.now) h → IfErr result (IsFirstBreak (use_rules self.now.shape) h) }
     {
-        if let Err(fault) = self.tracker.followed() {
+        if let Err(fault) = self.tracker.finding() {
             return Err(fault);
         }
         let shape = self.uses.shape();
@@ -135,28 +135,29 @@ impl BalanceAudit {
     }
 
     /// Returns the parts of the balance after all entries of a run whose workers follow the
-    /// semaphore. Err is NotFollowed, with the first entry that breaks the lists of calls.
+    /// semaphore. The error is `NotFollowed`, with the first entry that breaks the call lists.
     pub fn balance(&self, run: &Run) -> Result<Balance, AuditFault>
-        requires { IsCounted self.now (reverse run.now.entries) }
+        requires { RepresentsBalance self.now (reverse run.now.entries) }
         ensures ok { IsOk result ↔ Follow (use_rules self.now.shape) (reverse run.now.entries) }
-        ensures parts { IfOk result (λ b. b ≡ parts_of self.now.shape (reverse run.now.entries)) }
+        ensures parts { IfOk result (λ b. b
+            ≡ balance_parts self.now.shape (reverse run.now.entries)) }
         ensures never_negative { IsOk result → (k : ℕ) → pos 0 ≤ℤ balance_of self.now.shape (past_at k run.now.entries) }
         ensures few { IfOk result (λ b. b.downs ≤ b.initial + b.ups) }
         ensures small { IfOk result (λ b. b.initial + b.ups < 2 ^ 64) }
         ensures err { IfErr result (IsFirstBreak (use_rules self.now.shape) run.now.entries) }
     {
-        run.known();
+        run.invariant();
         self.finish()
     }
 }
 
 /// Returns the parts of a semaphore's balance after all entries of a run whose workers follow it.
-/// Err is NotFollowed, with the first entry that breaks the lists of calls; no memory is wanted.
+/// The error is `NotFollowed`, with the first entry that breaks the call lists. Allocates nothing.
 ///
-/// It is meant for a shape that fits the run's declarations; what it answers holds of any.
+/// The shape should fit the run's declarations, but the contract holds for any.
 pub fn balance(run: &Run, shape: &SemaphoreShape) -> Result<Balance, AuditFault>
     ensures ok { IsOk result ↔ Follow (use_rules shape.now) (reverse run.now.entries) }
-    ensures parts { IfOk result (λ b. b ≡ parts_of shape.now (reverse run.now.entries)) }
+    ensures parts { IfOk result (λ b. b ≡ balance_parts shape.now (reverse run.now.entries)) }
     ensures never_negative { IsOk result → (k : ℕ) → pos 0 ≤ℤ balance_of shape.now (past_at k run.now.entries) }
     ensures few { IfOk result (λ b. b.downs ≤ b.initial + b.ups) }
     ensures small { IfOk result (λ b. b.initial + b.ups < 2 ^ 64) }

@@ -1,16 +1,16 @@
 //! P on a semaphore.
 ghost use Rattle.std.specs.Prelude.{◌≡◌, ◌≤◌, false, List};
 ghost use Rattle.ec_core.specs.declared.act.TheConstants.{VALUE_MAX};
-ghost use Rattle.ec_core.specs.Following.{Told};
-ghost use Rattle.ec_semaphore.specs.DownPlaces.{ticket_of};
+ghost use Rattle.ec_core.specs.Following.{CompletedCall};
+ghost use Rattle.ec_semaphore.specs.DownPhases.{ticket_of};
 ghost use Rattle.ec_semaphore.specs.Uses.{threshold, down_call};
 
 use crate::SemaphoreShape;
 use ec_core::{Act, Procedure, Reply, VALUE_MAX};
 
-/// Where a P stands: what it does next.
+/// The phase of a P: what it does next.
 #[derive(Clone, Copy, Debug, PartialEq, Eq)]
-enum Place {
+enum DownPhase {
     Draw,
     Wait { ticket: u64 },
     Over,
@@ -20,20 +20,20 @@ enum Place {
 #[derive(Clone, Copy, Debug, PartialEq, Eq)]
 pub struct Down {
     shape: SemaphoreShape,
-    place: Place,
+    phase: DownPhase,
     going: bool,
-    ghost small: { ticket_of place ≤ VALUE_MAX },
+    ghost small: { ticket_of phase ≤ VALUE_MAX },
 }
 
 impl Down {
-    /// Returns the whole list.
+    /// Makes a P that has made no call.
     pub fn new(shape: SemaphoreShape) -> Self
-        ensures whole { (calls : List Told) → ⟦<Down as Procedure>⟧.rest result calls ≡ down_call shape calls }
+        ensures whole { (calls : List CompletedCall) → ⟦<Down as Procedure>⟧.rest result calls ≡ down_call shape calls }
         ensures fresh { ⟦<Down as Procedure>⟧.is_going result ≡ false }
     {
         Down {
             shape,
-            place: Place::Draw,
+            phase: DownPhase::Draw,
             going: false,
         }
     }
@@ -48,9 +48,9 @@ pub(crate) fn threshold(shape: &SemaphoreShape, ticket: u64) -> u64
 }
 
 impl Procedure for Down {
-    ghost use Rattle.ec_semaphore.specs.DownPlaces.{down_rest};
+    ghost use Rattle.ec_semaphore.specs.DownPhases.{down_rest};
 
-    ghost rest = { λ s calls. down_rest s.shape s.place calls };
+    ghost rest = { λ s calls. down_rest s.shape s.phase calls };
 
     ghost is_going = { λ s. s.going };
 
@@ -58,13 +58,13 @@ impl Procedure for Down {
         if self.going {
             return Some(Act::Go);
         }
-        match self.place {
-            Place::Draw => Some(Act::Ticket(self.shape.line())),
-            Place::Wait { ticket } => Some(Act::Await(
+        match self.phase {
+            DownPhase::Draw => Some(Act::Ticket(self.shape.line())),
+            DownPhase::Wait { ticket } => Some(Act::Await(
                 self.shape.count(),
                 threshold(&self.shape, ticket),
             )),
-            Place::Over => None,
+            DownPhase::Over => None,
         }
     }
 
@@ -78,9 +78,9 @@ impl Procedure for Down {
             Reply::Number(number) => number,
         };
         self.going = false;
-        self.place = match self.place {
-            Place::Draw => Place::Wait { ticket: number },
-            Place::Wait { .. } | Place::Over => Place::Over,
+        self.phase = match self.phase {
+            DownPhase::Draw => DownPhase::Wait { ticket: number },
+            DownPhase::Wait { .. } | DownPhase::Over => DownPhase::Over,
         };
     }
 }

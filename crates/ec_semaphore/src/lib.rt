@@ -4,9 +4,9 @@
 #![tactic(auto)]
 
 mod balancing;
+mod critical_sections;
 mod down;
 mod down_both;
-mod guarded;
 mod laws;
 mod pair;
 mod pairing;
@@ -20,7 +20,7 @@ pub use down::Down;
 pub use down_both::DownBoth;
 pub use laws::{
     audits_may_leave_out_entries, balances_are_never_negative, both_is_followed_as_a_semaphore,
-    declared_semaphores_stay, downs_count_finished_waits, following_both_means_guarded_parts,
+    both_means_critical_sections, declared_semaphores_stay, downs_count_completed_awaits,
     following_means_uses, greatest_initial_value_is_a_million, pairs_are_drawn,
     procedures_ask_for_whole_lists, tickets_agree,
 };

@@ -1,7 +1,7 @@
 //! The parts of a semaphore's balance.
 
-/// The parts of a semaphore's balance, which is `initial + ups - downs`: how many there were at
-/// first, how many P are finished, and how many V.
+/// The parts of a semaphore's balance, which is `initial + ups - downs`: the initial value, and how
+/// many P and how many V are completed.
 #[derive(Clone, Copy, Debug, PartialEq, Eq)]
 pub struct Balance {
     pub initial: u64,

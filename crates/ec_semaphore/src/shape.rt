@@ -9,7 +9,7 @@ use std::marker::Model;
 /// The greatest initial value of a semaphore.
 pub const INITIAL_MAX: u64 = 1_000_000;
 
-/// The objects of a semaphore, and its initial value. The declare calls alone make one.
+/// The objects of a semaphore, and its initial value. Only the declare functions make one.
 #[derive(Clone, Copy, Debug, PartialEq, Eq)]
 pub struct SemaphoreShape {
     count: EventId,
@@ -39,7 +39,7 @@ impl SemaphoreShape {
         self.count
     }
 
-    /// Returns the sequencer on which each P draws its ticket.
+    /// Returns the sequencer from which each P draws its ticket.
     pub fn line(&self) -> SeqId
         ensures { result ≡ self.now.line }
     {
@@ -55,8 +55,8 @@ impl SemaphoreShape {
     }
 
     /// Returns whether the eventcount and the sequencer are declared there, with the rights of a
-    /// semaphore: the same users signal and observe the one, which is fixed, and draw from the
-    /// other.
+    /// semaphore. The same users signal and observe the eventcount, whose components are not
+    /// transferable, and draw from the sequencer.
     pub fn fits(&self, setup: &Setup) -> bool
         ensures { IsTrue result ↔ Fits self.now setup.now }
     {
@@ -67,8 +67,8 @@ impl SemaphoreShape {
 }
 
 /// Declares a semaphore with an initial value and its users: an eventcount that they signal and
-/// observe, and a sequencer that they draw from. Refused as TooMany if the initial value is
-/// above INITIAL_MAX.
+/// observe, and a sequencer that they draw from. Reports `TooMany` if the initial value is above
+/// INITIAL_MAX.
 pub fn declare_semaphore(
     setup: &mut Setup,
     initial: u64,

@@ -1,6 +1,6 @@
 //! V on a semaphore.
 ghost use Rattle.std.specs.Prelude.{◌≡◌, false, List};
-ghost use Rattle.ec_core.specs.Following.{Told};
+ghost use Rattle.ec_core.specs.Following.{CompletedCall};
 ghost use Rattle.ec_semaphore.specs.Uses.{up_call};
 
 use crate::SemaphoreShape;
@@ -14,9 +14,9 @@ pub struct Up {
 }
 
 impl Up {
-    /// Returns the whole list.
+    /// Makes a V that has made no call.
     pub fn new(shape: SemaphoreShape) -> Self
-        ensures whole { (calls : List Told) → ⟦<Up as Procedure>⟧.rest result calls ≡ up_call shape calls }
+        ensures whole { (calls : List CompletedCall) → ⟦<Up as Procedure>⟧.rest result calls ≡ up_call shape calls }
         ensures fresh { ⟦<Up as Procedure>⟧.is_going result ≡ false }
     {
         Up {

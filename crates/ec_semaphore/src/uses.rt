@@ -1,22 +1,22 @@
 //! The lists of calls on a semaphore.
 ghost use Rattle.std.specs.Prelude.{◌≡◌, ℕ, ◌+◌, ◌-◌, ◌==◌, List, []};
-ghost use Rattle.ec_core.specs.declared.protocol.Kept.{Kept};
-ghost use Rattle.ec_core.specs.Following.{Told, block_after, is_right};
+ghost use Rattle.ec_core.specs.declared.protocol.ListProgress.{ListProgress};
+ghost use Rattle.ec_core.specs.Following.{CompletedCall, block_after, is_right};
 ghost use Rattle.ec_semaphore.specs.Uses.{threshold, is_on, use_rule, use_rules};
-ghost use Rattle.ec_semaphore.specs.Keeping.{kept_of_use};
+ghost use Rattle.ec_semaphore.specs.Keeping.{list_progress_of_use};
 
 use crate::SemaphoreShape;
-use ec_core::{Act, Kept, Protocol, Reply};
+use ec_core::{Act, ListProgress, Protocol, Reply};
 use ec_count::WorkerId;
 
-/// P and V on a semaphore, as lists of calls. Of the list that a worker is in, its ticket is kept.
+/// P and V on a semaphore, as call lists. Of the list that a worker is in, its ticket is kept.
 #[derive(Clone, Copy, Debug)]
 pub(crate) struct Uses {
     shape: SemaphoreShape,
 }
 
-/// Nothing is kept if no call of a list is finished.
-pub(crate) const NOTHING: Kept = Kept {
+/// The progress in a list of which no call is completed.
+pub(crate) const NOTHING: ListProgress = ListProgress {
     at: 0,
     first: 0,
     second: 0,
@@ -54,8 +54,8 @@ pub fn is_on(shape: &SemaphoreShape, act: &Act) -> bool
     }
 }
 
-/// Returns whether a P with this ticket waits for this total. No sum is made, since a ticket may be
-/// any number here.
+/// Returns whether a P with this ticket waits for this total. No sum is computed, since a ticket
+/// may be any number here.
 fn is_threshold(shape: &SemaphoreShape, ticket: u64, total: u64) -> bool
     ensures { result ≡ (total == threshold shape.now ticket) }
 {
@@ -69,17 +69,17 @@ fn is_threshold(shape: &SemaphoreShape, ticket: u64, total: u64) -> bool
 
 impl Protocol for Uses {
     ghost use Rattle.ec_semaphore.specs.Uses.{use_rules};
-    ghost use Rattle.ec_semaphore.specs.Keeping.{kept_of_use};
+    ghost use Rattle.ec_semaphore.specs.Keeping.{list_progress_of_use};
 
     ghost rules = { λ s. use_rules s.shape };
 
-    ghost keeps = { λ _. kept_of_use };
+    ghost keeps = { λ _. list_progress_of_use };
 
-    fn start(&self) -> Kept {
+    fn start(&self) -> ListProgress {
         NOTHING
     }
 
-    fn is_right(&self, _worker: WorkerId, kept: &Kept, act: &Act) -> bool {
+    fn is_right(&self, _worker: WorkerId, kept: &ListProgress, act: &Act) -> bool {
         if !is_on(&self.shape, act) {
             return true;
         }
@@ -91,7 +91,13 @@ impl Protocol for Uses {
         }
     }
 
-    fn after(&self, _worker: WorkerId, kept: &Kept, op: &Act, reply: Reply) -> Kept {
+    fn after(
+        &self,
+        _worker: WorkerId,
+        kept: &ListProgress,
+        op: &Act,
+        reply: Reply,
+    ) -> ListProgress {
         let number = match reply {
             Reply::Pending => return *kept,
             Reply::Done => 0,
@@ -103,7 +109,7 @@ impl Protocol for Uses {
         match op {
             Act::Advance(_) => NOTHING,
             _ if kept.at > 0 => NOTHING,
-            _ => Kept {
+            _ => ListProgress {
                 at: 1,
                 first: number,
                 second: 0,

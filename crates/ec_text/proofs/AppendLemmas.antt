@@ -11,10 +11,10 @@ appends_more (Some xs) None c x y p q = absurd p
 appends_more (Some xs) (Some ys) None x y p q = absurd q
 appends_more (Some xs) (Some ys) (Some zs) x y p q = q ∙ ap (λ (r : List ℕ). r ++ y) p ∙ append_assoc xs x y
 
-pub prefix_from : (a c : Option (List ℕ)) (front rest bs : List ℕ) → Appends a c front → bs ≡ front ++ rest → 0 < length rest → AppendsPrefix a c bs
-prefix_from None c front rest bs p e some = tt
-prefix_from (Some xs) None front rest bs p e some = absurd p
-prefix_from (Some xs) (Some ys) front rest bs p e some = (front, rest, e, p, some)
+pub prefix_from : (a c : Option (List ℕ)) (prefix rest bs : List ℕ) → Appends a c prefix → bs ≡ prefix ++ rest → 0 < length rest → AppendsPrefix a c bs
+prefix_from None c prefix rest bs p e some = tt
+prefix_from (Some xs) None prefix rest bs p e some = absurd p
+prefix_from (Some xs) (Some ys) prefix rest bs p e some = (prefix, rest, e, p, some)
 
 pub keeps_after : (a b c : Option (List ℕ)) (x : List ℕ) → Appends a b x → Keeps b c → Appends a c x
 keeps_after None b c x p k = tt
@@ -22,7 +22,7 @@ keeps_after (Some xs) None c x p k = absurd p
 keeps_after (Some xs) (Some ys) None x p k = absurd k
 keeps_after (Some xs) (Some ys) (Some zs) x p k = k ∙ p
 
--- the front that is written so far, and the next of the rest
+-- the prefix that is written so far, and the next bytes of the rest
 pub next_front : (bs : List ℕ) (i n : ℕ) → i ≤ length bs → take i bs ++ take n (take (length bs - i) (drop i bs)) ≡ take (i + n) bs
 next_front bs i n within =
     let e : take (length bs - i) (drop i bs) ≡ drop i bs = take_all _ _ (omega (arith, length-drop i bs)) in
@@ -51,10 +51,10 @@ prefix_longer None c x y p = tt
 prefix_longer (Some xs) None x y p = absurd p
 prefix_longer (Some xs) (Some ys) x y p = (p.0, p.1 ++ y, ap (λ (r : List ℕ). r ++ y) p.2 ∙ append_assoc p.0 p.1 y, p.3, omega (arith, length-append p.1 y, p.4))
 
--- bytes that were written behind a front, of which those from the t-th on are left out
+-- bytes that were written after a prefix, without those from the t-th on
 pub front_kept : (n t p : ℕ) (old new bytes : List ℕ) → take (p + n) new ≡ take p old ++ bytes → t ≤ n → p ≤ length old → take (p + t) new ≡ take p old ++ take t bytes
-front_kept n t p old new bytes front few within =
+front_kept n t p old new bytes prefix few within =
     sym (take-take (p + t) (p + n) new (omega arith))
-    ∙ ap (take (p + t)) front
+    ∙ ap (take (p + t)) prefix
     ∙ ap (λ (k : ℕ). take (k + t) (take p old ++ bytes)) (sym (length-take-le p old within))
     ∙ take-append-add (take p old) bytes t

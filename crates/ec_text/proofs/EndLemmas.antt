@@ -6,10 +6,10 @@ use Rattle.std.proofs.lemmas.Bool.{and_parts, and_from, cond-true, cases_lt}
 use Rattle.std.proofs.lemmas.List.{take-append-drop, take_all, get_or-drop}
 use Rattle.std.proofs.lemmas.List.Elements.{All-from_get_or}
 use Rattle.std.proofs.Math.Nat.{pow-succ', pow-le-pow_right, mul-le-mul_right}
-use Rattle.ec_text.specs.Words.{number_of, has_form, value_from, IsWord, EndsInNumber, AreDigits}
+use Rattle.ec_text.specs.Words.{number_in_word, has_form, value_from, IsWord, EndsInNumber, AreDigits}
 use Rattle.ec_text.proofs.shared.NumberLemmas.{guarded, reads, spelled, number_is_form}
 
--- a number before digits stands before theirs
+-- digits after a number multiply it by a power of 10, and add their own number
 value_more : (n : ℕ) (w : List ℕ) → value_from n w ≡ n * 10 ^ length w + value_from 0 w
 value_more n [] = omega arith
 value_more n (c ∷ w) =
@@ -45,7 +45,7 @@ digits_small text i n short are =
     let p = power_small (length (drop i text)) (omega (arith, length-drop i text)) in
     omega (arith, are.value)
 
--- one more digit before up to 18 others: all is small, and the digits are one more
+-- one more digit before up to 18 others: all numbers are small, and the digits are one more
 pub record IsRead (text : List ℕ) (i n weight d : ℕ) : Type 0 where
   pub number_small : n < 1000000000000000000
   pub weight_small : weight ≤ 1000000000000000000
@@ -95,7 +95,7 @@ digit_no_space b is space = (let no : is_ascii_digit 32 ≡ true = sym (ap is_as
 digits_word : (w : List ℕ) → all_ascii_digits w ≡ true → IsWord w
 digits_word w d = All-from_get_or (λ b. eqb b 32 ≡ false) w 0 (λ k h. ne_eqb _ _ (digit_no_space _ (digit_in w k d h)))
 
--- as the code's `&text[i + 1..]` says what is behind the space
+-- as the code's `&text[i + 1..]` says what is after the space
 behind_all : (text : List ℕ) (i : ℕ) → take (length text - (i + 1)) (drop (i + 1) text) ≡ drop (i + 1) text
 behind_all text i = take_all _ _ (omega (arith, length-drop (i + 1) text))
 
@@ -125,7 +125,7 @@ place_space text q is =
     let long : length (take q text) ≡ q = omega (arith, length-take q text, place_within text q is) in
     ap (λ (t : List ℕ). get_or t q 0) is ∙ ap (λ (k : ℕ). get_or (take q text ++ 32 ∷ drop (q + 1) text) k 0) (sym long) ∙ read_seam (take q text) (drop (q + 1) text) 32
 
-number_digits : (w : List ℕ) (n : ℕ) → number_of w ≡ Some n → (all_ascii_digits w ≡ true) × (has_form w ≡ true)
+number_digits : (w : List ℕ) (n : ℕ) → number_in_word w ≡ Some n → (all_ascii_digits w ≡ true) × (has_form w ≡ true)
 number_digits w n h = (let g = guarded (has_form w) _ n h in ((reads 0 n w (omega arith) g.1).0, g.0))
 
 -- a text that ends in a number has its space where the digits begin
@@ -149,7 +149,7 @@ ends_not text i n q m within are other ends =
       ap has_form (behind_all text i) ∙ ap (λ (k : ℕ). has_form (drop (k + 1) text)) (sym same) ∙ d.1,
     )
 
--- a text of digits alone, or of 19 digits at its end, ends in no number
+-- a text of only digits, or with 19 digits at its end, ends in no number
 pub only_digits : (text : List ℕ) (i n q m : ℕ) → i ≤ length text - 19 → AreDigits (drop i text) n → EndsInNumber text q m → ⊥
 only_digits text i n q m from are ends =
     let short : length (drop (q + 1) text) ≤ 18 = (number_is_form (drop (q + 1) text) m ends.1).1 in

@@ -28,25 +28,26 @@ all_read max (Some o) (Some m) (Some n) text buf small a b e =
     let long : length text ≤ max + 1 = omega (arith, small) in
     sym (take_all (max + 1) text long) ∙ ap (λ t. take (max + 1) t) (sym all)
 
--- one byte more than the bound came
+-- one byte more than the bound was read
 pub enough_read : (max room n : ℕ) (old now new : Option (List ℕ)) (text buf : List ℕ) → length text + room ≡ max + 1 → room ≤ n → n ≤ length buf
     → Consumes old now text → Consumes now new (take n buf) → IfSome old (λ bytes. text ++ take room buf ≡ looked_at max bytes)
 enough_read max room n None now new text buf full within small a b = tt
 enough_read max room n (Some o) None new text buf full within small a b = absurd a
 enough_read max room n (Some o) (Some m) None text buf full within small a b = absurd b
 enough_read max room n (Some o) (Some m) (Some r) text buf full within small a b =
-    let front : List ℕ = take room buf in
+    let prefix : List ℕ = take room buf in
     let rest : List ℕ = drop room (take n buf) in
-    let parts : front ++ rest ≡ take n buf = ap (λ x. x ++ rest) (sym (take-take room n buf within)) ∙ take-append-drop room (take n buf) in
-    let whole : o ≡ (text ++ front) ++ (rest ++ r) =
-    a ∙ ap (λ t. text ++ t) (b ∙ ap (λ t. t ++ r) (sym parts) ∙ append_assoc front rest r) ∙ sym (append_assoc text front (rest ++ r)) in
-    let len : length (text ++ front) ≡ max + 1 =
-    length-append text front ∙ ap (λ k. length text + k) (length-take-le room buf (omega (arith, within, small))) ∙ full in
-    sym (take_at (text ++ front) (rest ++ r) (max + 1) len) ∙ ap (λ t. take (max + 1) t) (sym whole)
+    let parts : prefix ++ rest ≡ take n buf = ap (λ x. x ++ rest) (sym (take-take room n buf within)) ∙ take-append-drop room (take n buf) in
+    let whole : o ≡ (text ++ prefix) ++ (rest ++ r) =
+    a ∙ ap (λ t. text ++ t) (b ∙ ap (λ t. t ++ r) (sym parts) ∙ append_assoc prefix rest r) ∙ sym (append_assoc text prefix (rest ++ r)) in
+    let len : length (text ++ prefix) ≡ max + 1 =
+    length-append text prefix ∙ ap (λ k. length text + k) (length-take-le room buf (omega (arith, within, small))) ∙ full in
+    sym (take_at (text ++ prefix) (rest ++ r) (max + 1) len)
+    ∙ ap (λ t. take (max + 1) t) (sym whole)
 
 -- HOW MUCH WAS READ
 
--- one byte more than a text may have came, in a piece of n bytes
+-- one byte more than a text may have was read, in a piece of n bytes
 pub past_bound : (max n : ℕ) (old now new : Option (List ℕ)) (text buf : List ℕ) → length text ≤ max → max < length text + n → n ≤ length buf → length buf ≡ 8192
     → Consumes old now text → Consumes now new (take n buf) → IfSome old (λ bytes. IsReadUp max bytes new)
 past_bound max n None now new text buf small enough within full a b = tt
@@ -60,7 +61,7 @@ past_bound max n (Some o) (Some m) (Some r) text buf small enough within full a 
       enough = inr (omega (arith, len, enough));
     }
 
--- the end came
+-- the end was reached
 pub at_end : (max : ℕ) (old now new : Option (List ℕ)) (text buf : List ℕ) → length text ≤ max → Consumes old now text → Consumes now new (take 0 buf) → IsAtEnd new
     → IfSome old (λ bytes. IsReadUp max bytes new)
 at_end max None now new text buf small a b e = tt

@@ -3,4 +3,3 @@ pub mod AppendLemmas
 pub mod LineCuts
 mod InputLemmas
 mod EndLemmas
-mod EightLemmas

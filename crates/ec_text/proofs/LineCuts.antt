@@ -41,7 +41,7 @@ ends_near bytes = mask_l (map (is_byte 10) (take 32 bytes))
 abbrev pub nearest : List ℕ → ℕ
 nearest bytes = count_trailing_zeros 64 (ends_near bytes)
 
--- 1 if this is
+-- 1 if the test holds
 abbrev unit : Bool → ℕ
 unit b = cond b 1 0
 
@@ -50,7 +50,7 @@ near_set bytes some small =
     let low = bit_at-trailing_zeros w64 (ends_near bytes) some (omega arith) in
     sym (bit_mask_l (map (is_byte 10) (take 32 bytes)) (nearest bytes)) ∙ low.1
 
--- it stands for one of them
+-- it is the bit of one of the 32 bytes
 near_within : (bytes : List ℕ) → 32 ≤ length bytes → 0 < ends_near bytes → nearest bytes < 32
 near_within bytes long some =
     let ms = map (is_byte 10) (take 32 bytes) in

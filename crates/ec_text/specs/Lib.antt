@@ -2,4 +2,3 @@ pub mod Words
 pub mod Spelling
 pub mod Puts
 pub mod Inputs
-pub mod Eight

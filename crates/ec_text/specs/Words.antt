@@ -4,11 +4,11 @@ use Rattle.std.specs.List.{slice_split, list_all, All, AllByRecursion}
 use Rattle.std.specs.Char.{is_ascii_digit}
 use Rattle.std.specs.Str.{all_ascii_digits}
 
--- words are what lies between single spaces
+-- words are separated by single spaces
 abbrev pub words_of : List ℕ → List (List ℕ)
 words_of line = slice_split (λ b. b == 32) line
 
--- no space stands in it
+-- it has no space
 abbrev pub IsWord : List ℕ → Type 0
 IsWord w = All (λ b. (b == 32) ≡ false) w
 
@@ -25,16 +25,16 @@ abbrev pub has_form : List ℕ → Bool
 has_form w = (length w == 1) || (nat_lt 0 (length w) && not (slice_index w 0 == 48))
 
 -- the number that a word spells, if it is at most 18 digits without a leading zero
-abbrev pub number_of : List ℕ → Option ℕ
-number_of w = if has_form w then digits_from 0 w else None
+abbrev pub number_in_word : List ℕ → Option ℕ
+number_in_word w = if has_form w then digits_from 0 w else None
 
--- at this place of a text is a space, and behind it a word
+-- at this position of a text is a space, and after it a word
 abbrev pub IsCutAt : List ℕ → ℕ → Type 0
 IsCutAt text place = (text ≡ take place text ++ 32 ∷ drop (place + 1) text) × IsWord (drop (place + 1) text)
 
--- behind the space at this place is a word, the last of the text, and it spells this number
+-- after the space at this position is the last word of the text, and it spells this number
 abbrev pub EndsInNumber : List ℕ → ℕ → ℕ → Type 0
-EndsInNumber text place n = IsCutAt text place × (number_of (drop (place + 1) text) ≡ Some n)
+EndsInNumber text place n = IsCutAt text place × (number_in_word (drop (place + 1) text) ≡ Some n)
 
 -- the number that digits spell, of any count, after the number n
 abbrev pub value_from : ℕ → List ℕ → ℕ

@@ -12,13 +12,15 @@ use std::io::Read;
 /// What was read of an input.
 #[derive(Drop)]
 pub enum Input {
-    /// All of it, or of a longer one one byte more than the bound.
+    /// All of the input, or of a longer one the first bytes: one more than the bound.
     Whole(Vec<u8>),
-    /// What came before a failed read, which is not tried again.
+    /// The bytes before a failed read, which is not retried.
     CutOff(Vec<u8>),
 }
 
-/// Reads the next piece into the front of the table, which stays full: at most 8192 bytes, none only at the end.
+/// Reads the next piece into the first bytes of a full table, and returns its length.
+///
+/// The table stays full. The piece has at most 8192 bytes, and none only at the end.
 pub fn read_piece<R: Read>(reader: &mut R, table: &mut ArrayVec<u8, 8192>) -> io::Result<usize>
     ensures len { length table.new.items ≡ length table.old.items }
     ensures bound { ReadsAtMost result table.new.items }
@@ -27,8 +29,8 @@ pub fn read_piece<R: Read>(reader: &mut R, table: &mut ArrayVec<u8, 8192>) -> io
     reader.read(table.as_mut_slice())
 }
 
-/// Keeps the front of the table.
-fn keep_front(text: &mut Vec<u8>, table: &ArrayVec<u8, 8192>, n: usize) -> Result<(), AllocError>
+/// Appends the first n bytes of the table to the text.
+fn keep_prefix(text: &mut Vec<u8>, table: &ArrayVec<u8, 8192>, n: usize) -> Result<(), AllocError>
     requires { n ≤ length table.now.items }
     ensures { OnOk result (text.new.items ≡ text.old.items ++ take n table.now.items) }
 {
@@ -36,8 +38,9 @@ fn keep_front(text: &mut Vec<u8>, table: &ArrayVec<u8, 8192>, n: usize) -> Resul
     text.extend_from_slice(&bytes[..n])
 }
 
-/// Reads an input in pieces of at most 8192 bytes, up to its end, the first failed read, or one byte more than `most`: so
-/// a text that is too long shows.
+/// Reads an input up to its end, the first failed read, or one byte more than `most`.
+///
+/// That byte shows that a text is too long. The input is read in pieces of at most 8192 bytes.
 pub fn read_up_to<R: Read>(alloc: Global, reader: &mut R, most: usize) -> Result<Input, AllocError>
     requires { most + 1 < 2 ^ 63 }
     ensures { IfSome (R.remaining reader.old) (λ bytes. IfOk result (IsInput most bytes (R.remaining reader.new))) }
@@ -53,9 +56,9 @@ pub fn read_up_to<R: Read>(alloc: Global, reader: &mut R, most: usize) -> Result
             return Ok(Input::Whole(text));
         }
         if n >= room {
-            keep_front(&mut text, &table, room)?;
+            keep_prefix(&mut text, &table, room)?;
             return Ok(Input::Whole(text));
         }
-        keep_front(&mut text, &table, n)?;
+        keep_prefix(&mut text, &table, n)?;
     }
 }

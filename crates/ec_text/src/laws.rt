@@ -1,8 +1,7 @@
-//! Laws of words and numbers. Each is the contract of a function that does nothing.
+//! Theorems on words and numbers. Each is the contract of a function that does nothing.
 ghost use Rattle.ec_text.specs.Spelling.{JoinIsUndone, SplitIsUndone, WordsHaveNoSpace, NumberHasOneSpelling, NumberIsReadBack, NumbersAreShortForms};
 
-/// States that words without spaces, joined by single spaces, are found again by the split at
-/// spaces.
+/// States that words without spaces, joined by single spaces, are the words of the resulting line.
 #[tactic(auto, using(crate::proofs::shared::WordLemmas::words_join))]
 pub fn join_is_undone()
     ensures { JoinIsUndone }
@@ -31,8 +30,7 @@ pub fn number_is_read_back()
     ensures { NumberIsReadBack }
 {}
 
-/// States that a word is read as a number exactly if it is digits without a leading zero, at
-/// most 18.
+/// States that exactly the words of at most 18 digits without a leading zero are read as numbers.
 pub fn numbers_are_short_forms()
     ensures { NumbersAreShortForms }
 {}

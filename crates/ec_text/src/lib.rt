@@ -1,19 +1,20 @@
-//! Texts: the bytes of an input, lines, the words of a line, numbers and their digits, and bytes on their way to a writer.
+//! Texts: bounded input, lines, words, numbers and their digits, and buffered output.
 #![tactic(auto)]
 
 mod at_end;
-mod decimal;
+mod buffer;
+mod cached_decimal;
 mod input;
 mod laws;
 mod lines;
 mod numbers;
 mod output;
-mod table;
 mod words;
 mod writing;
 
 pub use at_end::number_at_end;
-pub use decimal::Decimal;
+pub use buffer::InlineText;
+pub use cached_decimal::CachedDecimal;
 pub use input::{Input, read_piece, read_up_to};
 pub use laws::{
     join_is_undone, number_has_one_spelling, number_is_read_back, numbers_are_short_forms,
@@ -21,7 +22,6 @@ pub use laws::{
 };
 pub use lines::cut_line;
 pub use numbers::{is_number_form, number};
-pub use output::Out;
-pub use table::ShortText;
+pub use output::Output;
 pub use words::{cut_word, has_blank};
 pub use writing::{WriteFault, write_out};

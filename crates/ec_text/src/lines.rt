@@ -5,8 +5,9 @@ ghost use Rattle.memchr.specs.Find.{IsFirstByte, is_byte};
 use memchr::memchr;
 use std::simd::prelude::*;
 
-/// Returns where the first LF stands, if that is among the first 32 bytes. These are looked at
-/// all at once.
+/// Returns the position of the first LF, if it is among the first 32 of at least 32 bytes.
+///
+/// These bytes are compared at once.
 #[inline(always)]
 fn near_line_end(bytes: &[u8]) -> Option<usize>
     ensures { IfSome result (λ end. IsFirstByte (is_byte 10) bytes.now (Some end)) }
@@ -23,7 +24,8 @@ fn near_line_end(bytes: &[u8]) -> Option<usize>
     Some(ends.trailing_zeros() as usize)
 }
 
-/// Returns where the first LF stands. Most lines are short.
+/// Returns the position of the first LF. Most lines are short, so the first bytes are tried at
+/// once.
 #[inline(always)]
 fn line_end(bytes: &[u8]) -> Option<usize>
     ensures { IsFirstByte (is_byte 10) bytes.now result }
@@ -34,7 +36,7 @@ fn line_end(bytes: &[u8]) -> Option<usize>
     }
 }
 
-/// Returns the bytes before the first LF, and those behind it: `None` if there is no LF.
+/// Returns the bytes before the first LF and those after it; `None` if there is no LF.
 #[inline(always)]
 #[tactic(auto, using(crate::proofs::LineCuts::line_cuts))]
 pub fn cut_line(bytes: &[u8]) -> Option<(&[u8], &[u8])>

@@ -2,11 +2,11 @@
 ghost use Rattle.std.specs.Prelude.{◌≡◌, ◌<◌, IfSome};
 ghost use Rattle.std.specs.List.{list_all};
 ghost use Rattle.std.specs.Char.{is_ascii_digit};
-ghost use Rattle.ec_text.specs.Words.{number_of, digits_from, has_form, is_number_form};
+ghost use Rattle.ec_text.specs.Words.{number_in_word, digits_from, has_form, is_number_form};
 
-/// Returns the number that a word spells: `0`, or at most 18 digits of which the first is none.
+/// Returns the number that a word spells: `0`, or at most 18 digits of which the first is not 0.
 pub fn number(word: &[u8]) -> Option<u64>
-    ensures value { result ≡ number_of word.now }
+    ensures value { result ≡ number_in_word word.now }
     ensures small { IfSome result (λ n. n < 1000000000000000000) }
 {
     if has_form(word) { digits(word) } else { None }
@@ -34,7 +34,7 @@ fn is_digits(word: &[u8]) -> bool
     word.iter().all(|b| b.is_ascii_digit())
 }
 
-/// Returns the number that digits spell, if there are at most 18 after the zeros.
+/// Returns the number that digits spell, if there are at most 18 after leading zeros.
 #[tactic(auto, using(crate::proofs::shared::NumberLemmas::digits_steps))]
 fn digits(word: &[u8]) -> Option<u64>
     ensures value { result ≡ digits_from 0 word.now }

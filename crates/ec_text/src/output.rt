@@ -1,46 +1,46 @@
-//! A writer with a table of bytes before it.
+//! A buffered writer.
 ghost use Rattle.std.specs.Prelude.{◌≡◌, ◌∷◌, ◌++◌, [], List, ℕ, false, true, IsOk, IsErr, OnOk, OnErr, IsTrue, decimal, length, slice_set, ◌+◌, ◌-◌, ◌<◌, ◌≤◌};
 ghost use Rattle.std.specs.List.{flat_map};
 ghost use Rattle.std.specs.Io.KnownBytes.{Appends};
-ghost use Rattle.ec_text.specs.Puts.{Outgoing, Holds, Puts, AppendsPrefix, IsFresh, IsWrittenOut, at_first, with_bytes};
+ghost use Rattle.ec_text.specs.Puts.{OutputModel, Holds, Puts, AppendsPrefix, IsFresh, IsWrittenOut, at_first, with_bytes};
 
-use crate::decimal::Decimal;
-use crate::table::{ShortText, Table};
+use crate::buffer::{Buffer, InlineText};
+use crate::cached_decimal::CachedDecimal;
 use crate::writing::{WriteFault, write_out};
 use std::io::Write;
 use std::marker::Model;
 
-/// A writer, and at most 8192 bytes that wait for it.
+/// A writer with a buffer of 8192 bytes.
 ///
-/// After a write that failed or took no byte nothing more is written, so that what the writer has is a front of what was put.
-/// A caller makes an `Out`, puts, and ends with `finish`. The prover adds up the clauses `puts` of the calls between by
-/// itself, up to about five in one function.
+/// After a write that failed or wrote no byte nothing more is written: the writer then has a proper
+/// prefix of what was put. A caller makes an `Output`, puts, and ends with `finish`. The prover
+/// adds up the clauses `puts` of the calls between by itself, up to about five in one function.
 #[derive(Drop)]
-pub struct Out<'a, W: Write> {
+pub struct Output<'a, W: Write> {
     writer: &'a mut W,
-    bytes: Table,
+    bytes: Buffer,
     failed: bool,
 }
 
-impl<'a, W: Write> Model for Out<'a, W> {
+impl<'a, W: Write> Model for Output<'a, W> {
     ghost use Rattle.std.specs.Prelude.{[], if◌then◌else◌};
-    ghost use Rattle.ec_text.specs.Puts.{Outgoing};
+    ghost use Rattle.ec_text.specs.Puts.{OutputModel};
 
-    ghost Value = { Outgoing };
+    ghost Value = { OutputModel };
 
     ghost view = { λ o. record { writer = o.writer.ghost_name; contents = W.contents o.writer.now; waiting = if o.failed then [] else o.bytes; failed = o.failed } };
 }
 
-impl<'a, W: Write> Out<'a, W> {
-    /// Makes a writer before which nothing waits.
+impl<'a, W: Write> Output<'a, W> {
+    /// Makes an `Output` whose buffer is empty.
     #[tactic(auto, using(crate::proofs::shared::PutLemmas::begins))]
     pub fn new(writer: &'a mut W) -> Self
         ensures value { result ≡ at_first writer.entry.ghost_name (W.contents writer.old) }
         ensures none { Holds (at_first writer.entry.ghost_name (W.contents writer.old)) result [] }
     {
-        Out {
+        Output {
             writer,
-            bytes: Table::new(),
+            bytes: Buffer::new(),
             failed: false,
         }
     }
@@ -52,8 +52,10 @@ impl<'a, W: Write> Out<'a, W> {
         self.failed
     }
 
-    /// Takes the bytes in if there is room for all of them: else they must be written. What is taken in after a failure doesn't
-    /// wait, and is let go when the table is full.
+    /// Adds the bytes to the buffer if there is room for all of them, and returns whether it did.
+    ///
+    /// Bytes that are added after a failed write are never written. They are dropped when the
+    /// buffer is full.
     #[inline(always)]
     fn take_in(&mut self, bytes: &[u8]) -> bool
         ensures puts { IsTrue result → Puts self.old self.new bytes.now }
@@ -65,7 +67,9 @@ impl<'a, W: Write> Out<'a, W> {
         self.bytes.take_in(bytes)
     }
 
-    /// Writes what waits, and nothing waits then. It doesn't call the writer's own `flush`. A failure shows at `finish`.
+    /// Writes what is in the buffer, and empties it.
+    ///
+    /// It doesn't call the writer's own `flush`. A failure is reported by `finish`.
     pub fn flush(&mut self)
         ensures puts { Puts self.old self.new [] }
         ensures written { IsWrittenOut self.new }
@@ -81,7 +85,7 @@ impl<'a, W: Write> Out<'a, W> {
         self.bytes.clear();
     }
 
-    /// Puts bytes behind those that wait. A failure shows at `finish`.
+    /// Puts bytes after those that were put before. A failure is reported by `finish`.
     #[inline(always)]
     pub fn put(&mut self, bytes: &[u8])
         ensures puts { Puts self.old self.new bytes.now }
@@ -95,9 +99,9 @@ impl<'a, W: Write> Out<'a, W> {
         self.put_behind(bytes);
     }
 
-    /// Takes bytes and a short text in as `take_in` does, if there is room for the longest.
+    /// Adds bytes and a short text to the buffer, if there is room for the longest such text.
     #[inline(always)]
-    fn take_in_short(&mut self, before: &[u8], text: &ShortText) -> bool
+    fn take_in_short(&mut self, before: &[u8], text: &InlineText) -> bool
         ensures puts { IsTrue result → Puts self.old self.new (before.now ++ text.now) }
         ensures full { result ≡ false → self.new ≡ self.old }
         ensures stays { self.old.failed ≡ true → self.new ≡ self.old }
@@ -106,9 +110,11 @@ impl<'a, W: Write> Out<'a, W> {
         self.bytes.take_in_short(before, text)
     }
 
-    /// Puts bytes, and a short text behind them. Where the bytes are a literal that costs little more than the text alone.
+    /// Puts bytes, and a short text after them.
+    ///
+    /// If the bytes are a literal, this costs little more than only the text.
     #[inline(always)]
-    pub fn put_with_short(&mut self, before: &[u8], text: &ShortText)
+    pub fn put_with_short(&mut self, before: &[u8], text: &InlineText)
         ensures puts { Puts self.old self.new (before.now ++ text.now) }
         ensures room { self.old.failed ≡ false → length self.old.waiting + length (before.now ++ text.now) ≤ 8192
             → self.new ≡ with_bytes self.old (before.now ++ text.now) }
@@ -120,9 +126,9 @@ impl<'a, W: Write> Out<'a, W> {
         self.put_at_end(before, text);
     }
 
-    /// Takes bytes and a short text with another last byte in, as `take_in_short` does.
+    /// Adds bytes and a short text with this last byte instead of its own, as `take_in_short` does.
     #[inline(always)]
-    fn take_in_ending(&mut self, before: &[u8], text: &ShortText, last: u8) -> bool
+    fn take_in_ending(&mut self, before: &[u8], text: &InlineText, last: u8) -> bool
         requires { 0 < length text.now }
         ensures puts { IsTrue result → Puts self.old self.new (before.now ++ slice_set text.now (length text.now - 1) last) }
         ensures full { result ≡ false → self.new ≡ self.old }
@@ -132,9 +138,9 @@ impl<'a, W: Write> Out<'a, W> {
         self.bytes.take_in_ending(before, text, last)
     }
 
-    /// Puts bytes, and the digits of a number that is kept with them.
+    /// Puts bytes, and the digits of a number that is stored with them.
     #[inline(always)]
-    pub fn put_with_decimal(&mut self, before: &[u8], number: &Decimal)
+    pub fn put_with_decimal(&mut self, before: &[u8], number: &CachedDecimal)
         ensures puts { Puts self.old self.new (before.now ++ decimal number.now) }
         ensures room { self.old.failed ≡ false → length self.old.waiting + length (before.now ++ decimal number.now) ≤ 8192
             → self.new ≡ with_bytes self.old (before.now ++ decimal number.now) }
@@ -149,7 +155,7 @@ impl<'a, W: Write> Out<'a, W> {
 
     /// Puts a short text. It costs less than `put` of its bytes.
     #[inline(always)]
-    pub fn put_short(&mut self, text: &ShortText)
+    pub fn put_short(&mut self, text: &InlineText)
         ensures puts { Puts self.old self.new text.now }
         ensures room { self.old.failed ≡ false → length self.old.waiting + length text.now ≤ 8192
             → self.new ≡ with_bytes self.old text.now }
@@ -158,9 +164,9 @@ impl<'a, W: Write> Out<'a, W> {
         self.put_with_short(b"", text);
     }
 
-    /// Puts the digits of a number that is kept with them.
+    /// Puts the digits of a number that is stored with them.
     #[inline(always)]
-    pub fn put_decimal(&mut self, number: &Decimal)
+    pub fn put_decimal(&mut self, number: &CachedDecimal)
         ensures puts { Puts self.old self.new (decimal number.now) }
         ensures room { self.old.failed ≡ false → length self.old.waiting + length (decimal number.now) ≤ 8192
             → self.new ≡ with_bytes self.old (decimal number.now) }
@@ -169,10 +175,10 @@ impl<'a, W: Write> Out<'a, W> {
         self.put_with_decimal(b"", number);
     }
 
-    /// Puts bytes and a short text near the end of the table.
+    /// Puts bytes and a short text that `take_in_short` did not add.
     #[cold]
     #[inline(never)]
-    fn put_at_end(&mut self, before: &[u8], text: &ShortText)
+    fn put_at_end(&mut self, before: &[u8], text: &InlineText)
         ensures puts { Puts self.old self.new (before.now ++ text.now) }
         ensures room { self.old.failed ≡ false → length self.old.waiting + length (before.now ++ text.now) ≤ 8192
             → self.new ≡ with_bytes self.old (before.now ++ text.now) }
@@ -182,11 +188,13 @@ impl<'a, W: Write> Out<'a, W> {
         self.put(text.bytes());
     }
 
-    /// Puts bytes, and the digits of a number that is kept with them, near the end of the table. (The text of all its digits is made here:
-    /// a function that mostly needs none would clear the room for one each time.)
+    /// Puts bytes and the digits of a number that `take_in_ending` did not add.
+    ///
+    /// The text of all digits is made here. In `put_with_decimal`, which rarely needs it, each call
+    /// would clear the memory for it.
     #[cold]
     #[inline(never)]
-    fn put_decimal_at_end(&mut self, before: &[u8], number: &Decimal)
+    fn put_decimal_at_end(&mut self, before: &[u8], number: &CachedDecimal)
         ensures puts { Puts self.old self.new (before.now ++ decimal number.now) }
         ensures room { self.old.failed ≡ false → length self.old.waiting + length (before.now ++ decimal number.now) ≤ 8192
             → self.new ≡ with_bytes self.old (before.now ++ decimal number.now) }
@@ -195,7 +203,7 @@ impl<'a, W: Write> Out<'a, W> {
         self.put_at_end(before, &number.digits());
     }
 
-    /// Puts bytes for which the table has no room beside those that wait.
+    /// Puts bytes for which the buffer has too little room left.
     #[cold]
     #[inline(never)]
     fn put_behind(&mut self, bytes: &[u8])
@@ -212,7 +220,7 @@ impl<'a, W: Write> Out<'a, W> {
         self.put_long(bytes);
     }
 
-    /// Writes bytes for which the empty table has no room.
+    /// Writes bytes for which even the empty buffer is too small.
     fn put_long(&mut self, bytes: &[u8])
         requires { IsFresh self.old }
         ensures { Puts self.old self.new bytes.now }
@@ -255,10 +263,10 @@ impl<'a, W: Write> Out<'a, W> {
             → self.new ≡ with_bytes self.old (decimal n) }
         ensures stays { self.old.failed ≡ true → self.new ≡ self.old }
     {
-        self.put_short(&ShortText::spelled(n));
+        self.put_short(&InlineText::of_number(n));
     }
 
-    /// Puts pieces, one behind the other.
+    /// Puts pieces, one after another.
     pub fn put_all(&mut self, pieces: &[&[u8]])
         ensures puts { Puts self.old self.new (flat_map (λ p. p.now) pieces.now) }
         ensures room { self.old.failed ≡ false → length self.old.waiting + length (flat_map (λ p. p.now) pieces.now) ≤ 8192
@@ -270,7 +278,7 @@ impl<'a, W: Write> Out<'a, W> {
         }
     }
 
-    /// Puts bytes, and writes them and all that waited.
+    /// Puts bytes, and writes all that is then in the buffer.
     pub fn say(&mut self, bytes: &[u8])
         ensures puts { Puts self.old self.new bytes.now }
         ensures written { IsWrittenOut self.new }
@@ -279,11 +287,14 @@ impl<'a, W: Write> Out<'a, W> {
         self.flush();
     }
 
-    /// Writes what waits. With `Ok` all that was put since `new` stands in the writer, with an error a front of it.
+    /// Writes what is in the buffer, and returns an error if any write since `new` failed.
+    ///
+    /// After `Ok` the writer has all that was put since `new`, after an error a proper prefix of
+    /// it.
     pub fn finish(&mut self) -> Result<(), WriteFault>
-        ensures same { (first : Outgoing) (all : List ℕ) → Holds first self.old all → self.new.writer ≡ first.writer }
-        ensures ok { (first : Outgoing) (all : List ℕ) → Holds first self.old all → OnOk result (Appends first.contents self.new.contents all) }
-        ensures err { (first : Outgoing) (all : List ℕ) → Holds first self.old all → OnErr result (AppendsPrefix first.contents self.new.contents all) }
+        ensures same { (first : OutputModel) (all : List ℕ) → Holds first self.old all → self.new.writer ≡ first.writer }
+        ensures ok { (first : OutputModel) (all : List ℕ) → Holds first self.old all → OnOk result (Appends first.contents self.new.contents all) }
+        ensures err { (first : OutputModel) (all : List ℕ) → Holds first self.old all → OnErr result (AppendsPrefix first.contents self.new.contents all) }
         ensures nothing { IsFresh self.old → IsOk result × (self.new ≡ self.old) }
         ensures failed { self.old.failed ≡ true → IsErr result × (self.new ≡ self.old) }
         ensures puts { Puts self.old self.new [] }
@@ -297,13 +308,15 @@ impl<'a, W: Write> Out<'a, W> {
         }
     }
 
-    /// Gives the writer back; what waits is let go. Whoever was lent a writer ends with this call, so that its contract can
-    /// tell what the writer has then.
+    /// Returns the writer, and drops what is in the buffer.
+    ///
+    /// A function that borrows its writer ends with this call, so that its contract can say what
+    /// the writer then has.
     pub fn into_writer(self) -> &'a mut W
         ensures same { result.ghost_name ≡ self.entry.writer }
         ensures contents { W.contents result.now ≡ self.entry.contents }
     {
-        let Out {
+        let Output {
             writer,
             bytes: _,
             failed: _,

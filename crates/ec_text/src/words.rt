@@ -7,7 +7,7 @@ use std::simd::prelude::*;
 
 /// Returns how many of the first 16 bytes come before their first space.
 #[inline(always)]
-fn front_of_16(line: &[u8]) -> usize
+fn first_word_length_of_16(line: &[u8]) -> usize
     requires { 16 ≤ length line.now }
     ensures { result ≡ position_or_len (λ b. b == 32) (take 16 line.now) }
 {
@@ -23,7 +23,7 @@ fn front_of_16(line: &[u8]) -> usize
 
 /// Returns how many of the first 8 bytes come before their first space.
 #[inline(always)]
-fn front_of_8(line: &[u8]) -> usize
+fn first_word_length_of_8(line: &[u8]) -> usize
     requires { 8 ≤ length line.now }
     ensures { result ≡ position_or_len (λ b. b == 32) (take 8 line.now) }
 {
@@ -37,27 +37,27 @@ fn front_of_8(line: &[u8]) -> usize
     }
 }
 
-/// Returns some bytes at the front among which there is no space, found at once if the line is
-/// long enough.
+/// Returns the length of a prefix without a space, which is found at once.
+///
+/// It is 0 if the line has fewer than 8 bytes.
 #[inline(always)]
 #[tactic(auto, using(crate::proofs::shared::WordLemmas::fronts))]
-fn front(line: &[u8]) -> usize
+fn first_word_length(line: &[u8]) -> usize
     ensures within { result ≤ length line.now }
     ensures none { (k : ℕ) → k < result → slice_index line.now k ≢ 32 }
 {
     if line.len() >= 16 {
-        front_of_16(line)
+        first_word_length_of_16(line)
     } else if line.len() >= 8 {
-        front_of_8(line)
+        first_word_length_of_8(line)
     } else {
         0
     }
 }
 
-/// Returns the first word of a line, and what stands behind the space after it: `None` if no
-/// space follows.
+/// Returns the first word of a line, and the bytes after its space; `None` if no space follows.
 ///
-/// Words are what lies between single spaces, so that two spaces in a row have an empty word between them.
+/// Words are separated by single spaces, so two spaces in a row have an empty word between them.
 #[tactic(auto, using(crate::proofs::shared::WordLemmas::cuts))]
 pub fn cut_word(line: &[u8]) -> (&[u8], Option<&[u8]>)
     ensures words { MatchOption result.1 (words_of line.now ≡ result.0.now ∷ [])
@@ -67,7 +67,7 @@ pub fn cut_word(line: &[u8]) -> (&[u8], Option<&[u8]>)
     ensures only { IfNone result.1 (line.now ≡ result.0.now) }
     ensures word { IsWord result.0.now }
 {
-    for i in front(line)..line.len() {
+    for i in first_word_length(line)..line.len() {
         if line[i] == b' ' {
             return (&line[..i], Some(&line[i + 1..]));
         }
@@ -75,7 +75,7 @@ pub fn cut_word(line: &[u8]) -> (&[u8], Option<&[u8]>)
     (line, None)
 }
 
-/// Returns whether a word of a line is empty, as if two spaces stand in a row.
+/// Returns whether a word of a line is empty, for example that between two spaces in a row.
 pub fn has_blank(line: &[u8]) -> bool
     ensures { result ≡ list_any (λ w. length w == 0) (words_of line.now) }
 {

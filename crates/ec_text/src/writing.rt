@@ -1,4 +1,4 @@
-//! Bytes to a writer, with no partial success.
+//! Writes bytes to a writer: all of them, or it is an error.
 ghost use Rattle.std.specs.Prelude.{◌≡◌, [], IsOk, OnOk, OnErr};
 ghost use Rattle.std.specs.Io.KnownBytes.{Appends};
 ghost use Rattle.ec_text.specs.Puts.{AppendsPrefix};
@@ -11,7 +11,9 @@ use thiserror::Error;
 #[error("a write failed")]
 pub struct WriteFault;
 
-/// Writes all of the bytes, or a front of them: it stops at the first write that fails or writes nothing, and tries none again.
+/// Writes all of the bytes, or returns an error after a proper prefix of them.
+///
+/// It stops at the first write that fails or writes nothing, and retries none.
 pub fn write_out<W: Write>(writer: &mut W, bytes: &[u8]) -> Result<(), WriteFault>
     ensures ok { OnOk result (Appends (W.contents writer.old) (W.contents writer.new) bytes.now) }
     ensures err { OnErr result (AppendsPrefix (W.contents writer.old) (W.contents writer.new) bytes.now) }

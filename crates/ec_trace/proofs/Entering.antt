@@ -2,13 +2,8 @@
 use Rattle.std.proofs.Common.{ℕ, Err, reverse}
 use Rattle.ec_core.specs.Acceptance.{answer_of}
 use Rattle.ec_core.specs.Faults.{IsFaultOf}
-use Rattle.ec_core.specs.Recorded.{Recorded}
+use Rattle.ec_core.specs.RunModel.{RunModel}
 use Rattle.ec_core.specs.declared.act.Act.{Act}
 use Rattle.ec_core.specs.declared.run.StepFault.{StepFault}
 use Rattle.ec_core.specs.declared.run.StepFault.TheVariants.{Refused, Memory}
-use Rattle.ec_trace.specs.Histories.{Enters}
-
-pub enters_fault : (after : Recorded → Type 0) (h : Recorded) (w : ℕ) (a : Act) (fault : StepFault) → IsFaultOf fault (answer_of h.setup (reverse h.entries) w a) → after h
-    → Enters after h w a (Err fault)
-enters_fault after h w a (Refused r) is stands = (is, stands)
-enters_fault after h w a Memory is stands = (is, stands)
+use Rattle.ec_trace.specs.EntrySinks.{Enters}

@@ -3,7 +3,7 @@ pub mod ReadCells
 pub mod ReadEntries
 pub mod Leads
 pub mod FirstFaults
-pub mod FaultTold
+pub mod ReportedFault
 pub mod TraceLines
 pub mod ReadRuns
 pub mod Goes
@@ -12,10 +12,10 @@ pub mod Readings
 pub mod OpeningLines
 pub mod EntrySteps
 pub mod SpelledLemmas
-pub mod KeyLemmas
-pub mod FrontLemmas
+pub mod PackedBytesLemmas
+pub mod CacheLemmas
 pub mod Entering
 pub mod EntryParts
 pub mod TraceText
-pub mod LedOutlines
+pub mod LinesToTrees
 pub mod EntryLines

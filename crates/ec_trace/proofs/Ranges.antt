@@ -10,13 +10,13 @@ length_range xs i j ordered fits = simp (length-take, length-drop) (omega arith)
 pub empty_at : (xs : List ℕ) (i j : ℕ) → j ≤ i → slice_range xs i j ≡ []
 empty_at xs i j none = let none : j - i ≡ 0 = omega arith in ap (λ (n : ℕ). take n (drop i xs)) none
 
--- the rest behind a place, in two parts
+-- the rest after an index, in two parts
 range_front : (xs : List ℕ) (i j : ℕ) → i ≤ j → drop i xs ≡ slice_range xs i j ++ drop j xs
 range_front xs i j ordered =
     let sum : i + (j - i) ≡ j = omega arith in
     sym (take-append-drop (j - i) (drop i xs)) ∙ ap (λ (r : List ℕ). slice_range xs i j ++ r) (drop-drop (j - i) i xs ∙ ap (λ (n : ℕ). drop n xs) sum)
 
--- a part that begins with a line and its LF: where the line stands, and what follows it
+-- a part that begins with a line and its LF: where the line is, and what follows it
 pub record IsCut (xs : List ℕ) (i j : ℕ) (line rest : List ℕ) : Type 0 where
   pub before : slice_range xs i (i + length line) ≡ line
   pub behind : slice_range xs (i + length line + 1) j ≡ rest
@@ -30,11 +30,11 @@ range_cut xs i j line rest ordered fits cut =
     let last : j - (i + length line + 1) ≡ length rest = omega arith in
     let place : i + length line + 1 ≡ i + (length line + 1) = omega arith in
     let whole : drop i xs ≡ (line ++ 10 ∷ rest) ++ drop j xs = range_front xs i j ordered ∙ ap (λ (r : List ℕ). r ++ drop j xs) cut in
-    let front : drop i xs ≡ line ++ (10 ∷ rest ++ drop j xs) = whole ∙ append_assoc line (10 ∷ rest) (drop j xs) in
+    let prefix : drop i xs ≡ line ++ (10 ∷ rest ++ drop j xs) = whole ∙ append_assoc line (10 ∷ rest) (drop j xs) in
     let behind : drop (i + length line + 1) xs ≡ rest ++ drop j xs =
-    ap (λ (n : ℕ). drop n xs) place ∙ sym (drop-drop (length line + 1) i xs) ∙ ap (drop (length line + 1)) front ∙ drop-append-add line (10 ∷ (rest ++ drop j xs)) 1 in
+    ap (λ (n : ℕ). drop n xs) place ∙ sym (drop-drop (length line + 1) i xs) ∙ ap (drop (length line + 1)) prefix ∙ drop-append-add line (10 ∷ (rest ++ drop j xs)) 1 in
     record {
-      before = ap (λ (n : ℕ). take n (drop i xs)) first ∙ ap (take (length line)) front ∙ take-append_seam line (10 ∷ (rest ++ drop j xs));
+      before = ap (λ (n : ℕ). take n (drop i xs)) first ∙ ap (take (length line)) prefix ∙ take-append_seam line (10 ∷ (rest ++ drop j xs));
       behind = ap (λ (n : ℕ). take n (drop (i + length line + 1) xs)) last ∙ ap (take (length rest)) behind ∙ take-append_seam rest (drop j xs);
       within = omega arith;
     }
@@ -47,7 +47,7 @@ range_joined xs i j k first second fits =
     range_front xs i j first ∙ ap (λ (r : List ℕ). slice_range xs i j ++ r) (range_front xs j k second) ∙ sym (append_assoc (slice_range xs i j) (slice_range xs j k) (drop k xs)) in
     sym (ap (λ (m : ℕ). take m (drop i xs)) size ∙ ap (take (length (slice_range xs i j ++ slice_range xs j k))) whole ∙ take-append_seam (slice_range xs i j ++ slice_range xs j k) (drop k xs))
 
--- WHAT A SOUND PIECE HOLDS
+-- WHAT IS TRUE OF A SOUND PIECE
 
 pub record Holds (piece : List ℕ) (from end read before : ℕ) : Type 0 where
   pub behind : length (slice_range piece from end) ≡ end - from

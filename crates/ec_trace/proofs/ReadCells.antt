@@ -1,4 +1,4 @@
--- The spelling of a cell is read, and nothing else.
+-- The encoding of a cell is read, and nothing else.
 use Rattle.std.proofs.Common.{◌≡◌, ℕ, ◌+◌, ◌-◌, ◌<◌, List, [], ◌∷◌, ◌++◌, cond, eqb, true, false, Option, None, Some, refl, sym, ap, ◌∙◌, arith, eq-eqb, decimal, append_assoc, nat_lt}
 use Rattle.std.specs.Prelude.{option_map}
 use Rattle.std.specs.Option.{option_and_then}
@@ -12,10 +12,10 @@ use Rattle.ec_count.specs.Names.{find_name}
 use Rattle.ec_heading.proofs.shared.SpelledWords.{AreWords}
 use Rattle.ec_count.specs.declared.target.Target.{Target}
 use Rattle.ec_count.specs.declared.target.Target.TheVariants.{Cells}
-use Rattle.ec_text.specs.Words.{number_of}
+use Rattle.ec_text.specs.Words.{number_in_word}
 use Rattle.ec_text.proofs.shared.NumberLemmas.{own, number_again, number_takes, guarded}
 use Rattle.ec_heading.specs.Spelling.{cell_word}
-use Rattle.ec_heading.specs.Spelled.{Named, cut_at, closed_number, block_of, cell_at, cell_of, cell_by, cell_in_word}
+use Rattle.ec_heading.specs.EntryWords.{NameTable, cut_at, closed_number, block_of, cell_at, cell_of, cell_by, cell_in_word}
 use Rattle.ec_heading.proofs.shared.ReadNames.{AreApart, bracketed, cell_back, HasBlock, block_by, IsNamedBy, word_lacks}
 
 -- STEPS THAT MAY FAIL
@@ -27,34 +27,34 @@ option_back f (Some x) y e = (x, refl, e)
 -- WHERE A WORD IS CUT
 
 -- a word with no such byte before this one
-pub cut_at-append : (c : ℕ) (front rest : List ℕ) → AllByRecursion (λ b. eqb b c ≡ false) front → cut_at c (front ++ c ∷ rest) ≡ Some (front, rest)
+pub cut_at-append : (c : ℕ) (prefix rest : List ℕ) → AllByRecursion (λ b. eqb b c ≡ false) prefix → cut_at c (prefix ++ c ∷ rest) ≡ Some (prefix, rest)
 unfolding cut_at
 cut_at-append c [] rest all = let e : eqb c c ≡ true = eq-eqb c c refl in rw e refl
-cut_at-append c (b ∷ front) rest all = rw (all.0, cut_at-append c front rest all.1) refl
+cut_at-append c (b ∷ prefix) rest all = rw (all.0, cut_at-append c prefix rest all.1) refl
 
-map_back : (b : ℕ) (o : Option (List ℕ × List ℕ)) (front rest : List ℕ) → option_map {U = List ℕ × List ℕ} (λ (p : List ℕ × List ℕ). (b ∷ p.0, p.1)) o ≡ Some (front, rest)
-    → (mid : List ℕ) × (o ≡ Some (mid, rest)) × (front ≡ b ∷ mid)
-map_back b None front rest e = cc
-map_back b (Some p) front rest e = (
-    let same : (b ∷ p.0, p.1) ≡ (front, rest) = cc in
+map_back : (b : ℕ) (o : Option (List ℕ × List ℕ)) (prefix rest : List ℕ) → option_map {U = List ℕ × List ℕ} (λ (p : List ℕ × List ℕ). (b ∷ p.0, p.1)) o ≡ Some (prefix, rest)
+    → (mid : List ℕ) × (o ≡ Some (mid, rest)) × (prefix ≡ b ∷ mid)
+map_back b None prefix rest e = cc
+map_back b (Some p) prefix rest e = (
+    let same : (b ∷ p.0, p.1) ≡ (prefix, rest) = cc in
     let tail : p.1 ≡ rest = ap (λ (q : List ℕ × List ℕ). q.1) same in
     (p.0, ap (λ (r : List ℕ). Some (p.0, r)) tail, sym (ap (λ (q : List ℕ × List ℕ). q.0) same)))
 
 -- the pieces, with the byte between them, are the word
-pub cut_at-joins : (c : ℕ) (word front rest : List ℕ) → cut_at c word ≡ Some (front, rest) → word ≡ front ++ c ∷ rest
+pub cut_at-joins : (c : ℕ) (word prefix rest : List ℕ) → cut_at c word ≡ Some (prefix, rest) → word ≡ prefix ++ c ∷ rest
 unfolding cut_at
-cut_at-joins c [] front rest e = cc
-cut_at-joins c (b ∷ word) front rest e =
-    elim (eqb b c) as (λ t. eqb b c ≡ t → cond t (Some ([], word)) (option_map {U = List ℕ × List ℕ} (λ (p : List ℕ × List ℕ). (b ∷ p.0, p.1)) (cut_at c word)) ≡ Some (front, rest) → b ∷ word ≡ front ++ c ∷ rest) [
+cut_at-joins c [] prefix rest e = cc
+cut_at-joins c (b ∷ word) prefix rest e =
+    elim (eqb b c) as (λ t. eqb b c ≡ t → cond t (Some ([], word)) (option_map {U = List ℕ × List ℕ} (λ (p : List ℕ × List ℕ). (b ∷ p.0, p.1)) (cut_at c word)) ≡ Some (prefix, rest) → b ∷ word ≡ prefix ++ c ∷ rest) [
       | true ↦ λ q g.
-          (let same : ([], word) ≡ (front, rest) = cc in
+          (let same : ([], word) ≡ (prefix, rest) = cc in
           ap (λ (x : ℕ). x ∷ word) (eqb-true b c q) ∙ ap (λ (p : List ℕ × List ℕ). p.0 ++ c ∷ p.1) same)
       | false ↦ λ q g.
-          (let k = map_back b (cut_at c word) front rest g in
+          (let k = map_back b (cut_at c word) prefix rest g in
           ap (λ (r : List ℕ). b ∷ r) (cut_at-joins c word k.0 rest k.1) ∙ ap (λ (r : List ℕ). r ++ c ∷ rest) (sym k.2))
     ] refl e
 
--- WHAT IS SPELLED IS READ
+-- ENCODINGS ARE READ
 
 pub decimal_lacks : (c n : ℕ) → n < 1000000000000000000 → ¬ (IsInRange 48 57 c) → AllByRecursion (λ b. eqb b c ≡ false) (decimal n)
 decimal_lacks c n small out =
@@ -62,24 +62,24 @@ decimal_lacks c n small out =
     ne_eqb _ _ (not_in_digits own (decimal n) c (digits_decimal own n (omega arith)) out i h)))
 
 -- the word of a cell, whose block has this name
-bracketed_read : (names : Named) (block : List ℕ) (first n i : ℕ) → IsNamedBy names (Cells first n) block → i < n → i < 1000000000000000000 → cell_in_word names (bracketed block i) ≡ Some (first + i)
+bracketed_read : (names : NameTable) (block : List ℕ) (first n i : ℕ) → IsNamedBy names (Cells first n) block → i < n → i < 1000000000000000000 → cell_in_word names (bracketed block i) ≡ Some (first + i)
 unfolding cell_in_word
 bracketed_read names block first n i by inside small =
     let shape : bracketed block i ≡ block ++ 91 ∷ (decimal i ++ 93 ∷ []) =
     append_assoc (block ++ 91 ∷ []) (decimal i) (93 ∷ []) ∙ append_assoc block (91 ∷ []) (decimal i ++ 93 ∷ []) in
-    let front : cut_at 91 (bracketed block i) ≡ Some (block, decimal i ++ 93 ∷ []) =
+    let prefix : cut_at 91 (bracketed block i) ≡ Some (block, decimal i ++ 93 ∷ []) =
     ap (cut_at 91) shape ∙ cut_at-append 91 block (decimal i ++ 93 ∷ []) (word_lacks 91 block refl by.plain) in
     let back : cut_at 93 (decimal i ++ 93 ∷ []) ≡ Some (decimal i, []) = cut_at-append 93 (decimal i) [] (decimal_lacks 93 i small (λ r. omega arith)) in
     let below : nat_lt i n ≡ true = lt-ltb _ _ inside in
-    rw front (rw back (rw (number_again i small) (rw by.found (rw below refl))))
+    rw prefix (rw back (rw (number_again i small) (rw by.found (rw below refl))))
 
-pub cell_again : (names : Named) (x : ℕ) → AreWords names → HasBlock names x → x < 1000000000000000000 → cell_in_word names (cell_word names x) ≡ Some x
+pub cell_again : (names : NameTable) (x : ℕ) → AreWords names → HasBlock names x → x < 1000000000000000000 → cell_in_word names (cell_word names x) ≡ Some x
 cell_again names x are b small =
     ap (cell_in_word names) b.word
     ∙ bracketed_read names b.block b.first b.count (x - b.first) (block_by names x are b) (omega (arith, b.low, b.high)) (omega arith)
     ∙ ap Some (omega (arith, b.low))
 
--- WHAT IS READ IS SPELLED
+-- WHAT IS READ IS AN ENCODING
 
 block_back : (t : Target) (p : ℕ × ℕ) → block_of t ≡ Some p → t ≡ Cells p.0 p.1
 block_back (Cells first n) p e = (let same : (first, n) ≡ p = cc in ap (λ (q : ℕ × ℕ). Cells q.0 q.1) same)
@@ -91,12 +91,12 @@ inside_back i first n x e =
     (ltb-true _ _ g.0, cc)
 
 -- the number before the bracket
-closed_back : (p : Option (List ℕ × List ℕ)) (i : ℕ) → closed_number p ≡ Some i → (digits : List ℕ) × (p ≡ Some (digits, [])) × (number_of digits ≡ Some i)
+closed_back : (p : Option (List ℕ × List ℕ)) (i : ℕ) → closed_number p ≡ Some i → (digits : List ℕ) × (p ≡ Some (digits, [])) × (number_in_word digits ≡ Some i)
 closed_back None i e = cc
 closed_back (Some (digits, [])) i e = (digits, refl, e)
 closed_back (Some (digits, b ∷ bs)) i e = cc
 
-pub record IsCell (names : Named) (word : List ℕ) (x : ℕ) : Type 0 where
+pub record IsCell (names : NameTable) (word : List ℕ) (x : ℕ) : Type 0 where
   pub block : List ℕ
   pub first : ℕ
   pub count : ℕ
@@ -106,7 +106,7 @@ pub record IsCell (names : Named) (word : List ℕ) (x : ℕ) : Type 0 where
   pub is : first + place ≡ x
   pub spelled : word ≡ bracketed block place
 
-cell_parts : (names : Named) (word : List ℕ) (p : Option (List ℕ × List ℕ)) (x : ℕ) → cut_at 91 word ≡ p → cell_by names p ≡ Some x → IsCell names word x
+cell_parts : (names : NameTable) (word : List ℕ) (p : Option (List ℕ × List ℕ)) (x : ℕ) → cut_at 91 word ≡ p → cell_by names p ≡ Some x → IsCell names word x
 cell_parts names word None x at e = cc
 cell_parts names word (Some (name, rest)) x at e =
     let n = option_back (cell_of names name) (closed_number (cut_at 93 rest)) x e in
@@ -127,11 +127,11 @@ cell_parts names word (Some (name, rest)) x at e =
       spelled = outer ∙ ap (λ (r : List ℕ). name ++ 91 ∷ r) inner ∙ sym (append_assoc (name ++ 91 ∷ []) (decimal n.0) (93 ∷ []) ∙ append_assoc name (91 ∷ []) (decimal n.0 ++ 93 ∷ []));
     }
 
-pub cell_is : (names : Named) (word : List ℕ) (x : ℕ) → cell_in_word names word ≡ Some x → IsCell names word x
+pub cell_is : (names : NameTable) (word : List ℕ) (x : ℕ) → cell_in_word names word ≡ Some x → IsCell names word x
 unfolding cell_in_word
 cell_is names word x e = cell_parts names word (cut_at 91 word) x refl e
 
-pub cell_spelled : (names : Named) (word : List ℕ) (x : ℕ) → AreApart names → cell_in_word names word ≡ Some x → cell_word names x ≡ word
+pub cell_spelled : (names : NameTable) (word : List ℕ) (x : ℕ) → AreApart names → cell_in_word names word ≡ Some x → cell_word names x ≡ word
 cell_spelled names word x apart e =
     let c = cell_is names word x e in
     ap (cell_word names) (sym c.is) ∙ cell_back names c.block c.first c.count c.place apart c.inside c.found ∙ sym c.spelled

@@ -18,29 +18,26 @@ use Rattle.ec_core.specs.declared.act.Refusal.{Refusal}
 use Rattle.ec_core.specs.declared.act.Entry.{Entry}
 use Rattle.ec_core.proofs.shared.Answering.{allowed}
 use Rattle.ec_core.proofs.shared.Bounds.{told_small}
-use Rattle.ec_heading.specs.Headed.{Headed}
+use Rattle.ec_heading.specs.HeadingModel.{HeadingModel}
 use Rattle.ec_trace.specs.declared.fault.LineFault.{LineFault}
 use Rattle.ec_trace.specs.declared.fault.LineFault.TheVariants.{Bad, WrongReply}
 use Rattle.ec_trace.specs.Stages.{Stage, Running, Ended}
-use Rattle.ec_trace.specs.Recounted.{Recounted}
+use Rattle.ec_trace.specs.TraceModel.{TraceModel}
 use Rattle.ec_heading.specs.Spelling.{entry_line}
-use Rattle.ec_heading.specs.Spelled.{Named}
+use Rattle.ec_heading.specs.EntryWords.{NameTable}
 use Rattle.ec_heading.specs.Versions.{can_spell}
 use Rattle.ec_trace.specs.Entries.{entry_in, entry_of}
-use Rattle.ec_trace.specs.Step.{step, entry_step, entered, answered, ran_on, same_reply}
+use Rattle.ec_trace.specs.Step.{step, entry_step, after_entry, after_answer, map_running, same_reply}
 use Rattle.ec_trace.specs.FirstFault.{Leads, IsLine}
 use Rattle.ec_trace.proofs.TraceLines.{entry_line_is}
 use Rattle.ec_heading.proofs.shared.ReadHeadings.{IsSound, is_declared}
 use Rattle.ec_trace.proofs.ReadEntries.{ActIsNamed, ReplyIsShort, IsSpellable, entry_again, entry_spelled}
+use Rattle.ec_core.proofs.shared.Moments.{accepted_before as accepted_end}
 
--- PASTS THAT GROW
+-- REVERSED HISTORIES THAT GROW
 
 reversed : (pre : List Entry) (e : Entry) → reverse (pre ++ e ∷ []) ≡ e ∷ reverse pre
 reversed pre e = reverse-append pre (e ∷ [])
-
-accepted_end : (t : Tables) (xs past : List Entry) → IsAccepted t (xs ++ past) → IsAccepted t past
-accepted_end t [] past h = h
-accepted_end t (x ∷ xs) past h = accepted_end t xs past h.1
 
 accepted_front : (t : Tables) (pre es : List Entry) (e : Entry) → IsAccepted t (reverse (pre ++ e ∷ es)) → IsAccepted t (e ∷ reverse pre)
 accepted_front t pre es e h =
@@ -48,9 +45,9 @@ accepted_front t pre es e h =
     ap reverse (sym (append_snoc pre e es)) ∙ reverse-append (pre ++ e ∷ []) es ∙ ap (λ (r : List Entry). reverse es ++ r) (reversed pre e) in
     accepted_end t (reverse es) (e ∷ reverse pre) (subst (IsAccepted t) shape h)
 
--- AN ACCEPTED ENTRY MAY BE SPELLED
+-- AN ACCEPTED ENTRY HAS AN ENCODING
 
-pub act_named : (h : Headed) (a : Act) → IsSound h → names_unknown_object h.setup a ≡ false → is_too_large a ≡ false → ActIsNamed h.words a
+pub act_named : (h : HeadingModel) (a : Act) → IsSound h → names_unknown_object h.setup a ≡ false → is_too_large a ≡ false → ActIsNamed h.words a
 act_named h (acts.Advance e) is known small = is.events e (leb-false _ _ known)
 act_named h (acts.Read e) is known small = is.events e (leb-false _ _ known)
 act_named h (acts.Await e v) is known small = (is.events e (leb-false _ _ known), (let l : v ≤ VALUE_MAX = ltb-false _ _ small in omega arith))
@@ -68,7 +65,7 @@ reply_short Done h = tt
 reply_short Pending h = tt
 reply_short (Number n) h = omega arith
 
-pub may_be_spelled : (h : Headed) (past : List Entry) (e : Entry) → IsSound h → IsAccepted h.setup (e ∷ past) → IsSpellable h.words e
+pub may_be_spelled : (h : HeadingModel) (past : List Entry) (e : Entry) → IsSound h → IsAccepted h.setup (e ∷ past) → IsSpellable h.words e
 may_be_spelled h past e is acc =
     let k = allowed h.setup past e.worker e.act e.reply acc.0 in
     record {
@@ -90,35 +87,35 @@ same_is Pending Pending h = refl
 same_is (Number m) (Number n) h = ap Number (eqb-true m n h)
 same_is _ _ h = absurd (true≢false (sym h))
 
-no_end : (names : Named) → entry_of names (codes "end") ≡ None
+no_end : (names : NameTable) → entry_of names (codes "end") ≡ None
 unfolding entry_of entry_in
 no_end names = refl
 
-pub not_end : (names : Named) (line : List ℕ) (e : Entry) → entry_of names line ≡ Some e → bytes_eq line (codes "end") ≡ false
+pub not_end : (names : NameTable) (line : List ℕ) (e : Entry) → entry_of names line ≡ Some e → bytes_eq line (codes "end") ≡ false
 not_end names line e h =
     false_from_ne_true _ (λ same.
     let k : None ≡ Some e = sym (no_end names) ∙ ap (entry_of names) (sym ((bytes_eq-Decides line (codes "end")).0 same)) ∙ h in
     cc)
 
-abbrev pub with_entry : Recounted → Entry → Recounted
+abbrev pub with_entry : TraceModel → Entry → TraceModel
 with_entry t e = record { heading = t.heading; entries = t.entries ++ e ∷ [] }
 
-entered_so : (t : Recounted) (line : List ℕ) (e : Entry) → entry_of t.heading.words line ≡ Some e → can_spell t.heading.version e.act ≡ true
+entered_so : (t : TraceModel) (line : List ℕ) (e : Entry) → entry_of t.heading.words line ≡ Some e → can_spell t.heading.version e.act ≡ true
     → answer_of t.heading.setup (reverse t.entries) e.worker e.act ≡ Ok e.reply → entry_step t line ≡ Ok (with_entry t e)
 unfolding entry_step
 entered_so t line e is can right = rw is (rw can (rw right (rw (same_self e.reply) refl)))
 
-steps_so : (t : Recounted) (line : List ℕ) (e : Entry) → entry_of t.heading.words line ≡ Some e → can_spell t.heading.version e.act ≡ true
+steps_so : (t : TraceModel) (line : List ℕ) (e : Entry) → entry_of t.heading.words line ≡ Some e → can_spell t.heading.version e.act ≡ true
     → answer_of t.heading.setup (reverse t.entries) e.worker e.act ≡ Ok e.reply → step (Running t) line ≡ Ok (Running (with_entry t e))
 unfolding step
-steps_so t line e is can right = rw (not_end t.heading.words line e is) (ap ran_on (entered_so t line e is can right))
+steps_so t line e is can right = rw (not_end t.heading.words line e is) (ap map_running (entered_so t line e is can right))
 
--- the version may have each of the entries
-abbrev pub EachInVersion : Headed → List Entry → Type 0
+-- the version allows each of the entries
+abbrev pub EachInVersion : HeadingModel → List Entry → Type 0
 EachInVersion h es = AllByRecursion (λ (e : Entry). can_spell h.version e.act ≡ true) es
 
--- the entries of an accepted history are read in turn
-pub entries_lead : (h : Headed) (pre es : List Entry) → IsSound h → EachInVersion h es → IsAccepted h.setup (reverse (pre ++ es))
+-- the entries of an accepted history are read in order
+pub entries_lead : (h : HeadingModel) (pre es : List Entry) → IsSound h → EachInVersion h es → IsAccepted h.setup (reverse (pre ++ es))
     → Leads (Running (record { heading = h; entries = pre })) (map (entry_line h.words) es) (Running (record { heading = h; entries = pre ++ es }))
 entries_lead h pre [] is can acc = ap (λ (xs : List Entry). Running (record { heading = h; entries = xs })) (sym (append-nil pre))
 entries_lead h pre (e ∷ es) is can acc =
@@ -130,26 +127,26 @@ entries_lead h pre (e ∷ es) is can acc =
           (entries_lead h (pre ++ e ∷ []) es is can.1 (subst (λ (xs : List Entry). IsAccepted h.setup (reverse xs)) more acc)),
     )
 
-pub entries_are_lines : (h : Headed) (pre es : List Entry) → IsSound h → IsAccepted h.setup (reverse (pre ++ es)) → AllByRecursion IsLine (map (entry_line h.words) es)
+pub entries_are_lines : (h : HeadingModel) (pre es : List Entry) → IsSound h → IsAccepted h.setup (reverse (pre ++ es)) → AllByRecursion IsLine (map (entry_line h.words) es)
 entries_are_lines h pre [] is acc = tt
 entries_are_lines h pre (e ∷ es) is acc = (
   entry_line_is h.words e is.words (may_be_spelled h (reverse pre) e is (accepted_front h.setup pre es e acc)),
   entries_are_lines h (pre ++ e ∷ []) es is (subst (λ (xs : List Entry). IsAccepted h.setup (reverse xs)) (sym (append_snoc pre e es)) acc),
 )
 
-pub end_leads : (t : Recounted) → Leads (Running t) (codes "end" ∷ []) (Ended t)
+pub end_leads : (t : TraceModel) → Leads (Running t) (codes "end" ∷ []) (Ended t)
 unfolding step
 end_leads t = (Ended t, refl, refl)
 
--- LINES BEHIND `run`
+-- LINES AFTER `run`
 
 -- nothing follows the last line
-after_end : (t u : Recounted) (lines : List (List ℕ)) → Leads (Ended t) lines (Ended u) → (lines ≡ []) × (t ≡ u)
+after_end : (t u : TraceModel) (lines : List (List ℕ)) → Leads (Ended t) lines (Ended u) → (lines ≡ []) × (t ≡ u)
 unfolding step
 after_end t u [] h = (refl, cc)
 after_end t u (line ∷ lines) h = (let k : Err Bad ≡ Ok h.0 = h.1 in cc)
 
-pub answered_back : (t u : Recounted) (e : Entry) (r : Result Reply Refusal) → answered t e r ≡ Ok u → (r ≡ Ok e.reply) × (u ≡ with_entry t e)
+pub answered_back : (t u : TraceModel) (e : Entry) (r : Result Reply Refusal) → after_answer t e r ≡ Ok u → (r ≡ Ok e.reply) × (u ≡ with_entry t e)
 answered_back t u e (Err f) h = cc
 answered_back t u e (Ok right) h =
     elim (same_reply right e.reply) as (λ b. same_reply right e.reply ≡ b → cond b (Ok (with_entry t e)) (Err (WrongReply right)) ≡ Ok u → (◌≡◌ {A = Result Reply Refusal} (Ok right) (Ok e.reply)) × (u ≡ with_entry t e)) [
@@ -157,30 +154,30 @@ answered_back t u e (Ok right) h =
       | false ↦ λ q g. (cc)
     ] refl h
 
-if_can : (b : Bool) (r : Result Recounted LineFault) (u : Recounted) → cond b r (Err Bad) ≡ Ok u → (r ≡ Ok u) × (b ≡ true)
+if_can : (b : Bool) (r : Result TraceModel LineFault) (u : TraceModel) → cond b r (Err Bad) ≡ Ok u → (r ≡ Ok u) × (b ≡ true)
 if_can true r u h = (h, refl)
 if_can false r u h = cc
 
-pub entered_back : (t u : Recounted) (o : Option Entry) → entered t o ≡ Ok u
-    → (e : Entry) × (o ≡ Some e) × (answered t e (answer_of t.heading.setup (reverse t.entries) e.worker e.act) ≡ Ok u) × (can_spell t.heading.version e.act ≡ true)
+pub entered_back : (t u : TraceModel) (o : Option Entry) → after_entry t o ≡ Ok u
+    → (e : Entry) × (o ≡ Some e) × (after_answer t e (answer_of t.heading.setup (reverse t.entries) e.worker e.act) ≡ Ok u) × (can_spell t.heading.version e.act ≡ true)
 entered_back t u None h = cc
 entered_back t u (Some e) h =
-    let k = if_can (can_spell t.heading.version e.act) (answered t e (answer_of t.heading.setup (reverse t.entries) e.worker e.act)) u h in
+    let k = if_can (can_spell t.heading.version e.act) (after_answer t e (answer_of t.heading.setup (reverse t.entries) e.worker e.act)) u h in
     (e, refl, k.0, k.1)
 
-pub ran_back : (r : Result Recounted LineFault) (s : Stage) → ran_on r ≡ Ok s → (u : Recounted) × (r ≡ Ok u) × (s ≡ Running u)
+pub ran_back : (r : Result TraceModel LineFault) (s : Stage) → map_running r ≡ Ok s → (u : TraceModel) × (r ≡ Ok u) × (s ≡ Running u)
 ran_back (Ok u) s h = (u, refl, cc)
 ran_back (Err f) s h = cc
 
--- the line spells an entry that the version may have and that is accepted next
-record IsNext (t : Recounted) (line : List ℕ) (s : Stage) : Type 0 where
+-- the line is the encoding of an entry that the version allows and that is accepted next
+record IsNext (t : TraceModel) (line : List ℕ) (s : Stage) : Type 0 where
   entry : Entry
   spelled : line ≡ entry_line t.heading.words entry
   can : can_spell t.heading.version entry.act ≡ true
   right : answer_of t.heading.setup (reverse t.entries) entry.worker entry.act ≡ Ok entry.reply
   stage : s ≡ Running (with_entry t entry)
 
-next_entry : (t : Recounted) (line : List ℕ) (s : Stage) → IsSound t.heading → ran_on (entry_step t line) ≡ Ok s → IsNext t line s
+next_entry : (t : TraceModel) (line : List ℕ) (s : Stage) → IsSound t.heading → map_running (entry_step t line) ≡ Ok s → IsNext t line s
 unfolding entry_step
 next_entry t line s is h =
     let r = ran_back (entry_step t line) s h in
@@ -194,15 +191,15 @@ next_entry t line s is h =
       stage = r.2 ∙ ap Running a.1;
     }
 
--- these lines are those of entries that the version may have and that are accepted, and `end`
-pub record IsRunOf (h : Headed) (pre : List Entry) (lines : List (List ℕ)) (t : Recounted) : Type 0 where
+-- these lines are those of entries that the version allows and that are accepted, and `end`
+pub record IsRunOf (h : HeadingModel) (pre : List Entry) (lines : List (List ℕ)) (t : TraceModel) : Type 0 where
   pub entries : List Entry
   pub lines_are : lines ≡ map (entry_line h.words) entries ++ codes "end" ∷ []
   pub ends : t ≡ record { heading = h; entries = pre ++ entries }
   pub accepted : IsAccepted h.setup (reverse (pre ++ entries))
   pub can : EachInVersion h entries
 
-run_ends : (h : Headed) (pre : List Entry) (line : List ℕ) (lines : List (List ℕ)) (t : Recounted) → IsAccepted h.setup (reverse pre) → line ≡ codes "end" → (lines ≡ []) × (record { heading = h; entries = pre } ≡ t) → IsRunOf h pre (line ∷ lines) t
+run_ends : (h : HeadingModel) (pre : List Entry) (line : List ℕ) (lines : List (List ℕ)) (t : TraceModel) → IsAccepted h.setup (reverse pre) → line ≡ codes "end" → (lines ≡ []) × (record { heading = h; entries = pre } ≡ t) → IsRunOf h pre (line ∷ lines) t
 run_ends h pre line lines t acc is rest = record {
   entries = [];
   lines_are = cc (is, rest.0);
@@ -211,7 +208,7 @@ run_ends h pre line lines t acc is rest = record {
   can = tt;
 }
 
-run_along : (h : Headed) (pre : List Entry) (e : Entry) (line : List ℕ) (lines : List (List ℕ)) (t : Recounted) → line ≡ entry_line h.words e → can_spell h.version e.act ≡ true
+run_along : (h : HeadingModel) (pre : List Entry) (e : Entry) (line : List ℕ) (lines : List (List ℕ)) (t : TraceModel) → line ≡ entry_line h.words e → can_spell h.version e.act ≡ true
     → IsRunOf h (pre ++ e ∷ []) lines t → IsRunOf h pre (line ∷ lines) t
 run_along h pre e line lines t is can r = record {
   entries = e ∷ r.entries;
@@ -224,13 +221,13 @@ run_along h pre e line lines t is can r = record {
 stage_is : {X : Type 0} (x y : X) → ◌≡◌ {A = Result X LineFault} (Ok x) (Ok y) → y ≡ x
 stage_is x y e = cc
 
-pub run_back : (h : Headed) (pre : List Entry) (lines : List (List ℕ)) (t : Recounted) → IsSound h → IsAccepted h.setup (reverse pre)
+pub run_back : (h : HeadingModel) (pre : List Entry) (lines : List (List ℕ)) (t : TraceModel) → IsSound h → IsAccepted h.setup (reverse pre)
     → Leads (Running (record { heading = h; entries = pre })) lines (Ended t) → IsRunOf h pre lines t
 unfolding step
 run_back h pre [] t is acc leads = cc
 run_back h pre (line ∷ lines) t is acc (next, taken, leads) =
-    let now : Recounted = record { heading = h; entries = pre } in
-    elim (bytes_eq line (codes "end")) as (λ b. bytes_eq line (codes "end") ≡ b → cond b (Ok (Ended now)) (ran_on (entry_step now line)) ≡ Ok next → IsRunOf h pre (line ∷ lines) t) [
+    let now : TraceModel = record { heading = h; entries = pre } in
+    elim (bytes_eq line (codes "end")) as (λ b. bytes_eq line (codes "end") ≡ b → cond b (Ok (Ended now)) (map_running (entry_step now line)) ≡ Ok next → IsRunOf h pre (line ∷ lines) t) [
       | true ↦ λ q g. run_ends h pre line lines t acc ((bytes_eq-Decides line (codes "end")).0 q) (after_end now t lines (subst (λ (s : Stage). Leads s lines (Ended t)) (stage_is (Ended now) next g) leads))
       | false ↦ λ q g.
           (let n = next_entry now line next is g in

@@ -4,18 +4,18 @@ use Rattle.std.specs.Option.{unwrap_or, option_map_or}
 use Rattle.std.specs.Borrow.{Bor}
 use Rattle.ec_count.specs.declared.target.Target.{Target}
 use Rattle.ec_count.specs.declared.target.Target.TheVariants.{Worker, Event, Sequencer, Cells, Group}
-use Rattle.ec_heading.specs.Spelling.{Named, cell_word}
+use Rattle.ec_heading.specs.Spelling.{NameTable, cell_word}
 use Rattle.ec_trace.specs.WordTables.{Spells, word_at, cell_at, cell_name_bytes, with_block}
-use Rattle.ec_trace.specs.declared.spell.Words.{Words}
+use Rattle.ec_trace.specs.declared.spell.WordTable.{WordTable}
 use Rattle.ec_trace.specs.declared.spell.CellName.{CellName}
 
-abbrev words : List (Bor (List ℕ)) → List (Bor (List ℕ)) → List (Bor (List ℕ)) → List (Option CellName) → Words
+abbrev words : List (Bor (List ℕ)) → List (Bor (List ℕ)) → List (Bor (List ℕ)) → List (Option CellName) → WordTable
 words ws es qs xs = record { workers = ws; events = es; sequencers = qs; cells = xs }
 
 none_at : (ws : List (Bor (List ℕ))) (w : Bor (List ℕ)) (i : ℕ) → w.now ≡ [] → slice_get ws i ≡ Some w → word_at ws i ≡ []
 none_at ws w i empty at = ap (λ (o : Option (Bor (List ℕ))). option_map_or (λ (v : Bor (List ℕ)). v.now) o []) at ∙ empty
 
--- tables of no bytes are those of no names
+-- tables of empty words are those of no names
 pub no_words : (ws es qs : List (Bor (List ℕ))) (xs : List (Option CellName)) (w : Bor (List ℕ)) → w.now ≡ []
     → ((i : ℕ) → i < 16 → slice_get ws i ≡ Some w) → ((i : ℕ) → i < 32 → slice_get es i ≡ Some w) → ((i : ℕ) → i < 32 → slice_get qs i ≡ Some w) → ((i : ℕ) → i < 256 → slice_get xs i ≡ Some None)
     → Spells [] (words ws es qs xs)
@@ -35,7 +35,7 @@ or_word false x o = refl
 more : (b : Bool) (x old : List ℕ) (o : Option (List ℕ)) → old ≡ unwrap_or o [] → cond b x old ≡ unwrap_or (cond b (Some x) o) []
 more b x old o e = ap (cond b x) e ∙ or_word b x o
 
-pub took_worker : (names : Named) (name : List ℕ) (t : Target) (w : ℕ) (old : Words) (ws : List (Bor (List ℕ))) → t ≡ Worker w
+pub took_worker : (names : NameTable) (name : List ℕ) (t : Target) (w : ℕ) (old : WordTable) (ws : List (Bor (List ℕ))) → t ≡ Worker w
     → ((i : ℕ) → word_at ws i ≡ (if w == i then name else word_at old.workers i)) → Spells names old → Spells ((name, t) ∷ names) (words ws old.events old.sequencers old.cells)
 unfolding cell_word
 took_worker names name t w old ws is at h = subst (λ (u : Target). Spells ((name, u) ∷ names) (words ws old.events old.sequencers old.cells)) (sym is) (record {
@@ -45,7 +45,7 @@ took_worker names name t w old ws is at h = subst (λ (u : Target). Spells ((nam
   cells = h.cells;
 })
 
-pub took_event : (names : Named) (name : List ℕ) (t : Target) (e : ℕ) (old : Words) (es : List (Bor (List ℕ))) → t ≡ Event e
+pub took_event : (names : NameTable) (name : List ℕ) (t : Target) (e : ℕ) (old : WordTable) (es : List (Bor (List ℕ))) → t ≡ Event e
     → ((i : ℕ) → word_at es i ≡ (if e == i then name else word_at old.events i)) → Spells names old → Spells ((name, t) ∷ names) (words old.workers es old.sequencers old.cells)
 unfolding cell_word
 took_event names name t e old es is at h = subst (λ (u : Target). Spells ((name, u) ∷ names) (words old.workers es old.sequencers old.cells)) (sym is) (record {
@@ -55,7 +55,7 @@ took_event names name t e old es is at h = subst (λ (u : Target). Spells ((name
   cells = h.cells;
 })
 
-pub took_sequencer : (names : Named) (name : List ℕ) (t : Target) (q : ℕ) (old : Words) (qs : List (Bor (List ℕ))) → t ≡ Sequencer q
+pub took_sequencer : (names : NameTable) (name : List ℕ) (t : Target) (q : ℕ) (old : WordTable) (qs : List (Bor (List ℕ))) → t ≡ Sequencer q
     → ((i : ℕ) → word_at qs i ≡ (if q == i then name else word_at old.sequencers i)) → Spells names old → Spells ((name, t) ∷ names) (words old.workers old.events qs old.cells)
 unfolding cell_word
 took_sequencer names name t q old qs is at h = subst (λ (u : Target). Spells ((name, u) ∷ names) (words old.workers old.events qs old.cells)) (sym is) (record {
@@ -65,7 +65,7 @@ took_sequencer names name t q old qs is at h = subst (λ (u : Target). Spells ((
   cells = h.cells;
 })
 
-pub took_cells : (names : Named) (name : List ℕ) (t : Target) (first n : ℕ) (old : Words) (xs : List (Option CellName)) → t ≡ Cells first n
+pub took_cells : (names : NameTable) (name : List ℕ) (t : Target) (first n : ℕ) (old : WordTable) (xs : List (Option CellName)) → t ≡ Cells first n
     → ((x : ℕ) → x < 256 → cell_at xs x ≡ with_block name first n x (cell_at old.cells x)) → Spells names old → Spells ((name, t) ∷ names) (words old.workers old.events old.sequencers xs)
 unfolding cell_word
 took_cells names name t first n old xs is at h = subst (λ (u : Target). Spells ((name, u) ∷ names) (words old.workers old.events old.sequencers xs)) (sym is) (record {
@@ -75,7 +75,7 @@ took_cells names name t first n old xs is at h = subst (λ (u : Target). Spells 
   cells = λ x lt. at x lt ∙ ap (with_block name first n x) (h.cells x lt);
 })
 
-pub took_group : (names : Named) (name : List ℕ) (t : Target) (i : ℕ) (old : Words) → t ≡ Group i → Spells names old → Spells ((name, t) ∷ names) old
+pub took_group : (names : NameTable) (name : List ℕ) (t : Target) (i : ℕ) (old : WordTable) → t ≡ Group i → Spells names old → Spells ((name, t) ∷ names) old
 unfolding cell_word
 took_group names name t i old is h = subst (λ (u : Target). Spells ((name, u) ∷ names) old) (sym is) (record {
   workers = h.workers;

@@ -14,18 +14,18 @@ use Rattle.ec_heading.proofs.shared.SpelledWords.{IsPlainWord, AreWords}
 use Rattle.ec_count.specs.Reserved.{is_name, is_name_byte, is_reserved}
 use Rattle.ec_count.specs.declared.target.Target.TheVariants.{Worker, Event, Sequencer}
 use Rattle.ec_text.specs.Words.{words_of}
-use Rattle.ec_heading.specs.Headed.{Headed}
-use Rattle.ec_heading.specs.Outline.{Declaration, Outline, IsOutline, IsDeclarable, AreDeclarable, declared_by}
-use Rattle.ec_heading.specs.declared.sort.Sort.{Sort}
+use Rattle.ec_heading.specs.HeadingModel.{HeadingModel}
+use Rattle.ec_heading.specs.HeaderTree.{Declaration, HeaderTree, IsHeaderTree, IsDeclarable, AreDeclarable, with_declaration}
+use Rattle.ec_heading.specs.declared.decl_kind.DeclKind.{DeclKind}
 use Rattle.ec_heading.specs.declared.heading.HeadFault.TheVariants as faults
-use Rattle.ec_heading.specs.Sorts.{sort_word, has_name, has_number, opener, second_opener, is_called}
-use Rattle.ec_heading.specs.Spelling.{word_of, cell_word, act_words, reply_word, entry_words, entry_line, limit_line, declaration_line, declaration_words, list_words, name_words, number_words, second_words}
-use Rattle.ec_heading.specs.Spelled.{Named}
+use Rattle.ec_heading.specs.DeclKinds.{sort_word, has_name, has_number, opener, second_opener, is_called}
+use Rattle.ec_heading.specs.Spelling.{target_name, cell_word, act_words, reply_word, entry_words, entry_line, limit_line, declaration_line, declaration_words, list_words, name_words, number_words, second_words}
+use Rattle.ec_heading.specs.EntryWords.{NameTable}
 use Rattle.ec_heading.specs.Heading.{head_step, is_no_line, words_step}
 use Rattle.ec_heading.specs.HeadingLaws.{LinesLead, outline_lines}
 use Rattle.ec_trace.specs.FirstFault.{IsLine}
 use Rattle.ec_heading.proofs.shared.Each.{each_append}
-use Rattle.ec_heading.proofs.shared.SortFacts.{is_literal, literal, literal_lacks as letters_lack, is_stop, other_stop, sort_literal, opener_literal, number_small, name_called, called}
+use Rattle.ec_heading.proofs.shared.DeclKindFacts.{is_literal, literal, literal_lacks as letters_lack, is_stop, other_stop, sort_literal, opener_literal, number_small, name_called, called}
 use Rattle.ec_heading.proofs.shared.ReadNames.{HasBlock, has_block, block_by, named_by, word_lacks}
 use Rattle.ec_trace.proofs.ReadCells.{decimal_lacks}
 use Rattle.ec_trace.proofs.ReadEntries.{ActIsNamed, ReplyIsShort, IsSpellable}
@@ -65,7 +65,7 @@ line_is line clean short = record { no_lf = All-from_recursion (λ b. b ≢ 10) 
     apart [] h = tt
     apart (b ∷ w) h = (eqb-false b 10 h.0, apart w h.1)
 
--- HEADINGS
+-- HEADERS
 
 workers_clean : (workers : List (List ℕ)) → AllByRecursion (λ w. is_name w ≡ true) workers → AllByRecursion Lacks workers
 workers_clean [] h = tt
@@ -83,14 +83,14 @@ list_clean workers (i ∷ ids) h = (one_clean workers i h, list_clean workers id
 text_clean : (w : List ℕ) → is_literal w ≡ true → Lacks w
 text_clean w h = letters_lack 10 w refl (literal w h).letters
 
-name_words_clean : (s : Sort) (name : List ℕ) → is_called s name ≡ true → AllByRecursion Lacks (name_words s name)
+name_words_clean : (s : DeclKind) (name : List ℕ) → is_called s name ≡ true → AllByRecursion Lacks (name_words s name)
 name_words_clean s name h =
     elim (has_name s) as (λ b. AllByRecursion Lacks (if b then name ∷ [] else [])) [
       | true ↦ (bytes_clean name (called s name h).bytes, tt)
       | false ↦ tt
     ]
 
-number_words_clean : (s : Sort) (n : ℕ) → n < 1000000000000000000 → AllByRecursion Lacks (number_words s n)
+number_words_clean : (s : DeclKind) (n : ℕ) → n < 1000000000000000000 → AllByRecursion Lacks (number_words s n)
 number_words_clean s n small = elim (has_number s) as (λ b. AllByRecursion Lacks (if b then decimal n ∷ [] else [])) [ true ↦ (number_clean n small, tt) | false ↦ tt ]
 
 second_clean : (o : Option (List ℕ)) (workers : List (List ℕ)) (ids : List ℕ) → is_stop o ≡ true → AllByRecursion Lacks workers → AllByRecursion Lacks (second_words workers o ids)
@@ -98,10 +98,11 @@ second_clean None workers ids good h = tt
 second_clean (Some stop) workers [] good h = tt
 second_clean (Some stop) workers (i ∷ ids) good h = (text_clean stop (and_parts (is_literal stop) (is_reserved stop) good).0, list_clean workers (i ∷ ids) h)
 
-small_number : (h : Headed) (d : Declaration) → IsDeclarable h d → d.number < 1000000000000000000
+small_number : (h : HeadingModel) (d : Declaration) → IsDeclarable h d
+    → d.number < 1000000000000000000
 small_number h d may = omega (arith, number_small d.sort d.number may.range)
 
-declaration_clean : (workers : List (List ℕ)) (h : Headed) (d : Declaration) → AllByRecursion Lacks workers → IsDeclarable h d → Lacks (declaration_line workers d)
+declaration_clean : (workers : List (List ℕ)) (h : HeadingModel) (d : Declaration) → AllByRecursion Lacks workers → IsDeclarable h d → Lacks (declaration_line workers d)
 declaration_clean workers h d all may =
     lacks_join (declaration_words workers d)
     (each_append Lacks (sort_word d.sort ∷ name_words d.sort d.name ++ number_words d.sort d.number ++ opener d.sort ∷ list_words workers d.first) (second_words workers (second_opener d.sort) d.second)
@@ -111,27 +112,28 @@ declaration_clean workers h d all may =
     (text_clean (opener d.sort) (opener_literal d.sort), list_clean workers d.first all))
     (second_clean (second_opener d.sort) workers d.second (other_stop d.sort) all))
 
-declarations_clean : (workers : List (List ℕ)) (h : Headed) (ds : List Declaration) → AllByRecursion Lacks workers → AreDeclarable h ds → AllByRecursion Lacks (map (declaration_line workers) ds)
+declarations_clean : (workers : List (List ℕ)) (h : HeadingModel) (ds : List Declaration) → AllByRecursion Lacks workers → AreDeclarable h ds → AllByRecursion Lacks (map (declaration_line workers) ds)
 declarations_clean workers h [] all may = tt
-declarations_clean workers h (d ∷ ds) all may = (declaration_clean workers h d all may.0, declarations_clean workers (declared_by h d) ds all may.1)
+declarations_clean workers h (d ∷ ds) all may = (declaration_clean workers h d all may.0, declarations_clean workers (with_declaration h d) ds all may.1)
 
-outline_clean : (o : Outline) → IsOutline o → AllByRecursion Lacks (outline_lines o)
+outline_clean : (o : HeaderTree) → IsHeaderTree o → AllByRecursion Lacks (outline_lines o)
 outline_clean o is =
     let all : AllByRecursion Lacks o.workers = workers_clean o.workers (recursion_from_All (λ w. is_name w ≡ true) o.workers is.workers.each) in
     (lacks_join (codes "workers" ∷ o.workers) (literal_lacks (codes "workers") refl, all), declarations_clean o.workers _ o.declarations all is.declarations)
 
--- a line that a heading takes is short
+-- a line that is added to a header is short
 passed : {X E : Type 0} (b : Bool) (f : E) (r : Result X E) (x : X) → cond b (Err f) r ≡ Ok x → b ≡ false
 passed true f r x e = cc
 passed false f r x e = refl
 
-head_short : (h next : Headed) (line : List ℕ) → head_step h line ≡ Ok next → length line ≤ 8192
+head_short : (h next : HeadingModel) (line : List ℕ) → head_step h line ≡ Ok next
+    → length line ≤ 8192
 unfolding head_step
 head_short h next line e =
     let p = or_parts (ltb 8192 (length line)) _ (passed (is_no_line line) faults.BadLine (words_step h (words_of line)) next e) in
     ltb-false _ _ p.0
 
-lead_short : (h end : Headed) (lines : List (List ℕ)) → LinesLead h lines end → AllByRecursion (λ l. length l ≤ 8192) lines
+lead_short : (h end : HeadingModel) (lines : List (List ℕ)) → LinesLead h lines end → AllByRecursion (λ l. length l ≤ 8192) lines
 lead_short h end [] leads = tt
 lead_short h end (line ∷ lines) leads = (head_short h leads.0 line leads.1, lead_short leads.0 end lines leads.2)
 
@@ -140,7 +142,7 @@ lines_are [] p q = tt
 lines_are (l ∷ lines) p q = (line_is l p.0 q.0, lines_are lines p.1 q.1)
 
 -- the lines of the workers and of the declarations
-pub heading_lines_are : (o : Outline) (h end : Headed) → IsOutline o → LinesLead h (outline_lines o) end → AllByRecursion IsLine (outline_lines o)
+pub heading_lines_are : (o : HeaderTree) (h end : HeadingModel) → IsHeaderTree o → LinesLead h (outline_lines o) end → AllByRecursion IsLine (outline_lines o)
 heading_lines_are o h end is leads = lines_are (outline_lines o) (outline_clean o is) (lead_short h end (outline_lines o) leads)
 
 pub limit_line_is : (n : ℕ) → n < 2 ^ 48 → IsLine (limit_line n)
@@ -164,7 +166,7 @@ word_fine word is = record { clean = word_lacks 10 word refl is; short = omega (
 number_fine : (n : ℕ) → n < 1000000000000000000 → IsFine (decimal n)
 number_fine n small = record { clean = number_clean n small; short = omega (arith, length-decimal-le 18 n (omega arith) (omega arith) (omega arith)) }
 
-cell_fine : (names : Named) (x : ℕ) → AreWords names → HasBlock names x → x < 1000000000000000000 → IsFine (cell_word names x)
+cell_fine : (names : NameTable) (x : ℕ) → AreWords names → HasBlock names x → x < 1000000000000000000 → IsFine (cell_word names x)
 cell_fine names x are b small =
     let name : IsPlainWord b.block = (block_by names x are b).plain in
     let low : x - b.first < 1000000000000000000 = omega arith in
@@ -193,7 +195,7 @@ record AreFine (words : List (List ℕ)) : Type 0 where
   each : AllByRecursion IsFine words
   few : length words ≤ 3
 
-act_fine : (names : Named) (a : Act) → AreWords names → ActIsNamed names a → AreFine (act_words names a)
+act_fine : (names : NameTable) (a : Act) → AreWords names → ActIsNamed names a → AreFine (act_words names a)
 act_fine names (acts.Advance e) are h = record { each = (literal_fine (codes "advance") refl refl, (word_fine _ (named_by names (Event e) are h).plain, tt)); few = omega arith }
 act_fine names (acts.Read e) are h = record { each = (literal_fine (codes "read") refl refl, (word_fine _ (named_by names (Event e) are h).plain, tt)); few = omega arith }
 act_fine names (acts.Await e v) are h = record { each = (literal_fine (codes "await") refl refl, (word_fine _ (named_by names (Event e) are h.0).plain, (number_fine v h.1, tt))); few = omega arith }
@@ -215,12 +217,12 @@ fine_short [] h = omega arith
 fine_short (w ∷ []) h = omega (arith, h.0.short)
 fine_short (w ∷ v ∷ words) h = omega (arith, h.0.short, fine_short (v ∷ words) h.1, length-append w (32 ∷ join_with_byte 32 (v ∷ words)))
 
-pub entry_line_is : (names : Named) (e : Entry) → AreWords names → IsSpellable names e → IsLine (entry_line names e)
+pub entry_line_is : (names : NameTable) (e : Entry) → AreWords names → IsSpellable names e → IsLine (entry_line names e)
 unfolding entry_line
 entry_line_is names e are may =
     let act = act_fine names e.act are may.act in
     let fine : AllByRecursion IsFine (entry_words names e) =
-    each_append IsFine (word_of names (Worker e.worker) ∷ act_words names e.act) (codes "=" ∷ reply_word e.reply ∷ [])
+    each_append IsFine (target_name names (Worker e.worker) ∷ act_words names e.act) (codes "=" ∷ reply_word e.reply ∷ [])
     (word_fine _ (named_by names (Worker e.worker) are may.worker).plain, act.each) (literal_fine (codes "=") refl refl, (reply_fine e.reply may.reply, tt)) in
     line_is (join_with_byte 32 (entry_words names e)) (lacks_join (entry_words names e) (fine_clean (entry_words names e) fine))
-    (omega (arith, fine_short (entry_words names e) fine, act.few, length-append (word_of names (Worker e.worker) ∷ act_words names e.act) (codes "=" ∷ reply_word e.reply ∷ [])))
+    (omega (arith, fine_short (entry_words names e) fine, act.few, length-append (target_name names (Worker e.worker) ∷ act_words names e.act) (codes "=" ∷ reply_word e.reply ∷ [])))

@@ -2,9 +2,9 @@
 use Rattle.std.specs.Prelude.{◌≡◌, ◌&&◌, bytes_eq, codes, nat_lt, ◌≢◌, ℕ, ◌+◌, ◌<◌, ◌≤◌, List, [], ◌++◌, length, Bool, true, false, Option, Some, Result, Ok, Err, IsOk}
 use Rattle.std.specs.List.{All}
 use Rattle.std.specs.Io.KnownBytes.{Consumes, Keeps, IsAtEnd}
-use Rattle.ec_core.specs.Recorded.{Recorded}
+use Rattle.ec_core.specs.RunModel.{RunModel}
 use Rattle.ec_core.specs.declared.act.Entry.{Entry}
-use Rattle.ec_heading.specs.Headed.{Headed}
+use Rattle.ec_heading.specs.HeadingModel.{HeadingModel}
 use Rattle.ec_heading.specs.Heading.{head_step}
 use Rattle.ec_heading.specs.declared.heading.HeadFault.{HeadFault}
 use Rattle.ec_trace.specs.declared.fault.LineFault.{LineFault}
@@ -12,23 +12,24 @@ use Rattle.ec_trace.specs.declared.fault.StageFault.{StageFault}
 use Rattle.ec_trace.specs.declared.fault.TraceFault.{TraceFault}
 use Rattle.ec_trace.specs.declared.fault.TraceFault.TheVariants.{BadLine, Memory}
 use Rattle.ec_trace.specs.declared.read.TheConstants.{TRACE_MAX}
-use Rattle.ec_trace.specs.Histories.{history_of}
-use Rattle.ec_trace.specs.Recounted.{Recounted}
+use Rattle.ec_trace.specs.EntrySinks.{history_of}
+use Rattle.ec_trace.specs.TraceModel.{TraceModel}
 use Rattle.ec_trace.specs.Stages.{Stage, Running}
 use Rattle.ec_trace.specs.Step.{step, entry_step, StepFails}
-use Rattle.ec_trace.specs.Outcome.{Place, goes, goes_from, parts_of, start, taken, outcome, Tells}
+use Rattle.ec_trace.specs.Outcome.{ReadState, parse_from, goes_from, lines_of_text, start, after_line, parse_result, Returns}
 
 -- how far the reading of a text has come
-pub record Reading : Type 0 where
-  pub number : ℕ  -- how many lines came
-  pub taken : ℕ  -- how many bytes were taken
-  pub line : List ℕ  -- the last line that came
-  pub part : List ℕ  -- what came of a line over several pieces
-  pub behind : List ℕ  -- what was read and not taken, up to the bound of a text
-  pub over : List ℕ  -- what was read past the bound
+pub record LinesModel : Type 0 where
+  pub number : ℕ  -- how many lines were read
+  pub taken : ℕ  -- how many bytes were consumed
+  pub line : List ℕ  -- the current line
+  pub part : List ℕ  -- what was read of a line over several pieces
+  pub behind : List ℕ  -- what was read and not consumed, up to the bound of a text
+  pub over : List ℕ  -- what was read beyond the bound
 
--- a piece of 8192 bytes at most, taken up to one place, within the bound of a text up to the next, and read up to the third; with so many
--- bytes before it and so many lines; a line in it; and the beginning of one
+-- a buffer of 8192 bytes, consumed up to `from`, within the bound of a text up to `end`, and filled
+-- up to `read`; how many bytes are `before` it, and how many lines were read; a line in it, from
+-- `first` to `last`; and `apart`, the part of a line over several pieces
 pub record IsSound (piece : List ℕ) (from end read before number first last : ℕ) (apart : List ℕ) : Type 0 where
   pub room : length piece ≡ 8192
   pub taken : from ≤ end
@@ -41,15 +42,16 @@ pub record IsSound (piece : List ℕ) (from end read before number first last : 
   pub short : length apart ≤ 8192
   pub plain : All (λ b. b ≢ 10) apart
 
--- no more than a text may have was taken and is at hand, all of that if there is more; and the part of a line is no whole line
-pub record IsWithin (r : Reading) : Type 0 where
+-- what was consumed and what is available are within the bound of a text, and reach it if there is
+-- more; and the part of a line is no whole line
+pub record IsWithin (r : LinesModel) : Type 0 where
   pub bound : r.taken + length r.behind ≤ TRACE_MAX
   pub full : 0 < length r.over → r.taken + length r.behind ≡ TRACE_MAX
   pub short : length r.part ≤ 8192
   pub plain : All (λ b. b ≢ 10) r.part
 
--- the piece that was read last was taken, and now the next one was read, if there was one
-pub record Refills (old new : Reading) (before after : Option (List ℕ)) (is_more : Bool) : Type 0 where
+-- the last piece was consumed, and the next one was read, if there is one
+pub record Refills (old new : LinesModel) (before after : Option (List ℕ)) (is_more : Bool) : Type 0 where
   pub number : new.number ≡ old.number
   pub taken : new.taken ≡ old.taken
   pub part : new.part ≡ old.part
@@ -58,8 +60,8 @@ pub record Refills (old new : Reading) (before after : Option (List ℕ)) (is_mo
   pub some : is_more ≡ true → 0 < length new.behind + length new.over
   pub none : is_more ≡ false → (new.behind ≡ []) × (new.over ≡ []) × IsAtEnd after
 
--- the next one could not be read
-pub record Stays (old new : Reading) (before after : Option (List ℕ)) : Type 0 where
+-- the next piece could not be read
+pub record Stays (old new : LinesModel) (before after : Option (List ℕ)) : Type 0 where
   pub number : new.number ≡ old.number
   pub taken : new.taken ≡ old.taken
   pub part : new.part ≡ old.part
@@ -68,65 +70,75 @@ pub record Stays (old new : Reading) (before after : Option (List ℕ)) : Type 0
   pub within : IsWithin new
   pub kept : Keeps before after
 
--- of an input that had these bytes, and has those left, so much was taken; and what follows it comes to this
-pub record Brings (xs : List ℕ) (left : Option (List ℕ)) (r : Reading) (comes : List ℕ → Result Place TraceFault) : Type 0 where
+-- of an input that had these bytes, and has those left, r.taken bytes were consumed; and what
+-- follows them is read as `comes` says
+pub record Brings (xs : List ℕ) (left : Option (List ℕ)) (r : LinesModel) (comes : List ℕ → Result ReadState TraceFault) : Type 0 where
   pub given : List ℕ
   pub gave : Consumes (Some xs) left (given ++ (r.behind ++ r.over))
   pub len : length given ≡ r.taken
   pub goes : (more : List ℕ) → goes_from start (given ++ more) ≡ comes more
 
--- the lines that came led to this stage, and this is the beginning of the next
-abbrev pub Begins : List ℕ → Option (List ℕ) → Reading → List ℕ → Stage → Type 0
-Begins xs left r part s = Brings xs left r (λ more. goes (r.number + 1) s (parts_of (part ++ more)))
+-- the lines so far led to this stage, and this is the beginning of the next line
+abbrev pub Begins : List ℕ → Option (List ℕ) → LinesModel → List ℕ → Stage → Type 0
+Begins xs left r part s =
+    Brings xs left r (λ more. parse_from (r.number + 1) s (lines_of_text (part ++ more)))
 
--- the lines that came led to this stage
-abbrev pub Reaches : List ℕ → Option (List ℕ) → Reading → Stage → Type 0
+-- the lines so far led to this stage
+abbrev pub Reaches : List ℕ → Option (List ℕ) → LinesModel → Stage → Type 0
 Reaches xs left r s = Begins xs left r [] s
 
--- the lines before the last one that came led to this stage, and this is that line
-abbrev pub HasLine : List ℕ → Option (List ℕ) → Reading → List ℕ → Stage → Type 0
-HasLine xs left r line s = Brings xs left r (λ more. taken r.number (step s line) (λ t. goes (r.number + 1) t (parts_of more)))
+-- the lines before the current one led to this stage, and this is the current line
+abbrev pub HasLine : List ℕ → Option (List ℕ) → LinesModel → List ℕ → Stage → Type 0
+HasLine xs left r line s = Brings xs left r (λ more. after_line r.number (step s line) (λ t. parse_from (r.number + 1) t (lines_of_text more)))
 
--- what came of a line is whole, or it is the beginning; or the fault of the text is told
-abbrev pub Holds : List ℕ → Option (List ℕ) → Reading → Stage → Result Bool TraceFault → Type 0
-Holds xs left r s (Ok true) = HasLine xs left r r.part s
-Holds xs left r s (Ok false) = Begins xs left r r.part s
-Holds xs left r s (Err f) = Tells TRACE_MAX xs left (Err f)
+-- the part of the line is the whole line, or its beginning; or the fault of the text is returned
+abbrev pub ReadsPart : List ℕ → Option (List ℕ) → LinesModel → Stage → Result Bool TraceFault
+    → Type 0
+ReadsPart xs left r s (Ok true) = HasLine xs left r r.part s
+ReadsPart xs left r s (Ok false) = Begins xs left r r.part s
+ReadsPart xs left r s (Err f) = Returns TRACE_MAX xs left (Err f)
 
--- what came of a line is still its beginning, and there is more at hand; or the fault of the text is told
-abbrev pub Goes : List ℕ → Option (List ℕ) → Reading → Stage → Result (Unit {0}) TraceFault → Type 0
-Goes xs left r s (Ok x) = Begins xs left r r.part s
-Goes xs left r s (Err f) = Tells TRACE_MAX xs left (Err f)
+-- the part of the line is still its beginning, and more was read; or the fault of the text is
+-- returned
+abbrev pub ReadsMore : List ℕ → Option (List ℕ) → LinesModel → Stage → Result (Unit {0}) TraceFault
+    → Type 0
+ReadsMore xs left r s (Ok x) = Begins xs left r r.part s
+ReadsMore xs left r s (Err f) = Returns TRACE_MAX xs left (Err f)
 
--- the next line came; or the fault of the text is told
-abbrev pub Comes : List ℕ → Option (List ℕ) → Reading → Stage → Result (Unit {0}) TraceFault → Type 0
-Comes xs left r s (Ok x) = HasLine xs left r r.line s
-Comes xs left r s (Err f) = Tells TRACE_MAX xs left (Err f)
+-- the next line was read; or the fault of the text is returned
+abbrev pub ReadsLine : List ℕ → Option (List ℕ) → LinesModel → Stage → Result (Unit {0}) TraceFault → Type 0
+ReadsLine xs left r s (Ok x) = HasLine xs left r r.line s
+ReadsLine xs left r s (Err f) = Returns TRACE_MAX xs left (Err f)
 
 -- the line may be the last before the entries
-abbrev pub is_run : Headed → List ℕ → Bool
+abbrev pub is_run : HeadingModel → List ℕ → Bool
 is_run h line = bytes_eq line (codes "run") && nat_lt 0 h.setup.workers
 
--- a line was taken into a heading, or why it was not; out of memory is reported only of a line without fault
-abbrev pub Declares : Result (Unit {0}) TraceFault → Headed → Headed → Reading → Type 0
+-- a line was added to a header, or why it was not; out of memory is reported only of a line without
+-- fault
+abbrev pub Declares : Result (Unit {0}) TraceFault → HeadingModel → HeadingModel → LinesModel
+    → Type 0
 Declares (Ok x) old new r = head_step old r.line ≡ Ok new
 Declares (Err Memory) old new r = IsOk (head_step old r.line)
 Declares (Err f) old new r = (f ≡ BadLine r.number) × (fault : HeadFault) × (head_step old r.line ≡ Err fault)
 
--- up to the line `run` this was declared, and entries may come
-abbrev pub IsOpened : List ℕ → Option (List ℕ) → Reading → Headed → Type 0
+-- up to the line `run` the header is this, and entries may come
+abbrev pub IsOpened : List ℕ → Option (List ℕ) → LinesModel → HeadingModel → Type 0
 IsOpened xs left r h = Reaches xs left r (Running (record { heading = h; entries = [] }))
 
--- an entry was taken under a heading, and what is then so of the history with it; or the fault of its line
-abbrev pub TakesEntry : Headed → (List Entry → Type 0) → Result Recounted LineFault → Result (Unit {0}) StageFault → Type 0
+-- an entry was accepted under a header, and `after` holds of the entries with it; or the fault of
+-- its line
+abbrev pub TakesEntry : HeadingModel → (List Entry → Type 0) → Result TraceModel LineFault → Result (Unit {0}) StageFault → Type 0
 TakesEntry h after stepped (Ok x) = (entries : List Entry) × (stepped ≡ Ok (record { heading = h; entries = entries })) × after entries
 TakesEntry h after stepped (Err fault) = StepFails fault stepped
 
--- whatever history stood there, a line was taken as its next entry; or the fault of the line
-abbrev pub TakesLine : {S : Type 0} → (S → S → Recorded → Type 0) → Headed → S → S → List ℕ → Result (Unit {0}) StageFault → Type 0
-TakesLine {S} stands h old new line r = (first : S) (entries : List Entry) → stands first old (history_of h entries) → TakesEntry h (λ es. stands first new (history_of h es)) (entry_step (record { heading = h; entries = entries }) line) r
+-- for whatever history the state represents, a line was accepted as its next entry; or the fault of
+-- the line
+abbrev pub TakesLine : {S : Type 0} → (S → S → RunModel → Type 0) → HeadingModel → S → S → List ℕ → Result (Unit {0}) StageFault → Type 0
+TakesLine {S} represents h old new line r = (first : S) (entries : List Entry) → represents first old (history_of h entries) → TakesEntry h (λ es. represents first new (history_of h es)) (entry_step (record { heading = h; entries = entries }) line) r
 
--- the input is the trace of a history under this heading, of which this is so; or its fault is told
-abbrev pub Recounts : List ℕ → Option (List ℕ) → Headed → (Recorded → Type 0) → Result (Unit {0}) TraceFault → Type 0
-Recounts xs left h after (Ok x) = (entries : List Entry) × (outcome TRACE_MAX xs ≡ Ok (record { heading = h; entries = entries })) × after (history_of h entries)
-Recounts xs left h after (Err f) = Tells TRACE_MAX xs left (Err f)
+-- the input is the trace of a history under this header, and `after` holds of it; or its fault is
+-- returned
+abbrev pub Recounts : List ℕ → Option (List ℕ) → HeadingModel → (RunModel → Type 0) → Result (Unit {0}) TraceFault → Type 0
+Recounts xs left h after (Ok x) = (entries : List Entry) × (parse_result TRACE_MAX xs ≡ Ok (record { heading = h; entries = entries })) × after (history_of h entries)
+Recounts xs left h after (Err f) = Returns TRACE_MAX xs left (Err f)

@@ -1,6 +1,6 @@
-//! The entry that a line spells.
+//! Parses the line of an entry.
 ghost use Rattle.std.specs.Prelude.{◌≡◌, ◌∷◌};
-ghost use Rattle.ec_trace.specs.Entries.{act_alone, act_on, act_with, reply_of, entry_by, entry_in, entry_of};
+ghost use Rattle.ec_trace.specs.Entries.{act_alone, act_on, act_with, parse_reply, entry_by, entry_in, entry_of};
 ghost use Rattle.ec_text.specs.Words.{words_of};
 
 use ec_core::{Act, Entry, Reply};
@@ -56,10 +56,10 @@ fn act_with(heading: &Heading, verb: &[u8], object: &[u8], value: &[u8]) -> Opti
     None
 }
 
-/// Returns what the word of a reply says.
-#[tactic(auto, unfolding(crate::specs::Entries::reply_of))]
-fn reply_of(word: &[u8]) -> Option<Reply>
-    ensures { result ≡ reply_of word.now }
+/// Returns the reply that a word encodes.
+#[tactic(auto, unfolding(crate::specs::Entries::parse_reply))]
+fn parse_reply(word: &[u8]) -> Option<Reply>
+    ensures { result ≡ parse_reply word.now }
 {
     if word == b"done".as_slice() {
         return Some(Reply::Done);
@@ -87,7 +87,7 @@ fn entry_by(
     if equals != b"=".as_slice() {
         return None;
     }
-    let reply = reply_of(answer)?;
+    let reply = parse_reply(answer)?;
     Some(Entry { worker, act, reply })
 }
 
@@ -115,7 +115,7 @@ fn read_objects(
     }
 }
 
-/// Returns the entry that a line without its LF spells, if it spells one.
+/// Returns the entry that a line without its LF encodes; `None` if it encodes none.
 #[tactic(auto, unfolding(crate::specs::Entries::entry_in, crate::specs::Entries::entry_of))]
 pub(crate) fn read_entry(heading: &Heading, line: &[u8]) -> Option<Entry>
     ensures { result ≡ entry_of heading.now.words line.now }

@@ -2,7 +2,7 @@
 use ec_core::{Refusal, Reply};
 use thiserror::Error;
 
-/// Why a line is refused.
+/// Why a line is rejected.
 #[derive(Clone, Copy, Debug, PartialEq, Eq)]
 pub enum LineFault {
     Bad,
@@ -10,7 +10,7 @@ pub enum LineFault {
     WrongReply(Reply),
 }
 
-/// Why a line was not taken.
+/// Why a line was not accepted: its fault, or out of memory.
 #[derive(Clone, Copy, Debug, PartialEq, Eq)]
 pub enum StageFault {
     Line(LineFault),
@@ -20,14 +20,14 @@ pub enum StageFault {
 /// Why no trace was read. Lines are numbered from 1.
 #[derive(Clone, Copy, Debug, PartialEq, Eq, Error)]
 pub enum TraceFault {
-    /// This line has not the form that its place asks for, which in version 1 no hand has, declares
-    /// what can't be declared, has more than 8192 bytes, or stands behind the last.
+    /// This line has none of the forms allowed in its place, has a `hand` in version 1, declares
+    /// what can't be declared, has more than 8192 bytes, or is after the last.
     #[error("line {0}: bad line")]
     BadLine(u64),
     /// The step of this line is refused.
     #[error("line {0}: refused: {1}")]
     Refused(u64, Refusal),
-    /// The step of this line has another reply than the line says: this one.
+    /// The step of this line has another reply than the line says. The right reply is given.
     #[error("line {0}: wrong reply")]
     WrongReply(u64, Reply),
     /// The input ended before the line `end` and its LF.
@@ -39,7 +39,7 @@ pub enum TraceFault {
     /// A read failed. It was not tried again.
     #[error("a read failed")]
     Read,
-    /// Memory was refused.
+    /// An allocation failed.
     #[error("memory was refused")]
     Memory,
 }

@@ -1,10 +1,10 @@
-//! The lines of a text that comes in pieces.
+//! The lines of a text that is read in pieces.
 ghost use Rattle.std.specs.Prelude.{◌≡◌, ◌≤◌, ◌<◌, ◌+◌, [], ℕ, List, Option, IsTrue, IfOk, OnOk, IfErr, MatchResult, Ok, Err, true, false, length};
-ghost use Rattle.ec_trace.specs.Recounted.{Recounted};
+ghost use Rattle.ec_trace.specs.TraceModel.{TraceModel};
 ghost use Rattle.ec_trace.specs.Stages.{Stage, Ended};
 ghost use Rattle.ec_trace.specs.Step.{is_ended};
-ghost use Rattle.ec_trace.specs.Outcome.{outcome, Tells};
-ghost use Rattle.ec_trace.specs.Reading.{IsWithin, Refills, Stays, Begins, Reaches, HasLine, Holds, Goes, Comes};
+ghost use Rattle.ec_trace.specs.Outcome.{parse_result, Returns};
+ghost use Rattle.ec_trace.specs.Reading.{IsWithin, Refills, Stays, Begins, Reaches, HasLine, ReadsPart, ReadsMore, ReadsLine};
 
 use crate::fault::TraceFault;
 use crate::read::TRACE_MAX;
@@ -14,20 +14,21 @@ use std::io;
 use std::io::Read;
 use std::marker::Model;
 
-/// The lines of a text, one after the other: the piece that was read last, and the line that came last.
+/// The lines of a text, one after another: the latest piece, and the current line.
 ///
-/// The text comes in pieces of at most 8192 bytes. A line that lies whole in a piece is not copied.
+/// The text is read in pieces of at most 8192 bytes. A line that is whole in a piece is not copied.
 #[derive(Drop)]
 pub struct Lines {
-    /// The piece: up to `from` its bytes are taken, up to `end` they are within the bound of a text, and up to `read` they came.
+    /// The piece: up to `from` its bytes are consumed, up to `end` they are within the bound of a
+    /// text, and up to `read` they were read.
     piece: ArrayVec<u8, 8192>,
     from: usize,
     end: usize,
     read: usize,
-    /// How many bytes of the text came before the piece.
+    /// How many bytes of the text are before the piece.
     before: usize,
     number: u64,
-    /// Where in the piece the line begins and ends, if it is not apart.
+    /// Where in the piece the current line begins and ends, unless it is in `apart`.
     first: usize,
     last: usize,
     is_apart: bool,
@@ -37,9 +38,9 @@ pub struct Lines {
 impl Model for Lines {
     ghost use Rattle.std.specs.Prelude.{◌+◌, if◌then◌else◌};
     ghost use Rattle.std.specs.List.{slice_range};
-    ghost use Rattle.ec_trace.specs.Reading.{Reading, IsSound};
+    ghost use Rattle.ec_trace.specs.Reading.{LinesModel, IsSound};
 
-    ghost Value = { Reading };
+    ghost Value = { LinesModel };
 
     ghost view = { λ l. record { number = l.number; taken = l.before + l.from; line = if l.is_apart then l.apart.items else slice_range l.piece.items l.first l.last; part = l.apart.items; behind = slice_range l.piece.items l.from l.end; over = slice_range l.piece.items l.end l.read } };
 
@@ -47,7 +48,7 @@ impl Model for Lines {
 }
 
 impl Lines {
-    /// Makes the lines of a text, before the first one.
+    /// Returns the lines of a text, before the first one.
     pub(crate) fn new() -> Lines
         ensures { result ≡ record { number = 0; taken = 0; line = []; part = []; behind = []; over = [] } }
     {
@@ -65,7 +66,7 @@ impl Lines {
         }
     }
 
-    /// Returns the line that came last, without its LF.
+    /// Returns the current line, without its LF.
     #[inline(always)]
     pub(crate) fn line(&self) -> &[u8]
         ensures { result.now ≡ self.now.line }
@@ -86,7 +87,7 @@ impl Lines {
         self.number
     }
 
-    /// Returns whether the next line lies whole in the piece. It is then the line that came last.
+    /// Returns whether the next line is whole in the piece. If so, it becomes the current line.
     #[inline(always)]
     fn find(&mut self) -> bool
         ensures none { result ≡ false → self.new ≡ self.old }
@@ -108,11 +109,11 @@ impl Lines {
         }
     }
 
-    /// Takes what is at hand of a line over several pieces. Returns whether that is all of it.
+    /// Copies what the piece has of the next line. Returns whether that is the rest of the line.
     fn hold(&mut self) -> Result<bool, TraceFault>
         ensures more { IfOk result (λ whole. whole ≡ true → (self.old.taken < self.new.taken) × (self.new.taken ≤ TRACE_MAX)) }
         ensures all { IfOk result (λ whole. whole ≡ false → (self.new.taken ≡ self.old.taken + length self.old.behind) × (self.new.taken ≤ TRACE_MAX) × (self.old.over ≡ []) × (self.new.behind ≡ []) × (self.new.over ≡ [])) }
-        ensures holds { (xs : List ℕ) (left : Option (List ℕ)) (s : Stage) → is_ended s ≡ false → Begins xs left self.old self.old.part s → Holds xs left self.new s result }
+        ensures holds { (xs : List ℕ) (left : Option (List ℕ)) (s : Stage) → is_ended s ≡ false → Begins xs left self.old self.old.part s → ReadsPart xs left self.new s result }
     {
         let piece = self.piece.as_slice();
         let bytes = &piece[self.from..self.end];
@@ -139,7 +140,7 @@ impl Lines {
         }
     }
 
-    /// Reads the next piece, if all of the last one is taken. Returns whether there is one.
+    /// Reads the next piece, once all of the last one is consumed. Returns whether there is one.
     fn refill<R: Read>(&mut self, reader: &mut R) -> io::Result<bool>
         requires taken { self.old.behind ≡ [] }
         requires within { self.old.over ≡ [] }
@@ -164,7 +165,7 @@ impl Lines {
         requires taken { self.old.behind ≡ [] }
         requires within { self.old.over ≡ [] }
         ensures more { OnOk result ((self.new.taken ≡ self.old.taken) × (0 < length self.new.behind + length self.new.over)) }
-        ensures goes { (xs : List ℕ) (s : Stage) → is_ended s ≡ false → Begins xs (R.remaining reader.old) self.old self.old.part s → Goes xs (R.remaining reader.new) self.new s result }
+        ensures goes { (xs : List ℕ) (s : Stage) → is_ended s ≡ false → Begins xs (R.remaining reader.old) self.old self.old.part s → ReadsMore xs (R.remaining reader.new) self.new s result }
     {
         match self.refill(reader) {
             Ok(true) => Ok(()),
@@ -173,12 +174,12 @@ impl Lines {
         }
     }
 
-    /// Reads the next line, which does not lie whole in the piece.
+    /// Reads the next line, which is not whole in the piece.
     #[cold]
     #[inline(never)]
     fn next_over_pieces<R: Read>(&mut self, reader: &mut R) -> Result<(), TraceFault>
         ensures more { OnOk result ((self.old.taken < self.new.taken) × (self.new.taken ≤ TRACE_MAX)) }
-        ensures comes { (xs : List ℕ) (s : Stage) → is_ended s ≡ false → Reaches xs (R.remaining reader.old) self.old s → Comes xs (R.remaining reader.new) self.new s result }
+        ensures comes { (xs : List ℕ) (s : Stage) → is_ended s ≡ false → Reaches xs (R.remaining reader.old) self.old s → ReadsLine xs (R.remaining reader.new) self.new s result }
     {
         self.clear_part();
         loop {
@@ -207,11 +208,11 @@ impl Lines {
         self.is_apart = true;
     }
 
-    /// Goes on to the next line, up to its LF.
+    /// Reads the next line, up to its LF.
     #[inline(always)]
     pub(crate) fn next<R: Read>(&mut self, reader: &mut R) -> Result<(), TraceFault>
         ensures more { OnOk result ((self.old.taken < self.new.taken) × (self.new.taken ≤ TRACE_MAX)) }
-        ensures comes { (xs : List ℕ) (s : Stage) → is_ended s ≡ false → Reaches xs (R.remaining reader.old) self.old s → Comes xs (R.remaining reader.new) self.new s result }
+        ensures comes { (xs : List ℕ) (s : Stage) → is_ended s ≡ false → Reaches xs (R.remaining reader.old) self.old s → ReadsLine xs (R.remaining reader.new) self.new s result }
     {
         if self.find() {
             return Ok(());
@@ -219,7 +220,7 @@ impl Lines {
         self.next_over_pieces(reader)
     }
 
-    /// Returns whether all that was read is taken.
+    /// Returns whether all bytes that were read are consumed.
     fn is_taken(&self) -> bool
         ensures all { IsTrue result → (self.now.behind ≡ []) × (self.now.over ≡ []) × IsWithin self.now }
         ensures more { result ≡ false → 0 < length self.now.behind + length self.now.over }
@@ -227,12 +228,12 @@ impl Lines {
         self.from == self.read
     }
 
-    /// Ends the text behind its last line.
+    /// Reports an error unless the text ends after the current line.
     #[cold]
     #[inline(never)]
     pub(crate) fn end<R: Read>(&mut self, reader: &mut R) -> Result<(), TraceFault>
-        ensures { (xs : List ℕ) (t : Recounted) → Reaches xs (R.remaining reader.old) self.old (Ended t)
-            → MatchResult result (λ _. outcome TRACE_MAX xs ≡ Ok t) (λ fault. Tells TRACE_MAX xs (R.remaining reader.new) (Err fault)) }
+        ensures { (xs : List ℕ) (t : TraceModel) → Reaches xs (R.remaining reader.old) self.old (Ended t)
+            → MatchResult result (λ _. parse_result TRACE_MAX xs ≡ Ok t) (λ fault. Returns TRACE_MAX xs (R.remaining reader.new) (Err fault)) }
     {
         if !self.is_taken() {
             return Err(self.behind_the_end());
@@ -244,10 +245,10 @@ impl Lines {
         }
     }
 
-    /// Returns why there may not be more behind the last line.
+    /// Returns the fault of bytes after the last line: too many for a text, or a bad line.
     fn behind_the_end(&self) -> TraceFault
         requires { 0 < length self.now.behind + length self.now.over }
-        ensures { (xs : List ℕ) (left : Option (List ℕ)) (t : Recounted) → Reaches xs left self.now (Ended t) → Tells TRACE_MAX xs left (Err result) }
+        ensures { (xs : List ℕ) (left : Option (List ℕ)) (t : TraceModel) → Reaches xs left self.now (Ended t) → Returns TRACE_MAX xs left (Err result) }
     {
         if self.from < self.end {
             TraceFault::BadLine(self.number + 1)

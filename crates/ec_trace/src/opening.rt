@@ -2,7 +2,7 @@
 ghost use Rattle.std.specs.Prelude.{◌≡◌, ◌≤◌, ℕ, List, IfSome, MatchResult, Err};
 ghost use Rattle.ec_heading.specs.Spelling.{trace_header};
 ghost use Rattle.ec_heading.specs.Versions.{greatest_limit, version_of};
-ghost use Rattle.ec_trace.specs.Outcome.{Tells};
+ghost use Rattle.ec_trace.specs.Outcome.{Returns};
 ghost use Rattle.ec_trace.specs.Reading.{Declares, Reaches, IsOpened, is_run};
 ghost use Rattle.ec_trace.specs.Stages.{Opening, Limiting, Declaring};
 ghost use Rattle.ec_trace.specs.Step.{limit_of};
@@ -17,15 +17,15 @@ use ec_text::{cut_word, number};
 use std::alloc::Global;
 use std::io::Read;
 
-/// What the first lines of a trace declare, and the lines behind its `run`.
+/// The header of a trace, and the lines after its `run`.
 #[derive(Drop)]
-pub struct Opened {
+pub struct TraceOpening {
     pub heading: Heading,
     pub lines: Lines,
 }
 
 /// Returns the version whose first line this is.
-fn version_of(line: &[u8]) -> Option<Version>
+fn parse_version(line: &[u8]) -> Option<Version>
     ensures { result ≡ version_of trace_header line.now }
 {
     if line == first_line(Version::One) {
@@ -37,9 +37,9 @@ fn version_of(line: &[u8]) -> Option<Version>
     None
 }
 
-/// Returns the limit that a line gives, if it gives one that the version may have.
+/// Returns the limit that a line gives; `None` if it gives none that the version allows.
 #[tactic(auto, using(crate::proofs::ReadEntries::third_word), unfolding(crate::specs::Step::limit_of))]
-fn limit_of(version: Version, line: &[u8]) -> Option<Limit>
+fn parse_limit(version: Version, line: &[u8]) -> Option<Limit>
     ensures value { result ≡ limit_of version line.now }
     ensures within { IfSome result (λ limit. limit ≤ greatest_limit version) }
 {
@@ -59,19 +59,19 @@ fn limit_of(version: Version, line: &[u8]) -> Option<Limit>
 fn read_version<R: Read>(lines: &mut Lines, reader: &mut R) -> Result<Version, TraceFault>
     ensures { (xs : List ℕ) → Reaches xs (R.remaining reader.old) lines.old Opening → MatchResult result
         (λ version. Reaches xs (R.remaining reader.new) lines.new (Limiting version))
-        (λ fault. Tells TRACE_MAX xs (R.remaining reader.new) (Err fault)) }
+        (λ fault. Returns TRACE_MAX xs (R.remaining reader.new) (Err fault)) }
 {
     if let Err(fault) = lines.next(reader) {
         return Err(fault);
     }
-    match version_of(lines.line()) {
+    match parse_version(lines.line()) {
         Some(version) => Ok(version),
         None => Err(TraceFault::BadLine(lines.number())),
     }
 }
 
 /// Reads the line of the limit.
-// (Put into its caller, it would have its room there while the declarations are read, too.)
+// (If it were inlined, its stack space would be in use while the declarations are read, too.)
 #[inline(never)]
 fn read_limit<R: Read>(
     alloc: Global,
@@ -81,12 +81,12 @@ fn read_limit<R: Read>(
 ) -> Result<Heading, TraceFault>
     ensures { (xs : List ℕ) → Reaches xs (R.remaining reader.old) lines.old (Limiting version) → MatchResult result
         (λ heading. Reaches xs (R.remaining reader.new) lines.new (Declaring heading))
-        (λ fault. Tells TRACE_MAX xs (R.remaining reader.new) (Err fault)) }
+        (λ fault. Returns TRACE_MAX xs (R.remaining reader.new) (Err fault)) }
 {
     if let Err(fault) = lines.next(reader) {
         return Err(fault);
     }
-    let Some(limit) = limit_of(version, lines.line()) else {
+    let Some(limit) = parse_limit(version, lines.line()) else {
         return Err(TraceFault::BadLine(lines.number()));
     };
     match Heading::new(alloc, version, limit) {
@@ -95,7 +95,7 @@ fn read_limit<R: Read>(
     }
 }
 
-/// Takes a line of workers or of a declaration.
+/// Adds a line of workers or of a declaration.
 fn declare(heading: &mut Heading, lines: &Lines) -> Result<(), TraceFault>
     ensures { Declares result heading.old heading.new lines.now }
 {
@@ -106,7 +106,7 @@ fn declare(heading: &mut Heading, lines: &Lines) -> Result<(), TraceFault>
     }
 }
 
-/// Returns whether the line is the last before the entries: there are workers, who may make some.
+/// Returns whether the line is `run`, and the line of the workers was read.
 fn is_run(heading: &Heading, line: &[u8]) -> bool
     ensures { result ≡ is_run heading.now line.now }
 {
@@ -121,7 +121,7 @@ fn read_declarations<R: Read>(
 ) -> Result<(), TraceFault>
     ensures { (xs : List ℕ) → Reaches xs (R.remaining reader.old) lines.old (Declaring heading.old) → MatchResult result
         (λ _. IsOpened xs (R.remaining reader.new) lines.new heading.new)
-        (λ fault. Tells TRACE_MAX xs (R.remaining reader.new) (Err fault)) }
+        (λ fault. Returns TRACE_MAX xs (R.remaining reader.new) (Err fault)) }
 {
     loop {
         if let Err(fault) = lines.next(reader) {
@@ -136,13 +136,13 @@ fn read_declarations<R: Read>(
     }
 }
 
-/// Reads a trace up to its line `run`, and the rest of the piece in which that ends.
+/// Reads a trace up to its line `run`, and the rest of the piece that has the end of that line.
 ///
 /// The entries are then read by `read_entries`, from the same reader.
-pub fn open_trace<R: Read>(alloc: Global, reader: &mut R) -> Result<Opened, TraceFault>
+pub fn open_trace<R: Read>(alloc: Global, reader: &mut R) -> Result<TraceOpening, TraceFault>
     ensures { IfSome (R.remaining reader.old) (λ bytes. MatchResult result
         (λ opened. IsOpened bytes (R.remaining reader.new) opened.lines opened.heading)
-        (λ fault. Tells TRACE_MAX bytes (R.remaining reader.new) (Err fault))) }
+        (λ fault. Returns TRACE_MAX bytes (R.remaining reader.new) (Err fault))) }
 {
     let mut lines = Lines::new();
     let version = match read_version(&mut lines, reader) {
@@ -154,7 +154,7 @@ pub fn open_trace<R: Read>(alloc: Global, reader: &mut R) -> Result<Opened, Trac
         Err(fault) => return Err(fault),
     };
     match read_declarations(&mut heading, &mut lines, reader) {
-        Ok(()) => Ok(Opened { heading, lines }),
+        Ok(()) => Ok(TraceOpening { heading, lines }),
         Err(fault) => Err(fault),
     }
 }

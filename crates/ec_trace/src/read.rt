@@ -1,19 +1,19 @@
-//! A whole trace, from a reader.
+//! Reads a whole trace.
 ghost use Rattle.std.specs.Prelude.{◌≡◌, ℕ, List, [], Some, None, IfSome, IfOk, IfErr, OnOk, MatchResult, Err};
 ghost use Rattle.ec_core.specs.declared.act.Entry.{Entry};
 ghost use Rattle.ec_heading.specs.Versions.{can_spell};
 ghost use Rattle.ec_trace.specs.Entries.{entry_of};
-ghost use Rattle.ec_trace.specs.Fronts.{AreKept};
-ghost use Rattle.ec_trace.specs.Histories.{history_of};
-ghost use Rattle.ec_trace.specs.Outcome.{Tells, fault_at};
+ghost use Rattle.ec_trace.specs.LineCache.{IsLineCache};
+ghost use Rattle.ec_trace.specs.EntrySinks.{history_of};
+ghost use Rattle.ec_trace.specs.Outcome.{Returns, fault_at};
 ghost use Rattle.ec_trace.specs.Reading.{IsOpened, TakesLine, Recounts};
 ghost use Rattle.ec_trace.specs.ReadingLaws.{IsTraceOf, Refuses};
 
+use crate::entry_sink::EntrySink;
 use crate::fault::{LineFault, StageFault, TraceFault};
-use crate::fronts::{Fronts, cut_reply, cut_value};
-use crate::history::History;
+use crate::line_cache::{LineCache, cut_reply, cut_value};
 use crate::lines::Lines;
-use crate::opening::{Opened, open_trace};
+use crate::opening::{TraceOpening, open_trace};
 use crate::traced::Traced;
 use ec_core::{Act, Entry, Reply, Run, StepFault};
 use ec_heading::Heading;
@@ -23,13 +23,13 @@ use std::io::Read;
 /// The most bytes that a trace may have.
 pub const TRACE_MAX: usize = 67_108_864;
 
-/// Returns whether a text of the heading's version may have the act.
+/// Returns whether a text of the header's version may have the act.
 #[inline(always)]
 fn can_spell(heading: &Heading, act: &Act) -> bool
     ensures { result ≡ can_spell heading.now.version act.now }
 {
     match *act {
-        Act::Hand(_, _) => heading.version().has_hand(),
+        Act::Hand(_, _) => heading.version().has_transfer(),
         _ => true,
     }
 }
@@ -46,11 +46,11 @@ fn fault_at(number: u64, fault: StageFault) -> TraceFault
     }
 }
 
-/// Has the step of an entry made, and compares what it is told with the reply in its line. (Each call of it is a copy of its own: so
-/// what is kept of a front goes to the history in registers.)
+/// Makes the step of an entry, and compares its reply with the one in the line. (It is inlined into
+/// each caller, so that a cached worker and act are passed in registers.)
 #[inline(always)]
-fn enter<H: History>(heading: &Heading, history: &mut H, entry: &Entry) -> Result<(), StageFault>
-    ensures { (line : List ℕ) → entry_of heading.now.words line ≡ Some entry.now → TakesLine H.stands heading.now history.old history.new line result }
+fn enter<H: EntrySink>(heading: &Heading, history: &mut H, entry: &Entry) -> Result<(), StageFault>
+    ensures { (line : List ℕ) → entry_of heading.now.words line ≡ Some entry.now → TakesLine H.represents heading.now history.old history.new line result }
 {
     if !can_spell(heading, &entry.act) {
         return Err(StageFault::Line(LineFault::Bad));
@@ -68,68 +68,69 @@ fn enter<H: History>(heading: &Heading, history: &mut H, entry: &Entry) -> Resul
     }
 }
 
-/// Takes an entry whose line is read word by word.
+/// Makes the step of an entry whose line is parsed word by word.
 #[cold]
 #[inline(never)]
-fn take_anew<H: History>(
+fn enter_parsed<H: EntrySink>(
     heading: &Heading,
-    fronts: &mut Fronts,
+    cache: &mut LineCache,
     history: &mut H,
     line: &[u8],
 ) -> Result<(), StageFault>
-    requires { AreKept heading.now.words fronts.old }
-    ensures kept { AreKept heading.now.words fronts.new }
-    ensures takes { TakesLine H.stands heading.now history.old history.new line.now result }
+    requires { IsLineCache heading.now.words cache.old }
+    ensures kept { IsLineCache heading.now.words cache.new }
+    ensures takes { TakesLine H.represents heading.now history.old history.new line.now result }
 {
-    let Some(entry) = fronts.read_anew(heading, line) else {
+    let Some(entry) = cache.parse_entry(heading, line) else {
         return Err(StageFault::Line(LineFault::Bad));
     };
     enter(heading, history, &entry)
 }
 
-/// Takes the next entry, by its line, if its front was read lately. Else it does nothing.
+/// Makes the step of an entry if the prefix of its line is cached; otherwise does nothing.
 #[inline(always)]
-fn take_known<H: History>(
+fn enter_cached<H: EntrySink>(
     heading: &Heading,
-    fronts: &Fronts,
+    cache: &LineCache,
     history: &mut H,
     line: &[u8],
 ) -> Option<Result<(), StageFault>>
-    requires { AreKept heading.now.words fronts.now }
+    requires { IsLineCache heading.now.words cache.now }
     ensures none { result ≡ None → history.new ≡ history.old }
-    ensures takes { IfSome result (TakesLine H.stands heading.now history.old history.new line.now) }
+    ensures takes { IfSome result (TakesLine H.represents heading.now history.old history.new line.now) }
 {
-    let (front, reply) = cut_reply(line)?;
-    match cut_value(front) {
+    let (prefix, reply) = cut_reply(line)?;
+    match cut_value(prefix) {
         Some((opening, value)) => {
-            let entry = fronts.valued(opening, value, reply)?;
+            let entry = cache.entry_with_value(opening, value, reply)?;
             Some(enter(heading, history, &entry))
         }
         None => {
-            let entry = fronts.whole(front, reply)?;
+            let entry = cache.entry_with_reply(prefix, reply)?;
             Some(enter(heading, history, &entry))
         }
     }
 }
 
-/// Reads the entries of a trace to its end, up to the first fault, and has the step of each made. The lines are those behind the
-/// `run` of a trace, from `open_trace` with the same reader, and the heading is what stands before it.
+/// Reads the entries of a trace up to its end or its first fault, and makes the step of each.
 ///
-/// Nothing grows with the text but what the history keeps. A failed read is not tried again, and a fault of what came before it
-/// is told in its place. After an Err the history is of no use.
-pub fn read_entries<R: Read, H: History>(
+/// `lines` and `heading` are from `open_trace`, with the same reader. Memory grows only with what
+/// the history stores. A failed read is not tried again. If what was read before it has a fault,
+/// that is reported instead. After an `Err` the history is of no use.
+pub fn read_entries<R: Read, H: EntrySink>(
     alloc: Global,
     mut lines: Lines,
     reader: &mut R,
     heading: &Heading,
     history: &mut H,
 ) -> Result<(), TraceFault>
-    ensures stands { OnOk result ((start : H) → H.stands start history.old (history_of heading.now [])
-        → (entries : List Entry) × H.stands start history.new (history_of heading.now entries)) }
-    ensures recounts { (xs : List ℕ) (start : H) → IsOpened xs (R.remaining reader.old) lines heading.now → H.stands start history.old (history_of heading.now [])
-        → Recounts xs (R.remaining reader.new) heading.now (H.stands start history.new) result }
+    ensures represents { OnOk result ((start : H) → H.represents start history.old (history_of heading.now [])
+        → (entries : List Entry)
+        × H.represents start history.new (history_of heading.now entries)) }
+    ensures recounts { (xs : List ℕ) (start : H) → IsOpened xs (R.remaining reader.old) lines heading.now → H.represents start history.old (history_of heading.now [])
+        → Recounts xs (R.remaining reader.new) heading.now (H.represents start history.new) result }
 {
-    let mut fronts = Fronts::none(alloc);
+    let mut cache = LineCache::none(alloc);
     loop {
         if let Err(fault) = lines.next(reader) {
             return Err(fault);
@@ -138,11 +139,11 @@ pub fn read_entries<R: Read, H: History>(
         if line == b"end".as_slice() {
             break;
         }
-        match take_known(heading, &fronts, history, line) {
+        match enter_cached(heading, &cache, history, line) {
             Some(Ok(())) => {}
             Some(Err(fault)) => return Err(fault_at(lines.number(), fault)),
             None => {
-                if let Err(fault) = take_anew(heading, &mut fronts, history, line) {
+                if let Err(fault) = enter_parsed(heading, &mut cache, history, line) {
                     return Err(fault_at(lines.number(), fault));
                 }
             }
@@ -151,11 +152,11 @@ pub fn read_entries<R: Read, H: History>(
     lines.end(reader)
 }
 
-/// Reads a trace, whose run is then kept.
-fn recorded<R: Read>(alloc: Global, reader: &mut R) -> Result<Traced, TraceFault>
-    ensures { IfSome (R.remaining reader.old) (λ bytes. Tells TRACE_MAX bytes (R.remaining reader.new) result) }
+/// Reads a trace into a run.
+fn read_into_run<R: Read>(alloc: Global, reader: &mut R) -> Result<Traced, TraceFault>
+    ensures { IfSome (R.remaining reader.old) (λ bytes. Returns TRACE_MAX bytes (R.remaining reader.new) result) }
 {
-    let Opened { heading, lines } = match open_trace(alloc, reader) {
+    let TraceOpening { heading, lines } = match open_trace(alloc, reader) {
         Ok(opened) => opened,
         Err(fault) => return Err(fault),
     };
@@ -170,12 +171,12 @@ fn recorded<R: Read>(alloc: Global, reader: &mut R) -> Result<Traced, TraceFault
 
 /// Reads a trace to its end, in pieces of at most 8192 bytes, up to its first fault.
 ///
-/// Nothing grows with the text but the heading and the run. A failed read is not tried again, and
-/// a fault of what came before it is told in its place.
+/// Memory grows only with the header and the run. A failed read is not tried again. If what was
+/// read before it has a fault, that is reported instead.
 pub fn read_trace<R: Read>(alloc: Global, reader: &mut R) -> Result<Traced, TraceFault>
-    ensures tells { IfSome (R.remaining reader.old) (λ bytes. Tells TRACE_MAX bytes (R.remaining reader.new) result) }
+    ensures tells { IfSome (R.remaining reader.old) (λ bytes. Returns TRACE_MAX bytes (R.remaining reader.new) result) }
     ensures trace { IfSome (R.remaining reader.old) (λ bytes. IfOk result (IsTraceOf bytes)) }
     ensures refused { IfSome (R.remaining reader.old) (λ bytes. IfErr result (λ fault. Refuses fault bytes)) }
 {
-    recorded(alloc, reader)
+    read_into_run(alloc, reader)
 }

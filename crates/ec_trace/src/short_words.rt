@@ -1,25 +1,25 @@
-//! Words that are short, ready to be put.
+//! Short words as inline texts, which are written fast.
 ghost use Rattle.std.specs.Prelude.{◌≡◌, ℕ, ◌<◌, ◌==◌, [], length, if◌then◌else◌};
 ghost use Rattle.std.specs.Option.{option_map_or};
 ghost use Rattle.ec_trace.specs.WordTables.{Spells, SpellsShort, IsShortOf, short_at, word_at, cell_at, cell_name_bytes};
-ghost use Rattle.ec_heading.specs.Spelling.{Named};
+ghost use Rattle.ec_heading.specs.Spelling.{NameTable};
 
-use crate::spell::{CellName, Words};
-use ec_text::{Decimal, ShortText};
+use crate::spell::{CellName, WordTable};
+use ec_text::{CachedDecimal, InlineText};
 
-/// A short text for each number of each sort, if its word is short.
+/// An inline text for each worker, eventcount, sequencer and cell whose word is short.
 #[derive(Drop)]
 pub(crate) struct ShortWords {
-    pub(crate) workers: [Option<ShortText>; 16],
-    pub(crate) events: [Option<ShortText>; 32],
-    pub(crate) sequencers: [Option<ShortText>; 32],
-    pub(crate) cells: [Option<ShortText>; 256],
+    pub(crate) workers: [Option<InlineText>; 16],
+    pub(crate) events: [Option<InlineText>; 32],
+    pub(crate) sequencers: [Option<InlineText>; 32],
+    pub(crate) cells: [Option<InlineText>; 256],
 }
 
 impl ShortWords {
-    /// Returns the short ones of these words.
-    pub(crate) fn of(words: &Words<'_>) -> Self
-        ensures { (names : Named) → Spells names words.now → SpellsShort names result }
+    /// Returns the inline texts of those of these words that are short.
+    pub(crate) fn of(words: &WordTable<'_>) -> Self
+        ensures { (names : NameTable) → Spells names words.now → SpellsShort names result }
     {
         let mut short = ShortWords {
             workers: Default::default(),
@@ -35,23 +35,23 @@ impl ShortWords {
     }
 }
 
-/// Has a word ready, if it is short.
-fn short_word(word: &[u8]) -> Option<ShortText>
+/// Returns a word as an inline text, if it is short.
+fn short_word(word: &[u8]) -> Option<InlineText>
     ensures { IsShortOf result word.now }
 {
-    let mut text = ShortText::new();
+    let mut text = InlineText::new();
     if text.take_in(word) { Some(text) } else { None }
 }
 
-/// Has the name of a cell ready, if it is short.
-fn short_cell(cell: &Option<CellName<'_>>) -> Option<ShortText>
+/// Returns the name of a cell as an inline text, if it is short.
+fn short_cell(cell: &Option<CellName<'_>>) -> Option<InlineText>
     ensures { IsShortOf result (option_map_or cell_name_bytes cell.now []) }
 {
     let Some(name) = cell else {
         return None;
     };
-    let mut text = ShortText::new();
-    let number = Decimal::new(name.place as u64);
+    let mut text = InlineText::new();
+    let number = CachedDecimal::new(name.place as u64);
     let fits = text.take_in(name.block)
         && text.take_in(b"[")
         && text.take_in(number.digits().bytes())
@@ -59,8 +59,8 @@ fn short_cell(cell: &Option<CellName<'_>>) -> Option<ShortText>
     if fits { Some(text) } else { None }
 }
 
-/// Puts a short text at a place.
-fn set_short(short: &mut [Option<ShortText>], place: usize, text: Option<ShortText>)
+/// Stores an inline text at an index.
+fn set_short(short: &mut [Option<InlineText>], place: usize, text: Option<InlineText>)
     requires { place < length short.old }
     ensures set { (i : ℕ) → short_at short.new i ≡ (if place == i then text else short_at short.old i) }
     ensures len { length short.new ≡ length short.old }
@@ -68,8 +68,8 @@ fn set_short(short: &mut [Option<ShortText>], place: usize, text: Option<ShortTe
     short[place] = text;
 }
 
-/// Has words ready, each at its place.
-fn shorten(short: &mut [Option<ShortText>], words: &[&[u8]])
+/// Stores the inline text of each short word at the index of the word.
+fn shorten(short: &mut [Option<InlineText>], words: &[&[u8]])
     requires { length short.old ≡ length words.now }
     ensures { (i : ℕ) → i < length words.now → IsShortOf (short_at short.new i) (word_at words.now i) }
 {
@@ -78,8 +78,8 @@ fn shorten(short: &mut [Option<ShortText>], words: &[&[u8]])
     }
 }
 
-/// Has the names of cells ready, each at its place.
-fn shorten_cells(short: &mut [Option<ShortText>], cells: &[Option<CellName<'_>>])
+/// Stores the inline text of each short name of a cell at the index of the cell.
+fn shorten_cells(short: &mut [Option<InlineText>], cells: &[Option<CellName<'_>>])
     requires { length short.old ≡ length cells.now }
     ensures { (x : ℕ) → x < length cells.now → IsShortOf (short_at short.new x) (cell_at cells.now x) }
 {

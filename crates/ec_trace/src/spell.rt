@@ -1,14 +1,14 @@
-//! The words of names, each found once.
+//! Tables of the words for workers and objects.
 ghost use Rattle.std.specs.Prelude.{◌≡◌, ℕ, ◌+◌, ◌<◌, ◌-◌, ◌==◌, ◌&&◌, [], ◌∷◌, ◌++◌, List, length, Some, slice_get, nat_le, nat_lt, if◌then◌else◌};
 ghost use Rattle.ec_trace.specs.WordTables.{Spells, word_at, cell_at, cell_name_bytes, with_block, short_at};
 ghost use Rattle.ec_text.specs.Puts.{Puts};
-ghost use Rattle.ec_heading.specs.Spelling.{Named, word_of, cell_word};
+ghost use Rattle.ec_heading.specs.Spelling.{NameTable, target_name, cell_word};
 ghost use Rattle.std.specs.Option.{option_map_or};
 ghost use Rattle.ec_count.specs.declared.target.Target.TheVariants.{Worker, Event, Sequencer};
 
 use crate::short_words::ShortWords;
-use ec_count::{CellId, EventId, SeqId, Target, Vocabulary, WorkerId};
-use ec_text::{Out, ShortText};
+use ec_count::{CellId, EventId, SeqId, SymbolTable, Target, WorkerId, filled};
+use ec_text::{InlineText, Output};
 use std::io::Write;
 use std::marker::Model;
 
@@ -19,32 +19,32 @@ pub(crate) struct CellName<'a> {
     pub(crate) place: usize,
 }
 
-/// A word for each number of each sort; of no bytes if there is no name.
+/// The word for each worker, eventcount, sequencer and cell; empty if there is none.
 #[derive(Clone, Copy)]
-pub(crate) struct Words<'a> {
+pub(crate) struct WordTable<'a> {
     pub(crate) workers: [&'a [u8]; 16],
     pub(crate) events: [&'a [u8]; 32],
     pub(crate) sequencers: [&'a [u8]; 32],
     pub(crate) cells: [Option<CellName<'a>>; 256],
 }
 
-impl<'a> Words<'a> {
-    /// Makes a table of no words.
+impl<'a> WordTable<'a> {
+    /// Returns a table of no words.
     fn none() -> Self
         ensures { Spells [] result }
     {
         let word = b"".as_slice();
-        Words {
-            workers: all_alike(word),
-            events: all_alike(word),
-            sequencers: all_alike(word),
-            cells: all_alike(None),
+        WordTable {
+            workers: filled(word),
+            events: filled(word),
+            sequencers: filled(word),
+            cells: filled(None),
         }
     }
 
-    /// Takes in a name, before those that were taken in.
+    /// Adds a name, which takes precedence over those added before.
     fn take_in(&mut self, name: &'a [u8], target: Target)
-        ensures { (names : Named) → Spells names self.old → Spells ((name.now, target) ∷ names) self.new }
+        ensures { (names : NameTable) → Spells names self.old → Spells ((name.now, target) ∷ names) self.new }
     {
         match target {
             Target::Worker(worker) => set_word(&mut self.workers, worker.get(), name),
@@ -56,11 +56,11 @@ impl<'a> Words<'a> {
     }
 }
 
-/// The words by which entries name things, each found once, and those that are short ready to be put.
+/// The words by which entries name workers and objects, in tables; short ones as inline texts.
 #[derive(Drop)]
 pub struct Spellings<'a> {
-    vocabulary: &'a Vocabulary,
-    words: Words<'a>,
+    vocabulary: &'a SymbolTable,
+    words: WordTable<'a>,
     short: ShortWords,
 }
 
@@ -78,11 +78,11 @@ impl<'a> Model for Spellings<'a> {
 }
 
 impl<'a> Spellings<'a> {
-    /// Returns the words of a heading, as `Heading::words` gives them. It takes no memory.
-    pub fn new(vocabulary: &'a Vocabulary) -> Self
+    /// Returns the words of a header, from its `Heading::words`. It allocates nothing.
+    pub fn new(vocabulary: &'a SymbolTable) -> Self
         ensures { result ≡ vocabulary.now }
     {
-        let mut words = Words::none();
+        let mut words = WordTable::none();
         for place in (0..vocabulary.len()).rev() {
             if let Some((word, target)) = vocabulary.at(place) {
                 words.take_in(word, target);
@@ -96,28 +96,28 @@ impl<'a> Spellings<'a> {
         }
     }
 
-    /// Returns the name of a worker, of no bytes if it has none.
+    /// Returns the name of a worker; empty if it has none.
     pub fn worker(&self, worker: WorkerId) -> &'a [u8]
-        ensures { result.now ≡ word_of self.now (Worker worker) }
+        ensures { result.now ≡ target_name self.now (Worker worker) }
     {
         word_in(&self.words.workers, worker.get())
     }
 
-    /// Returns the name of an eventcount, of no bytes if it has none.
+    /// Returns the name of an eventcount; empty if it has none.
     pub fn event(&self, event: EventId) -> &'a [u8]
-        ensures { result.now ≡ word_of self.now (Event event) }
+        ensures { result.now ≡ target_name self.now (Event event) }
     {
         word_in(&self.words.events, event.get())
     }
 
-    /// Returns the name of a sequencer, of no bytes if it has none.
+    /// Returns the name of a sequencer; empty if it has none.
     pub fn sequencer(&self, sequencer: SeqId) -> &'a [u8]
-        ensures { result.now ≡ word_of self.now (Sequencer sequencer) }
+        ensures { result.now ≡ target_name self.now (Sequencer sequencer) }
     {
         word_in(&self.words.sequencers, sequencer.get())
     }
 
-    /// Returns the block that a cell stands in and its number there, if it has a name.
+    /// Returns the name of a cell's block and the cell's number there, if it has a name.
     fn cell(&self, cell: CellId) -> Option<CellName<'a>>
         ensures { option_map_or cell_name_bytes result [] ≡ cell_word self.now cell }
     {
@@ -126,8 +126,13 @@ impl<'a> Spellings<'a> {
 
     /// Puts bytes, and the name of a worker.
     #[inline(always)]
-    pub(crate) fn put_worker<W: Write>(&self, out: &mut Out<'_, W>, before: &[u8], worker: WorkerId)
-        ensures { Puts out.old out.new (before.now ++ word_of self.now (Worker worker)) }
+    pub(crate) fn put_worker<W: Write>(
+        &self,
+        out: &mut Output<'_, W>,
+        before: &[u8],
+        worker: WorkerId,
+    )
+        ensures { Puts out.old out.new (before.now ++ target_name self.now (Worker worker)) }
     {
         match short_in(&self.short.workers, worker.get()) {
             Some(text) => out.put_with_short(before, text),
@@ -137,8 +142,8 @@ impl<'a> Spellings<'a> {
 
     /// Puts bytes, and the name of an eventcount.
     #[inline(always)]
-    pub(crate) fn put_event<W: Write>(&self, out: &mut Out<'_, W>, before: &[u8], event: EventId)
-        ensures { Puts out.old out.new (before.now ++ word_of self.now (Event event)) }
+    pub(crate) fn put_event<W: Write>(&self, out: &mut Output<'_, W>, before: &[u8], event: EventId)
+        ensures { Puts out.old out.new (before.now ++ target_name self.now (Event event)) }
     {
         match short_in(&self.short.events, event.get()) {
             Some(text) => out.put_with_short(before, text),
@@ -150,11 +155,11 @@ impl<'a> Spellings<'a> {
     #[inline(always)]
     pub(crate) fn put_sequencer<W: Write>(
         &self,
-        out: &mut Out<'_, W>,
+        out: &mut Output<'_, W>,
         before: &[u8],
         sequencer: SeqId,
     )
-        ensures { Puts out.old out.new (before.now ++ word_of self.now (Sequencer sequencer)) }
+        ensures { Puts out.old out.new (before.now ++ target_name self.now (Sequencer sequencer)) }
     {
         match short_in(&self.short.sequencers, sequencer.get()) {
             Some(text) => out.put_with_short(before, text),
@@ -164,7 +169,7 @@ impl<'a> Spellings<'a> {
 
     /// Puts bytes, and the name of a cell.
     #[inline(always)]
-    pub(crate) fn put_cell<W: Write>(&self, out: &mut Out<'_, W>, before: &[u8], cell: CellId)
+    pub(crate) fn put_cell<W: Write>(&self, out: &mut Output<'_, W>, before: &[u8], cell: CellId)
         ensures { Puts out.old out.new (before.now ++ cell_word self.now cell) }
     {
         match short_in(&self.short.cells, cell.get()) {
@@ -173,10 +178,10 @@ impl<'a> Spellings<'a> {
         }
     }
 
-    /// Puts bytes, and the name of a cell in parts.
+    /// Puts bytes, and the name of a cell, part by part.
     #[cold]
     #[inline(never)]
-    fn put_long_cell<W: Write>(&self, out: &mut Out<'_, W>, before: &[u8], cell: CellId)
+    fn put_long_cell<W: Write>(&self, out: &mut Output<'_, W>, before: &[u8], cell: CellId)
         ensures { Puts out.old out.new (before.now ++ cell_word self.now cell) }
     {
         out.put(before);
@@ -192,21 +197,14 @@ impl<'a> Spellings<'a> {
 /// Puts bytes, and a word that may be long.
 #[cold]
 #[inline(never)]
-fn put_long<W: Write>(out: &mut Out<'_, W>, before: &[u8], word: &[u8])
+fn put_long<W: Write>(out: &mut Output<'_, W>, before: &[u8], word: &[u8])
     ensures { Puts out.old out.new (before.now ++ word.now) }
 {
     out.put(before);
     out.put(word);
 }
 
-/// Returns an array with the same element everywhere.
-fn all_alike<T: Copy, const N: usize>(x: T) -> [T; N]
-    ensures { (i : ℕ) → i < N → slice_get result i ≡ Some x }
-{
-    [x; N]
-}
-
-/// Returns the word at a place.
+/// Returns the word at an index.
 fn word_in<'a>(words: &[&'a [u8]], place: usize) -> &'a [u8]
     requires { place < length words.now }
     ensures { result.now ≡ word_at words.now place }
@@ -222,15 +220,15 @@ fn cell_in<'a>(cells: &[Option<CellName<'a>>], place: usize) -> Option<CellName<
     cells[place]
 }
 
-/// Returns the short text of the word at a place, where it is short.
-fn short_in(short: &[Option<ShortText>], place: usize) -> &Option<ShortText>
+/// Returns the inline text of the word at an index, if it is short.
+fn short_in(short: &[Option<InlineText>], place: usize) -> &Option<InlineText>
     requires { place < length short.now }
     ensures { result.now ≡ short_at short.now place }
 {
     &short[place]
 }
 
-/// Puts a word at a place.
+/// Stores a word at an index.
 fn set_word<'a>(words: &mut [&'a [u8]], place: usize, word: &'a [u8])
     requires { place < length words.old }
     ensures { (i : ℕ) → word_at words.new i ≡ (if place == i then word.now else word_at words.old i) }
@@ -238,7 +236,7 @@ fn set_word<'a>(words: &mut [&'a [u8]], place: usize, word: &'a [u8])
     words[place] = word;
 }
 
-/// Puts a name at the place of a cell.
+/// Stores the name of a cell at its index.
 fn set_cell<'a>(cells: &mut [Option<CellName<'a>>], place: usize, name: CellName<'a>)
     requires { place < length cells.old }
     ensures { (x : ℕ) → cell_at cells.new x ≡ (if place == x then cell_name_bytes name.entry else cell_at cells.old x) }
@@ -246,7 +244,7 @@ fn set_cell<'a>(cells: &mut [Option<CellName<'a>>], place: usize, name: CellName
     cells[place] = Some(name);
 }
 
-/// Puts the name of a block at each of its cells.
+/// Stores the names of the cells of a block.
 fn set_cells<'a>(cells: &mut [Option<CellName<'a>>; 256], first: usize, n: usize, block: &'a [u8])
     ensures { (x : ℕ) → x < 256 → cell_at cells.new x ≡ with_block block.now first n x (cell_at cells.old x) }
 {

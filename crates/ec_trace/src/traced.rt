@@ -1,11 +1,11 @@
-//! A heading and a run on it.
+//! A trace that was read.
 ghost use Rattle.std.specs.Prelude.{◌≡◌};
 
 use ec_core::Run;
 use ec_heading::Heading;
 use std::marker::Model;
 
-/// A trace that was read: a heading, and a run on what it declares.
+/// A trace that was read: a header, and a run on its declarations.
 #[derive(Drop)]
 pub struct Traced {
     pub(crate) run: Run,
@@ -14,9 +14,9 @@ pub struct Traced {
 
 impl Model for Traced {
     ghost use Rattle.std.specs.Prelude.{◌≡◌};
-    ghost use Rattle.ec_trace.specs.Recounted.{Recounted};
+    ghost use Rattle.ec_trace.specs.TraceModel.{TraceModel};
 
-    ghost Value = { Recounted };
+    ghost Value = { TraceModel };
 
     ghost view = { λ t. record { heading = t.heading; entries = t.run.entries } };
 
@@ -24,16 +24,16 @@ impl Model for Traced {
 }
 
 impl Traced {
-    ghost use Rattle.ec_trace.specs.Recounted.{trace_upgraded};
+    ghost use Rattle.ec_trace.specs.TraceModel.{upgrade_trace};
 
-    /// Returns what the trace declares.
+    /// Returns the header of the trace.
     pub fn heading(&self) -> &Heading
         ensures { result.now ≡ self.now.heading }
     {
         &self.heading
     }
 
-    /// Returns the run that the entries recount, on the heading's declarations.
+    /// Returns the run of the entries, on the declarations of the header.
     pub fn run(&self) -> &Run
         ensures { result.now ≡ record { setup = self.now.heading.setup; entries = self.now.entries } }
     {
@@ -42,7 +42,7 @@ impl Traced {
 
     /// Returns the same trace under version 2.
     pub fn upgrade(self) -> Traced
-        ensures { result ≡ trace_upgraded self }
+        ensures { result ≡ upgrade_trace self }
     {
         let Traced { run, heading } = self;
         Traced {

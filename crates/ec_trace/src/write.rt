@@ -3,50 +3,52 @@ ghost use Rattle.std.specs.Prelude.{◌≡◌, ◌∷◌, ◌++◌, codes, decim
 ghost use Rattle.std.specs.Io.KnownBytes.{Appends};
 ghost use Rattle.std.specs.List.{join_with_byte};
 ghost use Rattle.ec_text.specs.Puts.{Puts, AppendsPrefix};
-ghost use Rattle.ec_heading.specs.Spelling.{cell_word, act_words, reply_word, entry_line, text_of, trace_text};
+ghost use Rattle.ec_heading.specs.Spelling.{cell_word, act_words, reply_word, entry_line, lines_text, trace_text};
 ghost use Rattle.ec_heading.specs.Recalled.{entry_text, written_text};
-ghost use Rattle.ec_heading.specs.Outline.{Outline, IsOutline, headed};
+ghost use Rattle.ec_heading.specs.HeaderTree.{HeaderTree, IsHeaderTree, heading_of_tree};
 
 use crate::spell::Spellings;
 use crate::write_heading::put_opening;
 use ec_core::{Act, Entry, Reply, Run};
 use ec_count::CellId;
 use ec_heading::Heading;
-use ec_text::{Decimal, Out, WriteFault};
+use ec_text::{CachedDecimal, Output, WriteFault};
 use std::array;
 use std::io::Write;
 
 /// Puts the name of a cell.
 #[inline(always)]
-pub fn put_cell<W: Write>(out: &mut Out<'_, W>, spellings: &Spellings<'_>, cell: CellId)
+pub fn put_cell<W: Write>(out: &mut Output<'_, W>, spellings: &Spellings<'_>, cell: CellId)
     ensures { Puts out.old out.new (cell_word spellings.now cell) }
 {
     spellings.put_cell(out, b"", cell);
 }
 
-/// How many numbers are kept with their digits.
+/// How many numbers are cached with their digits.
 const KEPT: usize = 64;
 
-/// Numbers that were put lately, each with its digits, at a place that all digits but the last give: a number mostly comes again, or
-/// lies near one that was put lately.
+/// A cache of numbers that were put recently, each with its digits.
+///
+/// The slot of a number depends on all its digits but the last. A number usually comes again, or is
+/// close to one that was put recently.
 #[derive(Drop)]
-pub struct LastNumbers {
-    numbers: [Decimal; KEPT],
+pub struct DecimalCache {
+    numbers: [CachedDecimal; KEPT],
 }
 
-impl LastNumbers {
-    /// Makes a table of noughts, as before any number was put.
+impl DecimalCache {
+    /// Returns a cache of zeros.
     #[inline(never)]
     pub fn new() -> Self {
-        LastNumbers {
-            numbers: array::from_fn(|_| Decimal::new(0)),
+        DecimalCache {
+            numbers: array::from_fn(|_| CachedDecimal::new(0)),
         }
     }
 }
 
-/// Puts bytes, and a number that is kept then.
+/// Puts bytes and a number, which is then cached.
 #[inline(always)]
-fn put_next<W: Write>(out: &mut Out<'_, W>, before: &[u8], last: &mut LastNumbers, n: u64)
+fn put_next<W: Write>(out: &mut Output<'_, W>, before: &[u8], last: &mut DecimalCache, n: u64)
     ensures { Puts out.old out.new (before.now ++ decimal n) }
 {
     let number = &mut last.numbers[(n / 10) as usize % KEPT];
@@ -54,12 +56,12 @@ fn put_next<W: Write>(out: &mut Out<'_, W>, before: &[u8], last: &mut LastNumber
     out.put_with_decimal(before, number);
 }
 
-/// Puts what a worker asks for, behind a space. Numbers that lie near the last ones need little work.
+/// Puts an act, after a space. Numbers close to the cached ones need little work.
 #[inline(always)]
 pub fn put_act<W: Write>(
-    out: &mut Out<'_, W>,
+    out: &mut Output<'_, W>,
     spellings: &Spellings<'_>,
-    last: &mut LastNumbers,
+    last: &mut DecimalCache,
     act: &Act,
 )
     ensures { Puts out.old out.new (32 ∷ join_with_byte 32 (act_words spellings.now act.now)) }
@@ -93,9 +95,9 @@ pub fn put_act<W: Write>(
     }
 }
 
-/// Puts what a worker is told.
+/// Puts a reply.
 #[inline(always)]
-pub fn put_reply<W: Write>(out: &mut Out<'_, W>, reply: &Reply)
+pub fn put_reply<W: Write>(out: &mut Output<'_, W>, reply: &Reply)
     ensures { Puts out.old out.new (reply_word reply.now) }
 {
     match *reply {
@@ -105,9 +107,9 @@ pub fn put_reply<W: Write>(out: &mut Out<'_, W>, reply: &Reply)
     }
 }
 
-/// Puts what a worker is told, behind an equals sign between spaces.
+/// Puts a reply, after an equals sign between spaces.
 #[inline(always)]
-fn put_answer<W: Write>(out: &mut Out<'_, W>, last: &mut LastNumbers, reply: &Reply)
+fn put_answer<W: Write>(out: &mut Output<'_, W>, last: &mut DecimalCache, reply: &Reply)
     ensures { Puts out.old out.new (codes " = " ++ reply_word reply.now) }
 {
     match *reply {
@@ -117,14 +119,14 @@ fn put_answer<W: Write>(out: &mut Out<'_, W>, last: &mut LastNumbers, reply: &Re
     }
 }
 
-/// Puts bytes, and an entry that follows others, without LF. Numbers that lie near the last ones need little work.
+/// Puts bytes and an entry, without LF. Numbers close to the cached ones need little work.
 #[inline(always)]
 #[tactic(auto, using(crate::proofs::EntryParts::entry_parts))]
 pub fn put_next_entry<W: Write>(
-    out: &mut Out<'_, W>,
+    out: &mut Output<'_, W>,
     before: &[u8],
     spellings: &Spellings<'_>,
-    last: &mut LastNumbers,
+    last: &mut DecimalCache,
     entry: &Entry,
 )
     ensures { Puts out.old out.new (before.now ++ entry_line spellings.now entry.now) }
@@ -135,14 +137,15 @@ pub fn put_next_entry<W: Write>(
 }
 
 /// Puts an entry, without LF.
-pub fn put_entry<W: Write>(out: &mut Out<'_, W>, spellings: &Spellings<'_>, entry: &Entry)
+pub fn put_entry<W: Write>(out: &mut Output<'_, W>, spellings: &Spellings<'_>, entry: &Entry)
     ensures { Puts out.old out.new (entry_line spellings.now entry.now) }
 {
-    put_next_entry(out, b"", spellings, &mut LastNumbers::new(), entry);
+    put_next_entry(out, b"", spellings, &mut DecimalCache::new(), entry);
 }
 
-/// Writes an entry, without LF, as a trace has it. What has no name is spelled by no bytes.
-/// A WriteFault comes only if a write failed or wrote none of its bytes.
+/// Writes an entry, without LF, as a trace has it. What has no name is written as no bytes.
+///
+/// A `WriteFault` is returned only if a write failed or wrote none of its bytes.
 pub fn write_entry<W: Write>(
     entry: &Entry,
     heading: &Heading,
@@ -152,18 +155,18 @@ pub fn write_entry<W: Write>(
     ensures err { OnErr result (AppendsPrefix (W.contents writer.old) (W.contents writer.new) (entry_line heading.now.words entry.now)) }
 {
     let spellings = Spellings::new(heading.words());
-    let mut text = Out::new(writer);
+    let mut text = Output::new(writer);
     put_entry(&mut text, &spellings, entry);
     let done = text.finish();
     text.into_writer();
     done
 }
 
-/// Puts the line of the entry at a place of a run, if there is one.
+/// Puts the line of the entry at a position of a run, if there is one.
 fn put_entry_at<W: Write>(
-    out: &mut Out<'_, W>,
+    out: &mut Output<'_, W>,
     spellings: &Spellings<'_>,
-    last: &mut LastNumbers,
+    last: &mut DecimalCache,
     run: &Run,
     place: usize,
 )
@@ -177,10 +180,10 @@ fn put_entry_at<W: Write>(
 
 /// Puts the lines of a run's entries.
 #[tactic(auto, using(crate::proofs::shared::LineParts::one_more_entry))]
-fn put_entries<W: Write>(out: &mut Out<'_, W>, spellings: &Spellings<'_>, run: &Run)
-    ensures { Puts out.old out.new (text_of (map (entry_line spellings.now) run.now.entries)) }
+fn put_entries<W: Write>(out: &mut Output<'_, W>, spellings: &Spellings<'_>, run: &Run)
+    ensures { Puts out.old out.new (lines_text (map (entry_line spellings.now) run.now.entries)) }
 {
-    let mut last = LastNumbers::new();
+    let mut last = DecimalCache::new();
     for place in 0..run.len() {
         put_entry_at(out, spellings, &mut last, run, place);
     }
@@ -188,7 +191,7 @@ fn put_entries<W: Write>(out: &mut Out<'_, W>, spellings: &Spellings<'_>, run: &
 
 /// Puts a trace.
 fn put_trace<W: Write>(
-    out: &mut Out<'_, W>,
+    out: &mut Output<'_, W>,
     spellings: &Spellings<'_>,
     heading: &Heading,
     run: &Run,
@@ -200,16 +203,17 @@ fn put_trace<W: Write>(
     out.put(b"end\n");
 }
 
-/// Writes the trace of a run under the heading whose declarations the run is on: all its entries,
-/// those of pending calls too. Version 1 has no trace of a run with a hand: what is written of one
-/// under it is no trace. A WriteFault comes only if a write failed or wrote none of its bytes.
-/// It takes no memory.
+/// Writes the trace of a run: its header and all its entries, also those of pending calls.
+///
+/// The run is on the declarations of the header. Version 1 has no trace of a run with a `hand`:
+/// what is written of one is no trace. A `WriteFault` is returned only if a write failed or wrote
+/// none of its bytes. Nothing is allocated.
 pub fn write_trace<W: Write>(run: &Run, heading: &Heading, writer: &mut W) -> Result<(), WriteFault>
-    ensures ok { (o : Outline) → IsOutline o → headed o ≡ heading.now → OnOk result (Appends (W.contents writer.old) (W.contents writer.new) (trace_text o run.now.entries)) }
-    ensures err { (o : Outline) → IsOutline o → headed o ≡ heading.now → OnErr result (AppendsPrefix (W.contents writer.old) (W.contents writer.new) (trace_text o run.now.entries)) }
+    ensures ok { (o : HeaderTree) → IsHeaderTree o → heading_of_tree o ≡ heading.now → OnOk result (Appends (W.contents writer.old) (W.contents writer.new) (trace_text o run.now.entries)) }
+    ensures err { (o : HeaderTree) → IsHeaderTree o → heading_of_tree o ≡ heading.now → OnErr result (AppendsPrefix (W.contents writer.old) (W.contents writer.new) (trace_text o run.now.entries)) }
 {
     let spellings = Spellings::new(heading.words());
-    let mut text = Out::new(writer);
+    let mut text = Output::new(writer);
     put_trace(&mut text, &spellings, heading, run);
     let done = text.finish();
     text.into_writer();

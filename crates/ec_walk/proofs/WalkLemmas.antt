@@ -1,4 +1,5 @@
--- Each entry is handed to the audits of the groups that its call may be on, and the others stand as they are.
+-- Each entry is passed to the audits of the groups that its call is on, and the others are
+-- unchanged.
 use Rattle.std.proofs.Common.{◌≡◌, ◌≢◌, ℕ, ◌+◌, ◌<◌, ◌≤◌, Bool, true, false, List, ◌∷◌, length, Some, refl, ap, sym, ◌∙◌, subst, arith, true≢false, cond, ◌==◌, ◌||◌, ◌&&◌, not, leb, ◌⊎◌, inl, inr, Option, None, [], get_or, slice_get, slice_set, below_more}
 use Rattle.std.specs.Option.{option_map_or}
 use Rattle.std.proofs.lemmas.Bool.{eqb-true, eqb-false, eq-eqb}
@@ -8,13 +9,13 @@ use Rattle.std.proofs.Math.ListN.{length-set}
 use Rattle.ec_core.specs.declared.act.Act.{Act}
 use Rattle.ec_core.specs.declared.act.Act.TheVariants.{Advance, Read, Await, Put, Get, Hand}
 use Rattle.ec_core.specs.declared.act.Entry.{Entry}
-use Rattle.ec_core.specs.Calls.{goes_on}
+use Rattle.ec_core.specs.Calls.{is_intermediate}
 use Rattle.ec_core.proofs.shared.Following.{op_at}
 use Rattle.ec_core.proofs.shared.Places.{get_set}
 use Rattle.ec_heading.specs.declared.group.Group.{Group}
 use Rattle.ec_heading.specs.declared.group.Group.TheVariants as groups
-use Rattle.ec_walk.specs.declared.table.Span.{Span}
-use Rattle.ec_walk.specs.Walks.{names, is_wide, is_on, is_wide_at, is_on_at, is_asked_at, passes_at, CoversFirst, Covers, CoversAct, CoversAt, Hands, HandsWhere, HandsTo, HandsAt, HandsAmong, HandsOn, goes_to, IsHanded, AreHanded, AreWalked}
+use Rattle.ec_walk.specs.declared.group_table.Span.{Span}
+use Rattle.ec_walk.specs.Walks.{names, sees_every_call, is_on, is_wide_at, is_on_at, is_asked_at, passes_at, CoversFirst, Covers, CoversAct, CoversAt, Dispatches, DispatchesWhere, DispatchesTo, DispatchesAt, DispatchesAmong, DispatchesOn, goes_to, IsDispatched, AreHanded, AreIndependent}
 
 -- THE TABLE
 
@@ -74,7 +75,7 @@ covers_all gs test span n c all = record {
   highest = c.highest;
 }
 
--- what a table has at a place, for an act that is on the same groups
+-- the span at a position of a table, for an act that is on the same groups
 pub covers_at : (gs : List Group) (act read : Act) (spans : List Span) (place : ℕ) (span : Span)
     → CoversAt gs read spans place → slice_get spans place ≡ Some span
     → ((g : Group) → names g act ≡ names g read) → CoversAct gs act span
@@ -91,7 +92,7 @@ covers_at gs act read spans place span c at same = record {
     over None on = on
     over (Some g) on = same g ∙ on
 
--- one more place of a table is filled
+-- one more position of a table is filled
 pub covers_more : (gs : List Group) (acts : ℕ → Act) (spans : List Span) (n : ℕ) (span : Span)
     → n < length spans → ((e : ℕ) → e < n → CoversAt gs (acts e) spans e)
     → CoversAct gs (acts n) span
@@ -138,29 +139,27 @@ on_put y v (groups.Database d) = refl
 on_put y v (groups.Semaphore s) = refl
 on_put y v (groups.Both s) = refl
 
--- THE AUDITS
-
 -- WHICH GROUPS ARE ASKED
 
 -- a group that an act names, and that is not wide
 pub asked_named : (gs : List Group) (op : Act) (i : ℕ) → passes_at gs (λ g. names g op) i ≡ true → is_wide_at gs i ≡ false → is_asked_at gs false op i ≡ true
 asked_named gs op i = go (slice_get gs i)
   where
-    go : (o : Option Group) → option_map_or (λ g. names g op) o false ≡ true → option_map_or is_wide o false ≡ false → option_map_or (λ g. not (is_wide g) && names g op) o false ≡ true
+    go : (o : Option Group) → option_map_or (λ g. names g op) o false ≡ true → option_map_or sees_every_call o false ≡ false → option_map_or (λ g. not (sees_every_call g) && names g op) o false ≡ true
     go None on narrow = on
     go (Some g) on narrow = ap (λ b. not b && names g op) narrow ∙ on
 
--- a wide group is asked as such alone
+-- a wide group is only selected as such
 pub asked_once : (gs : List Group) (op : Act) (i : ℕ) → is_wide_at gs i ≡ true
     → is_asked_at gs false op i ≡ true → ⊥
 asked_once gs op i = go (slice_get gs i)
   where
-    go : (o : Option Group) → option_map_or is_wide o false ≡ true
-        → option_map_or (λ g. not (is_wide g) && names g op) o false ≡ true → ⊥
+    go : (o : Option Group) → option_map_or sees_every_call o false ≡ true
+        → option_map_or (λ g. not (sees_every_call g) && names g op) o false ≡ true → ⊥
     go None w on = true≢false (sym w)
     go (Some g) w on = true≢false (sym on ∙ ap (λ b. not b && names g op) w)
 
--- a call is on each group that is asked
+-- a call is on each group that is selected
 pub asked_is_on : (gs : List Group) (op : Act) (i : ℕ) → is_asked_at gs false op i ≡ true
     → is_on_at gs op i ≡ true
 asked_is_on gs op i = go (slice_get gs i)
@@ -169,22 +168,22 @@ asked_is_on gs op i = go (slice_get gs i)
     by true n on = refl
     by false n on = on
 
-    go : (o : Option Group) → option_map_or (λ g. not (is_wide g) && names g op) o false ≡ true → option_map_or (λ g. is_on g op) o false ≡ true
+    go : (o : Option Group) → option_map_or (λ g. not (sees_every_call g) && names g op) o false ≡ true → option_map_or (λ g. is_on g op) o false ≡ true
     go None on = on
-    go (Some g) on = by (is_wide g) (names g op) on
+    go (Some g) on = by (sees_every_call g) (names g op) on
 
 pub wide_is_on : (gs : List Group) (op : Act) (i : ℕ) → is_wide_at gs i ≡ true
     → is_on_at gs op i ≡ true
 wide_is_on gs op i = go (slice_get gs i)
   where
-    go : (o : Option Group) → option_map_or is_wide o false ≡ true
+    go : (o : Option Group) → option_map_or sees_every_call o false ≡ true
         → option_map_or (λ g. is_on g op) o false ≡ true
     go None on = on
     go (Some g) on = ap (λ b. b || names g op) on
 
 -- a group that a call is on is among the wide ones, or among those that it names
 pub on_is_asked : (gs : List Group) (op : Act) (named wide : Span) (i : ℕ) → CoversAct gs op named
-    → Covers gs is_wide wide → is_on_at gs op i ≡ true
+    → Covers gs sees_every_call wide → is_on_at gs op i ≡ true
     → ((named.first ≤ i) × (i < named.end) × (is_asked_at gs false op i ≡ true) → ⊥)
     → ((wide.first ≤ i) × (i < wide.end) × (is_asked_at gs true op i ≡ true) → ⊥) → ⊥
 on_is_asked gs op named wide i covers wides on one other = by_group (slice_get_cases gs i).1
@@ -192,43 +191,45 @@ on_is_asked gs op named wide i covers wides on one other = by_group (slice_get_c
     by_group : ((g : Group) × (i < length gs) × (slice_get gs i ≡ Some g) × (get_or gs i g ≡ g))
         ⊎ ((length gs ≤ i) × (slice_get gs i ≡ None)) → ⊥
     by_group (inr none) = true≢false (sym on ∙ ap (λ o. option_map_or (λ h. is_on h op) o false) none.1)
-    by_group (inl (g, less, here, same)) = by_width (is_wide g) refl
+    by_group (inl (g, less, here, same)) = by_width (sees_every_call g) refl
       where
-        by_width : (b : Bool) → is_wide g ≡ b → ⊥
-        by_width true w = (let in_span = wides.among i g here w in other (in_span.0, in_span.1, ap (λ o. option_map_or is_wide o false) here ∙ w))
+        by_width : (b : Bool) → sees_every_call g ≡ b → ⊥
+        by_width true w = (let in_span = wides.among i g here w in other (in_span.0, in_span.1, ap (λ o. option_map_or sees_every_call o false) here ∙ w))
         by_width false w =
             (let named_here : names g op ≡ true = sym (ap (λ b. b || names g op) w) ∙ sym (ap (λ o. option_map_or (λ h. is_on h op) o false) here) ∙ on in
             let in_span = covers.among i g here named_here in
-            one (in_span.0, in_span.1, asked_named gs op i (ap (λ o. option_map_or (λ h. names h op) o false) here ∙ named_here) (ap (λ o. option_map_or is_wide o false) here ∙ w)))
+            one (in_span.0, in_span.1, asked_named gs op i (ap (λ o. option_map_or (λ h. names h op) o false) here ∙ named_here) (ap (λ o. option_map_or sees_every_call o false) here ∙ w)))
 
--- WHO IS HANDED AN ENTRY
+-- WHICH AUDITS ARE PASSED AN ENTRY
 
-module _ {A : Type 0} (stands : A → A → List Entry
+module _ {A : Type 0} (represents : A → A → List Entry
     → Type 0) (place : ℕ) (op : Act) (x : Entry) where
-  -- one audit has taken the entry in
+  -- one audit has processed the entry
   pub hands_one : (old : List A) (n : ℕ) (a b : A) → n < length old → slice_get old n ≡ Some a
-      → Hands stands place op x a b → HandsTo stands n place op x old (slice_set old n b)
+      → Dispatches represents place op x a b
+      → DispatchesTo represents n place op x old (slice_set old n b)
   hands_one old n a b room is hands = (
     length-set old n b,
     λ i o at.
-        elim (n == i) as (λ t. (n == i) ≡ t → (p : A) × (slice_get (slice_set old n b) i ≡ Some p) × (((i ≡ n) × Hands stands place op x o p) ⊎ ((i ≡ n → ⊥) × (p ≡ o)))) [
+        elim (n == i) as (λ t. (n == i) ≡ t → (p : A) × (slice_get (slice_set old n b) i ≡ Some p) × (((i ≡ n) × Dispatches represents place op x o p) ⊎ ((i ≡ n → ⊥) × (p ≡ o)))) [
           | true ↦ λ e.
               (let same : n ≡ i = eqb-true n i e in
               let both : Some a ≡ Some o = sym is ∙ ap (slice_get old) same ∙ at in
               let one : a ≡ o = cc in
-              (b, get_set old n i b room ∙ ap (λ t. cond t (Some b) (slice_get old i)) e, inl (sym same, subst (λ z. Hands stands place op x z b) one hands)))
+              (b, get_set old n i b room ∙ ap (λ t. cond t (Some b) (slice_get old i)) e, inl (sym same, subst (λ z. Dispatches represents place op x z b) one hands)))
           | false ↦ λ e. (o, get_set old n i b room ∙ ap (λ t. cond t (Some b) (slice_get old i)) e ∙ at, inr (λ same. eqb-false n i e (sym same), refl))
         ] refl,
   )
 
   -- none is picked
   pub hands_nobody : (IsPicked : ℕ → Type 0) (old : List A) → ((i : ℕ) → i < length old → IsPicked i
-      → ⊥) → HandsWhere stands IsPicked place op x old old
+      → ⊥) → DispatchesWhere represents IsPicked place op x old old
   hands_nobody IsPicked old none = (refl, λ i a at. (a, at, inr (none i (slice_get_within old i a at), refl)))
 
   -- the same are picked
   pub hands_same : (P Q : ℕ → Type 0) (old new : List A) → ((i : ℕ) → P i → Q i) → ((i : ℕ) → Q i
-      → P i) → HandsWhere stands P place op x old new → HandsWhere stands Q place op x old new
+      → P i) → DispatchesWhere represents P place op x old new
+      → DispatchesWhere represents Q place op x old new
   hands_same P Q old new there back h = (
     h.0,
     λ i a at.
@@ -245,25 +246,30 @@ module _ {A : Type 0} (stands : A → A → List Entry
   -- first some, then others
   pub hands_then : (P Q R : ℕ → Type 0) (old mid new : List A) → ((i : ℕ) → P i → Q i → ⊥)
       → ((i : ℕ) → P i → R i) → ((i : ℕ) → Q i → R i)
-      → ((i : ℕ) → R i → (P i → ⊥) → (Q i → ⊥) → ⊥) → HandsWhere stands P place op x old mid
-      → HandsWhere stands Q place op x mid new → HandsWhere stands R place op x old new
+      → ((i : ℕ) → R i → (P i → ⊥) → (Q i → ⊥) → ⊥)
+      → DispatchesWhere represents P place op x old mid
+      → DispatchesWhere represents Q place op x mid new
+      → DispatchesWhere represents R place op x old new
   hands_then P Q R old mid new apart one other all first second = (second.0 ∙ first.0, λ i a at. (let k = first.1 i a at in go i a k.0 k.2 (second.1 i k.0 k.1)))
     where
-      go : (i : ℕ) (a b : A) → ((P i × Hands stands place op x a b) ⊎ ((P i → ⊥) × (b ≡ a)))
-          → (c : A) × (slice_get new i ≡ Some c) × ((Q i × Hands stands place op x b c) ⊎ ((Q i
+      go : (i : ℕ) (a b : A)
+          → ((P i × Dispatches represents place op x a b) ⊎ ((P i → ⊥) × (b ≡ a)))
+          → (c : A) × (slice_get new i ≡ Some c)
+          × ((Q i × Dispatches represents place op x b c) ⊎ ((Q i
           → ⊥) × (c ≡ b)))
-          → (c : A) × (slice_get new i ≡ Some c) × ((R i × Hands stands place op x a c) ⊎ ((R i
+          → (c : A) × (slice_get new i ≡ Some c)
+          × ((R i × Dispatches represents place op x a c) ⊎ ((R i
           → ⊥) × (c ≡ a)))
       go i a b (inl k) (c, got, inl s) = absurd (apart i k.0 s.0)
-      go i a b (inl k) (c, got, inr s) = (c, got, inl (one i k.0, subst (λ z. Hands stands place op x a z) (sym s.1) k.1))
-      go i a b (inr k) (c, got, inl s) = (c, got, inl (other i s.0, subst (λ z. Hands stands place op x z c) k.1 s.1))
+      go i a b (inl k) (c, got, inr s) = (c, got, inl (one i k.0, subst (λ z. Dispatches represents place op x a z) (sym s.1) k.1))
+      go i a b (inr k) (c, got, inl s) = (c, got, inl (other i s.0, subst (λ z. Dispatches represents place op x z c) k.1 s.1))
       go i a b (inr k) (c, got, inr s) = (c, got, inr (λ on. all i on k.0 s.0, s.1 ∙ k.1))
 
   -- one more number
   pub hands_more : (gs : List Group) (wide : Bool) (first n : ℕ) (old now new : List A) → first ≤ n
-      → HandsAmong stands gs wide first n place op x old now
-      → HandsAt stands gs wide n place op x now new
-      → HandsAmong stands gs wide first (n + 1) place op x old new
+      → DispatchesAmong represents gs wide first n place op x old now
+      → DispatchesAt represents gs wide n place op x now new
+      → DispatchesAmong represents gs wide first (n + 1) place op x old new
   hands_more gs wide first n old now new from =
       hands_then (λ i. (first ≤ i) × (i < n) × (is_asked_at gs wide op i ≡ true)) (λ i. (i ≡ n) × (is_asked_at gs wide op i ≡ true))
       (λ i. (first ≤ i) × (i < n + 1) × (is_asked_at gs wide op i ≡ true)) old now new
@@ -278,8 +284,8 @@ module _ {A : Type 0} (stands : A → A → List Entry
 
   -- up to the end, or none if that is before the first
   pub hands_all : (gs : List Group) (wide : Bool) (first end n : ℕ) (old new : List A) → end ≤ n
-      → (end < n → n ≡ first) → HandsAmong stands gs wide first n place op x old new
-      → HandsAmong stands gs wide first end place op x old new
+      → (end < n → n ≡ first) → DispatchesAmong represents gs wide first n place op x old new
+      → DispatchesAmong represents gs wide first end place op x old new
   hands_all gs wide first end n old new all none =
       hands_same (λ i. (first ≤ i) × (i < n) × (is_asked_at gs wide op i ≡ true)) (λ i. (first ≤ i) × (i < end) × (is_asked_at gs wide op i ≡ true)) old new
       (λ i p. (p.0, before i p.0 p.1 (leb_tells n end), p.2)) (λ i q. (let less : i < end = q.1 in (q.0, omega arith, q.2)))
@@ -291,15 +297,15 @@ module _ {A : Type 0} (stands : A → A → List Entry
 
   -- there are none
   pub hands_nowhere : (gs : List Group) (wide : Bool) (first end : ℕ) (old : List A) → end ≤ first
-      → HandsAmong stands gs wide first end place op x old old
+      → DispatchesAmong represents gs wide first end place op x old old
   hands_nowhere gs wide first end old none =
       hands_nobody (λ i. (first ≤ i) × (i < end) × (is_asked_at gs wide op i ≡ true)) old (λ i less p. (let from : first ≤ i = p.0 in let before : i < end = p.1 in omega arith))
 
   -- the one that is named
   pub hands_named : (gs : List Group) (named : Span) (old new : List A) → CoversAct gs op named
       → named.end ≡ named.first + 1 → is_wide_at gs named.first ≡ false
-      → HandsTo stands named.first place op x old new
-      → HandsAmong stands gs false named.first named.end place op x old new
+      → DispatchesTo represents named.first place op x old new
+      → DispatchesAmong represents gs false named.first named.end place op x old new
   hands_named gs named old new covers one narrow =
       hands_same (λ i. i ≡ named.first) (λ i. (named.first ≤ i) × (i < named.end) × (is_asked_at gs false op i ≡ true)) old new
       (λ i same. (omega arith, omega arith, ap (is_asked_at gs false op) same ∙ asked_named gs op named.first (covers.lowest (omega arith)) narrow))
@@ -308,7 +314,7 @@ module _ {A : Type 0} (stands : A → A → List Entry
   -- it is wide
   pub hands_wide : (gs : List Group) (named : Span) (old : List A) → named.end ≡ named.first + 1
       → is_wide_at gs named.first ≡ true
-      → HandsAmong stands gs false named.first named.end place op x old old
+      → DispatchesAmong represents gs false named.first named.end place op x old old
   hands_wide gs named old one wide =
       hands_nobody (λ i. (named.first ≤ i) × (i < named.end) × (is_asked_at gs false op i ≡ true)) old
       (λ i less q.
@@ -319,75 +325,76 @@ module _ {A : Type 0} (stands : A → A → List Entry
 
   -- those that are named, and then the wide ones
   pub hands_both : (gs : List Group) (named wide : Span) (old mid new : List A)
-      → CoversAct gs op named → Covers gs is_wide wide
-      → HandsAmong stands gs false named.first named.end place op x old mid
-      → HandsAmong stands gs true wide.first wide.end place op x mid new
-      → HandsOn stands gs place op x old new
+      → CoversAct gs op named → Covers gs sees_every_call wide
+      → DispatchesAmong represents gs false named.first named.end place op x old mid
+      → DispatchesAmong represents gs true wide.first wide.end place op x mid new
+      → DispatchesOn represents gs place op x old new
   hands_both gs named wide old mid new covers wides =
       hands_then (λ i. (named.first ≤ i) × (i < named.end) × (is_asked_at gs false op i ≡ true)) (λ i. (wide.first ≤ i) × (i < wide.end) × (is_asked_at gs true op i ≡ true))
       (λ i. is_on_at gs op i ≡ true) old mid new (λ i p q. asked_once gs op i q.2 p.2) (λ i p. asked_is_on gs op i p.2) (λ i q. wide_is_on gs op i q.2)
       (λ i on one other. on_is_asked gs op named wide i covers wides on one other)
 
--- A WALK
-
--- before the first entry
-pub handed_first : {A : Type 0} (stands : A → A → List Entry
-    → Type 0) (gs : List Group) (starts : List A) → AreHanded stands gs starts starts []
-handed_first stands gs starts = (refl, λ i start at. (start, at, refl))
+-- A PASS
 
 -- without groups an entry goes nowhere
 goes_nowhere : (gs : List Group) (i : ℕ) (x : Entry) (past : List Entry) → length gs ≡ 0
     → goes_to gs i x past ≡ false
 goes_nowhere (g ∷ gs) i x past none = absurd (omega arith)
-goes_nowhere [] i x past none = by (goes_on x)
+goes_nowhere [] i x past none = by (is_intermediate x)
   where
     by : (b : Bool) → (not b && false) ≡ false
     by true = refl
     by false = refl
 
--- so all audits stand as at first
-pub handed_nowhere : {A : Type 0} (stands : A → A → List Entry
+-- so all audits are as at first
+pub handed_nowhere : {A : Type 0} (represents : A → A → List Entry
     → Type 0) (gs : List Group) (starts : List A) (past : List Entry) → length gs ≡ 0
-    → AreHanded stands gs starts starts past
-handed_nowhere {A} stands gs starts past none = (refl, λ i start at. (start, at, go i start past))
+    → AreHanded represents gs starts starts past
+handed_nowhere {A} represents gs starts past none =
+    (refl, λ i start at. (start, at, go i start past))
   where
-    go : (i : ℕ) (start : A) (past : List Entry) → IsHanded stands (goes_to gs i) start start past
+    go : (i : ℕ) (start : A) (past : List Entry)
+        → IsDispatched represents (goes_to gs i) start start past
     go i start [] = refl
     go i start (x ∷ past) = (start, go i start past, inr (goes_nowhere gs i x past none, refl))
 
--- an entry that goes to none
-pub handed_none : {A : Type 0} (stands : A → A → List Entry
+-- an entry that is passed to no audit
+pub handed_none : {A : Type 0} (represents : A → A → List Entry
     → Type 0) (gs : List Group) (starts now : List A) (x : Entry) (past : List Entry) → ((i : ℕ)
     → goes_to gs i x past ≡ false)
-    → AreHanded stands gs starts now past → AreHanded stands gs starts now (x ∷ past)
-handed_none stands gs starts now x past none h = (h.0, λ i start at. (let k = h.1 i start at in (k.0, k.1, (k.0, k.2, inr (none i, refl)))))
+    → AreHanded represents gs starts now past → AreHanded represents gs starts now (x ∷ past)
+handed_none represents gs starts now x past none h = (h.0, λ i start at. (let k = h.1 i start at in (k.0, k.1, (k.0, k.2, inr (none i, refl)))))
 
--- each audit stands after a go that ends no call as before
-pub each_stays : {A : Type 0} (group : A → Group) (stands : A → A → List Entry
-    → Type 0) (stays : (start now : A) (x : Entry) (past : List Entry) → goes_on x ≡ true
-    → stands start now past → stands start now (x ∷ past))
-    (gs : List Group) (starts now : List A) (x : Entry) (past : List Entry) → goes_on x ≡ true
-    → AreWalked group stands gs starts now past
-    → AreWalked group stands gs starts now (x ∷ past)
-each_stays group stands stays gs starts now x past on each = λ i g here. (let k = each i g here in (k.0, k.1, k.2, k.3, k.4, stays k.0 k.1 x past on k.5))
+-- a go that ends no call leaves each audit unchanged
+pub each_stays : {A : Type 0} (group : A → Group) (represents : A → A → List Entry
+    → Type 0) (stays : (start now : A) (x : Entry) (past : List Entry) → is_intermediate x ≡ true
+    → represents start now past → represents start now (x ∷ past))
+    (gs : List Group) (starts now : List A) (x : Entry) (past : List Entry)
+    → is_intermediate x ≡ true
+    → AreIndependent group represents gs starts now past
+    → AreIndependent group represents gs starts now (x ∷ past)
+each_stays group represents stays gs starts now x past on each = λ i g here. (let k = each i g here in (k.0, k.1, k.2, k.3, k.4, stays k.0 k.1 x past on k.5))
 
--- such a go goes to none
-pub goes_on_to_none : (gs : List Group) (i : ℕ) (x : Entry) (past : List Entry) → goes_on x ≡ true
+-- such a go is passed to no audit
+pub goes_on_to_none : (gs : List Group) (i : ℕ) (x : Entry) (past : List Entry)
+    → is_intermediate x ≡ true
     → goes_to gs i x past ≡ false
 goes_on_to_none gs i x past on = ap (λ b. not b && is_on_at gs (op_at x past) i) on
 
-module _ {A : Type 0} (group : A → Group) (stands : A → A → List Entry → Type 0)
+module _ {A : Type 0} (group : A → Group) (represents : A → A → List Entry → Type 0)
     (passes : (start now : A) (x : Entry) (past : List Entry)
-    → is_on (group start) (op_at x past) ≡ false → stands start now past
-    → stands start now (x ∷ past))
+    → is_on (group start) (op_at x past) ≡ false → represents start now past
+    → represents start now (x ∷ past))
     (gs : List Group) (place : ℕ) (op : Act) (x : Entry) (past : List Entry) (at : place ≡ length past) (is : op ≡ op_at x past) where
-  -- each group's audit has taken the entry in, or is as before and the entry's call is not on the group
-  pub each_taken : (starts old new : List A) → HandsOn stands gs place op x old new
-      → AreWalked group stands gs starts old past → AreWalked group stands gs starts new (x ∷ past)
+  -- each group's audit has processed the entry, or is as before and the entry's call is not on the
+  -- group
+  pub each_taken : (starts old new : List A) → DispatchesOn represents gs place op x old new
+      → AreIndependent group represents gs starts old past
+      → AreIndependent group represents gs starts new (x ∷ past)
   each_taken starts old new hands each = λ i g here. (let was = each i g here in go i g here was.0 was.1 was.2 was.4 was.5 (hands.1 i was.1 was.3))
     where
       Stands : ℕ → Group → Type 0
-      Stands i g = (start : A) × (now : A) × (slice_get starts i ≡ Some start) × (slice_get new i ≡ Some now) × (group start ≡ g) × stands start now (x ∷ past)
+      Stands i g = (start : A) × (now : A) × (slice_get starts i ≡ Some start) × (slice_get new i ≡ Some now) × (group start ≡ g) × represents start now (x ∷ past)
 
       at_group : (i : ℕ) (g : Group) (b : Bool) → slice_get gs i ≡ Some g → is_on_at gs op i ≡ b
           → is_on g op ≡ b
@@ -399,8 +406,8 @@ module _ {A : Type 0} (group : A → Group) (stands : A → A → List Entry →
       none i false e off = e
 
       go : (i : ℕ) (g : Group) → slice_get gs i ≡ Some g → (start now : A)
-          → slice_get starts i ≡ Some start → group start ≡ g → stands start now past
-          → (b : A) × (slice_get new i ≡ Some b) × (((is_on_at gs op i ≡ true) × Hands stands place op x now b) ⊎ ((is_on_at gs op i ≡ true → ⊥) × (b ≡ now))) → Stands i g
+          → slice_get starts i ≡ Some start → group start ≡ g → represents start now past
+          → (b : A) × (slice_get new i ≡ Some b) × (((is_on_at gs op i ≡ true) × Dispatches represents place op x now b) ⊎ ((is_on_at gs op i ≡ true → ⊥) × (b ≡ now))) → Stands i g
       go i g here start now first of was (b, got, inl p) = (start, b, first, got, of, p.1 start past at is was)
       go i g here start now first of was (b, got, inr q) = (
         start,
@@ -408,14 +415,14 @@ module _ {A : Type 0} (group : A → Group) (stands : A → A → List Entry →
         first,
         got,
         of,
-        subst (λ z. stands start z (x ∷ past)) (sym q.1)
+        subst (λ z. represents start z (x ∷ past)) (sym q.1)
             (passes start now x past (ap (λ (k : Group). is_on k (op_at x past)) of ∙ ap (is_on g) (sym is) ∙ at_group i g false here (none i (is_on_at gs op i) refl q.0)) was),
       )
 
-  -- each audit was handed the entry if it goes to its group
-  pub handed_taken : (starts old new : List A) → goes_on x ≡ false
-      → HandsOn stands gs place op x old new → AreHanded stands gs starts old past
-      → AreHanded stands gs starts new (x ∷ past)
+  -- each audit was passed the entry if that is to be passed to its group
+  pub handed_taken : (starts old new : List A) → is_intermediate x ≡ false
+      → DispatchesOn represents gs place op x old new → AreHanded represents gs starts old past
+      → AreHanded represents gs starts new (x ∷ past)
   handed_taken starts old new ends hands h = (hands.0 ∙ h.0, λ i start first. (let k = h.1 i start first in go i start k.0 k.2 (hands.1 i k.0 k.1)))
     where
       goes : (i : ℕ) → goes_to gs i x past ≡ is_on_at gs op i
@@ -426,12 +433,13 @@ module _ {A : Type 0} (group : A → Group) (stands : A → A → List Entry →
       none i true e off = absurd (off e)
       none i false e off = e
 
-      own : (a b : A) → Hands stands place op x a b
-          → Hands stands (length past) (op_at x past) x a b
-      own a b h = subst (λ n. Hands stands n (op_at x past) x a b) at (subst (λ o. Hands stands place o x a b) is h)
+      own : (a b : A) → Dispatches represents place op x a b
+          → Dispatches represents (length past) (op_at x past) x a b
+      own a b h = subst (λ n. Dispatches represents n (op_at x past) x a b) at (subst (λ o. Dispatches represents place o x a b) is h)
 
-      go : (i : ℕ) (start now : A) → IsHanded stands (goes_to gs i) start now past
-          → (b : A) × (slice_get new i ≡ Some b) × (((is_on_at gs op i ≡ true) × Hands stands place op x now b) ⊎ ((is_on_at gs op i ≡ true → ⊥) × (b ≡ now)))
-          → (b : A) × (slice_get new i ≡ Some b) × IsHanded stands (goes_to gs i) start b (x ∷ past)
+      go : (i : ℕ) (start now : A) → IsDispatched represents (goes_to gs i) start now past
+          → (b : A) × (slice_get new i ≡ Some b) × (((is_on_at gs op i ≡ true) × Dispatches represents place op x now b) ⊎ ((is_on_at gs op i ≡ true → ⊥) × (b ≡ now)))
+          → (b : A) × (slice_get new i ≡ Some b)
+          × IsDispatched represents (goes_to gs i) start b (x ∷ past)
       go i start now was (b, got, inl p) = (b, got, (now, was, inl (goes i ∙ p.0, own now b p.1)))
       go i start now was (b, got, inr q) = (b, got, (now, was, inr (goes i ∙ none i (is_on_at gs op i) refl q.0, q.1)))

@@ -1,18 +1,18 @@
--- One walk over the entries of a run, for the audits of all groups.
+-- One pass over the entries of a run, for the audits of all groups.
 use Rattle.std.specs.Prelude.{◌≡◌, ◌⊎◌, ℕ, ◌+◌, ◌<◌, ◌≤◌, Bool, true, false, ◌||◌, ◌&&◌, not, List, [], ◌∷◌, length, Some, slice_get}
 use Rattle.std.specs.Option.{option_map_or}
 use Rattle.ec_core.specs.declared.act.Act.{Act}
 use Rattle.ec_core.specs.declared.act.Act.TheVariants.{Read, Ticket, Get}
 use Rattle.ec_core.specs.declared.act.Entry.{Entry}
-use Rattle.ec_core.specs.Calls.{under_way, goes_on}
-use Rattle.ec_core.specs.Following.{opened}
+use Rattle.ec_core.specs.Calls.{under_way, is_intermediate}
+use Rattle.ec_core.specs.Following.{opening_act}
 use Rattle.ec_buffer.specs.Follows as buffers
 use Rattle.ec_database.specs.Following as databases
 use Rattle.ec_semaphore.specs.Uses as semaphores
 use Rattle.ec_heading.specs.declared.group.Group.{Group}
 use Rattle.ec_heading.specs.declared.group.Group.TheVariants as groups
-use Rattle.ec_walk.specs.declared.table.Span.{Span}
-use Rattle.ec_walk.specs.declared.table.Table.{Table}
+use Rattle.ec_walk.specs.declared.group_table.Span.{Span}
+use Rattle.ec_walk.specs.declared.group_table.GroupTable.{GroupTable}
 
 -- WHICH GROUPS
 
@@ -23,17 +23,17 @@ names (groups.Database d) act = databases.is_on d act
 names (groups.Semaphore s) act = semaphores.is_on s act
 names (groups.Both s) act = semaphores.is_on s act
 
--- whether a group is about each call of its users, whatever it names: within a critical section of
--- `both` a worker makes no other
-abbrev pub is_wide : Group → Bool
-is_wide (groups.Buffer b) = false
-is_wide (groups.Database d) = false
-is_wide (groups.Semaphore s) = false
-is_wide (groups.Both s) = true
+-- whether a group is wide: about each call of its users, whatever it names. Within a critical
+-- section of `both` a worker makes no other call
+abbrev pub sees_every_call : Group → Bool
+sees_every_call (groups.Buffer b) = false
+sees_every_call (groups.Database d) = false
+sees_every_call (groups.Semaphore s) = false
+sees_every_call (groups.Both s) = true
 
 -- whether a call that an act begins is on a group
 abbrev pub is_on : Group → Act → Bool
-is_on g act = is_wide g || names g act
+is_on g act = sees_every_call g || names g act
 
 -- whether there is a group with this number, and it passes a test
 abbrev pub passes_at : List Group → (Group → Bool) → ℕ → Bool
@@ -41,21 +41,22 @@ passes_at gs test i = option_map_or test (slice_get gs i) false
 
 -- whether it is wide
 abbrev pub is_wide_at : List Group → ℕ → Bool
-is_wide_at gs i = passes_at gs is_wide i
+is_wide_at gs i = passes_at gs sees_every_call i
 
 -- whether a call that an act begins is on it
 abbrev pub is_on_at : List Group → Act → ℕ → Bool
 is_on_at gs act i = passes_at gs (λ g. is_on g act) i
 
--- whether it is wide; or, as it is asked, another of which an act names an object
+-- whether it is selected: whether it is wide, if the flag is true; otherwise whether it is another
+-- of which the act names an object
 abbrev pub is_asked_at : List Group → Bool → Act → ℕ → Bool
 is_asked_at gs true act i = is_wide_at gs i
-is_asked_at gs false act i = passes_at gs (λ g. not (is_wide g) && names g act) i
+is_asked_at gs false act i = passes_at gs (λ g. not (sees_every_call g) && names g act) i
 
 -- THE TABLE
 
--- the least span in which those of the first n groups are that pass a test: if it is not empty,
--- the groups at its two ends pass it
+-- the least span of those of the first n groups that pass a test: if it is not empty, the groups at
+-- its two ends pass it
 pub record CoversFirst (gs : List Group) (test : Group → Bool) (span : Span) (n : ℕ) : Type 0 where
   pub among : (i : ℕ) → i < n → (g : Group) → slice_get gs i ≡ Some g → test g ≡ true
       → (span.first ≤ i) × (i < span.end)
@@ -63,113 +64,121 @@ pub record CoversFirst (gs : List Group) (test : Group → Bool) (span : Span) (
   pub lowest : span.first < span.end → passes_at gs test span.first ≡ true
   pub highest : (i : ℕ) → span.end ≡ i + 1 → passes_at gs test i ≡ true
 
--- the least span in which the groups are that pass a test
+-- the least span of the groups that pass a test
 pub record Covers (gs : List Group) (test : Group → Bool) (span : Span) : Type 0 where
   pub among : (i : ℕ) (g : Group) → slice_get gs i ≡ Some g → test g ≡ true
       → (span.first ≤ i) × (i < span.end)
   pub lowest : span.first < span.end → passes_at gs test span.first ≡ true
   pub highest : (i : ℕ) → span.end ≡ i + 1 → passes_at gs test i ≡ true
 
--- the least span in which the groups are of which an act names an object
+-- the least span of the groups of which an act names an object
 abbrev pub CoversAct : List Group → Act → Span → Type 0
 CoversAct gs act span = Covers gs (λ g. names g act) span
 
--- so is what stands at a place of a table
+-- the span at a position of a table is such a span
 abbrev pub CoversAt : List Group → Act → List Span → ℕ → Type 0
 CoversAt gs act spans place = (span : Span) → slice_get spans place ≡ Some span → CoversAct gs act span
 
--- by object, the least span of the groups that it is of; and that of the wide ones
-pub record IsTable (gs : List Group) (table : Table) : Type 0 where
+-- the least span of the groups of each object, and that of the wide groups
+pub record IsTable (gs : List Group) (table : GroupTable) : Type 0 where
   pub events : (e : ℕ) → e < 32 → CoversAt gs (Read e) table.events e
   pub sequencers : (q : ℕ) → q < 32 → CoversAt gs (Ticket q) table.sequencers q
   pub cells : (x : ℕ) → x < 256 → CoversAt gs (Get x) table.cells x
-  pub wide : Covers gs is_wide table.wide
+  pub wide : Covers gs sees_every_call table.wide
 
--- THE AUDITS. `stands start now past` says what an audit is after a past that it was handed from its
--- start on, as `Audit` of ec_core has it, and `group start` is the group that it is the audit of
+-- THE AUDITS. `represents start now past` says that an audit is now after the reversed history
+-- past, if it was start before, as `Audit` of ec_core has it. `group start` is the group that it
+-- audits
 
--- an audit has taken an entry in, given the entry's place and the act that began its call
-abbrev pub Hands : {A : Type 0} → (A → A → List Entry → Type 0) → ℕ → Act → Entry → A → A → Type 0
-Hands {A} stands place op x old new =
+-- an audit has processed an entry, given the entry's position and the act that began its call
+abbrev pub Dispatches : {A : Type 0} → (A → A → List Entry → Type 0) → ℕ → Act → Entry → A → A
+    → Type 0
+Dispatches {A} represents place op x old new =
     (start : A) (past : List Entry) → place ≡ length past
-    → op ≡ opened x.act (under_way x.worker past) → stands start old past → stands start new (x ∷ past)
+    → op ≡ opening_act x.act (under_way x.worker past) → represents start old past → represents start new (x ∷ past)
 
--- of a list of audits, those with the numbers that are picked have taken an entry in; the others are
--- as before, and none is added or taken away
-abbrev pub HandsWhere : {A : Type 0} → (A → A → List Entry → Type 0) → (ℕ → Type 0) → ℕ → Act → Entry
+-- of a list of audits, those with the numbers that are picked have processed an entry; the others
+-- are as before, and none is added or removed
+abbrev pub DispatchesWhere : {A : Type 0} → (A → A → List Entry → Type 0) → (ℕ → Type 0) → ℕ → Act → Entry
     → List A → List A → Type 0
-HandsWhere {A} stands IsPicked place op x old new = (length new ≡ length old)
+DispatchesWhere {A} represents IsPicked place op x old new = (length new ≡ length old)
     × ((i : ℕ) (a : A) → slice_get old i ≡ Some a → (b : A) × (slice_get new i ≡ Some b)
-    × ((IsPicked i × Hands stands place op x a b) ⊎ ((IsPicked i → ⊥) × (b ≡ a))))
+    × ((IsPicked i × Dispatches represents place op x a b) ⊎ ((IsPicked i → ⊥) × (b ≡ a))))
 
--- so the one with this number has
-abbrev pub HandsTo : {A : Type 0} → (A → A → List Entry → Type 0) → ℕ → ℕ → Act → Entry → List A
+-- only the audit with this number has processed it
+abbrev pub DispatchesTo : {A : Type 0} → (A → A → List Entry → Type 0) → ℕ → ℕ → Act → Entry
+    → List A
     → List A → Type 0
-HandsTo stands number place op x old new = HandsWhere stands (λ i. i ≡ number) place op x old new
+DispatchesTo represents number place op x old new =
+    DispatchesWhere represents (λ i. i ≡ number) place op x old new
 
--- so has the one with this number, if its group is wide; or if that is not and is named, as it is
--- asked
-abbrev pub HandsAt : {A : Type 0} → (A → A → List Entry → Type 0) → List Group → Bool → ℕ → ℕ → Act
+-- only the audit with this number has processed it, if its group is selected
+abbrev pub DispatchesAt : {A : Type 0} → (A → A → List Entry → Type 0) → List Group → Bool → ℕ → ℕ
+    → Act
     → Entry → List A → List A → Type 0
-HandsAt stands gs wide number place op x old new =
-    HandsWhere stands (λ i. (i ≡ number) × (is_asked_at gs wide op i ≡ true)) place op x old new
+DispatchesAt represents gs wide number place op x old new =
+    DispatchesWhere represents (λ i. (i ≡ number)
+    × (is_asked_at gs wide op i ≡ true)) place op x old new
 
--- so have those of the groups from `first` on, before `end`, that are wide, or that are not and are
--- named, as it is asked
-abbrev pub HandsAmong : {A : Type 0} → (A → A → List Entry → Type 0) → List Group → Bool → ℕ → ℕ → ℕ
+-- exactly the audits of the selected groups from `first` on, before `end`, have processed it
+abbrev pub DispatchesAmong : {A : Type 0} → (A → A → List Entry → Type 0) → List Group → Bool → ℕ
+    → ℕ → ℕ
     → Act → Entry → List A → List A → Type 0
-HandsAmong stands gs wide first end place op x old new =
-    HandsWhere stands (λ i. (first ≤ i) × (i < end) × (is_asked_at gs wide op i ≡ true)) place op x old new
+DispatchesAmong represents gs wide first end place op x old new =
+    DispatchesWhere represents (λ i. (first ≤ i) × (i < end) × (is_asked_at gs wide op i ≡ true)) place op x old new
 
--- so have those of the groups that a call is on
-abbrev pub HandsOn : {A : Type 0} → (A → A → List Entry → Type 0) → List Group → ℕ → Act → Entry
+-- exactly the audits of the groups that a call is on have processed it
+abbrev pub DispatchesOn : {A : Type 0} → (A → A → List Entry → Type 0) → List Group → ℕ → Act
+    → Entry
     → List A → List A → Type 0
-HandsOn stands gs place op x old new =
-    HandsWhere stands (λ i. is_on_at gs op i ≡ true) place op x old new
+DispatchesOn represents gs place op x old new =
+    DispatchesWhere represents (λ i. is_on_at gs op i ≡ true) place op x old new
 
--- whether an entry after a past goes to the audit of the group with this number: it ends its call or
--- is not a go, and the call is on the group
+-- whether an entry after past is passed to the audit of the group with this number: it ends its
+-- call or is not a go, and the call is on the group
 abbrev pub goes_to : List Group → ℕ → Entry → List Entry → Bool
-goes_to gs i x past = not (goes_on x) && is_on_at gs (opened x.act (under_way x.worker past)) i
+goes_to gs i x past =
+    not (is_intermediate x) && is_on_at gs (opening_act x.act (under_way x.worker past)) i
 
--- an audit took an entry in at the end of a past
-abbrev pub HandsNext : {A : Type 0} → (A → A → List Entry → Type 0) → Entry → List Entry → A → A → Type 0
-HandsNext stands x past old new =
-    Hands stands (length past) (opened x.act (under_way x.worker past)) x old new
+-- an audit has processed an entry after past
+abbrev pub DispatchesNext : {A : Type 0} → (A → A → List Entry → Type 0) → Entry → List Entry → A → A → Type 0
+DispatchesNext represents x past old new =
+    Dispatches represents (length past) (opening_act x.act (under_way x.worker past)) x old new
 
--- what an audit has come to that was handed, of a past, the entries that are picked, and no others
-abbrev pub IsHanded : {A : Type 0} → (A → A → List Entry → Type 0) → (Entry → List Entry → Bool) → A
+-- an audit, which was start, is now after it was passed exactly the entries of past that are picked
+abbrev pub IsDispatched : {A : Type 0} → (A → A → List Entry → Type 0) → (Entry → List Entry → Bool)
+    → A
     → A → List Entry → Type 0
-IsHanded stands picks start now [] = now ≡ start
-IsHanded {A} stands picks start now (x ∷ past) = (before : A) × IsHanded stands picks start before past
-    × (((picks x past ≡ true) × HandsNext stands x past before now)
+IsDispatched represents picks start now [] = now ≡ start
+IsDispatched {A} represents picks start now (x ∷ past) = (before : A) × IsDispatched represents picks start before past
+    × (((picks x past ≡ true) × DispatchesNext represents x past before now)
     ⊎ ((picks x past ≡ false) × (now ≡ before)))
 
--- each audit of a list was handed the entries whose calls are on its own group, but for the gos that
--- end no call, and no others; they stand in the order in which they stood, and none was added or
--- taken away
+-- each audit of a list was passed exactly the entries whose calls are on its own group, except the
+-- gos that end no call; the audits are in the same order, and none was added or removed
 abbrev pub AreHanded : {A : Type 0} → (A → A → List Entry → Type 0) → List Group → List A → List A
     → List Entry → Type 0
-AreHanded {A} stands gs starts list past = (length list ≡ length starts)
+AreHanded {A} represents gs starts list past = (length list ≡ length starts)
     × ((i : ℕ) (start : A) → slice_get starts i ≡ Some start
-    → (now : A) × (slice_get list i ≡ Some now) × IsHanded stands (goes_to gs i) start now past)
+    → (now : A) × (slice_get list i ≡ Some now)
+    × IsDispatched represents (goes_to gs i) start now past)
 
--- each group had its audit, in order, and has it after a past: what that would be if it had walked
--- alone
-abbrev pub AreWalked : {A : Type 0} → (A → Group) → (A → A → List Entry → Type 0) → List Group → List A
+-- each group had its audit, in order, and has it after past, as it would be after a pass of its own
+abbrev pub AreIndependent : {A : Type 0} → (A → Group) → (A → A → List Entry → Type 0) → List Group → List A
     → List A → List Entry → Type 0
-AreWalked {A} group stands gs starts list past = (i : ℕ) (g : Group) → slice_get gs i ≡ Some g
+AreIndependent {A} group represents gs starts list past = (i : ℕ) (g : Group)
+    → slice_get gs i ≡ Some g
     → (start : A) × (now : A) × (slice_get starts i ≡ Some start) × (slice_get list i ≡ Some now)
-    × (group start ≡ g) × stands start now past
+    × (group start ≡ g) × represents start now past
 
--- what a walk keeps, as a contract sees it: the groups, and their audits in order
-pub record Walking (A : Type 0) : Type 0 where
+-- the state of a pass in contracts: the groups, and their audits in order
+pub record GroupAuditsModel (A : Type 0) : Type 0 where
   pub groups : List Group
   pub audits : List A
 
--- the walk has come this far
-abbrev pub WalksOn : {A : Type 0} → (A → Group) → (A → A → List Entry → Type 0) → Walking A → Walking A
+-- the pass has processed past
+abbrev pub WalksOn : {A : Type 0} → (A → Group) → (A → A → List Entry → Type 0) → GroupAuditsModel A → GroupAuditsModel A
     → List Entry → Type 0
-WalksOn group stands start now past = (now.groups ≡ start.groups)
-    × AreWalked group stands start.groups start.audits now.audits past
-    × AreHanded stands start.groups start.audits now.audits past
+WalksOn group represents start now past = (now.groups ≡ start.groups)
+    × AreIndependent group represents start.groups start.audits now.audits past
+    × AreHanded represents start.groups start.audits now.audits past

@@ -1,7 +1,7 @@
-//! One walk over the entries of a run, for the audits of all groups of a heading.
+//! One pass over the entries of a run, for the audits of all groups of a header.
 #![tactic(auto)]
 
-mod table;
-mod walked;
+mod group_audits;
+mod group_table;
 
-pub use walked::{GroupAudit, Walked, walk_groups};
+pub use group_audits::{GroupAudit, GroupAudits, walk_groups};

@@ -1,10 +1,10 @@
 //! `evc`: a tool for histories of eventcounts and sequencers.
 #![tactic(auto)]
 
-use ec_text::Out;
+use ec_text::Output;
+use evc_cli::{status_of, task};
 use evc_engine::Status;
 use evc_scripts::engine;
-use evc_task::{status_of, task};
 use std::alloc::AllocError;
 use std::env;
 use std::io::ErrorKind;
@@ -13,7 +13,7 @@ use std::process::ExitCode;
 fn main(rt: HostRuntime) -> ExitCode {
     let alloc = rt.alloc();
     let mut stderr = rt.stderr();
-    let mut notes = Out::new(&mut stderr);
+    let mut notes = Output::new(&mut stderr);
     let words: Result<Vec<String>, AllocError> = match env::args(&rt) {
         Ok(args) => args.collect(alloc),
         Err(error) => {
@@ -41,7 +41,7 @@ fn main(rt: HostRuntime) -> ExitCode {
             ExitCode::from(status.code())
         }
         Err(error) => {
-            // (help goes to standard output, and that a note could not be written is not told)
+            // (help goes to standard output; a note that could not be written is not reported)
             if error.print(&rt).is_err() && !error.use_stderr() {
                 notes.say(b"write fault\n");
                 return ExitCode::from(Status::InputOutput.code());

@@ -1,7 +1,7 @@
--- What a contract says of writers that held something at first, said of writers that held nothing.
+-- What a contract says of writers that had some contents at first, stated of empty writers.
 use Rattle.std.proofs.Common.{◌≡◌, inl, inr, ℕ, Bool, length, List, [], ◌++◌, Option, None, Some, codes, refl, sym, ap, ◌∙◌, take, append-nil, subst}
 use Rattle.std.specs.Io.KnownBytes.{Appends, Keeps}
-use Rattle.ec_text.specs.Puts.{AppendsPrefix, Outgoing, Puts, at_first, IsWrittenOut}
+use Rattle.ec_text.specs.Puts.{AppendsPrefix, OutputModel, Puts, at_first, IsWrittenOut}
 use Rattle.evc_engine.specs.declared.status.Status.TheVariants.{Done, Refused, Usage, InputOutput, Memory, Stopped}
 use Rattle.evc_engine.specs.Checks.{Checks, text_for}
 use Rattle.evc_engine.specs.Audits.{Audits}
@@ -12,13 +12,13 @@ use Rattle.calls_report.specs.declared.status.Status as calls
 use Rattle.calls_report.specs.declared.status.Status.TheVariants as ends
 use Rattle.calls_report.specs.Checks as calls_checks
 use Rattle.calls_report.specs.Checks.{ChecksText, IsTooLarge, IsNothingRead, texts_of}
-use Rattle.evc_c.specs.Answers.{ContractBy, Contract, AnswersBy, IsCode, outlets, calls_outlets}
+use Rattle.evc_c.specs.Answers.{ContractBy, Contract, AnswersBy, IsCode, outputs, calls_outputs}
 use Rattle.evc_c.specs.Rooms.{room_holds, FillsBy}
 use Rattle.evc_c.specs.declared.room.Room.{Room}
 
 -- THE TEXT
 
--- what was there stands in front of what is there now, which is P by itself
+-- the bytes that were there are a prefix of those that are there now, and the rest satisfies P
 abbrev pub Grown : List ℕ → List ℕ → (List ℕ → Type 0) → Type 0
 Grown a c P = (w : List ℕ) × (c ≡ a ++ w) × P w
 
@@ -33,17 +33,18 @@ fronted a c bs p = (p.0, p.3, (p.0, p.1, p.2, refl, p.4))
 
 -- THE COMMANDS
 
--- what a command wrote stands behind what was there, and by itself it is what the command would have written if nothing was
-abbrev pub GrowsAt : {S O : Type 0} → (List ℕ → Outgoing → O) → ContractBy S O → List ℕ → Option (List ℕ) → S → (first last : Outgoing) → List ℕ → List ℕ
+-- what a command wrote follows what was there, and is what the command would have written to an
+-- empty writer
+abbrev pub GrowsAt : {S O : Type 0} → (List ℕ → OutputModel → O) → ContractBy S O → List ℕ → Option (List ℕ) → S → (first last : OutputModel) → List ℕ → List ℕ
     → Type 0
-GrowsAt outlets Does bytes left status first last a c = Grown a c (λ w. Does bytes left status (outlets [] first) (outlets w last))
+GrowsAt outputs Does bytes left status first last a c = Grown a c (λ w. Does bytes left status (outputs [] first) (outputs w last))
 
-abbrev pub GrowsBy : {S O : Type 0} → (List ℕ → Outgoing → O) → ContractBy S O → Type 0
-GrowsBy {S} {O} outlets Does = (bytes : List ℕ) (left : Option (List ℕ)) (status : S) (first last : Outgoing) (a c : List ℕ)
-    → Does bytes left status (outlets a first) (outlets c last) → GrowsAt outlets Does bytes left status first last a c
+abbrev pub GrowsBy : {S O : Type 0} → (List ℕ → OutputModel → O) → ContractBy S O → Type 0
+GrowsBy {S} {O} outputs Does = (bytes : List ℕ) (left : Option (List ℕ)) (status : S) (first last : OutputModel) (a c : List ℕ)
+    → Does bytes left status (outputs a first) (outputs c last) → GrowsAt outputs Does bytes left status first last a c
 
 abbrev pub Grows : Contract → Type 0
-Grows Does = GrowsBy outlets Does
+Grows Does = GrowsBy outputs Does
 
 pub check_grows : Grows Checks
 check_grows bytes left Done first last a c p =
@@ -129,9 +130,9 @@ sim_grows bytes left Stopped first last a c p = absurd p
 
 -- HISTORIES OF CALLS
 
-text_grows : (status : calls.Status) (bytes : List ℕ) (first last : Outgoing) (a c : List ℕ)
-    → ChecksText status bytes (calls_outlets a first) (calls_outlets c last)
-    → Grown a c (λ w. ChecksText status bytes (calls_outlets [] first) (calls_outlets w last))
+text_grows : (status : calls.Status) (bytes : List ℕ) (first last : OutputModel) (a c : List ℕ)
+    → ChecksText status bytes (calls_outputs a first) (calls_outputs c last)
+    → Grown a c (λ w. ChecksText status bytes (calls_outputs [] first) (calls_outputs w last))
 text_grows ends.InputOutput bytes first last a c p =
     let out = fronted a c (texts_of p.1) p.4 in
     (out.0, out.1, (p.0, p.1, p.2, p.3, out.2, p.5))
@@ -151,9 +152,9 @@ text_grows ends.NotDecided bytes first last a c p =
     let out = appended a c (texts_of p.0) p.2 in
     (out.0, out.1, (p.0, p.1, out.2))
 
-large_grows : (status : calls.Status) (bytes : List ℕ) (first last : Outgoing) (a c : List ℕ)
-    → IsTooLarge status bytes (calls_outlets a first) (calls_outlets c last)
-    → Grown a c (λ w. IsTooLarge status bytes (calls_outlets [] first) (calls_outlets w last))
+large_grows : (status : calls.Status) (bytes : List ℕ) (first last : OutputModel) (a c : List ℕ)
+    → IsTooLarge status bytes (calls_outputs a first) (calls_outputs c last)
+    → Grown a c (λ w. IsTooLarge status bytes (calls_outputs [] first) (calls_outputs w last))
 large_grows ends.Refused bytes first last a c p =
     let out = kept a c p.1 in
     (out.0, out.1, (p.0, out.2, p.2))
@@ -163,9 +164,9 @@ large_grows ends.InputOutput bytes first last a c p = absurd p
 large_grows ends.Memory bytes first last a c p = absurd p
 large_grows ends.NotDecided bytes first last a c p = absurd p
 
-unread_grows : (status : calls.Status) (bytes : List ℕ) (left : Option (List ℕ)) (first last : Outgoing) (a c : List ℕ)
-    → IsNothingRead status bytes left (calls_outlets a first) (calls_outlets c last)
-    → Grown a c (λ w. IsNothingRead status bytes left (calls_outlets [] first) (calls_outlets w last))
+unread_grows : (status : calls.Status) (bytes : List ℕ) (left : Option (List ℕ)) (first last : OutputModel) (a c : List ℕ)
+    → IsNothingRead status bytes left (calls_outputs a first) (calls_outputs c last)
+    → Grown a c (λ w. IsNothingRead status bytes left (calls_outputs [] first) (calls_outputs w last))
 unread_grows ends.InputOutput bytes left first last a c p =
     let out = kept a c p.1 in
     (out.0, out.1, (p.0, out.2, p.2))
@@ -177,7 +178,7 @@ unread_grows ends.Refused bytes left first last a c p = absurd p
 unread_grows ends.Usage bytes left first last a c p = absurd p
 unread_grows ends.NotDecided bytes left first last a c p = absurd p
 
-pub calls_check_grows : GrowsBy calls_outlets calls_checks.Checks
+pub calls_check_grows : GrowsBy calls_outputs calls_checks.Checks
 calls_check_grows bytes left status first last a c (inl p) =
     let out = text_grows status bytes first last a c p.1 in
     (out.0, out.1, inl (p.0, out.2))
@@ -188,32 +189,32 @@ calls_check_grows bytes left status first last a c (inr (inr p)) =
     let out = unread_grows status bytes left first last a c p in
     (out.0, out.1, inr (inr out.2))
 
--- THE CALLER'S BYTES
+-- THE CALLER'S BUFFERS
 
--- a room in which nothing was written, and what is written in it behind that
+-- a buffer in which nothing was written, and what was then written in it
 grown : (r new : Room) (w : List ℕ) → r.len ≡ 0 → room_holds new ≡ room_holds r ++ w → (new.bytes.ghost_name ≡ r.bytes.ghost_name) × (take new.len new.bytes.now ≡ w)
 grown r new w none e =
     let name : new.bytes.ghost_name ≡ r.bytes.ghost_name = cc in
     let rest : take new.len new.bytes.now ≡ take r.len r.bytes.now ++ w = cc in
     (name, rest ∙ ap (λ (n : ℕ). take n r.bytes.now ++ w) none)
 
-pub fills : {S O : Type 0} (outlets : List ℕ → Outgoing → O) (Does : ContractBy S O) → GrowsBy outlets Does
-    → (bytes : List ℕ) (left : Option (List ℕ)) (status : S) (first last : Outgoing) (r new : Room)
-    → r.len ≡ 0 → Does bytes left status (outlets (room_holds r) first) (outlets (room_holds new) last) → (IsWrittenOut first → IsWrittenOut last)
-    → FillsBy outlets Does bytes status r new first last
-fills outlets Does grows bytes left status first last r new empty p written =
+pub fills : {S O : Type 0} (outputs : List ℕ → OutputModel → O) (Does : ContractBy S O) → GrowsBy outputs Does
+    → (bytes : List ℕ) (left : Option (List ℕ)) (status : S) (first last : OutputModel) (r new : Room)
+    → r.len ≡ 0 → Does bytes left status (outputs (room_holds r) first) (outputs (room_holds new) last) → (IsWrittenOut first → IsWrittenOut last)
+    → FillsBy outputs Does bytes status r new first last
+fills outputs Does grows bytes left status first last r new empty p written =
     let done = grows bytes left status first last (room_holds r) (room_holds new) p in
     let out = grown r new done.0 empty done.1 in
     record {
       same = out.0;
       left = left;
-      ends = subst (λ (w : List ℕ). Does bytes left status (outlets [] first) (outlets w last)) (sym out.1) done.2;
+      ends = subst (λ (w : List ℕ). Does bytes left status (outputs [] first) (outputs w last)) (sym out.1) done.2;
       written = written;
     }
 
--- where there was no memory before anything was read
-pub no_memory_fills : (bytes : List ℕ) (r : Room) (first last : Outgoing) → r.len ≡ 0 → Puts first last (codes "no memory\n")
-    → IsWrittenOut last → FillsBy calls_outlets calls_checks.Checks bytes ends.Memory r r first last
+-- memory ran out before anything was read
+pub no_memory_fills : (bytes : List ℕ) (r : Room) (first last : OutputModel) → r.len ≡ 0 → Puts first last (codes "no memory\n")
+    → IsWrittenOut last → FillsBy calls_outputs calls_checks.Checks bytes ends.Memory r r first last
 no_memory_fills bytes r first last empty puts written = record {
   same = refl;
   left = None;
@@ -221,26 +222,26 @@ no_memory_fills bytes r first last empty puts written = record {
   written = λ _. written;
 }
 
--- and what is then answered, of the caller's bytes
-pub answers : {S O : Type 0} (code_of : S → ℕ) (outlets : List ℕ → Outgoing → O) (Does : ContractBy S O) (bytes : List ℕ) (status : S) (code given : ℕ) (is_cut : Bool) (many : ℕ)
-    (r new : Room) (writer : ℕ) (first last : Outgoing) (start noted text notes : List ℕ) (m n room : ℕ)
-    → FillsBy outlets Does bytes status r new first last → first ≡ at_first writer (Some start) → start ≡ [] → Some noted ≡ last.contents
+-- what is returned then, for the caller's bytes
+pub answers : {S O : Type 0} (code_of : S → ℕ) (outputs : List ℕ → OutputModel → O) (Does : ContractBy S O) (bytes : List ℕ) (status : S) (code given : ℕ) (is_cut : Bool) (many : ℕ)
+    (r new : Room) (writer : ℕ) (first last : OutputModel) (start noted text notes : List ℕ) (m n room : ℕ)
+    → FillsBy outputs Does bytes status r new first last → first ≡ at_first writer (Some start) → start ≡ [] → Some noted ≡ last.contents
     → text ≡ new.bytes.now → m ≡ new.len → IsCode code given is_cut many room → given ≡ code_of status → is_cut ≡ last.failed → many ≡ length noted → take n notes ≡ take room noted
-    → AnswersBy code_of outlets Does bytes code (take m text) (take n notes) room
-answers code_of outlets Does bytes status code given is_cut many r new writer first last start noted text notes m n room f at none holds is len is_code by cut long told =
+    → AnswersBy code_of outputs Does bytes code (take m text) (take n notes) room
+answers code_of outputs Does bytes status code given is_cut many r new writer first last start noted text notes m n room f at none holds is len is_code by cut long returned =
     let e : first ≡ at_first writer (Some []) = at ∙ ap (λ (k : List ℕ). at_first writer (Some k)) none in
-    let ends : Does bytes f.left status (outlets [] (at_first writer (Some []))) (outlets (take new.len new.bytes.now) last)
-    = subst (λ (o : Outgoing). Does bytes f.left status (outlets [] o) (outlets (take new.len new.bytes.now) last)) e f.ends in
+    let ends : Does bytes f.left status (outputs [] (at_first writer (Some []))) (outputs (take new.len new.bytes.now) last)
+    = subst (λ (o : OutputModel). Does bytes f.left status (outputs [] o) (outputs (take new.len new.bytes.now) last)) e f.ends in
     record {
       status = status;
       left = f.left;
       writer = writer;
       last = last;
-      ends = subst (λ (w : List ℕ). Does bytes f.left status (outlets [] (at_first writer (Some []))) (outlets w last)) (sym (ap (λ (k : ℕ). take k text) len ∙ ap (take new.len) is)) ends;
-      written = subst (λ (o : Outgoing). IsWrittenOut o → IsWrittenOut last) e f.written (λ _. refl);
+      ends = subst (λ (w : List ℕ). Does bytes f.left status (outputs [] (at_first writer (Some []))) (outputs w last)) (sym (ap (λ (k : ℕ). take k text) len ∙ ap (take new.len) is)) ends;
+      written = subst (λ (o : OutputModel). IsWrittenOut o → IsWrittenOut last) e f.written (λ _. refl);
       noted = noted;
       holds = sym holds;
-      told = told;
+      returned = returned;
       is = subst (λ (k : ℕ). IsCode code (code_of status) last.failed k room) long
           (subst (λ (b : Bool). IsCode code (code_of status) b many room) cut (subst (λ (k : ℕ). IsCode code k is_cut many room) by is_code));
     }

@@ -1,4 +1,4 @@
--- What the walks of the calls on a monitor begin, go on and end with.
+-- What the proofs of the functions on a monitor have in common.
 pub use Rattle.std.proofs.Common.{◌≡◌, ℕ, List, [], ◌∷◌, refl, ap, length, w8, w64}
 pub use Rattle.std.proofs.raw_atomic.Walks.{proved}
 pub use base.Fraction.{full_share}

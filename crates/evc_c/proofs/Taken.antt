@@ -1,11 +1,11 @@
--- What follows of the lines that a monitor has taken.
+-- What follows from the lines that a monitor has checked.
 use Rattle.std.proofs.Common.{◌≡◌, refl, sym, ap, subst, ◌∙◌, ℕ, List, [], ◌∷◌, ◌++◌, take, Some}
 use Rattle.std.proofs.Common.{Result, Ok, Err}
-use Rattle.ec_text.specs.Puts.{Outgoing, at_first, IsWrittenOut}
+use Rattle.ec_text.specs.Puts.{OutputModel, at_first, IsWrittenOut}
 use Rattle.calls_report.specs.declared.status.Status.{Status}
 use Rattle.calls_watch.specs.declared.stop.Stop.{Stop}
 use Rattle.calls_watch.specs.declared.watcher.Watcher.{Watcher}
-use Rattle.calls_watch.specs.kept.Watching.{IsWatching, Stops, GoesOn}
+use Rattle.calls_watch.specs.kept.Watching.{IsWatching, Stops, StateAfterLine}
 use Rattle.calls_watch.specs.kept.Endings.{SaysStop}
 use Rattle.evc_c.specs.declared.monitor.Monitor.{Monitor}
 use Rattle.evc_c.specs.declared.monitor.Stage.{Stage}
@@ -25,7 +25,7 @@ Answer = Result (Unit {0}) Stop
 abbrev Leads : List ℕ → Answer → Watcher → Watcher → Type 0
 Leads line result old new =
     (ps qs : List (List ℕ)) (q : List ℕ)
-    → IsWatching ps (line ∷ q ∷ qs) old → GoesOn result ps (q ∷ qs) new
+    → IsWatching ps (line ∷ q ∷ qs) old → StateAfterLine result ps (q ∷ qs) new
 
 pub goes_on : (lines : List (List ℕ)) (line : List ℕ) (old new : Watcher) (result : Answer)
     (u : Unit {0}) → Leads line result old new → result ≡ Ok u → HasTaken lines old
@@ -33,8 +33,9 @@ pub goes_on : (lines : List (List ℕ)) (line : List ℕ) (old new : Watcher) (r
 goes_on lines line old new result u leads ok taken q qs =
     let rest = q ∷ qs in
     let text = lines ++ line ∷ rest in
-    let went : GoesOn result text rest new = leads text qs q (taken line rest) in
-    let is : IsWatching text rest new = subst (λ (r : Answer). GoesOn r text rest new) ok went in
+    let went : StateAfterLine result text rest new = leads text qs q (taken line rest) in
+    let is : IsWatching text rest new =
+    subst (λ (r : Answer). StateAfterLine r text rest new) ok went in
     subst (λ (ps : List (List ℕ)). IsWatching ps rest new) (one_more lines line rest) is
 
 pub is_stopped : (lines : List (List ℕ)) (line : List ℕ) (old new : Watcher) (result : Answer)
@@ -43,27 +44,28 @@ pub is_stopped : (lines : List (List ℕ)) (line : List ℕ) (old new : Watcher)
 is_stopped lines line old new result stop leads err taken q qs =
     let rest = q ∷ qs in
     let text = lines ++ line ∷ rest in
-    let went : GoesOn result text rest new = leads text qs q (taken line rest) in
-    let is : Stops stop text new = subst (λ (r : Answer). GoesOn r text rest new) err went in
+    let went : StateAfterLine result text rest new = leads text qs q (taken line rest) in
+    let is : Stops stop text new =
+    subst (λ (r : Answer). StateAfterLine r text rest new) err went in
     subst (λ (ps : List (List ℕ)). Stops stop ps new) (one_more lines line rest) is
 
--- what is handed out of a note
-pub said : (m : Monitor) (stop : Stop) (status : Status) (writer room : ℕ) (first last : Outgoing)
+-- what is copied of a note
+pub said : (m : Monitor) (stop : Stop) (status : Status) (writer room : ℕ) (first last : OutputModel)
     (start held note : List ℕ) → m.stage ≡ Stopped stop
     → ((ps : List (List ℕ)) → Stops stop ps m.watcher → SaysStop ps status first last)
     → IsWrittenOut last
     → first ≡ at_first writer (Some start) → start ≡ [] → Some held ≡ last.contents
     → note ≡ take room held → IsNoteOf m room note
-said m stop status writer room first last start held note at says written is none holds told =
+said m stop status writer room first last start held note at says written is none holds returned =
     let e : first ≡ at_first writer (Some []) = is ∙ ap (λ (k : List ℕ). at_first writer
     (Some k)) none in
     subst (λ (stage : Stage). IsNoteAt stage m.watcher room note) (sym at) (λ ps stops. record {
       status = status;
       writer = writer;
       last = last;
-      says = subst (λ (o : Outgoing). SaysStop ps status o last) e (says ps stops);
+      says = subst (λ (o : OutputModel). SaysStop ps status o last) e (says ps stops);
       written = written;
       noted = held;
       holds = sym holds;
-      told = told;
+      returned = returned;
     })

@@ -1,7 +1,7 @@
--- Histories of calls that are judged line by line: what a monitor represents, and what a call on it
--- does.
+-- Histories of calls that are checked line by line: what a monitor represents, and what a function
+-- on it does.
 use Rattle.std.specs.Prelude.{◌≡◌, ◌≤◌, ℕ, List, [], ◌∷◌, ◌++◌, length, take, drop, Some}
-use Rattle.ec_text.specs.Puts.{Outgoing, at_first, IsWrittenOut}
+use Rattle.ec_text.specs.Puts.{OutputModel, at_first, IsWrittenOut}
 use Rattle.calls_text.specs.declared.fault.TextFault.TheVariants as faults
 use Rattle.calls_report.specs.declared.status.Status.{Status}
 use Rattle.calls_report.specs.declared.status.Status.TheVariants.{Done, Refused, Usage, Memory}
@@ -19,12 +19,12 @@ use Rattle.evc_c.specs.declared.monitor.Stage.TheVariants.{Open, Stopped, Ended,
 
 -- WHAT IT REPRESENTS
 
--- these lines came, and the text may go on: of each text that begins with them they are what was
--- judged
+-- these lines were checked, and the text may continue: they are what was checked of each text that
+-- begins with them
 abbrev pub HasTaken : List (List ℕ) → Watcher → Type 0
 HasTaken lines w = (q : List ℕ) (qs : List (List ℕ)) → IsWatching (lines ++ q ∷ qs) (q ∷ qs) w
 
--- with the last of these lines each text that begins with them is stopped
+-- the last of these lines stops each text that begins with them
 abbrev pub IsStoppedWith : Stop → List (List ℕ) → Watcher → Type 0
 IsStoppedWith stop lines w = (q : List ℕ) (qs : List (List ℕ)) → Stops stop (lines ++ q ∷ qs) w
 
@@ -46,14 +46,14 @@ status_at (Stopped stop) = stop_status stop
 status_at Ended = Usage
 status_at Closed = Usage
 
--- a monitor that is not open stays as it was: one that was stopped answers as it did, and one that
--- has ended or was closed has no use
+-- a monitor that is not open stays as it was: the status is that of the stop if it was stopped, and
+-- Usage if it has ended or was closed
 abbrev pub Stays : Status → Monitor → Monitor → Type 0
 Stays status old new = (status ≡ status_at old.stage) × (new ≡ old)
 
 -- LINES
 
--- where these lines have come
+-- the state after these lines
 abbrev pub GoesOnAt : Stage → Status → List (List ℕ) → Watcher → Type 0
 GoesOnAt Open status lines w = (status ≡ Done) × HasTaken lines w
 GoesOnAt (Stopped stop) status lines w = (status ≡ stop_status stop) × IsStoppedWith stop lines w
@@ -75,7 +75,7 @@ TakesLine line code old new = (status : Status) × (code ≡ status_code status)
 
 -- THE END
 
--- the text has ended with the last of these lines
+-- the state after the text has ended with the last of these lines
 abbrev pub EndsAt : Stage → Status → List (List ℕ) → Watcher → Type 0
 EndsAt Ended status lines w = (status ≡ Done) × IsOver (lines ++ [] ∷ []) w
 EndsAt (Stopped stop) status lines w = (status ≡ stop_status stop) × Stops stop (lines ++ [] ∷ []) w
@@ -96,36 +96,37 @@ EndsText code old new = (status : Status) × (code ≡ status_code status)
 
 -- NOTES
 
--- of the note that is written of a text with these parts this is as much as there is room for
-pub record IsSaid (ps : List (List ℕ)) (room : ℕ) (note : List ℕ) : Type 0 where
+-- this is as much of the note on a text with these parts as fits
+pub record IsNotePrefix (ps : List (List ℕ)) (room : ℕ) (note : List ℕ) : Type 0 where
   pub status : Status
   pub writer : ℕ
-  pub last : Outgoing
+  pub last : OutputModel
   pub says : SaysStop ps status (at_first writer (Some [])) last
   pub written : IsWrittenOut last
   pub noted : List ℕ
   pub holds : last.contents ≡ Some noted
-  pub told : note ≡ take room noted
+  pub returned : note ≡ take room noted
 
 abbrev pub IsNoteAt : Stage → Watcher → ℕ → List ℕ → Type 0
-IsNoteAt (Stopped stop) w room note = (ps : List (List ℕ)) → Stops stop ps w → IsSaid ps room note
+IsNoteAt (Stopped stop) w room note = (ps : List (List ℕ)) → Stops stop ps w
+    → IsNotePrefix ps room note
 IsNoteAt _ w room note = note ≡ []
 
 abbrev pub IsNoteOf : Monitor → ℕ → List ℕ → Type 0
 IsNoteOf m = IsNoteAt m.stage m.watcher
 
--- so many bytes of a room are the note, and the others are as before; the monitor stays
-abbrev pub TellsNote : Monitor → Monitor → ℕ → List ℕ → List ℕ → Type 0
-TellsNote old new n before after =
+-- the first n bytes of a buffer are the note, and the others are as before; the monitor stays
+abbrev pub ReportsNote : Monitor → Monitor → ℕ → List ℕ → List ℕ → Type 0
+ReportsNote old new n before after =
     (new ≡ old) × IsNoteOf old (length before) (take n after) × (n ≤ length after) ×
     (drop n after ≡ drop n before)
 
 -- THE LOAD
 
--- how many histories have ended, how many calls were invoked, and the others that were pending
--- then; the monitor stays
-abbrev pub TellsLoad : Monitor → Monitor → EvcLoad → Type 0
-TellsLoad old new l =
+-- how many histories have ended, how many calls were invoked, and how many others were pending
+-- then, added up; the monitor stays
+abbrev pub ReportsLoad : Monitor → Monitor → EvcLoad → Type 0
+ReportsLoad old new l =
     (new ≡ old) × (l.histories ≡ old.watcher.load.histories) × (l.calls ≡ old.watcher.load.calls)
     × (l.others ≡ old.watcher.load.others)
 

@@ -1,4 +1,4 @@
--- Monitors in memory of the caller.
+-- Monitors in the caller's memory.
 use Rattle.std.specs.Prelude.{ℕ, ◌*◌}
 use Rattle.std.specs.Borrow.{full_share}
 use Rattle.std.specs.Ptr.{Ptr, lies_at, room_at}
@@ -8,18 +8,18 @@ use prog.Memory.{size}
 use Rattle.evc_c.specs.contracts.monitor.Monitor.{the_row}
 use Rattle.evc_c.specs.declared.monitor.Monitor.{Monitor}
 
--- so many bytes a monitor takes
+-- the size of a monitor, in bytes
 abbrev pub monitor_size : ℕ
 monitor_size = size (lone the_row.mir)
 
--- so many bytes the header tells: 1024 words of 8 bytes
-abbrev pub room_told : ℕ
-room_told = 1024 * 8
+-- the size of a monitor in evc.h, in bytes: 1024 words of 8 bytes
+abbrev pub room_size : ℕ
+room_size = 1024 * 8
 
--- here is room for a monitor
+-- memory for a monitor is at this pointer
 abbrev pub room_for_monitor : Ptr → Fml
 room_for_monitor at = room_at the_row at
 
--- here this monitor lies, with all that it owns
+-- this monitor is at this pointer, with all that it owns
 abbrev pub monitor_at : Ptr → Monitor → Fml
 monitor_at at m = lies_at the_row full_share at m

@@ -1,27 +1,28 @@
--- The caller's bytes, as a writer.
+-- The caller's buffers, as writers.
 use Rattle.std.specs.Prelude.{◌≡◌, ℕ, List, [], ◌∷◌, take, Option}
-use Rattle.ec_text.specs.Puts.{Outgoing, IsWrittenOut}
+use Rattle.ec_text.specs.Puts.{OutputModel, IsWrittenOut}
 use Rattle.evc_engine.specs.declared.status.Status as evc
 use Rattle.calls_report.specs.declared.status.Status as calls
 use Rattle.calls_report.specs.Checks.{Checks}
 use Rattle.evc_c.specs.declared.room.Room.{Room}
-use Rattle.evc_c.specs.Answers.{ContractBy, Contract, outlets, calls_outlets}
+use Rattle.evc_c.specs.Answers.{ContractBy, Contract, outputs, calls_outputs}
 
--- what a room holds, as a writer
+-- the contents of a buffer, as a writer
 abbrev pub room_holds : Room → List ℕ
 room_holds r = r.bytes.ghost_name ∷ take r.len r.bytes.now
 
--- what a command did to a room in which nothing had been written, and to the notes: it is the same room, and what is written in it is
--- what the command writes; and no note waits, if none waited
-pub record FillsBy {S O : Type 0} (outlets : List ℕ → Outgoing → O) (Does : ContractBy S O) (bytes : List ℕ) (status : S) (r new : Room)
-    (first last : Outgoing) : Type 0 where
+-- what a command did to a buffer in which nothing had been written, and to the notes: it is the
+-- same buffer, and what is written in it is what the command writes; and the notes are written out,
+-- if they were at first
+pub record FillsBy {S O : Type 0} (outputs : List ℕ → OutputModel → O) (Does : ContractBy S O) (bytes : List ℕ) (status : S) (r new : Room)
+    (first last : OutputModel) : Type 0 where
   pub same : new.bytes.ghost_name ≡ r.bytes.ghost_name
   pub left : Option (List ℕ)
-  pub ends : Does bytes left status (outlets [] first) (outlets (take new.len new.bytes.now) last)
+  pub ends : Does bytes left status (outputs [] first) (outputs (take new.len new.bytes.now) last)
   pub written : IsWrittenOut first → IsWrittenOut last
 
-abbrev pub Fills : Contract → List ℕ → evc.Status → Room → Room → Outgoing → Outgoing → Type 0
-Fills Does bytes status r new first last = FillsBy outlets Does bytes status r new first last
+abbrev pub Fills : Contract → List ℕ → evc.Status → Room → Room → OutputModel → OutputModel → Type 0
+Fills Does bytes status r new first last = FillsBy outputs Does bytes status r new first last
 
-abbrev pub CallsFills : List ℕ → calls.Status → Room → Room → Outgoing → Outgoing → Type 0
-CallsFills bytes status r new first last = FillsBy calls_outlets Checks bytes status r new first last
+abbrev pub CallsFills : List ℕ → calls.Status → Room → Room → OutputModel → OutputModel → Type 0
+CallsFills bytes status r new first last = FillsBy calls_outputs Checks bytes status r new first last

@@ -1,4 +1,4 @@
-//! The calls.
+//! The functions on whole texts.
 ghost use Rattle.std.specs.Prelude.{◌≡◌, ◌≤◌, length, take, drop};
 ghost use Rattle.evc_engine.specs.Checks.{Checks};
 ghost use Rattle.evc_engine.specs.Audits.{Audits};
@@ -8,16 +8,16 @@ ghost use Rattle.evc_c.specs.Answers.{Answers, CallsAnswers, IsCode};
 ghost use Rattle.evc_c.specs.Rooms.{Fills, CallsFills};
 ghost use Rattle.evc_c.specs.Versions.{IsVersionOf};
 
-use crate::room::{NotesRoom, Room, put_front};
+use crate::room::{NotesRoom, Room, copy_prefix};
 use arrayvec::ArrayVec;
-use ec_text::Out;
+use ec_text::Output;
+use evc_cli::VERSION;
 use evc_engine::{Status, audit, check, upgrade};
 use evc_scripts::sim;
-use evc_task::VERSION;
 use std::alloc::Global;
 
-/// The bytes of notes for which a call on a trace or a script has room. The notes of such a call have less
-/// than a thousand bytes.
+/// The most bytes of notes of a call on a trace or a script. Its notes have less than a thousand
+/// bytes.
 const NOTES_MAX: usize = 1024;
 
 /// The notes of a call on a trace or a script.
@@ -30,33 +30,34 @@ pub struct EvcWritten {
     pub notes: usize,
 }
 
-/// Tells how much stands in a room, and hands out as much of the notes as there is room for.
-fn hand_out(out: &Room<'_>, told: &[u8], notes: &mut [u8], written: &mut EvcWritten)
+/// Copies into the caller's buffer as much of the notes as fits, and stores how many bytes of the
+/// text and of the notes were written.
+fn write_lengths(out: &Room<'_>, note_text: &[u8], notes: &mut [u8], written: &mut EvcWritten)
     ensures text { written.new.text ≡ out.now.len }
     ensures within { written.new.notes ≤ length notes.new }
     ensures long { length notes.new ≡ length notes.old }
-    ensures notes { take written.new.notes notes.new ≡ take (length notes.old) told.now }
+    ensures notes { take written.new.notes notes.new ≡ take (length notes.old) note_text.now }
     ensures rest { drop written.new.notes notes.new ≡ drop written.new.notes notes.old }
 {
     written.text = out.len;
-    written.notes = put_front(notes, told);
+    written.notes = copy_prefix(notes, note_text);
 }
 
-/// Returns a status as the caller gets it: 4 if notes were cut off before the caller's room for them
-/// was full, since there was no memory for them.
+/// Returns the status that the caller gets. It is 4 if notes were cut off before the caller's
+/// buffer for them was full, since memory ran out.
 fn code_for(code: u8, is_cut: bool, noted: usize, room: usize) -> u8
     ensures { IsCode result code is_cut noted room }
 {
     if is_cut && noted < room { 4 } else { code }
 }
 
-/// Does `check` of bytes, into a room.
+/// Does `check` of bytes, and writes the text to a buffer.
 #[tactic(auto, using(crate::proofs::Grown::check_grows, crate::proofs::Grown::fills))]
 fn check_bytes(
     alloc: Global,
     trace: &[u8],
     out: &mut Room<'_>,
-    notes: &mut Out<'_, Noted>,
+    notes: &mut Output<'_, Noted>,
 ) -> Status
     requires { out.old.len ≡ 0 }
     ensures same { out.new.bytes.ghost_name ≡ out.old.bytes.ghost_name }
@@ -66,9 +67,10 @@ fn check_bytes(
     check(alloc, &mut reader, out, notes)
 }
 
-/// Checks a trace: the order of its completed calls and the totals are the text.
+/// Checks a trace: a linearization of its completed calls, and the totals, are the text.
 ///
-/// The status is that of `evc check`, and 3 if the text had no room: then a proper front of it was written.
+/// The status is that of `evc check`. It is 3 if the buffer was too small for the text: then a
+/// proper prefix of the text was written.
 #[tactic(auto, using(crate::proofs::Grown::answers))]
 #[unsafe(no_mangle)]
 pub extern "C" fn evc_check(
@@ -85,22 +87,22 @@ pub extern "C" fn evc_check(
 {
     let mut out = Room::new(text);
     let mut bytes = Noted::new();
-    let mut told = Out::new(&mut bytes);
-    let status = check_bytes(alloc, trace, &mut out, &mut told);
-    let is_cut = told.has_failed();
-    let noted = told.into_writer().as_slice();
+    let mut note_text = Output::new(&mut bytes);
+    let status = check_bytes(alloc, trace, &mut out, &mut note_text);
+    let is_cut = note_text.has_failed();
+    let noted = note_text.into_writer().as_slice();
     let code = code_for(status.code(), is_cut, noted.len(), notes.len());
-    hand_out(&out, noted, notes, written);
+    write_lengths(&out, noted, notes, written);
     code
 }
 
-/// Does `audit` of bytes, into a room.
+/// Does `audit` of bytes, and writes the text to a buffer.
 #[tactic(auto, using(crate::proofs::Grown::audit_grows, crate::proofs::Grown::fills))]
 fn audit_bytes(
     alloc: Global,
     trace: &[u8],
     out: &mut Room<'_>,
-    notes: &mut Out<'_, Noted>,
+    notes: &mut Output<'_, Noted>,
 ) -> Status
     requires { out.old.len ≡ 0 }
     ensures same { out.new.bytes.ghost_name ≡ out.old.bytes.ghost_name }
@@ -127,22 +129,22 @@ pub extern "C" fn evc_audit(
 {
     let mut out = Room::new(text);
     let mut bytes = Noted::new();
-    let mut told = Out::new(&mut bytes);
-    let status = audit_bytes(alloc, trace, &mut out, &mut told);
-    let is_cut = told.has_failed();
-    let noted = told.into_writer().as_slice();
+    let mut note_text = Output::new(&mut bytes);
+    let status = audit_bytes(alloc, trace, &mut out, &mut note_text);
+    let is_cut = note_text.has_failed();
+    let noted = note_text.into_writer().as_slice();
     let code = code_for(status.code(), is_cut, noted.len(), notes.len());
-    hand_out(&out, noted, notes, written);
+    write_lengths(&out, noted, notes, written);
     code
 }
 
-/// Does `upgrade` of bytes, into a room.
+/// Does `upgrade` of bytes, and writes the text to a buffer.
 #[tactic(auto, using(crate::proofs::Grown::upgrade_grows, crate::proofs::Grown::fills))]
 fn upgrade_bytes(
     alloc: Global,
     trace: &[u8],
     out: &mut Room<'_>,
-    notes: &mut Out<'_, Noted>,
+    notes: &mut Output<'_, Noted>,
 ) -> Status
     requires { out.old.len ≡ 0 }
     ensures same { out.new.bytes.ghost_name ≡ out.old.bytes.ghost_name }
@@ -169,18 +171,23 @@ pub extern "C" fn evc_upgrade(
 {
     let mut out = Room::new(text);
     let mut bytes = Noted::new();
-    let mut told = Out::new(&mut bytes);
-    let status = upgrade_bytes(alloc, trace, &mut out, &mut told);
-    let is_cut = told.has_failed();
-    let noted = told.into_writer().as_slice();
+    let mut note_text = Output::new(&mut bytes);
+    let status = upgrade_bytes(alloc, trace, &mut out, &mut note_text);
+    let is_cut = note_text.has_failed();
+    let noted = note_text.into_writer().as_slice();
     let code = code_for(status.code(), is_cut, noted.len(), notes.len());
-    hand_out(&out, noted, notes, written);
+    write_lengths(&out, noted, notes, written);
     code
 }
 
-/// Does `sim` of bytes, into a room.
+/// Does `sim` of bytes, and writes the text to a buffer.
 #[tactic(auto, using(crate::proofs::Grown::sim_grows, crate::proofs::Grown::fills))]
-fn sim_bytes(alloc: Global, script: &[u8], out: &mut Room<'_>, notes: &mut Out<'_, Noted>) -> Status
+fn sim_bytes(
+    alloc: Global,
+    script: &[u8],
+    out: &mut Room<'_>,
+    notes: &mut Output<'_, Noted>,
+) -> Status
     requires { out.old.len ≡ 0 }
     ensures same { out.new.bytes.ghost_name ≡ out.old.bytes.ghost_name }
     ensures fills { Fills Sims script.now result out.old out.new notes.old notes.new }
@@ -189,7 +196,7 @@ fn sim_bytes(alloc: Global, script: &[u8], out: &mut Room<'_>, notes: &mut Out<'
     sim(alloc, &mut reader, out, notes)
 }
 
-/// Plays the schedule of a script: the trace is the text, and the notes say how the workers have ended.
+/// Plays the schedule of a script: the trace is the text, and the notes say how each worker ended.
 #[tactic(auto, using(crate::proofs::Grown::answers))]
 #[unsafe(no_mangle)]
 pub extern "C" fn evc_sim(
@@ -206,21 +213,21 @@ pub extern "C" fn evc_sim(
 {
     let mut out = Room::new(text);
     let mut bytes = Noted::new();
-    let mut told = Out::new(&mut bytes);
-    let status = sim_bytes(alloc, script, &mut out, &mut told);
-    let is_cut = told.has_failed();
-    let noted = told.into_writer().as_slice();
+    let mut note_text = Output::new(&mut bytes);
+    let status = sim_bytes(alloc, script, &mut out, &mut note_text);
+    let is_cut = note_text.has_failed();
+    let noted = note_text.into_writer().as_slice();
     let code = code_for(status.code(), is_cut, noted.len(), notes.len());
-    hand_out(&out, noted, notes, written);
+    write_lengths(&out, noted, notes, written);
     code
 }
 
-/// Does `check` of histories of calls in bytes, into a room.
+/// Does `check` of histories of calls in bytes, and writes the text to a buffer.
 fn calls_check_bytes(
     alloc: Global,
     calls: &[u8],
     out: &mut Room<'_>,
-    notes: &mut Out<'_, NotesRoom>,
+    notes: &mut Output<'_, NotesRoom>,
 ) -> calls_report::Status
     requires { out.old.len ≡ 0 }
     ensures same { out.new.bytes.ghost_name ≡ out.old.bytes.ghost_name }
@@ -230,11 +237,11 @@ fn calls_check_bytes(
     calls_report::check(alloc, &mut reader, out, notes)
 }
 
-/// Says that there was no memory before anything was read.
-fn say_no_memory(
+/// Reports that memory ran out before anything was read.
+fn report_no_memory(
     calls: &[u8],
     out: &mut Room<'_>,
-    notes: &mut Out<'_, Noted>,
+    notes: &mut Output<'_, Noted>,
 ) -> calls_report::Status
     requires { out.old.len ≡ 0 }
     ensures same { out.new.bytes.ghost_name ≡ out.old.bytes.ghost_name }
@@ -244,7 +251,7 @@ fn say_no_memory(
     calls_report::Status::Memory
 }
 
-/// Answers that there was no memory before anything was read.
+/// Returns the status for memory that ran out before anything was read, with the note.
 #[tactic(auto, using(crate::proofs::Grown::answers))]
 fn answer_no_memory(calls: &[u8], text: &mut [u8], notes: &mut [u8], written: &mut EvcWritten) -> u8
     ensures answers { CallsAnswers calls.now result (take written.new.text text.new) (take written.new.notes notes.new) (length notes.old) }
@@ -254,19 +261,20 @@ fn answer_no_memory(calls: &[u8], text: &mut [u8], notes: &mut [u8], written: &m
 {
     let mut out = Room::new(text);
     let mut bytes = Noted::new();
-    let mut told = Out::new(&mut bytes);
-    let status = say_no_memory(calls, &mut out, &mut told);
-    let is_cut = told.has_failed();
-    let noted = told.into_writer().as_slice();
+    let mut note_text = Output::new(&mut bytes);
+    let status = report_no_memory(calls, &mut out, &mut note_text);
+    let is_cut = note_text.has_failed();
+    let noted = note_text.into_writer().as_slice();
     let code = code_for(status.code(), is_cut, noted.len(), notes.len());
-    hand_out(&out, noted, notes, written);
+    write_lengths(&out, noted, notes, written);
     code
 }
 
-/// Checks histories of calls: an order of the calls of each is the text. The notes have the remarks on them, and then the note on what
-/// ended the check, if there is one.
+/// Checks histories of calls: a linearization of each is the text. The notes have the remarks on
+/// them, and then the note on what ended the check, if there is one.
 ///
-/// The status is that of `evc-calls check`, and 3 if the text had no room: then a proper front of it was written.
+/// The status is that of `evc-calls check`. It is 3 if the buffer was too small for the text: then
+/// a proper prefix of the text was written.
 #[tactic(auto, using(crate::proofs::Grown::answers))]
 #[unsafe(no_mangle)]
 pub extern "C" fn evc_calls_check(
@@ -285,21 +293,21 @@ pub extern "C" fn evc_calls_check(
         return answer_no_memory(calls, text, notes, written);
     };
     let mut out = Room::new(text);
-    let mut told = Out::new(&mut bytes);
-    let status = calls_check_bytes(alloc, calls, &mut out, &mut told);
-    let is_cut = told.has_failed();
-    let noted = told.into_writer().as_slice();
+    let mut note_text = Output::new(&mut bytes);
+    let status = calls_check_bytes(alloc, calls, &mut out, &mut note_text);
+    let is_cut = note_text.has_failed();
+    let noted = note_text.into_writer().as_slice();
     let code = code_for(status.code(), is_cut, noted.len(), notes.len());
-    hand_out(&out, noted, notes, written);
+    write_lengths(&out, noted, notes, written);
     code
 }
 
-/// Returns the version: a thousand times its first number, and its second. These are the numbers with
-/// which the answer of `evc --version` begins.
+/// Returns the version: a thousand times its first number, plus its second. `evc --version` writes
+/// the same numbers.
 #[unsafe(no_mangle)]
 pub extern "C" fn evc_version() -> u32
     ensures value { result ≡ 2 }
-    ensures told { IsVersionOf VERSION.now result }
+    ensures returned { IsVersionOf VERSION.now result }
 {
     2
 }

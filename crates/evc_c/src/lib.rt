@@ -1,5 +1,6 @@
-//! `check`, `audit`, `upgrade` and `sim` for programs in C and Rust, and `check` of histories of calls: bytes in memory in, a text and
-//! notes in the caller's memory out.
+//! `check`, `audit`, `upgrade` and `sim`, and `check` of histories of calls, for programs in C and
+//! Rust. They read bytes in memory, and write a text and notes to the caller's memory. Monitors
+//! check histories of calls line by line.
 #![tactic(auto)]
 
 mod calls;

@@ -1,23 +1,24 @@
-//! Histories of calls that are judged line by line: what is kept between the calls.
+//! Monitors, which check histories of calls line by line: their state, and what each function does
+//! with it.
 ghost use Rattle.std.specs.Prelude.{◌≡◌};
 ghost use Rattle.evc_c.specs.declared.monitor.Stage.TheVariants.{Open, Stopped};
 ghost use Rattle.evc_c.specs.Monitors.{stop_status, status_at, IsOpen, GoesOnWith, TakesLine};
 ghost use Rattle.evc_c.specs.Monitors.{EndsWith, EndsText};
-ghost use Rattle.evc_c.specs.Monitors.{TellsNote, TellsLoad, IsClosed};
+ghost use Rattle.evc_c.specs.Monitors.{ReportsNote, ReportsLoad, IsClosed};
 
-use crate::room::put_front;
+use crate::room::copy_prefix;
 use arrayvec::ArrayVec;
 use calls_report::Status;
 use calls_text::TextFault;
-use calls_watch::{Stop, Watcher, say_stop};
-use ec_text::Out;
+use calls_watch::{Stop, Watcher, report_stop};
+use ec_text::Output;
 use std::alloc::Global;
 
 /// The note on what stopped a monitor.
 type Noted = ArrayVec<u8, 1024>;
 
-/// How many histories have ended, how many calls were invoked, and how many others were pending
-/// then, added up.
+/// How many histories have ended, how many calls were invoked, and for each of these how many
+/// others were pending at its invocation, added up.
 #[repr(C)]
 pub struct EvcLoad {
     pub histories: u64,
@@ -25,20 +26,20 @@ pub struct EvcLoad {
     pub others: u64,
 }
 
-/// Where a monitor stands.
+/// The stage of a monitor.
 #[derive(Clone, Copy, Debug, PartialEq, Eq)]
 pub(crate) enum Stage {
-    /// The text may go on.
+    /// The text may continue.
     Open,
-    /// For this the text is not judged further.
+    /// The text is not checked further, for this reason.
     Stopped(Stop),
     /// The text has ended.
     Ended,
-    /// Nothing is kept.
+    /// The monitor was closed.
     Closed,
 }
 
-/// What is kept of histories of calls whose lines come one by one.
+/// The state of a check of histories of calls, whose lines come one by one.
 #[derive(Drop)]
 pub(crate) struct Monitor {
     alloc: Global,
@@ -46,7 +47,7 @@ pub(crate) struct Monitor {
     stage: Stage,
 }
 
-/// Returns the status of a call that is stopped so.
+/// Returns the status of a monitor that was stopped for a reason.
 fn stop_status(stop: Stop) -> Status
     ensures { result ≡ stop_status stop }
 {
@@ -57,7 +58,7 @@ fn stop_status(stop: Stop) -> Status
     }
 }
 
-/// Returns the status of a call on a monitor that stays as it is.
+/// Returns the status of a function that leaves a monitor as it is.
 fn status_at(stage: Stage) -> Status
     ensures { result ≡ status_at stage }
 {
@@ -68,7 +69,7 @@ fn status_at(stage: Stage) -> Status
     }
 }
 
-/// Returns a value that may go from thread to thread.
+/// Returns a value, whose type may be sent between threads.
 fn for_any_thread<T: Send>(value: T) -> T
     ensures { result ≡ value }
 {
@@ -76,7 +77,7 @@ fn for_any_thread<T: Send>(value: T) -> T
 }
 
 impl Monitor {
-    /// Returns a monitor to which no line came yet.
+    /// Returns a monitor without lines.
     pub(crate) fn new(alloc: Global) -> Monitor
         ensures { IsOpen result }
     {
@@ -87,7 +88,7 @@ impl Monitor {
         })
     }
 
-    /// Stops the text.
+    /// Stops the monitor for a reason, and returns its status.
     fn stop(&mut self, stop: Stop) -> Status
         ensures status { result ≡ stop_status stop }
         ensures stage { self.new.stage ≡ Stopped stop }
@@ -97,7 +98,7 @@ impl Monitor {
         stop_status(stop)
     }
 
-    /// Takes a line while the text may go on.
+    /// Checks a line while the text may continue.
     #[tactic(auto, using(crate::proofs::Taken::goes_on, crate::proofs::Taken::is_stopped))]
     fn take(&mut self, line: &[u8]) -> Status
         requires { self.old.stage ≡ Open }
@@ -109,7 +110,7 @@ impl Monitor {
         }
     }
 
-    /// Takes the next line, given without its LF. Once the text is not judged further, the status
+    /// Checks the next line, given without its LF. Once the text is not checked further, the status
     /// stays.
     pub(crate) fn line(&mut self, line: &[u8]) -> u8
         ensures { TakesLine line.now result self.old self.new }
@@ -121,7 +122,7 @@ impl Monitor {
         status.code()
     }
 
-    /// Ends the text while it may go on.
+    /// Ends the text while it may continue.
     fn finish(&mut self) -> Status
         requires { self.old.stage ≡ Open }
         ensures { EndsWith result self.old self.new }
@@ -135,7 +136,7 @@ impl Monitor {
         }
     }
 
-    /// Ends the text, of which each line has come.
+    /// Ends the text after its last line.
     pub(crate) fn end(&mut self) -> u8
         ensures { EndsText result self.old self.new }
     {
@@ -146,23 +147,24 @@ impl Monitor {
         status.code()
     }
 
-    /// Puts the note on what stopped it, as much of it as there is room for, and returns how much.
+    /// Copies into a buffer as much of the note on what stopped the monitor as fits, and returns
+    /// how many bytes. There is no note if it was not stopped.
     #[tactic(auto, using(crate::proofs::Taken::said))]
     pub(crate) fn note(&mut self, room: &mut [u8]) -> usize
-        ensures { TellsNote self.old self.new result room.old room.new }
+        ensures { ReportsNote self.old self.new result room.old room.new }
     {
         let Stage::Stopped(stop) = self.stage else {
             return 0;
         };
         let mut bytes = Noted::new();
-        let mut told = Out::new(&mut bytes);
-        say_stop(&self.watcher, stop, &mut told);
-        put_front(room, told.into_writer().as_slice())
+        let mut note_text = Output::new(&mut bytes);
+        report_stop(&self.watcher, stop, &mut note_text);
+        copy_prefix(room, note_text.into_writer().as_slice())
     }
 
-    /// Tells how many calls came, and how far they overlap.
+    /// Stores how many histories and calls there were, and how far the calls overlap.
     pub(crate) fn load(&mut self, load: &mut EvcLoad)
-        ensures { TellsLoad self.old self.new load.new }
+        ensures { ReportsLoad self.old self.new load.new }
     {
         let found = self.watcher.load();
         load.histories = found.histories;
@@ -170,7 +172,7 @@ impl Monitor {
         load.others = found.others;
     }
 
-    /// Lets go of what is kept.
+    /// Closes the monitor, and frees its memory.
     pub(crate) fn close(&mut self)
         ensures { IsClosed self.new }
     {

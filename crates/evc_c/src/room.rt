@@ -1,4 +1,4 @@
-//! The caller's bytes, as a writer.
+//! The caller's buffers, as writers.
 ghost use Rattle.std.specs.Prelude.{◌≡◌, ◌≤◌, ◌+◌, ◌-◌, ◌∷◌, ◌++◌, [], min, length, take, drop, Some, IsOk, IfOk};
 ghost use Rattle.std.specs.Io.{WritesAtMost};
 ghost use Rattle.std.specs.Io.KnownBytes.{Keeps, WriteAppends};
@@ -7,7 +7,8 @@ use std::alloc::{AllocError, Global};
 use std::io;
 use std::io::Write;
 
-/// Bytes of the caller's, which are written from the front on, and how many have been. A write takes what there is room for.
+/// A buffer of the caller, which is written from its beginning on, and how many bytes were written.
+/// A write takes as many bytes as fit.
 #[derive(Drop)]
 pub(crate) struct Room<'a> {
     bytes: &'a mut [u8],
@@ -16,7 +17,7 @@ pub(crate) struct Room<'a> {
 }
 
 impl<'a> Room<'a> {
-    /// Returns a room in which nothing was written yet.
+    /// Returns a buffer in which nothing was written yet.
     pub(crate) fn new(bytes: &'a mut [u8]) -> Room<'a>
         ensures same { result.bytes.ghost_name ≡ bytes.entry.ghost_name }
         ensures bytes { result.bytes.now ≡ bytes.old }
@@ -26,27 +27,27 @@ impl<'a> Room<'a> {
     }
 }
 
-/// Puts as much of bytes as there is room for behind the first `at`, and tells how much.
-pub(crate) fn put_at(room: &mut [u8], at: usize, bytes: &[u8]) -> usize
+/// Copies as many bytes as fit into a buffer, after its first `at` bytes, and returns how many.
+pub(crate) fn put_after(room: &mut [u8], at: usize, bytes: &[u8]) -> usize
     requires { at ≤ length room.old }
     ensures count { result ≡ min (length bytes.now) (length room.old - at) }
     ensures len { length room.new ≡ length room.old }
     ensures rest { drop (at + result) room.new ≡ drop (at + result) room.old }
-    ensures front { take (at + result) room.new ≡ take at room.old ++ take result bytes.now }
+    ensures prefix { take (at + result) room.new ≡ take at room.old ++ take result bytes.now }
 {
     let n = bytes.len().min(room.len() - at);
     room[at..at + n].copy_from_slice(&bytes[..n]);
     n
 }
 
-/// Puts as much of bytes as there is room for, and tells how much.
-pub(crate) fn put_front(room: &mut [u8], bytes: &[u8]) -> usize
+/// Copies as many bytes as fit into a buffer, from its beginning on, and returns how many.
+pub(crate) fn copy_prefix(room: &mut [u8], bytes: &[u8]) -> usize
     ensures within { result ≤ length room.new }
     ensures len { length room.new ≡ length room.old }
-    ensures front { take result room.new ≡ take (length room.old) bytes.now }
+    ensures prefix { take result room.new ≡ take (length room.old) bytes.now }
     ensures rest { drop result room.new ≡ drop result room.old }
 {
-    put_at(room, 0, bytes)
+    put_after(room, 0, bytes)
 }
 
 impl Write for Room<'_> {
@@ -58,7 +59,7 @@ impl Write for Room<'_> {
             (Some (self.new.bytes.ghost_name ∷ take self.new.len self.new.bytes.now)) result buf.now }
         ensures ok { IsOk result }
     {
-        let n = put_at(self.bytes, self.len, buf);
+        let n = put_after(self.bytes, self.len, buf);
         self.len += n;
         Ok(n)
     }
@@ -68,7 +69,7 @@ impl Write for Room<'_> {
     }
 }
 
-/// Notes, of which as many bytes are taken as there is room for.
+/// A writer of notes that takes at most `room` bytes.
 #[derive(Drop)]
 pub(crate) struct NotesRoom {
     bytes: Vec<u8>,
@@ -76,7 +77,7 @@ pub(crate) struct NotesRoom {
 }
 
 impl NotesRoom {
-    /// Takes memory for so many bytes.
+    /// Allocates memory for `room` bytes.
     pub(crate) fn new(alloc: Global, room: usize) -> Result<NotesRoom, AllocError>
         ensures { IfOk result (λ r. (r.bytes.items ≡ []) × (r.room ≡ room)) }
     {
@@ -84,7 +85,7 @@ impl NotesRoom {
         Ok(NotesRoom { bytes, room })
     }
 
-    /// Returns the bytes that were taken.
+    /// Returns the bytes that were written.
     pub(crate) fn as_slice(&self) -> &[u8]
         ensures { result.now ≡ self.now.bytes.items }
     {

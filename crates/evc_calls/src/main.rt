@@ -1,23 +1,23 @@
-//! `evc-calls`: judges histories of calls, and makes them of traces.
+//! `evc-calls`: judges histories of calls, and converts between them and traces of steps.
 #![tactic(auto)]
 
 use calls_extract::extract_calls;
 use calls_replay::replay_calls;
 use calls_report::{Status, check};
 use calls_watch::watch;
-use ec_text::Out;
-use evc_calls_task::{Action, Error, Task, status_of, task};
+use ec_text::Output;
+use evc_calls_cli::{Action, Error, Task, status_of, task};
 use std::alloc::AllocError;
 use std::io::{Read, Write};
 use std::process::ExitCode;
 use std::{env, fs, io};
 
-/// Does what is asked with an input, and returns the exit status.
+/// Runs the command on an input, and returns the exit status.
 fn run<R: Read, N: Write>(
     rt: &HostRuntime,
     action: Action,
     reader: &mut R,
-    notes: &mut Out<'_, N>,
+    notes: &mut Output<'_, N>,
 ) -> u8 {
     let alloc = rt.alloc();
     match action {
@@ -28,8 +28,8 @@ fn run<R: Read, N: Write>(
     }
 }
 
-/// Does what is asked with a file, or with standard input, and returns the exit status.
-fn run_task<N: Write>(rt: &HostRuntime, task: Task<'_>, notes: &mut Out<'_, N>) -> u8 {
+/// Runs the command on a file or on standard input, and returns the exit status.
+fn run_task<N: Write>(rt: &HostRuntime, task: Task<'_>, notes: &mut Output<'_, N>) -> u8 {
     let Some(path) = task.file else {
         return run(rt, task.action, &mut rt.stdin(), notes);
     };
@@ -44,9 +44,9 @@ fn run_task<N: Write>(rt: &HostRuntime, task: Task<'_>, notes: &mut Out<'_, N>) 
     }
 }
 
-/// Writes what the command line gave in place of a task, and returns the exit status.
-fn end_by<N: Write>(rt: &HostRuntime, error: &Error, notes: &mut Out<'_, N>) -> u8 {
-    // (help goes to standard output, and that a note could not be written is not reported)
+/// Prints the help, version or error of a command line, and returns the exit status.
+fn end_by<N: Write>(rt: &HostRuntime, error: &Error, notes: &mut Output<'_, N>) -> u8 {
+    // (help goes to standard output; a note that could not be written is not reported)
     if error.print(rt).is_err() && !error.use_stderr() {
         notes.say(b"write fault\n");
         return Status::InputOutput.code();
@@ -57,7 +57,7 @@ fn end_by<N: Write>(rt: &HostRuntime, error: &Error, notes: &mut Out<'_, N>) -> 
 fn main(rt: HostRuntime) -> ExitCode {
     let alloc = rt.alloc();
     let mut stderr = rt.stderr();
-    let mut notes = Out::new(&mut stderr);
+    let mut notes = Output::new(&mut stderr);
     let words: Result<Vec<String>, AllocError> = match env::args(&rt) {
         Ok(args) => args.collect(alloc),
         Err(error) => {

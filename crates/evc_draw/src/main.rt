@@ -1,18 +1,18 @@
-//! `evc-draw`: draws a trace, or a history of calls.
+//! `evc-draw`: draws a trace, or histories of calls.
 #![tactic(auto)]
 
-use ec_draw::Choice;
-use ec_text::Out;
+use ec_draw::NameFilter;
+use ec_text::Output;
+use evc_draw_cli::{Bound, Error, NoNumber, Task, status_of, task};
 use evc_draw_engine::{View, draw};
-use evc_draw_task::{Bound, Error, NoNumber, Task, status_of, task};
 use evc_engine::Status;
 use std::alloc::AllocError;
 use std::io::Write;
 use std::process::ExitCode;
 use std::{env, fs, io};
 
-/// Says that an option takes a number.
-fn say_no_number<N: Write>(notes: &mut Out<'_, N>, wrong: &NoNumber<'_>) -> u8 {
+/// Reports that an option takes a number, and returns the exit status.
+fn report_no_number<N: Write>(notes: &mut Output<'_, N>, wrong: &NoNumber<'_>) -> u8 {
     let option = match wrong.option {
         Bound::From => b"error: '--from' takes a number, not '".as_slice(),
         Bound::To => b"error: '--to' takes a number, not '".as_slice(),
@@ -24,13 +24,13 @@ fn say_no_number<N: Write>(notes: &mut Out<'_, N>, wrong: &NoNumber<'_>) -> u8 {
 }
 
 /// Draws a file, or standard input, and returns the exit status.
-fn run_task<N: Write>(rt: &HostRuntime, task: &Task<'_>, notes: &mut Out<'_, N>) -> u8 {
+fn run_task<N: Write>(rt: &HostRuntime, task: &Task<'_>, notes: &mut Output<'_, N>) -> u8 {
     let alloc = rt.alloc();
     let range = match task.range() {
         Ok(range) => range,
-        Err(wrong) => return say_no_number(notes, &wrong),
+        Err(wrong) => return report_no_number(notes, &wrong),
     };
-    let choice = Choice {
+    let choice = NameFilter {
         workers: task.workers.as_slice(),
         objects: task.objects.as_slice(),
     };
@@ -54,9 +54,9 @@ fn run_task<N: Write>(rt: &HostRuntime, task: &Task<'_>, notes: &mut Out<'_, N>)
     }
 }
 
-/// Writes what the command line gave in place of a task, and returns the exit status.
-fn end_by<N: Write>(rt: &HostRuntime, error: &Error, notes: &mut Out<'_, N>) -> u8 {
-    // (help goes to standard output, and that a note could not be written is not reported)
+/// Writes what the command line gave instead of a task, and returns the exit status.
+fn end_by<N: Write>(rt: &HostRuntime, error: &Error, notes: &mut Output<'_, N>) -> u8 {
+    // (help goes to standard output; a note that could not be written is not reported)
     if error.print(rt).is_err() && !error.use_stderr() {
         notes.say(b"write fault\n");
         return Status::InputOutput.code();
@@ -67,7 +67,7 @@ fn end_by<N: Write>(rt: &HostRuntime, error: &Error, notes: &mut Out<'_, N>) -> 
 fn main(rt: HostRuntime) -> ExitCode {
     let alloc = rt.alloc();
     let mut stderr = rt.stderr();
-    let mut notes = Out::new(&mut stderr);
+    let mut notes = Output::new(&mut stderr);
     let words: Result<Vec<String>, AllocError> = match env::args(&rt) {
         Ok(args) => args.collect(alloc),
         Err(error) => {

@@ -1,3 +1,2 @@
 mod Columns
-mod Fronts
 mod Whole

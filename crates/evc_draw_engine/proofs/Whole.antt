@@ -1,15 +1,15 @@
--- How a whole input was told, from how its text was.
+-- How the program ended with a whole input, from how it ended with its text.
 use Rattle.std.proofs.Common.{◌≡◌, ℕ, List, Option, Some, None, IfSome, true, false, length, refl}
 use Rattle.std.proofs.Common.{ap, ◌∙◌, subst, inl, inr}
 use Rattle.std.specs.Io.KnownBytes.{Appends}
 use Rattle.ec_text.specs.Puts.{AppendsPrefix, IsWrittenOut, Puts}
 use Rattle.evc_engine.specs.declared.status.Status.{Status}
 use Rattle.evc_engine.specs.declared.status.Status.TheVariants.{Memory}
-use Rattle.ec_trace.specs.Recounted.{Recounted}
+use Rattle.ec_trace.specs.TraceModel.{TraceModel}
 use Rattle.ec_trace.specs.declared.read.TheConstants.{TRACE_MAX}
 use Rattle.ec_trace.specs.declared.fault.TraceFault.{TraceFault}
 use Rattle.ec_trace.specs.declared.fault.TraceFault.TheVariants.{Unfinished}
-use Rattle.evc_engine.specs.Checks.{Outlets, ReadsAs, RefusedFor}
+use Rattle.evc_engine.specs.Checks.{Outputs, ReadsAs, RefusedFor}
 use Rattle.evc_draw_engine.specs.declared.view.View.{View}
 use Rattle.ec_text.specs.Inputs.{looked_at, IsReadUp, IsCutOff}
 use Rattle.calls_report.specs.declared.status.Status as calls
@@ -17,37 +17,30 @@ use Rattle.calls_draw.specs.Draws.{Chooses}
 use Rattle.calls_draw.specs.Draws as histories
 use Rattle.calls_draw.specs.declared.view.CallsView.{CallsView}
 use Rattle.evc_draw_engine.specs.Draws.{AsksForPart, Draws, DrawsHistories, DrawsText, DrawsCutOff}
-use Rattle.evc_draw_engine.specs.Draws.{DrawsTraceSoFar, HasNoFaultYet, IsLasting, TellsCut, TellsFault}
-use Rattle.evc_draw_engine.specs.Draws.{Wants, Wrote, WrotePrefix, outlets_of, status_as, story}
+use Rattle.evc_draw_engine.specs.Draws.{DrawsTraceSoFar, HasNoFaultYet, IsLasting, ReportsCut, ReportsFault}
+use Rattle.evc_draw_engine.specs.Draws.{IsOutOfMemory, Wrote, WrotePrefix, outputs_of, status_as, trace_before_fault}
 use Rattle.evc_draw_engine.specs.Windows.{cut_note, is_wide, window_on}
 
 pub whole_drawn : (v : View) (old left : Option (List ℕ)) (text : List ℕ) (status : Status)
-    (before after : Outlets)
+    (before after : Outputs)
     → IfSome old (λ bytes. (text ≡ looked_at TRACE_MAX bytes) × IsReadUp TRACE_MAX bytes left)
     → DrawsText v text status before after
     → IfSome old (λ bytes. Draws v bytes left status before after)
-whole_drawn v None left text status before after is told = tt
-whole_drawn v (Some bytes) left text status before after is told =
-    inr (inl (subst (λ t. DrawsText v t status before after) is.0 told))
+whole_drawn v None left text status before after is returned = tt
+whole_drawn v (Some bytes) left text status before after is returned =
+    inr (inl (subst (λ t. DrawsText v t status before after) is.0 returned))
 
-pub cut_off_drawn : (v : View) (old left : Option (List ℕ)) (text : List ℕ) (status : Status)
-    (before after : Outlets) → IfSome old (λ bytes. IsCutOff TRACE_MAX bytes left text)
-    → DrawsCutOff text status before after
+pub want_drawn : (v : View) (old left : Option (List ℕ)) (status : Status) (before after : Outputs)
+    → status ≡ Memory → IsOutOfMemory before after
     → IfSome old (λ bytes. Draws v bytes left status before after)
-cut_off_drawn v None left text status before after is told = tt
-cut_off_drawn v (Some bytes) left text status before after is told = inr (inr (text, is, told))
+want_drawn v None left status before after is returned = tt
+want_drawn v (Some bytes) left status before after is returned = inl (is, returned)
 
-pub want_drawn : (v : View) (old left : Option (List ℕ)) (status : Status) (before after : Outlets)
-    → status ≡ Memory → Wants before after
-    → IfSome old (λ bytes. Draws v bytes left status before after)
-want_drawn v None left status before after is told = tt
-want_drawn v (Some bytes) left status before after is told = inl (is, told)
-
--- how histories were drawn, if what says that something is chosen is said in other words
+-- histories were drawn, with a weaker statement that something is chosen
 pub histories_drawn : (v : View) (text : List ℕ) (status : Status) (end : calls.Status)
-    (old new : Outlets) (view : CallsView) → (Chooses view → AsksForPart v)
+    (old new : Outputs) (view : CallsView) → (Chooses view → AsksForPart v)
     → status ≡ status_as end
-    → histories.Draws (Chooses view) text end (outlets_of old) (outlets_of new)
+    → histories.Draws (Chooses view) text end (outputs_of old) (outputs_of new)
     → DrawsHistories v text status old new
 histories_drawn v text status end old new view asks is (inl one) = (end, is, inl one)
 histories_drawn v text status end old new view asks is (inr (keeps, inl (usage, chosen))) =
@@ -55,18 +48,18 @@ histories_drawn v text status end old new view asks is (inr (keeps, inl (usage, 
 histories_drawn v text status end old new view asks is (inr (keeps, inr other)) =
     (end, is, inr (keeps, inr other))
 
-pub no_fault_read : (text : List ℕ) (t : Recounted) → ReadsAs text t → HasNoFaultYet text
-no_fault_read text t r = inl (t, r.told)
+pub no_fault_read : (text : List ℕ) (t : TraceModel) → ReadsAs text t → HasNoFaultYet text
+no_fault_read text t r = inl (t, r.returned)
 
 pub no_fault_yet : (text : List ℕ) → RefusedFor text Unfinished → HasNoFaultYet text
-no_fault_yet text r = inr r.told
+no_fault_yet text r = inr r.returned
 
 pub cut_off_refused : (text : List ℕ) (fault : TraceFault) (status : Status)
-    (before after : Outlets) → RefusedFor text fault → IsLasting fault
-    → TellsFault (story text fault) fault status before after
+    (before after : Outputs) → RefusedFor text fault → IsLasting fault
+    → ReportsFault (trace_before_fault text fault) fault status before after
     → DrawsTraceSoFar text status before after
-cut_off_refused text fault status before after refused is told =
-    inr (inr (record { fault = fault; refused = refused; told = told }, is))
+cut_off_refused text fault status before after refused is returned =
+    inr (inr (record { fault = fault; refused = refused; returned = returned }, is))
 
 pub wrote_all : (old new : Option (List ℕ)) (bytes : List ℕ) → Appends old new bytes → Wrote old new
 wrote_all old new bytes is = (bytes, is)
@@ -77,14 +70,14 @@ wrote_prefix old new bytes is = (bytes, is)
 
 pub ruleset wrote = (wrote_all, wrote_prefix)
 
-pub cut_told : (v : View) (t : Recounted) (old new : Outlets)
+pub cut_told : (v : View) (t : TraceModel) (old new : Outputs)
     → (is_wide (window_on v.range (length t.entries)) ≡ true → Puts old.notes new.notes cut_note)
     → (is_wide (window_on v.range (length t.entries)) ≡ true → IsWrittenOut new.notes)
     → (is_wide (window_on v.range (length t.entries)) ≡ false → new.notes ≡ old.notes)
-    → TellsCut v t old new
+    → ReportsCut v t old new
 cut_told v t old new puts out keeps =
     elim (is_wide (window_on v.range (length t.entries))) as (λ b. is_wide
-    (window_on v.range (length t.entries)) ≡ b → TellsCut v t old new) [
+    (window_on v.range (length t.entries)) ≡ b → ReportsCut v t old new) [
       | true ↦ λ e. inr (e, (puts e, out e))
       | false ↦ λ e. inl (e, keeps e)
     ] refl

@@ -1,65 +1,38 @@
 -- What is drawn of a text that is refused for one of its lines: the trace of the lines before that
 -- line, and of the line itself with the right reply if its reply alone is wrong.
-use Rattle.std.specs.Prelude.{ℕ, ◌+◌, ◌-◌, zero, suc, ◌==◌, nat_lt, List, [], ◌++◌, length, take}
-use Rattle.std.specs.Prelude.{drop, Option, Some, None, unwrap_or, Result, Ok, Err, codes}
-use Rattle.std.specs.Prelude.{if◌then◌else◌}
-use Rattle.std.specs.List.{position_from}
+use Rattle.std.specs.Prelude.{ℕ, ◌-◌, List, [], ◌++◌, take, Option, Some, None, Result, Ok, Err, codes}
 use Rattle.ec_core.specs.declared.act.Reply.{Reply}
+use Rattle.ec_explain.specs.TextLines.{text_before_line, line_at, position_or_end}
 use Rattle.ec_heading.specs.Spelling.{reply_word}
-use Rattle.ec_trace.specs.Recounted.{Recounted}
-use Rattle.ec_trace.specs.Outcome.{outcome}
+use Rattle.ec_trace.specs.TraceModel.{TraceModel}
+use Rattle.ec_trace.specs.Outcome.{parse_result}
 use Rattle.ec_trace.specs.declared.fault.TraceFault.{TraceFault}
 use Rattle.ec_trace.specs.declared.fault.TraceFault.TheVariants.{BadLine, Refused, WrongReply}
 use Rattle.ec_trace.specs.declared.read.TheConstants.{TRACE_MAX}
 
--- THE LINES OF A TEXT
-
--- where a sign stands first; behind the last byte if it doesn't
-abbrev pub place_of : ℕ → List ℕ → ℕ
-place_of sign xs = unwrap_or (position_from (λ b. b == sign) 0 xs) (length xs)
-
--- what stands behind the first line, which ends with its LF
-abbrev pub behind_line : List ℕ → List ℕ
-behind_line xs = if nat_lt (place_of 10 xs) (length xs) then drop (place_of 10 xs + 1) xs else []
-
--- what stands behind the first n lines
-unfoldable pub behind : ℕ → List ℕ → List ℕ
-behind zero xs = xs
-behind (suc n) xs = behind_line (behind n xs)
-
--- the first line without its LF
-abbrev pub first_line : List ℕ → List ℕ
-first_line xs = take (place_of 10 xs) xs
-
--- line n of a text, counted from 1, and all that stands before it
-abbrev pub line_at : ℕ → List ℕ → List ℕ
-line_at n xs = first_line (behind (n - 1) xs)
-
-abbrev pub before_line : ℕ → List ℕ → List ℕ
-before_line n xs = take (length xs - length (behind (n - 1) xs)) xs
-
 -- WHAT IS READ
 
--- a line with another reply: the reply stands behind the sign of equality
+-- a line with another reply, which follows the equals sign
 unfoldable pub with_reply : List ℕ → Reply → List ℕ
-with_reply line r = take (place_of 61 line) line ++ codes "= " ++ reply_word r ++ codes "\n"
+with_reply line r = take (position_or_end 61 line) line ++ codes "= " ++ reply_word r ++ codes "\n"
 
 abbrev pub with_right : List ℕ → Option Reply → List ℕ
 with_right line None = []
 with_right line (Some r) = with_reply line r
 
--- the text of the lines before a faulty one, and of that with its right reply if it has one, with
--- the last line of a trace
+-- a trace: the lines before a faulty one, that line with its right reply if there is one, and the
+-- last line of a trace
 unfoldable pub mended : List ℕ → List ℕ → Option Reply → List ℕ
 mended before line right = before ++ with_right line right ++ codes "end\n"
 
-abbrev pub read_back : Result Recounted TraceFault → Option Recounted
+abbrev pub read_back : Result TraceModel TraceFault → Option TraceModel
 read_back (Ok t) = Some t
 read_back (Err e) = None
 
 -- the trace of that text; none if no run had begun before line n
-abbrev pub history : ℕ → Option Reply → List ℕ → Option Recounted
-history n right xs = read_back (outcome TRACE_MAX (mended (before_line n xs) (line_at n xs) right))
+abbrev pub history : ℕ → Option Reply → List ℕ → Option TraceModel
+history n right xs =
+    read_back (parse_result TRACE_MAX (mended (text_before_line n xs) (line_at n xs) right))
 
 -- THE FAULT
 
@@ -70,13 +43,13 @@ fault_line (Refused n r) = Some n
 fault_line (WrongReply n r) = Some n
 fault_line _ = None
 
--- the right reply, if the reply alone is wrong
+-- the right reply, if only the reply is wrong
 abbrev pub right_of : TraceFault → Option Reply
 right_of (WrongReply n r) = Some r
 right_of _ = None
 
--- the position of the line's entry, if a history of k entries was read: behind them, or that of
--- the last
+-- the position of the line's entry, if a history of k entries was read: after them, or that of the
+-- last if it has a right reply
 abbrev pub position_in : Option Reply → ℕ → ℕ
 position_in None k = k
 position_in (Some r) k = k - 1

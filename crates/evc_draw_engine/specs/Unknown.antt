@@ -1,12 +1,12 @@
--- Names that were chosen, and that the trace does not declare.
+-- Chosen names that the trace does not declare.
 use Rattle.std.specs.Prelude.{ℕ, Bool, true, false, not, ◌||◌, List, [], ◌++◌, Option, Some, None}
 use Rattle.std.specs.Prelude.{codes, if◌then◌else◌}
 use Rattle.std.specs.List.{flat_map, list_any}
 use Rattle.ec_count.specs.Names.{find_name}
 use Rattle.ec_count.specs.declared.target.Target.{Target}
 use Rattle.ec_count.specs.declared.target.Target.TheVariants.{Worker}
-use Rattle.ec_heading.specs.Spelling.{Named}
-use Rattle.ec_draw.specs.declared.chosen.Choice.{Choice}
+use Rattle.ec_heading.specs.Spelling.{NameTable}
+use Rattle.ec_draw.specs.declared.chosen.NameFilter.{NameFilter}
 
 abbrev pub is_worker : Option Target → Bool
 is_worker (Some (Worker w)) = true
@@ -17,27 +17,27 @@ is_object None = false
 is_object (Some (Worker w)) = false
 is_object (Some t) = true
 
--- whether a name that was chosen among the workers, or among the objects, stands for none
-abbrev pub lacks_worker : Named → List ℕ → Bool
-lacks_worker words s = not (is_worker (find_name s words))
+-- whether no worker, or no object, has a name
+abbrev pub is_unknown_worker : NameTable → List ℕ → Bool
+is_unknown_worker words s = not (is_worker (find_name s words))
 
-abbrev pub lacks_object : Named → List ℕ → Bool
-lacks_object words s = not (is_object (find_name s words))
+abbrev pub is_unknown_object : NameTable → List ℕ → Bool
+is_unknown_object words s = not (is_object (find_name s words))
 
-abbrev pub has_unknown : Choice → Named → Bool
-has_unknown c words = list_any (λ s. lacks_worker words s.now) c.workers.now
-    || list_any (λ s. lacks_object words s.now) c.objects.now
+abbrev pub has_unknown : NameFilter → NameTable → Bool
+has_unknown c words = list_any (λ s. is_unknown_worker words s.now) c.workers.now
+    || list_any (λ s. is_unknown_object words s.now) c.objects.now
 
 unfoldable pub unknown_note : List ℕ → List ℕ → List ℕ
 unknown_note what name = what ++ name ++ codes " is declared\n"
 
-unfoldable pub worker_note : Named → List ℕ → List ℕ
-worker_note words s = if lacks_worker words s then unknown_note (codes "no worker ") s else []
+unfoldable pub worker_note : NameTable → List ℕ → List ℕ
+worker_note words s = if is_unknown_worker words s then unknown_note (codes "no worker ") s else []
 
-unfoldable pub object_note : Named → List ℕ → List ℕ
-object_note words s = if lacks_object words s then unknown_note (codes "no object ") s else []
+unfoldable pub object_note : NameTable → List ℕ → List ℕ
+object_note words s = if is_unknown_object words s then unknown_note (codes "no object ") s else []
 
--- each of these names in a line
-abbrev pub unknown_notes : Choice → Named → List ℕ
+-- a line for each chosen name that is not declared
+abbrev pub unknown_notes : NameFilter → NameTable → List ℕ
 unknown_notes c words = flat_map (λ s. worker_note words s.now) c.workers.now
     ++ flat_map (λ s. object_note words s.now) c.objects.now

@@ -1,4 +1,4 @@
-//! A history of calls in; a picture of it out.
+//! Draws histories of calls.
 ghost use Rattle.std.specs.Prelude.{◌≡◌};
 ghost use Rattle.ec_text.specs.Puts.{IsWrittenOut};
 ghost use Rattle.calls_draw.specs.Draws.{Chooses};
@@ -9,14 +9,13 @@ use crate::view::View;
 use crate::window::is_whole;
 use calls_draw::{CallsView, draw_calls};
 use calls_report::Status as CallsStatus;
-use ec_text::Out;
-use evc_draw_task::{Form, NO_END};
+use ec_text::Output;
+use evc_draw_cli::{Form, NO_END};
 use evc_engine::Status;
 use std::alloc::Global;
 use std::io::Write;
 
-/// Returns a status as the program has it, with the same number: a history that is not decided
-/// stops.
+/// Returns the program's status with the same number. A history that is not decided is `Stopped`.
 fn status_as(status: CallsStatus) -> Status
     ensures { result ≡ status_as status }
 {
@@ -30,7 +29,7 @@ fn status_as(status: CallsStatus) -> Status
     }
 }
 
-/// Returns what is asked for of a history.
+/// Returns the view of a history that a view of the program asks for.
 fn view_of<'a>(view: &View<'a>) -> CallsView<'a>
     ensures { Chooses result → AsksForPart view.now }
 {
@@ -65,7 +64,7 @@ pub(crate) fn draw_histories<W: Write, N: Write>(
     view: &View<'_>,
     text: &[u8],
     out: &mut W,
-    notes: &mut Out<'_, N>,
+    notes: &mut Output<'_, N>,
 ) -> Status
     ensures ends { DrawsHistories view.now text.now result
         (record { out = W.contents out.old; notes = notes.old })

@@ -1,81 +1,16 @@
-//! What is drawn of a text that is refused for one of its lines.
-ghost use Rattle.std.specs.Prelude.{◌≡◌, ◌≤◌, ◌<◌, ◌==◌, ◌++◌, IfSome, IfOk, IfErr, OnOk, length};
-ghost use Rattle.std.specs.List.{position_from};
+//! The history that is drawn of a text with a faulty line.
+ghost use Rattle.std.specs.Prelude.{◌≡◌, ◌++◌, IfOk, IfErr, OnOk};
 ghost use Rattle.ec_heading.specs.Spelling.{reply_word};
 ghost use Rattle.evc_engine.specs.Checks.{ReadsAs};
-ghost use Rattle.evc_draw_engine.specs.Faults.{before_line, behind, behind_line, fault_line, first_line};
-ghost use Rattle.evc_draw_engine.specs.Faults.{history, line_at, mended, place_of, position_in, right_of};
+ghost use Rattle.evc_draw_engine.specs.Faults.{fault_line, history, mended, position_in, right_of};
 ghost use Rattle.evc_draw_engine.specs.Faults.{with_reply, with_right};
 ghost use Rattle.evc_draw_engine.specs.Draws.{RefusedOr};
 
 use ec_core::Reply;
+use ec_explain::{line_at, position_or_end, text_before_line};
 use ec_trace::{TraceFault, Traced, read_trace};
 use itoa::Buffer;
 use std::alloc::{AllocError, Global};
-
-/// Returns where a sign stands first.
-fn position_of(sign: u8, bytes: &[u8]) -> Option<usize>
-    ensures value { result ≡ position_from (λ b. b == sign) 0 bytes.now }
-    ensures within { IfSome result (λ place. place < length bytes.now) }
-{
-    bytes.iter().position(|b| *b == sign)
-}
-
-/// Returns where a sign stands first; behind the last byte if it doesn't.
-fn place_of(sign: u8, bytes: &[u8]) -> usize
-    ensures value { result ≡ place_of sign bytes.now }
-    ensures within { result ≤ length bytes.now }
-{
-    match position_of(sign, bytes) {
-        Some(place) => place,
-        None => bytes.len(),
-    }
-}
-
-/// Returns what stands behind the first line.
-fn behind_line(text: &[u8]) -> &[u8]
-    ensures { result.now ≡ behind_line text.now }
-{
-    let end = place_of(b'\n', text);
-    if end < text.len() {
-        &text[end + 1..]
-    } else {
-        &[]
-    }
-}
-
-/// Returns what stands behind so many lines.
-fn behind(lines: u64, text: &[u8]) -> &[u8]
-    ensures { result.now ≡ behind lines text.now }
-{
-    let mut rest = text;
-    for _line in 0..lines {
-        rest = behind_line(rest);
-    }
-    rest
-}
-
-/// Returns the first line, without its LF.
-fn first_line(text: &[u8]) -> &[u8]
-    ensures { result.now ≡ first_line text.now }
-{
-    &text[..place_of(b'\n', text)]
-}
-
-/// Returns a line of a text, counted from 1.
-pub(crate) fn line_at(number: u64, text: &[u8]) -> &[u8]
-    ensures { result.now ≡ line_at number text.now }
-{
-    first_line(behind(number.saturating_sub(1), text))
-}
-
-/// Returns all that stands before a line.
-fn before_line(number: u64, text: &[u8]) -> &[u8]
-    ensures { result.now ≡ before_line number text.now }
-{
-    let rest = behind(number.saturating_sub(1), text);
-    &text[..text.len().saturating_sub(rest.len())]
-}
 
 /// Adds the word of a reply.
 fn add_reply(text: &mut Vec<u8>, reply: &Reply) -> Result<(), AllocError>
@@ -96,7 +31,7 @@ fn add_reply(text: &mut Vec<u8>, reply: &Reply) -> Result<(), AllocError>
 fn add_with_reply(text: &mut Vec<u8>, line: &[u8], reply: &Reply) -> Result<(), AllocError>
     ensures { OnOk result (text.new.items ≡ text.old.items ++ with_reply line.now reply.now) }
 {
-    text.extend_from_slice(&line[..place_of(b'=', line)])?;
+    text.extend_from_slice(&line[..position_or_end(b'=', line)])?;
     text.extend_from_slice(b"= ")?;
     add_reply(text, reply)?;
     text.extend_from_slice(b"\n")
@@ -112,10 +47,10 @@ fn add_with_right(text: &mut Vec<u8>, line: &[u8], right: &Option<Reply>) -> Res
     Ok(())
 }
 
-/// Returns the text of the lines before a faulty one, and of that with its right reply, if it has
-/// one.
+/// Returns a trace: the lines before a faulty one, that line with its right reply if there is one,
+/// and `end`.
 #[tactic(auto, unfolding(crate::specs::Faults::mended))]
-fn mended(
+fn correct_line(
     alloc: Global,
     before: &[u8],
     line: &[u8],
@@ -139,8 +74,8 @@ pub(crate) fn read_text(alloc: Global, text: &[u8]) -> Result<Traced, TraceFault
     read_trace(alloc, &mut rest)
 }
 
-/// Returns the trace of the lines before a faulty one, and of that with its right reply, if it has
-/// one; none if no run had begun.
+/// Returns the trace of the lines before a faulty one, and of that line with its right reply if
+/// there is one. `None` if no run had begun.
 pub(crate) fn history(
     alloc: Global,
     number: u64,
@@ -149,9 +84,9 @@ pub(crate) fn history(
 ) -> Result<Option<Traced>, AllocError>
     ensures { IfOk result (λ read. read ≡ history number right.now text.now) }
 {
-    let mended = mended(
+    let mended = correct_line(
         alloc,
-        before_line(number, text),
+        text_before_line(number, text),
         line_at(number, text),
         right,
     )?;
@@ -162,7 +97,7 @@ pub(crate) fn history(
     }
 }
 
-/// Returns the number of the line of a fault.
+/// Returns the number of the line of a fault, `None` if it has no line.
 pub(crate) fn fault_line(fault: &TraceFault) -> Option<u64>
     ensures { result ≡ fault_line fault.now }
 {
@@ -174,7 +109,7 @@ pub(crate) fn fault_line(fault: &TraceFault) -> Option<u64>
     }
 }
 
-/// Returns the right reply, if the reply alone is wrong.
+/// Returns the right reply, if only the reply is wrong.
 pub(crate) fn right_of(fault: &TraceFault) -> Option<Reply>
     ensures { result ≡ right_of fault.now }
 {
@@ -184,7 +119,8 @@ pub(crate) fn right_of(fault: &TraceFault) -> Option<Reply>
     }
 }
 
-/// Returns the position of the entry of a faulty line, if so many entries were read.
+/// Returns the position of the entry of a faulty line, if the history up to it has `entries`
+/// entries.
 pub(crate) fn position_in(right: &Option<Reply>, entries: usize) -> usize
     ensures { result ≡ position_in right.now entries }
 {

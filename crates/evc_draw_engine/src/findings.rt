@@ -1,13 +1,13 @@
-//! What the audits of groups find: shades over accepting tries, and arrows from puts to gets.
+//! What the audits of groups find: shades over accepted tries, and arrows from puts to gets.
 ghost use Rattle.std.specs.Prelude.{◌≤◌};
 
-use crate::elements::{Put, put_rect, xy};
+use crate::elements::{PutResult, put_rect, xy};
 use crate::sheet::{ROW, Sheet};
 use crate::words::{put_delivery_words, put_version_words};
 use ec_draw::{Arrow, Shade};
 
 /// Puts a shade over its columns in the row of its reader.
-pub(crate) fn put_shade(out: &mut String, sheet: &Sheet<'_>, shade: &Shade) -> Put {
+pub(crate) fn put_shade(out: &mut String, sheet: &Sheet<'_>, shade: &Shade) -> PutResult {
     out.push_str("<g class='version'><title>")?;
     put_version_words(out, sheet.names, shade)?;
     out.push_str("</title>\n")?;
@@ -18,7 +18,7 @@ pub(crate) fn put_shade(out: &mut String, sheet: &Sheet<'_>, shade: &Shade) -> P
     out.push_str("</g>\n")
 }
 
-/// Returns where an end of an arrow stands.
+/// Returns the x of an end of an arrow.
 fn end_place(sheet: &Sheet<'_>, position: usize) -> u64 {
     if sheet.picture.window.shows(position) {
         sheet.centre(position)
@@ -27,14 +27,14 @@ fn end_place(sheet: &Sheet<'_>, position: usize) -> u64 {
     }
 }
 
-/// Returns the edge of a bar in a row that faces another row.
+/// Returns the y of the edge of a row's bars that is nearer to another row.
 fn facing(y: u64, other: u64) -> u64
     requires { y ≤ 2000 }
 {
     if y < other { y + 54 } else { y + 32 }
 }
 
-/// Returns the height at which an arrow goes along a row, on the side of another row.
+/// Returns the y at which an arrow goes along a row, on the side of another row.
 fn lane(y: u64, other: u64, number: u64) -> u64
     requires { y ≤ 2000 }
 {
@@ -43,7 +43,7 @@ fn lane(y: u64, other: u64, number: u64) -> u64
 }
 
 /// Puts the arrow of a delivery. It goes along the consumer's row, in one of three lanes.
-pub(crate) fn put_arrow(out: &mut String, sheet: &Sheet<'_>, arrow: &Arrow) -> Put {
+pub(crate) fn put_arrow(out: &mut String, sheet: &Sheet<'_>, arrow: &Arrow) -> PutResult {
     out.push_str("<g class='delivery'><title>")?;
     put_delivery_words(out, sheet.names, arrow)?;
     out.push_str("</title>\n")?;

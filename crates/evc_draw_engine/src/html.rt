@@ -1,6 +1,6 @@
 //! The picture in a page of HTML, in which it is scrolled and zoomed without a server.
 
-use crate::elements::Put;
+use crate::elements::PutResult;
 use crate::sheet::Sheet;
 use crate::svg::put_svg;
 use std::alloc::Global;
@@ -25,8 +25,8 @@ svg { display: block; }
 </nav>
 ";
 
-/// The page after it: a zoom goes in steps, keeps in place what is in the middle of the window, and
-/// makes an entry no narrower than 28 pixels.
+/// The page after the picture. A zoom goes in steps and keeps the middle of the window in place. An
+/// entry is at least 28 pixels wide.
 pub(crate) const END: &str = "<script>
 const picture = document.querySelector('svg');
 const width = picture.width.baseVal.value, height = picture.height.baseVal.value;
@@ -57,7 +57,7 @@ addEventListener('wheel', event => {
 ";
 
 /// Puts the page of a picture.
-pub(crate) fn put_html(out: &mut String, alloc: Global, sheet: &Sheet<'_>) -> Put {
+pub(crate) fn put_html(out: &mut String, alloc: Global, sheet: &Sheet<'_>) -> PutResult {
     out.push_str(BEGINNING)?;
     put_svg(out, alloc, sheet)?;
     out.push_str(END)

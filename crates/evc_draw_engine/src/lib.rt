@@ -1,4 +1,4 @@
-//! What `evc-draw` does with its input: a trace, or a history of calls, in; a picture of it out.
+//! Draws the input of `evc-draw`, a trace or histories of calls, as a picture.
 #![tactic(auto)]
 
 mod calls;

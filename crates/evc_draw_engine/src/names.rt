@@ -1,8 +1,8 @@
-//! What a trace calls its workers and objects, and how calls are spelled.
+//! The names of a trace's workers and objects, and the text of its calls.
 
 use ec_core::{Act, Reply};
-use ec_count::{CellId, EventId, SeqId, Target, Vocabulary, WorkerId};
-use ec_draw::{Counted, Plotted};
+use ec_count::{CellId, EventId, SeqId, SymbolTable, Target, WorkerId};
+use ec_draw::{Counter, CurveSource};
 use ec_trace::Spellings;
 use std::fmt;
 
@@ -26,15 +26,15 @@ impl<'a> Name<'a> {
     }
 }
 
-/// The names of a heading.
+/// The names that a header declares.
 #[derive(Drop)]
 pub(crate) struct Names<'a> {
-    words: &'a Vocabulary,
+    words: &'a SymbolTable,
     spellings: Spellings<'a>,
 }
 
 impl<'a> Names<'a> {
-    pub(crate) fn new(words: &'a Vocabulary) -> Self {
+    pub(crate) fn new(words: &'a SymbolTable) -> Self {
         let spellings = Spellings::new(words);
         Names { words, spellings }
     }
@@ -51,7 +51,7 @@ impl<'a> Names<'a> {
         Name(self.spellings.sequencer(sequencer))
     }
 
-    /// Returns the name of the group that an eventcount is of: what its own has before the point.
+    /// Returns the name of the group of an eventcount: its own name up to the dot.
     pub(crate) fn group(&self, event: EventId) -> Name<'a> {
         let word = self.spellings.event(event);
         match word.iter().position(|byte| *byte == b'.') {
@@ -60,16 +60,16 @@ impl<'a> Names<'a> {
         }
     }
 
-    /// Returns the name of what has a curve: a balance is called by its semaphore.
-    pub(crate) fn curve(&self, object: &Plotted) -> Name<'a> {
+    /// Returns the name of a curve: that of its object, or of its semaphore if it is a balance.
+    pub(crate) fn curve(&self, object: &CurveSource) -> Name<'a> {
         match *object {
-            Plotted::Count(Counted::Event(event)) => self.event(event),
-            Plotted::Count(Counted::Sequencer(sequencer)) => self.sequencer(sequencer),
-            Plotted::Balance(event) => self.group(event),
+            CurveSource::Count(Counter::Event(event)) => self.event(event),
+            CurveSource::Count(Counter::Sequencer(sequencer)) => self.sequencer(sequencer),
+            CurveSource::Balance(event) => self.group(event),
         }
     }
 
-    /// Returns the block of a cell, and which of the block's cells it is.
+    /// Returns the name of a cell: its block, and its index in the block.
     pub(crate) fn cell(&self, cell: CellId) -> CellName<'a> {
         let cell = cell.get();
         for number in 0..self.words.len() {
@@ -87,7 +87,7 @@ impl<'a> Names<'a> {
     }
 }
 
-/// Returns which cell of a target a cell is, if it is one of them.
+/// Returns the index of a cell in the block that a target is, `None` if it is not in it.
 fn place_in(cell: usize, target: &Target) -> Option<usize> {
     match *target {
         Target::Cells(first, n) => {
@@ -129,14 +129,14 @@ pub(crate) fn kind(act: &Act) -> &'static str {
     }
 }
 
-/// What an act asks for, after its word: as a trace has it.
+/// The arguments of an act, as a trace has them after the word.
 #[derive(Clone, Copy)]
-pub(crate) struct Asked<'a, 'n> {
+pub(crate) struct ActText<'a, 'n> {
     pub(crate) names: &'a Names<'n>,
     pub(crate) act: Act,
 }
 
-impl fmt::Display for Asked<'_, '_> {
+impl fmt::Display for ActText<'_, '_> {
     fn fmt<W: fmt::Write>(&self, f: &mut fmt::Formatter<W>) -> fmt::Result {
         let names = self.names;
         match self.act {
@@ -153,9 +153,9 @@ impl fmt::Display for Asked<'_, '_> {
 
 /// The word of a reply.
 #[derive(Clone, Copy)]
-pub(crate) struct Returned(pub(crate) Reply);
+pub(crate) struct ReplyText(pub(crate) Reply);
 
-impl fmt::Display for Returned {
+impl fmt::Display for ReplyText {
     fn fmt<W: fmt::Write>(&self, f: &mut fmt::Formatter<W>) -> fmt::Result {
         match self.0 {
             Reply::Done => f.write_str("done"),
@@ -165,22 +165,22 @@ impl fmt::Display for Returned {
     }
 }
 
-/// Bytes of a line that may be faulty: a question mark stands for each that is no plain letter, or
-/// that would need an escape.
+/// Bytes of a line that may be faulty. One that is not printable ASCII, or would need an escape, is
+/// shown as a question mark.
 #[derive(Clone, Copy)]
 pub(crate) struct Plain<'a>(pub(crate) &'a [u8]);
 
 impl fmt::Display for Plain<'_> {
     fn fmt<W: fmt::Write>(&self, f: &mut fmt::Formatter<W>) -> fmt::Result {
         for byte in self.0 {
-            f.write_char(shown(*byte))?;
+            f.write_char(plain_char(*byte))?;
         }
         Ok(())
     }
 }
 
 /// Returns a byte as it is shown.
-fn shown(byte: u8) -> char {
+fn plain_char(byte: u8) -> char {
     match byte {
         b'<' | b'>' | b'&' => '?',
         32..127 => byte as char,

@@ -1,8 +1,8 @@
-//! What is said of a faulty line.
+//! The note on a faulty line.
 ghost use Rattle.std.specs.Prelude.{◌≤◌};
 
-use crate::elements::{Put, put_line, put_text_end, put_text_start, squeeze, xy};
-use crate::names::{Plain, Returned};
+use crate::elements::{PutResult, put_line, put_text_end, put_text_start, squeeze, xy};
+use crate::names::{Plain, ReplyText};
 use crate::sheet::Sheet;
 use ec_core::Act;
 use ec_count::WorkerId;
@@ -21,11 +21,11 @@ pub(crate) struct Note<'a> {
     pub(crate) position: usize,
 }
 
-/// The round of a read or an await whose reply alone is wrong.
+/// The round of a read or an await whose reply is wrong.
 #[derive(Drop)]
 struct Round {
     worker: WorkerId,
-    /// The eventcount, by its number.
+    /// The number of the eventcount.
     event: usize,
     /// The position at which it began, if that is shown.
     begun: Option<usize>,
@@ -38,7 +38,8 @@ impl Round {
     }
 }
 
-/// Returns the round of a faulty line: its entry is then the last one that is shown.
+/// Returns the round of a faulty line, if its entry is the last one that is shown, and is of a read
+/// or an await.
 fn round_of(note: &Note<'_>, dots: &[Dot]) -> Option<Round> {
     let last = dots.last()?;
     let (Act::Read(event) | Act::Await(event, _)) = last.op else {
@@ -59,13 +60,13 @@ fn round_of(note: &Note<'_>, dots: &[Dot]) -> Option<Round> {
     })
 }
 
-/// Returns what is wrong with a line, and what was right.
+/// Returns what is wrong with a line, and the right reply if it is the reply.
 fn fault_words(alloc: Global, fault: &TraceFault) -> Result<String, AllocError> {
     match *fault {
         TraceFault::BadLine(_) => String::from_str(alloc, "no line that can stand here"),
         TraceFault::Refused(_, refusal) => format!(in alloc; "refused: {}", refusal.name()),
         TraceFault::WrongReply(_, right) => {
-            format!(in alloc; "the right reply is {}", Returned(right))
+            format!(in alloc; "the right reply is {}", ReplyText(right))
         }
         TraceFault::Unfinished => String::from_str(alloc, "unfinished"),
         TraceFault::TooLarge => String::from_str(alloc, "too large"),
@@ -80,7 +81,8 @@ fn height_at(window: Window, curve: &Curve, moment: usize) -> u64 {
     curve.heights.get(column).copied().unwrap_or(0)
 }
 
-/// Returns the total of the eventcount of a round when it began, and at the faulty entry.
+/// Returns the words on the total of a round's eventcount: when the round began, and at the faulty
+/// entry.
 fn total_words(
     alloc: Global,
     sheet: &Sheet<'_>,
@@ -100,14 +102,14 @@ fn total_words(
     }
 }
 
-/// Adds what the entries of a round read, each with its line.
+/// Adds a line on what each entry of a round read, with the entry's line in the text.
 fn add_reads(
     lines: &mut Vec<String>,
     alloc: Global,
     note: &Note<'_>,
     round: &Round,
     dots: &[Dot],
-) -> Put {
+) -> PutResult {
     for dot in dots {
         if let (true, Some(component), Some(number)) = (round.has(dot), dot.component, dot.number) {
             let before = note.position.saturating_sub(dot.position) as u64;
@@ -118,7 +120,7 @@ fn add_reads(
     Ok(())
 }
 
-/// Returns what is said of a faulty line.
+/// Returns the lines of the note on a faulty line.
 fn lines_of(alloc: Global, sheet: &Sheet<'_>, note: &Note<'_>) -> Result<Vec<String>, AllocError> {
     let mut lines = Vec::new(alloc);
     let words = Plain(&note.line[..note.line.len().min(100)]);
@@ -134,22 +136,22 @@ fn lines_of(alloc: Global, sheet: &Sheet<'_>, note: &Note<'_>) -> Result<Vec<Str
     Ok(lines)
 }
 
-/// What is said of a faulty line, in lines; none if there is none.
+/// The lines of the note on a faulty line; empty if there is no such line.
 #[derive(Drop)]
-pub(crate) struct Told {
+pub(crate) struct NoteLines {
     lines: Vec<String>,
 }
 
-impl Told {
-    pub(crate) fn of(alloc: Global, sheet: &Sheet<'_>) -> Result<Told, AllocError> {
+impl NoteLines {
+    pub(crate) fn of(alloc: Global, sheet: &Sheet<'_>) -> Result<NoteLines, AllocError> {
         let lines = match &sheet.note {
             Some(note) => lines_of(alloc, sheet, note)?,
             None => Vec::new(alloc),
         };
-        Ok(Told { lines })
+        Ok(NoteLines { lines })
     }
 
-    /// Returns how wide a picture with it is.
+    /// Returns the width of a picture with the note.
     pub(crate) fn width(&self, sheet: &Sheet<'_>) -> u64 {
         if self.lines.is_empty() {
             sheet.width()
@@ -158,7 +160,7 @@ impl Told {
         }
     }
 
-    /// Returns how high it is.
+    /// Returns the height of the note.
     pub(crate) fn height(&self) -> u64
         ensures { result ≤ 1000 }
     {
@@ -168,8 +170,8 @@ impl Told {
         }
     }
 
-    /// Puts it as lines, after an empty one.
-    pub(crate) fn put_lines(&self, out: &mut String) -> Put {
+    /// Puts the note as lines, after an empty one.
+    pub(crate) fn put_lines(&self, out: &mut String) -> PutResult {
         if !self.lines.is_empty() {
             out.push_str("\n")?;
         }
@@ -180,7 +182,7 @@ impl Told {
     }
 }
 
-/// Returns the reply that a line has.
+/// Returns the reply in a line, after `= `; empty if it has none.
 fn reply_in(line: &[u8]) -> &[u8] {
     match line.iter().position(|byte| *byte == b'=') {
         Some(place) => line.get(place.saturating_add(2)..).unwrap_or(b""),
@@ -189,7 +191,7 @@ fn reply_in(line: &[u8]) -> &[u8] {
 }
 
 /// Puts the wrong reply of a faulty line, struck out, before the right one.
-fn put_wrong_reply(out: &mut String, sheet: &Sheet<'_>, note: &Note<'_>, dot: &Dot) -> Put {
+fn put_wrong_reply(out: &mut String, sheet: &Sheet<'_>, note: &Note<'_>, dot: &Dot) -> PutResult {
     if !sheet.chosen.draws(dot.worker, &dot.op) {
         return Ok(());
     }
@@ -202,7 +204,7 @@ fn put_wrong_reply(out: &mut String, sheet: &Sheet<'_>, note: &Note<'_>, dot: &D
 }
 
 /// Puts a band over the column of a faulty line, and its wrong reply if it has one.
-fn put_column(out: &mut String, sheet: &Sheet<'_>, note: &Note<'_>) -> Put {
+fn put_column(out: &mut String, sheet: &Sheet<'_>, note: &Note<'_>) -> PutResult {
     if !sheet.picture.window.shows(note.position) {
         return Ok(());
     }
@@ -214,13 +216,13 @@ fn put_column(out: &mut String, sheet: &Sheet<'_>, note: &Note<'_>) -> Put {
     }
 }
 
-/// Puts what is said of a faulty line below the picture.
-pub(crate) fn put_note(out: &mut String, sheet: &Sheet<'_>, told: &Told) -> Put {
+/// Puts the note on a faulty line below the picture, and marks the line's column.
+pub(crate) fn put_note(out: &mut String, sheet: &Sheet<'_>, note_lines: &NoteLines) -> PutResult {
     if let Some(note) = &sheet.note {
         put_column(out, sheet, note)?;
     }
     let mut y = sheet.height();
-    for line in told.lines.as_slice() {
+    for line in note_lines.lines.as_slice() {
         put_text_start(out, "fault", "", xy(16, y))?;
         write!(out, "{}", line.as_str())?;
         put_text_end(out)?;

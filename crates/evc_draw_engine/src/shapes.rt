@@ -2,18 +2,18 @@
 ghost use Rattle.std.specs.Prelude.{◌≤◌};
 
 use crate::elements::{
-    Place, Put, digits, put_line, put_rect, put_text_end, put_text_start, squeeze, xy,
+    Pixel, PutResult, digits, put_line, put_rect, put_text_end, put_text_start, squeeze, xy,
 };
 use crate::names::{Names, kind};
 use crate::sheet::Sheet;
-use crate::words::{put_call_words, put_open_words};
+use crate::words::{put_call_words, put_pending_words};
 use ec_core::{Act, Reply};
-use ec_draw::{Dot, Open};
+use ec_draw::{Dot, PendingBar};
 use ec_order::{Call, Placed};
 
-/// Puts the value that an act has beside its object: a threshold, the value of a put, or the worker
-/// that a component is handed to.
-fn put_act_words(out: &mut String, names: &Names<'_>, act: &Act) -> Put {
+/// Puts the word of an act, and its argument other than the object: a threshold, the value of a
+/// put, or the worker that a component is handed to.
+fn put_act_words(out: &mut String, names: &Names<'_>, act: &Act) -> PutResult {
     let word = kind(act);
     match *act {
         Act::Await(_, value) | Act::Put(_, value) => write!(out, "{word} {value}"),
@@ -24,7 +24,7 @@ fn put_act_words(out: &mut String, names: &Names<'_>, act: &Act) -> Put {
     }
 }
 
-/// Returns how many letters these words have; nothing if they are few.
+/// Returns how many letters these words have, 0 if there is no argument.
 fn letters(names: &Names<'_>, act: &Act) -> usize {
     match *act {
         Act::Await(_, value) => 6 + digits(value),
@@ -35,7 +35,7 @@ fn letters(names: &Names<'_>, act: &Act) -> usize {
 }
 
 /// Puts the object of an act.
-fn put_object(out: &mut String, names: &Names<'_>, at: Place, act: &Act) -> Put {
+fn put_object(out: &mut String, names: &Names<'_>, at: Pixel, act: &Act) -> PutResult {
     let name = match *act {
         Act::Advance(event) | Act::Read(event) | Act::Await(event, _) | Act::Hand(event, _) => {
             names.event(event)
@@ -53,19 +53,20 @@ fn put_object(out: &mut String, names: &Names<'_>, at: Place, act: &Act) -> Put 
     put_text_end(out)
 }
 
-/// Puts the two lines above a bar: what was asked for, and of which object.
-fn put_label(out: &mut String, names: &Names<'_>, at: Place, act: &Act) -> Put
+/// Puts the two lines above a bar: the act with its argument, and the object.
+fn put_label(out: &mut String, names: &Names<'_>, at: Pixel, act: &Act) -> PutResult
     requires { at.y ≤ 2000 }
 {
-    let Place { x, y } = at;
+    let Pixel { x, y } = at;
     put_text_start(out, "act", squeeze(letters(names, act)), xy(x, y + 14))?;
     put_act_words(out, names, act)?;
     put_text_end(out)?;
     put_object(out, names, xy(x, y + 26), act)
 }
 
-/// Puts where the last round of an await began, if that is a later one, and is shown.
-fn put_round(out: &mut String, sheet: &Sheet<'_>, call: &Call) -> Put {
+/// Puts a line where the last round of a call began, if that is after its first entry, and is
+/// shown.
+fn put_round(out: &mut String, sheet: &Sheet<'_>, call: &Call) -> PutResult {
     let window = sheet.picture.window;
     if call.round <= call.first || call.round < window.from || window.to < call.round {
         return Ok(());
@@ -74,8 +75,8 @@ fn put_round(out: &mut String, sheet: &Sheet<'_>, call: &Call) -> Put {
     put_line(out, "round", xy(x, y + 32), xy(x, y + 54))
 }
 
-/// Puts the number that was returned, below the end of the bar, if that is shown.
-fn put_reply(out: &mut String, sheet: &Sheet<'_>, call: &Call) -> Put {
+/// Puts the number that was returned below the end of the bar, if the end is shown.
+fn put_reply(out: &mut String, sheet: &Sheet<'_>, call: &Call) -> PutResult {
     let Reply::Number(number) = call.reply else {
         return Ok(());
     };
@@ -89,7 +90,7 @@ fn put_reply(out: &mut String, sheet: &Sheet<'_>, call: &Call) -> Put {
 }
 
 /// Puts a completed call: its bar, which has its words as a title, its label and its reply.
-pub(crate) fn put_bar(out: &mut String, sheet: &Sheet<'_>, placed: &Placed) -> Put {
+pub(crate) fn put_bar(out: &mut String, sheet: &Sheet<'_>, placed: &Placed) -> PutResult {
     let call = &placed.call;
     write!(out, "<g class='{}'><title>", kind(&call.op))?;
     put_call_words(out, sheet.names, placed)?;
@@ -105,10 +106,10 @@ pub(crate) fn put_bar(out: &mut String, sheet: &Sheet<'_>, placed: &Placed) -> P
     out.push_str("</g>\n")
 }
 
-/// Puts a pending call, whose bar goes on to the edge.
-pub(crate) fn put_open_bar(out: &mut String, sheet: &Sheet<'_>, begun: &Open) -> Put {
+/// Puts a pending call. Its bar extends to the right edge.
+pub(crate) fn put_open_bar(out: &mut String, sheet: &Sheet<'_>, begun: &PendingBar) -> PutResult {
     write!(out, "<g class='open {}'><title>", kind(&begun.op))?;
-    put_open_words(out, sheet.names, begun)?;
+    put_pending_words(out, sheet.names, begun)?;
     out.push_str("</title>\n")?;
     let y = sheet.row(begun.worker);
     let x = sheet.bar_from(begun.first);
@@ -118,8 +119,8 @@ pub(crate) fn put_open_bar(out: &mut String, sheet: &Sheet<'_>, begun: &Open) ->
     out.push_str("</g>\n")
 }
 
-/// Puts the component that an entry read or raised, and what it read of it.
-fn put_component(out: &mut String, at: Place, component: usize, number: Option<u64>) -> Put {
+/// Puts the component that an entry read or raised, and the number that it read.
+fn put_component(out: &mut String, at: Pixel, component: usize, number: Option<u64>) -> PutResult {
     let letters = digits(component as u64)
         + match number {
             Some(number) => 1 + digits(number),
@@ -135,7 +136,7 @@ fn put_component(out: &mut String, at: Place, component: usize, number: Option<u
 }
 
 /// Puts the dot of an entry.
-pub(crate) fn put_dot(out: &mut String, sheet: &Sheet<'_>, dot: &Dot) -> Put {
+pub(crate) fn put_dot(out: &mut String, sheet: &Sheet<'_>, dot: &Dot) -> PutResult {
     let (x, y) = (sheet.centre(dot.position), sheet.row(dot.worker));
     write!(out, "<circle r='3' cx='{x}' cy='{}'/>\n", y + 43)?;
     match dot.component {
@@ -147,8 +148,8 @@ pub(crate) fn put_dot(out: &mut String, sheet: &Sheet<'_>, dot: &Dot) -> Put {
     }
 }
 
-/// Puts the tie of a read or an await to the total that it returned.
-fn put_tie(out: &mut String, sheet: &Sheet<'_>, from: Place, call: &Call) -> Put {
+/// Puts a line from the mark of a read or an await to the total that it returned.
+fn put_tie(out: &mut String, sheet: &Sheet<'_>, from: Pixel, call: &Call) -> PutResult {
     let (Act::Read(event) | Act::Await(event, _)) = call.op else {
         return Ok(());
     };
@@ -163,8 +164,9 @@ fn put_tie(out: &mut String, sheet: &Sheet<'_>, from: Place, call: &Call) -> Put
     put_line(out, "tie", from, xy(x, y))
 }
 
-/// Puts the mark of a call at its point, if that is shown, with its tie.
-pub(crate) fn put_mark(out: &mut String, sheet: &Sheet<'_>, placed: &Placed) -> Put {
+/// Puts the mark of a call at its linearization point, if that is shown, with its line to the
+/// total.
+pub(crate) fn put_mark(out: &mut String, sheet: &Sheet<'_>, placed: &Placed) -> PutResult {
     let window = sheet.picture.window;
     if placed.point < window.from || window.to < placed.point {
         return Ok(());

@@ -1,33 +1,33 @@
-//! What a picture is made of, and where things stand in it, in pixels.
+//! The parts of a picture, and their coordinates, in pixels.
 ghost use Rattle.std.specs.Prelude.{◌≤◌};
 
 use crate::names::Names;
 use crate::note::Note;
 use ec_count::WorkerId;
-use ec_draw::{Chosen, Curve, Picture};
+use ec_draw::{Curve, Picture, Selection};
 
-/// How wide an entry's column is.
+/// The width of an entry's column.
 pub(crate) const COLUMN: u64 = 84;
 
-/// How high a worker's row is.
+/// The height of a worker's row.
 pub(crate) const ROW: u64 = 76;
 
-/// Where the columns begin.
+/// The x at which the columns begin.
 pub(crate) const LEFT: u64 = 136;
 
-/// The shapes of a picture, which of them are drawn, and what they are called.
+/// The shapes of a picture, which of them are drawn, and their names.
 #[derive(Clone, Copy)]
 pub(crate) struct Sheet<'a> {
     pub(crate) names: &'a Names<'a>,
-    pub(crate) chosen: &'a Chosen,
+    pub(crate) chosen: &'a Selection,
     pub(crate) workers: usize,
     pub(crate) picture: &'a Picture,
-    /// What is to be said of a faulty line.
+    /// The faulty line, if there is one.
     pub(crate) note: Option<Note<'a>>,
 }
 
 impl<'a> Sheet<'a> {
-    /// Returns the left edge of the column of a moment.
+    /// Returns the x of the left edge of a moment's column.
     pub(crate) fn edge(&self, moment: usize) -> u64
         ensures low { 136 ≤ result }
         ensures high { result ≤ 33736 }
@@ -35,7 +35,7 @@ impl<'a> Sheet<'a> {
         LEFT + COLUMN * self.picture.window.column(moment) as u64
     }
 
-    /// Returns the right edge of the column of an entry.
+    /// Returns the x of the right edge of an entry's column.
     pub(crate) fn end_of(&self, position: usize) -> u64
         ensures low { 136 ≤ result }
         ensures high { result ≤ 33736 }
@@ -43,28 +43,28 @@ impl<'a> Sheet<'a> {
         self.edge(position.saturating_add(1))
     }
 
-    /// Returns the middle of the column of an entry.
+    /// Returns the x of the middle of an entry's column.
     pub(crate) fn centre(&self, position: usize) -> u64
         ensures { result ≤ 33778 }
     {
         self.edge(position) + COLUMN / 2
     }
 
-    /// Returns how wide the picture is without what is said of a faulty line.
+    /// Returns the width of the picture without the note on a faulty line.
     pub(crate) fn width(&self) -> u64
         ensures { result ≤ 33800 }
     {
         200 + COLUMN * self.picture.window.columns() as u64
     }
 
-    /// Returns the top of a worker's row.
+    /// Returns the y of the top of a worker's row.
     pub(crate) fn row(&self, worker: WorkerId) -> u64
         ensures { result ≤ 1256 }
     {
         40 + ROW * self.chosen.workers_before(worker.get()) as u64
     }
 
-    /// Returns where the rows end.
+    /// Returns the y at which the rows end.
     pub(crate) fn below(&self) -> u64
         ensures low { 60 ≤ result }
         ensures high { result ≤ 1276 }
@@ -72,7 +72,7 @@ impl<'a> Sheet<'a> {
         60 + ROW * self.chosen.workers_before(self.workers) as u64
     }
 
-    /// Returns how many of the first curves are drawn.
+    /// Returns how many of the first `number` curves are drawn.
     fn curves_before(&self, number: usize) -> u64
         ensures { result ≤ 96 }
     {
@@ -83,7 +83,7 @@ impl<'a> Sheet<'a> {
             .min(96) as u64
     }
 
-    /// Returns the height of the least number of the curve with a number.
+    /// Returns the y of the least number of a curve, which is curve `number` of the picture.
     pub(crate) fn base(&self, number: usize) -> u64
         ensures low { 124 ≤ result }
         ensures high { result ≤ 9404 }
@@ -91,14 +91,14 @@ impl<'a> Sheet<'a> {
         self.below() + 84 * self.curves_before(number) + 64
     }
 
-    /// Returns how high the picture is without what is said of a faulty line.
+    /// Returns the height of the picture without the note on a faulty line.
     pub(crate) fn height(&self) -> u64
         ensures { result ≤ 9400 }
     {
         self.below() + 84 * self.curves_before(self.picture.curves.len()) + 30
     }
 
-    /// Returns where the bar of a call begins, by its first entry.
+    /// Returns the x at which the bar of a call with this first entry begins.
     pub(crate) fn bar_from(&self, first: usize) -> u64
         ensures { result ≤ 33739 }
     {
@@ -110,7 +110,7 @@ impl<'a> Sheet<'a> {
         }
     }
 
-    /// Returns where the bar of a call ends, by its last entry.
+    /// Returns the x at which the bar of a call with this last entry ends.
     pub(crate) fn bar_to(&self, last: usize) -> u64
         ensures { result ≤ 33800 }
     {
@@ -121,7 +121,7 @@ impl<'a> Sheet<'a> {
         }
     }
 
-    /// Returns how the curve with a number is drawn.
+    /// Returns the scale of a curve, which is curve `number` of the picture.
     pub(crate) fn scale(&self, number: usize, curve: &Curve) -> Scale {
         let (low, high) = (least(curve), greatest(curve));
         Scale {
@@ -132,7 +132,7 @@ impl<'a> Sheet<'a> {
     }
 }
 
-/// How the numbers of a curve are drawn: the least at the height `base`.
+/// The vertical scale of a curve. Its least number is at the y `base`.
 #[derive(Clone, Copy)]
 pub(crate) struct Scale {
     base: u64,
@@ -141,7 +141,7 @@ pub(crate) struct Scale {
 }
 
 impl Scale {
-    /// Returns the height at which a number is drawn.
+    /// Returns the y of a number.
     pub(crate) fn level(&self, number: u64) -> u64 {
         let span = self.span.clamp(1, 1000);
         let rise = 52 * number.saturating_sub(self.low).min(span) / span;

@@ -1,11 +1,11 @@
 //! The texts of a picture that are always the same.
 
-/// The beginning of a picture.
+/// The beginning of a picture, up to its width.
 pub(crate) const OPENING: &str = "<svg xmlns='http://www.w3.org/2000/svg'";
 
-/// How it looks. The colours are those of M. Okabe and K. Ito, which people who don't see all
-/// colours can tell apart; a pending call is dashed too, and each bar has its word. The words that
-/// an arrow may run across stand out from it.
+/// The style sheet. The colours are those of M. Okabe and K. Ito, which people who don't see all
+/// colours can tell apart. A pending call is dashed too, and each bar has its word. Words that an
+/// arrow may cross have an outline.
 pub(crate) const STYLE: &str = "<style>
 text { font-family: 'DejaVu Sans Mono', monospace; font-size: 10px; fill: #1f2933; }
 .paper { fill: #ffffff; }

@@ -1,10 +1,10 @@
 //! The picture as a text for a terminal.
 
-use crate::elements::Put;
+use crate::elements::PutResult;
 use crate::names::Name;
-use crate::note::Told;
+use crate::note::NoteLines;
 use crate::sheet::Sheet;
-use crate::words::{put_call_words, put_delivery_words, put_open_words, put_version_words};
+use crate::words::{put_call_words, put_delivery_words, put_pending_words, put_version_words};
 use ec_count::WorkerId;
 use ec_draw::{Curve, Dot};
 use std::alloc::Global;
@@ -18,13 +18,13 @@ fn has_long(sheet: &Sheet<'_>) -> bool {
         })
 }
 
-/// Returns how wide the cells of all rows are.
+/// Returns the width of the cells of all rows.
 fn cell_width(sheet: &Sheet<'_>) -> usize {
     if has_long(sheet) { 8 } else { 4 }
 }
 
 /// Puts the name of a row.
-fn put_row_name(out: &mut String, name: Name<'_>) -> Put {
+fn put_row_name(out: &mut String, name: Name<'_>) -> PutResult {
     write!(out, "{name}")?;
     for _letter in name.len()..23 {
         out.push_str(" ")?;
@@ -33,7 +33,7 @@ fn put_row_name(out: &mut String, name: Name<'_>) -> Put {
 }
 
 /// Puts the row of the entries. Its first cell, that of the moment before them, is empty.
-fn put_entries(out: &mut String, sheet: &Sheet<'_>, width: usize) -> Put {
+fn put_entries(out: &mut String, sheet: &Sheet<'_>, width: usize) -> PutResult {
     put_row_name(out, Name(b"entry"))?;
     put_cell(out, width, false, "")?;
     let dots = sheet.picture.dots.as_slice();
@@ -49,8 +49,8 @@ fn put_entries(out: &mut String, sheet: &Sheet<'_>, width: usize) -> Put {
     out.push_str("\n")
 }
 
-/// Puts a word at the right end of a cell, after dashes if a call goes on there.
-fn put_cell(out: &mut String, width: usize, goes_on: bool, word: &str) -> Put {
+/// Puts a word at the right end of a cell, after dashes if a call continues there.
+fn put_cell(out: &mut String, width: usize, goes_on: bool, word: &str) -> PutResult {
     match (width, goes_on) {
         (4, false) => write!(out, "{word:>4}"),
         (4, true) => write!(out, "{word:->4}"),
@@ -60,14 +60,14 @@ fn put_cell(out: &mut String, width: usize, goes_on: bool, word: &str) -> Put {
 }
 
 /// Puts a cell with a number.
-fn put_number(out: &mut String, width: usize, number: u64) -> Put {
+fn put_number(out: &mut String, width: usize, number: u64) -> PutResult {
     match width {
         4 => write!(out, "{number:>4}"),
         _ => write!(out, "{number:>8}"),
     }
 }
 
-/// Returns whether a call of a worker that is drawn goes on over an entry's column.
+/// Returns whether a drawn call of a worker continues in an entry's column.
 fn goes_on(sheet: &Sheet<'_>, worker: WorkerId, position: usize) -> bool {
     let mut calls = sheet.picture.calls.iter();
     let mut begun = sheet.picture.begun.iter();
@@ -89,7 +89,7 @@ fn put_entry(
     width: usize,
     worker: WorkerId,
     dot: &Dot,
-) -> Put {
+) -> PutResult {
     let goes_on = goes_on(sheet, worker, dot.position);
     if dot.worker != worker || !sheet.chosen.draws_object(&dot.op) {
         return put_cell(out, width, goes_on, "");
@@ -104,7 +104,7 @@ fn put_entry(
 }
 
 /// Puts the row of a worker.
-fn put_worker(out: &mut String, sheet: &Sheet<'_>, width: usize, worker: WorkerId) -> Put {
+fn put_worker(out: &mut String, sheet: &Sheet<'_>, width: usize, worker: WorkerId) -> PutResult {
     put_row_name(out, sheet.names.worker(worker))?;
     put_cell(out, width, false, "")?;
     for dot in sheet.picture.dots.as_slice() {
@@ -114,7 +114,7 @@ fn put_worker(out: &mut String, sheet: &Sheet<'_>, width: usize, worker: WorkerI
 }
 
 /// Puts the rows of the workers that are drawn.
-fn put_workers(out: &mut String, sheet: &Sheet<'_>, width: usize) -> Put {
+fn put_workers(out: &mut String, sheet: &Sheet<'_>, width: usize) -> PutResult {
     for number in 0..sheet.workers {
         if let Some(worker) = WorkerId::new(number) {
             if sheet.chosen.draws_worker(worker) {
@@ -126,7 +126,7 @@ fn put_workers(out: &mut String, sheet: &Sheet<'_>, width: usize) -> Put {
 }
 
 /// Puts the row of a curve: the number before the first entry, and after each.
-fn put_curve(out: &mut String, sheet: &Sheet<'_>, width: usize, curve: &Curve) -> Put {
+fn put_curve(out: &mut String, sheet: &Sheet<'_>, width: usize, curve: &Curve) -> PutResult {
     put_row_name(out, sheet.names.curve(&curve.object))?;
     for number in curve.heights.as_slice() {
         put_number(out, width, *number)?;
@@ -135,7 +135,7 @@ fn put_curve(out: &mut String, sheet: &Sheet<'_>, width: usize, curve: &Curve) -
 }
 
 /// Puts the rows.
-fn put_rows(out: &mut String, sheet: &Sheet<'_>) -> Put {
+fn put_rows(out: &mut String, sheet: &Sheet<'_>) -> PutResult {
     let width = cell_width(sheet);
     put_entries(out, sheet, width)?;
     put_workers(out, sheet, width)?;
@@ -147,8 +147,8 @@ fn put_rows(out: &mut String, sheet: &Sheet<'_>) -> Put {
     out.push_str("\n")
 }
 
-/// Puts a line for each call.
-fn put_calls(out: &mut String, sheet: &Sheet<'_>) -> Put {
+/// Puts a line for each call that is drawn.
+fn put_calls(out: &mut String, sheet: &Sheet<'_>) -> PutResult {
     for placed in sheet.picture.calls.as_slice() {
         if sheet.chosen.draws(placed.call.worker, &placed.call.op) {
             put_call_words(out, sheet.names, placed)?;
@@ -157,15 +157,15 @@ fn put_calls(out: &mut String, sheet: &Sheet<'_>) -> Put {
     }
     for begun in sheet.picture.begun.as_slice() {
         if sheet.chosen.draws(begun.worker, &begun.op) {
-            put_open_words(out, sheet.names, begun)?;
+            put_pending_words(out, sheet.names, begun)?;
             out.push_str("\n")?;
         }
     }
     Ok(())
 }
 
-/// Puts a line for all that the audits of groups find.
-fn put_findings(out: &mut String, sheet: &Sheet<'_>) -> Put {
+/// Puts a line for each drawn delivery and accepted try.
+fn put_findings(out: &mut String, sheet: &Sheet<'_>) -> PutResult {
     for arrow in sheet.picture.arrows.as_slice() {
         if sheet.chosen.draws_arrow(arrow) {
             put_delivery_words(out, sheet.names, arrow)?;
@@ -182,9 +182,9 @@ fn put_findings(out: &mut String, sheet: &Sheet<'_>) -> Put {
 }
 
 /// Puts a picture as a text.
-pub(crate) fn put_text(out: &mut String, alloc: Global, sheet: &Sheet<'_>) -> Put {
+pub(crate) fn put_text(out: &mut String, alloc: Global, sheet: &Sheet<'_>) -> PutResult {
     put_rows(out, sheet)?;
     put_calls(out, sheet)?;
     put_findings(out, sheet)?;
-    Told::of(alloc, sheet)?.put_lines(out)
+    NoteLines::of(alloc, sheet)?.put_lines(out)
 }

@@ -1,68 +1,69 @@
-//! Names that were chosen, and that the trace doesn't have.
+//! Chosen names that the trace does not declare.
 ghost use Rattle.std.specs.Prelude.{◌≡◌};
 ghost use Rattle.std.specs.List.{flat_map, list_any};
 ghost use Rattle.ec_text.specs.Puts.{Puts, IsWrittenOut};
-ghost use Rattle.evc_draw_engine.specs.Unknown.{has_unknown, is_object, is_worker, lacks_object};
-ghost use Rattle.evc_draw_engine.specs.Unknown.{lacks_worker, object_note, unknown_note, unknown_notes};
+ghost use Rattle.evc_draw_engine.specs.Unknown.{has_unknown, is_object, is_worker};
+ghost use Rattle.evc_draw_engine.specs.Unknown.{is_unknown_object};
+ghost use Rattle.evc_draw_engine.specs.Unknown.{is_unknown_worker, object_note, unknown_note, unknown_notes};
 ghost use Rattle.evc_draw_engine.specs.Unknown.{worker_note};
 
-use ec_count::{Target, Vocabulary};
-use ec_draw::Choice;
-use ec_text::Out;
+use ec_count::{SymbolTable, Target};
+use ec_draw::NameFilter;
+use ec_text::Output;
 use std::io::Write;
 
-/// Returns whether a name stands for a worker.
+/// Returns whether the target of a name is a worker.
 fn is_worker(target: Option<Target>) -> bool
     ensures { result ≡ is_worker target }
 {
     matches!(target, Some(Target::Worker(_)))
 }
 
-/// Returns whether a name stands for an object.
+/// Returns whether the target of a name is an object.
 fn is_object(target: Option<Target>) -> bool
     ensures { result ≡ is_object target }
 {
     !matches!(target, None | Some(Target::Worker(_)))
 }
 
-/// Returns whether a name that was chosen among the workers stands for none.
-fn lacks_worker(words: &Vocabulary, name: &str) -> bool
-    ensures { result ≡ lacks_worker words.now name.now }
+/// Returns whether no worker has a name.
+fn is_unknown_worker(words: &SymbolTable, name: &str) -> bool
+    ensures { result ≡ is_unknown_worker words.now name.now }
 {
     !is_worker(words.find(name.as_bytes()))
 }
 
-/// Returns whether a name that was chosen among the objects stands for none.
-fn lacks_object(words: &Vocabulary, name: &str) -> bool
-    ensures { result ≡ lacks_object words.now name.now }
+/// Returns whether no object has a name.
+fn is_unknown_object(words: &SymbolTable, name: &str) -> bool
+    ensures { result ≡ is_unknown_object words.now name.now }
 {
     !is_object(words.find(name.as_bytes()))
 }
 
-/// Returns whether some name among the workers stands for none.
-fn any_lacks_worker(words: &Vocabulary, names: &[&str]) -> bool
-    ensures { result ≡ list_any (λ s. lacks_worker words.now s.now) names.now }
+/// Returns whether some of these names is that of no worker.
+fn any_unknown_worker(words: &SymbolTable, names: &[&str]) -> bool
+    ensures { result ≡ list_any (λ s. is_unknown_worker words.now s.now) names.now }
 {
-    names.iter().any(|name| lacks_worker(words, name))
+    names.iter().any(|name| is_unknown_worker(words, name))
 }
 
-/// Returns whether some name among the objects stands for none.
-fn any_lacks_object(words: &Vocabulary, names: &[&str]) -> bool
-    ensures { result ≡ list_any (λ s. lacks_object words.now s.now) names.now }
+/// Returns whether some of these names is that of no object.
+fn any_unknown_object(words: &SymbolTable, names: &[&str]) -> bool
+    ensures { result ≡ list_any (λ s. is_unknown_object words.now s.now) names.now }
 {
-    names.iter().any(|name| lacks_object(words, name))
+    names.iter().any(|name| is_unknown_object(words, name))
 }
 
-/// Returns whether the trace doesn't have some name that was chosen.
-pub(crate) fn has_unknown(words: &Vocabulary, choice: &Choice<'_>) -> bool
+/// Returns whether some chosen name is not declared.
+pub(crate) fn has_unknown(words: &SymbolTable, choice: &NameFilter<'_>) -> bool
     ensures { result ≡ has_unknown choice.now words.now }
 {
-    any_lacks_worker(words, choice.workers) || any_lacks_object(words, choice.objects)
+    any_unknown_worker(words, choice.workers) || any_unknown_object(words, choice.objects)
 }
 
-/// Puts the note on a name.
+/// Puts the note on a name that is not declared.
 #[tactic(auto, unfolding(crate::specs::Unknown::unknown_note))]
-fn put_unknown<N: Write>(out: &mut Out<'_, N>, what: &[u8], name: &[u8])
+fn put_unknown<N: Write>(out: &mut Output<'_, N>, what: &[u8], name: &[u8])
     ensures { Puts out.old out.new (unknown_note what.now name.now) }
 {
     out.put(what);
@@ -70,28 +71,28 @@ fn put_unknown<N: Write>(out: &mut Out<'_, N>, what: &[u8], name: &[u8])
     out.put(b" is declared\n");
 }
 
-/// Puts the note on a name among the workers, if there is none of that name.
+/// Puts the note on a name, if no worker has it.
 #[tactic(auto, unfolding(crate::specs::Unknown::worker_note))]
-fn put_worker_note<N: Write>(out: &mut Out<'_, N>, words: &Vocabulary, name: &str)
+fn put_worker_note<N: Write>(out: &mut Output<'_, N>, words: &SymbolTable, name: &str)
     ensures { Puts out.old out.new (worker_note words.now name.now) }
 {
-    if lacks_worker(words, name) {
+    if is_unknown_worker(words, name) {
         put_unknown(out, b"no worker ", name.as_bytes());
     }
 }
 
-/// Puts the note on a name among the objects, if there is none of that name.
+/// Puts the note on a name, if no object has it.
 #[tactic(auto, unfolding(crate::specs::Unknown::object_note))]
-fn put_object_note<N: Write>(out: &mut Out<'_, N>, words: &Vocabulary, name: &str)
+fn put_object_note<N: Write>(out: &mut Output<'_, N>, words: &SymbolTable, name: &str)
     ensures { Puts out.old out.new (object_note words.now name.now) }
 {
-    if lacks_object(words, name) {
+    if is_unknown_object(words, name) {
         put_unknown(out, b"no object ", name.as_bytes());
     }
 }
 
-/// Puts the notes on the names among the workers.
-fn put_worker_notes<N: Write>(out: &mut Out<'_, N>, words: &Vocabulary, names: &[&str])
+/// Puts the notes on those of these names that no worker has.
+fn put_worker_notes<N: Write>(out: &mut Output<'_, N>, words: &SymbolTable, names: &[&str])
     ensures { Puts out.old out.new (flat_map (λ s. worker_note words.now s.now) names.now) }
 {
     for name in names {
@@ -99,8 +100,8 @@ fn put_worker_notes<N: Write>(out: &mut Out<'_, N>, words: &Vocabulary, names: &
     }
 }
 
-/// Puts the notes on the names among the objects.
-fn put_object_notes<N: Write>(out: &mut Out<'_, N>, words: &Vocabulary, names: &[&str])
+/// Puts the notes on those of these names that no object has.
+fn put_object_notes<N: Write>(out: &mut Output<'_, N>, words: &SymbolTable, names: &[&str])
     ensures { Puts out.old out.new (flat_map (λ s. object_note words.now s.now) names.now) }
 {
     for name in names {
@@ -108,16 +109,24 @@ fn put_object_notes<N: Write>(out: &mut Out<'_, N>, words: &Vocabulary, names: &
     }
 }
 
-/// Puts a note on each name that the trace doesn't have.
-fn put_unknown_notes<N: Write>(out: &mut Out<'_, N>, words: &Vocabulary, choice: &Choice<'_>)
+/// Puts a note on each chosen name that is not declared.
+fn put_unknown_notes<N: Write>(
+    out: &mut Output<'_, N>,
+    words: &SymbolTable,
+    choice: &NameFilter<'_>,
+)
     ensures { Puts out.old out.new (unknown_notes choice.now words.now) }
 {
     put_worker_notes(out, words, choice.workers);
     put_object_notes(out, words, choice.objects);
 }
 
-/// Writes a note on each name that the trace doesn't have.
-pub(crate) fn say_unknown<N: Write>(words: &Vocabulary, choice: &Choice<'_>, notes: &mut Out<'_, N>)
+/// Writes a note on each chosen name that is not declared.
+pub(crate) fn report_unknown<N: Write>(
+    words: &SymbolTable,
+    choice: &NameFilter<'_>,
+    notes: &mut Output<'_, N>,
+)
     ensures puts { Puts notes.old notes.new (unknown_notes choice.now words.now) }
     ensures written { IsWrittenOut notes.new }
 {

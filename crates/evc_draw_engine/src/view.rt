@@ -1,12 +1,12 @@
-//! What is asked for of a trace.
+//! The view that a caller asks for.
 
-use ec_draw::Choice;
-use evc_draw_task::{Form, Range};
+use ec_draw::NameFilter;
+use evc_draw_cli::{Form, Range};
 
-/// What is to be drawn of a trace, and as what.
+/// What is drawn of a trace or of histories, and in which format.
 #[derive(Clone, Copy)]
 pub struct View<'a> {
     pub form: Form,
     pub range: Range,
-    pub choice: Choice<'a>,
+    pub choice: NameFilter<'a>,
 }

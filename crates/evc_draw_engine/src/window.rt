@@ -5,11 +5,11 @@ ghost use Rattle.evc_draw_engine.specs.Windows.{empty_note, is_empty, is_whole, 
 ghost use Rattle.evc_draw_engine.specs.Windows.{last_words, range_words, window_for, window_on};
 
 use ec_draw::{COLUMNS_MAX, Window};
-use ec_text::Out;
-use evc_draw_task::{NO_END, Range};
+use ec_text::Output;
+use evc_draw_cli::{NO_END, Range};
 use std::io::Write;
 
-/// Returns the part of a range that so many entries have.
+/// Returns the part of a range that is among the first `entries` entries.
 fn window_on(range: Range, entries: usize) -> Window
     ensures { result ≡ window_on range entries }
 {
@@ -19,7 +19,7 @@ fn window_on(range: Range, entries: usize) -> Window
     }
 }
 
-/// Returns whether a window has too many entries for a picture.
+/// Returns whether a range has too many of `entries` entries for a picture.
 pub(crate) fn is_wide(range: Range, entries: usize) -> bool
     ensures { result ≡ is_wide (window_on range entries) }
 {
@@ -27,8 +27,8 @@ pub(crate) fn is_wide(range: Range, entries: usize) -> bool
     window.to.saturating_sub(window.from) > COLUMNS_MAX
 }
 
-/// Returns what is drawn of so many columns: if a range has more than a picture has, the last of
-/// them.
+/// Returns the window that is drawn of a range, out of `columns` columns. If that is too wide for a
+/// picture, it is the last part.
 #[tactic(auto, using(crate::proofs::Columns::has_column, crate::proofs::Columns::is_narrow))]
 pub(crate) fn window_for(range: Range, columns: usize) -> Window
     ensures value { result ≡ window_for range columns }
@@ -43,22 +43,22 @@ pub(crate) fn window_for(range: Range, columns: usize) -> Window
     }
 }
 
-/// Returns whether no range is asked for.
+/// Returns whether a range is the whole one, so that none was given.
 pub(crate) fn is_whole(range: Range) -> bool
     ensures { result ≡ is_whole range }
 {
     range.from == 0 && range.to == NO_END
 }
 
-/// Returns whether a range is asked for, and a run of so many entries has none in it.
+/// Returns whether a range was given, and has none of `entries` entries.
 pub(crate) fn is_empty(range: Range, entries: usize) -> bool
     ensures { result ≡ is_empty range entries }
 {
     !is_whole(range) && range.to.min(entries) <= range.from
 }
 
-/// Puts the last entry of the range, if one was named.
-fn put_last<N: Write>(notes: &mut Out<'_, N>, to: usize)
+/// Puts the last entry of a range, or `on` if the range has no end.
+fn put_last<N: Write>(notes: &mut Output<'_, N>, to: usize)
     ensures { Puts notes.old notes.new (last_words to) }
 {
     if to == NO_END {
@@ -69,9 +69,9 @@ fn put_last<N: Write>(notes: &mut Out<'_, N>, to: usize)
     }
 }
 
-/// Puts the range that was asked for.
+/// Puts a range.
 #[tactic(auto, unfolding(crate::specs::Windows::range_words))]
-fn put_range<N: Write>(notes: &mut Out<'_, N>, range: Range)
+fn put_range<N: Write>(notes: &mut Output<'_, N>, range: Range)
     ensures { Puts notes.old notes.new (range_words range) }
 {
     notes.put(b"from ");
@@ -79,9 +79,9 @@ fn put_range<N: Write>(notes: &mut Out<'_, N>, range: Range)
     put_last(notes, range.to);
 }
 
-/// Puts the note on such a range.
+/// Puts the note on a range without entries.
 #[tactic(auto, unfolding(crate::specs::Windows::empty_note))]
-fn put_empty_note<N: Write>(notes: &mut Out<'_, N>, range: Range, entries: usize)
+fn put_empty_note<N: Write>(notes: &mut Output<'_, N>, range: Range, entries: usize)
     ensures { Puts notes.old notes.new (empty_note range entries) }
 {
     notes.put(b"no entry ");
@@ -91,8 +91,8 @@ fn put_empty_note<N: Write>(notes: &mut Out<'_, N>, range: Range, entries: usize
     notes.put(b" entries\n");
 }
 
-/// Writes that note.
-pub(crate) fn say_empty<N: Write>(notes: &mut Out<'_, N>, range: Range, entries: usize)
+/// Writes the note on a range without entries.
+pub(crate) fn report_empty<N: Write>(notes: &mut Output<'_, N>, range: Range, entries: usize)
     ensures puts { Puts notes.old notes.new (empty_note range entries) }
     ensures written { IsWrittenOut notes.new }
 {

@@ -7,15 +7,15 @@ use Rattle.ec_core.specs.declared.act.Entry.{Entry}
 use Rattle.ec_core.specs.Acceptance.{IsAccepted}
 use Rattle.ec_core.specs.Standing.{State}
 use Rattle.ec_text.specs.Puts.{AppendsPrefix}
-use Rattle.ec_order.specs.declared.dated.Dated.{Dated}
+use Rattle.ec_order.specs.declared.linearized_entry.LinearizedEntry.{LinearizedEntry}
 use Rattle.ec_order.specs.declared.placed.Placed.{Placed}
 use Rattle.ec_order.specs.Points.{ordered_by_points}
-use Rattle.ec_order.specs.Timeline.{Timed, IsTimeline, TellsGood, dated, dated_by_points}
-use Rattle.ec_order.specs.Verdicts.{IsGood}
-use Rattle.ec_heading.specs.Headed.{Headed}
-use Rattle.ec_heading.specs.Spelling.{Named, text_of, ended_line}
+use Rattle.ec_order.specs.Linearizer.{LinearizerModel, IsLinearizer, IsGoodLinearization, linearized_entry, linearized_entries}
+use Rattle.ec_order.specs.Verdicts.{IsLinearizationWithPoints}
+use Rattle.ec_heading.specs.HeadingModel.{HeadingModel}
+use Rattle.ec_heading.specs.Spelling.{NameTable, lines_text, ended_line}
 use Rattle.ec_trace.proofs.shared.ReadTraces.{read_is_trace, trace_refuses}
-use Rattle.ec_trace.specs.Outcome.{Tells}
+use Rattle.ec_trace.specs.Outcome.{Returns}
 use Rattle.ec_trace.specs.declared.fault.TraceFault.{TraceFault}
 use Rattle.ec_trace.specs.declared.fault.TraceFault.TheVariants.{BadLine, Refused, WrongReply, Unfinished, TooLarge, Read, Memory}
 use Rattle.ec_trace.specs.declared.read.TheConstants.{TRACE_MAX}
@@ -23,76 +23,77 @@ use Rattle.evc_engine.specs.declared.status.Status.{Status}
 use Rattle.evc_engine.specs.declared.status.Status.TheVariants as statuses
 use Rattle.evc_engine.specs.Halts.{IsOf, IsReadInto}
 use Rattle.evc_engine.specs.Notes.{fault_note, fault_status}
-use Rattle.evc_engine.specs.Texts.{dated_line, placed_line, told_lines, check_text}
-use Rattle.evc_engine.specs.Checks.{Checks, Outlets, Notes, ReadsAs, Writes, text_for, TellsGoodOrder}
+use Rattle.evc_engine.specs.Texts.{linearized_line, placed_line, order_lines, check_text}
+use Rattle.evc_engine.specs.Checks.{Checks, Outputs, Notes, ReadsAs, Writes, text_for, HasLinearization}
 
 -- a text of two lists of lines between three lines
 pub text_parts : (a b c : List ℕ) (ls ms : List (List ℕ))
-    → text_of (a ∷ ls ++ b ∷ ms ++ c ∷ []) ≡ ended_line a ++ text_of ls ++ ended_line b ++ text_of ms ++ ended_line c
+    → lines_text (a ∷ ls ++ b ∷ ms ++ c ∷ []) ≡ ended_line a ++ lines_text ls ++ ended_line b ++ lines_text ms ++ ended_line c
 text_parts a b c ls ms =
     flat_map-append ended_line (a ∷ ls ++ b ∷ ms) (c ∷ [])
     ∙ ap (λ t. t ++ (ended_line c ++ [])) (flat_map-append ended_line (a ∷ ls) (b ∷ ms))
-    ∙ ap (λ t. (ended_line a ++ text_of ls) ++ (ended_line b ++ text_of ms) ++ t) (append-nil (ended_line c))
-    ∙ ap (λ t. t ++ ended_line c) (sym (append_assoc (ended_line a ++ text_of ls) (ended_line b) (text_of ms)))
+    ∙ ap (λ t. (ended_line a ++ lines_text ls) ++ (ended_line b ++ lines_text ms) ++ t) (append-nil (ended_line c))
+    ∙ ap (λ t. t ++ ended_line c) (sym (append_assoc (ended_line a ++ lines_text ls) (ended_line b) (lines_text ms)))
 
--- a call told as one entry has the line of the call
-lines_are : (names : Named) (ps : List Placed) → map (dated_line names) (map dated ps) ≡ map (placed_line names) ps
+-- a call that is written as one entry has the line of the call
+lines_are : (names : NameTable) (ps : List Placed) → map (linearized_line names) (map linearized_entry ps) ≡ map (placed_line names) ps
 lines_are names [] = refl
 lines_are names (p ∷ ps) = ap (λ ls. placed_line names p ∷ ls) (lines_are names ps)
 
-module _ (h : Headed) (entries : List Entry) (world : State) (timeline : Timed) where
-  -- its declarations are those of the heading
-  on_heading : IsReadInto h entries world timeline → IsAccepted timeline.setup (reverse entries)
+module _ (h : HeadingModel) (entries : List Entry) (world : State) (linearizer : LinearizerModel) where
+  -- the linearizer's declarations are those of the header
+  on_heading : IsReadInto h entries world linearizer → IsAccepted linearizer.setup (reverse entries)
   on_heading g = subst (λ (t : Tables). IsAccepted t (reverse entries)) (g.world_setup ∙ sym g.setup) g.world_stands.accepted
 
   -- the text that is written is that of the trace
-  text_is : (ds : List Dated) → IsReadInto h entries world timeline → (IsTimeline timeline (reverse entries) → IsAccepted timeline.setup (reverse entries) → ds ≡ dated_by_points timeline.setup (reverse entries))
-      → text_of (told_lines h entries (map (dated_line h.words) ds)) ≡ text_for (record { heading = h; entries = entries })
+  text_is : (ds : List LinearizedEntry) → IsReadInto h entries world linearizer → (IsLinearizer linearizer (reverse entries) → IsAccepted linearizer.setup (reverse entries) → ds ≡ linearized_entries linearizer.setup (reverse entries))
+      → lines_text (order_lines h entries (map (linearized_line h.words) ds)) ≡ text_for (record { heading = h; entries = entries })
   unfolding check_text
   text_is ds g is =
-      ap (λ (l : List Dated). text_of (told_lines h entries (map (dated_line h.words) l))) (is g.stands (on_heading g) ∙ ap (λ t. dated_by_points t (reverse entries)) g.setup)
-      ∙ ap (λ ls. text_of (told_lines h entries ls)) (lines_are h.words (ordered_by_points h.setup (reverse entries)))
+      ap (λ (l : List LinearizedEntry). lines_text (order_lines h entries (map (linearized_line h.words) l))) (is g.represents (on_heading g) ∙ ap (λ t. linearized_entries t (reverse entries)) g.setup)
+      ∙ ap (λ ls. lines_text (order_lines h entries ls)) (lines_are h.words (ordered_by_points h.setup (reverse entries)))
 
-  -- and it tells a good order
-  pub good_told : (ds : List Dated) → IsReadInto h entries world timeline → (IsTimeline timeline (reverse entries) → IsAccepted timeline.setup (reverse entries) → ds ≡ dated_by_points timeline.setup (reverse entries))
-      → (IsTimeline timeline (reverse entries) → IsAccepted timeline.setup (reverse entries) → TellsGood timeline.setup (reverse entries) ds) → TellsGoodOrder (record { heading = h; entries = entries }) (text_for (record { heading = h; entries = entries }))
+  -- the text has a linearization
+  pub good_told : (ds : List LinearizedEntry) → IsReadInto h entries world linearizer → (IsLinearizer linearizer (reverse entries) → IsAccepted linearizer.setup (reverse entries) → ds ≡ linearized_entries linearizer.setup (reverse entries))
+      → (IsLinearizer linearizer (reverse entries) → IsAccepted linearizer.setup (reverse entries) → IsGoodLinearization linearizer.setup (reverse entries) ds) → HasLinearization (record { heading = h; entries = entries }) (text_for (record { heading = h; entries = entries }))
   good_told ds g is good =
-      let t = good g.stands (on_heading g) in
+      let t = good g.represents (on_heading g) in
       record {
         placed = t.placed;
-        good = subst (λ (s : Tables). IsGood s (reverse entries) t.placed) g.setup t.good;
-        is = sym (text_is ds g is) ∙ ap (λ (l : List Dated). text_of (told_lines h entries (map (dated_line h.words) l))) t.told ∙ ap (λ ls. text_of (told_lines h entries ls)) (lines_are h.words t.placed);
+        good = subst (λ (s : Tables). IsLinearizationWithPoints s (reverse entries) t.placed) g.setup t.good;
+        is = sym (text_is ds g is) ∙ ap (λ (l : List LinearizedEntry). lines_text (order_lines h entries (map (linearized_line h.words) l))) t.returned ∙ ap (λ ls. lines_text (order_lines h entries ls)) (lines_are h.words t.placed);
       }
 
-  pub text_written : (a b : Option (List ℕ)) (ds : List Dated) → IsReadInto h entries world timeline
-      → (IsTimeline timeline (reverse entries) → IsAccepted timeline.setup (reverse entries) → ds ≡ dated_by_points timeline.setup (reverse entries))
-      → Appends a b (text_of (told_lines h entries (map (dated_line h.words) ds))) → Appends a b (text_for (record { heading = h; entries = entries }))
+  pub text_written : (a b : Option (List ℕ)) (ds : List LinearizedEntry)
+      → IsReadInto h entries world linearizer
+      → (IsLinearizer linearizer (reverse entries) → IsAccepted linearizer.setup (reverse entries) → ds ≡ linearized_entries linearizer.setup (reverse entries))
+      → Appends a b (lines_text (order_lines h entries (map (linearized_line h.words) ds))) → Appends a b (text_for (record { heading = h; entries = entries }))
   text_written a b ds g is put = subst (Appends a b) (text_is ds g is) put
 
-  pub front_written : (a b : Option (List ℕ)) (ds : List Dated) → IsReadInto h entries world timeline
-      → (IsTimeline timeline (reverse entries) → IsAccepted timeline.setup (reverse entries) → ds ≡ dated_by_points timeline.setup (reverse entries))
-      → AppendsPrefix a b (text_of (told_lines h entries (map (dated_line h.words) ds))) → AppendsPrefix a b (text_for (record { heading = h; entries = entries }))
+  pub front_written : (a b : Option (List ℕ)) (ds : List LinearizedEntry) → IsReadInto h entries world linearizer
+      → (IsLinearizer linearizer (reverse entries) → IsAccepted linearizer.setup (reverse entries) → ds ≡ linearized_entries linearizer.setup (reverse entries))
+      → AppendsPrefix a b (lines_text (order_lines h entries (map (linearized_line h.words) ds))) → AppendsPrefix a b (text_for (record { heading = h; entries = entries }))
   front_written a b ds g is put = subst (AppendsPrefix a b) (text_is ds g is) put
 
 -- the bytes are read as the trace of this history
-pub reads_as : (bytes : List ℕ) (h : Headed) (entries : List Entry) → IsOf bytes h entries → ReadsAs bytes (record { heading = h; entries = entries })
-reads_as bytes h entries told = record { trace = read_is_trace bytes (record { heading = h; entries = entries }) told; told = told }
+pub reads_as : (bytes : List ℕ) (h : HeadingModel) (entries : List Entry) → IsOf bytes h entries → ReadsAs bytes (record { heading = h; entries = entries })
+reads_as bytes h entries returned = record { trace = read_is_trace bytes (record { heading = h; entries = entries }) returned; returned = returned }
 
 -- how the writing of its text ended
-pub written_checked : (bytes : List ℕ) (left : Option (List ℕ)) (h : Headed) (entries : List Entry) (status : Status) (old new : Outlets) → IsOf bytes h entries → Writes (record { heading = h; entries = entries }) status old new → Checks bytes left status old new
-written_checked bytes left h entries statuses.Done old new told writes = (record { heading = h; entries = entries }, reads_as bytes h entries told, writes)
-written_checked bytes left h entries statuses.InputOutput old new told writes = inl (record { heading = h; entries = entries }, reads_as bytes h entries told, writes)
-written_checked bytes left h entries statuses.Memory old new told writes = writes
-written_checked bytes left h entries statuses.Refused old new told writes = absurd writes
-written_checked bytes left h entries statuses.Usage old new told writes = absurd writes
-written_checked bytes left h entries statuses.Stopped old new told writes = absurd writes
+pub written_checked : (bytes : List ℕ) (left : Option (List ℕ)) (h : HeadingModel) (entries : List Entry) (status : Status) (old new : Outputs) → IsOf bytes h entries → Writes (record { heading = h; entries = entries }) status old new → Checks bytes left status old new
+written_checked bytes left h entries statuses.Done old new returned writes = (record { heading = h; entries = entries }, reads_as bytes h entries returned, writes)
+written_checked bytes left h entries statuses.InputOutput old new returned writes = inl (record { heading = h; entries = entries }, reads_as bytes h entries returned, writes)
+written_checked bytes left h entries statuses.Memory old new returned writes = writes
+written_checked bytes left h entries statuses.Refused old new returned writes = absurd writes
+written_checked bytes left h entries statuses.Usage old new returned writes = absurd writes
+written_checked bytes left h entries statuses.Stopped old new returned writes = absurd writes
 
 -- the trace was not read
-pub fault_checked : (bytes : List ℕ) (left : Option (List ℕ)) (fault : TraceFault) (old new : Outlets) → Tells TRACE_MAX bytes left (Err fault) → Keeps old.out new.out → Notes old new (fault_note fault) → Checks bytes left (fault_status fault) old new
-fault_checked bytes left (BadLine n) old new told out note = (BadLine n, record { none = trace_refuses bytes (BadLine n) told; told = told }, out, note)
-fault_checked bytes left (Refused n r) old new told out note = (Refused n r, record { none = trace_refuses bytes (Refused n r) told; told = told }, out, note)
-fault_checked bytes left (WrongReply n r) old new told out note = (WrongReply n r, record { none = trace_refuses bytes (WrongReply n r) told; told = told }, out, note)
-fault_checked bytes left Unfinished old new told out note = (Unfinished, record { none = trace_refuses bytes Unfinished told; told = told }, out, note)
-fault_checked bytes left TooLarge old new told out note = (TooLarge, record { none = trace_refuses bytes TooLarge told; told = told }, out, note)
-fault_checked bytes left Read old new told out note = inr (told, out, note)
-fault_checked bytes left Memory old new told out note = (out, note)
+pub fault_checked : (bytes : List ℕ) (left : Option (List ℕ)) (fault : TraceFault) (old new : Outputs) → Returns TRACE_MAX bytes left (Err fault) → Keeps old.out new.out → Notes old new (fault_note fault) → Checks bytes left (fault_status fault) old new
+fault_checked bytes left (BadLine n) old new returned out note = (BadLine n, record { none = trace_refuses bytes (BadLine n) returned; returned = returned }, out, note)
+fault_checked bytes left (Refused n r) old new returned out note = (Refused n r, record { none = trace_refuses bytes (Refused n r) returned; returned = returned }, out, note)
+fault_checked bytes left (WrongReply n r) old new returned out note = (WrongReply n r, record { none = trace_refuses bytes (WrongReply n r) returned; returned = returned }, out, note)
+fault_checked bytes left Unfinished old new returned out note = (Unfinished, record { none = trace_refuses bytes Unfinished returned; returned = returned }, out, note)
+fault_checked bytes left TooLarge old new returned out note = (TooLarge, record { none = trace_refuses bytes TooLarge returned; returned = returned }, out, note)
+fault_checked bytes left Read old new returned out note = inr (returned, out, note)
+fault_checked bytes left Memory old new returned out note = (out, note)

@@ -75,7 +75,7 @@ shown_issued t q past acc =
       | false ↦ λ e. (let far : length t.takers ≤ q = grind arith in sym (issued_none t q past acc far))
     ] refl
 
--- and so are the tickets of a sequencer
+-- the tickets that a world shows, or 0, are those of its history
 pub issued_shown : (s : State) (h : List Entry) (q : ℕ) → StandsFor s h
     → unwrap_or (cond (nat_lt q (length s.setup.takers)) (Some (issued q (reverse h))) None) 0 ≡ issued q (reverse h)
 issued_shown s h q st = shown_issued s.setup q (reverse h) st.accepted
@@ -87,11 +87,11 @@ shown_cell t x past acc =
       | false ↦ λ e. (let far : length t.cells ≤ x = grind arith in sym (cell_none t x past acc far))
     ] refl
 
--- and the value of a cell
+-- the value of a cell that a world shows, or 0, is that of its history
 pub cell_shown : (s : State) (h : List Entry) (x : ℕ) → StandsFor s h
     → unwrap_or (cond (nat_lt x (length s.setup.cells)) (Some (cell_value x (reverse h))) None) 0 ≡ cell_value x (reverse h)
 cell_shown s h x st = shown_cell s.setup x (reverse h) st.accepted
 
--- there are at most 256 cells
+-- there are at most 256 cells, so a cell with a greater number has the value 0
 pub far_cell : (s : State) (h : List Entry) (x : ℕ) → StandsFor s h → 256 ≤ x → cell_value x (reverse h) ≡ 0
 far_cell s h x st lt = cell_none s.setup x (reverse h) st.accepted (let few = st.declared.few_cells in omega arith)

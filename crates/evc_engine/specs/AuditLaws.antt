@@ -1,16 +1,17 @@
--- What the contract of `audit` means: one input has one text at most, and none if a group is not followed.
+-- What the contract of `audit` means: one input has at most one text, and none if the rules of a
+-- group are broken.
 use Rattle.std.specs.Prelude.{◌≡◌, ℕ, List}
-use Rattle.ec_trace.specs.Recounted.{Recounted}
-use Rattle.evc_engine.specs.declared.audited.Audited.{Audited}
+use Rattle.ec_trace.specs.TraceModel.{TraceModel}
+use Rattle.evc_engine.specs.declared.audit_result.AuditResult.{AuditResult}
 use Rattle.evc_engine.specs.AuditTexts.{audit_text}
 use Rattle.evc_engine.specs.Audits.{AreAudited, IsNotFollowed}
 use Rattle.evc_engine.specs.Checks.{ReadsAs}
 
--- what the audits find is no choice of theirs: the text is determined by the bytes that were read
+-- the text is determined by the bytes that were read
 abbrev pub AuditsHaveOneText : Type 0
-AuditsHaveOneText = (bytes : List ℕ) (t u : Recounted) (found other : List Audited) → ReadsAs bytes t → ReadsAs bytes u
+AuditsHaveOneText = (bytes : List ℕ) (t u : TraceModel) (found other : List AuditResult) → ReadsAs bytes t → ReadsAs bytes u
     → AreAudited t.heading t.entries found → AreAudited u.heading u.entries other → audit_text t.heading found ≡ audit_text u.heading other
 
--- where the groups are followed no group is the first that is not
+-- if the workers follow the rules of all groups, no group is the first whose rules they break
 abbrev pub TextOrBreak : Type 0
-TextOrBreak = (t : Recounted) (found : List Audited) (i w k : ℕ) → AreAudited t.heading t.entries found → IsNotFollowed t.heading t.entries i w k → ⊥
+TextOrBreak = (t : TraceModel) (found : List AuditResult) (i w k : ℕ) → AreAudited t.heading t.entries found → IsNotFollowed t.heading t.entries i w k → ⊥

@@ -28,7 +28,7 @@ fault_note TooLarge = codes "too large\n"
 fault_note Read = codes "read fault\n"
 fault_note Memory = codes "no memory\n"
 
--- how a command ends that could not read its trace
+-- the status of a command that could not read its trace
 abbrev pub fault_status : TraceFault → Status
 fault_status (BadLine n) = statuses.Refused
 fault_status (Refused n r) = statuses.Refused
@@ -38,7 +38,7 @@ fault_status TooLarge = statuses.Refused
 fault_status Read = statuses.InputOutput
 fault_status Memory = statuses.Memory
 
--- the entry that breaks a group, and its worker
+-- the worker of the entry that breaks the rules of a group, and the entry
 abbrev pub breaker_words : List ℕ → ℕ → List ℕ
 breaker_words worker k = worker ++ codes " entry " ++ decimal k ++ codes "\n"
 
@@ -46,6 +46,6 @@ breaker_words worker k = worker ++ codes " entry " ++ decimal k ++ codes "\n"
 abbrev pub broken_words : List ℕ → List ℕ
 broken_words group = group ++ codes " not followed: worker "
 
--- the note on a group that is not followed
+-- the note on a group whose rules are broken
 abbrev pub break_note : List ℕ → List ℕ → ℕ → List ℕ
 break_note group worker k = broken_words group ++ breaker_words worker k

@@ -1,28 +1,29 @@
--- The text that `check` writes: the calls in the order of their points, and the totals at the end.
+-- The text that `check` writes: the calls in the order of their linearization points, and the
+-- totals at the end.
 use Rattle.std.specs.Prelude.{ℕ, ◌+◌, zero, suc, List, [], ◌∷◌, ◌++◌, map, reverse, Option, Some, None, codes, decimal}
 use Rattle.std.specs.List.{flat_map}
 use Rattle.ec_count.specs.declared.target.Target.{Target}
 use Rattle.ec_count.specs.declared.target.Target.TheVariants.{Worker, Event, Sequencer, Cells, Group}
 use Rattle.ec_core.specs.declared.act.Entry.{Entry}
 use Rattle.ec_core.specs.Counts.{total, issued, cell_value}
-use Rattle.ec_order.specs.declared.dated.Dated.{Dated}
+use Rattle.ec_order.specs.declared.linearized_entry.LinearizedEntry.{LinearizedEntry}
 use Rattle.ec_order.specs.declared.placed.Placed.{Placed}
 use Rattle.ec_order.specs.Points.{ordered_by_points}
-use Rattle.ec_order.specs.Timeline.{call_entry}
-use Rattle.ec_heading.specs.Headed.{Headed}
-use Rattle.ec_heading.specs.Spelling.{Named, entry_line, text_of}
+use Rattle.ec_order.specs.Linearizer.{entry_of_call}
+use Rattle.ec_heading.specs.HeadingModel.{HeadingModel}
+use Rattle.ec_heading.specs.Spelling.{NameTable, entry_line, lines_text}
 
-abbrev pub placed_line : Named → Placed → List ℕ
-placed_line names p = decimal p.point ++ codes " " ++ entry_line names (call_entry p.call)
+abbrev pub placed_line : NameTable → Placed → List ℕ
+placed_line names p = decimal p.point ++ codes " " ++ entry_line names (entry_of_call p.call)
 
--- that of a call that is told as one entry
-abbrev pub dated_line : Named → Dated → List ℕ
-dated_line names d = decimal d.point ++ codes " " ++ entry_line names d.entry
+-- the line of a call that is written as one entry
+abbrev pub linearized_line : NameTable → LinearizedEntry → List ℕ
+linearized_line names d = decimal d.point ++ codes " " ++ entry_line names d.entry
 
 abbrev pub cell_line : List ℕ → ℕ → ℕ → List ℕ
 cell_line name i value = codes "cell " ++ (name ++ codes "[" ++ decimal i ++ codes "]") ++ codes " " ++ decimal value
 
--- the lines of n cells of a block, from its i-th on, if the block begins at cell first
+-- the lines of n cells of a block, from its cell i on, if the block begins at cell first
 unfoldable pub cell_lines : List ℕ → List Entry → ℕ → ℕ → ℕ → List (List ℕ)
 cell_lines name past first i zero = []
 cell_lines name past first i (suc n) = cell_line name i (cell_value (first + i) past) ∷ cell_lines name past first (i + 1) n
@@ -30,7 +31,7 @@ cell_lines name past first i (suc n) = cell_line name i (cell_value (first + i) 
 abbrev pub count_line : List ℕ → List ℕ → ℕ → List ℕ
 count_line sort name count = sort ++ name ++ codes " " ++ decimal count
 
--- the totals of what a word spells, after a past
+-- the totals of the target of a word, after the history so far
 abbrev pub totals_of : List Entry → List ℕ → Target → List (List ℕ)
 totals_of past word (Event e) = count_line (codes "eventcount ") word (total e past) ∷ []
 totals_of past word (Sequencer q) = count_line (codes "sequencer ") word (issued q past) ∷ []
@@ -38,26 +39,27 @@ totals_of past word (Cells first n) = cell_lines word past first 0 n
 totals_of past word (Worker w) = []
 totals_of past word (Group g) = []
 
--- and of the word at a place, if there is one
+-- the totals of the target of a word of the symbol table, if there is one
 abbrev pub totals_at : List Entry → Option (List ℕ × Target) → List (List ℕ)
 totals_at past None = []
 totals_at past (Some (word, target)) = totals_of past word target
 
--- the totals of these words
-abbrev pub totals_by : List Entry → Named → List (List ℕ)
+-- the totals of the targets of these words
+abbrev pub totals_by : List Entry → NameTable → List (List ℕ)
 totals_by past words = flat_map (λ (e : List ℕ × Target). totals_of past e.0 e.1) words
 
 -- the totals, in the order of the declarations and of the objects of each
-abbrev pub totals_lines : Headed → List Entry → List (List ℕ)
+abbrev pub totals_lines : HeadingModel → List Entry → List (List ℕ)
 totals_lines h past = totals_by past h.words
 
 -- the lines of these calls between the first line and the totals
-abbrev pub told_lines : Headed → List Entry → List (List ℕ) → List (List ℕ)
-told_lines h entries calls = codes "evc-order 1" ∷ calls ++ codes "totals" ∷ totals_lines h (reverse entries) ++ codes "end" ∷ []
+abbrev pub order_lines : HeadingModel → List Entry → List (List ℕ) → List (List ℕ)
+order_lines h entries calls = codes "evc-order 1" ∷ calls ++ codes "totals" ∷ totals_lines h (reverse entries) ++ codes "end" ∷ []
 
-abbrev pub check_lines : Headed → List Entry → List Placed → List (List ℕ)
-check_lines h entries placed = told_lines h entries (map (placed_line h.words) placed)
+abbrev pub check_lines : HeadingModel → List Entry → List Placed → List (List ℕ)
+check_lines h entries placed = order_lines h entries (map (placed_line h.words) placed)
 
--- what `check` writes for a heading and an accepted history
-unfoldable pub check_text : Headed → List Entry → List ℕ
-check_text h entries = text_of (check_lines h entries (ordered_by_points h.setup (reverse entries)))
+-- what `check` writes for a header and an accepted history
+unfoldable pub check_text : HeadingModel → List Entry → List ℕ
+check_text h entries =
+    lines_text (check_lines h entries (ordered_by_points h.setup (reverse entries)))

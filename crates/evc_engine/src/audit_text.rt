@@ -2,36 +2,36 @@
 ghost use Rattle.std.specs.Prelude.{◌≡◌, ◌∷◌, [], ◌++◌, ◌+◌, ◌^◌, ◌<◌, length, OnOk, OnErr, decimal, map};
 ghost use Rattle.std.specs.Io.KnownBytes.{Appends};
 ghost use Rattle.ec_text.specs.Puts.{Puts, AppendsPrefix};
-ghost use Rattle.ec_heading.specs.Spelling.{text_of};
-ghost use Rattle.evc_engine.specs.AuditTexts.{spaced, delivered_words, delivery_line, spaced_numbers, version_words, version_line, balance_words, balance_line, ticket_words, pair_line, group_word, is_line_of, semaphore_word, audited_lines, groups_lines, audit_text};
+ghost use Rattle.ec_heading.specs.Spelling.{lines_text};
+ghost use Rattle.evc_engine.specs.AuditTexts.{word_after_space, delivered_words, delivery_line, spaced_numbers, version_words, version_line, balance_words, balance_line, ticket_words, pair_line, group_word, is_line_of, semaphore_word, audited_lines, groups_lines, audit_text};
 
-use crate::audited::Audited;
+use crate::audit_result::AuditResult;
 use ec_buffer::Delivery;
 use ec_count::{Names, SeqId, Target};
 use ec_database::{AcceptedTries, TryView};
 use ec_semaphore::{Balance, Pair};
-use ec_text::{Out, WriteFault};
+use ec_text::{Output, WriteFault};
 use ec_trace::{Group, Heading, Spellings};
 use std::io::Write;
 
-/// Puts a word behind a space.
-fn put_spaced<W: Write>(out: &mut Out<'_, W>, word: &[u8])
-    ensures { Puts out.old out.new (spaced word.now) }
+/// Puts a space and a word.
+fn put_spaced<W: Write>(out: &mut Output<'_, W>, word: &[u8])
+    ensures { Puts out.old out.new (word_after_space word.now) }
 {
     out.put(b" ");
     out.put(word);
 }
 
-/// Puts a number behind a space.
-fn put_spaced_number<W: Write>(out: &mut Out<'_, W>, n: u64)
-    ensures { Puts out.old out.new (spaced (decimal n)) }
+/// Puts a space and a number.
+fn put_spaced_number<W: Write>(out: &mut Output<'_, W>, n: u64)
+    ensures { Puts out.old out.new (word_after_space (decimal n)) }
 {
     out.put(b" ");
     out.put_number(n);
 }
 
 /// Puts what follows the name in the line of a delivery.
-fn put_delivered<W: Write>(out: &mut Out<'_, W>, spellings: &Spellings<'_>, delivery: &Delivery)
+fn put_delivered<W: Write>(out: &mut Output<'_, W>, spellings: &Spellings<'_>, delivery: &Delivery)
     ensures { Puts out.old out.new (delivered_words spellings.now delivery.now) }
 {
     put_spaced_number(out, delivery.number);
@@ -42,7 +42,7 @@ fn put_delivered<W: Write>(out: &mut Out<'_, W>, spellings: &Spellings<'_>, deli
 
 /// Puts the line of a delivery.
 fn put_delivery<W: Write>(
-    out: &mut Out<'_, W>,
+    out: &mut Output<'_, W>,
     spellings: &Spellings<'_>,
     name: &[u8],
     delivery: &Delivery,
@@ -55,9 +55,9 @@ fn put_delivery<W: Write>(
     out.put(b"\n");
 }
 
-/// Puts the line of an accepting try.
+/// Puts the line of an accepted try.
 fn put_version<W: Write>(
-    out: &mut Out<'_, W>,
+    out: &mut Output<'_, W>,
     spellings: &Spellings<'_>,
     name: &[u8],
     accepted: &TryView<'_>,
@@ -70,8 +70,12 @@ fn put_version<W: Write>(
     out.put(b"\n");
 }
 
-/// Puts what follows the name in the line of an accepting try.
-fn put_accepted<W: Write>(out: &mut Out<'_, W>, spellings: &Spellings<'_>, accepted: &TryView<'_>)
+/// Puts what follows the name in the line of an accepted try.
+fn put_accepted<W: Write>(
+    out: &mut Output<'_, W>,
+    spellings: &Spellings<'_>,
+    accepted: &TryView<'_>,
+)
     ensures { Puts out.old out.new (version_words spellings.now accepted.now) }
 {
     put_spaced_number(out, accepted.version());
@@ -79,8 +83,8 @@ fn put_accepted<W: Write>(out: &mut Out<'_, W>, spellings: &Spellings<'_>, accep
     put_values(out, accepted);
 }
 
-/// Puts the values of an accepting try, each behind a space.
-fn put_values<W: Write>(out: &mut Out<'_, W>, accepted: &TryView<'_>)
+/// Puts the values of an accepted try, each after a space.
+fn put_values<W: Write>(out: &mut Output<'_, W>, accepted: &TryView<'_>)
     ensures { Puts out.old out.new (spaced_numbers accepted.now.values) }
 {
     for place in 0..accepted.cells() {
@@ -91,7 +95,7 @@ fn put_values<W: Write>(out: &mut Out<'_, W>, accepted: &TryView<'_>)
 }
 
 /// Puts what follows the name in the line of a balance.
-fn put_parts<W: Write>(out: &mut Out<'_, W>, balance: &Balance, now: u64)
+fn put_parts<W: Write>(out: &mut Output<'_, W>, balance: &Balance, now: u64)
     ensures { Puts out.old out.new (balance_words balance.now now) }
 {
     put_spaced_number(out, balance.initial);
@@ -101,7 +105,7 @@ fn put_parts<W: Write>(out: &mut Out<'_, W>, balance: &Balance, now: u64)
 }
 
 /// Puts the line of a balance.
-fn put_balance<W: Write>(out: &mut Out<'_, W>, name: &[u8], balance: &Balance, now: u64)
+fn put_balance<W: Write>(out: &mut Output<'_, W>, name: &[u8], balance: &Balance, now: u64)
     ensures { Puts out.old out.new (balance_line name.now balance.now now ++ 10 ∷ []) }
 {
     out.put(b"balance ");
@@ -110,15 +114,15 @@ fn put_balance<W: Write>(out: &mut Out<'_, W>, name: &[u8], balance: &Balance, n
     out.put(b"\n");
 }
 
-/// Puts a ticket behind the name of its semaphore.
-fn put_ticket<W: Write>(out: &mut Out<'_, W>, semaphore: &[u8], ticket: u64)
+/// Puts the name of a semaphore, and a ticket of it.
+fn put_ticket<W: Write>(out: &mut Output<'_, W>, semaphore: &[u8], ticket: u64)
     ensures { Puts out.old out.new (ticket_words semaphore.now ticket) }
 {
     put_spaced(out, semaphore);
     put_spaced_number(out, ticket);
 }
 
-/// Returns the name of a group; the one without a name is `both`.
+/// Returns the name of a group. The one without a name is `both`.
 pub(crate) fn group_word(names: &Names, group: usize) -> &[u8]
     ensures { result.now ≡ group_word names.now group }
 {
@@ -138,8 +142,8 @@ fn is_line_of(sequencer: SeqId, group: &Group) -> bool
     }
 }
 
-/// Returns the name of the semaphore of a sequencer, of no bytes if none of the groups, which
-/// are numbered from `from` on, is one.
+/// Returns the name of the semaphore of a sequencer, an empty one if no group is that semaphore.
+/// The groups are numbered from `from` on.
 #[tactic(auto, unfolding(crate::specs::AuditTexts::semaphore_word))]
 fn semaphore_word<'a>(names: &'a Names, from: usize, groups: &[Group], sequencer: SeqId) -> &'a [u8]
     requires { from + length groups.now < 2 ^ 64 }
@@ -156,7 +160,7 @@ fn semaphore_word<'a>(names: &'a Names, from: usize, groups: &[Group], sequencer
 
 /// Puts the line of a pair of tickets.
 fn put_pair<W: Write>(
-    out: &mut Out<'_, W>,
+    out: &mut Output<'_, W>,
     heading: &Heading,
     spellings: &Spellings<'_>,
     pair: &Pair,
@@ -174,26 +178,27 @@ fn put_pair<W: Write>(
 
 /// Puts the lines of deliveries.
 fn put_deliveries<W: Write>(
-    out: &mut Out<'_, W>,
+    out: &mut Output<'_, W>,
     spellings: &Spellings<'_>,
     name: &[u8],
     list: &[Delivery],
 )
-    ensures { Puts out.old out.new (text_of (map (delivery_line spellings.now name.now) list.now)) }
+    ensures { Puts out.old out.new
+        (lines_text (map (delivery_line spellings.now name.now) list.now)) }
 {
     for delivery in list {
         put_delivery(out, spellings, name, delivery);
     }
 }
 
-/// Puts the lines of accepting tries.
+/// Puts the lines of accepted tries.
 fn put_versions<W: Write>(
-    out: &mut Out<'_, W>,
+    out: &mut Output<'_, W>,
     spellings: &Spellings<'_>,
     name: &[u8],
     tries: &AcceptedTries,
 )
-    ensures { Puts out.old out.new (text_of (map (version_line spellings.now name.now) tries.now.list)) }
+    ensures { Puts out.old out.new (lines_text (map (version_line spellings.now name.now) tries.now.list)) }
 {
     for place in 0..tries.len() {
         if let Some(accepted) = tries.get(place) {
@@ -204,12 +209,12 @@ fn put_versions<W: Write>(
 
 /// Puts the lines of pairs.
 fn put_pairs<W: Write>(
-    out: &mut Out<'_, W>,
+    out: &mut Output<'_, W>,
     heading: &Heading,
     spellings: &Spellings<'_>,
     list: &[Pair],
 )
-    ensures { Puts out.old out.new (text_of (map (pair_line spellings.now (semaphore_word heading.now.names 0 heading.now.groups)) list.now)) }
+    ensures { Puts out.old out.new (lines_text (map (pair_line spellings.now (semaphore_word heading.now.names 0 heading.now.groups)) list.now)) }
 {
     for pair in list {
         put_pair(out, heading, spellings, pair);
@@ -218,22 +223,22 @@ fn put_pairs<W: Write>(
 
 /// Puts the lines of what the audit of a group found.
 fn put_audited<W: Write>(
-    out: &mut Out<'_, W>,
+    out: &mut Output<'_, W>,
     heading: &Heading,
     spellings: &Spellings<'_>,
     name: &[u8],
-    audited: &Audited,
+    audited: &AuditResult,
 )
     requires { spellings.now ≡ heading.now.words }
-    ensures { Puts out.old out.new (text_of (audited_lines heading.now name.now audited.now)) }
+    ensures { Puts out.old out.new (lines_text (audited_lines heading.now name.now audited.now)) }
 {
     match audited {
-        Audited::Deliveries(list) => {
+        AuditResult::Deliveries(list) => {
             put_deliveries(out, spellings, name, list.as_slice());
         }
-        Audited::Versions(tries) => put_versions(out, spellings, name, tries),
-        Audited::Balances(balance, now) => put_balance(out, name, balance, *now),
-        Audited::Pairs(balance, now, list) => {
+        AuditResult::Versions(tries) => put_versions(out, spellings, name, tries),
+        AuditResult::Balances(balance, now) => put_balance(out, name, balance, *now),
+        AuditResult::Pairs(balance, now, list) => {
             put_balance(out, name, balance, *now);
             put_pairs(out, heading, spellings, list.as_slice());
         }
@@ -242,13 +247,13 @@ fn put_audited<W: Write>(
 
 /// Puts what the audits of the groups found, in order.
 fn put_groups<W: Write>(
-    out: &mut Out<'_, W>,
+    out: &mut Output<'_, W>,
     heading: &Heading,
     spellings: &Spellings<'_>,
-    found: &[Audited],
+    found: &[AuditResult],
 )
     requires { spellings.now ≡ heading.now.words }
-    ensures { Puts out.old out.new (text_of (groups_lines heading.now 0 found.now)) }
+    ensures { Puts out.old out.new (lines_text (groups_lines heading.now 0 found.now)) }
 {
     for i in 0..found.len() {
         let name = group_word(heading.names(), i);
@@ -257,7 +262,7 @@ fn put_groups<W: Write>(
 }
 
 /// Puts the whole text.
-fn put_audit<W: Write>(out: &mut Out<'_, W>, heading: &Heading, found: &[Audited])
+fn put_audit<W: Write>(out: &mut Output<'_, W>, heading: &Heading, found: &[AuditResult])
     ensures { Puts out.old out.new (audit_text heading.now found.now) }
 {
     let spellings = Spellings::new(heading.words());
@@ -266,16 +271,16 @@ fn put_audit<W: Write>(out: &mut Out<'_, W>, heading: &Heading, found: &[Audited
     out.put(b"end\n");
 }
 
-/// Writes the text, or a front of it.
+/// Writes the text of an audit; a proper prefix of it if a write fails.
 pub fn write_audit<W: Write>(
     out: &mut W,
     heading: &Heading,
-    found: &[Audited],
+    found: &[AuditResult],
 ) -> Result<(), WriteFault>
     ensures ok { OnOk result (Appends (W.contents out.old) (W.contents out.new) (audit_text heading.now found.now)) }
     ensures err { OnErr result (AppendsPrefix (W.contents out.old) (W.contents out.new) (audit_text heading.now found.now)) }
 {
-    let mut text = Out::new(out);
+    let mut text = Output::new(out);
     put_audit(&mut text, heading, found);
     let done = text.finish();
     text.into_writer();

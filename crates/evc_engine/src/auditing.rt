@@ -1,37 +1,38 @@
-//! `audit`: a trace in; what the audits of its groups found out.
+//! `audit`: reads a trace, and writes what the audits of its groups found.
 ghost use Rattle.std.specs.Prelude.{◌≡◌, ℕ, List, Option, ◌++◌, ◌∷◌, [], IfSome, IfOk, IfErr, OnOk};
 ghost use Rattle.ec_core.specs.declared.act.Entry.{Entry};
-ghost use Rattle.ec_heading.specs.Headed.{Headed};
+ghost use Rattle.ec_heading.specs.HeadingModel.{HeadingModel};
 ghost use Rattle.ec_trace.specs.Reading.{IsOpened};
 ghost use Rattle.ec_text.specs.Puts.{Puts, IsWrittenOut};
 ghost use Rattle.evc_engine.specs.Walks.{EachEndsFor};
 ghost use Rattle.evc_engine.specs.Halts.{FindsIn};
 ghost use Rattle.evc_engine.specs.Audits.{AreAudited, IsStop, stop_status, stop_note, Audits};
 
+use crate::audit_result::AuditResult;
 use crate::audit_text::write_audit;
-use crate::audited::Audited;
 use crate::checking::note_unread;
-use crate::notes::say_not_followed;
+use crate::notes::report_not_followed;
 use crate::status::Status;
-use crate::walked::{Auditing, opened};
+use crate::walked::{Auditing, open_audits};
 use ec_core::AuditFault;
-use ec_text::Out;
+use ec_text::Output;
 use ec_trace::{
-    Group, Heading, Lines, Opened, TraceFault, Watched, open_trace, read_entries, semaphores_of,
+    AuditedWorld, Group, Heading, Lines, TraceFault, TraceOpening, open_trace, read_entries,
+    semaphores_of,
 };
-use ec_walk::Walked;
+use ec_walk::GroupAudits;
 use std::alloc::{AllocError, Global};
 use std::io::{Read, Write};
 
-/// Why a trace that was read has no text: what the audit of a group answered.
+/// Why a trace that was read has no text: the fault of the audit of a group.
 #[derive(Clone, Copy)]
 struct Stop {
     group: usize,
     fault: AuditFault,
 }
 
-/// Why there is no text: what the audit of a group answered, the fault of the trace, or that there was no memory for the
-/// audits.
+/// Why there is no text: the fault of a group's audit, the fault of the trace, or that memory ran
+/// out for the audits.
 #[derive(Drop)]
 enum Halt {
     Stopped(Stop),
@@ -40,22 +41,22 @@ enum Halt {
 }
 
 /// Adds what an audit found.
-fn keep(found: &mut Vec<Audited>, audited: Audited) -> Result<(), AllocError>
+fn push_result(found: &mut Vec<AuditResult>, audited: AuditResult) -> Result<(), AllocError>
     ensures { OnOk result (found.new.items ≡ found.old.items ++ audited ∷ []) }
 {
     found.push(audited)?;
     Ok(())
 }
 
-/// Returns what the audits of groups found, in the order of the groups, or the first group that is
-/// not followed.
+/// Returns what the audits of groups found, in the order of the groups; or the fault of the first
+/// audit that has one.
 fn found_by(
     alloc: Global,
     groups: &[Group],
     audits: Vec<Auditing<'_>>,
-) -> Result<Vec<Audited>, Stop>
-    ensures ok { (h : Headed) (entries : List Entry) → groups.now ≡ h.groups → EachEndsFor h entries audits.entry.items → IfOk result (λ found. AreAudited h entries found.items) }
-    ensures err { (h : Headed) (entries : List Entry) → groups.now ≡ h.groups → EachEndsFor h entries audits.entry.items → IfErr result (λ stop. IsStop h entries stop.group stop.fault) }
+) -> Result<Vec<AuditResult>, Stop>
+    ensures ok { (h : HeadingModel) (entries : List Entry) → groups.now ≡ h.groups → EachEndsFor h entries audits.entry.items → IfOk result (λ found. AreAudited h entries found.items) }
+    ensures err { (h : HeadingModel) (entries : List Entry) → groups.now ≡ h.groups → EachEndsFor h entries audits.entry.items → IfErr result (λ stop. IsStop h entries stop.group stop.fault) }
 {
     let fault = AuditFault::Memory;
     let mut rest = audits.into_iter();
@@ -68,31 +69,32 @@ fn found_by(
             Ok(audited) => audited,
             Err(fault) => return Err(Stop { group, fault }),
         };
-        let Ok(()) = keep(&mut found, audited) else {
+        let Ok(()) = push_result(&mut found, audited) else {
             return Err(Stop { group, fault });
         };
     }
     Ok(found)
 }
 
-/// Reads the entries of a trace, each of which is handed to the audits of the groups: what they found, or why there is no text.
+/// Reads the entries of a trace, and passes each to the audits of the groups. Returns what these
+/// found, or why there is no text.
 fn found_in<R: Read>(
     alloc: Global,
     heading: &Heading,
     lines: Lines,
     reader: &mut R,
-) -> Result<Vec<Audited>, Halt>
+) -> Result<Vec<AuditResult>, Halt>
     ensures { (bytes : List ℕ) → IsOpened bytes (R.remaining reader.old) lines heading.now → FindsIn bytes (R.remaining reader.new) heading.now result }
 {
-    heading.known();
+    heading.invariant();
     let groups = heading.groups();
     let Ok(semaphores) = semaphores_of(alloc, groups) else {
         return Err(Halt::Memory);
     };
-    let Ok(audits) = opened(alloc, groups, heading.setup(), semaphores.as_slice()) else {
+    let Ok(audits) = open_audits(alloc, groups, heading.setup(), semaphores.as_slice()) else {
         return Err(Halt::Memory);
     };
-    let mut watched = Watched::new(heading.setup().copy(), Walked::new(groups, audits));
+    let mut watched = AuditedWorld::new(heading.setup().copy(), GroupAudits::new(groups, audits));
     if let Err(fault) = read_entries(alloc, lines, reader, heading, &mut watched) {
         return Err(Halt::Unread(fault));
     }
@@ -104,15 +106,15 @@ fn found_in<R: Read>(
     }
 }
 
-/// Notes why there is no text.
-fn note_stop<N: Write>(heading: &Heading, stop: Stop, notes: &mut Out<'_, N>) -> Status
+/// Reports the fault of a group's audit, and returns the status.
+fn note_stop<N: Write>(heading: &Heading, stop: Stop, notes: &mut Output<'_, N>) -> Status
     ensures status { result ≡ stop_status stop.fault }
     ensures note { Puts notes.old notes.new (stop_note heading.now stop.group stop.fault) }
     ensures written { IsWrittenOut notes.new }
 {
     match &stop.fault {
         AuditFault::NotFollowed { worker, entry } => {
-            say_not_followed(notes, heading, stop.group, *worker, *entry);
+            report_not_followed(notes, heading, stop.group, *worker, *entry);
             Status::Refused
         }
         AuditFault::Memory => {
@@ -122,12 +124,12 @@ fn note_stop<N: Write>(heading: &Heading, stop: Stop, notes: &mut Out<'_, N>) ->
     }
 }
 
-/// Writes what the audits of a trace's groups found, or notes why there is nothing to write.
+/// Writes what the audits of a trace's groups found, or reports why there is nothing to write.
 fn write_found<W: Write, N: Write>(
     heading: &Heading,
-    found: Result<Vec<Audited>, Halt>,
+    found: Result<Vec<AuditResult>, Halt>,
     out: &mut W,
-    notes: &mut Out<'_, N>,
+    notes: &mut Output<'_, N>,
 ) -> Status
     ensures ends { (bytes : List ℕ) (left : Option (List ℕ)) → FindsIn bytes left heading.now found → Audits bytes left result
         (record { out = W.contents out.old; notes = notes.old })
@@ -152,25 +154,25 @@ fn write_found<W: Write, N: Write>(
     }
 }
 
-/// Reads a trace, and writes what its buffers, databases and semaphores did, group by group in
-/// the order of the declarations; notes say what is wrong.
+/// Reads a trace, and writes what its buffers, databases and semaphores did, group by group in the
+/// order of the declarations. Notes say what is wrong.
 ///
-/// The trace goes past once, and nothing is kept of its entries but what the audits find. Nothing is
-/// written to `out` before the trace was read to its end and each group was audited.
-// (Put into its caller, it would share the registers with each other task.)
+/// The trace is streamed once, and nothing of its entries is stored except what the audits find.
+/// Nothing is written to `out` before the trace was read to its end and each group was audited.
+// (Inlined into its caller, it would share the registers with the other commands.)
 #[inline(never)]
 pub fn audit<R: Read, W: Write, N: Write>(
     alloc: Global,
     reader: &mut R,
     out: &mut W,
-    notes: &mut Out<'_, N>,
+    notes: &mut Output<'_, N>,
 ) -> Status
     ensures ends { IfSome (R.remaining reader.old) (λ bytes. Audits bytes (R.remaining reader.new) result
         (record { out = W.contents out.old; notes = notes.old })
         (record { out = W.contents out.new; notes = notes.new })) }
     ensures written { IsWrittenOut notes.old → IsWrittenOut notes.new }
 {
-    let Opened { heading, lines } = match open_trace(alloc, reader) {
+    let TraceOpening { heading, lines } = match open_trace(alloc, reader) {
         Ok(opened) => opened,
         Err(fault) => return note_unread(&fault, notes),
     };

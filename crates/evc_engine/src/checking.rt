@@ -1,4 +1,4 @@
-//! `check`: a trace in; the order of its calls and the totals out.
+//! `check`: reads a trace, and writes a linearization of its calls and the totals.
 ghost use Rattle.std.specs.Prelude.{◌≡◌, ℕ, List, Option, IfSome, Ok, Err};
 ghost use Rattle.ec_core.specs.declared.act.Entry.{Entry};
 ghost use Rattle.ec_text.specs.Puts.{Puts, IsWrittenOut};
@@ -7,17 +7,17 @@ ghost use Rattle.evc_engine.specs.Checks.{Checks, Writes};
 ghost use Rattle.evc_engine.specs.Halts.{IsReadInto};
 ghost use Rattle.evc_engine.specs.Notes.{fault_note, fault_status};
 
-use crate::notes::say_fault;
+use crate::notes::report_fault;
 use crate::status::Status;
 use crate::text::write_text;
 use ec_core::World;
-use ec_order::Timeline;
-use ec_text::Out;
-use ec_trace::{Heading, Lines, Opened, TraceFault, Watched, open_trace, read_entries};
+use ec_order::Linearizer;
+use ec_text::Output;
+use ec_trace::{AuditedWorld, Heading, Lines, TraceFault, TraceOpening, open_trace, read_entries};
 use std::alloc::Global;
 use std::io::{Read, Write};
 
-/// Returns how a command ends that could not read its trace.
+/// Returns the status of a command that could not read its trace.
 pub(crate) fn status_of(fault: &TraceFault) -> Status
     ensures { result ≡ fault_status fault.now }
 {
@@ -32,30 +32,30 @@ pub(crate) fn status_of(fault: &TraceFault) -> Status
     }
 }
 
-/// Notes that a trace was not read, and returns how the command ends.
-pub fn note_unread<N: Write>(fault: &TraceFault, notes: &mut Out<'_, N>) -> Status
+/// Reports why a trace was not read, and returns the status of the command.
+pub fn note_unread<N: Write>(fault: &TraceFault, notes: &mut Output<'_, N>) -> Status
     ensures status { result ≡ fault_status fault.now }
     ensures note { Puts notes.old notes.new (fault_note fault.now) }
     ensures written { IsWrittenOut notes.new }
 {
-    say_fault(notes, fault);
+    report_fault(notes, fault);
     status_of(fault)
 }
 
-/// Writes the text of a trace, of which this was gathered.
+/// Writes the text of a trace, from the world and the linearizer after its last entry.
 fn write_order<W: Write, N: Write>(
     heading: &Heading,
     world: &World,
-    timeline: &Timeline<'_>,
+    linearizer: &Linearizer<'_>,
     out: &mut W,
-    notes: &mut Out<'_, N>,
+    notes: &mut Output<'_, N>,
 ) -> Status
-    ensures ends { (entries : List Entry) → IsReadInto heading.now entries world.now timeline.now → Writes (record { heading = heading.now; entries = entries }) result
+    ensures ends { (entries : List Entry) → IsReadInto heading.now entries world.now linearizer.now → Writes (record { heading = heading.now; entries = entries }) result
         (record { out = W.contents out.old; notes = notes.old })
         (record { out = W.contents out.new; notes = notes.new }) }
     ensures written { IsWrittenOut notes.old → IsWrittenOut notes.new }
 {
-    let Ok(calls) = timeline.calls() else {
+    let Ok(calls) = linearizer.calls() else {
         notes.say(b"no memory\n");
         return Status::Memory;
     };
@@ -68,26 +68,26 @@ fn write_order<W: Write, N: Write>(
     }
 }
 
-/// Writes the text of a trace, of which this was gathered. (It stands apart from its caller: so the room that it takes is not there
-/// while the trace is read.)
+/// Writes the text of a trace that was read. (It is not inlined, so that its stack frame does not
+/// exist while the trace is read.)
 #[inline(never)]
-fn write_watched<W: Write, N: Write>(
+fn write_linearization<W: Write, N: Write>(
     heading: &Heading,
-    watched: Watched<Timeline<'_>>,
+    watched: AuditedWorld<Linearizer<'_>>,
     out: &mut W,
-    notes: &mut Out<'_, N>,
+    notes: &mut Output<'_, N>,
 ) -> Status
     ensures ends { (entries : List Entry) → IsReadInto heading.now entries watched.entry.world watched.entry.audit → Writes (record { heading = heading.now; entries = entries }) result
         (record { out = W.contents out.old; notes = notes.old })
         (record { out = W.contents out.new; notes = notes.new }) }
     ensures written { IsWrittenOut notes.old → IsWrittenOut notes.new }
 {
-    let (world, timeline) = watched.into_parts();
-    write_order(heading, &world, &timeline, out, notes)
+    let (world, linearizer) = watched.into_parts();
+    write_order(heading, &world, &linearizer, out, notes)
 }
 
-/// Reads the entries of a trace, and writes its text or notes why there is none. (It stands apart from its caller, in which the heading
-/// is read, for the same reason.)
+/// Reads the entries of a trace, and writes its text or reports why there is none. (It is not
+/// inlined into its caller, which reads the header, for the same reason.)
 #[inline(never)]
 fn check_entries<R: Read, W: Write, N: Write>(
     alloc: Global,
@@ -95,34 +95,35 @@ fn check_entries<R: Read, W: Write, N: Write>(
     lines: Lines,
     reader: &mut R,
     out: &mut W,
-    notes: &mut Out<'_, N>,
+    notes: &mut Output<'_, N>,
 ) -> Status
     ensures ends { (bytes : List ℕ) → IsOpened bytes (R.remaining reader.old) lines heading.now → Checks bytes (R.remaining reader.new) result
         (record { out = W.contents out.old; notes = notes.old })
         (record { out = W.contents out.new; notes = notes.new }) }
     ensures written { IsWrittenOut notes.old → IsWrittenOut notes.new }
 {
-    let Ok(timeline) = Timeline::open(alloc, heading.setup()) else {
+    let Ok(linearizer) = Linearizer::open(alloc, heading.setup()) else {
         return note_unread(&TraceFault::Memory, notes);
     };
-    let mut watched = Watched::new(heading.setup().copy(), timeline);
+    let mut watched = AuditedWorld::new(heading.setup().copy(), linearizer);
     if let Err(fault) = read_entries(alloc, lines, reader, heading, &mut watched) {
         return note_unread(&fault, notes);
     }
-    write_watched(heading, watched, out, notes)
+    write_linearization(heading, watched, out, notes)
 }
 
-/// Reads a trace, and writes the order of its completed calls and the totals; notes say what is
-/// wrong.
+/// Reads a trace, and writes a linearization of its completed calls and the totals. Notes say what
+/// is wrong.
 ///
-/// The trace goes past once, and no run of it is kept. Nothing is written to `out` before the trace was read to its end.
-// (Put into its caller, it would share the registers with each other task.)
+/// The trace is streamed once, and no run of it is stored. Nothing is written to `out` before the
+/// trace was read to its end.
+// (Inlined into its caller, it would share the registers with the other commands.)
 #[inline(never)]
 pub fn check<R: Read, W: Write, N: Write>(
     alloc: Global,
     reader: &mut R,
     out: &mut W,
-    notes: &mut Out<'_, N>,
+    notes: &mut Output<'_, N>,
 ) -> Status
     ensures ends { IfSome (R.remaining reader.old) (λ bytes. Checks bytes (R.remaining reader.new) result
         (record { out = W.contents out.old; notes = notes.old })
@@ -130,7 +131,9 @@ pub fn check<R: Read, W: Write, N: Write>(
     ensures written { IsWrittenOut notes.old → IsWrittenOut notes.new }
 {
     match open_trace(alloc, reader) {
-        Ok(Opened { heading, lines }) => check_entries(alloc, &heading, lines, reader, out, notes),
+        Ok(TraceOpening { heading, lines }) => check_entries(
+            alloc, &heading, lines, reader, out, notes,
+        ),
         Err(fault) => note_unread(&fault, notes),
     }
 }

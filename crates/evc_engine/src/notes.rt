@@ -1,4 +1,4 @@
-//! The notes. A write of notes that fails is not told, and none is tried after it.
+//! The notes. A write of notes that fails is not reported, and no other is tried after it.
 ghost use Rattle.ec_text.specs.Puts.{Puts, IsWrittenOut};
 ghost use Rattle.evc_engine.specs.Notes.{fault_note, refused_words, wrong_words, line_words, broken_words, breaker_words, break_note};
 ghost use Rattle.evc_engine.specs.Audits.{not_followed_note};
@@ -6,12 +6,12 @@ ghost use Rattle.evc_engine.specs.Audits.{not_followed_note};
 use crate::audit_text::group_word;
 use ec_core::{Refusal, Reply};
 use ec_count::WorkerId;
-use ec_text::Out;
+use ec_text::Output;
 use ec_trace::{Heading, Spellings, TraceFault, put_reply};
 use std::io::Write;
 
-/// Puts what a note says of a refused act.
-pub fn put_refused<W: Write>(out: &mut Out<'_, W>, refusal: Refusal)
+/// Puts the words of a note on a refused act.
+pub fn put_refused<W: Write>(out: &mut Output<'_, W>, refusal: Refusal)
     ensures { Puts out.old out.new (refused_words refusal) }
 {
     out.put(b"refused ");
@@ -20,8 +20,8 @@ pub fn put_refused<W: Write>(out: &mut Out<'_, W>, refusal: Refusal)
     out.put(refusal.name().as_bytes());
 }
 
-/// Puts what a note says of a wrong reply.
-fn put_wrong<W: Write>(out: &mut Out<'_, W>, right: &Reply)
+/// Puts the words of a note on a wrong reply.
+fn put_wrong<W: Write>(out: &mut Output<'_, W>, right: &Reply)
     ensures { Puts out.old out.new (wrong_words right.now) }
 {
     out.put(b"wrong reply, right is ");
@@ -29,7 +29,7 @@ fn put_wrong<W: Write>(out: &mut Out<'_, W>, right: &Reply)
 }
 
 /// Puts the beginning of a note on a line.
-pub fn put_line<W: Write>(out: &mut Out<'_, W>, line: u64)
+pub fn put_line<W: Write>(out: &mut Output<'_, W>, line: u64)
     ensures { Puts out.old out.new (line_words line) }
 {
     out.put(b"line ");
@@ -38,7 +38,7 @@ pub fn put_line<W: Write>(out: &mut Out<'_, W>, line: u64)
 }
 
 /// Puts the note on a fault of a trace.
-fn put_fault<W: Write>(out: &mut Out<'_, W>, fault: &TraceFault)
+fn put_fault<W: Write>(out: &mut Output<'_, W>, fault: &TraceFault)
     ensures { Puts out.old out.new (fault_note fault.now) }
 {
     match *fault {
@@ -63,24 +63,24 @@ fn put_fault<W: Write>(out: &mut Out<'_, W>, fault: &TraceFault)
     }
 }
 
-/// Puts the note on an entry that breaks a group.
-fn put_break<W: Write>(out: &mut Out<'_, W>, group: &[u8], worker: &[u8], entry: u64)
+/// Puts the note on an entry that breaks the rules of a group.
+fn put_break<W: Write>(out: &mut Output<'_, W>, group: &[u8], worker: &[u8], entry: u64)
     ensures { Puts out.old out.new (break_note group.now worker.now entry) }
 {
     put_broken(out, group);
     put_breaker(out, worker, entry);
 }
 
-/// Puts the beginning of that note: the group.
-fn put_broken<W: Write>(out: &mut Out<'_, W>, group: &[u8])
+/// Puts the beginning of the note on a broken rule: the group.
+fn put_broken<W: Write>(out: &mut Output<'_, W>, group: &[u8])
     ensures { Puts out.old out.new (broken_words group.now) }
 {
     out.put(group);
     out.put(b" not followed: worker ");
 }
 
-/// Puts the end of that note: the entry and its worker.
-fn put_breaker<W: Write>(out: &mut Out<'_, W>, worker: &[u8], entry: u64)
+/// Puts the end of the note on a broken rule: the worker and the entry.
+fn put_breaker<W: Write>(out: &mut Output<'_, W>, worker: &[u8], entry: u64)
     ensures { Puts out.old out.new (breaker_words worker.now entry) }
 {
     out.put(worker);
@@ -89,8 +89,8 @@ fn put_breaker<W: Write>(out: &mut Out<'_, W>, worker: &[u8], entry: u64)
     out.put(b"\n");
 }
 
-/// Says a fault of a trace: the note is put and written.
-pub fn say_fault<W: Write>(notes: &mut Out<'_, W>, fault: &TraceFault)
+/// Reports a fault of a trace: puts the note, and writes it out.
+pub fn report_fault<W: Write>(notes: &mut Output<'_, W>, fault: &TraceFault)
     ensures puts { Puts notes.old notes.new (fault_note fault.now) }
     ensures written { IsWrittenOut notes.new }
 {
@@ -98,10 +98,10 @@ pub fn say_fault<W: Write>(notes: &mut Out<'_, W>, fault: &TraceFault)
     notes.flush();
 }
 
-/// Says that a group is not followed: the note has its number, and the first entry that breaks its
-/// rule, with that entry's worker.
-pub(crate) fn say_not_followed<W: Write>(
-    notes: &mut Out<'_, W>,
+/// Reports that the workers break the rules of a group. The note has the group's name, the first
+/// entry that breaks a rule, and its worker.
+pub(crate) fn report_not_followed<W: Write>(
+    notes: &mut Output<'_, W>,
     heading: &Heading,
     group: usize,
     worker: WorkerId,

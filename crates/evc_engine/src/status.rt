@@ -1,22 +1,23 @@
-//! How the program ends.
+//! The statuses with which a program ends.
 ghost use Rattle.std.specs.Prelude.{◌≡◌};
 ghost use Rattle.evc_engine.specs.Statuses.{status_code};
 
-/// How a command ended.
+/// The status with which a command ended.
 #[derive(Clone, Copy, Debug, PartialEq, Eq)]
 pub enum Status {
     /// Done: standard output holds the whole text.
     Done,
-    /// The trace, the script or its schedule was refused, or a group is not followed: the note says
-    /// why, and standard output holds nothing.
+    /// The trace, the script or its schedule was rejected, or the rules of a group are broken: the
+    /// note says why. `evc` then writes nothing to standard output.
     Refused,
     /// The command line was wrong.
     Usage,
     /// A read or a write failed.
     InputOutput,
-    /// Memory was refused: to the command or, of `run`, to a worker.
+    /// Memory ran out: for the command or, in `run`, for a worker.
     Memory,
-    /// A worker was stopped or out of turns, or what the workers did is not what they were told.
+    /// A worker was stopped or out of turns, or what the workers did is not what their script says.
+    /// In `evc-draw`: a history of calls is not decided.
     Stopped,
 }
 

@@ -5,46 +5,52 @@ ghost use Rattle.std.specs.Io.KnownBytes.{Appends};
 ghost use Rattle.ec_core.specs.Standing.{StandsFor};
 ghost use Rattle.ec_core.specs.declared.act.Entry.{Entry};
 ghost use Rattle.ec_text.specs.Puts.{Puts, AppendsPrefix};
-ghost use Rattle.ec_heading.specs.Spelling.{text_of};
-ghost use Rattle.evc_engine.specs.Texts.{dated_line, told_lines};
+ghost use Rattle.ec_heading.specs.Spelling.{lines_text};
+ghost use Rattle.evc_engine.specs.Texts.{linearized_line, order_lines};
 
 use crate::totals::put_totals;
 use ec_core::World;
-use ec_order::{Dated, InTime};
-use ec_text::{Decimal, Out, WriteFault};
-use ec_trace::{Heading, LastNumbers, Spellings, put_next_entry};
+use ec_order::{Linearization, LinearizedEntry};
+use ec_text::{CachedDecimal, Output, WriteFault};
+use ec_trace::{DecimalCache, Heading, Spellings, put_next_entry};
 use std::io::Write;
 
-/// Puts LF and the line of a call, and has its point in `point` then. The line's point is mostly that of the line before, or one more, so
-/// that its digits need little work.
-fn put_dated<W: Write>(
-    out: &mut Out<'_, W>,
+/// Puts LF and the line of a call, and stores its linearization point in `point`. A point is
+/// usually that of the line before, or one more, so that few of its digits change.
+fn put_linearized<W: Write>(
+    out: &mut Output<'_, W>,
     spellings: &Spellings<'_>,
-    point: &mut Decimal,
-    last: &mut LastNumbers,
-    dated: &Dated,
+    point: &mut CachedDecimal,
+    last: &mut DecimalCache,
+    linearized: &LinearizedEntry,
 )
-    ensures { Puts out.old out.new (10 ∷ dated_line spellings.now dated.now) }
+    ensures { Puts out.old out.new (10 ∷ linearized_line spellings.now linearized.now) }
 {
-    point.set(dated.point as u64);
+    point.set(linearized.point as u64);
     out.put_with_decimal(b"\n", point);
-    put_next_entry(out, b" ", spellings, last, &dated.entry);
+    put_next_entry(out, b" ", spellings, last, &linearized.entry);
 }
 
-/// Puts the lines of the calls, in order, each behind LF.
-fn put_order<W: Write>(out: &mut Out<'_, W>, spellings: &Spellings<'_>, calls: InTime<'_>)
-    ensures { Puts out.old out.new (flat_map (λ d. 10 ∷ dated_line spellings.now d) calls.entry) }
+/// Puts the lines of the calls, in order, each after LF.
+fn put_order<W: Write>(out: &mut Output<'_, W>, spellings: &Spellings<'_>, calls: Linearization<'_>)
+    ensures { Puts out.old out.new
+        (flat_map (λ d. 10 ∷ linearized_line spellings.now d) calls.entry) }
 {
-    let mut point = Decimal::new(0);
-    let mut last = LastNumbers::new();
-    for dated in calls {
-        put_dated(out, spellings, &mut point, &mut last, &dated);
+    let mut point = CachedDecimal::new(0);
+    let mut last = DecimalCache::new();
+    for linearized in calls {
+        put_linearized(out, spellings, &mut point, &mut last, &linearized);
     }
 }
 
 /// Puts the whole text.
-fn put_text<W: Write>(out: &mut Out<'_, W>, heading: &Heading, world: &World, calls: InTime<'_>)
-    ensures { (entries : List Entry) → StandsFor world.now entries → Puts out.old out.new (text_of (told_lines heading.now entries (map (dated_line heading.now.words) calls.entry))) }
+fn put_text<W: Write>(
+    out: &mut Output<'_, W>,
+    heading: &Heading,
+    world: &World,
+    calls: Linearization<'_>,
+)
+    ensures { (entries : List Entry) → StandsFor world.now entries → Puts out.old out.new (lines_text (order_lines heading.now entries (map (linearized_line heading.now.words) calls.entry))) }
 {
     let spellings = Spellings::new(heading.words());
     out.put(b"evc-order 1");
@@ -54,18 +60,19 @@ fn put_text<W: Write>(out: &mut Out<'_, W>, heading: &Heading, world: &World, ca
     out.put(b"end\n");
 }
 
-/// Writes the text, or a front of it. (It stands apart from its caller, which reads the trace: each way has the registers to itself.)
+/// Writes the text of `check`; a proper prefix of it if a write fails. (It is not inlined into its
+/// caller, which reads the trace, so that each has the registers for itself.)
 #[inline(never)]
 pub fn write_text<W: Write>(
     out: &mut W,
     heading: &Heading,
     world: &World,
-    calls: InTime<'_>,
+    calls: Linearization<'_>,
 ) -> Result<(), WriteFault>
-    ensures ok { (entries : List Entry) → StandsFor world.now entries → OnOk result (Appends (W.contents out.old) (W.contents out.new) (text_of (told_lines heading.now entries (map (dated_line heading.now.words) calls.entry)))) }
-    ensures err { (entries : List Entry) → StandsFor world.now entries → OnErr result (AppendsPrefix (W.contents out.old) (W.contents out.new) (text_of (told_lines heading.now entries (map (dated_line heading.now.words) calls.entry)))) }
+    ensures ok { (entries : List Entry) → StandsFor world.now entries → OnOk result (Appends (W.contents out.old) (W.contents out.new) (lines_text (order_lines heading.now entries (map (linearized_line heading.now.words) calls.entry)))) }
+    ensures err { (entries : List Entry) → StandsFor world.now entries → OnErr result (AppendsPrefix (W.contents out.old) (W.contents out.new) (lines_text (order_lines heading.now entries (map (linearized_line heading.now.words) calls.entry)))) }
 {
-    let mut text = Out::new(out);
+    let mut text = Output::new(out);
     put_text(&mut text, heading, world, calls);
     let done = text.finish();
     text.into_writer();

@@ -4,12 +4,12 @@ ghost use Rattle.ec_text.specs.Puts.{Puts};
 ghost use Rattle.ec_core.specs.Counts.{total, issued, cell_value};
 ghost use Rattle.ec_core.specs.Standing.{StandsFor};
 ghost use Rattle.ec_core.specs.declared.act.Entry.{Entry};
-ghost use Rattle.ec_heading.specs.Spelling.{text_of};
+ghost use Rattle.ec_heading.specs.Spelling.{lines_text};
 ghost use Rattle.evc_engine.specs.Texts.{totals_of, totals_at, cell_lines, cell_line, count_line, totals_lines};
 
 use ec_core::World;
-use ec_count::{CellId, EventId, SeqId, Target, Vocabulary};
-use ec_text::Out;
+use ec_count::{CellId, EventId, SeqId, SymbolTable, Target};
+use ec_text::Output;
 use ec_trace::Heading;
 use std::io::Write;
 
@@ -38,7 +38,7 @@ fn cell_or_zero(world: &World, cell: CellId) -> u64
 }
 
 /// Puts the line of one count.
-fn put_count<W: Write>(out: &mut Out<'_, W>, sort: &[u8], name: &[u8], count: u64)
+fn put_count<W: Write>(out: &mut Output<'_, W>, sort: &[u8], name: &[u8], count: u64)
     ensures { Puts out.old out.new (count_line sort.now name.now count ++ 10 ∷ []) }
 {
     out.put(sort);
@@ -48,8 +48,8 @@ fn put_count<W: Write>(out: &mut Out<'_, W>, sort: &[u8], name: &[u8], count: u6
     out.put(b"\n");
 }
 
-/// Puts the spelling of one cell of a block.
-fn put_spot<W: Write>(out: &mut Out<'_, W>, name: &[u8], place: u64)
+/// Puts the name of one cell of a block, as `C[1]`.
+fn put_cell_name<W: Write>(out: &mut Output<'_, W>, name: &[u8], place: u64)
     ensures { Puts out.old out.new (name.now ++ codes "[" ++ decimal place ++ codes "]") }
 {
     out.put(name);
@@ -59,17 +59,17 @@ fn put_spot<W: Write>(out: &mut Out<'_, W>, name: &[u8], place: u64)
 }
 
 /// Puts the line of one cell.
-fn put_cell<W: Write>(out: &mut Out<'_, W>, name: &[u8], place: u64, value: u64)
+fn put_cell<W: Write>(out: &mut Output<'_, W>, name: &[u8], place: u64, value: u64)
     ensures { Puts out.old out.new (cell_line name.now place value ++ 10 ∷ []) }
 {
     out.put(b"cell ");
-    put_spot(out, name, place);
+    put_cell_name(out, name, place);
     out.put(b" ");
     out.put_number(value);
     out.put(b"\n");
 }
 
-/// Returns the value of the cell at a place of a block, 0 if it is not declared.
+/// Returns the value of the cell at an index of a block, 0 if it is not declared.
 #[tactic(auto, using(crate::proofs::Undeclared::far_cell))]
 fn value_at(world: &World, first: CellId, place: usize) -> u64
     ensures { (h : List Entry) → StandsFor world.now h → result ≡ cell_value (first + place) (reverse h) }
@@ -84,19 +84,19 @@ fn value_at(world: &World, first: CellId, place: usize) -> u64
 }
 
 /// Puts the lines of the cells of a block.
-fn put_cells<W: Write>(out: &mut Out<'_, W>, world: &World, name: &[u8], first: CellId, n: usize)
+fn put_cells<W: Write>(out: &mut Output<'_, W>, world: &World, name: &[u8], first: CellId, n: usize)
     ensures { (h : List Entry) → StandsFor world.now h
-        → Puts out.old out.new (text_of (cell_lines name.now (reverse h) first 0 n)) }
+        → Puts out.old out.new (lines_text (cell_lines name.now (reverse h) first 0 n)) }
 {
     for place in 0..n {
         put_cell(out, name, place as u64, value_at(world, first, place));
     }
 }
 
-/// Puts the totals of what a word spells.
-fn put_target<W: Write>(out: &mut Out<'_, W>, world: &World, word: &[u8], target: &Target)
+/// Puts the totals of the target of a word.
+fn put_target<W: Write>(out: &mut Output<'_, W>, world: &World, word: &[u8], target: &Target)
     ensures { (h : List Entry) → StandsFor world.now h
-        → Puts out.old out.new (text_of (totals_of (reverse h) word.now target.now)) }
+        → Puts out.old out.new (lines_text (totals_of (reverse h) word.now target.now)) }
 {
     match *target {
         Target::Event(event) => {
@@ -113,21 +113,21 @@ fn put_target<W: Write>(out: &mut Out<'_, W>, world: &World, word: &[u8], target
     }
 }
 
-/// Puts the totals of what the word at a place spells, if there is one.
-fn put_place<W: Write>(out: &mut Out<'_, W>, world: &World, words: &Vocabulary, place: usize)
+/// Puts the totals of the target of the word at an index of the symbol table, if there is one.
+fn put_place<W: Write>(out: &mut Output<'_, W>, world: &World, words: &SymbolTable, place: usize)
     ensures { (h : List Entry) → StandsFor world.now h
-        → Puts out.old out.new (text_of (totals_at (reverse h) (slice_get words.now place))) }
+        → Puts out.old out.new (lines_text (totals_at (reverse h) (slice_get words.now place))) }
 {
     if let Some((word, target)) = words.at(place) {
         put_target(out, world, word, &target);
     }
 }
 
-/// Puts the totals of all that a heading declares: in the order of the declarations, and of the
+/// Puts the totals of all that a header declares: in the order of the declarations, and of the
 /// objects of each.
-pub fn put_totals<W: Write>(out: &mut Out<'_, W>, heading: &Heading, world: &World)
+pub fn put_totals<W: Write>(out: &mut Output<'_, W>, heading: &Heading, world: &World)
     ensures { (h : List Entry) → StandsFor world.now h
-        → Puts out.old out.new (text_of (totals_lines heading.now (reverse h))) }
+        → Puts out.old out.new (lines_text (totals_lines heading.now (reverse h))) }
 {
     let words = heading.words();
     for place in 0..words.len() {

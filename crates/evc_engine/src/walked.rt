@@ -1,18 +1,18 @@
-//! The audits of a trace's groups, for one walk over its entries.
+//! The audits of a trace's groups, in one pass over its entries.
 ghost use Rattle.std.specs.Prelude.{◌≡◌, ◌+◌, ◌^◌, ◌<◌, List, [], ◌∷◌, length, IfOk, MatchResult};
 ghost use Rattle.ec_core.specs.declared.act.Entry.{Entry};
 ghost use Rattle.ec_core.specs.Audits.{IsAuditFault};
 ghost use Rattle.ec_core.specs.Calls.{under_way};
-ghost use Rattle.ec_core.specs.Following.{opened};
-ghost use Rattle.ec_semaphore.specs.Auditing.{Balancing, BalancesOn};
-ghost use Rattle.ec_heading.specs.Headed.{Headed};
+ghost use Rattle.ec_core.specs.Following.{opening_act};
+ghost use Rattle.ec_semaphore.specs.Auditing.{BalanceAuditModel, BalancesOn};
+ghost use Rattle.ec_heading.specs.HeadingModel.{HeadingModel};
 ghost use Rattle.ec_heading.specs.Rules.{group_rules};
 ghost use Rattle.ec_heading.specs.declared.group.Group.{Group};
-ghost use Rattle.evc_engine.specs.AuditTexts.{now_of};
+ghost use Rattle.evc_engine.specs.AuditTexts.{balance_of};
 ghost use Rattle.evc_engine.specs.Audits.{IsAudited};
-ghost use Rattle.evc_engine.specs.Walks.{StandsFor, EachStands, EndsFor};
+ghost use Rattle.evc_engine.specs.Walks.{AuditRepresents, EachRepresents, EndsFor};
 
-use crate::audited::Audited;
+use crate::audit_result::AuditResult;
 use ec_buffer::DeliveryAudit;
 use ec_core::{Act, Audit, AuditFault, Entry};
 use ec_count::Setup;
@@ -22,9 +22,9 @@ use ec_trace::Group;
 use ec_walk::GroupAudit;
 use std::alloc::{AllocError, Global};
 
-/// Returns what a balance is, by its parts.
-fn now_of(parts: &Balance) -> u64
-    ensures { parts.now.initial + parts.now.ups < 2 ^ 64 → result ≡ now_of parts.now }
+/// Returns the balance of its parts: the initial units and the ups, without the downs.
+fn balance_of(parts: &Balance) -> u64
+    ensures { parts.now.initial + parts.now.ups < 2 ^ 64 → result ≡ balance_of parts.now }
 {
     parts
         .initial
@@ -41,10 +41,10 @@ pub(crate) struct BothAudit<'a> {
 }
 
 impl<'a> BothAudit<'a> {
-    /// Returns what they found of the entries so far: the pairs, by the rule of `both`, and the
-    /// balance.
-    fn finish(self) -> Result<Audited, AuditFault>
-        ensures { (h : Headed) (entries : List Entry) (g : Group) → EndsFor h entries g (Auditing.Both self.entry)
+    /// Returns what the audits found of the entries so far: the pairs, by the rules of `both`, and
+    /// the balance.
+    fn finish(self) -> Result<AuditResult, AuditFault>
+        ensures { (h : HeadingModel) (entries : List Entry) (g : Group) → EndsFor h entries g (Auditing.Both self.entry)
             → MatchResult result (λ a. IsAudited h entries g a) (λ fault. IsAuditFault (group_rules h.setup h.groups g) entries fault) }
     {
         let BothAudit {
@@ -55,14 +55,15 @@ impl<'a> BothAudit<'a> {
         match pairs.finish() {
             Ok(list) => {
                 let parts = balance.so_far();
-                Ok(Audited::Pairs(parts, now_of(&parts), list))
+                Ok(AuditResult::Pairs(parts, balance_of(&parts), list))
             }
             Err(fault) => Err(fault),
         }
     }
 }
 
-/// Takes an entry into the audit of a semaphore, unless its call is on another object: then the audit stands as before.
+/// Passes an entry to the audit of a semaphore, unless its call is on another object: then the
+/// audit stays as it is.
 #[inline(always)]
 fn take_on(
     audit: &mut BalanceAudit,
@@ -72,7 +73,7 @@ fn take_on(
     entry: &Entry,
 )
     requires { place + 1 < 2 ^ 64 }
-    ensures { (start : Balancing) (past : List Entry) → place ≡ length past → op.now ≡ opened entry.now.act (under_way entry.now.worker past)
+    ensures { (start : BalanceAuditModel) (past : List Entry) → place ≡ length past → op.now ≡ opening_act entry.now.act (under_way entry.now.worker past)
         → semaphore.now ≡ audit.old.shape → BalancesOn start audit.old past → BalancesOn start audit.new (entry.now ∷ past) }
 {
     if is_on(semaphore, op) {
@@ -83,7 +84,7 @@ fn take_on(
 impl<'a> Audit for BothAudit<'a> {
     ghost use Rattle.evc_engine.specs.Walks.{BothOn};
 
-    ghost stands = { BothOn };
+    ghost represents = { BothOn };
 
     fn take(&mut self, place: usize, op: &Act, entry: &Entry) {
         take_on(&mut self.balance, &self.common, place, op, entry);
@@ -105,15 +106,15 @@ pub(crate) enum Auditing<'a> {
 }
 
 impl<'a> Auditing<'a> {
-    /// Makes what is kept before the first entry of a run on this setup, if these are all
-    /// semaphores.
+    /// Returns the audit of a group before the first entry of a run with this setup, if these are
+    /// all semaphores.
     fn new(
         alloc: Global,
         group: &'a Group,
         setup: &'a Setup,
         semaphores: &'a [SemaphoreShape],
     ) -> Self
-        ensures { StandsFor setup.now semaphores.now group.now result [] }
+        ensures { AuditRepresents setup.now semaphores.now group.now result [] }
     {
         match group {
             Group::Buffer(shape) => Auditing::Deliveries(DeliveryAudit::new(alloc, shape, setup)),
@@ -129,23 +130,24 @@ impl<'a> Auditing<'a> {
 }
 
 impl<'a> Auditing<'a> {
-    /// Returns what it found of the entries so far, or the first of them that breaks the group's
-    /// lists of calls.
-    pub(crate) fn finish(self) -> Result<Audited, AuditFault>
-        ensures { (h : Headed) (entries : List Entry) (g : Group) → EndsFor h entries g self.entry
+    /// Returns what the audit found of the entries so far, or the first of them that breaks the
+    /// group's rules.
+    pub(crate) fn finish(self) -> Result<AuditResult, AuditFault>
+        ensures { (h : HeadingModel) (entries : List Entry) (g : Group)
+            → EndsFor h entries g self.entry
             → MatchResult result (λ a. IsAudited h entries g a) (λ fault. IsAuditFault (group_rules h.setup h.groups g) entries fault) }
     {
         match self {
             Auditing::Deliveries(audit) => match audit.finish() {
-                Ok(list) => Ok(Audited::Deliveries(list)),
+                Ok(list) => Ok(AuditResult::Deliveries(list)),
                 Err(fault) => Err(fault),
             },
             Auditing::Versions(audit) => match audit.finish() {
-                Ok(tries) => Ok(Audited::Versions(tries)),
+                Ok(tries) => Ok(AuditResult::Versions(tries)),
                 Err(fault) => Err(fault),
             },
             Auditing::Balance(audit) => match audit.finish() {
-                Ok(parts) => Ok(Audited::Balances(parts, now_of(&parts))),
+                Ok(parts) => Ok(AuditResult::Balances(parts, balance_of(&parts))),
                 Err(fault) => Err(fault),
             },
             Auditing::Both(audit) => audit.finish(),
@@ -156,7 +158,7 @@ impl<'a> Auditing<'a> {
 impl<'a> Audit for Auditing<'a> {
     ghost use Rattle.evc_engine.specs.Walks.{AuditsOn};
 
-    ghost stands = { AuditsOn };
+    ghost represents = { AuditsOn };
 
     #[inline(always)]
     fn take(&mut self, place: usize, op: &Act, entry: &Entry) {
@@ -181,13 +183,13 @@ impl<'a> GroupAudit for Auditing<'a> {
 }
 
 /// Returns the audits of groups before the first entry, if these are all semaphores.
-pub(crate) fn opened<'a>(
+pub(crate) fn open_audits<'a>(
     alloc: Global,
     groups: &'a [Group],
     setup: &'a Setup,
     semaphores: &'a [SemaphoreShape],
 ) -> Result<Vec<Auditing<'a>>, AllocError>
-    ensures { IfOk result (λ audits. EachStands setup.now semaphores.now groups.now audits.items []) }
+    ensures { IfOk result (λ audits. EachRepresents setup.now semaphores.now groups.now audits.items []) }
 {
     let mut audits = Vec::new(alloc);
     for number in 0..groups.len() {

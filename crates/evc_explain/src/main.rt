@@ -1,17 +1,17 @@
 //! `evc-explain`: says what is wrong with a text, and how to mend it.
 #![tactic(auto)]
 
-use ec_text::Out;
+use ec_text::Output;
 use evc_engine::Status;
+use evc_explain_cli::{Error, file_named, status_of};
 use evc_explain_engine::explain;
-use evc_explain_task::{Error, file_named, status_of};
 use std::alloc::AllocError;
 use std::io::{ErrorKind, Write};
 use std::process::ExitCode;
 use std::{env, fs};
 
 /// Explains a file, or standard input, and returns the exit status.
-fn run<N: Write>(rt: &HostRuntime, file: Option<&str>, notes: &mut Out<'_, N>) -> u8 {
+fn run<N: Write>(rt: &HostRuntime, file: Option<&str>, notes: &mut Output<'_, N>) -> u8 {
     let alloc = rt.alloc();
     let Some(path) = file else {
         return explain(alloc, &mut rt.stdin(), &mut rt.stdout(), notes).code();
@@ -27,9 +27,9 @@ fn run<N: Write>(rt: &HostRuntime, file: Option<&str>, notes: &mut Out<'_, N>) -
     }
 }
 
-/// Writes what the command line gave in place of a text, and returns the exit status.
-fn end_by<N: Write>(rt: &HostRuntime, error: &Error, notes: &mut Out<'_, N>) -> u8 {
-    // (help goes to standard output, and that a note could not be written is not reported)
+/// Writes the help, the version or the error of a command line, and returns the exit status.
+fn end_by<N: Write>(rt: &HostRuntime, error: &Error, notes: &mut Output<'_, N>) -> u8 {
+    // (help and version go to standard output; a failed write to standard error is not reported)
     if error.print(rt).is_err() && !error.use_stderr() {
         notes.say(b"write fault\n");
         return Status::InputOutput.code();
@@ -40,7 +40,7 @@ fn end_by<N: Write>(rt: &HostRuntime, error: &Error, notes: &mut Out<'_, N>) -> 
 fn main(rt: HostRuntime) -> ExitCode {
     let alloc = rt.alloc();
     let mut stderr = rt.stderr();
-    let mut notes = Out::new(&mut stderr);
+    let mut notes = Output::new(&mut stderr);
     let words: Result<Vec<String>, AllocError> = match env::args(&rt) {
         Ok(args) => args.collect(alloc),
         Err(error) => {

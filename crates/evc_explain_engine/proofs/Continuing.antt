@@ -4,7 +4,7 @@ use Rattle.std.proofs.Common.{zero, suc, ap, sym, arith, append_assoc, append-ni
 use Rattle.std.specs.List.{All}
 use Rattle.std.proofs.Math.Seq.{take-append-add}
 use Rattle.std.proofs.lemmas.List.Elements.{All-append, All-take}
-use Rattle.evc_explain_engine.specs.GoingOn.{Continues}
+use Rattle.evc_explain_engine.specs.Continuation.{Continues}
 
 none : (n : ℕ) → All (λ w. w < n) []
 none n k d within = absurd (omega (arith, within))
@@ -23,10 +23,6 @@ continues_more n a b c p q = (
   q.1 ∙ ap (λ (r : List ℕ). r ++ q.0) p.1 ∙ append_assoc a p.0 q.0,
   All-append (λ w. w < n) p.0 q.0 p.2 q.2,
 )
-
--- a turn more
-pub continues_turn : (n w : ℕ) (a : List ℕ) → w < n → Continues n a (a ++ w ∷ [])
-continues_turn n w a small = (w ∷ [], refl, one n w small)
 
 -- cut behind its first turns
 pub continues_cut : (n m : ℕ) (own old : List ℕ) → length own ≤ m → Continues n own old

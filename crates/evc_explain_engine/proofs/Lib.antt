@@ -2,7 +2,7 @@ mod Cuts
 mod Stages
 mod Sought
 mod Places
-mod Histories
+mod HistoryLemmas
 mod Continuing
 mod Ending
 mod Scripts

@@ -7,47 +7,48 @@ use Rattle.ec_core.specs.Acceptance.{answer_of}
 use Rattle.ec_text.specs.Words.{words_of}
 use Rattle.ec_heading.specs.declared.version.Version.{Version}
 use Rattle.ec_heading.specs.Versions.{greatest_limit}
-use Rattle.ec_heading.specs.Headed.{Headed}
+use Rattle.ec_heading.specs.HeadingModel.{HeadingModel}
 use Rattle.ec_heading.specs.Heading.{head_step}
-use Rattle.ec_heading.specs.Outline.{opened}
-use Rattle.ec_heading.specs.Outlined.{HasOutline}
+use Rattle.ec_heading.specs.HeaderTree.{empty_heading}
+use Rattle.ec_heading.specs.HeadingInvariant.{HasHeaderTree}
 use Rattle.ec_heading.proofs.shared.LeadLines.{named_outlined, declared_outlined}
 use Rattle.ec_heading.proofs.shared.Phrases.{same_word}
 use Rattle.ec_trace.specs.Stages.{Stage, Opening, Limiting, Declaring, Running, Ended}
 use Rattle.ec_trace.specs.Entries.{entry_of}
 use Rattle.ec_trace.specs.FirstFault.{Leads}
-use Rattle.ec_trace.specs.Recounted.{Recounted}
-use Rattle.ec_trace.specs.Step.{step, limit_of, declared, entry_step, ran_on}
+use Rattle.ec_trace.specs.TraceModel.{TraceModel}
+use Rattle.ec_trace.specs.Step.{step, limit_of, after_declaration, entry_step, map_running}
 use Rattle.ec_trace.proofs.ReadRuns.{ran_back, entered_back, answered_back}
 use Rattle.ec_trace.proofs.shared.ReadTraces.{limit_back, limited_back, declared_back, first_back}
+use Rattle.ec_trace.proofs.LinesToTrees.{entry_heading}
 
--- a heading after its second line, with the third to come
-pub record IsEmpty (h : Headed) : Type 0 where
+-- a header after its second line, before the third
+pub record IsEmpty (h : HeadingModel) : Type 0 where
   pub version : Version
   pub limit : ℕ
   pub low : 1 ≤ limit
   pub high : limit ≤ greatest_limit version
-  pub is : h ≡ opened version limit []
+  pub is : h ≡ empty_heading version limit []
 
--- before line n the reading stands so
+-- the stage before line n
 abbrev pub Counted : ℕ → Stage → Type 0
 Counted n Opening = n ≡ 1
 Counted n (Limiting v) = n ≡ 2
-Counted n (Declaring h) = ((n ≡ 3) × IsEmpty h) ⊎ ((3 < n) × HasOutline h)
+Counted n (Declaring h) = ((n ≡ 3) × IsEmpty h) ⊎ ((3 < n) × HasHeaderTree h)
 Counted n (Running t) = Unit {0}
 Counted n (Ended t) = Unit {0}
 
-started : (h : Headed) → Stage
+started : (h : HeadingModel) → Stage
 started h = Running (record { heading = h; entries = [] })
 
-line_outlined : (n : ℕ) (h next : Headed) (line : List ℕ) → Counted n (Declaring h)
-    → head_step h line ≡ Ok next → HasOutline next
+line_outlined : (n : ℕ) (h next : HeadingModel) (line : List ℕ) → Counted n (Declaring h)
+    → head_step h line ≡ Ok next → HasHeaderTree next
 line_outlined n h next line (inl (at, e)) is =
     named_outlined e.version e.limit line next e.low e.high
     (ap (λ g. head_step g line) (sym e.is) ∙ is)
 line_outlined n h next line (inr (at, has)) is = declared_outlined h line next has is
 
-later : (n : ℕ) (h : Headed) → Counted n (Declaring h) → 3 < n + 1
+later : (n : ℕ) (h : HeadingModel) → Counted n (Declaring h) → 3 < n + 1
 later n h (inl (at, e)) = omega (arith, at)
 later n h (inr (at, has)) = omega (arith, at)
 
@@ -66,7 +67,7 @@ step_counted n (Limiting v) t line c is =
 step_counted n (Declaring h) t line c is =
     elim (bytes_eq line (codes "run") && nat_lt 0 h.setup.workers)
     as (λ b. cond b (Ok (Running (record { heading = h; entries = [] })))
-    (declared (head_step h line)) ≡ Ok t → Counted (n + 1) t) [
+    (after_declaration (head_step h line)) ≡ Ok t → Counted (n + 1) t) [
       | true ↦ λ g.
           (let same : Running (record { heading = h; entries = [] }) ≡ t = cc in
           subst (Counted (n + 1)) same tt)
@@ -77,7 +78,7 @@ step_counted n (Declaring h) t line c is =
     ] is
 step_counted n (Running u) t line c is =
     elim (bytes_eq line (codes "end"))
-    as (λ b. cond b (Ok (Ended u)) (ran_on (entry_step u line)) ≡ Ok t → Counted (n + 1) t) [
+    as (λ b. cond b (Ok (Ended u)) (map_running (entry_step u line)) ≡ Ok t → Counted (n + 1) t) [
       | true ↦ λ g. (let same : Ended u ≡ t = cc in subst (Counted (n + 1)) same tt)
       | false ↦ λ g.
           (let r = ran_back (entry_step u line) t g in subst (Counted (n + 1)) (sym r.2) tt)
@@ -96,7 +97,7 @@ leads_counted n m s (line ∷ lines) t c count (next, taken, leads) =
 
 -- ONLY `end` ENDS A TRACE
 
-ended_line_is : (s : Stage) (u : Recounted) (line : List ℕ) → step s line ≡ Ok (Ended u)
+ended_line_is : (s : Stage) (u : TraceModel) (line : List ℕ) → step s line ≡ Ok (Ended u)
     → line ≡ codes "end"
 unfolding step limit_of
 ended_line_is Opening u line is = (let other = (first_back line (Ended u) is).2 in cc)
@@ -105,13 +106,13 @@ ended_line_is (Limiting v) u line is =
 ended_line_is (Declaring h) u line is =
     elim (bytes_eq line (codes "run") && nat_lt 0 h.setup.workers)
     as (λ b. cond b (Ok (Running (record { heading = h; entries = [] })))
-    (declared (head_step h line)) ≡ Ok (Ended u) → line ≡ codes "end") [
+    (after_declaration (head_step h line)) ≡ Ok (Ended u) → line ≡ codes "end") [
       | true ↦ λ g. cc
       | false ↦ λ g. (let other = (declared_back (head_step h line) (Ended u) g).2 in cc)
     ] is
 ended_line_is (Running t) u line is =
     elim (bytes_eq line (codes "end")) as (λ b. bytes_eq line (codes "end") ≡ b
-    → cond b (Ok (Ended t)) (ran_on (entry_step t line)) ≡ Ok (Ended u) → line ≡ codes "end") [
+    → cond b (Ok (Ended t)) (map_running (entry_step t line)) ≡ Ok (Ended u) → line ≡ codes "end") [
       | true ↦ λ q g. same_word line (codes "end") q
       | false ↦ λ q g. (let other = (ran_back (entry_step t line) (Ended u) g).2 in cc)
     ] refl is
@@ -121,7 +122,7 @@ pub record EndsSo (lines : List (List ℕ)) : Type 0 where
   pub before : List (List ℕ)
   pub is : lines ≡ before ++ codes "end" ∷ []
 
-last_end : (s : Stage) (line : List ℕ) (lines : List (List ℕ)) (t : Recounted)
+last_end : (s : Stage) (line : List ℕ) (lines : List (List ℕ)) (t : TraceModel)
     → Leads s (line ∷ lines) (Ended t) → EndsSo (line ∷ lines)
 last_end s line [] t (next, taken, same) =
     let is : line ≡ codes "end" = ended_line_is s t line (taken ∙ ap Ok same) in
@@ -131,34 +132,25 @@ last_end s line (l ∷ ls) t (next, taken, rest) =
     record { before = line ∷ r.before; is = ap (λ (q : List (List ℕ)). line ∷ q) r.is }
 
 -- lines that lead to the end have `end` as their last
-pub lines_end : (lines : List (List ℕ)) (t : Recounted) → Leads Opening lines (Ended t)
+pub lines_end : (lines : List (List ℕ)) (t : TraceModel) → Leads Opening lines (Ended t)
     → EndsSo lines
 lines_end [] t leads = cc
 lines_end (line ∷ lines) t leads = last_end Opening line lines t leads
 
--- THE HEADING STAYS BEHIND `run`
-
-entry_heading : (t u : Recounted) (line : List ℕ) → entry_step t line ≡ Ok u
-    → u.heading ≡ t.heading
-unfolding entry_step
-entry_heading t u line is =
-    let o = entered_back t u (entry_of t.heading.words line) is in
-    ap (λ (x : Recounted). x.heading)
-    (answered_back t u o.0
-    (answer_of t.heading.setup (reverse t.entries) o.0.worker o.0.act) o.2).1
+-- THE HEADER STAYS THE SAME AFTER `run`
 
 -- entries may come, or the last line came, under this heading
-abbrev pub IsUnder : Headed → Stage → Type 0
+abbrev pub IsUnder : HeadingModel → Stage → Type 0
 IsUnder g (Running t) = t.heading ≡ g
 IsUnder g (Ended t) = t.heading ≡ g
 IsUnder g _ = ⊥
 
-pub step_under : (g : Headed) (s t : Stage) (line : List ℕ) → IsUnder g s → step s line ≡ Ok t
+pub step_under : (g : HeadingModel) (s t : Stage) (line : List ℕ) → IsUnder g s → step s line ≡ Ok t
     → IsUnder g t
 unfolding step
 step_under g (Running u) t line under is =
     elim (bytes_eq line (codes "end"))
-    as (λ b. cond b (Ok (Ended u)) (ran_on (entry_step u line)) ≡ Ok t → IsUnder g t) [
+    as (λ b. cond b (Ok (Ended u)) (map_running (entry_step u line)) ≡ Ok t → IsUnder g t) [
       | true ↦ λ e. (let same : Ended u ≡ t = cc in subst (IsUnder g) same under)
       | false ↦ λ e.
           (let r = ran_back (entry_step u line) t e in

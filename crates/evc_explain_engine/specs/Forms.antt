@@ -1,4 +1,4 @@
--- What a text is meant to be.
+-- The format that a text is meant to have.
 use Rattle.std.specs.Prelude.{ℕ, List, codes, if◌then◌else◌}
 use Rattle.ec_explain.specs.Causes.{begins_with}
 use Rattle.evc_explain_engine.specs.declared.form.Form.{Form}

@@ -1,10 +1,10 @@
 pub mod Forms
 pub mod Good
 pub mod Reasons
-pub mod Seeking
-pub mod Played
-pub mod GoingOn
-pub mod Said
-pub mod Judged
-pub mod Tells
+pub mod BadLines
+pub mod WorkerEnds
+pub mod Continuation
+pub mod TextAndStatus
+pub mod Histories
+pub mod Explanations
 pub mod Explains

@@ -1,19 +1,19 @@
-//! A text in; what is wrong with it, or that it is good, out.
+//! Reads a text, and writes its explanation.
 ghost use Rattle.std.specs.Prelude.{◌≡◌, IfSome, codes};
 ghost use Rattle.ec_text.specs.Puts.{Puts, IsWrittenOut};
 ghost use Rattle.evc_engine.specs.declared.status.Status.TheVariants.{Memory};
 ghost use Rattle.evc_explain_engine.specs.Explains.{Explains, ExplainsText, Writes};
 
-use crate::telling::tell;
-use crate::told::Told;
-use ec_text::{Input, Out, read_up_to};
+use crate::by_format::explain_by_format;
+use crate::explanation::Explanation;
+use ec_text::{Input, Output, read_up_to};
 use ec_trace::TRACE_MAX;
 use evc_engine::Status;
 use std::alloc::{AllocError, Global};
 use std::io::{Read, Write};
 
 /// Reports that memory ran out.
-fn want<N: Write>(notes: &mut Out<'_, N>) -> Status
+fn report_no_memory<N: Write>(notes: &mut Output<'_, N>) -> Status
     ensures memory { result ≡ Memory }
     ensures puts { Puts notes.old notes.new (codes "no memory\n") }
     ensures written { IsWrittenOut notes.new }
@@ -22,19 +22,23 @@ fn want<N: Write>(notes: &mut Out<'_, N>) -> Status
     Status::Memory
 }
 
-/// Writes what is said of a text, and returns how the program ends.
-fn write_told<W: Write, N: Write>(told: &Told, out: &mut W, notes: &mut Out<'_, N>) -> Status
-    ensures ends { Writes told.now.bytes.items told.now.status result
+/// Writes an explanation, and returns the status of the program.
+fn write_explanation<W: Write, N: Write>(
+    explanation: &Explanation,
+    out: &mut W,
+    notes: &mut Output<'_, N>,
+) -> Status
+    ensures ends { Writes explanation.now.bytes.items explanation.now.status result
         (record { out = W.contents out.old; notes = notes.old })
         (record { out = W.contents out.new; notes = notes.new }) }
     ensures written { IsWrittenOut notes.old → IsWrittenOut notes.new }
 {
-    let mut lines = Out::new(out);
-    lines.put(told.bytes.as_slice());
+    let mut lines = Output::new(out);
+    lines.put(explanation.bytes.as_slice());
     let done = lines.finish();
     lines.into_writer();
     match done {
-        Ok(()) => told.status,
+        Ok(()) => explanation.status,
         Err(_) => {
             notes.say(b"write fault\n");
             Status::InputOutput
@@ -47,16 +51,16 @@ fn explain_text<W: Write, N: Write>(
     alloc: Global,
     text: &[u8],
     out: &mut W,
-    notes: &mut Out<'_, N>,
+    notes: &mut Output<'_, N>,
 ) -> Status
     ensures ends { ExplainsText text.now result
         (record { out = W.contents out.old; notes = notes.old })
         (record { out = W.contents out.new; notes = notes.new }) }
     ensures written { IsWrittenOut notes.old → IsWrittenOut notes.new }
 {
-    match tell(alloc, text) {
-        Ok(told) => write_told(&told, out, notes),
-        Err(AllocError) => want(notes),
+    match explain_by_format(alloc, text) {
+        Ok(explanation) => write_explanation(&explanation, out, notes),
+        Err(AllocError) => report_no_memory(notes),
     }
 }
 
@@ -67,7 +71,7 @@ pub fn explain<R: Read, W: Write, N: Write>(
     alloc: Global,
     reader: &mut R,
     out: &mut W,
-    notes: &mut Out<'_, N>,
+    notes: &mut Output<'_, N>,
 ) -> Status
     ensures ends { IfSome (R.remaining reader.old) (λ bytes. Explains bytes (R.remaining reader.new)
         result
@@ -81,6 +85,6 @@ pub fn explain<R: Read, W: Write, N: Write>(
             notes.say(b"read fault\n");
             Status::InputOutput
         }
-        Err(AllocError) => want(notes),
+        Err(AllocError) => report_no_memory(notes),
     }
 }

@@ -1,8 +1,8 @@
-//! What a text is.
+//! The format of a text.
 ghost use Rattle.std.specs.Prelude.{◌≡◌};
 ghost use Rattle.evc_explain_engine.specs.Forms.{form_of};
 
-/// What a text is, or is meant to be.
+/// The format that a text has, or is meant to have.
 #[derive(Clone, Copy, Debug, PartialEq, Eq)]
 pub(crate) enum Form {
     Trace,
@@ -10,7 +10,7 @@ pub(crate) enum Form {
     Calls,
 }
 
-/// Returns what a text is meant to be, by how it begins.
+/// Returns the format that a text is meant to have, by how it begins.
 pub(crate) fn form_of(text: &[u8]) -> Form
     ensures { result ≡ form_of text.now }
 {

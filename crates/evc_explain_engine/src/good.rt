@@ -1,4 +1,4 @@
-//! What is said of a good text.
+//! What is written on a good text.
 ghost use Rattle.std.specs.Prelude.{◌≡◌, ◌++◌, IfOk, decimal, length};
 ghost use Rattle.ec_text.specs.Puts.{Puts};
 ghost use Rattle.evc_explain_engine.specs.Good.{begins_call, calls_in, calls_of, calls_words};
@@ -7,12 +7,12 @@ ghost use Rattle.evc_explain_engine.specs.Good.{ordered_calls, ordered_text, scr
 ghost use Rattle.evc_explain_engine.specs.Good.{workers_words};
 ghost use Rattle.ec_script.specs.Outcome.{shown_plan};
 
-use crate::told::whole;
+use crate::explanation::whole;
 use calls_core::{Action, Event};
 use calls_text::Recording;
 use ec_core::{Act, Entry, Run};
 use ec_script::Plan;
-use ec_text::Out;
+use ec_text::Output;
 use ec_trace::Traced;
 use std::alloc::{AllocError, Global};
 use std::io::Write;
@@ -42,7 +42,7 @@ fn calls_of(run: &Run) -> usize
 }
 
 /// Puts a number between two texts.
-fn put_count<W: Write>(out: &mut Out<'_, W>, before: &[u8], count: usize, after: &[u8])
+fn put_count<W: Write>(out: &mut Output<'_, W>, before: &[u8], count: usize, after: &[u8])
     ensures { Puts out.old out.new (before.now ++ decimal count ++ after.now) }
 {
     out.put(before);
@@ -52,7 +52,7 @@ fn put_count<W: Write>(out: &mut Out<'_, W>, before: &[u8], count: usize, after:
 
 /// Puts that a trace is good, and how many entries it has.
 #[tactic(auto, unfolding(crate::specs::Good::entries_words))]
-fn put_entries<W: Write>(out: &mut Out<'_, W>, traced: &Traced)
+fn put_entries<W: Write>(out: &mut Output<'_, W>, traced: &Traced)
     ensures { Puts out.old out.new (entries_words traced.now) }
 {
     let entries = entries_of(traced.run());
@@ -61,7 +61,7 @@ fn put_entries<W: Write>(out: &mut Out<'_, W>, traced: &Traced)
 
 /// Puts how many calls a trace has.
 #[tactic(auto, unfolding(crate::specs::Good::calls_words))]
-fn put_calls<W: Write>(out: &mut Out<'_, W>, traced: &Traced)
+fn put_calls<W: Write>(out: &mut Output<'_, W>, traced: &Traced)
     ensures { Puts out.old out.new (calls_words traced.now) }
 {
     out.put_number(calls_of(traced.run()) as u64);
@@ -70,7 +70,7 @@ fn put_calls<W: Write>(out: &mut Out<'_, W>, traced: &Traced)
 
 /// Puts that a trace is good, and how many entries, calls and workers it has.
 #[tactic(auto, unfolding(crate::specs::Good::good_text))]
-fn put_good<W: Write>(out: &mut Out<'_, W>, traced: &Traced)
+fn put_good<W: Write>(out: &mut Output<'_, W>, traced: &Traced)
     ensures { Puts out.old out.new (good_text traced.now) }
 {
     put_entries(out, traced);
@@ -80,7 +80,7 @@ fn put_good<W: Write>(out: &mut Out<'_, W>, traced: &Traced)
 
 /// Puts how many workers a trace has.
 #[tactic(auto, unfolding(crate::specs::Good::workers_words))]
-fn put_workers<W: Write>(out: &mut Out<'_, W>, traced: &Traced)
+fn put_workers<W: Write>(out: &mut Output<'_, W>, traced: &Traced)
     ensures { Puts out.old out.new (workers_words traced.now) }
 {
     out.put_number(traced.heading().setup().workers() as u64);
@@ -89,7 +89,7 @@ fn put_workers<W: Write>(out: &mut Out<'_, W>, traced: &Traced)
 
 /// Puts that a script is good, and how many workers it has.
 #[tactic(auto, unfolding(crate::specs::Good::script_workers))]
-fn put_script_workers<W: Write>(out: &mut Out<'_, W>, plan: &Plan)
+fn put_script_workers<W: Write>(out: &mut Output<'_, W>, plan: &Plan)
     ensures { Puts out.old out.new (script_workers (shown_plan plan.now)) }
 {
     let workers = plan.heading.setup().workers();
@@ -98,7 +98,7 @@ fn put_script_workers<W: Write>(out: &mut Out<'_, W>, plan: &Plan)
 
 /// Puts how many turns the schedule of a script has.
 #[tactic(auto, unfolding(crate::specs::Good::script_turns))]
-fn put_script_turns<W: Write>(out: &mut Out<'_, W>, plan: &Plan)
+fn put_script_turns<W: Write>(out: &mut Output<'_, W>, plan: &Plan)
     ensures { Puts out.old out.new (script_turns (shown_plan plan.now)) }
 {
     out.put_number(plan.schedule.len() as u64);
@@ -107,7 +107,7 @@ fn put_script_turns<W: Write>(out: &mut Out<'_, W>, plan: &Plan)
 
 /// Puts that a script is good, and how many workers and turns it has.
 #[tactic(auto, unfolding(crate::specs::Good::good_script))]
-fn put_good_script<W: Write>(out: &mut Out<'_, W>, plan: &Plan)
+fn put_good_script<W: Write>(out: &mut Output<'_, W>, plan: &Plan)
     ensures { Puts out.old out.new (good_script (shown_plan plan.now)) }
 {
     put_script_workers(out, plan);
@@ -121,7 +121,7 @@ fn is_invocation(event: &Event) -> bool
     matches!(event.action, Action::Invoke(_, _))
 }
 
-/// Returns how many calls events have, pending ones among them.
+/// Returns how many calls events have, with pending ones.
 fn calls_in(events: &[Event]) -> usize
     ensures { result ≡ calls_in events.now }
 {
@@ -130,7 +130,7 @@ fn calls_in(events: &[Event]) -> usize
 
 /// Puts that calls are linearizable, and how many they are.
 #[tactic(auto, unfolding(crate::specs::Good::ordered_calls))]
-fn put_ordered_calls<W: Write>(out: &mut Out<'_, W>, recording: &Recording)
+fn put_ordered_calls<W: Write>(out: &mut Output<'_, W>, recording: &Recording)
     ensures { Puts out.old out.new (ordered_calls recording.now) }
 {
     out.put(b"The calls are linearizable: ");
@@ -140,7 +140,7 @@ fn put_ordered_calls<W: Write>(out: &mut Out<'_, W>, recording: &Recording)
 
 /// Puts how many calls and workers a linearizable history has.
 #[tactic(auto, unfolding(crate::specs::Good::ordered_text))]
-fn put_ordered<W: Write>(out: &mut Out<'_, W>, recording: &Recording)
+fn put_ordered<W: Write>(out: &mut Output<'_, W>, recording: &Recording)
     ensures { Puts out.old out.new (ordered_text recording.now) }
 {
     put_ordered_calls(out, recording);
@@ -148,24 +148,24 @@ fn put_ordered<W: Write>(out: &mut Out<'_, W>, recording: &Recording)
     out.put(b" workers.\n");
 }
 
-/// Returns that a trace is good, as bytes.
+/// Returns the text which says that a trace is good.
 pub(crate) fn good_bytes(alloc: Global, traced: &Traced) -> Result<Vec<u8>, AllocError>
     ensures { IfOk result (λ bytes. bytes.items ≡ good_text traced.now) }
 {
     let mut bytes = Vec::new(alloc);
-    let mut out = Out::new(&mut bytes);
+    let mut out = Output::new(&mut bytes);
     put_good(&mut out, traced);
     let done = out.finish();
     out.into_writer();
     whole(bytes, done)
 }
 
-/// Returns that a script is good, and what more is known of it, as bytes.
+/// Returns the text which says that a script is good, and what more is known of it.
 pub(crate) fn script_bytes(alloc: Global, plan: &Plan, more: &[u8]) -> Result<Vec<u8>, AllocError>
     ensures { IfOk result (λ bytes. bytes.items ≡ good_script (shown_plan plan.now) ++ more.now) }
 {
     let mut bytes = Vec::new(alloc);
-    let mut out = Out::new(&mut bytes);
+    let mut out = Output::new(&mut bytes);
     put_good_script(&mut out, plan);
     out.put(more);
     let done = out.finish();
@@ -173,12 +173,12 @@ pub(crate) fn script_bytes(alloc: Global, plan: &Plan, more: &[u8]) -> Result<Ve
     whole(bytes, done)
 }
 
-/// Returns that calls are linearizable, as bytes.
+/// Returns the text which says that calls are linearizable.
 pub(crate) fn ordered_bytes(alloc: Global, recording: &Recording) -> Result<Vec<u8>, AllocError>
     ensures { IfOk result (λ bytes. bytes.items ≡ ordered_text recording.now) }
 {
     let mut bytes = Vec::new(alloc);
-    let mut out = Out::new(&mut bytes);
+    let mut out = Output::new(&mut bytes);
     put_ordered(&mut out, recording);
     let done = out.finish();
     out.into_writer();

@@ -1,16 +1,16 @@
-//! What `evc-explain` does with its input: a text in; what is wrong with it, and how to mend it, out.
+//! The engine of `evc-explain`: reads a text, and writes what is wrong with it and how to mend it.
 #![tactic(auto)]
 
+mod bad_lines;
+mod by_format;
+mod continuation;
 mod explaining;
+mod explanation;
 mod form;
-mod going_on;
 mod good;
-mod judging;
-mod playing;
+mod histories;
 mod reasons;
 mod round;
-mod seeking;
-mod telling;
-mod told;
+mod worker_ends;
 
 pub use explaining::explain;

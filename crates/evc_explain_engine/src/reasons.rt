@@ -2,30 +2,31 @@
 ghost use Rattle.std.specs.Prelude.{◌≡◌, [], IfOk, IfErr, reverse};
 ghost use Rattle.std.specs.List.{flat_map};
 ghost use Rattle.std.specs.Option.{option_map_or};
-ghost use Rattle.ec_core.specs.Rounds.{width};
+ghost use Rattle.ec_core.specs.Rounds.{component_count};
 ghost use Rattle.ec_explain.specs.Rounds.{total_of};
 ghost use Rattle.ec_text.specs.Puts.{Puts};
-ghost use Rattle.evc_explain_engine.specs.Tells.{RefusedOr};
+ghost use Rattle.evc_explain_engine.specs.Explanations.{RefusedOr};
 ghost use Rattle.evc_engine.specs.Checks.{ReadsAs};
 ghost use Rattle.evc_explain_engine.specs.Reasons.{right_words, worker_after, names_text, may_words};
-ghost use Rattle.evc_explain_engine.specs.Reasons.{holders_text, ended_before, story, holders_at};
+ghost use Rattle.evc_explain_engine.specs.Reasons.{holders_text, ended_before, trace_before};
+ghost use Rattle.evc_explain_engine.specs.Reasons.{holders_at};
 ghost use Rattle.evc_explain_engine.specs.Reasons.{event_at};
 ghost use Rattle.evc_explain_engine.specs.Reasons.{round_at, is_reading, round_for, holders_before};
-ghost use Rattle.evc_explain_engine.specs.Reasons.{round_before, refused_reason, reason_text, shown};
+ghost use Rattle.evc_explain_engine.specs.Reasons.{round_before, refused_reason, reason_text, round_model};
 
+use crate::explanation::whole;
 use crate::round::Round;
-use crate::told::whole;
 use ec_core::{Act, Refusal, Reply, Run};
 use ec_count::{EventId, Setup, WorkerId};
-use ec_explain::{Asked, asked_in, before_line, event_or, holders, line_at, looks_with};
+use ec_explain::{Asked, asked_in, holders, line_at, looks_with, text_before_line};
 use ec_heading::Heading;
-use ec_text::Out;
+use ec_text::Output;
 use ec_trace::{Spellings, TraceFault, Traced, put_cell, read_trace};
 use std::alloc::{AllocError, Global};
 use std::io::Write;
 
 /// Puts what a right allows.
-fn put_right<W: Write>(out: &mut Out<'_, W>, spellings: &Spellings<'_>, act: &Act)
+fn put_right<W: Write>(out: &mut Output<'_, W>, spellings: &Spellings<'_>, act: &Act)
     ensures { Puts out.old out.new (right_words spellings.now act.now) }
 {
     match *act {
@@ -54,7 +55,7 @@ fn put_right<W: Write>(out: &mut Out<'_, W>, spellings: &Spellings<'_>, act: &Ac
 }
 
 /// Puts the name of a worker after a space.
-fn put_worker_after<W: Write>(out: &mut Out<'_, W>, spellings: &Spellings<'_>, worker: WorkerId)
+fn put_worker_after<W: Write>(out: &mut Output<'_, W>, spellings: &Spellings<'_>, worker: WorkerId)
     ensures { Puts out.old out.new (worker_after spellings.now worker) }
 {
     out.put(b" ");
@@ -62,7 +63,7 @@ fn put_worker_after<W: Write>(out: &mut Out<'_, W>, spellings: &Spellings<'_>, w
 }
 
 /// Puts the names of workers, each after a space.
-fn put_workers<W: Write>(out: &mut Out<'_, W>, spellings: &Spellings<'_>, workers: &[WorkerId])
+fn put_workers<W: Write>(out: &mut Output<'_, W>, spellings: &Spellings<'_>, workers: &[WorkerId])
     ensures { Puts out.old out.new (flat_map (worker_after spellings.now) workers.now) }
 {
     for worker in workers {
@@ -71,7 +72,7 @@ fn put_workers<W: Write>(out: &mut Out<'_, W>, spellings: &Spellings<'_>, worker
 }
 
 /// Puts the names of workers, or that there are none.
-fn put_names<W: Write>(out: &mut Out<'_, W>, spellings: &Spellings<'_>, workers: &[WorkerId])
+fn put_names<W: Write>(out: &mut Output<'_, W>, spellings: &Spellings<'_>, workers: &[WorkerId])
     ensures { Puts out.old out.new (names_text spellings.now workers.now) }
 {
     if workers.is_empty() {
@@ -83,7 +84,7 @@ fn put_names<W: Write>(out: &mut Out<'_, W>, spellings: &Spellings<'_>, workers:
 
 /// Puts which right it is.
 #[tactic(auto, unfolding(crate::specs::Reasons::may_words))]
-fn put_may<W: Write>(out: &mut Out<'_, W>, spellings: &Spellings<'_>, act: &Act)
+fn put_may<W: Write>(out: &mut Output<'_, W>, spellings: &Spellings<'_>, act: &Act)
     ensures { Puts out.old out.new (may_words spellings.now act.now) }
 {
     out.put(b"Who may ");
@@ -94,7 +95,7 @@ fn put_may<W: Write>(out: &mut Out<'_, W>, spellings: &Spellings<'_>, act: &Act)
 /// Puts which workers have the right to an act.
 #[tactic(auto, unfolding(crate::specs::Reasons::holders_text))]
 pub(crate) fn put_holders<W: Write>(
-    out: &mut Out<'_, W>,
+    out: &mut Output<'_, W>,
     heading: &Heading,
     act: &Act,
     workers: &[WorkerId],
@@ -121,14 +122,18 @@ fn ended_before(alloc: Global, number: u64, text: &[u8]) -> Result<Vec<u8>, Allo
     ensures { IfOk result (λ bytes. bytes.items ≡ ended_before number text.now) }
 {
     let mut bytes = Vec::new(alloc);
-    bytes.extend_from_slice(before_line(number, text))?;
+    bytes.extend_from_slice(text_before_line(number, text))?;
     bytes.extend_from_slice(b"end\n")?;
     Ok(bytes)
 }
 
-/// Returns the trace of the lines before a line, if they are one with `end`.
-pub(crate) fn story(alloc: Global, number: u64, text: &[u8]) -> Result<Option<Traced>, AllocError>
-    ensures { IfOk result (λ read. read ≡ story number text.now) }
+/// Returns the trace of the lines before a line and `end`; `None` if these are no trace.
+pub(crate) fn trace_before(
+    alloc: Global,
+    number: u64,
+    text: &[u8],
+) -> Result<Option<Traced>, AllocError>
+    ensures { IfOk result (λ read. read ≡ trace_before number text.now) }
 {
     let ended = ended_before(alloc, number, text)?;
     match read_text(alloc, ended.as_slice()) {
@@ -144,27 +149,27 @@ pub(crate) fn story(alloc: Global, number: u64, text: &[u8]) -> Result<Option<Tr
     }
 }
 
-/// Returns who has the right after a trace that is asked for.
+/// Returns the text on who has, after a trace, the right that is needed.
 fn holders_at(alloc: Global, traced: &Traced, asked: &Asked) -> Result<Vec<u8>, AllocError>
     ensures { IfOk result (λ bytes. bytes.items ≡ holders_at traced.now asked.now) }
 {
     let workers = holders(alloc, traced.run(), &asked.act)?;
     let mut bytes = Vec::new(alloc);
-    let mut out = Out::new(&mut bytes);
+    let mut out = Output::new(&mut bytes);
     put_holders(&mut out, traced.heading(), &asked.act, workers.as_slice());
     let done = out.finish();
     out.into_writer();
     whole(bytes, done)
 }
 
-/// Returns the eventcount of the call that an act goes on with or begins after a trace.
+/// Returns the eventcount of the call that an act continues or begins after a trace.
 fn event_at(traced: &Traced, asked: &Asked) -> EventId
     ensures { result ≡ event_at traced.now asked.now }
 {
     match asked.act {
         Act::Go => match traced.run().world().under_way(asked.worker) {
-            Some(call) => event_or(call.op()),
-            None => event_or(Act::Go),
+            Some(call) => call.op().event(),
+            None => Act::Go.event(),
         },
         Act::Advance(_)
         | Act::Read(_)
@@ -172,13 +177,13 @@ fn event_at(traced: &Traced, asked: &Asked) -> EventId
         | Act::Ticket(_)
         | Act::Put(_, _)
         | Act::Get(_)
-        | Act::Hand(_, _) => event_or(asked.act),
+        | Act::Hand(_, _) => asked.act.event(),
     }
 }
 
 /// Returns how many components an eventcount has, 0 if it is not declared.
-fn width(setup: &Setup, event: EventId) -> usize
-    ensures { result ≡ width setup.now event }
+fn component_count(setup: &Setup, event: EventId) -> usize
+    ensures { result ≡ component_count setup.now event }
 {
     setup.components(event).unwrap_or(0)
 }
@@ -198,7 +203,7 @@ fn round_at<'a>(
     number: u64,
     right: Reply,
 ) -> Result<Round<'a>, AllocError>
-    ensures { IfOk result (λ r. shown r ≡ round_at number right traced.now asked.now) }
+    ensures { IfOk result (λ r. round_model r ≡ round_at number right traced.now asked.now) }
 {
     let run = traced.run();
     let event = event_at(traced, asked);
@@ -206,7 +211,7 @@ fn round_at<'a>(
         spellings: Spellings::new(traced.heading().words()),
         event,
         looks: looks_with(alloc, run, asked.worker, &asked.act)?,
-        width: width(run.setup(), event),
+        width: component_count(run.setup(), event),
         total: total_of(run, event),
         right,
         number,
@@ -224,7 +229,7 @@ fn is_reading(act: &Act) -> bool
     }
 }
 
-/// Returns what is said of who asks after a trace, if this is the right reply.
+/// Returns the text on the round of an act after a trace; empty if the act reads no eventcount.
 fn round_for(
     alloc: Global,
     traced: &Traced,
@@ -241,7 +246,7 @@ fn round_for(
     round.bytes(alloc)
 }
 
-/// Returns who has the right that a line asks for, after a trace.
+/// Returns the text on who has, after a trace, the right that a line needs.
 fn holders_of_line(
     alloc: Global,
     number: u64,
@@ -256,19 +261,18 @@ fn holders_of_line(
     }
 }
 
-/// Returns who has the right that a line asks for.
+/// Returns the text on who has the right that a line needs, by the lines before it.
 fn holders_before(alloc: Global, number: u64, text: &[u8]) -> Result<Vec<u8>, AllocError>
     ensures { IfOk result (λ bytes. bytes.items
-        ≡ option_map_or (holders_before text.now number) (story number text.now) []) }
+        ≡ option_map_or (holders_before text.now number) (trace_before number text.now) []) }
 {
-    match story(alloc, number, text)? {
+    match trace_before(alloc, number, text)? {
         Some(traced) => holders_of_line(alloc, number, text, &traced),
         None => Ok(Vec::new(alloc)),
     }
 }
 
-/// Returns what the round has found that the act of a line goes on with, after a trace, if this is
-/// its right reply.
+/// Returns the text on the round of the act of a line, after a trace, if this is its right reply.
 fn round_of_line(
     alloc: Global,
     number: u64,
@@ -284,7 +288,8 @@ fn round_of_line(
     }
 }
 
-/// Returns what the round has found that the act of a line goes on with, if this is its right reply.
+/// Returns the text on the round of the act of a line, by the lines before it, if this is its right
+/// reply.
 fn round_before(
     alloc: Global,
     number: u64,
@@ -292,15 +297,15 @@ fn round_before(
     text: &[u8],
 ) -> Result<Vec<u8>, AllocError>
     ensures { IfOk result (λ bytes. bytes.items
-        ≡ option_map_or (round_before text.now number right) (story number text.now) []) }
+        ≡ option_map_or (round_before text.now number right) (trace_before number text.now) []) }
 {
-    match story(alloc, number, text)? {
+    match trace_before(alloc, number, text)? {
         Some(traced) => round_of_line(alloc, number, right, text, &traced),
         None => Ok(Vec::new(alloc)),
     }
 }
 
-/// Returns what is known of the entry of a refused line.
+/// Returns what is known of the refused entry of a line.
 fn refused_reason(
     alloc: Global,
     number: u64,

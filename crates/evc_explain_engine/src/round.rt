@@ -2,18 +2,19 @@
 ghost use Rattle.std.specs.Prelude.{◌≡◌, ◌++◌, IfOk, codes, decimal};
 ghost use Rattle.std.specs.List.{flat_map};
 ghost use Rattle.ec_count.specs.declared.target.Target.TheVariants.{Event};
-ghost use Rattle.ec_heading.specs.Spelling.{word_of};
+ghost use Rattle.ec_heading.specs.Spelling.{target_name};
 ghost use Rattle.ec_text.specs.Puts.{Puts};
-ghost use Rattle.evc_explain_engine.specs.Reasons.{shown, line_of, signaller_word, component_words};
+ghost use Rattle.evc_explain_engine.specs.Reasons.{round_model, line_of, signaller_word};
+ghost use Rattle.evc_explain_engine.specs.Reasons.{component_words};
 ghost use Rattle.evc_explain_engine.specs.Reasons.{signalled_words, place_words, look_text, count_words};
 ghost use Rattle.evc_explain_engine.specs.Reasons.{begun_words, ends_text, ends_of, yet_text, short_text};
 ghost use Rattle.evc_explain_engine.specs.Reasons.{rest_text, round_text};
 
-use crate::told::whole;
+use crate::explanation::whole;
 use ec_core::Reply;
 use ec_count::{EventId, WorkerId};
 use ec_explain::Look;
-use ec_text::Out;
+use ec_text::Output;
 use ec_trace::Spellings;
 use std::alloc::{AllocError, Global};
 use std::io::Write;
@@ -39,15 +40,15 @@ pub(crate) struct Round<'a> {
 impl<'a> Round<'a> {
     /// Returns the number of the line of the entry at a position.
     fn line_of(&self, position: usize) -> u64
-        ensures { result ≡ line_of (shown self.now) position }
+        ensures { result ≡ line_of (round_model self.now) position }
     {
         let after = self.entries.saturating_sub(position) as u64;
         self.number.saturating_sub(after)
     }
 
     /// Puts the name of a signaller.
-    fn put_signaller<W: Write>(&self, out: &mut Out<'_, W>, signaller: Option<WorkerId>)
-        ensures { Puts out.old out.new (signaller_word (shown self.now).names signaller) }
+    fn put_signaller<W: Write>(&self, out: &mut Output<'_, W>, signaller: Option<WorkerId>)
+        ensures { Puts out.old out.new (signaller_word (round_model self.now).names signaller) }
     {
         if let Some(worker) = signaller {
             out.put(self.spellings.worker(worker));
@@ -56,8 +57,8 @@ impl<'a> Round<'a> {
 
     /// Puts which component an entry read.
     #[tactic(auto, unfolding(crate::specs::Reasons::component_words))]
-    fn put_component<W: Write>(&self, out: &mut Out<'_, W>, look: &Look)
-        ensures { Puts out.old out.new (component_words (shown self.now) look.now) }
+    fn put_component<W: Write>(&self, out: &mut Output<'_, W>, look: &Look)
+        ensures { Puts out.old out.new (component_words (round_model self.now) look.now) }
     {
         out.put(b"Component ");
         out.put_number(look.component as u64);
@@ -67,8 +68,8 @@ impl<'a> Round<'a> {
 
     /// Puts who signalled it, and what it was.
     #[tactic(auto, unfolding(crate::specs::Reasons::signalled_words))]
-    fn put_signalled<W: Write>(&self, out: &mut Out<'_, W>, look: &Look)
-        ensures { Puts out.old out.new (signalled_words (shown self.now) look.now) }
+    fn put_signalled<W: Write>(&self, out: &mut Output<'_, W>, look: &Look)
+        ensures { Puts out.old out.new (signalled_words (round_model self.now) look.now) }
     {
         out.put(b", which ");
         self.put_signaller(out, look.signaller);
@@ -78,8 +79,8 @@ impl<'a> Round<'a> {
 
     /// Puts where it was read.
     #[tactic(auto, unfolding(crate::specs::Reasons::place_words))]
-    fn put_place<W: Write>(&self, out: &mut Out<'_, W>, look: &Look)
-        ensures { Puts out.old out.new (place_words (shown self.now) look.now) }
+    fn put_place<W: Write>(&self, out: &mut Output<'_, W>, look: &Look)
+        ensures { Puts out.old out.new (place_words (round_model self.now) look.now) }
     {
         out.put(b" on line ");
         out.put_number(self.line_of(look.position));
@@ -88,8 +89,8 @@ impl<'a> Round<'a> {
 
     /// Puts what an entry found.
     #[tactic(auto, unfolding(crate::specs::Reasons::look_text))]
-    fn put_look<W: Write>(&self, out: &mut Out<'_, W>, look: &Look)
-        ensures { Puts out.old out.new (look_text (shown self.now) look.now) }
+    fn put_look<W: Write>(&self, out: &mut Output<'_, W>, look: &Look)
+        ensures { Puts out.old out.new (look_text (round_model self.now) look.now) }
     {
         self.put_component(out, look);
         self.put_signalled(out, look);
@@ -97,18 +98,18 @@ impl<'a> Round<'a> {
     }
 
     /// Puts what each entry found.
-    fn put_looks<W: Write>(&self, out: &mut Out<'_, W>, looks: &[Look])
-        ensures { Puts out.old out.new (flat_map (look_text (shown self.now)) looks.now) }
+    fn put_looks<W: Write>(&self, out: &mut Output<'_, W>, looks: &[Look])
+        ensures { Puts out.old out.new (flat_map (look_text (round_model self.now)) looks.now) }
     {
         for look in looks {
             self.put_look(out, look);
         }
     }
 
-    /// Puts the count where the round began.
+    /// Puts the count when the round began.
     #[tactic(auto, unfolding(crate::specs::Reasons::count_words))]
-    fn put_count<W: Write>(&self, out: &mut Out<'_, W>, look: &Look)
-        ensures { Puts out.old out.new (count_words (shown self.now) look.now) }
+    fn put_count<W: Write>(&self, out: &mut Output<'_, W>, look: &Look)
+        ensures { Puts out.old out.new (count_words (round_model self.now) look.now) }
     {
         out.put(b"The count of ");
         out.put(self.spellings.event(self.event));
@@ -118,8 +119,8 @@ impl<'a> Round<'a> {
 
     /// Puts where the round began, and the count at its end.
     #[tactic(auto, unfolding(crate::specs::Reasons::begun_words))]
-    fn put_begun<W: Write>(&self, out: &mut Out<'_, W>, look: &Look)
-        ensures { Puts out.old out.new (begun_words (shown self.now) look.now) }
+    fn put_begun<W: Write>(&self, out: &mut Output<'_, W>, look: &Look)
+        ensures { Puts out.old out.new (begun_words (round_model self.now) look.now) }
     {
         out.put(b" when the round began, on line ");
         out.put_number(self.line_of(look.position));
@@ -127,10 +128,10 @@ impl<'a> Round<'a> {
         out.put_number(self.total);
     }
 
-    /// Puts the count at both ends of the round, which began with this.
+    /// Puts the count at both ends of the round, which began with this look.
     #[tactic(auto, unfolding(crate::specs::Reasons::ends_text))]
-    fn put_ends<W: Write>(&self, out: &mut Out<'_, W>, look: &Look)
-        ensures { Puts out.old out.new (ends_text (shown self.now) look.now) }
+    fn put_ends<W: Write>(&self, out: &mut Output<'_, W>, look: &Look)
+        ensures { Puts out.old out.new (ends_text (round_model self.now) look.now) }
     {
         self.put_count(out, look);
         self.put_begun(out, look);
@@ -138,8 +139,8 @@ impl<'a> Round<'a> {
     }
 
     /// Puts the count at both ends of the round, if they are two.
-    fn put_ends_of<W: Write>(&self, out: &mut Out<'_, W>, looks: &[Look])
-        ensures { Puts out.old out.new (ends_of (shown self.now) looks.now) }
+    fn put_ends_of<W: Write>(&self, out: &mut Output<'_, W>, looks: &[Look])
+        ensures { Puts out.old out.new (ends_of (round_model self.now) looks.now) }
     {
         if let [first, rest @ ..] = looks {
             if !rest.is_empty() {
@@ -150,8 +151,8 @@ impl<'a> Round<'a> {
 
     /// Puts that components are yet to be read.
     #[tactic(auto, unfolding(crate::specs::Reasons::yet_text))]
-    fn put_yet<W: Write>(&self, out: &mut Out<'_, W>)
-        ensures { Puts out.old out.new (yet_text (shown self.now)) }
+    fn put_yet<W: Write>(&self, out: &mut Output<'_, W>)
+        ensures { Puts out.old out.new (yet_text (round_model self.now)) }
     {
         out.put(b"The reply is pending until all ");
         out.put_number(self.width as u64);
@@ -159,8 +160,8 @@ impl<'a> Round<'a> {
     }
 
     /// Puts that the sum falls short, if the right reply is pending.
-    fn put_short<W: Write>(&self, out: &mut Out<'_, W>)
-        ensures { Puts out.old out.new (short_text (shown self.now).right) }
+    fn put_short<W: Write>(&self, out: &mut Output<'_, W>)
+        ensures { Puts out.old out.new (short_text (round_model self.now).right) }
     {
         match self.right {
             Reply::Pending => out.put(b"The sum is below the threshold of the await.\n"),
@@ -169,8 +170,8 @@ impl<'a> Round<'a> {
     }
 
     /// Puts why the right reply is pending, if it is.
-    fn put_rest<W: Write>(&self, out: &mut Out<'_, W>)
-        ensures { Puts out.old out.new (rest_text (shown self.now)) }
+    fn put_rest<W: Write>(&self, out: &mut Output<'_, W>)
+        ensures { Puts out.old out.new (rest_text (round_model self.now)) }
     {
         if self.looks.len() < self.width {
             self.put_yet(out);
@@ -181,8 +182,8 @@ impl<'a> Round<'a> {
 
     /// Puts what the round has found.
     #[tactic(auto, unfolding(crate::specs::Reasons::round_text))]
-    fn put<W: Write>(&self, out: &mut Out<'_, W>)
-        ensures { Puts out.old out.new (round_text (shown self.now)) }
+    fn put<W: Write>(&self, out: &mut Output<'_, W>)
+        ensures { Puts out.old out.new (round_text (round_model self.now)) }
     {
         self.put_looks(out, self.looks.as_slice());
         self.put_ends_of(out, self.looks.as_slice());
@@ -191,10 +192,10 @@ impl<'a> Round<'a> {
 
     /// Returns what the round has found, as bytes.
     pub(crate) fn bytes(&self, alloc: Global) -> Result<Vec<u8>, AllocError>
-        ensures { IfOk result (λ bytes. bytes.items ≡ round_text (shown self.now)) }
+        ensures { IfOk result (λ bytes. bytes.items ≡ round_text (round_model self.now)) }
     {
         let mut bytes = Vec::new(alloc);
-        let mut out = Out::new(&mut bytes);
+        let mut out = Output::new(&mut bytes);
         self.put(&mut out);
         let done = out.finish();
         out.into_writer();

@@ -1,39 +1,40 @@
--- What is refused with status 1 has one note.
+-- What is rejected with status 1 has one note.
 use Rattle.std.proofs.Common.{◌≡◌, ℕ, List, Err, sym, ap, ap₂, subst, inl, inr}
 use Rattle.ec_script.specs.declared.fault.Kind.{Kind}
 use Rattle.ec_script.specs.declared.parsing.TheConstants.{SCRIPT_MAX}
-use Rattle.ec_script.specs.Outcome.{Parsed, outcome}
-use Rattle.ec_script.specs.Scripted.{Planned}
+use Rattle.ec_script.specs.Outcome.{ParseResult, parse_result}
+use Rattle.ec_script.specs.ScriptModel.{PlanModel}
 use Rattle.evc_engine.specs.declared.status.Status.TheVariants.{Refused}
-use Rattle.evc_engine.specs.Checks.{Outlets}
+use Rattle.evc_engine.specs.Checks.{Outputs}
 use Rattle.ec_text.specs.Inputs.{looked_at}
 use Rattle.evc_scripts.specs.OutcomeNotes.{script_note, ended_note}
-use Rattle.evc_scripts.specs.Runs.{Says}
+use Rattle.evc_scripts.specs.Runs.{WritesOnlyNote}
 use Rattle.evc_scripts.specs.SimLaws.{RefusedScriptsHaveOneFault, RefusedSimsHaveOneNote, RefusedRunsHaveOneNote, RefusalsAreAlike}
 use Rattle.evc_scripts.specs.Sims.{PlanEnds, RefusedAt}
 use Rattle.evc_scripts.proofs.OneRun.{one_plan, one_place}
 
-told_once : (told : Parsed) (one other : ℕ × Kind) → told ≡ Err one → told ≡ Err other → one ≡ other
-told_once told one other is too = cc
+told_once : (returned : ParseResult) (one other : ℕ × Kind) → returned ≡ Err one
+    → returned ≡ Err other → one ≡ other
+told_once returned one other is too = cc
 
 pub one_fault : RefusedScriptsHaveOneFault
 one_fault bytes n m kind sort one other =
-    let same = told_once (outcome (looked_at SCRIPT_MAX bytes)) (n, kind) (m, sort) one.told other.told in
+    let same = told_once (parse_result (looked_at SCRIPT_MAX bytes)) (n, kind) (m, sort) one.returned other.returned in
     (ap (λ (x : ℕ × Kind). x.0) same, ap (λ (x : ℕ × Kind). x.1) same)
 
--- if the line and the kind are one, so is the note
+-- if the line and the kind are equal, so is the note
 same_note : (bytes : List ℕ) (n m : ℕ) (kind sort : Kind) → RefusedAt bytes n kind → RefusedAt bytes m sort → script_note m sort ≡ script_note n kind
 same_note bytes n m kind sort one other =
     let same = one_fault bytes n m kind sort one other in
     ap₂ script_note (sym same.0) (sym same.1)
 
-both_say : (old new before after : Outlets) (note remark : List ℕ) → remark ≡ note → Says old new note → Says before after remark
-    → (said : List ℕ) × Says old new said × Says before after said
-both_say old new before after note remark same one other = (note, one, subst (Says before after) same other)
+both_say : (old new before after : Outputs) (note remark : List ℕ) → remark ≡ note → WritesOnlyNote old new note → WritesOnlyNote before after remark
+    → (said : List ℕ) × WritesOnlyNote old new said × WritesOnlyNote before after said
+both_say old new before after note remark same one other = (note, one, subst (WritesOnlyNote before after) same other)
 
--- one plan, whose schedule names one worker who has ended first
-plans_say : (p : Planned) (old new before after : Outlets) → PlanEnds p Refused old new → PlanEnds p Refused before after
-    → (note : List ℕ) × Says old new note × Says before after note
+-- a plan whose schedule names a worker that has ended has one note
+plans_say : (p : PlanModel) (old new before after : Outputs) → PlanEnds p Refused old new → PlanEnds p Refused before after
+    → (note : List ℕ) × WritesOnlyNote old new note × WritesOnlyNote before after note
 plans_say p old new before after one other =
     let same = one_place p other.0 other.1 one.0 one.1 other.2 one.2 in
     both_say old new before after (ended_note p.heading one.0 one.1) (ended_note p.heading other.0 other.1)

@@ -1,4 +1,5 @@
--- A plan is known by its lines: it is played in one way, or names a worker that has ended.
+-- The lines of a plan determine how it is played: in one way, or not, since it names a worker that
+-- has ended.
 use Rattle.std.proofs.Common.{◌≡◌, ℕ, zero, suc, ◌<◌, List, [], ◌∷◌, length, map, reverse, take, Some, refl, sym, ap, ap₂, ◌∙◌, subst, arith, slice_get, Ok, inl, inr}
 use Rattle.std.proofs.lemmas.Option.{same_Some}
 use Rattle.ec_count.specs.Tables.{Tables}
@@ -7,19 +8,19 @@ use Rattle.ec_machine.specs.declared.command.Command.{Command}
 use Rattle.ec_machine.specs.declared.outcome.Outcome.{Outcome}
 use Rattle.ec_machine.specs.Follows.{program_at}
 use Rattle.ec_machine.specs.Steps.{own}
-use Rattle.ec_heading.specs.Headed.{Headed}
+use Rattle.ec_heading.specs.HeadingModel.{HeadingModel}
 use Rattle.ec_heading.specs.Recalled.{outline_of}
 use Rattle.ec_heading.specs.Spelling.{trace_text}
-use Rattle.ec_heading.proofs.shared.OutlineFound.{outline_found}
-use Rattle.ec_script.specs.declared.order.Order.{Order}
+use Rattle.ec_heading.proofs.shared.TreeFound.{outline_found}
+use Rattle.ec_script.specs.declared.block_item.BlockItem.{BlockItem}
 use Rattle.ec_script.specs.Flat.{flat}
-use Rattle.ec_script.specs.Scripted.{Planned}
+use Rattle.ec_script.specs.ScriptModel.{PlanModel}
 use Rattle.ec_runner.specs.Reported.{AreOutcomes}
-use Rattle.ec_runner.specs.Schedules.{Turn, IsTurn, AreTurns, Plays, HasEnded, entries_of, refusal_told, ended_by, outcome_after}
+use Rattle.ec_runner.specs.Schedules.{Turn, IsTurn, AreTurns, Plays, EndsBeforePlace, entries_of, refusal_in_turns, ended_by, outcome_after}
 use Rattle.ec_runner.proofs.shared.InOrder.{one_run, ended_not_played}
 use Rattle.ec_runner.proofs.shared.Histories.{no_history}
 use Rattle.evc_engine.specs.declared.status.Status.TheVariants.{Done, Refused}
-use Rattle.evc_engine.specs.Checks.{Outlets}
+use Rattle.evc_engine.specs.Checks.{Outputs}
 use Rattle.evc_scripts.specs.OutcomeNotes.{outcomes_note}
 use Rattle.evc_scripts.specs.SimLaws.{LinesPlayAlike, PlansHaveOneRun, SimsHaveOneText, EndedPlansAreNotPlayed, EndedPlansHaveNoHistory, PlansEndAtOnePlace, SimsEndOneWay}
 use Rattle.evc_scripts.specs.Sims.{IsTraceUnder, IsPlayed, PlanEnds, SaysPlan}
@@ -27,7 +28,8 @@ use Rattle.evc_scripts.proofs.SameLines.{same_next, same_outcome}
 
 -- PROGRAMS OF THE SAME LINES
 
-lines_same : (a b : List Order) (xs ys : List (List Order)) → a ∷ xs ≡ b ∷ ys → (a ≡ b) × (xs ≡ ys)
+lines_same : (a b : List BlockItem) (xs ys : List (List BlockItem)) → a ∷ xs ≡ b ∷ ys → (a ≡ b)
+    × (xs ≡ ys)
 lines_same a b xs ys is = (cc, cc)
 
 -- those of one worker
@@ -39,7 +41,7 @@ same_at (cs ∷ programs) (ds ∷ others) zero same = (lines_same (flat cs) (fla
 same_at (cs ∷ programs) (ds ∷ others) (suc w) same = same_at programs others w (lines_same (flat cs) (flat ds) (map flat programs) (map flat others) same).1
 
 same_after : (programs others : List (List Command)) (w : ℕ) (turns : List Turn) → map flat programs ≡ map flat others → outcome_after programs w turns ≡ outcome_after others w turns
-same_after programs others w turns same = ap (ended_by (refusal_told w turns)) (same_outcome (program_at programs w) (program_at others w) (own w (entries_of turns)) (same_at programs others w same))
+same_after programs others w turns same = ap (ended_by (refusal_in_turns w turns)) (same_outcome (program_at programs w) (program_at others w) (own w (entries_of turns)) (same_at programs others w same))
 
 module _ (t : Tables) (programs others : List (List Command)) (same : map flat programs ≡ map flat others) where
   same_turn : (turns : List Turn) (x : Turn) → IsTurn t programs turns x → IsTurn t others turns x
@@ -56,7 +58,7 @@ module _ (t : Tables) (programs others : List (List Command)) (same : map flat p
   same_plays : (schedule : List ℕ) (turns : List Turn) → Plays t programs schedule turns → Plays t others schedule turns
   same_plays schedule turns plays = record { workers = plays.workers; each = same_turns turns plays.each }
 
-  same_ended : (schedule : List ℕ) (place w : ℕ) → HasEnded t programs schedule place w → HasEnded t others schedule place w
+  same_ended : (schedule : List ℕ) (place w : ℕ) → EndsBeforePlace t programs schedule place w → EndsBeforePlace t others schedule place w
   same_ended schedule place w e = record {
     turns = e.turns;
     plays = same_plays (take place schedule) e.turns e.plays;
@@ -92,8 +94,8 @@ plan_once p turns others outcomes ends one other =
     let after = subst (λ l. AreOutcomes other.programs p.heading.setup.workers l ends) (sym run) other.after in
     (run, same_outcomes one.programs other.programs p.heading.setup.workers turns outcomes ends same one.after after)
 
--- the outline of a heading is one
-pub one_trace : (h : Headed) (entries more : List Entry) (trace other : List ℕ) → entries ≡ more → IsTraceUnder h entries trace → IsTraceUnder h more other → trace ≡ other
+-- a header has one syntax tree, so one history has one trace
+pub one_trace : (h : HeadingModel) (entries more : List Entry) (trace other : List ℕ) → entries ≡ more → IsTraceUnder h entries trace → IsTraceUnder h more other → trace ≡ other
 one_trace h entries more trace other same p q =
     let outlines : p.outline ≡ q.outline = sym (outline_found p.outline p.is) ∙ ap outline_of (p.declares ∙ sym q.declares) ∙ outline_found q.outline q.is in
     p.text ∙ ap₂ trace_text outlines same ∙ sym q.text
@@ -115,7 +117,7 @@ never_made p place w programs h outcome early lines is =
     no_history p.heading.setup programs p.schedule place w h outcome
     (same_ended p.heading.setup early.programs programs (early.lines ∙ sym lines) p.schedule place w early.ended) is
 
--- THE PLACE OF WHO HAS ENDED
+-- THE PLACE OF A WORKER THAT HAS ENDED
 
 get_early : (k i : ℕ) (ws : List ℕ) → i < k → slice_get (take k ws) i ≡ slice_get ws i
 get_early zero i ws low = absurd (omega (arith, low))
@@ -129,9 +131,10 @@ take_early (suc k) zero ws low = refl
 take_early (suc k) (suc i) [] low = refl
 take_early (suc k) (suc i) (w ∷ ws) low = ap (λ l. w ∷ l) (take_early k i ws (omega (arith, low)))
 
--- the places before one who has ended were played, so none before him had
+-- the places before that of a worker that has ended were played, so no worker named there had ended
 not_before : (t : Tables) (programs others : List (List Command)) (schedule : List ℕ) (place w other v : ℕ) → map flat programs ≡ map flat others
-    → HasEnded t programs schedule place w → HasEnded t others schedule other v → place < other → ⊥
+    → EndsBeforePlace t programs schedule place w → EndsBeforePlace t others schedule other v
+    → place < other → ⊥
 not_before t programs others schedule place w other v same one two low =
     let alike = same_ended t programs others same schedule place w one in
     ended_not_played t others (take other schedule) place w two.turns
@@ -159,10 +162,10 @@ one_place p place w other v one two =
 
 -- THE COMMAND
 
-pub one_plan : (bytes : List ℕ) (p q : Planned) → SaysPlan bytes p → SaysPlan bytes q → p ≡ q
-one_plan bytes p q one other = (let same : Ok p ≡ Ok q = sym one.told ∙ other.told in cc)
+pub one_plan : (bytes : List ℕ) (p q : PlanModel) → SaysPlan bytes p → SaysPlan bytes q → p ≡ q
+one_plan bytes p q one other = (let same : Ok p ≡ Ok q = sym one.returned ∙ other.returned in cc)
 
-not_both : (p : Planned) (old new before after : Outlets) → PlanEnds p Done old new → PlanEnds p Refused before after → ⊥
+not_both : (p : PlanModel) (old new before after : Outputs) → PlanEnds p Done old new → PlanEnds p Refused before after → ⊥
 not_both p old new before after played early =
     let is : IsPlayed p played.0 played.1 = played.2 in
     never_played p early.0 early.1 is.turns is.outcomes early.2 is.played

@@ -1,4 +1,5 @@
--- What the workers of a plan did, its version can spell: no command of version 1 asks for a hand, and version 2 has each act.
+-- The version of a plan can encode the acts of its workers: no command of version 1 makes a hand,
+-- and version 2 has each act.
 use Rattle.std.proofs.Common.{◌≡◌, ℕ, zero, suc, ◌+◌, ◌<◌, Bool, true, false, ◌==◌, cond, if◌then◌else◌, nat_lt, List, [], ◌∷◌, ◌++◌, length, reverse, get_or, slice_get, Option, Some, None, is_some, Result, Ok, Err, refl, sym, subst, arith}
 use Rattle.std.specs.List.{AllByRecursion}
 use Rattle.std.proofs.lemmas.Bool.{eq-eqb, leb-false}
@@ -11,8 +12,8 @@ use Rattle.ec_core.specs.declared.act.Reply.{Reply}
 use Rattle.ec_core.specs.declared.act.Refusal.{Refusal}
 use Rattle.ec_core.specs.declared.act.Entry.{Entry}
 use Rattle.ec_core.specs.Acceptance.{IsAccepted}
-use Rattle.ec_core.specs.CallLists.{number_of}
-use Rattle.ec_core.specs.Following.{Told}
+use Rattle.ec_core.specs.CallLists.{reply_number}
+use Rattle.ec_core.specs.Following.{CompletedCall}
 use Rattle.ec_core.specs.Procedures.{next_of}
 use Rattle.ec_core.proofs.shared.Answering.{allowed}
 use Rattle.ec_order.proofs.shared.Matching.{at_index}
@@ -29,15 +30,15 @@ use Rattle.ec_machine.specs.declared.command.Command.TheOpen as layer
 use Rattle.ec_machine.specs.declared.command.Command.TheVariants.{rolls-Advance, rolls-Read, rolls-Await, rolls-Ticket, rolls-Put, rolls-Get, rolls-Hand, rolls-Produce, rolls-Consume, rolls-WriteAll, rolls-Snapshot, rolls-Down, rolls-Up, rolls-DownBoth, rolls-Repeat}
 use Rattle.ec_machine.specs.declared.command.Command.TheViews.{roll-Command, out-Command, roll-out-Command}
 use Rattle.ec_machine.specs.Follows.{program_at}
-use Rattle.ec_machine.specs.Runs.{Place, start, one_call, command_call, last_number, moved, after_call, next_in, place_after, next_act, IsRunOf}
-use Rattle.ec_machine.specs.Steps.{opening, finished, IsRun, own}
-use Rattle.ec_machine.specs.Values.{value_of, values_of, has_large}
+use Rattle.ec_machine.specs.Runs.{ProgramState, start, one_call, command_call, last_number, next_state, after_call, next_in, state_after, next_act, IsRunOf}
+use Rattle.ec_machine.specs.Steps.{opening, completed_calls, IsRun, own}
+use Rattle.ec_machine.specs.Values.{eval, values_of, has_large}
 use Rattle.ec_heading.specs.declared.version.Version.{Version}
 use Rattle.ec_heading.specs.declared.version.Version.TheVariants.{One, Two}
 use Rattle.ec_heading.specs.Versions.{can_spell, CanSpellAll}
 use Rattle.ec_heading.proofs.shared.VersionFacts.{two_spells_all}
 use Rattle.ec_script.specs.Versioned.{has_command, HasProgram, HasPrograms}
-use Rattle.ec_script.proofs.shared.WrittenOut.{every_append}
+use Rattle.ec_heading.proofs.shared.Each.{each_append as every_append}
 use Rattle.ec_runner.specs.declared.report.Report.{Report}
 use Rattle.ec_runner.specs.RunReports.{IsReportOf}
 use Rattle.ec_runner.specs.Schedules.{Turn, with_answer, entries_of, AreTurns}
@@ -54,7 +55,7 @@ AllPlain entries = AllByRecursion (λ (e : Entry). can_spell One e.act ≡ true)
 plain_op : (a op : Act) → Some a ≡ Some op → can_spell One a ≡ true → can_spell One op ≡ true
 plain_op a op is plain = let same : a ≡ op = cc in subst IsPlain same plain
 
-one_plain : (act : Act) (calls : List Told) (op : Act) → can_spell One act ≡ true → one_call act calls ≡ Some op → can_spell One op ≡ true
+one_plain : (act : Act) (calls : List CompletedCall) (op : Act) → can_spell One act ≡ true → one_call act calls ≡ Some op → can_spell One op ≡ true
 one_plain act [] op plain is = plain_op act op is plain
 one_plain act (c ∷ calls) op plain is = cc
 
@@ -69,54 +70,55 @@ rest_plain true last x y op p q is = plain_op x op is p
 rest_plain false true x y op p q is = plain_op y op is q
 rest_plain false false x y op p q is = cc
 
-write_plain : (d : Database) (values : List ℕ) (calls : List Told) (op : Act) → write_call d values calls ≡ Some op → can_spell One op ≡ true
+write_plain : (d : Database) (values : List ℕ) (calls : List CompletedCall) (op : Act) → write_call d values calls ≡ Some op → can_spell One op ≡ true
 write_plain d values [] op is = plain_op (acts.Advance d.start) op is refl
 write_plain d values (a ∷ []) op is = plain_op (acts.Ticket d.turn) op is refl
-write_plain d values (a ∷ t ∷ []) op is = plain_op (acts.Await d.done (number_of t.reply)) op is refl
+write_plain d values (a ∷ t ∷ []) op is = plain_op (acts.Await d.done (reply_number t.reply)) op is refl
 write_plain d values (a ∷ t ∷ i ∷ puts) op is =
     rest_plain (nat_lt (length puts) d.cells) (length puts == d.cells) (acts.Put (d.first_cell + length puts) (get_or values (length puts) 0)) (acts.Advance d.done) op refl refl is
 
-try_plain : (d : Database) (calls : List Told) (op : Act) → try_call d calls ≡ Some op → can_spell One op ≡ true
+try_plain : (d : Database) (calls : List CompletedCall) (op : Act) → try_call d calls ≡ Some op → can_spell One op ≡ true
 try_plain d [] op is = plain_op (acts.Read d.start) op is refl
-try_plain d (w ∷ []) op is = plain_op (acts.Await d.done (number_of w.reply)) op is refl
+try_plain d (w ∷ []) op is = plain_op (acts.Await d.done (reply_number w.reply)) op is refl
 try_plain d (w ∷ a ∷ gets) op is =
     rest_plain (nat_lt (length gets) d.cells) (length gets == d.cells) (acts.Get (d.first_cell + length gets)) (acts.Read d.start) op refl refl is
 
-down_plain : (s : Semaphore) (calls : List Told) (op : Act) → down_call s calls ≡ Some op → can_spell One op ≡ true
+down_plain : (s : Semaphore) (calls : List CompletedCall) (op : Act) → down_call s calls ≡ Some op → can_spell One op ≡ true
 down_plain s [] op is = plain_op (acts.Ticket s.line) op is refl
-down_plain s (t ∷ []) op is = plain_op (acts.Await s.count (threshold s (number_of t.reply))) op is refl
+down_plain s (t ∷ []) op is = plain_op (acts.Await s.count (threshold s (reply_number t.reply))) op is refl
 down_plain s (t ∷ a ∷ rest) op is = cc
 
-up_plain : (s : Semaphore) (calls : List Told) (op : Act) → up_call s calls ≡ Some op → can_spell One op ≡ true
+up_plain : (s : Semaphore) (calls : List CompletedCall) (op : Act) → up_call s calls ≡ Some op → can_spell One op ≡ true
 up_plain s [] op is = plain_op (acts.Advance s.count) op is refl
 up_plain s (v ∷ rest) op is = cc
 
-both_plain : (c one other : Semaphore) (calls : List Told) (op : Act) → down_both_call c one other calls ≡ Some op → can_spell One op ≡ true
+both_plain : (c one other : Semaphore) (calls : List CompletedCall) (op : Act) → down_both_call c one other calls ≡ Some op → can_spell One op ≡ true
 both_plain c one other [] op is = plain_op (acts.Ticket c.line) op is refl
-both_plain c one other (t ∷ []) op is = plain_op (acts.Await c.count (number_of t.reply)) op is refl
+both_plain c one other (t ∷ []) op is =
+    plain_op (acts.Await c.count (reply_number t.reply)) op is refl
 both_plain c one other (t ∷ a ∷ []) op is = plain_op (acts.Ticket one.line) op is refl
 both_plain c one other (t ∷ a ∷ r ∷ []) op is = plain_op (acts.Ticket other.line) op is refl
 both_plain c one other (t ∷ a ∷ r ∷ s ∷ []) op is = plain_op (acts.Advance c.count) op is refl
-both_plain c one other (t ∷ a ∷ r ∷ s ∷ v ∷ []) op is = plain_op (acts.Await one.count (threshold one (number_of r.reply))) op is refl
-both_plain c one other (t ∷ a ∷ r ∷ s ∷ v ∷ b ∷ []) op is = plain_op (acts.Await other.count (threshold other (number_of s.reply))) op is refl
+both_plain c one other (t ∷ a ∷ r ∷ s ∷ v ∷ []) op is = plain_op (acts.Await one.count (threshold one (reply_number r.reply))) op is refl
+both_plain c one other (t ∷ a ∷ r ∷ s ∷ v ∷ b ∷ []) op is = plain_op (acts.Await other.count (threshold other (reply_number s.reply))) op is refl
 both_plain c one other (t ∷ a ∷ r ∷ s ∷ v ∷ b ∷ d ∷ rest) op is = cc
 
 abbrev AsksPlain : Command → Type 0
-AsksPlain c = (last : ℕ) (calls : List Told) (op : Act) → command_call last c calls ≡ Some op → can_spell One op ≡ true
+AsksPlain c = (last : ℕ) (calls : List CompletedCall) (op : Act) → command_call last c calls ≡ Some op → can_spell One op ≡ true
 
 rolled_plain : (d : Command-F Command) → has_command One d ≡ true → AsksPlain (roll-Command d)
 rolled_plain (layer.Advance e) has = subst AsksPlain (sym (rolls-Advance e)) (λ last calls op is. one_plain (acts.Advance e) calls op refl is)
 rolled_plain (layer.Read e) has = subst AsksPlain (sym (rolls-Read e)) (λ last calls op is. one_plain (acts.Read e) calls op refl is)
-rolled_plain (layer.Await e v) has = subst AsksPlain (sym (rolls-Await e v)) (λ last calls op is. one_plain (acts.Await e (value_of last v)) calls op refl is)
+rolled_plain (layer.Await e v) has = subst AsksPlain (sym (rolls-Await e v)) (λ last calls op is. one_plain (acts.Await e (eval last v)) calls op refl is)
 rolled_plain (layer.Ticket q) has = subst AsksPlain (sym (rolls-Ticket q)) (λ last calls op is. one_plain (acts.Ticket q) calls op refl is)
-rolled_plain (layer.Put x v) has = subst AsksPlain (sym (rolls-Put x v)) (λ last calls op is. one_plain (acts.Put x (value_of last v)) calls op refl is)
+rolled_plain (layer.Put x v) has = subst AsksPlain (sym (rolls-Put x v)) (λ last calls op is. one_plain (acts.Put x (eval last v)) calls op refl is)
 rolled_plain (layer.Get x) has = subst AsksPlain (sym (rolls-Get x)) (λ last calls op is. one_plain (acts.Get x) calls op refl is)
 rolled_plain (layer.Hand e b) has = λ last calls op is. cc
 rolled_plain (layer.Produce b v) has =
     subst AsksPlain (sym (rolls-Produce b v)) (λ last calls op is.
-    list_plain (lists.produce_list b (value_of last v) (lists.turn_of calls)) (length calls) op (refl, (refl, (refl, (refl, (refl, tt))))) is)
+    list_plain (lists.produce_list b (eval last v) (lists.drawn_ticket calls)) (length calls) op (refl, (refl, (refl, (refl, (refl, tt))))) is)
 rolled_plain (layer.Consume b) has =
-    subst AsksPlain (sym (rolls-Consume b)) (λ last calls op is. list_plain (lists.consume_list b (lists.turn_of calls)) (length calls) op (refl, (refl, (refl, (refl, (refl, tt))))) is)
+    subst AsksPlain (sym (rolls-Consume b)) (λ last calls op is. list_plain (lists.consume_list b (lists.drawn_ticket calls)) (length calls) op (refl, (refl, (refl, (refl, (refl, tt))))) is)
 rolled_plain (layer.WriteAll d vs) has = subst AsksPlain (sym (rolls-WriteAll d vs)) (λ last calls op is. write_plain d (values_of last vs.items) calls op is)
 rolled_plain (layer.Snapshot d tries) has = subst AsksPlain (sym (rolls-Snapshot d tries)) (λ last calls op is. try_plain d (trying d tries calls).calls op is)
 rolled_plain (layer.Down s) has = subst AsksPlain (sym (rolls-Down s)) (λ last calls op is. down_plain s calls op is)
@@ -136,35 +138,36 @@ command_plain c has = subst AsksPlain (roll-out-Command c) (rolled_plain (out-Co
 
 -- THE ACTS OF A PROGRAM
 
-chosen_left : (b : Bool) (p q : Place) → AreOfOne p.left → AreOfOne q.left → AreOfOne (if b then p else q).left
+chosen_left : (b : Bool) (p q : ProgramState) → AreOfOne p.left → AreOfOne q.left → AreOfOne (if b then p else q).left
 chosen_left true p q of_p of_q = of_p
 chosen_left false p q of_p of_q = of_q
 
-moved_left : (cs : List Command) (last : ℕ) (told : List Told) → AreOfOne cs → AreOfOne (moved cs last told).left
-moved_left [] last told have = have
-moved_left (c ∷ cs) last told have =
-    chosen_left (is_some (command_call last c told)) (record { left = c ∷ cs; last = last; told = told }) (record { left = cs; last = last_number last told; told = [] }) have have.1
+moved_left : (cs : List Command) (last : ℕ) (returned : List CompletedCall) → AreOfOne cs → AreOfOne (next_state cs last returned).left
+moved_left [] last returned have = have
+moved_left (c ∷ cs) last returned have =
+    chosen_left (is_some (command_call last c returned)) (record { left = c ∷ cs; last = last; completed = returned }) (record { left = cs; last = last_number last returned; completed = [] }) have have.1
 
--- the commands that are left are some of the program's
-left_of : (p : Place) (calls : List Told) → AreOfOne p.left → AreOfOne (place_after p calls).left
-unfolding place_after
+-- the commands that are left are among the program's
+left_of : (p : ProgramState) (calls : List CompletedCall) → AreOfOne p.left
+    → AreOfOne (state_after p calls).left
+unfolding state_after
 left_of p [] have = have
-left_of p (c ∷ calls) have = left_of (after_call p c) calls (moved_left p.left p.last (p.told ++ c ∷ []) have)
+left_of p (c ∷ calls) have = left_of (after_call p c) calls (moved_left p.left p.last (p.completed ++ c ∷ []) have)
 
-in_plain : (cs : List Command) (last : ℕ) (told : List Told) (op : Act) → AreOfOne cs → next_in cs last told ≡ Some op → can_spell One op ≡ true
-in_plain [] last told op have is = cc
-in_plain (c ∷ cs) last told op have is =
-    elim (has_large last c) as (λ b. cond b None (command_call last c told) ≡ Some op → can_spell One op ≡ true) [
+in_plain : (cs : List Command) (last : ℕ) (returned : List CompletedCall) (op : Act) → AreOfOne cs → next_in cs last returned ≡ Some op → can_spell One op ≡ true
+in_plain [] last returned op have is = cc
+in_plain (c ∷ cs) last returned op have is =
+    elim (has_large last c) as (λ b. cond b None (command_call last c returned) ≡ Some op → can_spell One op ≡ true) [
       | true ↦ λ h. (let no : None ≡ Some op = h in cc)
-      | false ↦ λ h. command_plain c have.0 last told op h
+      | false ↦ λ h. command_plain c have.0 last returned op h
     ] is
 
 next_plain : (cs : List Command) (past : List Entry) (act : Act) → HasProgram One cs → next_act cs past ≡ Some act → can_spell One act ≡ true
 next_plain cs past act have is =
-    let p = place_after (start cs) (finished past) in
-    elim (is_some (opening past)) as (λ b. next_of b (next_in p.left p.last p.told) ≡ Some act → can_spell One act ≡ true) [
+    let p = state_after (start cs) (completed_calls past) in
+    elim (is_some (opening past)) as (λ b. next_of b (next_in p.left p.last p.completed) ≡ Some act → can_spell One act ≡ true) [
       | true ↦ λ h. plain_op acts.Go act h refl
-      | false ↦ λ h. in_plain p.left p.last p.told act (left_of (start cs) (finished past) have) h
+      | false ↦ λ h. in_plain p.left p.last p.completed act (left_of (start cs) (completed_calls past) have) h
     ] is
 
 run_plain : (cs : List Command) (past : List Entry) → HasProgram One cs → IsRunOf cs past → AllPlain past
@@ -194,7 +197,7 @@ past_plain t programs (x ∷ turns) have are =
     (next_plain (program_at programs x.worker) (own x.worker (entries_of turns)) x.act (program_has programs x.worker have) are.0.due)
     (past_plain t programs turns have are.1)
 
--- what a schedule's turns made
+-- the history that a schedule's turns make
 pub turns_spelled : (v : Version) (t : Tables) (programs : List (List Command)) (turns : List Turn) → HasPrograms v programs → AreTurns t programs turns → CanSpellAll v (reverse (entries_of turns))
 turns_spelled One t programs turns have are =
     All-from_recursion (λ (e : Entry). can_spell One e.act ≡ true) (reverse (entries_of turns))
@@ -208,9 +211,9 @@ own_plain : (t : Tables) (programs : List (List Command)) (turns w : ℕ) (repor
 own_plain t programs turns w report have is lt =
     let log = at_index report.logs.items w (omega (arith, is.logs, lt)) in
     let outcome = at_index report.outcomes.items w (omega (arith, is.outcomes, lt)) in
-    let told = is.told w log.0 outcome.0 log.1 outcome.1 in
-    let back = every_reverse (λ (e : Entry). can_spell One e.act ≡ true) (reverse log.0.items) (run_plain (program_at programs w) (reverse log.0.items) (program_has programs w have) told.follows) in
-    subst AllPlain (sym told.entries) (subst AllPlain (reverse-reverse log.0.items) back)
+    let returned = is.returned w log.0 outcome.0 log.1 outcome.1 in
+    let back = every_reverse (λ (e : Entry). can_spell One e.act ≡ true) (reverse log.0.items) (run_plain (program_at programs w) (reverse log.0.items) (program_has programs w have) returned.follows) in
+    subst AllPlain (sym returned.entries) (subst AllPlain (reverse-reverse log.0.items) back)
 
 own_first : (x : Entry) (h : List Entry) → AllPlain (own x.worker (x ∷ h)) → can_spell One x.act ≡ true
 own_first x h all =
@@ -238,7 +241,7 @@ report_plain t programs turns report have is acc =
     let low = every_reverse (λ (e : Entry). e.worker < t.workers) (reverse h) (past_declared t (reverse h) acc) in
     each_own t.workers h (subst (AllByRecursion (λ (e : Entry). e.worker < t.workers)) (reverse-reverse h) low) (λ w lt. own_plain t programs turns w report have is lt)
 
--- what workers on threads did
+-- the history of workers on threads
 pub report_spelled : (v : Version) (t : Tables) (programs : List (List Command)) (turns : ℕ) (report : Report) → HasPrograms v programs → IsReportOf t programs turns report
     → IsAccepted t (reverse report.run.entries) → CanSpellAll v report.run.entries
 report_spelled One t programs turns report have is acc =

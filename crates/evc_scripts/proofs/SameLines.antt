@@ -3,7 +3,7 @@ use Rattle.std.proofs.Common.{◌≡◌, ℕ, zero, suc, Bool, true, false, List
 use Rattle.std.specs.List.{AllByRecursion, list_any}
 use Rattle.ec_core.specs.declared.act.Act.{Act}
 use Rattle.ec_core.specs.declared.act.Entry.{Entry}
-use Rattle.ec_core.specs.Following.{Told}
+use Rattle.ec_core.specs.Following.{CompletedCall}
 use Rattle.ec_core.specs.Procedures.{next_of}
 use Rattle.ec_database.specs.Calls.{write_call}
 use Rattle.ec_machine.specs.declared.command.Command.{Command, map-Command}
@@ -13,33 +13,33 @@ use Rattle.ec_machine.specs.declared.command.Command.TheViews.{roll-Command}
 use Rattle.ec_machine.specs.declared.command.Command.TheFolds.{ind-Command, fold-roll-Command}
 use Rattle.ec_machine.specs.declared.command.Command.TheVariants as commands
 use Rattle.ec_machine.specs.declared.outcome.Outcome.TheVariants.{Running, ValueTooLarge}
-use Rattle.ec_machine.specs.Runs.{Place, start, command_call, next_in, next_call, moved, after_call, place_after, last_number, program_call, next_act, outcome_in, outcome_at, outcome_of}
-use Rattle.ec_machine.specs.Steps.{opening, finished}
+use Rattle.ec_machine.specs.Runs.{ProgramState, start, command_call, next_in, next_call, next_state, after_call, state_after, last_number, program_call, next_act, outcome_in, outcome_at, outcome_of}
+use Rattle.ec_machine.specs.Steps.{opening, completed_calls}
 use Rattle.ec_machine.specs.Values.{values_of, is_large, has_large}
-use Rattle.ec_machine.specs.Written.{written, written_one, written_step, repeated}
-use Rattle.ec_script.specs.declared.order.Order.{Order}
-use Rattle.ec_script.specs.declared.order.Order.TheVariants.{Do, Write, Begin, End}
+use Rattle.ec_machine.specs.Unrolled.{unroll, unroll_command, written_step, repeated}
+use Rattle.ec_script.specs.declared.block_item.BlockItem.{BlockItem}
+use Rattle.ec_script.specs.declared.block_item.BlockItem.TheVariants.{Do, Write, Begin, End}
 use Rattle.ec_script.specs.Flat.{flat, flat_one, flat_step, all_of}
-use Rattle.ec_script.proofs.shared.WrittenOut.{every_append}
+use Rattle.ec_heading.proofs.shared.Each.{each_append as every_append}
 use Rattle.evc_scripts.proofs.WrittenLines.{same_written}
 
--- WHAT A LINE SAYS OF ITS COMMAND
+-- THE CALLS OF A LINE
 
-abbrev line_call : ℕ → Order → List Told → Option Act
+abbrev line_call : ℕ → BlockItem → List CompletedCall → Option Act
 line_call last (Do c) = command_call last c
 line_call last (Write d vs) = write_call d (values_of last vs)
 line_call last (Begin n) = λ calls. None
 line_call last End = λ calls. None
 
-abbrev line_large : ℕ → Order → Bool
+abbrev line_large : ℕ → BlockItem → Bool
 line_large last (Do c) = has_large last c
 line_large last (Write d vs) = list_any (is_large last) vs
 line_large last (Begin n) = false
 line_large last End = false
 
--- a command of one line, which says its calls and whether its values are too large
+-- a command of one line, which determines its calls and whether its values are too large
 record IsSaid (c : Command) : Type 0 where
-  line : Order
+  line : BlockItem
   lines : flat_one c ≡ line ∷ []
   calls : (last : ℕ) → command_call last c ≡ line_call last line
   large : (last : ℕ) → has_large last c ≡ line_large last line
@@ -52,16 +52,16 @@ unfolding repeated
 all_repeated zero cs all = tt
 all_repeated (suc n) cs all = every_append IsSaid cs (repeated n cs) all (all_repeated n cs all)
 
--- what a command comes to
+-- each command of an unrolled command is so
 abbrev ComesSaid : Command → Type 0
-ComesSaid c = AllSaid (written_one c)
+ComesSaid c = AllSaid (unroll_command c)
 
-all_come : (es : List ((c : Command) × ComesSaid c)) → AllSaid (written (map (λ e. e.0) es))
+all_come : (es : List ((c : Command) × ComesSaid c)) → AllSaid (unroll (map (λ e. e.0) es))
 all_come [] = tt
-all_come (e ∷ es) = every_append IsSaid (written_one e.0) (written (map (λ e. e.0) es)) e.1 (all_come es)
+all_come (e ∷ es) = every_append IsSaid (unroll_command e.0) (unroll (map (λ e. e.0) es)) e.1 (all_come es)
 
 abbrev BlockSaid : Command-F Command → Type 0
-BlockSaid (layer.Repeat n block) = AllSaid (written block.items)
+BlockSaid (layer.Repeat n block) = AllSaid (unroll block.items)
 BlockSaid _ = Unit {0}
 
 block_said : (y : Command-F ((c : Command) × ComesSaid c)) → BlockSaid (map-Command ((c : Command) × ComesSaid c) Command (λ e. e.0) y)
@@ -69,33 +69,33 @@ block_said (layer.Repeat n block) = all_come block.items
 block_said _ = tt
 
 -- a command that is no repeat
-one : (d : Command-F Command) (o : Order) (c : Command) → flat_one (roll-Command d) ≡ o ∷ [] → written_one (roll-Command d) ≡ c ∷ [] → roll-Command d ≡ c
+one : (d : Command-F Command) (o : BlockItem) (c : Command) → flat_one (roll-Command d) ≡ o ∷ [] → unroll_command (roll-Command d) ≡ c ∷ [] → roll-Command d ≡ c
     → ((last : ℕ) → command_call last c ≡ line_call last o) → ((last : ℕ) → has_large last c ≡ line_large last o) → ComesSaid (roll-Command d)
 one d o c lines is same calls large = subst AllSaid (sym is) (record { line = o; lines = ap flat_one (sym same) ∙ lines; calls = calls; large = large }, tt)
 
 said : (d : Command-F Command) → BlockSaid d → ComesSaid (roll-Command d)
-said (layer.Advance e) inner = one _ (Do (commands.Advance e)) (commands.Advance e) (fold-roll-Command (List Order) flat_step (layer.Advance e)) (fold-roll-Command (List Command) written_step (layer.Advance e)) (commands.rolls-Advance e) (λ last. refl) (λ last. refl)
-said (layer.Read e) inner = one _ (Do (commands.Read e)) (commands.Read e) (fold-roll-Command (List Order) flat_step (layer.Read e)) (fold-roll-Command (List Command) written_step (layer.Read e)) (commands.rolls-Read e) (λ last. refl) (λ last. refl)
-said (layer.Await e v) inner = one _ (Do (commands.Await e v)) (commands.Await e v) (fold-roll-Command (List Order) flat_step (layer.Await e v)) (fold-roll-Command (List Command) written_step (layer.Await e v)) (commands.rolls-Await e v) (λ last. refl) (λ last. refl)
-said (layer.Ticket q) inner = one _ (Do (commands.Ticket q)) (commands.Ticket q) (fold-roll-Command (List Order) flat_step (layer.Ticket q)) (fold-roll-Command (List Command) written_step (layer.Ticket q)) (commands.rolls-Ticket q) (λ last. refl) (λ last. refl)
-said (layer.Put x v) inner = one _ (Do (commands.Put x v)) (commands.Put x v) (fold-roll-Command (List Order) flat_step (layer.Put x v)) (fold-roll-Command (List Command) written_step (layer.Put x v)) (commands.rolls-Put x v) (λ last. refl) (λ last. refl)
-said (layer.Get x) inner = one _ (Do (commands.Get x)) (commands.Get x) (fold-roll-Command (List Order) flat_step (layer.Get x)) (fold-roll-Command (List Command) written_step (layer.Get x)) (commands.rolls-Get x) (λ last. refl) (λ last. refl)
-said (layer.Hand e b) inner = one _ (Do (commands.Hand e b)) (commands.Hand e b) (fold-roll-Command (List Order) flat_step (layer.Hand e b)) (fold-roll-Command (List Command) written_step (layer.Hand e b)) (commands.rolls-Hand e b) (λ last. refl) (λ last. refl)
-said (layer.Produce b v) inner = one _ (Do (commands.Produce b v)) (commands.Produce b v) (fold-roll-Command (List Order) flat_step (layer.Produce b v)) (fold-roll-Command (List Command) written_step (layer.Produce b v)) (commands.rolls-Produce b v) (λ last. refl) (λ last. refl)
-said (layer.Consume b) inner = one _ (Do (commands.Consume b)) (commands.Consume b) (fold-roll-Command (List Order) flat_step (layer.Consume b)) (fold-roll-Command (List Command) written_step (layer.Consume b)) (commands.rolls-Consume b) (λ last. refl) (λ last. refl)
-said (layer.WriteAll d vs) inner = one _ (Write d vs.items) (commands.WriteAll d vs) (fold-roll-Command (List Order) flat_step (layer.WriteAll d vs)) (fold-roll-Command (List Command) written_step (layer.WriteAll d vs)) (commands.rolls-WriteAll d vs) (λ last. refl) (λ last. refl)
-said (layer.Snapshot d n) inner = one _ (Do (commands.Snapshot d n)) (commands.Snapshot d n) (fold-roll-Command (List Order) flat_step (layer.Snapshot d n)) (fold-roll-Command (List Command) written_step (layer.Snapshot d n)) (commands.rolls-Snapshot d n) (λ last. refl) (λ last. refl)
-said (layer.Down s) inner = one _ (Do (commands.Down s)) (commands.Down s) (fold-roll-Command (List Order) flat_step (layer.Down s)) (fold-roll-Command (List Command) written_step (layer.Down s)) (commands.rolls-Down s) (λ last. refl) (λ last. refl)
-said (layer.Up s) inner = one _ (Do (commands.Up s)) (commands.Up s) (fold-roll-Command (List Order) flat_step (layer.Up s)) (fold-roll-Command (List Command) written_step (layer.Up s)) (commands.rolls-Up s) (λ last. refl) (λ last. refl)
-said (layer.DownBoth r s u) inner = one _ (Do (commands.DownBoth r s u)) (commands.DownBoth r s u) (fold-roll-Command (List Order) flat_step (layer.DownBoth r s u)) (fold-roll-Command (List Command) written_step (layer.DownBoth r s u)) (commands.rolls-DownBoth r s u) (λ last. refl) (λ last. refl)
-said (layer.Repeat n block) inner = subst AllSaid (sym (fold-roll-Command (List Command) written_step (layer.Repeat n block))) (all_repeated n (written block.items) inner)
+said (layer.Advance e) inner = one _ (Do (commands.Advance e)) (commands.Advance e) (fold-roll-Command (List BlockItem) flat_step (layer.Advance e)) (fold-roll-Command (List Command) written_step (layer.Advance e)) (commands.rolls-Advance e) (λ last. refl) (λ last. refl)
+said (layer.Read e) inner = one _ (Do (commands.Read e)) (commands.Read e) (fold-roll-Command (List BlockItem) flat_step (layer.Read e)) (fold-roll-Command (List Command) written_step (layer.Read e)) (commands.rolls-Read e) (λ last. refl) (λ last. refl)
+said (layer.Await e v) inner = one _ (Do (commands.Await e v)) (commands.Await e v) (fold-roll-Command (List BlockItem) flat_step (layer.Await e v)) (fold-roll-Command (List Command) written_step (layer.Await e v)) (commands.rolls-Await e v) (λ last. refl) (λ last. refl)
+said (layer.Ticket q) inner = one _ (Do (commands.Ticket q)) (commands.Ticket q) (fold-roll-Command (List BlockItem) flat_step (layer.Ticket q)) (fold-roll-Command (List Command) written_step (layer.Ticket q)) (commands.rolls-Ticket q) (λ last. refl) (λ last. refl)
+said (layer.Put x v) inner = one _ (Do (commands.Put x v)) (commands.Put x v) (fold-roll-Command (List BlockItem) flat_step (layer.Put x v)) (fold-roll-Command (List Command) written_step (layer.Put x v)) (commands.rolls-Put x v) (λ last. refl) (λ last. refl)
+said (layer.Get x) inner = one _ (Do (commands.Get x)) (commands.Get x) (fold-roll-Command (List BlockItem) flat_step (layer.Get x)) (fold-roll-Command (List Command) written_step (layer.Get x)) (commands.rolls-Get x) (λ last. refl) (λ last. refl)
+said (layer.Hand e b) inner = one _ (Do (commands.Hand e b)) (commands.Hand e b) (fold-roll-Command (List BlockItem) flat_step (layer.Hand e b)) (fold-roll-Command (List Command) written_step (layer.Hand e b)) (commands.rolls-Hand e b) (λ last. refl) (λ last. refl)
+said (layer.Produce b v) inner = one _ (Do (commands.Produce b v)) (commands.Produce b v) (fold-roll-Command (List BlockItem) flat_step (layer.Produce b v)) (fold-roll-Command (List Command) written_step (layer.Produce b v)) (commands.rolls-Produce b v) (λ last. refl) (λ last. refl)
+said (layer.Consume b) inner = one _ (Do (commands.Consume b)) (commands.Consume b) (fold-roll-Command (List BlockItem) flat_step (layer.Consume b)) (fold-roll-Command (List Command) written_step (layer.Consume b)) (commands.rolls-Consume b) (λ last. refl) (λ last. refl)
+said (layer.WriteAll d vs) inner = one _ (Write d vs.items) (commands.WriteAll d vs) (fold-roll-Command (List BlockItem) flat_step (layer.WriteAll d vs)) (fold-roll-Command (List Command) written_step (layer.WriteAll d vs)) (commands.rolls-WriteAll d vs) (λ last. refl) (λ last. refl)
+said (layer.Snapshot d n) inner = one _ (Do (commands.Snapshot d n)) (commands.Snapshot d n) (fold-roll-Command (List BlockItem) flat_step (layer.Snapshot d n)) (fold-roll-Command (List Command) written_step (layer.Snapshot d n)) (commands.rolls-Snapshot d n) (λ last. refl) (λ last. refl)
+said (layer.Down s) inner = one _ (Do (commands.Down s)) (commands.Down s) (fold-roll-Command (List BlockItem) flat_step (layer.Down s)) (fold-roll-Command (List Command) written_step (layer.Down s)) (commands.rolls-Down s) (λ last. refl) (λ last. refl)
+said (layer.Up s) inner = one _ (Do (commands.Up s)) (commands.Up s) (fold-roll-Command (List BlockItem) flat_step (layer.Up s)) (fold-roll-Command (List Command) written_step (layer.Up s)) (commands.rolls-Up s) (λ last. refl) (λ last. refl)
+said (layer.DownBoth r s u) inner = one _ (Do (commands.DownBoth r s u)) (commands.DownBoth r s u) (fold-roll-Command (List BlockItem) flat_step (layer.DownBoth r s u)) (fold-roll-Command (List Command) written_step (layer.DownBoth r s u)) (commands.rolls-DownBoth r s u) (λ last. refl) (λ last. refl)
+said (layer.Repeat n block) inner = subst AllSaid (sym (fold-roll-Command (List Command) written_step (layer.Repeat n block))) (all_repeated n (unroll block.items) inner)
 
 command_said : (c : Command) → ComesSaid c
 command_said = ind-Command ComesSaid (λ x y is. said x (subst BlockSaid is (block_said y)))
 
-written_said : (cs : List Command) → AllSaid (written cs)
+written_said : (cs : List Command) → AllSaid (unroll cs)
 written_said [] = tt
-written_said (c ∷ cs) = every_append IsSaid (written_one c) (written cs) (command_said c) (written_said cs)
+written_said (c ∷ cs) = every_append IsSaid (unroll_command c) (unroll cs) (command_said c) (written_said cs)
 
 -- COMMANDS THAT RUN ALIKE
 
@@ -115,7 +115,7 @@ of_one_line c d p q same = record {
   large = λ last. p.large last ∙ ap (line_large last) same ∙ sym (q.large last);
 }
 
--- the lines of commands, of which the first has one
+-- the lines of commands, the first of which has one line
 first_line : (c : Command) (cs : List Command) (p : IsSaid c) → flat (c ∷ cs) ≡ p.line ∷ flat cs
 unfolding all_of
 first_line c cs p = ap (λ l. l ++ flat cs) p.lines
@@ -124,10 +124,10 @@ no_lines : flat [] ≡ []
 unfolding all_of
 no_lines = refl
 
-cons_same : (a b : Order) (xs ys : List Order) → a ∷ xs ≡ b ∷ ys → (a ≡ b) × (xs ≡ ys)
+cons_same : (a b : BlockItem) (xs ys : List BlockItem) → a ∷ xs ≡ b ∷ ys → (a ≡ b) × (xs ≡ ys)
 cons_same a b xs ys is = (cc, cc)
 
-nil_cons : (b : Order) (ys : List Order) → [] ≡ b ∷ ys → ⊥
+nil_cons : (b : BlockItem) (ys : List BlockItem) → [] ≡ b ∷ ys → ⊥
 nil_cons b ys is = cc
 
 of_same_lines : (cs ds : List Command) → AllSaid cs → AllSaid ds → flat cs ≡ flat ds → Alike cs ds
@@ -138,53 +138,54 @@ of_same_lines (c ∷ cs) (d ∷ ds) p q same =
     let parts = cons_same p.0.line q.0.line (flat cs) (flat ds) (sym (first_line c cs p.0) ∙ same ∙ first_line d ds q.0) in
     (of_one_line c d p.0 q.0 parts.0, of_same_lines cs ds p.1 q.1 parts.1)
 
--- programs of the same lines come to such commands
-written_alike : (cs ds : List Command) → flat cs ≡ flat ds → Alike (written cs) (written ds)
-written_alike cs ds same = of_same_lines (written cs) (written ds) (written_said cs) (written_said ds) (same_written cs ds same)
+-- programs of the same lines, unrolled, run alike
+written_alike : (cs ds : List Command) → flat cs ≡ flat ds → Alike (unroll cs) (unroll ds)
+written_alike cs ds same = of_same_lines (unroll cs) (unroll ds) (written_said cs) (written_said ds) (same_written cs ds same)
 
 -- PLACES IN THEM
 
-record AlikePlaces (p q : Place) : Type 0 where
+record AlikePlaces (p q : ProgramState) : Type 0 where
   left : Alike p.left q.left
   last : p.last ≡ q.last
-  told : p.told ≡ q.told
+  completed : p.completed ≡ q.completed
 
-abbrev at_place : List Command → ℕ → List Told → Place
-at_place cs last told = record { left = cs; last = last; told = told }
+abbrev at_place : List Command → ℕ → List CompletedCall → ProgramState
+at_place cs last completed = record { left = cs; last = last; completed = completed }
 
-moved_alike : (cs ds : List Command) (last : ℕ) (told : List Told) → Alike cs ds → AlikePlaces (moved cs last told) (moved ds last told)
-moved_alike [] [] last told alike = record { left = tt; last = refl; told = refl }
-moved_alike [] (d ∷ ds) last told alike = absurd alike
-moved_alike (c ∷ cs) [] last told alike = absurd alike
-moved_alike (c ∷ cs) (d ∷ ds) last told alike =
-    let P : Bool → Type 0 = λ b. AlikePlaces (if b then at_place (c ∷ cs) last told else at_place cs (last_number last told) []) (if b then at_place (d ∷ ds) last told else at_place ds (last_number last told) []) in
-    let go : P (is_some (command_call last c told)) = elim (is_some (command_call last c told)) as P [
-      | true ↦ record { left = alike; last = refl; told = refl }
-      | false ↦ record { left = alike.1; last = refl; told = refl }
+moved_alike : (cs ds : List Command) (last : ℕ) (completed : List CompletedCall) → Alike cs ds → AlikePlaces (next_state cs last completed) (next_state ds last completed)
+moved_alike [] [] last completed alike = record { left = tt; last = refl; completed = refl }
+moved_alike [] (d ∷ ds) last completed alike = absurd alike
+moved_alike (c ∷ cs) [] last completed alike = absurd alike
+moved_alike (c ∷ cs) (d ∷ ds) last completed alike =
+    let P : Bool → Type 0 = λ b. AlikePlaces (if b then at_place (c ∷ cs) last completed else at_place cs (last_number last completed) []) (if b then at_place (d ∷ ds) last completed else at_place ds (last_number last completed) []) in
+    let go : P (is_some (command_call last c completed)) = elim (is_some (command_call last c completed)) as P [
+      | true ↦ record { left = alike; last = refl; completed = refl }
+      | false ↦ record { left = alike.1; last = refl; completed = refl }
     ] in
-    subst (λ b. AlikePlaces (moved (c ∷ cs) last told) (if b then at_place (d ∷ ds) last told else at_place ds (last_number last told) []))
-    (ap (λ f. is_some (f told)) (alike.0.calls last)) go
+    subst (λ b. AlikePlaces (next_state (c ∷ cs) last completed) (if b then at_place (d ∷ ds) last completed else at_place ds (last_number last completed) []))
+    (ap (λ f. is_some (f completed)) (alike.0.calls last)) go
 
-after_alike : (p q : Place) (x : Told) → AlikePlaces p q → AlikePlaces (after_call p x) (after_call q x)
+after_alike : (p q : ProgramState) (x : CompletedCall) → AlikePlaces p q → AlikePlaces (after_call p x) (after_call q x)
 after_alike p q x alike =
-    let more : p.told ++ x ∷ [] ≡ q.told ++ x ∷ [] = ap (λ l. l ++ x ∷ []) alike.told in
-    subst (λ l. AlikePlaces (after_call p x) (moved q.left q.last l)) more
-    (subst (λ n. AlikePlaces (after_call p x) (moved q.left n (p.told ++ x ∷ []))) alike.last (moved_alike p.left q.left p.last (p.told ++ x ∷ []) alike.left))
+    let more : p.completed ++ x ∷ [] ≡ q.completed ++ x ∷ [] =
+    ap (λ l. l ++ x ∷ []) alike.completed in
+    subst (λ l. AlikePlaces (after_call p x) (next_state q.left q.last l)) more
+    (subst (λ n. AlikePlaces (after_call p x) (next_state q.left n (p.completed ++ x ∷ []))) alike.last (moved_alike p.left q.left p.last (p.completed ++ x ∷ []) alike.left))
 
-place_alike : (calls : List Told) (p q : Place) → AlikePlaces p q → AlikePlaces (place_after p calls) (place_after q calls)
-unfolding place_after
+place_alike : (calls : List CompletedCall) (p q : ProgramState) → AlikePlaces p q → AlikePlaces (state_after p calls) (state_after q calls)
+unfolding state_after
 place_alike [] p q alike = alike
 place_alike (x ∷ calls) p q alike = place_alike calls (after_call p x) (after_call q x) (after_alike p q x alike)
 
-next_in_alike : (cs ds : List Command) (last : ℕ) (told : List Told) → Alike cs ds → next_in cs last told ≡ next_in ds last told
-next_in_alike [] [] last told alike = refl
-next_in_alike [] (d ∷ ds) last told alike = absurd alike
-next_in_alike (c ∷ cs) [] last told alike = absurd alike
-next_in_alike (c ∷ cs) (d ∷ ds) last told alike =
-    ap₂ (λ (b : Bool) (o : Option Act). if b then None else o) (alike.0.large last) (ap (λ f. f told) (alike.0.calls last))
+next_in_alike : (cs ds : List Command) (last : ℕ) (completed : List CompletedCall) → Alike cs ds → next_in cs last completed ≡ next_in ds last completed
+next_in_alike [] [] last completed alike = refl
+next_in_alike [] (d ∷ ds) last completed alike = absurd alike
+next_in_alike (c ∷ cs) [] last completed alike = absurd alike
+next_in_alike (c ∷ cs) (d ∷ ds) last completed alike =
+    ap₂ (λ (b : Bool) (o : Option Act). if b then None else o) (alike.0.large last) (ap (λ f. f completed) (alike.0.calls last))
 
-next_alike : (p q : Place) → AlikePlaces p q → next_call p ≡ next_call q
-next_alike p q alike = next_in_alike p.left q.left p.last p.told alike.left ∙ ap₂ (next_in q.left) alike.last alike.told
+next_alike : (p q : ProgramState) → AlikePlaces p q → next_call p ≡ next_call q
+next_alike p q alike = next_in_alike p.left q.left p.last p.completed alike.left ∙ ap₂ (next_in q.left) alike.last alike.completed
 
 outcome_in_alike : (cs ds : List Command) (last : ℕ) → Alike cs ds → outcome_in cs last ≡ outcome_in ds last
 outcome_in_alike [] [] last alike = refl
@@ -192,22 +193,22 @@ outcome_in_alike [] (d ∷ ds) last alike = absurd alike
 outcome_in_alike (c ∷ cs) [] last alike = absurd alike
 outcome_in_alike (c ∷ cs) (d ∷ ds) last alike = ap (λ b. if b then ValueTooLarge else Running) (alike.0.large last)
 
-outcome_alike : (p q : Place) → AlikePlaces p q → outcome_at p ≡ outcome_at q
+outcome_alike : (p q : ProgramState) → AlikePlaces p q → outcome_at p ≡ outcome_at q
 outcome_alike p q alike = outcome_in_alike p.left q.left p.last alike.left ∙ ap (outcome_in q.left) alike.last
 
 -- PROGRAMS
 
 start_alike : (cs ds : List Command) → flat cs ≡ flat ds → AlikePlaces (start cs) (start ds)
-start_alike cs ds same = record { left = written_alike cs ds same; last = refl; told = refl }
+start_alike cs ds same = record { left = written_alike cs ds same; last = refl; completed = refl }
 
-calls_alike : (cs ds : List Command) (calls : List Told) → flat cs ≡ flat ds → program_call cs calls ≡ program_call ds calls
-calls_alike cs ds calls same = next_alike (place_after (start cs) calls) (place_after (start ds) calls) (place_alike calls (start cs) (start ds) (start_alike cs ds same))
+calls_alike : (cs ds : List Command) (calls : List CompletedCall) → flat cs ≡ flat ds → program_call cs calls ≡ program_call ds calls
+calls_alike cs ds calls same = next_alike (state_after (start cs) calls) (state_after (start ds) calls) (place_alike calls (start cs) (start ds) (start_alike cs ds same))
 
 -- the act that comes next in programs of the same lines
 pub same_next : (cs ds : List Command) (past : List Entry) → flat cs ≡ flat ds → next_act cs past ≡ next_act ds past
-same_next cs ds past same = ap (next_of (is_some (opening past))) (calls_alike cs ds (finished past) same)
+same_next cs ds past same = ap (next_of (is_some (opening past))) (calls_alike cs ds (completed_calls past) same)
 
--- how they have ended
+-- the outcome of programs of the same lines
 pub same_outcome : (cs ds : List Command) (past : List Entry) → flat cs ≡ flat ds → outcome_of cs past ≡ outcome_of ds past
 same_outcome cs ds past same =
-    outcome_alike (place_after (start cs) (finished past)) (place_after (start ds) (finished past)) (place_alike (finished past) (start cs) (start ds) (start_alike cs ds same))
+    outcome_alike (state_after (start cs) (completed_calls past)) (state_after (start ds) (completed_calls past)) (place_alike (completed_calls past) (start cs) (start ds) (start_alike cs ds same))

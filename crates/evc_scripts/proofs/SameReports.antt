@@ -1,8 +1,8 @@
--- Workers that ran programs of the same lines report alike.
+-- Workers that ran programs of the same lines have the same reports.
 use Rattle.std.proofs.Common.{◌≡◌, ℕ, List, [], ◌∷◌, reverse, sym, ap, ◌∙◌}
 use Rattle.ec_core.specs.declared.act.Entry.{Entry}
 use Rattle.ec_core.specs.declared.act.Refusal.{Refusal}
-use Rattle.ec_core.specs.Recorded.{Recorded}
+use Rattle.ec_core.specs.RunModel.{RunModel}
 use Rattle.ec_machine.specs.declared.command.Command.{Command}
 use Rattle.ec_machine.specs.declared.outcome.Outcome.{Outcome}
 use Rattle.ec_machine.specs.declared.outcome.Outcome.TheVariants as outcomes
@@ -10,7 +10,7 @@ use Rattle.ec_machine.specs.Follows.{program_at}
 use Rattle.ec_machine.specs.Runs.{IsRunOf}
 use Rattle.ec_machine.specs.Steps.{IsRun}
 use Rattle.ec_script.specs.Flat.{flat}
-use Rattle.ec_runner.specs.RunReports.{WasRefused, HasEnded, IsTold}
+use Rattle.ec_runner.specs.RunReports.{WasRefused, EndedAs, IsWorkerReport}
 use Rattle.evc_scripts.specs.OutcomeNotes.{outcomes_note}
 use Rattle.evc_scripts.specs.RunLaws.{LinesReportAlike, PlansReportAlike, ReportsHaveOneText}
 use Rattle.evc_scripts.specs.Runs.{status_for}
@@ -23,7 +23,7 @@ module _ (cs ds : List Command) (same : flat cs ≡ flat ds) where
   run_alike [] run = tt
   run_alike (x ∷ past) run = (sym (same_next cs ds past same) ∙ run.0, run_alike past run.1)
 
-  refused_alike : (run : Recorded) (w : ℕ) (log : List Entry) (r : Refusal) → WasRefused run w cs log r → WasRefused run w ds log r
+  refused_alike : (run : RunModel) (w : ℕ) (log : List Entry) (r : Refusal) → WasRefused run w cs log r → WasRefused run w ds log r
   refused_alike run w log r was = record {
     act = was.act;
     due = sym (same_next cs ds (reverse log) same) ∙ was.due;
@@ -33,7 +33,7 @@ module _ (cs ds : List Command) (same : flat cs ≡ flat ds) where
     refused = was.refused;
   }
 
-  end_alike : (o : Outcome) (run : Recorded) (w turns : ℕ) (log : List Entry) → HasEnded o run w cs turns log → HasEnded o run w ds turns log
+  end_alike : (o : Outcome) (run : RunModel) (w turns : ℕ) (log : List Entry) → EndedAs o run w cs turns log → EndedAs o run w ds turns log
   end_alike outcomes.Finished run w turns log ended = sym (same_outcome cs ds (reverse log) same) ∙ ended
   end_alike outcomes.ValueTooLarge run w turns log ended = sym (same_outcome cs ds (reverse log) same) ∙ ended
   end_alike outcomes.Running run w turns log ended = absurd ended.1
@@ -42,21 +42,21 @@ module _ (cs ds : List Command) (same : flat cs ≡ flat ds) where
   end_alike outcomes.OutOfTurns run w turns log ended = (sym (same_outcome cs ds (reverse log) same) ∙ ended.0, ended.1)
   end_alike outcomes.Memory run w turns log ended = (sym (same_outcome cs ds (reverse log) same) ∙ ended.0, ended.1)
 
-  told_alike : (run : Recorded) (w turns : ℕ) (log : List Entry) (o : Outcome) → IsTold run w cs turns log o → IsTold run w ds turns log o
-  told_alike run w turns log o told =
-      record { entries = told.entries; follows = run_alike (reverse log) told.follows; few = told.few; ended = end_alike o run w turns log told.ended }
+  told_alike : (run : RunModel) (w turns : ℕ) (log : List Entry) (o : Outcome) → IsWorkerReport run w cs turns log o → IsWorkerReport run w ds turns log o
+  told_alike run w turns log o returned =
+      record { entries = returned.entries; follows = run_alike (reverse log) returned.follows; few = returned.few; ended = end_alike o run w turns log returned.ended }
 
 pub lines_alike : LinesReportAlike
-lines_alike t programs others turns report same told = record {
-  setup = told.setup;
-  logs = told.logs;
-  outcomes = told.outcomes;
-  told = λ w log outcome at ends.
-      told_alike (program_at programs w) (program_at others w) (same_at programs others w same) report.run w turns log.items outcome (told.told w log outcome at ends);
+lines_alike t programs others turns report same returned = record {
+  setup = returned.setup;
+  logs = returned.logs;
+  outcomes = returned.outcomes;
+  returned = λ w log outcome at ends.
+      told_alike (program_at programs w) (program_at others w) (same_at programs others w same) report.run w turns log.items outcome (returned.returned w log outcome at ends);
 }
 
 pub plans_alike : PlansReportAlike
-plans_alike p turns status trace note ran programs lines = lines_alike p.heading.setup ran.programs programs turns ran.report (ran.lines ∙ sym lines) ran.told
+plans_alike p turns status trace note ran programs lines = lines_alike p.heading.setup ran.programs programs turns ran.report (ran.lines ∙ sym lines) ran.returned
 
 pub one_text : ReportsHaveOneText
 one_text p turns most status end trace note other remark ran again = (

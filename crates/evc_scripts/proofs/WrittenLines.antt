@@ -1,4 +1,4 @@
--- The lines of a program say the lines of what it comes to when its repeats are written out.
+-- The lines of a program determine the lines of the program with its repeats unrolled.
 use Rattle.std.proofs.Common.{◌≡◌, ℕ, zero, suc, List, [], ◌∷◌, ◌++◌, map, refl, sym, ap, ◌∙◌, subst, append_assoc, append-nil}
 use Rattle.ec_database.specs.Shapes.{Database}
 use Rattle.ec_machine.specs.declared.command.Value.{Value}
@@ -8,20 +8,21 @@ use Rattle.ec_machine.specs.declared.command.Command.TheOpen as layer
 use Rattle.ec_machine.specs.declared.command.Command.TheViews.{roll-Command}
 use Rattle.ec_machine.specs.declared.command.Command.TheFolds.{ind-Command, fold-roll-Command}
 use Rattle.ec_machine.specs.declared.command.Command.TheVariants as commands
-use Rattle.ec_machine.specs.Written.{written, written_one, written_step, repeated}
-use Rattle.ec_script.specs.declared.order.Order.{Order}
-use Rattle.ec_script.specs.declared.order.Order.TheVariants.{Do, Write, Begin, End}
+use Rattle.ec_machine.specs.Unrolled.{unroll, unroll_command, written_step, repeated}
+use Rattle.ec_script.specs.declared.block_item.BlockItem.{BlockItem}
+use Rattle.ec_script.specs.declared.block_item.BlockItem.TheVariants.{Do, Write, Begin, End}
 use Rattle.ec_script.specs.Flat.{flat, flat_one, flat_step, all_of}
+use Rattle.ec_script.proofs.shared.WrittenOut.{FlatIs}
 
--- LINES, WRITTEN OUT
+-- UNROLLED LINES
 
-unfoldable times : ℕ → List Order → List Order
+unfoldable times : ℕ → List BlockItem → List BlockItem
 times zero os = []
 times (suc n) os = os ++ times n os
 
--- the lines without their repeats: each block so many times. Of the blocks that are not ended, the innermost first, it is known
--- how many times each is to stand, and the lines before it
-unfoldable spread : List Order → List (ℕ × List Order) → List Order → List Order
+-- the lines without their repeats: each block as many times as its repeat says. The open blocks,
+-- the innermost first, are given with how many times each is repeated, and the lines before it
+unfoldable spread : List BlockItem → List (ℕ × List BlockItem) → List BlockItem → List BlockItem
 spread [] blocks done = done
 spread (Do c ∷ os) blocks done = spread os blocks (done ++ Do c ∷ [])
 spread (Write d vs ∷ os) blocks done = spread os blocks (done ++ Write d vs ∷ [])
@@ -43,12 +44,12 @@ flat_repeated (suc n) xs = flat_append xs (repeated n xs) ∙ ap (λ l. flat xs 
 
 -- ONE COMMAND
 
--- its lines, written out, are those of what it comes to
+-- its unrolled lines are the lines of the unrolled command
 abbrev Spreads : Command → Type 0
-Spreads c = (os : List Order) (blocks : List (ℕ × List Order)) (done : List Order) → spread (flat_one c ++ os) blocks done ≡ spread os blocks (done ++ flat (written_one c))
+Spreads c = (os : List BlockItem) (blocks : List (ℕ × List BlockItem)) (done : List BlockItem) → spread (flat_one c ++ os) blocks done ≡ spread os blocks (done ++ flat (unroll_command c))
 
 abbrev AllSpread : List Command → Type 0
-AllSpread cs = (os : List Order) (blocks : List (ℕ × List Order)) (done : List Order) → spread (flat cs ++ os) blocks done ≡ spread os blocks (done ++ flat (written cs))
+AllSpread cs = (os : List BlockItem) (blocks : List (ℕ × List BlockItem)) (done : List BlockItem) → spread (flat cs ++ os) blocks done ≡ spread os blocks (done ++ flat (unroll cs))
 
 none_spread : AllSpread []
 unfolding all_of
@@ -59,8 +60,8 @@ unfolding all_of
 more_spread c cs one all os blocks done =
     ap (λ l. spread l blocks done) (append_assoc (flat_one c) (flat cs) os)
     ∙ one (flat cs ++ os) blocks done
-    ∙ all os blocks (done ++ flat (written_one c))
-    ∙ ap (spread os blocks) (append_assoc done (flat (written_one c)) (flat (written cs)) ∙ ap (λ l. done ++ l) (sym (flat_append (written_one c) (written cs))))
+    ∙ all os blocks (done ++ flat (unroll_command c))
+    ∙ ap (spread os blocks) (append_assoc done (flat (unroll_command c)) (flat (unroll cs)) ∙ ap (λ l. done ++ l) (sym (flat_append (unroll_command c) (unroll cs))))
 
 all_spread : (es : List ((c : Command) × Spreads c)) → AllSpread (map (λ e. e.0) es)
 all_spread [] = none_spread
@@ -75,9 +76,9 @@ block_spreads : (y : Command-F ((c : Command) × Spreads c)) → BlockSpreads (m
 block_spreads (layer.Repeat n block) = all_spread block.items
 block_spreads _ = tt
 
--- a line that stands for itself
-abbrev IsKept : Order → Type 0
-IsKept o = (os : List Order) (blocks : List (ℕ × List Order)) (done : List Order) → spread (o ∷ os) blocks done ≡ spread os blocks (done ++ o ∷ [])
+-- a line that unrolls to itself
+abbrev IsKept : BlockItem → Type 0
+IsKept o = (os : List BlockItem) (blocks : List (ℕ × List BlockItem)) (done : List BlockItem) → spread (o ∷ os) blocks done ≡ spread os blocks (done ++ o ∷ [])
 
 does : (c : Command) → IsKept (Do c)
 unfolding spread
@@ -92,45 +93,42 @@ unfolding all_of
 flat_single c = append-nil (flat_one c)
 
 -- a command of one line
-one : (d : Command-F Command) (o : Order) (c : Command) → flat_one (roll-Command d) ≡ o ∷ [] → written_one (roll-Command d) ≡ c ∷ [] → roll-Command d ≡ c → IsKept o → Spreads (roll-Command d)
+one : (d : Command-F Command) (o : BlockItem) (c : Command) → flat_one (roll-Command d) ≡ o ∷ [] → unroll_command (roll-Command d) ≡ c ∷ [] → roll-Command d ≡ c → IsKept o → Spreads (roll-Command d)
 one d o c lines is same kept os blocks done =
     ap (λ l. spread (l ++ os) blocks done) lines
     ∙ kept os blocks done
     ∙ ap (λ l. spread os blocks (done ++ l)) (sym (ap flat is ∙ flat_single c ∙ ap flat_one (sym same) ∙ lines))
 
-abbrev FlatIs : Command-F Command → List Order → Type 0
-FlatIs d os = flat_one (roll-Command d) ≡ os
-
 abbrev WrittenIs : Command-F Command → List Command → Type 0
-WrittenIs d cs = written_one (roll-Command d) ≡ cs
+WrittenIs d cs = unroll_command (roll-Command d) ≡ cs
 
-block_ends : (n : ℕ) (cs : List Command) (os : List Order) (blocks : List (ℕ × List Order)) (done : List Order) → AllSpread cs
-    → spread (Begin n ∷ (flat cs ++ End ∷ []) ++ os) blocks done ≡ spread os blocks (done ++ times n (flat (written cs)))
+block_ends : (n : ℕ) (cs : List Command) (os : List BlockItem) (blocks : List (ℕ × List BlockItem)) (done : List BlockItem) → AllSpread cs
+    → spread (Begin n ∷ (flat cs ++ End ∷ []) ++ os) blocks done ≡ spread os blocks (done ++ times n (flat (unroll cs)))
 unfolding spread
 block_ends n cs os blocks done all =
     ap (λ l. spread l ((n, done) ∷ blocks) []) (append_assoc (flat cs) (End ∷ []) os) ∙ all (End ∷ os) ((n, done) ∷ blocks) []
 
 spreads : (d : Command-F Command) → BlockSpreads d → Spreads (roll-Command d)
-spreads (layer.Advance e) inner = one _ (Do (commands.Advance e)) (commands.Advance e) (fold-roll-Command (List Order) flat_step (layer.Advance e)) (fold-roll-Command (List Command) written_step (layer.Advance e)) (commands.rolls-Advance e) (does (commands.Advance e))
-spreads (layer.Read e) inner = one _ (Do (commands.Read e)) (commands.Read e) (fold-roll-Command (List Order) flat_step (layer.Read e)) (fold-roll-Command (List Command) written_step (layer.Read e)) (commands.rolls-Read e) (does (commands.Read e))
-spreads (layer.Await e v) inner = one _ (Do (commands.Await e v)) (commands.Await e v) (fold-roll-Command (List Order) flat_step (layer.Await e v)) (fold-roll-Command (List Command) written_step (layer.Await e v)) (commands.rolls-Await e v) (does (commands.Await e v))
-spreads (layer.Ticket q) inner = one _ (Do (commands.Ticket q)) (commands.Ticket q) (fold-roll-Command (List Order) flat_step (layer.Ticket q)) (fold-roll-Command (List Command) written_step (layer.Ticket q)) (commands.rolls-Ticket q) (does (commands.Ticket q))
-spreads (layer.Put x v) inner = one _ (Do (commands.Put x v)) (commands.Put x v) (fold-roll-Command (List Order) flat_step (layer.Put x v)) (fold-roll-Command (List Command) written_step (layer.Put x v)) (commands.rolls-Put x v) (does (commands.Put x v))
-spreads (layer.Get x) inner = one _ (Do (commands.Get x)) (commands.Get x) (fold-roll-Command (List Order) flat_step (layer.Get x)) (fold-roll-Command (List Command) written_step (layer.Get x)) (commands.rolls-Get x) (does (commands.Get x))
-spreads (layer.Hand e b) inner = one _ (Do (commands.Hand e b)) (commands.Hand e b) (fold-roll-Command (List Order) flat_step (layer.Hand e b)) (fold-roll-Command (List Command) written_step (layer.Hand e b)) (commands.rolls-Hand e b) (does (commands.Hand e b))
-spreads (layer.Produce b v) inner = one _ (Do (commands.Produce b v)) (commands.Produce b v) (fold-roll-Command (List Order) flat_step (layer.Produce b v)) (fold-roll-Command (List Command) written_step (layer.Produce b v)) (commands.rolls-Produce b v) (does (commands.Produce b v))
-spreads (layer.Consume b) inner = one _ (Do (commands.Consume b)) (commands.Consume b) (fold-roll-Command (List Order) flat_step (layer.Consume b)) (fold-roll-Command (List Command) written_step (layer.Consume b)) (commands.rolls-Consume b) (does (commands.Consume b))
-spreads (layer.WriteAll d vs) inner = one _ (Write d vs.items) (commands.WriteAll d vs) (fold-roll-Command (List Order) flat_step (layer.WriteAll d vs)) (fold-roll-Command (List Command) written_step (layer.WriteAll d vs)) (commands.rolls-WriteAll d vs) (writes d vs.items)
-spreads (layer.Snapshot d n) inner = one _ (Do (commands.Snapshot d n)) (commands.Snapshot d n) (fold-roll-Command (List Order) flat_step (layer.Snapshot d n)) (fold-roll-Command (List Command) written_step (layer.Snapshot d n)) (commands.rolls-Snapshot d n) (does (commands.Snapshot d n))
-spreads (layer.Down s) inner = one _ (Do (commands.Down s)) (commands.Down s) (fold-roll-Command (List Order) flat_step (layer.Down s)) (fold-roll-Command (List Command) written_step (layer.Down s)) (commands.rolls-Down s) (does (commands.Down s))
-spreads (layer.Up s) inner = one _ (Do (commands.Up s)) (commands.Up s) (fold-roll-Command (List Order) flat_step (layer.Up s)) (fold-roll-Command (List Command) written_step (layer.Up s)) (commands.rolls-Up s) (does (commands.Up s))
-spreads (layer.DownBoth r s u) inner = one _ (Do (commands.DownBoth r s u)) (commands.DownBoth r s u) (fold-roll-Command (List Order) flat_step (layer.DownBoth r s u)) (fold-roll-Command (List Command) written_step (layer.DownBoth r s u)) (commands.rolls-DownBoth r s u) (does (commands.DownBoth r s u))
+spreads (layer.Advance e) inner = one _ (Do (commands.Advance e)) (commands.Advance e) (fold-roll-Command (List BlockItem) flat_step (layer.Advance e)) (fold-roll-Command (List Command) written_step (layer.Advance e)) (commands.rolls-Advance e) (does (commands.Advance e))
+spreads (layer.Read e) inner = one _ (Do (commands.Read e)) (commands.Read e) (fold-roll-Command (List BlockItem) flat_step (layer.Read e)) (fold-roll-Command (List Command) written_step (layer.Read e)) (commands.rolls-Read e) (does (commands.Read e))
+spreads (layer.Await e v) inner = one _ (Do (commands.Await e v)) (commands.Await e v) (fold-roll-Command (List BlockItem) flat_step (layer.Await e v)) (fold-roll-Command (List Command) written_step (layer.Await e v)) (commands.rolls-Await e v) (does (commands.Await e v))
+spreads (layer.Ticket q) inner = one _ (Do (commands.Ticket q)) (commands.Ticket q) (fold-roll-Command (List BlockItem) flat_step (layer.Ticket q)) (fold-roll-Command (List Command) written_step (layer.Ticket q)) (commands.rolls-Ticket q) (does (commands.Ticket q))
+spreads (layer.Put x v) inner = one _ (Do (commands.Put x v)) (commands.Put x v) (fold-roll-Command (List BlockItem) flat_step (layer.Put x v)) (fold-roll-Command (List Command) written_step (layer.Put x v)) (commands.rolls-Put x v) (does (commands.Put x v))
+spreads (layer.Get x) inner = one _ (Do (commands.Get x)) (commands.Get x) (fold-roll-Command (List BlockItem) flat_step (layer.Get x)) (fold-roll-Command (List Command) written_step (layer.Get x)) (commands.rolls-Get x) (does (commands.Get x))
+spreads (layer.Hand e b) inner = one _ (Do (commands.Hand e b)) (commands.Hand e b) (fold-roll-Command (List BlockItem) flat_step (layer.Hand e b)) (fold-roll-Command (List Command) written_step (layer.Hand e b)) (commands.rolls-Hand e b) (does (commands.Hand e b))
+spreads (layer.Produce b v) inner = one _ (Do (commands.Produce b v)) (commands.Produce b v) (fold-roll-Command (List BlockItem) flat_step (layer.Produce b v)) (fold-roll-Command (List Command) written_step (layer.Produce b v)) (commands.rolls-Produce b v) (does (commands.Produce b v))
+spreads (layer.Consume b) inner = one _ (Do (commands.Consume b)) (commands.Consume b) (fold-roll-Command (List BlockItem) flat_step (layer.Consume b)) (fold-roll-Command (List Command) written_step (layer.Consume b)) (commands.rolls-Consume b) (does (commands.Consume b))
+spreads (layer.WriteAll d vs) inner = one _ (Write d vs.items) (commands.WriteAll d vs) (fold-roll-Command (List BlockItem) flat_step (layer.WriteAll d vs)) (fold-roll-Command (List Command) written_step (layer.WriteAll d vs)) (commands.rolls-WriteAll d vs) (writes d vs.items)
+spreads (layer.Snapshot d n) inner = one _ (Do (commands.Snapshot d n)) (commands.Snapshot d n) (fold-roll-Command (List BlockItem) flat_step (layer.Snapshot d n)) (fold-roll-Command (List Command) written_step (layer.Snapshot d n)) (commands.rolls-Snapshot d n) (does (commands.Snapshot d n))
+spreads (layer.Down s) inner = one _ (Do (commands.Down s)) (commands.Down s) (fold-roll-Command (List BlockItem) flat_step (layer.Down s)) (fold-roll-Command (List Command) written_step (layer.Down s)) (commands.rolls-Down s) (does (commands.Down s))
+spreads (layer.Up s) inner = one _ (Do (commands.Up s)) (commands.Up s) (fold-roll-Command (List BlockItem) flat_step (layer.Up s)) (fold-roll-Command (List Command) written_step (layer.Up s)) (commands.rolls-Up s) (does (commands.Up s))
+spreads (layer.DownBoth r s u) inner = one _ (Do (commands.DownBoth r s u)) (commands.DownBoth r s u) (fold-roll-Command (List BlockItem) flat_step (layer.DownBoth r s u)) (fold-roll-Command (List Command) written_step (layer.DownBoth r s u)) (commands.rolls-DownBoth r s u) (does (commands.DownBoth r s u))
 spreads (layer.Repeat n block) inner = λ os blocks done.
-    let lines : FlatIs (layer.Repeat n block) (Begin n ∷ (flat block.items ++ End ∷ [])) = fold-roll-Command (List Order) flat_step (layer.Repeat n block) in
-    let is : WrittenIs (layer.Repeat n block) (repeated n (written block.items)) = fold-roll-Command (List Command) written_step (layer.Repeat n block) in
+    let lines : FlatIs (layer.Repeat n block) (Begin n ∷ (flat block.items ++ End ∷ [])) = fold-roll-Command (List BlockItem) flat_step (layer.Repeat n block) in
+    let is : WrittenIs (layer.Repeat n block) (repeated n (unroll block.items)) = fold-roll-Command (List Command) written_step (layer.Repeat n block) in
     ap (λ l. spread (l ++ os) blocks done) lines
     ∙ block_ends n block.items os blocks done inner
-    ∙ ap (λ l. spread os blocks (done ++ l)) (sym (ap flat is ∙ flat_repeated n (written block.items)))
+    ∙ ap (λ l. spread os blocks (done ++ l)) (sym (ap flat is ∙ flat_repeated n (unroll block.items)))
 
 command_spreads : (c : Command) → Spreads c
 command_spreads = ind-Command Spreads (λ x y is. spreads x (subst BlockSpreads is (block_spreads y)))
@@ -141,10 +139,10 @@ program_spreads : (cs : List Command) → AllSpread cs
 program_spreads [] = none_spread
 program_spreads (c ∷ cs) = more_spread c cs (command_spreads c) (program_spreads cs)
 
-spread_whole : (cs : List Command) → spread (flat cs) [] [] ≡ flat (written cs)
+spread_whole : (cs : List Command) → spread (flat cs) [] [] ≡ flat (unroll cs)
 unfolding spread
 spread_whole cs = ap (λ l. spread l [] []) (sym (append-nil (flat cs))) ∙ program_spreads cs [] [] []
 
--- programs of the same lines come to the same lines
-pub same_written : (cs others : List Command) → flat cs ≡ flat others → flat (written cs) ≡ flat (written others)
+-- programs of the same lines have the same unrolled lines
+pub same_written : (cs others : List Command) → flat cs ≡ flat others → flat (unroll cs) ≡ flat (unroll others)
 same_written cs others same = sym (spread_whole cs) ∙ ap (λ l. spread l [] []) same ∙ spread_whole others

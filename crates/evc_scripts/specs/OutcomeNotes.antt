@@ -4,12 +4,12 @@ use Rattle.ec_machine.specs.declared.outcome.Outcome.{Outcome}
 use Rattle.ec_machine.specs.declared.outcome.Outcome.TheVariants.{Running, Finished, Refused, ValueTooLarge, Stopped, OutOfTurns, Memory}
 use Rattle.ec_script.specs.declared.fault.Kind.{Kind}
 use Rattle.ec_script.specs.Faults.{kind_number, kind_name}
-use Rattle.ec_heading.specs.Headed.{Headed}
-use Rattle.ec_heading.specs.Spelling.{Named, text_of}
+use Rattle.ec_heading.specs.HeadingModel.{HeadingModel}
+use Rattle.ec_heading.specs.Spelling.{NameTable, lines_text}
 use Rattle.evc_engine.specs.AuditTexts.{worker_word}
 use Rattle.evc_engine.specs.Notes.{line_words, refused_words}
 
--- how a program has ended
+-- the outcome of a program
 abbrev pub outcome_words : Outcome → List ℕ
 outcome_words Running = codes "running"
 outcome_words Finished = codes "finished"
@@ -19,30 +19,30 @@ outcome_words Stopped = codes "stopped"
 outcome_words OutOfTurns = codes "out of turns"
 outcome_words Memory = codes "no memory"
 
--- how that of worker w has
-abbrev pub outcome_line : Named → ℕ → Outcome → List ℕ
+-- the line on the outcome of worker w
+abbrev pub outcome_line : NameTable → ℕ → Outcome → List ℕ
 outcome_line words w o = codes "outcome " ++ worker_word words w ++ codes " " ++ outcome_words o
 
--- how those of the workers have, from worker w on
-abbrev pub outcome_lines : Named → ℕ → List Outcome → List (List ℕ)
+-- the lines on these outcomes, of the workers from w on
+abbrev pub outcome_lines : NameTable → ℕ → List Outcome → List (List ℕ)
 outcome_lines words w [] = []
 outcome_lines words w (o ∷ os) = outcome_line words w o ∷ outcome_lines words (w + 1) os
 
 -- a line for each declared worker
-abbrev pub outcomes_note : Headed → List Outcome → List ℕ
-outcomes_note h outcomes = text_of (outcome_lines h.words 0 outcomes)
+abbrev pub outcomes_note : HeadingModel → List Outcome → List ℕ
+outcomes_note h outcomes = lines_text (outcome_lines h.words 0 outcomes)
 
 -- the number and the name of a kind
 abbrev pub kind_words : Kind → List ℕ
 kind_words kind = decimal (kind_number kind) ++ codes " " ++ kind_name kind
 
--- the note on a line of a script
+-- the note on a faulty line of a script
 abbrev pub script_note : ℕ → Kind → List ℕ
 script_note n kind = line_words n ++ kind_words kind ++ codes "\n"
 
--- the note on a place of a schedule
+-- the note on a place of a schedule that names a worker that has ended
 abbrev pub ended_words : ℕ → List ℕ → List ℕ
 ended_words place worker = codes "schedule place " ++ decimal place ++ codes ": worker " ++ worker ++ codes " has ended\n"
 
-abbrev pub ended_note : Headed → ℕ → ℕ → List ℕ
+abbrev pub ended_note : HeadingModel → ℕ → ℕ → List ℕ
 ended_note h place w = ended_words place (worker_word h.words w)

@@ -1,4 +1,4 @@
-//! What the commands on scripts do: texts out as a function of bytes in.
+//! The commands `sim` and `run` on scripts, and all tasks of the command line.
 #![tactic(auto)]
 
 mod laws;

@@ -1,7 +1,7 @@
 //! The notes of the commands on scripts.
 ghost use Rattle.std.specs.Prelude.{◌≡◌, ◌≤◌, ◌∷◌, [], length, slice_get};
 ghost use Rattle.ec_text.specs.Puts.{Puts, IsWrittenOut};
-ghost use Rattle.ec_heading.specs.Spelling.{text_of};
+ghost use Rattle.ec_heading.specs.Spelling.{lines_text};
 ghost use Rattle.evc_scripts.specs.OutcomeNotes.{outcome_words, outcome_line, outcome_lines, outcomes_note, kind_words, script_note, ended_words, ended_note};
 ghost use Rattle.evc_engine.specs.AuditTexts.{worker_word};
 ghost use Rattle.evc_scripts.specs.Runs.{mismatch_words};
@@ -9,13 +9,13 @@ ghost use Rattle.evc_scripts.specs.Runs.{mismatch_words};
 use ec_count::WorkerId;
 use ec_machine::Outcome;
 use ec_script::Kind;
-use ec_text::Out;
+use ec_text::Output;
 use ec_trace::{Heading, Spellings};
 use evc_engine::{put_line, put_refused};
 use std::io::Write;
 
-/// Puts how a program has ended.
-fn put_outcome<W: Write>(out: &mut Out<'_, W>, outcome: &Outcome)
+/// Puts the outcome of a program.
+fn put_outcome<W: Write>(out: &mut Output<'_, W>, outcome: &Outcome)
     ensures { Puts out.old out.new (outcome_words outcome.now) }
 {
     match *outcome {
@@ -29,9 +29,9 @@ fn put_outcome<W: Write>(out: &mut Out<'_, W>, outcome: &Outcome)
     }
 }
 
-/// Puts how the program of a worker has ended.
+/// Puts the outcome of a worker's program.
 fn put_outcome_of<W: Write>(
-    out: &mut Out<'_, W>,
+    out: &mut Output<'_, W>,
     spellings: &Spellings<'_>,
     worker: WorkerId,
     outcome: &Outcome,
@@ -44,14 +44,14 @@ fn put_outcome_of<W: Write>(
     put_outcome(out, outcome);
 }
 
-/// Puts the line of a worker, with its LF.
+/// Puts the line of a worker's outcome, with its LF.
 fn put_outcome_line<W: Write>(
-    out: &mut Out<'_, W>,
+    out: &mut Output<'_, W>,
     spellings: &Spellings<'_>,
     worker: WorkerId,
     outcome: &Outcome,
 )
-    ensures { Puts out.old out.new (text_of (outcome_lines spellings.now worker (outcome.now ∷ []))) }
+    ensures { Puts out.old out.new (lines_text (outcome_lines spellings.now worker (outcome.now ∷ []))) }
 {
     put_outcome_of(out, spellings, worker, outcome);
     out.put_byte(b'\n');
@@ -64,9 +64,9 @@ fn outcome_at(outcomes: &[Outcome], place: usize) -> Option<Outcome>
 }
 
 /// Puts a line for each worker.
-fn put_outcomes<W: Write>(out: &mut Out<'_, W>, spellings: &Spellings<'_>, outcomes: &[Outcome])
+fn put_outcomes<W: Write>(out: &mut Output<'_, W>, spellings: &Spellings<'_>, outcomes: &[Outcome])
     requires { length outcomes.now ≤ 16 }
-    ensures { Puts out.old out.new (text_of (outcome_lines spellings.now 0 outcomes.now)) }
+    ensures { Puts out.old out.new (lines_text (outcome_lines spellings.now 0 outcomes.now)) }
 {
     for place in 0..outcomes.len() {
         let worker = WorkerId::new(place).unwrap();
@@ -77,9 +77,9 @@ fn put_outcomes<W: Write>(out: &mut Out<'_, W>, spellings: &Spellings<'_>, outco
     }
 }
 
-/// Notes how the programs of the workers have ended, and writes it.
+/// Writes the note on the outcomes of the workers' programs.
 pub(crate) fn note_outcomes<N: Write>(
-    notes: &mut Out<'_, N>,
+    notes: &mut Output<'_, N>,
     heading: &Heading,
     outcomes: &[Outcome],
 )
@@ -93,7 +93,7 @@ pub(crate) fn note_outcomes<N: Write>(
 }
 
 /// Puts the number and the name of a kind.
-fn put_kind<W: Write>(out: &mut Out<'_, W>, kind: Kind)
+fn put_kind<W: Write>(out: &mut Output<'_, W>, kind: Kind)
     ensures { Puts out.old out.new (kind_words kind) }
 {
     out.put_number(kind.number());
@@ -101,8 +101,8 @@ fn put_kind<W: Write>(out: &mut Out<'_, W>, kind: Kind)
     out.put(kind.name().as_bytes());
 }
 
-/// Puts the note on a line of a script.
-fn put_script_fault<W: Write>(out: &mut Out<'_, W>, line: u64, kind: Kind)
+/// Puts the note on a faulty line of a script.
+fn put_script_fault<W: Write>(out: &mut Output<'_, W>, line: u64, kind: Kind)
     ensures { Puts out.old out.new (script_note line kind) }
 {
     put_line(out, line);
@@ -110,8 +110,8 @@ fn put_script_fault<W: Write>(out: &mut Out<'_, W>, line: u64, kind: Kind)
     out.put(b"\n");
 }
 
-/// Notes the first faulty line of a script, and writes it.
-pub(crate) fn note_kind<N: Write>(notes: &mut Out<'_, N>, line: u64, kind: Kind)
+/// Writes the note on the first faulty line of a script.
+pub(crate) fn note_kind<N: Write>(notes: &mut Output<'_, N>, line: u64, kind: Kind)
     ensures puts { Puts notes.old notes.new (script_note line kind) }
     ensures written { IsWrittenOut notes.new }
 {
@@ -119,8 +119,8 @@ pub(crate) fn note_kind<N: Write>(notes: &mut Out<'_, N>, line: u64, kind: Kind)
     notes.flush();
 }
 
-/// Puts the note on a place of a schedule.
-fn put_ended<W: Write>(out: &mut Out<'_, W>, place: u64, worker: &[u8])
+/// Puts the note on a place of a schedule that names a worker that has ended.
+fn put_ended<W: Write>(out: &mut Output<'_, W>, place: u64, worker: &[u8])
     ensures { Puts out.old out.new (ended_words place worker.now) }
 {
     out.put(b"schedule place ");
@@ -130,9 +130,9 @@ fn put_ended<W: Write>(out: &mut Out<'_, W>, place: u64, worker: &[u8])
     out.put(b" has ended\n");
 }
 
-/// Notes that a place of the schedule, counted from 0, names a worker that has ended, and writes it.
+/// Writes the note on a place of the schedule, counted from 0, that names a worker that has ended.
 pub(crate) fn note_ended<N: Write>(
-    notes: &mut Out<'_, N>,
+    notes: &mut Output<'_, N>,
     heading: &Heading,
     place: usize,
     worker: WorkerId,
@@ -145,8 +145,8 @@ pub(crate) fn note_ended<N: Write>(
     notes.flush();
 }
 
-/// Puts the note on a worker whose log does not fit the run.
-fn put_mismatch<W: Write>(out: &mut Out<'_, W>, worker: &[u8])
+/// Puts the note on a worker whose summary does not fit the run.
+fn put_mismatch<W: Write>(out: &mut Output<'_, W>, worker: &[u8])
     ensures { Puts out.old out.new (mismatch_words worker.now) }
 {
     out.put(b"mismatch ");
@@ -154,9 +154,9 @@ fn put_mismatch<W: Write>(out: &mut Out<'_, W>, worker: &[u8])
     out.put(b"\n");
 }
 
-/// Notes that what a worker was told is not what it did, and writes it. No run is known to come to
-/// this; it is public so that a test can write the note.
-pub fn note_mismatch<N: Write>(notes: &mut Out<'_, N>, heading: &Heading, worker: WorkerId)
+/// Writes the note on a worker whose summary does not fit the run. No run is known to need it; the
+/// function is public so that a test can write the note.
+pub fn note_mismatch<N: Write>(notes: &mut Output<'_, N>, heading: &Heading, worker: WorkerId)
     ensures puts { Puts notes.old notes.new (mismatch_words (worker_word heading.now.words worker)) }
     ensures written { IsWrittenOut notes.new }
 {

@@ -1,5 +1,5 @@
-//! `run`: a script in; the trace of what its workers did on threads out, and in the notes how each
-//! worker's program has ended.
+//! The command `run`: reads a script, runs its workers on threads, and writes their trace and, in
+//! the notes, their outcomes.
 ghost use Rattle.std.specs.Prelude.{◌≡◌, ℕ, IfSome, length};
 ghost use Rattle.std.specs.List.{list_any};
 ghost use Rattle.ec_text.specs.Puts.{Puts, IsWrittenOut};
@@ -13,7 +13,7 @@ use crate::writing::write_run;
 use ec_machine::Outcome;
 use ec_runner::{OpenGate, Report, RunFault, run_workers};
 use ec_script::{Plan, SCRIPT_MAX, ScriptFault, parse};
-use ec_text::{Input, Out, read_up_to};
+use ec_text::{Input, Output, read_up_to};
 use ec_trace::Heading;
 use evc_engine::Status;
 use std::alloc::Global;
@@ -33,7 +33,7 @@ fn has_cut_short(outcomes: &[Outcome]) -> bool
     outcomes.iter().any(|outcome| matches!(outcome, Outcome::Stopped | Outcome::OutOfTurns))
 }
 
-/// Returns how the command ends where the trace and the outcomes were written.
+/// Returns the status of the command if the trace and the outcomes were written.
 fn status_for(outcomes: &[Outcome]) -> Status
     ensures { result ≡ status_for outcomes.now }
 {
@@ -46,8 +46,8 @@ fn status_for(outcomes: &[Outcome]) -> Status
     }
 }
 
-/// Notes why there is no report of the workers.
-fn note_fault<N: Write>(heading: &Heading, fault: RunFault, notes: &mut Out<'_, N>) -> Status
+/// Writes the note why there is no report of the workers, and returns the status.
+fn note_fault<N: Write>(heading: &Heading, fault: RunFault, notes: &mut Output<'_, N>) -> Status
     ensures status { result ≡ run_fault_status fault }
     ensures note { Puts notes.old notes.new (run_fault_note heading.now fault) }
     ensures written { IsWrittenOut notes.new }
@@ -68,12 +68,12 @@ fn note_fault<N: Write>(heading: &Heading, fault: RunFault, notes: &mut Out<'_, 
     }
 }
 
-/// Writes the trace of what the workers did, and notes how they have ended.
+/// Writes the trace of the workers and the note on their outcomes, and returns the status.
 fn write_report<W: Write, N: Write>(
     plan: &Plan,
     report: &Report,
     out: &mut W,
-    notes: &mut Out<'_, N>,
+    notes: &mut Output<'_, N>,
 ) -> Status
     requires plan { IsPlan (shown_plan plan.now) }
     requires few { length report.now.outcomes.items ≡ plan.now.heading.setup.workers }
@@ -82,9 +82,9 @@ fn write_report<W: Write, N: Write>(
         (record { out = W.contents out.new; notes = notes.new }) }
     ensures written { IsWrittenOut notes.new }
 {
-    plan.heading.known();
-    plan.heading.setup().known();
-    report.run.known();
+    plan.heading.invariant();
+    plan.heading.setup().invariant();
+    report.run.invariant();
     let outcomes = report.outcomes.as_slice();
     if write_run(&plan.heading, &report.run, outcomes, out, notes) {
         status_for(outcomes)
@@ -93,14 +93,14 @@ fn write_report<W: Write, N: Write>(
     }
 }
 
-/// Runs a plan's workers, and writes what they did.
+/// Runs a plan's workers, and writes their trace and outcomes.
 fn run_plan<H: Threads + Wait + Sync, W: Write, N: Write>(
     rt: &H,
     alloc: Global,
     turns: u64,
     plan: &Plan,
     out: &mut W,
-    notes: &mut Out<'_, N>,
+    notes: &mut Output<'_, N>,
 ) -> Status
     requires { IsPlan (shown_plan plan.now) }
     ensures ends { RunEnds (shown_plan plan.now) turns result
@@ -114,14 +114,14 @@ fn run_plan<H: Threads + Wait + Sync, W: Write, N: Write>(
     }
 }
 
-/// Reads a text as a script, and runs its workers.
+/// Parses a script, and runs its workers.
 fn run_text<H: Threads + Wait + Sync, W: Write, N: Write>(
     rt: &H,
     alloc: Global,
     turns: u64,
     text: &[u8],
     out: &mut W,
-    notes: &mut Out<'_, N>,
+    notes: &mut Output<'_, N>,
 ) -> Status
     ensures ends { TextRuns text.now turns result
         (record { out = W.contents out.old; notes = notes.old })
@@ -141,12 +141,12 @@ fn run_text<H: Threads + Wait + Sync, W: Write, N: Write>(
     }
 }
 
-/// Reads a script, runs its workers, each on a thread of its own and for at most so many turns, and
-/// writes the trace of what they did; then notes say how each worker's program has ended. The
-/// schedule of the script is checked, and not used.
+/// Reads a script, runs its workers, each on a thread of its own and for at most this many turns,
+/// and writes their trace. Then the notes say how each worker's program has ended. The schedule of
+/// the script is checked, but not used.
 ///
 /// Nothing is written to `out` before all workers have ended.
-// (Put into its caller, it would have that hold its half a megabyte of tables under each other task too.)
+// (If it were inlined, its half a megabyte of tables would be on the stack for every task.)
 #[inline(never)]
 pub fn run<H: Threads + Wait + Sync, R: Read, W: Write, N: Write>(
     rt: &H,
@@ -154,7 +154,7 @@ pub fn run<H: Threads + Wait + Sync, R: Read, W: Write, N: Write>(
     turns: u64,
     reader: &mut R,
     out: &mut W,
-    notes: &mut Out<'_, N>,
+    notes: &mut Output<'_, N>,
 ) -> Status
     ensures ends { IfSome (R.remaining reader.old) (λ bytes. Runs turns bytes (R.remaining reader.new) result
         (record { out = W.contents out.old; notes = notes.old })

@@ -1,5 +1,5 @@
-//! `sim`: a script in; the trace of its schedule out, and in the notes how each worker's program has
-//! ended.
+//! The command `sim`: reads a script, plays its schedule, and writes the trace and, in the notes,
+//! the outcomes of the workers.
 ghost use Rattle.std.specs.Prelude.{◌≡◌, IfSome};
 ghost use Rattle.ec_text.specs.Puts.{Puts, IsWrittenOut};
 ghost use Rattle.ec_runner.specs.Reported.{IsReport};
@@ -11,18 +11,18 @@ use crate::outcomes::{note_ended, note_kind};
 use crate::writing::write_run;
 use ec_runner::{Report, SimFault, simulate};
 use ec_script::{Plan, SCRIPT_MAX, ScriptFault, parse};
-use ec_text::{Input, Out, read_up_to};
+use ec_text::{Input, Output, read_up_to};
 use ec_trace::Heading;
 use evc_engine::Status;
 use std::alloc::Global;
 use std::io::{Read, Write};
 
-/// Writes the trace of a report, and notes how the workers have ended.
+/// Writes the trace of a report and the note on the outcomes, and returns the status.
 fn write_report<W: Write, N: Write>(
     plan: &Plan,
     report: &Report,
     out: &mut W,
-    notes: &mut Out<'_, N>,
+    notes: &mut Output<'_, N>,
 ) -> Status
     requires plan { IsPlan (shown_plan plan.now) }
     requires report { IsReport plan.now.heading.setup plan.now.programs.items plan.now.schedule.items report.now }
@@ -31,8 +31,8 @@ fn write_report<W: Write, N: Write>(
         (record { out = W.contents out.new; notes = notes.new }) }
     ensures written { IsWrittenOut notes.new }
 {
-    plan.heading.known();
-    report.run.known();
+    plan.heading.invariant();
+    report.run.invariant();
     let outcomes = report.outcomes.as_slice();
     if write_run(&plan.heading, &report.run, outcomes, out, notes) {
         Status::Done
@@ -41,8 +41,8 @@ fn write_report<W: Write, N: Write>(
     }
 }
 
-/// Notes why a plan's schedule was not played.
-fn note_fault<N: Write>(heading: &Heading, fault: SimFault, notes: &mut Out<'_, N>) -> Status
+/// Writes the note why a plan's schedule was not played, and returns the status.
+fn note_fault<N: Write>(heading: &Heading, fault: SimFault, notes: &mut Output<'_, N>) -> Status
     ensures status { result ≡ fault_status fault }
     ensures note { Puts notes.old notes.new (sim_fault_note heading.now fault) }
     ensures written { IsWrittenOut notes.new }
@@ -59,12 +59,12 @@ fn note_fault<N: Write>(heading: &Heading, fault: SimFault, notes: &mut Out<'_, 
     }
 }
 
-/// Plays a plan's schedule, and writes what its workers did.
+/// Plays a plan's schedule, and writes the trace and the outcomes.
 fn sim_plan<W: Write, N: Write>(
     alloc: Global,
     plan: &Plan,
     out: &mut W,
-    notes: &mut Out<'_, N>,
+    notes: &mut Output<'_, N>,
 ) -> Status
     requires { IsPlan (shown_plan plan.now) }
     ensures ends { PlanEnds (shown_plan plan.now) result
@@ -78,12 +78,12 @@ fn sim_plan<W: Write, N: Write>(
     }
 }
 
-/// Reads a text as a script, and plays its schedule.
+/// Parses a script, and plays its schedule.
 fn sim_text<W: Write, N: Write>(
     alloc: Global,
     text: &[u8],
     out: &mut W,
-    notes: &mut Out<'_, N>,
+    notes: &mut Output<'_, N>,
 ) -> Status
     ensures ends { TextEnds text.now result
         (record { out = W.contents out.old; notes = notes.old })
@@ -103,17 +103,17 @@ fn sim_text<W: Write, N: Write>(
     }
 }
 
-/// Reads a script, and writes the trace of what its workers do by its schedule; then notes say how
-/// each worker's program has ended. If the script or its schedule is refused, a note says why.
+/// Reads a script, and writes the trace of its workers by its schedule. Then the notes say how each
+/// worker's program has ended. If the script or its schedule is rejected, a note says why.
 ///
 /// Nothing is written to `out` before the schedule was played to its end.
-// (Put into its caller, it would have that hold its half a megabyte of tables under each other task too.)
+// (If it were inlined, its half a megabyte of tables would be on the stack for every task.)
 #[inline(never)]
 pub fn sim<R: Read, W: Write, N: Write>(
     alloc: Global,
     reader: &mut R,
     out: &mut W,
-    notes: &mut Out<'_, N>,
+    notes: &mut Output<'_, N>,
 ) -> Status
     ensures ends { IfSome (R.remaining reader.old) (λ bytes. Sims bytes (R.remaining reader.new) result
         (record { out = W.contents out.old; notes = notes.old })

@@ -1,30 +1,31 @@
-//! What a task of the command line does.
+//! The tasks of the command line.
 ghost use Rattle.std.specs.Prelude.{◌≡◌, IfErr, IfOk, IfSome, ℕ};
 ghost use Rattle.evc_engine.specs.Checks.{Checks};
-ghost use Rattle.evc_task.specs.declared.choice.Task.TheVariants.{Run};
+ghost use Rattle.evc_cli.specs.declared.choice.Task.TheVariants.{Run};
 ghost use Rattle.evc_scripts.specs.Tasks.{Does};
 ghost use Rattle.ec_text.specs.Puts.{IsWrittenOut};
 
 use crate::running::run;
 use crate::simulating::sim;
-use ec_text::Out;
+use ec_text::Output;
+use evc_cli::Task;
 use evc_engine::{Status, audit, check, upgrade};
-use evc_task::Task;
 use std::alloc::Global;
 use std::io::{Read, Write};
 use std::sync::Wait;
 use std::thread::Threads;
 
-/// Does what the task says, if that takes no threads: the input from `reader`, the text to `out`,
-/// the notes to `notes`. By its type it never waits.
+/// Does a task that needs no threads: it reads the input from `reader`, and writes the text to
+/// `out` and the notes to `notes`. By its type it never waits.
 ///
-/// `Err` tells the turns of `Task::Run`, which alone takes threads; then nothing was read or written.
+/// Returns `Err` with the turns of a `Task::Run`, the only task that needs threads; then nothing
+/// was read or written.
 pub fn engine_without_threads<R: Read, W: Write, N: Write>(
     alloc: Global,
     task: Task,
     reader: &mut R,
     out: &mut W,
-    notes: &mut Out<'_, N>,
+    notes: &mut Output<'_, N>,
 ) -> Result<Status, u64>
     ensures ends { IfOk result (λ status. IfSome (R.remaining reader.old) (λ bytes. Does task bytes (R.remaining reader.new) status
         (record { out = W.contents out.old; notes = notes.old })
@@ -43,17 +44,18 @@ pub fn engine_without_threads<R: Read, W: Write, N: Write>(
     }
 }
 
-/// Does what the task says: the input from `reader`, the text to `out`, the notes to `notes`.
+/// Does a task: it reads the input from `reader`, and writes the text to `out` and the notes to
+/// `notes`.
 ///
-/// By its type it may wait for every task, since one of them is `run`; `engine_without_threads`, by
-/// which it does the others, never does.
+/// By its type it may wait, since one of the tasks is `run`. `engine_without_threads`, which does
+/// the others, never waits.
 pub fn engine<H: Threads + Wait + Sync, R: Read, W: Write, N: Write>(
     rt: &H,
     alloc: Global,
     task: Task,
     reader: &mut R,
     out: &mut W,
-    notes: &mut Out<'_, N>,
+    notes: &mut Output<'_, N>,
 ) -> Status
     ensures ends { IfSome (R.remaining reader.old) (λ bytes. Does task bytes (R.remaining reader.new) result
         (record { out = W.contents out.old; notes = notes.old })

@@ -1,4 +1,4 @@
-//! The texts of errors that no row shows.
+//! The texts of errors that no golden test shows.
 use ec_core::{AuditFault, Refusal, StepFault};
 use ec_count::WorkerId;
 use ec_order::OrderFault;
@@ -9,7 +9,7 @@ use std::alloc::Global;
 use std::fmt::Display;
 use std::test::Fail;
 
-/// Compares the text of an error.
+/// Fails if an error has another text.
 fn says(alloc: Global, error: &impl Display, wanted: &str) -> Result<(), Fail> {
     let text = format!(in alloc; "{error}")?;
     if text.as_str() == wanted {

@@ -1,4 +1,4 @@
-//! Whole examples of the kernel as a library: those that the README and the pages of the crates show.
+//! Complete examples of the kernel as a library, among them those that pages show.
 use ec_core::{Act, Refusal, Reply, Run, World};
 use ec_count::{Limit, Setup, SetupFault};
 use ec_numbers::NumberList;
@@ -14,7 +14,7 @@ fn hundred() -> Result<Limit, Fail> {
     }
 }
 
-/// Fails if an example comes to something else.
+/// Fails if an example gives another result.
 fn is_so(is_right: bool) -> Result<(), Fail> {
     if is_right {
         Ok(())
@@ -24,7 +24,7 @@ fn is_so(is_right: bool) -> Result<(), Fail> {
 }
 
 /// Returns whether a watcher may observe what a press signals, and a list that names a worker twice
-/// is refused.
+/// is rejected.
 fn repeated_signaller_is_refused(limit: Limit) -> Result<bool, Fail> {
     let mut setup = Setup::new(limit);
     let press = setup.add_worker()?;
@@ -40,16 +40,16 @@ fn a_setup_is_declared(_rt: HostRuntime) -> Result<(), Fail> {
     is_so(repeated_signaller_is_refused(hundred()?)?)
 }
 
-/// Returns whether a press that may not read is refused, and the total stays what it was.
+/// Returns whether a read by a press without that right is refused, and the total stays the same.
 fn refusal_keeps_the_total(limit: Limit) -> Result<bool, Fail> {
     let mut setup = Setup::new(limit);
     let press = setup.add_worker()?;
     let sheets = setup.add_event(&[press], &[])?;
     let mut world = World::open(setup);
-    let told = world.step(press, Act::Advance(sheets))?;
+    let returned = world.step(press, Act::Advance(sheets))?;
     let refused = world.step(press, Act::Read(sheets));
     let total = world.total(sheets);
-    Ok(told == Reply::Done && refused == Err(Refusal::NoRight) && total == Some(1))
+    Ok(returned == Reply::Done && refused == Err(Refusal::NoRight) && total == Some(1))
 }
 
 #[test]
@@ -68,10 +68,10 @@ fn watcher_is_told_one(alloc: Global, limit: Limit) -> Result<bool, Fail> {
     run.step(watcher, Act::Read(sheets))?;
     run.step(press1, Act::Advance(sheets))?;
     run.step(press2, Act::Advance(sheets))?;
-    let told = run.step(watcher, Act::Go)?;
+    let returned = run.step(watcher, Act::Go)?;
     let placed = order(alloc, &run)?;
     let verdict = verify(alloc, &run, placed.as_slice())?;
-    Ok(told == Reply::Number(1) && placed.len() == 3 && verdict == Verdict::Good)
+    Ok(returned == Reply::Number(1) && placed.len() == 3 && verdict == Verdict::Good)
 }
 
 #[test]

@@ -1,20 +1,20 @@
-//! What small types tell of themselves: sorts of declarations, versions and faults.
-use ec_trace::{HeadFault, Sort, Version};
+//! Properties of small types: sorts of declarations, versions and faults.
+use ec_trace::{DeclKind, HeadFault, Version};
 
-/// A sort by its word: whether it has a name, and whether its number may be 0.
-type Form = (&'static str, Sort, bool, bool);
+/// A sort and its word: whether it has a name, and whether its number may be 0.
+type Form = (&'static str, DeclKind, bool, bool);
 
 static FORMS: [Form; 7] = [
-    ("eventcount", Sort::EventCount, true, true),
-    ("sequencer", Sort::Sequencer, true, true),
-    ("cells", Sort::Cells, true, false),
-    ("buffer", Sort::Buffer, true, false),
-    ("database", Sort::Database, true, false),
-    ("semaphore", Sort::Semaphore, true, true),
-    ("both", Sort::Both, false, true),
+    ("eventcount", DeclKind::EventCount, true, true),
+    ("sequencer", DeclKind::Sequencer, true, true),
+    ("cells", DeclKind::Cells, true, false),
+    ("buffer", DeclKind::Buffer, true, false),
+    ("database", DeclKind::Database, true, false),
+    ("semaphore", DeclKind::Semaphore, true, true),
+    ("both", DeclKind::Both, false, true),
 ];
 
-/// Returns whether a sort has its form. It is called by names, or by its own word.
+/// Returns whether a sort has this form. A declaration is called by a name, or by its own word.
 fn has_form(form: &Form) -> bool {
     let (word, sort, named, from_zero) = *form;
     sort.word() == word.as_bytes()
@@ -30,10 +30,12 @@ fn forms_of_the_sorts(rt: HostRuntime) {
     for form in &FORMS {
         assert!(rt; has_form(form), "at {}", form.0);
     }
-    assert!(rt; Sort::Semaphore.is_in_range(1_000_000));
-    assert!(rt; Sort::Buffer.is_in_range(256) && !Sort::Database.is_in_range(257));
-    assert!(rt; Sort::Buffer.needs_second() && !Sort::Semaphore.needs_second());
-    assert!(rt; Sort::Database.needs_disjoint_lists() && !Sort::Cells.needs_disjoint_lists());
+    assert!(rt; DeclKind::Semaphore.is_in_range(1_000_000));
+    assert!(rt; DeclKind::Buffer.is_in_range(256) && !DeclKind::Database.is_in_range(257));
+    assert!(rt; DeclKind::Buffer.needs_second() && !DeclKind::Semaphore.needs_second());
+    assert!(rt;
+        DeclKind::Database.needs_disjoint_lists() && !DeclKind::Cells.needs_disjoint_lists()
+    );
 }
 
 /// Returns whether a version has this greatest limit.
@@ -48,8 +50,8 @@ fn has_limits(version: Version, greatest: u64) -> bool {
 
 #[test]
 fn each_version_has_its_limits(rt: HostRuntime) {
-    assert!(rt; has_limits(Version::One, 4_294_967_295) && !Version::One.has_hand());
-    assert!(rt; has_limits(Version::Two, 281_474_976_710_655) && Version::Two.has_hand());
+    assert!(rt; has_limits(Version::One, 4_294_967_295) && !Version::One.has_transfer());
+    assert!(rt; has_limits(Version::Two, 281_474_976_710_655) && Version::Two.has_transfer());
 }
 
 static NUMBERS: [(HeadFault, Option<u64>); 8] = [

@@ -1,4 +1,4 @@
-//! Tests of what no row of tests/rows can say, among them the examples that pages show.
+//! Tests of what no golden test of tests/rows can say, among them the examples that pages show.
 #![tactic(auto)]
 
 #[cfg(test)]

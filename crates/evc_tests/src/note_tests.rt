@@ -1,6 +1,6 @@
-//! The note of a mismatch, which no run is known to come to, and what is put after a failed write.
+//! The note of a mismatch, which no known run has, and what is written after a failed write.
 use ec_count::WorkerId;
-use ec_text::{Out, ShortText};
+use ec_text::{InlineText, Output};
 use ec_trace::read_trace;
 use evc_scripts::note_mismatch;
 use std::alloc::Global;
@@ -48,8 +48,8 @@ impl Write for Fickle {
 /// A trace with two workers and no entry.
 const TWO_WORKERS: &str = "evc-trace 1\nlimit 10\nworkers a b\nrun\nend\n";
 
-/// Notes a mismatch of the second worker, so often.
-fn note<N: Write>(alloc: Global, notes: &mut Out<'_, N>, times: usize) -> Result<(), Fail> {
+/// Notes a mismatch of the second worker, so many times.
+fn note<N: Write>(alloc: Global, notes: &mut Output<'_, N>, times: usize) -> Result<(), Fail> {
     let Ok(traced) = read_trace(alloc, &mut TWO_WORKERS.as_bytes()) else {
         return Err(Fail::new("no trace"));
     };
@@ -61,26 +61,26 @@ fn note<N: Write>(alloc: Global, notes: &mut Out<'_, N>, times: usize) -> Result
 
 #[test]
 fn a_mismatch_is_noted(rt: HostRuntime) -> Result<(), Fail> {
-    let mut told = Vec::new(rt.alloc());
-    note(rt.alloc(), &mut Out::new(&mut told), 1)?;
-    assert!(rt; told.as_slice() == b"mismatch b\n".as_slice());
+    let mut returned = Vec::new(rt.alloc());
+    note(rt.alloc(), &mut Output::new(&mut returned), 1)?;
+    assert!(rt; returned.as_slice() == b"mismatch b\n".as_slice());
     Ok(())
 }
 
 #[test]
 fn a_mismatch_is_noted_up_to_a_failed_write(rt: HostRuntime) -> Result<(), Fail> {
-    let mut told = Fickle::new(rt.alloc(), 1, 4);
-    note(rt.alloc(), &mut Out::new(&mut told), 2)?;
-    assert!(rt; told.bytes.as_slice() == b"mism".as_slice());
+    let mut returned = Fickle::new(rt.alloc(), 1, 4);
+    note(rt.alloc(), &mut Output::new(&mut returned), 2)?;
+    assert!(rt; returned.bytes.as_slice() == b"mism".as_slice());
     Ok(())
 }
 
 #[test]
 fn nothing_is_written_after_a_failure(rt: HostRuntime) -> Result<(), Fail> {
-    let mut text = ShortText::new();
+    let mut text = InlineText::new();
     assert!(rt; text.take_in(b"abcdefghijklmnopqrstuvwxyz012345"));
     let mut writer = Fickle::new(rt.alloc(), 8192, 0);
-    let mut out = Out::new(&mut writer);
+    let mut out = Output::new(&mut writer);
     for _ in 0..1000 {
         out.put_short(&text);
         out.put(b"\n");

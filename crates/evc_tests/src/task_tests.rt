@@ -1,5 +1,6 @@
-//! The command line: what its words ask for, if they are more than a system hands on. tests/rows has plainer ones.
-use evc_task::{Task, status_of, task};
+//! The command line: what its words ask for, if they are longer or more than a system passes to a
+//! program. tests/rows has plainer ones.
+use evc_cli::{Task, status_of, task};
 use std::alloc::{AllocError, Global};
 use std::test::Fail;
 
@@ -21,7 +22,7 @@ fn answer(alloc: Global, texts: &[&str]) -> Result<(Option<Task>, u8), AllocErro
     })
 }
 
-/// Returns a number behind so many zeros.
+/// Returns a number with so many leading zeros.
 fn seven_behind(alloc: Global, zeros: usize) -> Result<String, AllocError> {
     let mut text = String::new(alloc);
     for _ in 0..zeros {
@@ -39,7 +40,7 @@ fn a_word_of_more_than_two_million_bytes(rt: HostRuntime) -> Result<(), Fail> {
     Ok(())
 }
 
-/// Returns more words than two million, behind the one that names a command.
+/// Returns more than two million words, after the one that names a command.
 fn many_words(alloc: Global) -> Result<Vec<&'static str>, AllocError> {
     let mut texts = vec![in alloc; "evc", "check"]?;
     for _ in 0..2_100_000 {

@@ -1,4 +1,4 @@
-//! Small types by themselves: lists of members and of entries, and refusals.
+//! Tests of small types: lists of members and of entries, and refusals.
 use ec_core::{Act, Entry, Refusal, Reply, Segments};
 use ec_count::{EventId, Members, WorkerId};
 use std::test::Fail;
@@ -18,7 +18,7 @@ fn another_worker_in_a_place(rt: HostRuntime) {
     assert!(rt; members.contains(second) && !members.contains(first));
 }
 
-/// Returns the entry that a list has at a place.
+/// Returns the entry that a list has at an index.
 fn entry_at(place: usize) -> Entry {
     Entry {
         worker: WorkerId::new(0).unwrap(),
@@ -27,7 +27,7 @@ fn entry_at(place: usize) -> Entry {
     }
 }
 
-/// Returns whether a list has so many entries, each in its place, and one after another.
+/// Returns whether a list has so many entries, each at its index, and in sequence.
 fn has_entries(list: &Segments, many: usize) -> bool {
     let mut entries = list.entries();
     for place in 0..many {

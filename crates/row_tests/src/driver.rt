@@ -1,37 +1,37 @@
-//! How lines are answered.
+//! Answers lines, and checks that a failed allocation has changed nothing.
 use crate::fault::Fault;
-use crate::output::Output;
+use crate::output::TestOutput;
 use std::alloc::Global;
 
-/// What lines are about.
+/// What the lines are about.
 pub trait Driver {
-    /// Makes the call of a line, and writes what it returns. After `Fault::Memory` all is as it
-    /// was before, and nothing was written.
-    fn answer(&mut self, alloc: Global, line: &str, out: &mut Output) -> Result<(), Fault>;
+    /// Makes the call of a line, and writes what it returns. `Fault::Memory` leaves everything
+    /// unchanged, and writes nothing.
+    fn answer(&mut self, alloc: Global, line: &str, out: &mut TestOutput) -> Result<(), Fault>;
 
-    /// Writes all that can be asked, which takes no memory.
-    fn write_all(&self, out: &mut Output) -> Result<(), Fault>;
+    /// Writes all that can be asked, without an allocation.
+    fn write_all(&self, out: &mut TestOutput) -> Result<(), Fault>;
 }
 
-/// Sums up all that can be asked, or nothing if it is not watched.
+/// Returns a checksum of all that can be asked, or 0 if it is not watched.
 fn sum_of<D: Driver>(driver: &D, watched: bool) -> Result<u64, Fault> {
-    let mut out = Output::Sum(0);
+    let mut out = TestOutput::Sum(0);
     if watched {
         driver.write_all(&mut out)?;
     }
     match out {
-        Output::Sum(sum) => Ok(sum),
-        Output::Text(_) => Ok(0),
+        TestOutput::Sum(sum) => Ok(sum),
+        TestOutput::Text(_) => Ok(0),
     }
 }
 
-/// Answers a line, and once more if an allocation failed.
+/// Answers a line, and repeats the call if an allocation failed.
 fn answer_line<D: Driver>(
     alloc: Global,
     driver: &mut D,
     watched: bool,
     line: &str,
-    out: &mut Output,
+    out: &mut TestOutput,
 ) -> Result<(), Fault> {
     let before = sum_of(driver, watched)?;
     match driver.answer(alloc, line, out) {
@@ -53,7 +53,7 @@ pub fn answer_lines<D: Driver>(
     driver: &mut D,
     watched: bool,
     text: &str,
-    out: &mut Output,
+    out: &mut TestOutput,
 ) -> Result<(), Fault> {
     for line in text.lines() {
         answer_line(alloc, driver, watched, line, out)?;

@@ -8,7 +8,7 @@ use std::io::ErrorKind;
 /// Why a line has no answer.
 #[derive(Clone, Copy, Debug, PartialEq, Eq)]
 pub enum Fault {
-    /// It is no line of the driver's.
+    /// The driver has no such line.
     Line,
     /// A read or a write failed.
     Write,

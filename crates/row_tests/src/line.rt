@@ -1,10 +1,10 @@
-//! Lines: their words, and where they are answered.
+//! The lines of a test: their words, and where their answers are written.
 use crate::fault::Fault;
-use crate::output::Output;
+use crate::output::TestOutput;
 use std::fmt::Display;
 use std::str::SplitWhitespace;
 
-/// The words of a line that are left.
+/// The remaining words of a line.
 pub type Words<'a> = SplitWhitespace<'a>;
 
 /// Takes the next word, or the empty one if there is none.
@@ -17,19 +17,18 @@ pub fn number(words: &mut Words<'_>) -> Result<u64, Fault> {
     word(words).parse().ok().ok_or(Fault::Line)
 }
 
-/// A line: what it is about, its first word, the words behind it that are left, and where its answer
-/// is written.
+/// A line: what it is about, its first word, the remaining words, and where its answer is written.
 #[derive(Drop)]
 pub struct Line<'a, C> {
     pub about: C,
     pub verb: &'a str,
     pub words: Words<'a>,
-    pub out: &'a mut Output,
+    pub out: &'a mut TestOutput,
 }
 
 impl<'a, C: Drop> Line<'a, C> {
-    /// Takes the first word of a line.
-    pub fn new(about: C, line: &'a str, out: &'a mut Output) -> Self {
+    /// Splits a line into its first word and the others.
+    pub fn new(about: C, line: &'a str, out: &'a mut TestOutput) -> Self {
         let mut words = line.split_whitespace();
         let verb = word(&mut words);
         Line {
@@ -57,12 +56,12 @@ impl<'a, C: Drop> Line<'a, C> {
 }
 
 /// Writes a line.
-pub fn tell<T: Display + Drop>(text: T, out: &mut Output) -> Result<(), Fault> {
+pub fn tell<T: Display + Drop>(text: T, out: &mut TestOutput) -> Result<(), Fault> {
     writeln!(out, "{text}")
 }
 
-/// Writes a line of what was found, or `-`.
-pub fn tell_if<T: Display + Drop>(found: Option<T>, out: &mut Output) -> Result<(), Fault> {
+/// Writes a line with what was found, or `-`.
+pub fn tell_if<T: Display + Drop>(found: Option<T>, out: &mut TestOutput) -> Result<(), Fault> {
     match found {
         Some(found) => tell(found, out),
         None => tell("-", out),

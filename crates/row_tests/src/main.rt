@@ -1,9 +1,9 @@
 //! Makes calls of the libraries, one for each line of standard input, and writes what they return,
-//! for rows of `tests/rows`. Nothing is proved of it but that it is safe and ends.
+//! for golden tests of `tests/rows`. Only its safety and termination are proved.
 //!
 //! The first word on the command line says what the lines are about: `kernel`, `setup` or `workers`.
-//! With a second word it is watched: if an allocation failed, it says whether all is as it was
-//! before the call.
+//! With a second word the program also says, if an allocation fails, whether the call has changed
+//! anything.
 #![tactic(auto)]
 
 mod driver;
@@ -18,7 +18,7 @@ mod writing;
 use driver::answer_lines;
 use fault::Fault;
 use kernel::Kernel;
-use output::Output;
+use output::TestOutput;
 use setup::Table;
 use std::alloc::{AllocError, Global};
 use std::io::{BufWriter, Read, Write};
@@ -28,13 +28,13 @@ use std::thread::Threads;
 use std::{env, io};
 use workers::answer_script;
 
-/// Answers the lines of a text about what a word names.
+/// Answers the lines of a text about what the first word names.
 fn answer<R: Threads + Wait + Sync>(
     rt: &R,
     alloc: Global,
     words: &[String],
     text: &str,
-    out: &mut Output,
+    out: &mut TestOutput,
 ) -> Result<(), Fault> {
     let about = words.get(1).map_or("", |word| word.as_str());
     let watched = words.len() > 2;
@@ -61,7 +61,7 @@ fn main(rt: HostRuntime) -> io::Result<ExitCode> {
     let words: Result<Vec<String>, AllocError> = env::args(&rt)?.collect(alloc);
     let mut text = String::new(alloc);
     rt.stdin().read_to_string(&mut text)?;
-    let mut out = Output::Text(BufWriter::new(alloc, rt.stdout())?);
+    let mut out = TestOutput::Text(BufWriter::new(alloc, rt.stdout())?);
     let answered = answer(&rt, alloc, words?.as_slice(), text.as_str(), &mut out);
     out.flush()?;
     Ok(status_of(answered))

@@ -1,21 +1,21 @@
-//! Where answers are written.
+//! Where answers are written: to standard output, or into a checksum.
 use crate::fault::Fault;
 use std::fmt::Display;
 use std::io;
 use std::io::{BufWriter, Stdout, Write};
 
-/// Standard output, or a sum of the bytes, in their order.
+/// Standard output, or a checksum of the bytes, which depends on their order.
 #[derive(Drop)]
-pub enum Output {
+pub enum TestOutput {
     Text(BufWriter<Stdout>),
     Sum(u64),
 }
 
-impl Write for Output {
+impl Write for TestOutput {
     fn write(&mut self, buf: &[u8]) -> io::Result<usize> {
         match self {
-            Output::Text(out) => out.write(buf),
-            Output::Sum(sum) => {
+            TestOutput::Text(out) => out.write(buf),
+            TestOutput::Sum(sum) => {
                 for byte in buf {
                     let mixed = *sum ^ *byte as u64;
                     *sum = mixed.wrapping_mul(1_099_511_628_211).rotate_left(7);
@@ -27,14 +27,14 @@ impl Write for Output {
 
     fn flush(&mut self) -> io::Result<()> {
         match self {
-            Output::Text(out) => out.flush(),
-            Output::Sum(_) => Ok(()),
+            TestOutput::Text(out) => out.flush(),
+            TestOutput::Sum(_) => Ok(()),
         }
     }
 }
 
-impl Output {
-    /// Writes a text. The macros of formatted texts call it.
+impl TestOutput {
+    /// Writes a text. The macros `write!` and `writeln!` call it.
     pub fn write_fmt<T: Display + Drop>(&mut self, text: T) -> Result<(), Fault> {
         Ok(Write::write_fmt(self, text)?)
     }

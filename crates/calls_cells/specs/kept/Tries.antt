@@ -1,4 +1,4 @@
--- What is found of a beginning.
+-- What is found of a prefix of the events.
 use Rattle.std.specs.Prelude.{ℕ, List, reverse}
 use Rattle.calls_core.specs.declared.history.Kind.TheVariants.{Cell}
 use Rattle.calls_core.specs.declared.history.Event.{Event}

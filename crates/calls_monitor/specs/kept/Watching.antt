@@ -1,4 +1,4 @@
--- What is kept of the events so far, and what the parts of a monitor do.
+-- What the state of a monitor represents, and what its parts do.
 use Rattle.std.specs.Prelude.{◌≡◌, ℕ, ◌+◌, ◌-◌, ◌^◌, ◌<◌, ◌≤◌, List, ◌∷◌, length, map, set}
 use Rattle.std.specs.Prelude.{Some, slice_get, Result, Ok, Err}
 use Rattle.calls_core.specs.declared.history.TheConstants.{WORKERS}
@@ -10,7 +10,7 @@ use Rattle.calls_core.specs.declared.history.Action.TheVariants.{Invoke, Respond
 use Rattle.calls_core.specs.declared.history.Event.{Event}
 use Rattle.calls_core.specs.declared.history.PendingCall.{PendingCall}
 use Rattle.calls_core.specs.Histories.{pending_calls, completed_calls, IsHistoryOf, part}
-use Rattle.calls_counts.specs.Monitors.{IsTaken}
+use Rattle.calls_counts.specs.Monitors.{IsTaken, HasRoom}
 use Rattle.calls_tickets.specs.Monitors.{IsAccepted as IsTicketed}
 use Rattle.calls_semaphores.specs.Monitors.{Represents, UpTo}
 use Rattle.calls_monitor.specs.declared.object.Watch.{Watch}
@@ -24,25 +24,20 @@ use Rattle.calls_monitor.specs.Refusals.{Explains}
 
 -- ONE OBJECT
 
--- how many calls were begun
-abbrev pub begun : List Event → ℕ
-begun past = length (completed_calls past) + length (pending_calls past)
+-- how many calls were invoked
+abbrev pub call_count : List Event → ℕ
+call_count past = length (completed_calls past) + length (pending_calls past)
 
--- what is kept of an object of this kind represents the events of its calls, which have a
+-- the monitor of an object of this kind represents the events of its calls, which have a
 -- linearization
 abbrev pub WatchesOf : Kind → List Event → Watch → Type 0
 WatchesOf (Eventcount n) past (Count m) = IsTaken n past m
 WatchesOf Sequencer past (Ticket m) = IsTicketed past m
 WatchesOf (Semaphores units) past (Units m) =
-    Represents units past m × UpTo (begun past) m.bank.added.items
+    Represents units past m × UpTo (call_count past) m.bank.added.items
 WatchesOf Cell past Nothing = Unit {0}
 WatchesOf (Database n) past Nothing = Unit {0}
 WatchesOf _ _ _ = ⊥
-
--- an invocation needs room for a pending call
-abbrev pub HasRoom : Action → ℕ → Type 0
-HasRoom (Invoke k op) n = n < WORKERS
-HasRoom (Respond r) n = Unit {0}
 
 abbrev pub RoomFor : Watch → Action → Type 0
 RoomFor (Count m) a =
@@ -55,24 +50,25 @@ abbrev pub VerdictOf : Kind → List Event → Event → Watch → Result Unit R
 VerdictOf kind past x new (Ok u) = WatchesOf kind (x ∷ past) new
 VerdictOf kind past x new (Err r) = Explains kind past x r
 
--- of all calls of the object that the old watch represents, if they are not too many to count
+-- the result of event x, for all histories of the object that the old monitor represents, if their
+-- calls are not too many to count
 abbrev pub JudgesOf : Watch → Watch → Event → Result Unit Refusal → Type 0
 JudgesOf old new x result =
     (kind : Kind) (past : List Event) → IsHistoryOf kind (x ∷ past) → WatchesOf kind past old
-    → begun past ≤ 2 ^ 64 - 2 → VerdictOf kind past x new result
+    → call_count past ≤ 2 ^ 64 - 2 → VerdictOf kind past x new result
 
 -- ALL OBJECTS
 
 abbrev pub entry : PendingCall → Pending
 entry o = record { worker = o.worker; object = o.object }
 
--- the monitor represents a past
+-- the monitor represents the history so far
 pub record Watches (kinds : List Kind) (past : List Event) (m : Monitor) : Type 0 where
   pub pending : m.pending.items ≡ map entry (pending_calls past)
   pub each : (k : ℕ) (kind : Kind) → slice_get kinds k ≡ Some kind
       → (w : Watch) × (slice_get m.objects.items k ≡ Some w) × WatchesOf kind (part k past) w
 
--- an event was handed to the watch w of object j
+-- an event was passed to the monitor w of object j
 abbrev pub IsHandedTo : Watch → List Watch → List Watch → ℕ → Event → Result Unit Rejection
     → Type 0
 IsHandedTo w old new j x (Ok u) = (v : Watch) × (new ≡ set old j v) × JudgesOf w v x (Ok u)
@@ -80,6 +76,6 @@ IsHandedTo w old new j x (Err (Refused r)) =
     (r.object ≡ j) × ((v : Watch) × JudgesOf w v x (Err r.refusal))
 IsHandedTo w old new j x (Err Full) = RoomFor w x.action → ⊥
 
-abbrev pub IsHanded : List Watch → List Watch → ℕ → Event → Result Unit Rejection → Type 0
-IsHanded old new j x result =
+abbrev pub IsPassed : List Watch → List Watch → ℕ → Event → Result Unit Rejection → Type 0
+IsPassed old new j x result =
     (w : Watch) → slice_get old j ≡ Some w → IsHandedTo w old new j x result

@@ -1,4 +1,4 @@
--- A call that is being made, step by step. Pasts have the newest entry first.
+-- A call that is being made, step by step. Histories have the newest entry first.
 use Rattle.std.specs.Prelude.{◌≡◌, ◌≢◌, ℕ, ◌+◌, ◌-◌, ◌<◌, ◌≤◌, List, [], ◌∷◌, ◌++◌, length}
 use Rattle.std.specs.Prelude.{Some, None}
 use Rattle.ec_count.specs.Tables.{Tables}
@@ -22,7 +22,7 @@ pub record AreMadeIn (t : Tables) (cs : List Call) (past : List Entry) : Type 0 
   pub in_a_row : AreInARow 0 (finished_calls t past) (length past)
   pub free : IsFree past
 
--- after a past, the worker's call that the act began goes on
+-- the call of worker w that the act began after the history past is pending
 pub record IsGoing (t : Tables) (past : List Entry) (w : ℕ) (act : Act) (late : List Entry)
     : Type 0 where
   pub moments : List (List Entry)
@@ -33,7 +33,7 @@ pub record IsGoing (t : Tables) (past : List Entry) (w : ℕ) (act : Act) (late 
   pub finished : finished_calls t late ≡ finished_calls t past
   pub longer : length past < length late
 
--- it has ended, and returned this
+-- the call is completed, and returned this
 pub record HasGone (t : Tables) (past : List Entry) (w : ℕ) (act : Act) (late : List Entry)
     (reply : Reply) : Type 0 where
   pub call : FinishedCall

@@ -1,12 +1,12 @@
--- The words of a history, as the code holds them.
+-- What the text of calls depends on, as the code represents it.
 use Rattle.std.specs.Prelude.{ℕ, List}
-use Rattle.ec_heading.specs.Headed.{Headed}
+use Rattle.ec_heading.specs.HeadingModel.{HeadingModel}
 use Rattle.calls_core.specs.declared.history.Op.{Op}
 use Rattle.calls_core.specs.declared.history.Op.TheVariants as ops
 
 -- what is declared, and the lists of numbers
-pub record Spoken : Type 0 where
-  pub heading : Headed
+pub record SpeakerModel : Type 0 where
+  pub heading : HeadingModel
   pub lists : List (List ℕ)
 
 -- a put or a get

@@ -1,13 +1,13 @@
--- What is counted over an order.
+-- The sums over an order.
 use Rattle.std.specs.Prelude.{◌≡◌, ℕ, ◌+◌, ◌==◌, ◌&&◌, ◌||◌, List, slice_index_or, if◌then◌else◌}
 use Rattle.calls_core.specs.declared.history.Call.{Call}
 use Rattle.calls_core.specs.declared.history.Placed.{Placed}
 use Rattle.calls_semaphores.specs.Banks.{takes, is_done}
 use Rattle.calls_report.specs.declared.sums.Sums.{Sums}
-use Rattle.calls_report.specs.Totals.{effects, value_after, added, taken, pairs}
+use Rattle.calls_report.specs.Totals.{effects, value_after, added_units, taken_units, pairs}
 use Rattle.calls_report.specs.Totals.{is_effect, put_value, adds_to, is_pair}
 
--- these are the numbers of the objects, or of the groups, 0 if none is kept
+-- these are the numbers of the objects, or of the groups, 0 if none is stored
 abbrev pub AreOf : (ℕ → ℕ) → List ℕ → Type 0
 AreOf f numbers = (i : ℕ) → slice_index_or numbers i 0 ≡ f i
 
@@ -20,8 +20,8 @@ IsSetAt i n old new =
 pub record AreSums (order : List Placed) (s : Sums) : Type 0 where
   pub effects_are : AreOf (effects order) s.effects.items
   pub values_are : AreOf (λ k. value_after k 0 order) s.values.items
-  pub added_are : AreOf (added order) s.added.items
-  pub taken_are : AreOf (taken order) s.taken.items
+  pub added_are : AreOf (added_units order) s.added.items
+  pub taken_are : AreOf (taken_units order) s.taken.items
   pub pairs_are : s.pairs ≡ pairs order
 
 -- what a call does to its object was added, and no more

@@ -8,19 +8,19 @@ use Rattle.calls_counts.specs.Faults.{is_advance, least}
 use Rattle.calls_report.specs.Counting.{is_advance_of}
 
 -- a pending advance of object k
-abbrev pub is_open : ℕ → PendingCall → Bool
-is_open k o = (o.object == k) && is_advance o.op
+abbrev pub is_pending_advance : ℕ → PendingCall → Bool
+is_pending_advance k o = (o.object == k) && is_advance o.op
 
 -- one that was invoked after position p
 abbrev pub is_open_after : ℕ → ℕ → PendingCall → Bool
-is_open_after k p o = nat_lt p o.first && is_open k o
+is_open_after k p o = nat_lt p o.first && is_pending_advance k o
 
--- how many advances of object k come after an event, of so many that come from it on
+-- how many of the `left` advances of object k from an event on come after it
 abbrev pub left_after : ℕ → ℕ → Event → ℕ
 left_after k left x = if is_advance_of k x then left - 1 else left
 
--- the greater of n and of what a call shows, if so many advances were invoked after its response,
--- and these are pending at the end
+-- the greater of n and of the count that a call shows, if `left` advances were invoked after its
+-- response, and these calls are pending at the end
 abbrev pub raised_by : ℕ → ℕ → List PendingCall → ℕ → Option Call → ℕ
 raised_by k left pending n None = n
 raised_by k left pending n (Some c) =

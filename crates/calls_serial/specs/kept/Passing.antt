@@ -1,4 +1,4 @@
--- What the functions of the pass do. Only the proofs need this.
+-- What the functions of the pass do. Only the proofs and the private contracts use this.
 use Rattle.std.specs.Prelude.{◌≡◌, ℕ, ◌+◌, ◌-◌, ◌<◌, ◌≤◌, List, [], ◌∷◌, ◌++◌, length}
 use Rattle.std.specs.Prelude.{reverse}
 use Rattle.std.specs.Prelude.{Option, Some, None, MatchOption, slice_get, Bool, IsTrue, ◌↔◌}
@@ -24,8 +24,8 @@ use Rattle.calls_serial.specs.declared.stage.Stop.{Stop}
 use Rattle.calls_serial.specs.declared.stage.Stop.TheVariants.{Fails, Overlaps}
 use Rattle.calls_serial.specs.Faults.{Leaves, Shows}
 use Rattle.calls_serial.specs.Outcomes.{AreBothPending}
-use Rattle.calls_serial.specs.kept.Stages.{Held, helds, Current, current}
-use Rattle.calls_serial.specs.kept.Stages.{Stands}
+use Rattle.calls_serial.specs.kept.Stages.{StageView, helds, Current, current}
+use Rattle.calls_serial.specs.kept.Stages.{AreStages}
 use Rattle.calls_serial.specs.kept.Stages.{links_with, with_get, with_late, with_response}
 
 -- the pending call of a worker is at index i
@@ -39,7 +39,7 @@ abbrev pub first_of : {X : Type 0} → List X → Option X
 first_of [] = None
 first_of (x ∷ xs) = Some x
 
--- how many of n stages have a completed put, or none, if this is the pending one
+-- how many of n stages have a completed put, or the initial value, if this is the pending put
 abbrev pub completed_of : Option PendingCall → ℕ → ℕ
 completed_of None n = n
 completed_of (Some o) n = n - 1
@@ -48,34 +48,34 @@ completed_of (Some o) n = n - 1
 
 abbrev pub AddsGet : List Stage → List Stage → ℕ → Call → Type 0
 AddsGet old new i get =
-    (front : List Held) (h : Held) (back : List Held) → length front ≡ i
-    → helds old ≡ front ++ h ∷ back → helds new ≡ front ++ with_get get h ∷ back
+    (prefix : List StageView) (h : StageView) (back : List StageView) → length prefix ≡ i
+    → helds old ≡ prefix ++ h ∷ back → helds new ≡ prefix ++ with_get get h ∷ back
 
 abbrev pub Responds : List Stage → List Stage → Call → Type 0
 Responds old new call =
-    (front : List Held) (h : Held) → helds old ≡ front ++ h ∷ []
-    → helds new ≡ front ++ with_response call h ∷ []
+    (prefix : List StageView) (h : StageView) → helds old ≡ prefix ++ h ∷ []
+    → helds new ≡ prefix ++ with_response call h ∷ []
 
--- a get is added when there are n links, and no link said before by when the put took effect
-pub record IsLate (old new : Held) (get : Call) (n : ℕ) (first : Bool) : Type 0 where
+-- a get is added when there are n links; it is the first one if the stage had no link
+pub record IsLate (old new : StageView) (get : Call) (n : ℕ) (first : Bool) : Type 0 where
   pub stage : new ≡ with_late get n old
   pub said : IsTrue first ↔ (old.link ≡ None)
 
 abbrev pub AddsLate : List Stage → List Stage → List Link → List Link → Link → Type 0
 AddsLate old new links more link =
-    (front : List Held) (h : Held) → helds old ≡ front ++ h ∷ []
-    → (helds new ≡ front ++ with_late link.get (length links) h ∷ [])
+    (prefix : List StageView) (h : StageView) → helds old ≡ prefix ++ h ∷ []
+    → (helds new ≡ prefix ++ with_late link.get (length links) h ∷ [])
     × (reverse more ≡ links_with h.link link (reverse links))
 
 -- THE PASS
 
 -- stages of completed and pending calls, and links, the latest first
-pub record Holding (end t : ℕ) (done : List Call) (pending : List PendingCall) (hs : List Held)
+pub record Holding (end t : ℕ) (done : List Call) (pending : List PendingCall) (hs : List StageView)
     (links : List Link) : Type 0 where
-  pub front : List Held
+  pub prefix : List StageView
   pub now : Option Current
-  pub all : hs ≡ front ++ current now
-  pub stands : Stands end t done pending front now links
+  pub all : hs ≡ prefix ++ current now
+  pub represents : AreStages end t done pending prefix now links
 
 pub record IsResponse (end t : ℕ) (done : List Call) (pending : List PendingCall) (w at : ℕ)
     (o : PendingCall) : Type 0 where
@@ -85,7 +85,7 @@ pub record IsResponse (end t : ℕ) (done : List Call) (pending : List PendingCa
   pub later : t ≤ at
   pub before : at < end
 
--- a get that was pending is completed: it takes its place, or no put is left for it
+-- a get that was pending is completed: it is added to a stage, or no put is left for it
 abbrev pub EndsGet : Pass → Pass → Call → ℕ → Option Fault → Type 0
 EndsGet old new get x fault =
     (end t : ℕ) (done : List Call) (pending : List PendingCall) (w at : ℕ) (r : Reply)
@@ -98,12 +98,12 @@ EndsGet old new get x fault =
     (reverse new.links.items))
     (λ (f : Fault). Leaves (get ∷ done) (without w pending) f.gets.items None)
 
--- a put or a get, and what it returns
+-- a put or a get, with a reply of its form
 pub record IsFitting (o : PendingCall) (r : Reply) : Type 0 where
   pub takes : Takes (Some Cell) o.op
   pub suits : Suits o.op r
 
--- the same of any call
+-- the same for any call
 abbrev pub EndsCall : Pass → Pass → Call → Option Fault → Type 0
 EndsCall old new call fault =
     (end t : ℕ) (done : List Call) (pending : List PendingCall) (w at : ℕ) (r : Reply)
@@ -116,7 +116,7 @@ EndsCall old new call fault =
     (reverse new.links.items))
     (λ (f : Fault). Leaves (call ∷ done) (without w pending) f.gets.items None)
 
--- a call is invoked: it is pending with the others, or two puts are
+-- a call is invoked: it is pending with the others, or two puts are pending at once
 abbrev pub IsInvoked : ℕ → ℕ → List Call → List PendingCall → Pass → PendingCall → Option Stop
     → Type 0
 IsInvoked end t done pending new call None =
@@ -140,7 +140,7 @@ pub record Holds (end : ℕ) (past : List Event) (pass : Pass) : Type 0 where
   pub holding : Holding end (clock past) (completed_calls past) (pending_calls past)
       (helds pass.stages.items) (reverse pass.links.items)
 
--- after one more event the pass holds; otherwise a fault or two puts that overlap are shown
+-- after one more event the pass represents the history, or it shows a fault or two overlapping puts
 abbrev pub Stops : ℕ → List Event → Pass → Option Stop → Type 0
 Stops end past new None = Holds end past new
 Stops end past new (Some (Fails fault)) = Shows past fault

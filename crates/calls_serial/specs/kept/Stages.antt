@@ -1,4 +1,4 @@
--- What the stages of the pass are. Only the proofs need this.
+-- The invariant of the stages of the pass. Only the proofs and the private contracts use this.
 use Rattle.std.specs.Prelude.{◌≡◌, ℕ, suc, ◌<◌, ◌≤◌, ◌⊎◌, ◌==◌, Bool, true, false, List, []}
 use Rattle.std.specs.Prelude.{◌∷◌, ◌++◌, length, map, Option, Some, None, slice_get, take}
 use Rattle.std.specs.Prelude.{drop, if◌then◌else◌}
@@ -15,24 +15,24 @@ use Rattle.calls_core.specs.Lists.{Each, EachPair}
 use Rattle.calls_core.specs.Histories.{completion}
 use Rattle.calls_serial.specs.declared.stage.Stage.{Stage}
 use Rattle.calls_serial.specs.declared.stage.Link.{Link}
-use Rattle.calls_serial.specs.declared.search.Found.{Found}
-use Rattle.calls_serial.specs.declared.search.Found.TheVariants.{At, Shut}
+use Rattle.calls_serial.specs.declared.search.PutChoice.{PutChoice}
+use Rattle.calls_serial.specs.declared.search.PutChoice.TheVariants.{At, Shut}
 use Rattle.calls_serial.specs.Faults.{Leaves}
 
 -- a stage with a list of its gets
-pub record Held : Type 0 where
+pub record StageView : Type 0 where
   pub put : Option Call
   pub value : ℕ
   pub moment : ℕ
   pub link : Option ℕ
   pub gets : List Call
 
-abbrev pub held : Stage → Held
-held s =
+abbrev pub stage_view : Stage → StageView
+stage_view s =
     record { put = s.put; value = s.value; moment = s.moment; link = s.link; gets = s.gets.items }
 
-abbrev pub helds : List Stage → List Held
-helds ss = map held ss
+abbrev pub helds : List Stage → List StageView
+helds ss = map stage_view ss
 
 -- THE ORDER
 
@@ -40,14 +40,14 @@ abbrev pub put_calls : Option Call → List Call
 put_calls None = []
 put_calls (Some p) = p ∷ []
 
-abbrev pub held_calls : Held → List Call
+abbrev pub held_calls : StageView → List Call
 held_calls h = put_calls h.put ++ h.gets
 
-abbrev pub all_calls : List Held → List Call
+abbrev pub all_calls : List StageView → List Call
 all_calls [] = []
 all_calls (h ∷ hs) = held_calls h ++ all_calls hs
 
--- THE PASS KEEPS
+-- ONE STAGE, AND TWO IN A ROW
 
 abbrev pub is_put : Op → Bool
 is_put (Put v) = true
@@ -85,7 +85,7 @@ IsStored v m (Some p) = IsPutAt v m p
 abbrev pub Sooner : Call → Call → Type 0
 Sooner a b = a.last < b.last
 
-pub record IsHeld (t : ℕ) (h : Held) : Type 0 where
+pub record IsHeld (t : ℕ) (h : StageView) : Type 0 where
   pub put : IsStored h.value h.moment h.put
   pub gets : Each (IsGot h.value h.moment t) h.gets
   pub sorted : EachPair Sooner h.gets
@@ -95,15 +95,15 @@ abbrev pub IsOver : ℕ → Option Call → Type 0
 IsOver n None = Unit {0}
 IsOver n (Some p) = p.last < n
 
-pub record Follows (a b : Held) : Type 0 where
+pub record Follows (a b : StageView) : Type 0 where
   pub put : Call
   pub is : b.put ≡ Some put
   pub over : IsOver put.first a.put
   pub moments : a.moment ≤ b.moment
   pub gets : Each (λ (g : Call). g.first ≤ b.moment) a.gets
 
--- the first one has no put
-abbrev pub Begins : List Held → Type 0
+-- the first stage has no put
+abbrev pub Begins : List StageView → Type 0
 Begins [] = ⊥
 Begins (h ∷ hs) = h.put ≡ None
 
@@ -113,11 +113,11 @@ abbrev pub points : Option ℕ → ℕ → Bool
 points None k = false
 points (Some i) k = i == k
 
--- the gets of a link and of those that it rests on, among links with the latest first
-abbrev pub gathered : Option ℕ → List Link → List Call
-gathered i [] = []
-gathered i (l ∷ ls) =
-    if points i (length ls) then l.get ∷ gathered l.because ls else gathered i ls
+-- the gets of a link and of those that it depends on, among links with the latest first
+abbrev pub gets_of_link : Option ℕ → List Link → List Call
+gets_of_link i [] = []
+gets_of_link i (l ∷ ls) =
+    if points i (length ls) then l.get ∷ gets_of_link l.because ls else gets_of_link i ls
 
 -- a chain by which the put invoked at f takes effect by moment m
 pub record IsChain (done : List Call) (pending : List PendingCall) (cs : List Call) (f m : ℕ)
@@ -131,9 +131,9 @@ pub record IsChain (done : List Call) (pending : List PendingCall) (cs : List Ca
 abbrev pub IsLinked : List Call → List PendingCall → List Link → ℕ → Call → Option ℕ → Type 0
 IsLinked done pending ls m p None = m ≡ p.last
 IsLinked done pending ls m p (Some i) =
-    (i < length ls) × IsChain done pending (gathered (Some i) ls) p.first m
+    (i < length ls) × IsChain done pending (gets_of_link (Some i) ls) p.first m
 
-abbrev pub IsBacked : List Call → List PendingCall → List Link → Held → Type 0
+abbrev pub IsBacked : List Call → List PendingCall → List Link → StageView → Type 0
 IsBacked done pending ls h = (p : Call) → h.put ≡ Some p
     → IsLinked done pending ls h.moment p h.link
 
@@ -142,9 +142,9 @@ IsBacked done pending ls h = (p : Call) → h.put ≡ Some p
 -- a pending put with its stage
 pub record Current : Type 0 where
   pub call : PendingCall
-  pub stage : Held
+  pub stage : StageView
 
-abbrev pub current : Option Current → List Held
+abbrev pub current : Option Current → List StageView
 current None = []
 current (Some k) = k.stage ∷ []
 
@@ -156,7 +156,7 @@ abbrev pub current_puts : Option Current → List PendingCall
 current_puts None = []
 current_puts (Some k) = k.call ∷ []
 
--- as if its response were at the end
+-- the pending put counts as one with its response at the end
 abbrev pub IsCurrent : ℕ → Option Current → Type 0
 IsCurrent end None = Unit {0}
 IsCurrent end (Some k) = k.stage.put ≡ Some (completion end Done k.call)
@@ -164,12 +164,12 @@ IsCurrent end (Some k) = k.stage.put ≡ Some (completion end Done k.call)
 abbrev pub pending_puts : List PendingCall → List PendingCall
 pending_puts pending = filter (λ (o : PendingCall). is_put o.op) pending
 
-abbrev pub IsOverAt : ℕ → Held → Type 0
+abbrev pub IsOverAt : ℕ → StageView → Type 0
 IsOverAt t h = IsOver t h.put
 
 -- completed and pending calls, the stages of completed puts, the pending put if there is one, and
 -- the links, the latest first
-pub record Stands (end t : ℕ) (done : List Call) (pending : List PendingCall) (stages : List Held)
+pub record AreStages (end t : ℕ) (done : List Call) (pending : List PendingCall) (stages : List StageView)
     (now : Option Current) (links : List Link) : Type 0 where
   pub begins : Begins stages
   pub each : Each (IsHeld t) (stages ++ current now)
@@ -182,27 +182,27 @@ pub record Stands (end t : ℕ) (done : List Call) (pending : List PendingCall) 
 
 -- WHAT AN EVENT DOES TO A STAGE
 
--- the stage of the value at first
-abbrev pub first_stage : Held
+-- the stage of the initial value
+abbrev pub first_stage : StageView
 first_stage = record { put = None; value = 0; moment = 0; link = None; gets = [] }
 
--- the moment of a pending put from which a get at position at has its value, or that has its
--- response there: a link has said it, or it is this position
-abbrev pub bounded : Option ℕ → ℕ → ℕ → ℕ
-bounded None m at = at
-bounded (Some i) m at = m
+-- the moment of a pending put, if at position `at` a get returns its value or it has its response:
+-- the moment that a link showed, or else this position
+abbrev pub moment_bound : Option ℕ → ℕ → ℕ → ℕ
+moment_bound None m at = at
+moment_bound (Some i) m at = m
 
--- the link, or the one that comes next if there is none
-abbrev pub linked : Option ℕ → ℕ → Option ℕ
-linked None n = Some n
-linked (Some i) n = Some i
+-- the link of a stage, or the next link if it has none
+abbrev pub link_index : Option ℕ → ℕ → Option ℕ
+link_index None n = Some n
+link_index (Some i) n = Some i
 
 abbrev pub links_with : Option ℕ → Link → List Link → List Link
 links_with None l ls = l ∷ ls
 links_with (Some i) l ls = ls
 
-abbrev pub opened : ℕ → ℕ → PendingCall → Held
-opened end v o = record {
+abbrev pub open_stage : ℕ → ℕ → PendingCall → StageView
+open_stage end v o = record {
   put = Some (completion end Done o);
   value = v;
   moment = end;
@@ -210,7 +210,7 @@ opened end v o = record {
   gets = [];
 }
 
-abbrev pub with_get : Call → Held → Held
+abbrev pub with_get : Call → StageView → StageView
 with_get c h = record {
   put = h.put;
   value = h.value;
@@ -219,74 +219,74 @@ with_get c h = record {
   gets = h.gets ++ c ∷ [];
 }
 
--- if n is the number of links
-abbrev pub with_late : Call → ℕ → Held → Held
+-- a get of a pending put's value is added, if n is the number of links
+abbrev pub with_late : Call → ℕ → StageView → StageView
 with_late c n h = record {
   put = h.put;
   value = h.value;
-  moment = bounded h.link h.moment c.last;
-  link = linked h.link n;
+  moment = moment_bound h.link h.moment c.last;
+  link = link_index h.link n;
   gets = h.gets ++ c ∷ [];
 }
 
-abbrev pub with_response : Call → Held → Held
+abbrev pub with_response : Call → StageView → StageView
 with_response c h = record {
   put = Some c;
   value = h.value;
-  moment = bounded h.link h.moment c.last;
+  moment = moment_bound h.link h.moment c.last;
   link = h.link;
   gets = h.gets;
 }
 
 -- THE SEARCH
 
-pub record IsPassed (first x : ℕ) (h : Held) : Type 0 where
+pub record IsPassed (first x : ℕ) (h : StageView) : Type 0 where
   pub over : IsOver first h.put → ⊥
   pub other : h.value ≡ x → ⊥
 
 -- the next put need not have taken effect at position first
-abbrev pub NextLater : ℕ → List Held → Type 0
+abbrev pub NextLater : ℕ → List StageView → Type 0
 NextLater first [] = Unit {0}
 NextLater first (h ∷ hs) = first ≤ h.moment
 
 -- the next put took effect before position first, as its link shows
-abbrev pub NextEarlier : ℕ → List Held → Option ℕ → Type 0
+abbrev pub NextEarlier : ℕ → List StageView → Option ℕ → Type 0
 NextEarlier first [] because = ⊥
 NextEarlier first (h ∷ hs) because = (h.moment < first) × (because ≡ h.link)
 
--- the stage at index i, the last one whose put was over, has another value, or is followed by an
--- early put
-abbrev pub IsReason : ℕ → ℕ → Held → List Held → Option ℕ → Type 0
+-- the stage h, the last one whose put was over, has another value than x, or is followed by a put
+-- that took effect before position first
+abbrev pub IsReason : ℕ → ℕ → StageView → List StageView → Option ℕ → Type 0
 IsReason first x h back because =
     ((h.value ≡ x → ⊥) × (because ≡ None)) ⊎ ((h.value ≡ x) × NextEarlier first back because)
 
-pub record IsAt (hs : List Held) (n first x i : ℕ) : Type 0 where
-  pub stage : Held
+pub record IsAt (hs : List StageView) (n first x i : ℕ) : Type 0 where
+  pub stage : StageView
   pub here : slice_get hs i ≡ Some stage
   pub within : i < n
   pub value : stage.value ≡ x
   pub may : (IsOver first stage.put → ⊥) ⊎ NextLater first (drop (suc i) hs)
 
-pub record IsShutOut (hs : List Held) (n first x : ℕ) (because : Option ℕ) : Type 0 where
+pub record IsShutOut (hs : List StageView) (n first x : ℕ) (because : Option ℕ) : Type 0 where
   pub index : ℕ
-  pub stage : Held
+  pub stage : StageView
   pub here : slice_get hs index ≡ Some stage
   pub within : index < n
   pub over : IsOver first stage.put
   pub passed : Each (IsPassed first x) (drop (suc index) (take n hs))
   pub reason : IsReason first x stage (drop (suc index) hs) because
 
-abbrev pub IsFound : List Held → ℕ → ℕ → ℕ → Found → Type 0
+abbrev pub IsFound : List StageView → ℕ → ℕ → ℕ → PutChoice → Type 0
 IsFound hs n first x (At i) = IsAt hs n first x i
 IsFound hs n first x (Shut because) = IsShutOut hs n first x because
 
--- what is said of the stage at index i, whose put was over
-abbrev pub IsEarly : List Held → ℕ → ℕ → ℕ → Found → Type 0
-IsEarly hs first x i (At j) = (j ≡ i) × ((h : Held) → slice_get hs i ≡ Some h
+-- the result for the stage at index i, whose put was over
+abbrev pub IsEarly : List StageView → ℕ → ℕ → ℕ → PutChoice → Type 0
+IsEarly hs first x i (At j) = (j ≡ i) × ((h : StageView) → slice_get hs i ≡ Some h
     → (h.value ≡ x) × NextLater first (drop (suc i) hs))
-IsEarly hs first x i (Shut because) = (h : Held) → slice_get hs i ≡ Some h
+IsEarly hs first x i (Shut because) = (h : StageView) → slice_get hs i ≡ Some h
     → IsReason first x h (drop (suc i) hs) because
 
-abbrev pub IsWithin : ℕ → Found → Type 0
+abbrev pub IsWithin : ℕ → PutChoice → Type 0
 IsWithin n (At i) = i < n
 IsWithin n (Shut because) = Unit {0}

@@ -1,4 +1,4 @@
--- What is kept of the events so far.
+-- How the state of a monitor represents the history so far.
 use Rattle.std.specs.Prelude.{◌≡◌, ◌⊎◌, ℕ, zero, suc, ◌+◌, ◌-◌, ◌<◌, ◌≤◌, ◌==◌, min, Bool, true}
 use Rattle.std.specs.Prelude.{false, List, [], ◌∷◌, ◌++◌, length, map, count_by, Some, slice_get}
 use Rattle.std.specs.List.{Contains, remove}
@@ -13,7 +13,7 @@ use Rattle.calls_tickets.specs.Faults.{number, FromTurned}
 abbrev pub calls_in : List PendingTicket → List PendingCall
 calls_in us = map (λ (u : PendingTicket). u.call) us
 
--- n numbers from p on
+-- the n numbers from p on
 abbrev pub places : ℕ → ℕ → List ℕ
 places p zero = []
 places p (suc n) = p ∷ places (p + 1) n
@@ -35,8 +35,8 @@ pub record AreHoles (done : List Call) (top : ℕ) (holes : List ℕ) : Type 0 w
   pub inside : Each (λ (h : ℕ). h < top) holes
   pub rises : EachPair (λ (g h : ℕ). g < h) holes
 
--- for each hole there is a pending ticket, in turn, that was invoked before a number as great as
--- the hole was returned
+-- for each hole, the pending ticket with the same index was invoked before a number as great as the
+-- hole was returned
 abbrev pub Paired : List ℕ → List PendingTicket → Type 0
 Paired [] us = Unit {0}
 Paired (h ∷ hs) [] = ⊥
@@ -47,7 +47,7 @@ Unpaired [] us = ⊥
 Unpaired (h ∷ hs) [] = Unit {0}
 Unpaired (h ∷ hs) (u ∷ us) = (h < u.noted) ⊎ Unpaired hs us
 
--- without the pairs
+-- what holds of the state, apart from the pairs of holes and pending tickets
 pub record Following (past : List Event) (top : ℕ) (holes : List ℕ)
     (us : List PendingTicket) : Type 0 where
   pub pending_is : pending_calls past ≡ calls_in us
@@ -56,7 +56,7 @@ pub record Following (past : List Event) (top : ℕ) (holes : List ℕ)
   pub noted : Each (λ (u : PendingTicket). IsTop (completed_calls past) u.call.first u.noted) us
   pub straight : (a b : Call) → FromTurned (completed_calls past) a b → ⊥
 
--- what is kept represents a past
+-- the state represents the history so far
 pub record Watching (past : List Event) (top : ℕ) (holes : List ℕ)
     (us : List PendingTicket) : Type 0 where
   pub follows : Following past top holes us
@@ -64,7 +64,7 @@ pub record Watching (past : List Event) (top : ℕ) (holes : List ℕ)
 
 -- WHAT THE FUNCTIONS RETURN
 
--- the first of a worker's calls is at index i
+-- a worker's pending ticket is at index i
 pub record IsPendingAt (us : List PendingTicket) (w i : ℕ) : Type 0 where
   pub ticket : PendingTicket
   pub at : slice_get us i ≡ Some ticket
@@ -81,19 +81,20 @@ abbrev pub IsPaired : List ℕ → List PendingTicket → Bool → Type 0
 IsPaired holes us true = Paired holes us
 IsPaired holes us false = Unpaired holes us
 
--- a hole is filled, or the numbers up to n are new holes
+-- n is a hole, which is filled
 abbrev pub Fills : List ℕ → List ℕ → ℕ → ℕ → Type 0
 Fills holes more noted n =
     (k : ℕ) × IsHoleAt holes n k × (noted ≤ n) × (more ≡ remove holes k)
 
+-- n is top or more, and the numbers from top to below n are new holes
 pub record Raises (top later : ℕ) (holes more : List ℕ) (room n : ℕ) : Type 0 where
   pub high : top ≤ n
   pub few : length holes + n ≤ room + top
   pub later_is : later ≡ min (n + 1) 18446744073709551615
   pub more_is : more ≡ holes ++ places top (n - top)
 
--- n was returned; a greater number was returned earlier; n is too great for this many pending
--- tickets
+-- n was returned before; or a greater number was returned before the ticket's invocation; or n is
+-- too great for so many pending tickets
 abbrev pub CannotTake : ℕ → List ℕ → ℕ → ℕ → ℕ → Type 0
 CannotTake top holes room noted n =
     ((n < top) × NoHole holes n)

@@ -1,4 +1,4 @@
--- What is kept of the objects that were decided.
+-- What the findings say about the objects that were decided.
 use Rattle.std.specs.Prelude.{◌≡◌, ◌⊎◌, ℕ, ◌+◌, ◌<◌, ◌≤◌, List, length, reverse, Option}
 use Rattle.std.specs.Prelude.{Some}
 use Rattle.std.specs.Prelude.{None, slice_get}
@@ -7,7 +7,7 @@ use Rattle.calls_core.specs.declared.history.Event.{Event}
 use Rattle.calls_core.specs.declared.history.Placed.{Placed}
 use Rattle.calls_core.specs.Lists.{Each}
 use Rattle.calls_core.specs.Histories.{clock, IsHistory, pending_calls, completed_calls, part}
-use Rattle.calls_core.specs.Linearizations.{IsSequentialRun, start, calls_on, pending_on}
+use Rattle.calls_core.specs.Linearizations.{IsLegalHistory, start, calls_on, pending_on}
 use Rattle.calls_core.specs.Points.{IsPlacedOrder, placed_on}
 use Rattle.calls_core.specs.Beginnings.{until}
 use Rattle.calls_verdict.specs.declared.verdict.Refusal.{Refusal}
@@ -15,11 +15,11 @@ use Rattle.calls_verdict.specs.declared.verdict.Undecided.{Undecided}
 use Rattle.calls_verdict.specs.declared.verdict.Verdict.{Verdict}
 use Rattle.calls_verdict.specs.declared.verdict.Decision.{Decision}
 use Rattle.calls_verdict.specs.declared.verdict.Decision.TheVariants.{Ordered, Refused, Open}
-use Rattle.calls_verdict.specs.declared.findings.Found.{Found}
+use Rattle.calls_verdict.specs.declared.findings.Findings.{Findings}
 use Rattle.calls_verdict.specs.Verdicts.{IsOrderedBefore, IsDecision, HasFault, HasOpen, IsVerdict}
 use Rattle.calls_verdict.specs.Verdicts.{IsClear}
 
--- up to here each object was decided: the position of the refusal, or the end
+-- the position up to which each object was decided: that of the refusal, or the end
 abbrev pub limit : ℕ → Option Refusal → ℕ
 limit t None = t
 limit t (Some r) = r.at
@@ -39,11 +39,11 @@ pub record ArePlaced (kinds : List Kind) (past : List Event) (n : ℕ) (ps : Lis
   where
     pub below : Each (λ (p : Placed). p.call.object < n) ps
     pub orders : (k : ℕ) → k < n
-        → IsPlacedOrder (IsSequentialRun (start kinds k)) (calls_on k (completed_calls past))
+        → IsPlacedOrder (IsLegalHistory (start kinds k)) (calls_on k (completed_calls past))
         (pending_on k (pending_calls past)) (clock past) (placed_on k ps)
 
--- what is found of the first n objects
-pub record AreFound (kinds : List Kind) (past : List Event) (n : ℕ) (found : Found) : Type 0 where
+-- the findings are those of the first n objects
+pub record AreFound (kinds : List Kind) (past : List Event) (n : ℕ) (found : Findings) : Type 0 where
   pub clear : (k : ℕ) (kind : Kind) → k < n → slice_get kinds k ≡ Some kind → (m : ℕ)
       → m ≤ limit (clock past) found.refusal → IsClear kind (until m (part k past))
   pub refused : IsRefused kinds past found.refusal
@@ -57,19 +57,19 @@ HasRoom own (Ordered cs) = Unit {0}
 HasRoom own (Refused i f) = i < length own
 HasRoom own (Open i u) = Unit {0}
 
--- with a decision on object k, whose events these are
-abbrev pub IsAddedTo : ℕ → List Event → Decision → Found → Found → Type 0
+-- a decision on object k is added, whose events are own
+abbrev pub IsAddedTo : ℕ → List Event → Decision → Findings → Findings → Type 0
 IsAddedTo k own d old new =
     (kinds : List Kind) (past : List Event) (kind : Kind) → IsHistory kinds past
     → slice_get kinds k ≡ Some kind → reverse own ≡ part k past → IsDecision kind own (clock past) d
     → AreFound kinds past k old → AreFound kinds past (k + 1) new
 
--- the one with the lesser position
+-- the refusal with the lesser position
 abbrev pub IsEarlier : Option Refusal → Refusal → Refusal → Type 0
 IsEarlier None next r = r ≡ next
 IsEarlier (Some old) next r = ((r ≡ old) × (old.at ≤ next.at)) ⊎ ((r ≡ next) × (next.at < old.at))
 
--- what is found of all objects gives this verdict
-abbrev pub Gives : Found → Verdict → Type 0
+-- the findings on all objects give this verdict
+abbrev pub Gives : Findings → Verdict → Type 0
 Gives found v = (kinds : List Kind) (past : List Event) → IsHistory kinds past
     → AreFound kinds past (length kinds) found → IsVerdict kinds past v

@@ -1,4 +1,4 @@
--- How the events of each object are kept.
+-- The events of each object, as a list for each.
 use Rattle.std.specs.Prelude.{◌≡◌, ℕ, ◌<◌, List, ◌∷◌, length, reverse, Option, Some, None}
 use Rattle.std.specs.Prelude.{slice_index_or}
 use Rattle.std.specs.List.{remove}
@@ -9,7 +9,7 @@ use Rattle.calls_core.specs.declared.history.PendingCall.{PendingCall}
 use Rattle.calls_core.specs.Histories.{pending_of, without, pending_after, pending_calls, part}
 use Rattle.calls_core.specs.Lists.{EachFrom}
 
--- the first of a worker's calls stands at place i
+-- a worker's pending call is at index i
 pub record IsPendingOf (os : List PendingCall) (w i : ℕ) : Type 0 where
   pub inside : i < length os
   pub first : (d : PendingCall) → pending_of w os ≡ Some (slice_index_or os i d)
@@ -34,7 +34,7 @@ IsAdded j x old new = (past : List Event)
     → object_of x.action (pending_of x.worker (pending_calls past)) ≡ Some j
     → EachFrom (IsPart past) 0 old → EachFrom (IsPart (x ∷ past)) 0 new
 
--- the events of each of the first n objects, in natural order
+-- the events of each of the first n objects, in the order of time
 pub record AreParts (n : ℕ) (past : List Event) (parts : List (List Event)) : Type 0 where
   pub count : length parts ≡ n
   pub each : EachFrom (IsPart past) 0 parts

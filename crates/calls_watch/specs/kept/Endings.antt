@@ -1,36 +1,36 @@
 -- How the parts of `watch` end.
 use Rattle.std.specs.Prelude.{◌≡◌, ◌⊎◌, ℕ, List, Option, Some, None, Result, Ok, Err, Bool, true, false, codes, ⊤}
 use Rattle.std.specs.Io.KnownBytes.{Appends}
-use Rattle.ec_text.specs.Puts.{Outgoing, Puts, AppendsPrefix}
+use Rattle.ec_text.specs.Puts.{OutputModel, Puts, AppendsPrefix}
 use Rattle.calls_text.specs.declared.fault.TextFault.{TextFault}
 use Rattle.calls_text.specs.declared.fault.TextFault.TheVariants as faults
-use Rattle.calls_text.specs.Outcomes.{OneRead, parts_of}
+use Rattle.calls_text.specs.Outcomes.{OneRead, lines_of_text}
 use Rattle.calls_report.specs.declared.status.Status.{Status}
 use Rattle.calls_report.specs.declared.status.Status.TheVariants.{Done, Refused}
 use Rattle.calls_report.specs.declared.status.Status.TheVariants.{InputOutput, Memory, NotDecided}
-use Rattle.calls_report.specs.Checks.{Outlets, SaysUnread}
+use Rattle.calls_report.specs.Checks.{Outputs, SaysUnread}
 use Rattle.calls_watch.specs.declared.feeder.Feeder.{Feeder}
-use Rattle.calls_watch.specs.declared.watching.Cut.{Cut}
-use Rattle.calls_watch.specs.declared.watching.Cut.TheVariants as cuts
+use Rattle.calls_watch.specs.declared.watching.EarlyEnd.{EarlyEnd}
+use Rattle.calls_watch.specs.declared.watching.EarlyEnd.TheVariants as cuts
 use Rattle.calls_watch.specs.Watches.{AreGood, SaysUnwatched, SaysStopped}
 use Rattle.calls_watch.specs.kept.Watching.{FedFrom, IsOver, Stops}
 
 -- READING
 
-abbrev pub ReadsAll : Option (List ℕ) → Result (Unit {0}) Cut → Feeder → Type 0
+abbrev pub ReadsAll : Option (List ℕ) → Result (Unit {0}) EarlyEnd → Feeder → Type 0
 ReadsAll None result f = ⊤
-ReadsAll (Some bytes) (Ok u) f = IsOver (parts_of bytes) f.watcher
+ReadsAll (Some bytes) (Ok u) f = IsOver (lines_of_text bytes) f.watcher
 ReadsAll (Some bytes) (Err cuts.Read) f = Unit {0}
-ReadsAll (Some bytes) (Err (cuts.Stop stop)) f = Stops stop (parts_of bytes) f.watcher
+ReadsAll (Some bytes) (Err (cuts.Stop stop)) f = Stops stop (lines_of_text bytes) f.watcher
 
-abbrev pub ReadsOn : Option (List ℕ) → Result Bool Cut → Option (List ℕ) → Feeder → Type 0
+abbrev pub ReadsOn : Option (List ℕ) → Result Bool EarlyEnd → Option (List ℕ) → Feeder → Type 0
 ReadsOn old (Ok true) now f = FedFrom old now f
 ReadsOn old (Ok false) now f = ReadsAll old (Ok tt) f
 ReadsOn old (Err cut) now f = ReadsAll old (Err cut) f
 
 -- WRITING
 
-abbrev pub WritesLoad : Status → List ℕ → Outlets → Outlets → Type 0
+abbrev pub WritesLoad : Status → List ℕ → Outputs → Outputs → Type 0
 WritesLoad Done text old new = Appends old.out new.out text × (new.notes ≡ old.notes)
 WritesLoad InputOutput text old new =
     AppendsPrefix old.out new.out text × Puts old.notes new.notes (codes "write fault\n")
@@ -42,18 +42,18 @@ abbrev pub fault_status : TextFault → Status
 fault_status (faults.At n kind cause) = Refused
 fault_status faults.Memory = Memory
 
-abbrev pub SaysRefused : Status → List ℕ → Outgoing → Outgoing → Type 0
+abbrev pub SaysRefused : Status → List ℕ → OutputModel → OutputModel → Type 0
 SaysRefused Refused note old new = Puts old new note
 SaysRefused _ note old new = ⊥
 
-abbrev pub SaysAt : Status → ℕ → List (List ℕ) → Outgoing → Outgoing → Type 0
+abbrev pub SaysAt : Status → ℕ → List (List ℕ) → OutputModel → OutputModel → Type 0
 SaysAt Refused n ps old new = SaysUnread n ps old new ⊎ SaysStopped n ps old new
 SaysAt NotDecided n ps old new = SaysUnwatched n ps old new
 SaysAt Memory n ps old new = Puts old new (codes "no memory\n")
 SaysAt _ n ps old new = ⊥
 
--- after some histories it is said why there are no more
-pub record SaysStop (ps : List (List ℕ)) (status : Status) (old new : Outgoing) : Type 0 where
+-- after some histories, a note says why there are no more
+pub record SaysStop (ps : List (List ℕ)) (status : Status) (old new : OutputModel) : Type 0 where
   pub reads : List OneRead
   pub start : ℕ
   pub begun : List (List ℕ)

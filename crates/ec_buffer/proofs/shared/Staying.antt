@@ -19,16 +19,3 @@ still_declared b old new produce consume k d = record {
 -- a buffer that is declared stays so if more is declared
 pub buffers_stay : BuffersStay
 buffers_stay b old new k f = (f.0, f.1, still_declared b old new f.0 f.1 k f.2)
-
--- what was declared before a buffer stays declared
-pub keeps_buffer : (t : Tables) (n : ℕ) (produce consume : List ℕ) → KeepsObjects t (with_buffer t n produce consume)
-keeps_buffer t n produce consume =
-    let both = produce ++ consume in
-    let one = with_fixed_event t produce both in
-    let two = with_fixed_event one consume both in
-    let three = with_sequencer two produce in
-    let four = with_sequencer three consume in
-    keeps_then t one _ (keeps_fixed_event t produce both)
-    (keeps_then one two _ (keeps_fixed_event one consume both)
-    (keeps_then two three _ (keeps_sequencer two produce)
-    (keeps_then three four _ (keeps_sequencer three consume) (keeps_cells four n produce consume))))

@@ -1,4 +1,4 @@
--- No count passes its limit, and no number that is told is above the greatest value.
+-- No count exceeds its limit, and no number of a reply exceeds the greatest value.
 use Rattle.std.proofs.Common.{◌≡◌, ℕ, zero, suc, ◌+◌, ◌*◌, ◌^◌, ◌<◌, ◌≤◌, Bool, true, false, ◌&&◌, List, [], ◌∷◌, length, Option, Some, None, Ok, nat_le, refl, ap, arith, subst, cond, ◌==◌, ◌≢◌, unwrap_or}
 use Rattle.std.specs.Option.{option_map_or}
 use Rattle.std.proofs.lemmas.Bool.{and_parts, eqb-true, eqb-false, ltb-false, leb-false}
@@ -12,19 +12,19 @@ use Rattle.ec_core.specs.declared.act.Entry.{Entry}
 use Rattle.ec_core.specs.declared.act.TheConstants.{VALUE_MAX}
 use Rattle.ec_core.specs.Counts.{component_total, issued, cell_value, is_advance, is_ticket, is_place, put_in, component_at}
 use Rattle.ec_core.specs.Calls.{CallSoFar, under_way}
-use Rattle.ec_core.specs.Rounds.{event_or, width, sum_read, next_component, round_reply, read_reply, go_reply, IsPastOf, EachIsPastOf}
+use Rattle.ec_core.specs.Rounds.{event_or, component_count, sum_read, next_component, round_reply, read_reply, go_reply, IsPastOf, EachIsPastOf}
 use Rattle.ec_core.specs.Acceptance.{reply_of, answer_of, is_at_limit, is_too_large, names_unknown_object, IsAccepted}
 use Rattle.ec_core.specs.Values.{TellsAtMost}
 use Rattle.ec_core.proofs.shared.Answering.{allowed, width_few, width_some, call_reads, reading_event, IsReadingCall}
 use Rattle.ec_core.proofs.shared.Totals.{comp_later}
 use Rattle.ec_core.proofs.shared.Pasts.{IsCallBefore, call_before}
 
--- one more, if the test passes, which it does below the limit alone
+-- one more, if the test passes, which it does only below the limit
 grown : (b : Bool) (n limit : ℕ) → (b ≡ true → (n == limit) ≡ false) → n ≤ limit → cond b 1 0 + n ≤ limit
 grown true n limit h le = (let other : n ≢ limit = eqb-false n limit (h refl) in omega arith)
 grown false n limit h le = omega arith
 
-place_is : (c : ℕ) (o : Option ℕ) → is_place c o ≡ true → o ≡ Some c
+pub place_is : (c : ℕ) (o : Option ℕ) → is_place c o ≡ true → o ≡ Some c
 place_is c None h = cc
 place_is c (Some d) h = ap Some (eqb-true d c h)
 
@@ -45,7 +45,7 @@ advance_below t past w e c (Put x v) h room = cc
 advance_below t past w e c (Get x) h room = cc
 advance_below t past w e c (Hand f g) h room = cc
 
--- no component passes the limit
+-- no component exceeds the limit
 pub component_within : (t : Tables) (e c : ℕ) (past : List Entry) → IsAccepted t past → component_total t e c past ≤ t.limit
 unfolding component_total
 component_within t e c [] acc = omega arith
@@ -66,7 +66,7 @@ ticket_below t past w q (Put x v) h room = cc
 ticket_below t past w q (Get x) h room = cc
 ticket_below t past w q (Hand e f) h room = cc
 
--- no number of tickets drawn passes the limit
+-- no number of tickets drawn exceeds the limit
 pub issued_within : (t : Tables) (q : ℕ) (past : List Entry) → IsAccepted t past → issued q past ≤ t.limit
 unfolding issued
 issued_within t q [] acc = omega arith
@@ -134,12 +134,12 @@ unfolding read_reply
 read_small t op past moments d low acc known h =
     let e = event_or op in
     let c = next_component t e moments in
-    let some : 0 < width t e = width_some t e d known in
-    let few : width t e ≤ 16 = width_few t e d in
-    let below : c < width t e = mod_below (length moments) (width t e) some in
+    let some : 0 < component_count t e = width_some t e d known in
+    let few : component_count t e ≤ 16 = width_few t e d in
+    let below : c < component_count t e = mod_below (length moments) (component_count t e) some in
     let itself : IsPastOf past past = record { since = []; is = refl } in
     let sum : sum_read t e (suc c) (past ∷ moments) ≤ suc c * 2 ^ 48 = sum_within t e (suc c) (past ∷ moments) past low acc (itself, h) in
-    small_if (nat_le (width t e) (c + 1)) (round_reply op (sum_read t e (suc c) (past ∷ moments)))
+    small_if (nat_le (component_count t e) (c + 1)) (round_reply op (sum_read t e (suc c) (past ∷ moments)))
     (round_small op (sum_read t e (suc c) (past ∷ moments)) (small_sum (sum_read t e (suc c) (past ∷ moments)) (suc c) sum (omega arith)))
 
 go_small : (t : Tables) (past : List Entry) (o : Option CallSoFar) → IsDeclared t → t.limit < 2 ^ 48 → IsAccepted t past → IsReadingCall t o → IsCallBefore o past
@@ -161,7 +161,7 @@ reply_small t past w (Put x v) d low acc known = tt
 reply_small t past w (Get x) d low acc known = cell_within t x past acc
 reply_small t past w (Hand e b) d low acc known = tt
 
--- no number that an act is told after an accepted history is above the greatest value
+-- no number in the reply to an act after an accepted history exceeds the greatest value
 pub told_small : (t : Tables) (past : List Entry) (w : ℕ) (act : Act) (reply : Reply) → IsDeclared t → IsAccepted t past
     → answer_of t past w act ≡ Ok reply → TellsAtMost VALUE_MAX reply
 told_small t past w act reply d acc h =

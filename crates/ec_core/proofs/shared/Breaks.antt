@@ -1,4 +1,4 @@
--- The first entry that breaks the lists.
+-- The first violation of the call lists.
 use Rattle.std.proofs.Common.{◌≡◌, ℕ, zero, suc, ◌+◌, ◌≤◌, Bool, true, false, List, [], ◌∷◌, ◌++◌, Option, Some, None, refl, ap, sym, ◌∙◌, arith, subst, add-one, slice_get, reverse, take, drop, length, ◌⊎◌, inl, inr}
 use Rattle.std.proofs.Math.Seq.{take-append_seam}
 use Rattle.std.proofs.lemmas.List.{take-append-drop, reverse-append}
@@ -6,23 +6,23 @@ use Rattle.ec_core.specs.declared.act.Entry.{Entry}
 use Rattle.ec_core.specs.Counts.{past_at}
 use Rattle.ec_core.specs.Rounds.{IsPastOf}
 use Rattle.ec_core.specs.Following.{Rule, block, is_right, Follow, BreaksAt}
-use Rattle.ec_core.specs.FollowingLaws.{FollowingHoldsOfBeginnings, FollowsOrBreaks, BreaksAreFirst}
+use Rattle.ec_core.specs.FollowingLaws.{FollowingHoldsOfPrefixes, FollowsOrBreaks, BreaksAreFirst}
 use Rattle.ec_core.proofs.shared.Joining.{get_back}
 use Rattle.ec_core.proofs.shared.Moments.{past_next, past_end, moment_before}
 
--- what came first in a past that follows does too
+-- a suffix of a reversed history that conforms does so
 pub follow_before : (rules : ℕ → Rule) (since early : List Entry) → Follow rules (since ++ early) → Follow rules early
 follow_before rules [] early h = h
 follow_before rules (x ∷ since) early h = follow_before rules since early h.1
 
--- each past of a history that follows does
+-- the same of a history that is reversed here
 pub follow_of : (rules : ℕ → Rule) (h p : List Entry) → Follow rules (reverse h) → IsPastOf p (reverse h) → Follow rules p
 follow_of rules h p f is = follow_before rules is.since p (subst (Follow rules) is.is f)
 
-pub follow_beginnings : FollowingHoldsOfBeginnings
+pub follow_beginnings : FollowingHoldsOfPrefixes
 follow_beginnings rules k h f = follow_of rules h (past_at k h) f (moment_before h k)
 
--- no history both follows and has a first break
+-- no history both conforms and has a first violation
 pub follow_or_break : (rules : ℕ → Rule) (h : List Entry) (w k : ℕ) → BreaksAt rules h w k → Follow rules (reverse h) → ⊥
 follow_or_break rules h w k b f = b.breaks (follow_of rules h (past_at (k + 1) h) f (moment_before h (k + 1)))
 
@@ -33,7 +33,7 @@ comes_next h done others x is = (
   ap (λ l. reverse (take (length done) l)) (sym is) ∙ ap reverse (take-append_seam done (x ∷ others)),
 )
 
--- an entry that is not right after entries that follow is the first break
+-- an entry that is not right after entries that conform is the first violation
 pub break_at : (rules : ℕ → Rule) (h done others : List Entry) (x : Entry) (k : ℕ) → done ++ x ∷ others ≡ h → k ≡ length done → Follow rules (reverse done)
     → is_right (rules x.worker) (block (rules x.worker) x.worker (reverse done)) x.act ≡ false → BreaksAt rules h x.worker k
 break_at rules h done others x k order at follow wrong =
@@ -49,7 +49,7 @@ break_at rules h done others x k order at follow wrong =
       breaks = λ f. (let right = (subst (Follow rules) after f).0 in cc);
     }
 
--- one more entry: what was found stands, or the entry is right, or it is the first break
+-- one more entry: what was found stays, or the entry is right, or it is the first violation
 abbrev FollowsUpTo : (ℕ → Rule) → List Entry → ℕ → Type 0
 FollowsUpTo rules h k = Follow rules (past_at k h) ⊎ ((w : ℕ) × (i : ℕ) × BreaksAt rules h w i)
 
@@ -86,7 +86,7 @@ take_take h (suc i) zero le = absurd (omega arith)
 take_take [] (suc i) (suc k) le = refl
 take_take (y ∷ ys) (suc i) (suc k) le = ap (λ zs. y ∷ zs) (take_take ys i k (omega arith))
 
--- of two moments the earlier is a past of the later
+-- of the reversed histories at two moments the earlier is a suffix of the later
 earlier : (h : List Entry) (i k : ℕ) → i ≤ k → IsPastOf (past_at i h) (past_at k h)
 earlier h i k le = record {
   since = reverse (drop i (take k h));
@@ -94,7 +94,7 @@ earlier h i k le = record {
       ∙ ap (λ l. reverse (drop i (take k h)) ++ reverse l) (take_take h i k le);
 }
 
--- the beginnings up to a first break follow, and those that go past it don't
+-- the prefixes before a first violation conform, and longer ones don't
 pub breaks_first : BreaksAreFirst
 breaks_first rules h w k b i = (
   λ le. (let p = earlier h i k le in follow_before rules p.since (past_at i h) (subst (Follow rules) p.is b.before)),

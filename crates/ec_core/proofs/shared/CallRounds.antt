@@ -10,8 +10,8 @@ use Rattle.ec_core.specs.declared.act.Act.{Act}
 use Rattle.ec_core.specs.declared.act.Act.TheVariants.{Advance, Read, Await, Go, Ticket, Put, Get, Hand}
 use Rattle.ec_core.specs.declared.act.Entry.{Entry}
 use Rattle.ec_core.specs.Counts.{past_at, total}
-use Rattle.ec_core.specs.Calls.{CallSoFar, under_way, gone_on, is_pending}
-use Rattle.ec_core.specs.Rounds.{width, sum_read, round_sum, round_start, read_of, IsPastOf, IsPastOfEach, EachIsPastOf}
+use Rattle.ec_core.specs.Calls.{CallSoFar, under_way, call_with_act, is_pending}
+use Rattle.ec_core.specs.Rounds.{component_count, sum_read, round_sum, round_start, read_event, IsPastOf, IsPastOfEach, EachIsPastOf}
 use Rattle.ec_core.specs.Acceptance.{IsAccepted, names_unknown_object}
 use Rattle.ec_core.specs.Laws.{RoundsOfCallsLieBetween}
 use Rattle.ec_core.proofs.shared.Answering.{width_some, mod_next, allowed, call_reads, IsReading, IsReadingCall}
@@ -19,7 +19,7 @@ use Rattle.ec_core.proofs.shared.Moments.{accepted_at, accepted_of, moment_befor
 use Rattle.ec_core.proofs.shared.Pasts.{past_itself, past_of_past, gone_before, call_before, IsCallBefore}
 use Rattle.ec_core.proofs.shared.Totals.{round_between}
 
--- each moment came after all that stand below it
+-- each moment came after all that follow it in the list
 abbrev pub IsStacked : List (List Entry) → Type 0
 IsStacked [] = Unit {0}
 IsStacked (p ∷ ps) = EachIsPastOf ps p × IsStacked ps
@@ -28,7 +28,7 @@ abbrev pub IsCallStacked : Option CallSoFar → Type 0
 IsCallStacked None = Unit {0}
 IsCallStacked (Some call) = IsStacked call.moments
 
-pub gone_stacked : (act : Act) (past : List Entry) (o : Option CallSoFar) → IsCallBefore o past → IsCallStacked o → IsCallStacked (gone_on act past o)
+pub gone_stacked : (act : Act) (past : List Entry) (o : Option CallSoFar) → IsCallBefore o past → IsCallStacked o → IsCallStacked (call_with_act act past o)
 gone_stacked Go past None before h = tt
 gone_stacked Go past (Some call) before h = (before, h)
 gone_stacked (Advance e) past o before h = (tt, tt)
@@ -47,8 +47,8 @@ pub call_stacked : (w : ℕ) (past : List Entry) → IsCallStacked (under_way w 
 unfolding under_way
 call_stacked w [] = tt
 call_stacked w (x ∷ past) =
-    elim (x.worker == w) as (λ b. IsCallStacked (cond b (cond (is_pending x.reply) (gone_on x.act past (under_way w past)) None) (under_way w past))) [
-      | true ↦ kept_stacked (is_pending x.reply) (gone_on x.act past (under_way w past)) (gone_stacked x.act past (under_way w past) (call_before w past) (call_stacked w past))
+    elim (x.worker == w) as (λ b. IsCallStacked (cond b (cond (is_pending x.reply) (call_with_act x.act past (under_way w past)) None) (under_way w past))) [
+      | true ↦ kept_stacked (is_pending x.reply) (call_with_act x.act past (under_way w past)) (gone_stacked x.act past (under_way w past) (call_before w past) (call_stacked w past))
       | false ↦ call_stacked w past
     ]
 
@@ -57,7 +57,7 @@ each_at [] n late h lt = absurd (omega arith)
 each_at (p ∷ ps) zero late h lt = h.0
 each_at (p ∷ ps) (suc n) late h lt = each_at ps n late h.1 (omega arith)
 
--- the n-th moment is a past of each above it
+-- the n-th moment came no later than each of those before it in the list
 stack_low : (ps : List (List Entry)) (n : ℕ) → IsStacked ps → n < length ps → IsPastOfEach (get_or ps n []) (take (suc n) ps)
 stack_low [] n h lt = absurd (omega arith)
 stack_low (p ∷ ps) zero h lt = (past_itself p, tt)
@@ -68,21 +68,21 @@ each_taken ps zero late h = tt
 each_taken [] (suc n) late h = tt
 each_taken (p ∷ ps) (suc n) late h = (h.0, each_taken ps n late h.1)
 
-sum_taken : (t : Tables) (e n : ℕ) (ps : List (List Entry)) → sum_read t e n (take n ps) ≡ sum_read t e n ps
+pub sum_taken : (t : Tables) (e n : ℕ) (ps : List (List Entry)) → sum_read t e n (take n ps) ≡ sum_read t e n ps
 unfolding sum_read
 sum_taken t e zero ps = refl
 sum_taken t e (suc n) [] = refl
 sum_taken t e (suc n) (p ∷ ps) = (let rest = sum_taken t e n ps in cc)
 
--- a past of a history is the one at the moment that its length says
+-- a suffix of a reversed history is that at the moment of its length
 pub past_by_length : (h : List Entry) (p : List Entry) → IsPastOf p (reverse h) → past_at (length p) h ≡ p
 past_by_length h p is =
     let whole : h ≡ reverse p ++ reverse is.since = sym (reverse-reverse h) ∙ ap reverse is.is ∙ reverse-append is.since p in
-    let front : take (length p) h ≡ reverse p =
+    let prefix : take (length p) h ≡ reverse p =
     ap (take (length p)) whole ∙ ap (λ n. take n (reverse p ++ reverse is.since)) (sym (length-reverse p)) ∙ take-append_seam (reverse p) (reverse is.since) in
-    ap reverse front ∙ reverse-reverse p
+    ap reverse prefix ∙ reverse-reverse p
 
--- if a call has gone whole rounds, its last entry stands n - 1 places after its round's start
+-- if a call has made whole rounds, its last entry is n - 1 entries after its round's first one
 whole_rounds : (k n : ℕ) → 0 < n → suc k % n ≡ 0 → (k % n ≡ n - 1) × (n ≤ suc k)
 whole_rounds k n some h =
     elim (nat_le n (k % n + 1)) as (λ b. nat_le n (k % n + 1) ≡ b → cond b 0 (k % n + 1) ≡ 0 → (k % n ≡ n - 1) × (n ≤ suc k)) [
@@ -95,11 +95,11 @@ whole_rounds k n some h =
     ] refl (sym (mod_next n k some) ∙ h)
 
 round_of : (t : Tables) (e : ℕ) (late : List Entry) (ps : List (List Entry)) (h : List Entry) → IsAccepted t (reverse h) → IsPastOf late (reverse h)
-    → EachIsPastOf ps late → IsStacked ps → 0 < width t e → 0 < length ps → length ps % width t e ≡ 0
+    → EachIsPastOf ps late → IsStacked ps → 0 < component_count t e → 0 < length ps → length ps % component_count t e ≡ 0
     → (total e (past_at (round_start t e ps) h) ≤ round_sum t e ps) × (round_sum t e ps ≤ total e late)
 round_of t e late [] h acc is each stacked some more whole = absurd (omega arith)
 round_of t e late (p ∷ ps) h acc is each stacked some more whole =
-    let n = width t e in
+    let n = component_count t e in
     let k = whole_rounds (length ps) n some whole in
     let last : suc (length ps) - 1 ≡ length ps = omega arith in
     let start : (suc (length ps) - 1) % n ≡ n - 1 = ap (λ m. m % n) last ∙ k.0 in
@@ -114,7 +114,7 @@ round_of t e late (p ∷ ps) h acc is each stacked some more whole =
     let sum : sum_read t e n (take n (p ∷ ps)) ≡ round_sum t e (p ∷ ps) = sum_taken t e n (p ∷ ps) in
     (rw (at, ← sum) between.0, rw (← sum) between.1)
 
-reading_is : (t : Tables) (op : Act) (e : ℕ) → IsReading t op → read_of op ≡ Some e → e < length t.events
+reading_is : (t : Tables) (op : Act) (e : ℕ) → IsReading t op → read_event op ≡ Some e → e < length t.events
 reading_is t (Read f) e h is = (let same : f ≡ e = cc in omega arith)
 reading_is t (Await f v) e h is = (let same : f ≡ e = cc in omega arith)
 reading_is t (Advance f) e h is = absurd h
@@ -126,9 +126,9 @@ reading_is t (Hand f g) e h is = absurd h
 
 -- what an accepted entry's call reads is declared
 gone_reads : (t : Tables) (past : List Entry) (act : Act) (o : Option CallSoFar) (call : CallSoFar) (e : ℕ) → names_unknown_object t act ≡ false → IsReadingCall t o
-    → gone_on act past o ≡ Some call → read_of call.op ≡ Some e → e < length t.events
+    → call_with_act act past o ≡ Some call → read_event call.op ≡ Some e → e < length t.events
 gone_reads t past Go None call e known reading is reads = cc
-gone_reads t past Go (Some c) call e known reading is reads = (let same : c.op ≡ call.op = cc in reading_is t c.op e reading (ap read_of same ∙ reads))
+gone_reads t past Go (Some c) call e known reading is reads = (let same : c.op ≡ call.op = cc in reading_is t c.op e reading (ap read_event same ∙ reads))
 gone_reads t past (Read f) o call e known reading is reads =
     (let op : Read f ≡ call.op = cc in let same : f ≡ e = cc in let lt : f < length t.events = leb-false (length t.events) f known in omega arith)
 gone_reads t past (Await f v) o call e known reading is reads =
@@ -142,7 +142,7 @@ gone_reads t past (Hand f g) o call e known reading is reads = (let op : Hand f 
 one_long : (past : List Entry) (call : CallSoFar) → past ∷ [] ≡ call.moments → 0 < length call.moments
 one_long past call same = (let long = ap length same in omega arith)
 
-gone_some : (act : Act) (past : List Entry) (o : Option CallSoFar) (call : CallSoFar) → gone_on act past o ≡ Some call → 0 < length call.moments
+gone_some : (act : Act) (past : List Entry) (o : Option CallSoFar) (call : CallSoFar) → call_with_act act past o ≡ Some call → 0 < length call.moments
 gone_some Go past None call is = cc
 gone_some Go past (Some c) call is = (let same : past ∷ c.moments ≡ call.moments = cc in let long = ap length same in omega arith)
 gone_some (Advance e) past o call is = one_long past call cc

@@ -1,4 +1,4 @@
--- The counts of a past, in order of time.
+-- The counts of a history, in order of time.
 use Rattle.std.proofs.Common.{◌≡◌, ℕ, zero, suc, ◌+◌, ◌<◌, ◌≤◌, Bool, true, false, ◌&&◌, List, [], ◌∷◌, reverse, take, count_by, Option, Some, None, ◌⊎◌, inl, inr, unwrap_or, slice_get, refl, ap, sym, ◌∙◌, arith, subst, cond, ◌==◌, ◌≢◌, add-one}
 use Rattle.std.specs.Option.{option_map_or, option_and_then}
 use Rattle.std.proofs.Math.Nat.{zero-add}
@@ -24,7 +24,7 @@ issued_of q [] = refl
 issued_of q (x ∷ past) =
     ap (λ n. cond (is_ticket q x.act) 1 0 + n) (issued_of q past) ∙ sym (sum_by-cons (λ (y : Entry). cond (is_ticket q y.act) 1 0) x past)
 
-turned_count : (p : Entry → Bool) (h : List Entry) → count_by p (reverse h) ≡ count_by p h
+pub turned_count : (p : Entry → Bool) (h : List Entry) → count_by p (reverse h) ≡ count_by p h
 turned_count p h = sum_by-IsPermutation (λ x. cond (p x) 1 0) h (reverse h) (IsPermutation-reverse h)
 
 pub totals_count : TotalsCountAdvances

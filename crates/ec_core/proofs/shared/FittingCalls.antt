@@ -1,4 +1,5 @@
--- A history follows exactly if each worker's finished calls fit, one after another, and so does its call under way.
+-- A history conforms exactly if each worker's completed calls fit, one after another, and so does
+-- its pending call.
 use Rattle.std.proofs.Common.{◌≡◌, ℕ, Bool, true, false, not, ◌&&◌, ◌||◌, List, [], ◌∷◌, ◌++◌, Option, Some, None, is_some, refl, ap, sym, ◌∙◌, subst, cond, ◌==◌, ◌⊎◌, inl, inr}
 use Rattle.std.proofs.lemmas.Bool.{eqb-true, eq-eqb}
 use Rattle.ec_count.specs.Tables.{Tables, IsDeclared}
@@ -7,10 +8,10 @@ use Rattle.ec_core.specs.declared.act.Act.TheVariants.{Advance, Read, Await, Go,
 use Rattle.ec_core.specs.declared.act.Reply.{Reply}
 use Rattle.ec_core.specs.declared.act.Reply.TheVariants.{Done, Number, Pending}
 use Rattle.ec_core.specs.declared.act.Entry.{Entry}
-use Rattle.ec_core.specs.Calls.{CallSoFar, under_way, gone_on, is_pending, is_go}
+use Rattle.ec_core.specs.Calls.{CallSoFar, under_way, call_with_act, is_pending, is_go}
 use Rattle.ec_core.specs.Acceptance.{IsAccepted}
-use Rattle.ec_core.specs.Following.{Told, Rule, opened, extended, block_after, block, is_right, Follow}
-use Rattle.ec_core.specs.JoinedLists.{finished_by}
+use Rattle.ec_core.specs.Following.{CompletedCall, Rule, opening_act, extend_list, block_after, block, is_right, Follow}
+use Rattle.ec_core.specs.JoinedLists.{completed_calls_of}
 use Rattle.ec_core.proofs.shared.Answering.{allowed, call_reads, IsReading, IsReadingCall}
 use Rattle.ec_core.proofs.shared.Following.{step_due, pending_after, op_at, other_block, own_block, right_call, IsRightCall}
 use Rattle.ec_core.proofs.shared.Scans.{call_own, call_other}
@@ -18,78 +19,80 @@ use Rattle.ec_core.proofs.shared.Scans.{call_own, call_other}
 -- CALLS ONE AFTER ANOTHER
 
 -- the call is next in the list, or does not concern it
-abbrev pub is_fitting : Rule → List Told → Act → Bool
+abbrev pub is_fitting : Rule → List CompletedCall → Act → Bool
 is_fitting r b op = not (r.concerns b op) || r.fits b op
 
--- the part of its list that a worker has behind it after these calls, if it had some before them
-abbrev pub list_after : Rule → List Told → List Told → List Told
+-- the part of its list that a worker has completed after these calls, given the part before them
+abbrev pub list_after : Rule → List CompletedCall → List CompletedCall → List CompletedCall
 list_after r b [] = b
-list_after r b (c ∷ cs) = list_after r (extended r b c) cs
+list_after r b (c ∷ cs) = list_after r (extend_list r b c) cs
 
--- each call fits where it stands
-abbrev pub AreFitting : Rule → List Told → List Told → Type 0
+-- each call fits at its position
+abbrev pub AreFitting : Rule → List CompletedCall → List CompletedCall → Type 0
 AreFitting r b [] = Unit {0}
-AreFitting r b (c ∷ cs) = (is_fitting r b c.op ≡ true) × AreFitting r (extended r b c) cs
+AreFitting r b (c ∷ cs) = (is_fitting r b c.op ≡ true) × AreFitting r (extend_list r b c) cs
 
--- the list after some calls and then others is that after the others, begun where the first leave it
-pub after_more : (r : Rule) (b xs ys : List Told) → list_after r b (xs ++ ys) ≡ list_after r (list_after r b xs) ys
+-- the list after some calls and then others is that after the others, begun with what the first
+-- leave
+pub after_more : (r : Rule) (b xs ys : List CompletedCall) → list_after r b (xs ++ ys) ≡ list_after r (list_after r b xs) ys
 after_more r b [] ys = refl
-after_more r b (c ∷ xs) ys = after_more r (extended r b c) xs ys
+after_more r b (c ∷ xs) ys = after_more r (extend_list r b c) xs ys
 
 -- calls that fit, and then calls that fit after them, fit as one list
-pub fitting_more : (r : Rule) (b xs ys : List Told) → AreFitting r b xs → AreFitting r (list_after r b xs) ys → AreFitting r b (xs ++ ys)
+pub fitting_more : (r : Rule) (b xs ys : List CompletedCall) → AreFitting r b xs → AreFitting r (list_after r b xs) ys → AreFitting r b (xs ++ ys)
 fitting_more r b [] ys f g = g
-fitting_more r b (c ∷ xs) ys f g = (f.0, fitting_more r (extended r b c) xs ys f.1 g)
+fitting_more r b (c ∷ xs) ys f g = (f.0, fitting_more r (extend_list r b c) xs ys f.1 g)
 
-pub fitting_front : (r : Rule) (b xs ys : List Told) → AreFitting r b (xs ++ ys) → AreFitting r b xs
+pub fitting_front : (r : Rule) (b xs ys : List CompletedCall) → AreFitting r b (xs ++ ys)
+    → AreFitting r b xs
 fitting_front r b [] ys f = tt
-fitting_front r b (c ∷ xs) ys f = (f.0, fitting_front r (extended r b c) xs ys f.1)
+fitting_front r b (c ∷ xs) ys f = (f.0, fitting_front r (extend_list r b c) xs ys f.1)
 
-pub fitting_back : (r : Rule) (b xs ys : List Told) → AreFitting r b (xs ++ ys) → AreFitting r (list_after r b xs) ys
+pub fitting_back : (r : Rule) (b xs ys : List CompletedCall) → AreFitting r b (xs ++ ys) → AreFitting r (list_after r b xs) ys
 fitting_back r b [] ys f = f
-fitting_back r b (c ∷ xs) ys f = fitting_back r (extended r b c) xs ys f.1
+fitting_back r b (c ∷ xs) ys f = fitting_back r (extend_list r b c) xs ys f.1
 
--- FINISHED CALLS
+-- COMPLETED CALLS
 
--- an entry's call, as a finished one: the act that began it and the reply
-abbrev pub told_at : Entry → List Entry → Told
+-- an entry's call, as a completed one: the act that began it and the reply
+abbrev pub told_at : Entry → List Entry → CompletedCall
 told_at x past = record { op = op_at x past; reply = x.reply }
 
--- an entry leaves the finished calls of other workers as they are
-pub finished_other : (w : ℕ) (x : Entry) (past : List Entry) → (x.worker == w) ≡ false → finished_by w (x ∷ past) ≡ finished_by w past
-unfolding finished_by
+-- an entry leaves the completed calls of other workers as they are
+pub finished_other : (w : ℕ) (x : Entry) (past : List Entry) → (x.worker == w) ≡ false → completed_calls_of w (x ∷ past) ≡ completed_calls_of w past
+unfolding completed_calls_of
 finished_other w x past h = rw h refl
 
--- an entry that is told pending leaves its worker's finished calls as they are
-pub finished_same : (x : Entry) (past : List Entry) → is_pending x.reply ≡ true → finished_by x.worker (x ∷ past) ≡ finished_by x.worker past
-unfolding finished_by
+-- an entry with the reply Pending leaves its worker's completed calls as they are
+pub finished_same : (x : Entry) (past : List Entry) → is_pending x.reply ≡ true → completed_calls_of x.worker (x ∷ past) ≡ completed_calls_of x.worker past
+unfolding completed_calls_of
 finished_same x past h = rw (eq-eqb x.worker x.worker refl, h) refl
 
--- an entry that is told more than pending adds its call to its worker's finished calls
-pub finished_more : (x : Entry) (past : List Entry) → is_pending x.reply ≡ false → finished_by x.worker (x ∷ past) ≡ finished_by x.worker past ++ told_at x past ∷ []
-unfolding finished_by
+-- an entry with another reply adds its call to its worker's completed calls
+pub finished_more : (x : Entry) (past : List Entry) → is_pending x.reply ≡ false → completed_calls_of x.worker (x ∷ past) ≡ completed_calls_of x.worker past ++ told_at x past ∷ []
+unfolding completed_calls_of
 finished_more x past h = rw (eq-eqb x.worker x.worker refl, h) refl
 
-after_end : (r : Rule) (b : List Told) (op : Act) (reply : Reply) → is_pending reply ≡ false → block_after r b op reply ≡ extended r b (record { op = op; reply = reply })
+after_end : (r : Rule) (b : List CompletedCall) (op : Act) (reply : Reply) → is_pending reply ≡ false → block_after r b op reply ≡ extend_list r b (record { op = op; reply = reply })
 after_end r b op Pending h = cc
 after_end r b op Done h = refl
 after_end r b op (Number n) h = refl
 
 abbrev IsBlock : Rule → ℕ → List Entry → Type 0
-IsBlock r w past = block r w past ≡ list_after r [] (finished_by w past)
+IsBlock r w past = block r w past ≡ list_after r [] (completed_calls_of w past)
 
 own_is : (r : Rule) (x : Entry) (past : List Entry) → IsBlock r x.worker past → IsBlock r x.worker (x ∷ past)
 own_is r x past h =
     let w = x.worker in
     elim (is_pending x.reply) as (λ p. is_pending x.reply ≡ p → IsBlock r x.worker (x ∷ past)) [
       | true ↦ λ e. own_block r x past ∙ pending_after r (block r w past) (op_at x past) x.reply e ∙ h ∙ ap (list_after r []) (sym (finished_same x past e))
-      | false ↦ λ e. own_block r x past ∙ after_end r (block r w past) (op_at x past) x.reply e ∙ ap (λ b. extended r b (told_at x past)) h
-          ∙ sym (after_more r [] (finished_by w past) (told_at x past ∷ [])) ∙ ap (list_after r []) (sym (finished_more x past e))
+      | false ↦ λ e. own_block r x past ∙ after_end r (block r w past) (op_at x past) x.reply e ∙ ap (λ b. extend_list r b (told_at x past)) h
+          ∙ sym (after_more r [] (completed_calls_of w past) (told_at x past ∷ [])) ∙ ap (list_after r []) (sym (finished_more x past e))
     ] refl
 
--- the list that a worker is in is that after its finished calls
-pub block_is : (r : Rule) (w : ℕ) (past : List Entry) → block r w past ≡ list_after r [] (finished_by w past)
-unfolding block finished_by
+-- a worker's current list is that after its completed calls
+pub block_is : (r : Rule) (w : ℕ) (past : List Entry) → block r w past ≡ list_after r [] (completed_calls_of w past)
+unfolding block completed_calls_of
 block_is r w [] = refl
 block_is r w (x ∷ past) =
     elim (x.worker == w) as (λ b. (x.worker == w) ≡ b → IsBlock r w (x ∷ past)) [
@@ -99,19 +102,19 @@ block_is r w (x ∷ past) =
       | false ↦ λ e. other_block r w x past e ∙ block_is r w past ∙ ap (list_after r []) (sym (finished_other w x past e))
     ] refl
 
--- THE CALL UNDER WAY
+-- THE PENDING CALL
 
 -- a call, if there is one, is next in the list, or does not concern it
-abbrev pub IsFittingCall : Rule → List Told → Option CallSoFar → Type 0
+abbrev pub IsFittingCall : Rule → List CompletedCall → Option CallSoFar → Type 0
 IsFittingCall r b None = Unit {0}
 IsFittingCall r b (Some call) = is_fitting r b call.op ≡ true
 
--- a worker's finished calls fit, and so does its call under way
+-- a worker's completed calls fit, and so does its pending call
 pub record FitsAlone (r : Rule) (w : ℕ) (past : List Entry) : Type 0 where
-  pub calls : AreFitting r [] (finished_by w past)
+  pub calls : AreFitting r [] (completed_calls_of w past)
   pub going : IsFittingCall r (block r w past) (under_way w past)
 
--- FROM FOLLOWING
+-- FROM CONFORMANCE
 
 due_fits : (c f : Bool) → (c ≡ false) ⊎ ((c ≡ true) × (f ≡ true)) → (not c || f) ≡ true
 due_fits true f (inl h) = cc
@@ -119,31 +122,32 @@ due_fits true f (inr h) = h.1
 due_fits false f h = refl
 
 own_fits : (rules : ℕ → Rule) (t : Tables) (x : Entry) (past : List Entry) → IsDeclared t → IsAccepted t (x ∷ past) → Follow rules (x ∷ past)
-    → AreFitting (rules x.worker) [] (finished_by x.worker past) → AreFitting (rules x.worker) [] (finished_by x.worker (x ∷ past))
+    → AreFitting (rules x.worker) [] (completed_calls_of x.worker past) → AreFitting (rules x.worker) [] (completed_calls_of x.worker (x ∷ past))
 own_fits rules t x past d acc f h =
     let r = rules x.worker in
     let w = x.worker in
-    let P : List Told → Type 0 = λ cs. AreFitting (rules x.worker) [] cs in
-    elim (is_pending x.reply) as (λ p. is_pending x.reply ≡ p → AreFitting (rules x.worker) [] (finished_by x.worker (x ∷ past))) [
+    let P : List CompletedCall → Type 0 = λ cs. AreFitting (rules x.worker) [] cs in
+    elim (is_pending x.reply) as (λ p. is_pending x.reply ≡ p → AreFitting (rules x.worker) [] (completed_calls_of x.worker (x ∷ past))) [
       | true ↦ λ e. subst P (sym (finished_same x past e)) h
       | false ↦ λ e.
           (let fits : is_fitting r (block r w past) (op_at x past) ≡ true = due_fits _ _ (step_due t rules x past d acc f) in
-          let Q : List Told → Type 0 = λ b. is_fitting (rules x.worker) b (op_at x past) ≡ true in
-          subst P (sym (finished_more x past e)) (fitting_more r [] (finished_by w past) (told_at x past ∷ []) h (subst Q (block_is r w past) fits, tt)))
+          let Q : List CompletedCall → Type 0 =
+          λ b. is_fitting (rules x.worker) b (op_at x past) ≡ true in
+          subst P (sym (finished_more x past e)) (fitting_more r [] (completed_calls_of w past) (told_at x past ∷ []) h (subst Q (block_is r w past) fits, tt)))
     ] refl
 
-calls_fit : (rules : ℕ → Rule) (t : Tables) (past : List Entry) (w : ℕ) → IsDeclared t → IsAccepted t past → Follow rules past → AreFitting (rules w) [] (finished_by w past)
-unfolding finished_by
+calls_fit : (rules : ℕ → Rule) (t : Tables) (past : List Entry) (w : ℕ) → IsDeclared t → IsAccepted t past → Follow rules past → AreFitting (rules w) [] (completed_calls_of w past)
+unfolding completed_calls_of
 calls_fit rules t [] w d acc f = tt
 calls_fit rules t (x ∷ past) w d acc f =
-    elim (x.worker == w) as (λ b. (x.worker == w) ≡ b → AreFitting (rules w) [] (finished_by w (x ∷ past))) [
+    elim (x.worker == w) as (λ b. (x.worker == w) ≡ b → AreFitting (rules w) [] (completed_calls_of w (x ∷ past))) [
       | true ↦ λ e.
-          (let P : ℕ → Type 0 = λ v. AreFitting (rules v) [] (finished_by v past) → AreFitting (rules v) [] (finished_by v (x ∷ past)) in
+          (let P : ℕ → Type 0 = λ v. AreFitting (rules v) [] (completed_calls_of v past) → AreFitting (rules v) [] (completed_calls_of v (x ∷ past)) in
           subst P (eqb-true x.worker w e) (own_fits rules t x past d acc f) (calls_fit rules t past w d acc.1 f.1))
       | false ↦ λ e. subst (AreFitting (rules w) []) (sym (finished_other w x past e)) (calls_fit rules t past w d acc.1 f.1)
     ] refl
 
-fitting_act : (t : Tables) (r : Rule) (b : List Told) (op : Act) → IsReading t op → is_right r b op ≡ true → is_fitting r b op ≡ true
+fitting_act : (t : Tables) (r : Rule) (b : List CompletedCall) (op : Act) → IsReading t op → is_right r b op ≡ true → is_fitting r b op ≡ true
 fitting_act t r b Go reading h = absurd reading
 fitting_act t r b (Advance e) reading h = h
 fitting_act t r b (Read e) reading h = h
@@ -153,7 +157,7 @@ fitting_act t r b (Put x v) reading h = h
 fitting_act t r b (Get x) reading h = h
 fitting_act t r b (Hand e f) reading h = h
 
-fitting_call : (t : Tables) (r : Rule) (b : List Told) (o : Option CallSoFar) → IsReadingCall t o → IsRightCall r b o → IsFittingCall r b o
+fitting_call : (t : Tables) (r : Rule) (b : List CompletedCall) (o : Option CallSoFar) → IsReadingCall t o → IsRightCall r b o → IsFittingCall r b o
 fitting_call t r b None reading h = tt
 fitting_call t r b (Some call) reading h = fitting_act t r b call.op reading h
 
@@ -165,8 +169,8 @@ fits_alone rules t past d acc f w = record {
 
 -- AND BACK
 
-gone_fits : (r : Rule) (b : List Told) (act : Act) (past : List Entry) (o : Option CallSoFar) → (not (is_some o) && is_go act) ≡ false
-    → IsFittingCall r b (gone_on act past o) → is_fitting r b (opened act o) ≡ true
+gone_fits : (r : Rule) (b : List CompletedCall) (act : Act) (past : List Entry) (o : Option CallSoFar) → (not (is_some o) && is_go act) ≡ false
+    → IsFittingCall r b (call_with_act act past o) → is_fitting r b (opening_act act o) ≡ true
 gone_fits r b Go past None going h = cc
 gone_fits r b Go past (Some call) going h = h
 gone_fits r b (Advance e) past o going h = h
@@ -177,7 +181,7 @@ gone_fits r b (Put x v) past o going h = h
 gone_fits r b (Get x) past o going h = h
 gone_fits r b (Hand e f) past o going h = h
 
-fits_before : (r : Rule) (b : List Told) (act : Act) (o : Option CallSoFar) → (is_some o && not (is_go act)) ≡ false → is_fitting r b (opened act o) ≡ true → IsFittingCall r b o
+fits_before : (r : Rule) (b : List CompletedCall) (act : Act) (o : Option CallSoFar) → (is_some o && not (is_go act)) ≡ false → is_fitting r b (opening_act act o) ≡ true → IsFittingCall r b o
 fits_before r b act None free h = tt
 fits_before r b Go (Some call) free h = h
 fits_before r b (Advance e) (Some call) free h = cc
@@ -188,7 +192,7 @@ fits_before r b (Put x v) (Some call) free h = cc
 fits_before r b (Get x) (Some call) free h = cc
 fits_before r b (Hand e f) (Some call) free h = cc
 
-right_act : (r : Rule) (b : List Told) (act : Act) (o : Option CallSoFar) → is_fitting r b (opened act o) ≡ true → is_right r b act ≡ true
+right_act : (r : Rule) (b : List CompletedCall) (act : Act) (o : Option CallSoFar) → is_fitting r b (opening_act act o) ≡ true → is_right r b act ≡ true
 right_act r b Go o h = refl
 right_act r b (Advance e) o h = h
 right_act r b (Read e) o h = h
@@ -200,19 +204,19 @@ right_act r b (Hand e f) o h = h
 
 -- what fits after an entry of the worker: its calls before, and the call of the entry
 pub record FitsWith (r : Rule) (x : Entry) (past : List Entry) : Type 0 where
-  pub calls : AreFitting r [] (finished_by x.worker past)
+  pub calls : AreFitting r [] (completed_calls_of x.worker past)
   pub op : is_fitting r (block r x.worker past) (op_at x past) ≡ true
 
 fits_with : (r : Rule) (t : Tables) (x : Entry) (past : List Entry) → IsAccepted t (x ∷ past) → FitsAlone r x.worker (x ∷ past) → FitsWith r x past
 fits_with r t x past acc f =
     let w = x.worker in
     let o = under_way x.worker past in
-    let P : List Told → Type 0 = λ cs. AreFitting r [] cs in
-    let Q : List Told → Type 0 = λ b. is_fitting r b (op_at x past) ≡ true in
+    let P : List CompletedCall → Type 0 = λ cs. AreFitting r [] cs in
+    let Q : List CompletedCall → Type 0 = λ b. is_fitting r b (op_at x past) ≡ true in
     elim (is_pending x.reply) as (λ p. is_pending x.reply ≡ p → FitsWith r x past) [
       | true ↦ λ e.
           (let here : block r w (x ∷ past) ≡ block r w past = own_block r x past ∙ pending_after r (block r w past) (op_at x past) x.reply e in
-          let call : under_way w (x ∷ past) ≡ gone_on x.act past o = call_own x past ∙ ap (λ p. cond p (gone_on x.act past o) None) e in
+          let call : under_way w (x ∷ past) ≡ call_with_act x.act past o = call_own x past ∙ ap (λ p. cond p (call_with_act x.act past o) None) e in
           let R : Option CallSoFar → Type 0 = λ c. IsFittingCall r (block r x.worker (x ∷ past)) c in
           let going = (allowed t past w x.act x.reply acc.0).0.going in
           record {
@@ -220,10 +224,10 @@ fits_with r t x past acc f =
             op = subst Q here (gone_fits r (block r w (x ∷ past)) x.act past o going (subst R call f.going));
           })
       | false ↦ λ e.
-          (let all : AreFitting r [] (finished_by w past ++ told_at x past ∷ []) = subst P (finished_more x past e) f.calls in
+          (let all : AreFitting r [] (completed_calls_of w past ++ told_at x past ∷ []) = subst P (finished_more x past e) f.calls in
           record {
-            calls = fitting_front r [] (finished_by w past) (told_at x past ∷ []) all;
-            op = subst Q (sym (block_is r w past)) (fitting_back r [] (finished_by w past) (told_at x past ∷ []) all).0;
+            calls = fitting_front r [] (completed_calls_of w past) (told_at x past ∷ []) all;
+            op = subst Q (sym (block_is r w past)) (fitting_back r [] (completed_calls_of w past) (told_at x past ∷ []) all).0;
           })
     ] refl
 
@@ -237,8 +241,8 @@ own_before r t x past acc f =
 
 other_before : (r : Rule) (w : ℕ) (x : Entry) (past : List Entry) → (x.worker == w) ≡ false → FitsAlone r w (x ∷ past) → FitsAlone r w past
 other_before r w x past e f =
-    let P : List Told → Option CallSoFar → Type 0 = λ b o. IsFittingCall r b o in
-    let R : List Told → Type 0 = λ b. IsFittingCall r b (under_way w (x ∷ past)) in
+    let P : List CompletedCall → Option CallSoFar → Type 0 = λ b o. IsFittingCall r b o in
+    let R : List CompletedCall → Type 0 = λ b. IsFittingCall r b (under_way w (x ∷ past)) in
     let Q : Option CallSoFar → Type 0 = λ o. IsFittingCall r (block r w past) o in
     record {
       calls = subst (AreFitting r []) (finished_other w x past e) f.calls;
@@ -252,7 +256,7 @@ all_before rules t x past acc f w =
       | false ↦ λ e. other_before (rules w) w x past e (f w)
     ] refl
 
--- an accepted history follows if each worker alone makes calls that fit
+-- an accepted history conforms if the calls of each worker fit
 pub follow_alone : (rules : ℕ → Rule) (t : Tables) (past : List Entry) → IsAccepted t past → ((w : ℕ) → FitsAlone (rules w) w past) → Follow rules past
 follow_alone rules t [] acc f = tt
 follow_alone rules t (x ∷ past) acc f = (

@@ -1,14 +1,14 @@
--- The moments of a call under way came before.
+-- The moments of a pending call came before.
 use Rattle.std.proofs.Common.{◌≡◌, ℕ, Bool, true, false, List, [], ◌∷◌, ◌++◌, append_assoc, Option, Some, None, refl, ap, sym, ◌∙◌, cond, ◌==◌}
 use Rattle.ec_core.specs.declared.act.Act.{Act}
 use Rattle.ec_core.specs.declared.act.Act.TheVariants.{Advance, Read, Await, Go, Ticket, Put, Get, Hand}
 use Rattle.ec_core.specs.declared.act.Reply.{Reply}
 use Rattle.ec_core.specs.declared.act.Reply.TheVariants.{Done, Number, Pending}
 use Rattle.ec_core.specs.declared.act.Entry.{Entry}
-use Rattle.ec_core.specs.Calls.{CallSoFar, under_way, gone_on, is_pending}
+use Rattle.ec_core.specs.Calls.{CallSoFar, under_way, call_with_act, is_pending}
 use Rattle.ec_core.specs.Rounds.{IsPastOf, EachIsPastOf}
 
--- each past is one of itself
+-- each reversed history is a suffix of itself
 pub past_itself : (past : List Entry) → IsPastOf past past
 past_itself past = record { since = []; is = refl }
 
@@ -31,7 +31,7 @@ abbrev pub IsCallBefore : Option CallSoFar → List Entry → Type 0
 IsCallBefore None late = Unit {0}
 IsCallBefore (Some call) late = EachIsPastOf call.moments late
 
-pub gone_before : (act : Act) (past : List Entry) (o : Option CallSoFar) → IsCallBefore o past → IsCallBefore (gone_on act past o) past
+pub gone_before : (act : Act) (past : List Entry) (o : Option CallSoFar) → IsCallBefore o past → IsCallBefore (call_with_act act past o) past
 gone_before Go past None h = tt
 gone_before Go past (Some call) h = (past_itself past, h)
 gone_before (Advance e) past o h = (past_itself past, tt)
@@ -50,13 +50,13 @@ kept_before : (b : Bool) (o : Option CallSoFar) (past : List Entry) → IsCallBe
 kept_before true o past h = h
 kept_before false o past h = tt
 
--- the moments of a call under way are pasts of the moment at which it is
+-- the moments of a pending call came before the moment at which it is pending
 pub call_before : (w : ℕ) (past : List Entry) → IsCallBefore (under_way w past) past
 unfolding under_way
 call_before w [] = tt
 call_before w (x ∷ past) =
-    call_later (cond (x.worker == w) (cond (is_pending x.reply) (gone_on x.act past (under_way w past)) None) (under_way w past)) past x
-    (elim (x.worker == w) as (λ b. IsCallBefore (cond b (cond (is_pending x.reply) (gone_on x.act past (under_way w past)) None) (under_way w past)) past) [
-      | true ↦ kept_before (is_pending x.reply) (gone_on x.act past (under_way w past)) past (gone_before x.act past (under_way w past) (call_before w past))
+    call_later (cond (x.worker == w) (cond (is_pending x.reply) (call_with_act x.act past (under_way w past)) None) (under_way w past)) past x
+    (elim (x.worker == w) as (λ b. IsCallBefore (cond b (cond (is_pending x.reply) (call_with_act x.act past (under_way w past)) None) (under_way w past)) past) [
+      | true ↦ kept_before (is_pending x.reply) (call_with_act x.act past (under_way w past)) past (gone_before x.act past (under_way w past) (call_before w past))
       | false ↦ call_before w past
     ])

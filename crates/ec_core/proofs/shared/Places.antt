@@ -1,11 +1,11 @@
--- Elements by place, after a write at one place.
+-- Elements by position, after a write at one position.
 use Rattle.std.proofs.Common.{◌≡◌, ◌≢◌, ℕ, zero, suc, ◌<◌, true, false, ◌&&◌, List, [], ◌∷◌, length, Option, Some, None, refl, ap, sym, ◌∙◌, arith, cond, slice_get, slice_set, unwrap_or, ◌==◌}
 use Rattle.std.specs.Option.{option_map, option_map_or, option_and_then}
 use Rattle.std.proofs.lemmas.Bool.{eqb-true, eqb-false}
 use Rattle.std.proofs.Math.ListN.{get_or}
 use Rattle.std.proofs.lemmas.Option.{slice_get_within, unwrap_or-slice_get}
-use Rattle.ec_count.specs.Counted.{Counted}
-use Rattle.ec_core.specs.Fields.{changed_at}
+use Rattle.ec_count.specs.CountModel.{CountModel}
+use Rattle.ec_core.specs.Fields.{map_at}
 use Rattle.ec_core.specs.Standing.{count_at}
 
 get_same : {X : Type 0} (xs : List X) (i : ℕ) (y : X) → i < length xs → slice_get (slice_set xs i y) i ≡ Some y
@@ -20,7 +20,7 @@ get_other (x ∷ xs) zero (suc j) y h = refl
 get_other (x ∷ xs) (suc i) zero y h = refl
 get_other (x ∷ xs) (suc i) (suc j) y h = get_other xs i j y (λ e. h (ap suc e))
 
--- what stands at a place of a list once one of its places is written
+-- the element at a position of a list after one element was written
 pub get_set : {X : Type 0} (xs : List X) (i j : ℕ) (y : X) → i < length xs → slice_get (slice_set xs i y) j ≡ cond (i == j) (Some y) (slice_get xs j)
 get_set xs i j y h =
     elim (i == j) as (λ b. (i == j) ≡ b → slice_get (slice_set xs i y) j ≡ cond b (Some y) (slice_get xs j)) [
@@ -28,8 +28,8 @@ get_set xs i j y h =
       | false ↦ λ e. get_other xs i j y (eqb-false i j e)
     ] refl
 
--- what stands at a place of a list once the element at one of its places is changed
-pub get_changed : {X : Type 0} (f : X → X) (xs : List X) (i j : ℕ) → slice_get (changed_at f xs i) j ≡ cond (i == j) (option_map f (slice_get xs j)) (slice_get xs j)
+-- the element at a position of a list after one element was changed
+pub get_changed : {X : Type 0} (f : X → X) (xs : List X) (i j : ℕ) → slice_get (map_at f xs i) j ≡ cond (i == j) (option_map f (slice_get xs j)) (slice_get xs j)
 get_changed {X} f xs i j =
     elim (slice_get xs i) as (λ o. slice_get xs i ≡ o → slice_get (option_map_or (λ x. slice_set xs i (f x)) o xs) j ≡ cond (i == j) (option_map f (slice_get xs j)) (slice_get xs j)) [
       | None ↦ λ e.
@@ -49,27 +49,27 @@ get_changed {X} f xs i j =
           ] refl))
     ] refl
 
-inner : (f : Counted → Counted) (o : Option (List Counted)) (c d : ℕ)
-    → option_and_then (λ (row : List Counted). slice_get row d) (option_map (λ row. changed_at f row c) o)
-    ≡ cond (c == d) (option_map f (option_and_then (λ (row : List Counted). slice_get row d) o)) (option_and_then (λ (row : List Counted). slice_get row d) o)
+inner : (f : CountModel → CountModel) (o : Option (List CountModel)) (c d : ℕ)
+    → option_and_then (λ (row : List CountModel). slice_get row d) (option_map (λ row. map_at f row c) o)
+    ≡ cond (c == d) (option_map f (option_and_then (λ (row : List CountModel). slice_get row d) o)) (option_and_then (λ (row : List CountModel). slice_get row d) o)
 inner f None c d =
-    let none : Option Counted = None in
+    let none : Option CountModel = None in
     elim (c == d) as (λ b. none ≡ cond b none none) [ true ↦ refl | false ↦ refl ]
 inner f (Some row) c d = get_changed f row c d
 
--- a count is that at a place of its row
-pub row_read : (counts : List (List Counted)) (e c : ℕ) → slice_get (get_or counts e []) c ≡ count_at counts e c
+-- a count is that at a position of its row
+pub row_read : (counts : List (List CountModel)) (e c : ℕ) → slice_get (get_or counts e []) c ≡ count_at counts e c
 row_read counts e c =
     ap (λ row. slice_get row c) (sym (unwrap_or-slice_get counts e []))
-    ∙ (elim (slice_get counts e) as (λ o. slice_get (unwrap_or o []) c ≡ option_and_then (λ (row : List Counted). slice_get row c) o) [ None ↦ refl | Some row ↦ refl ])
+    ∙ (elim (slice_get counts e) as (λ o. slice_get (unwrap_or o []) c ≡ option_and_then (λ (row : List CountModel). slice_get row c) o) [ None ↦ refl | Some row ↦ refl ])
 
--- a count in a table once one of them is changed
-pub count_changed : (f : Counted → Counted) (counts : List (List Counted)) (e c p q : ℕ)
-    → count_at (changed_at (λ row. changed_at f row c) counts e) p q
+-- a count in a table after one of them was changed
+pub count_changed : (f : CountModel → CountModel) (counts : List (List CountModel)) (e c p q : ℕ)
+    → count_at (map_at (λ row. map_at f row c) counts e) p q
     ≡ cond ((e == p) && (c == q)) (option_map f (count_at counts p q)) (count_at counts p q)
 count_changed f counts e c p q =
-    ap (option_and_then (λ (row : List Counted). slice_get row q)) (get_changed (λ row. changed_at f row c) counts e p)
-    ∙ (elim (e == p) as (λ b. option_and_then (λ (row : List Counted). slice_get row q) (cond b (option_map (λ row. changed_at f row c) (slice_get counts p)) (slice_get counts p))
+    ap (option_and_then (λ (row : List CountModel). slice_get row q)) (get_changed (λ row. map_at f row c) counts e p)
+    ∙ (elim (e == p) as (λ b. option_and_then (λ (row : List CountModel). slice_get row q) (cond b (option_map (λ row. map_at f row c) (slice_get counts p)) (slice_get counts p))
     ≡ cond (b && (c == q)) (option_map f (count_at counts p q)) (count_at counts p q)) [
       | true ↦ inner f (slice_get counts p) c q
       | false ↦ refl

@@ -1,4 +1,4 @@
--- Where a call began, what a read tells of that moment, and counts by worker.
+-- Where a call began, what the reply to a read says of that moment, and counts by worker.
 use Rattle.std.proofs.Common.{◌≡◌, ◌≢◌, ℕ, zero, suc, ◌+◌, ◌<◌, ◌≤◌, Bool, true, false, ◌&&◌, List, [], ◌∷◌, length, Option, Some, None, nat_le, Ok, refl, ap, sym, ◌∙◌, arith, subst, cond, ◌==◌, ◌⊎◌, inl, inr}
 use Rattle.std.proofs.lemmas.Bool.{eqb-true, eqb-false, eq-eqb, leb-true, leb-false}
 use Rattle.std.proofs.Math.Nat.{zero-add, mod-eq_of_lt}
@@ -8,10 +8,10 @@ use Rattle.ec_core.specs.declared.act.Act.TheVariants.{Advance, Read, Await, Go,
 use Rattle.ec_core.specs.declared.act.Reply.TheVariants.{Number, Pending}
 use Rattle.ec_core.specs.declared.act.Entry.{Entry}
 use Rattle.ec_core.specs.Counts.{total, issued, sum_to, is_advance, is_ticket}
-use Rattle.ec_core.specs.Calls.{CallSoFar, under_way, gone_on, is_pending}
-use Rattle.ec_core.specs.Rounds.{width, sum_read, next_component, round_reply, read_reply, IsPastOf, IsPastOfEach, EachIsPastOf}
+use Rattle.ec_core.specs.Calls.{CallSoFar, under_way, call_with_act, is_pending}
+use Rattle.ec_core.specs.Rounds.{component_count, sum_read, next_component, round_reply, read_reply, IsPastOf, IsPastOfEach, EachIsPastOf}
 use Rattle.ec_core.specs.Acceptance.{reply_of, answer_of, names_unknown_object, IsAccepted}
-use Rattle.ec_core.specs.Following.{Rule, opened, block}
+use Rattle.ec_core.specs.Following.{Rule, opening_act, block}
 use Rattle.ec_core.proofs.shared.Answering.{allowed, call_reads, IsReading, IsReadingCall, width_some}
 use Rattle.ec_core.proofs.shared.Totals.{raised_sum, zeros, round_between}
 use Rattle.ec_core.proofs.shared.Pasts.{call_before, past_of_past, pending_is}
@@ -21,11 +21,11 @@ use Rattle.ec_core.proofs.shared.Following.{other_block, pending_after, opened_i
 
 -- COUNTS BY WORKER
 
-never : (b : Bool) → (b && false) ≡ false
+pub never : (b : Bool) → (b && false) ≡ false
 never true = refl
 never false = refl
 
-always : (b : Bool) → (b && true) ≡ b
+pub always : (b : Bool) → (b && true) ≡ b
 always true = refl
 always false = refl
 
@@ -75,13 +75,13 @@ total_by t e past acc = made_is (is_advance e) t past acc ∙ total_made e past
 pub issued_by : (t : Tables) (q : ℕ) (past : List Entry) → IsAccepted t past → sum_to (λ w. made_by (is_ticket q) w past) t.workers ≡ issued q past
 issued_by t q past acc = made_is (is_ticket q) t past acc ∙ issued_made q past
 
--- if no number is greater than the other at its place, neither is the sum
+-- if no number is greater than the other with its index, neither is the sum
 pub sum_least : (n : ℕ) (f g : ℕ → ℕ) → ((c : ℕ) → f c ≤ g c) → sum_to f n ≤ sum_to g n
 unfolding sum_to
 sum_least zero f g h = omega arith
 sum_least (suc n) f g h = (let here : f n ≤ g n = h n in let rest : sum_to f n ≤ sum_to g n = sum_least n f g h in omega arith)
 
--- if no number is greater than the other at its place, and one is less, so is the sum
+-- if no number is greater than the other with its index, and one is less, so is the sum
 pub sum_less : (n : ℕ) (f g : ℕ → ℕ) (w : ℕ) → ((c : ℕ) → f c ≤ g c) → w < n → f w < g w → sum_to f n < sum_to g n
 unfolding sum_to
 sum_less zero f g w h lt less = absurd (omega arith)
@@ -104,7 +104,7 @@ abbrev pub oldest : List Entry → List (List Entry) → List Entry
 oldest p [] = p
 oldest p (q ∷ ps) = oldest q ps
 
--- the past of the first entry of the call that an entry is part of
+-- the reversed history before the invocation of the call that an entry is part of
 abbrev pub began : Entry → List Entry → List Entry
 began x past = oldest past (moments_of x.act (under_way x.worker past))
 
@@ -125,7 +125,7 @@ moments_stacked (Put y v) o h = tt
 moments_stacked (Get y) o h = tt
 moments_stacked (Hand e f) o h = tt
 
--- the past at which an entry's call began is a past of that of each entry of the call so far
+-- an entry's call began no later than each entry of the call so far
 pub began_past : (x : Entry) (past : List Entry) → IsPastOf (began x past) past × IsPastOfEach (began x past) (moments_of x.act (under_way x.worker past))
 began_past x past = oldest_past past (moments_of x.act (under_way x.worker past)) (moments_before x.act (under_way x.worker past) past (call_before x.worker past)) (moments_stacked x.act (under_way x.worker past) (call_stacked x.worker past))
 
@@ -151,13 +151,13 @@ began_moments r w past (p ∷ ps) h = h
 
 pending_block : (r : Rule) (w : ℕ) (x : Entry) (past : List Entry) → (x.worker == w) ≡ true → is_pending x.reply ≡ true → block r w (x ∷ past) ≡ block r w past
 unfolding block
-pending_block r w x past h p = rw h (pending_after r (block r w past) (opened x.act (under_way w past)) x.reply p)
+pending_block r w x past h p = rw h (pending_after r (block r w past) (opening_act x.act (under_way w past)) x.reply p)
 
 begun_later : (r : Rule) (w : ℕ) (past now : List Entry) (o : Option CallSoFar) → block r w now ≡ block r w past → IsBegun r w past o → IsBegun r w now o
 begun_later r w past now None e h = tt
 begun_later r w past now (Some call) e h = begun_at_later r w past now call.moments e h
 
-begun_after : (r : Rule) (w : ℕ) (act : Act) (past now : List Entry) (o : Option CallSoFar) → block r w now ≡ block r w past → IsBegun r w past o → IsBegun r w now (gone_on act past o)
+begun_after : (r : Rule) (w : ℕ) (act : Act) (past now : List Entry) (o : Option CallSoFar) → block r w now ≡ block r w past → IsBegun r w past o → IsBegun r w now (call_with_act act past o)
 begun_after r w Go past now None e h = tt
 begun_after r w Go past now (Some call) e h = begun_on r w past now call.moments e h
 begun_after r w (Advance f) past now o e h = sym e
@@ -168,14 +168,14 @@ begun_after r w (Put y v) past now o e h = sym e
 begun_after r w (Get y) past now o e h = sym e
 begun_after r w (Hand f g) past now o e h = sym e
 
--- the list that a worker is in is the one that it was in when its call under way began
+-- a worker's current list is the one that it was in when its pending call began
 begun : (r : Rule) (w : ℕ) (past : List Entry) → IsBegun r w past (under_way w past)
 unfolding under_way
 begun r w [] = tt
 begun r w (x ∷ past) =
-    elim (x.worker == w) as (λ b. (x.worker == w) ≡ b → IsBegun r w (x ∷ past) (cond b (cond (is_pending x.reply) (gone_on x.act past (under_way w past)) None) (under_way w past))) [
+    elim (x.worker == w) as (λ b. (x.worker == w) ≡ b → IsBegun r w (x ∷ past) (cond b (cond (is_pending x.reply) (call_with_act x.act past (under_way w past)) None) (under_way w past))) [
       | true ↦ λ h.
-          (elim (is_pending x.reply) as (λ p. is_pending x.reply ≡ p → IsBegun r w (x ∷ past) (cond p (gone_on x.act past (under_way w past)) None)) [
+          (elim (is_pending x.reply) as (λ p. is_pending x.reply ≡ p → IsBegun r w (x ∷ past) (cond p (call_with_act x.act past (under_way w past)) None)) [
             | true ↦ λ k. begun_after r w x.act past (x ∷ past) (under_way w past) (pending_block r w x past h k) (begun r w past)
             | false ↦ λ k. tt
           ] refl)
@@ -197,24 +197,24 @@ began_of r w (Hand e f) past o h = refl
 pub began_block : (r : Rule) (x : Entry) (past : List Entry) → block r x.worker (began x past) ≡ block r x.worker past
 began_block r x past = began_of r x.worker x.act past (under_way x.worker past) (begun r x.worker past)
 
--- WHAT A READ TELLS
+-- WHAT A READ RETURNS
 
 abbrev IsShort : Tables → Act → List (List Entry) → Type 0
-IsShort t (Read e) moments = length moments < width t e
+IsShort t (Read e) moments = length moments < component_count t e
 IsShort t _ moments = Unit {0}
 
 abbrev IsShortCall : Tables → Option CallSoFar → Type 0
 IsShortCall t None = Unit {0}
 IsShortCall t (Some call) = IsShort t call.op call.moments
 
--- a read that is under way has not yet read each component
-short_next : (t : Tables) (e : ℕ) (past : List Entry) (moments : List (List Entry)) → length moments < width t e → read_reply t (Read e) past moments ≡ Pending → suc (length moments) < width t e
+-- a pending read has not yet read each component
+short_next : (t : Tables) (e : ℕ) (past : List Entry) (moments : List (List Entry)) → length moments < component_count t e → read_reply t (Read e) past moments ≡ Pending → suc (length moments) < component_count t e
 unfolding read_reply
 short_next t e past moments lt =
     let c = next_component t e moments in
-    elim (nat_le (width t e) (c + 1)) as (λ b. nat_le (width t e) (c + 1) ≡ b → cond b (round_reply (Read e) (sum_read t e (suc c) (past ∷ moments))) Pending ≡ Pending → suc (length moments) < width t e) [
+    elim (nat_le (component_count t e) (c + 1)) as (λ b. nat_le (component_count t e) (c + 1) ≡ b → cond b (round_reply (Read e) (sum_read t e (suc c) (past ∷ moments))) Pending ≡ Pending → suc (length moments) < component_count t e) [
       | true ↦ λ h p. cc
-      | false ↦ λ h p. (let at : c ≡ length moments = mod-eq_of_lt lt in let k : c + 1 < width t e = leb-false (width t e) (c + 1) h in omega arith)
+      | false ↦ λ h p. (let at : c ≡ length moments = mod-eq_of_lt lt in let k : c + 1 < component_count t e = leb-false (component_count t e) (c + 1) h in omega arith)
     ] refl
 
 short_op : (t : Tables) (op : Act) (past : List Entry) (moments : List (List Entry)) → IsShort t op moments → read_reply t op past moments ≡ Pending → IsShort t op (past ∷ moments)
@@ -228,7 +228,7 @@ short_op t (Get y) past moments h p = tt
 short_op t (Hand e f) past moments h p = tt
 
 short_gone : (t : Tables) (past : List Entry) (w : ℕ) (act : Act) (o : Option CallSoFar) → IsDeclared t → under_way w past ≡ o → names_unknown_object t act ≡ false → IsReadingCall t o → IsShortCall t o
-    → reply_of t past w act ≡ Pending → IsShortCall t (gone_on act past o)
+    → reply_of t past w act ≡ Pending → IsShortCall t (call_with_act act past o)
 short_gone t past w Go None d e known r h p = tt
 short_gone t past w Go (Some call) d e known r h p = short_op t call.op past call.moments h (sym (reply_read t past w Go (Some call) e r) ∙ p)
 short_gone t past w (Read f) o d e known r h p = short_next t f past [] (width_some t f d (leb-false (length t.events) f known)) p
@@ -243,9 +243,9 @@ short : (t : Tables) (w : ℕ) (past : List Entry) → IsDeclared t → IsAccept
 unfolding under_way
 short t w [] d acc = tt
 short t w (x ∷ past) d acc =
-    elim (x.worker == w) as (λ b. (x.worker == w) ≡ b → IsShortCall t (cond b (cond (is_pending x.reply) (gone_on x.act past (under_way w past)) None) (under_way w past))) [
+    elim (x.worker == w) as (λ b. (x.worker == w) ≡ b → IsShortCall t (cond b (cond (is_pending x.reply) (call_with_act x.act past (under_way w past)) None) (under_way w past))) [
       | true ↦ λ h.
-          (elim (is_pending x.reply) as (λ p. is_pending x.reply ≡ p → IsShortCall t (cond p (gone_on x.act past (under_way w past)) None)) [
+          (elim (is_pending x.reply) as (λ p. is_pending x.reply ≡ p → IsShortCall t (cond p (call_with_act x.act past (under_way w past)) None)) [
             | true ↦ λ k.
                 (let P : ℕ → Type 0 = λ v. answer_of t past v x.act ≡ Ok x.reply in
                 let a = allowed t past w x.act x.reply (subst P (eqb-true x.worker w h) acc.0) in
@@ -255,7 +255,7 @@ short t w (x ∷ past) d acc =
       | false ↦ λ h. short t w past d acc.1
     ] refl
 
-short_now : (t : Tables) (act : Act) (o : Option CallSoFar) → IsDeclared t → names_unknown_object t act ≡ false → IsShortCall t o → IsShort t (opened act o) (moments_of act o)
+short_now : (t : Tables) (act : Act) (o : Option CallSoFar) → IsDeclared t → names_unknown_object t act ≡ false → IsShortCall t o → IsShort t (opening_act act o) (moments_of act o)
 short_now t Go None d k h = tt
 short_now t Go (Some call) d k h = h
 short_now t (Read e) o d k h = width_some t e d (leb-false (length t.events) e k)
@@ -275,36 +275,36 @@ is_reading t act op e (inl same) is known =
     subst Q (sym is) (leb-false (length t.events) e at))
 
 -- the number that ends a read is at least the total if the read began
-read_low_at : (t : Tables) (e : ℕ) (early past : List Entry) (moments : List (List Entry)) (s : ℕ) → IsAccepted t past → length moments < width t e
+read_low_at : (t : Tables) (e : ℕ) (early past : List Entry) (moments : List (List Entry)) (s : ℕ) → IsAccepted t past → length moments < component_count t e
     → IsPastOf early past → IsPastOfEach early moments → EachIsPastOf moments past → read_reply t (Read e) past moments ≡ Number s → total e early ≤ s
 unfolding read_reply
 read_low_at t e early past moments s acc lt before each pasts =
     let c = next_component t e moments in
-    elim (nat_le (width t e) (c + 1)) as (λ b. nat_le (width t e) (c + 1) ≡ b → cond b (round_reply (Read e) (sum_read t e (suc c) (past ∷ moments))) Pending ≡ Number s → total e early ≤ s) [
+    elim (nat_le (component_count t e) (c + 1)) as (λ b. nat_le (component_count t e) (c + 1) ≡ b → cond b (round_reply (Read e) (sum_read t e (suc c) (past ∷ moments))) Pending ≡ Number s → total e early ≤ s) [
       | true ↦ λ h p.
           (let at : c ≡ length moments = mod-eq_of_lt lt in
-          let le : width t e ≤ c + 1 = leb-true (width t e) (c + 1) h in
-          let whole : suc c ≡ width t e = omega arith in
+          let le : component_count t e ≤ c + 1 = leb-true (component_count t e) (c + 1) h in
+          let whole : suc c ≡ component_count t e = omega arith in
           let same : sum_read t e (suc c) (past ∷ moments) ≡ s = cc in
           let P : List Entry → Type 0 = λ z. IsAccepted t z in
           let acc' : IsAccepted t early = accepted_before t before.since early (subst P before.is acc) in
-          let low : total e early ≤ sum_read t e (width t e) (past ∷ moments) =
+          let low : total e early ≤ sum_read t e (component_count t e) (past ∷ moments) =
           (round_between t e early past (past ∷ moments) acc' acc (omega arith) (before, each) (record { since = []; is = refl }, pasts)).0 in
-          let is : sum_read t e (width t e) (past ∷ moments) ≡ s = ap (λ n. sum_read t e n (past ∷ moments)) (sym whole) ∙ same in
+          let is : sum_read t e (component_count t e) (past ∷ moments) ≡ s = ap (λ n. sum_read t e n (past ∷ moments)) (sym whole) ∙ same in
           omega arith)
       | false ↦ λ h p. cc
     ] refl
 
--- a read tells at least the total at the moment at which it began
+-- a read returns at least the total at the moment at which it began
 pub read_low : (t : Tables) (x : Entry) (past : List Entry) (e s : ℕ) → IsDeclared t → IsAccepted t (x ∷ past) → op_at x past ≡ Read e → x.reply ≡ Number s → total e (began x past) ≤ s
-read_low t x past e s d acc op told =
+read_low t x past e s d acc op returned =
     let k = allowed t past x.worker x.act x.reply acc.0 in
     let o = under_way x.worker past in
     let moments = moments_of x.act o in
     let P : Act → Type 0 = λ a. IsShort t a moments in
-    let few : length moments < width t e = subst P op (short_now t x.act o d k.0.known (short t x.worker past d acc.1)) in
+    let few : length moments < component_count t e = subst P op (short_now t x.act o d k.0.known (short t x.worker past d acc.1)) in
     let Q : Act → Type 0 = λ a. IsReading t a in
     let reading : IsReading t (op_at x past) = is_reading t x.act (op_at x past) e (opened_is t x.act o k.0.going (call_reads t past x.worker acc.1)) op k.0.known in
-    let reply : read_reply t (Read e) past moments ≡ Number s = ap (λ a. read_reply t a past moments) (sym op) ∙ sym (reply_read t past x.worker x.act o refl reading) ∙ k.1 ∙ told in
+    let reply : read_reply t (Read e) past moments ≡ Number s = ap (λ a. read_reply t a past moments) (sym op) ∙ sym (reply_read t past x.worker x.act o refl reading) ∙ k.1 ∙ returned in
     let b = began_past x past in
     read_low_at t e (began x past) past moments s acc.1 few b.0 b.1 (moments_before x.act o past (call_before x.worker past)) reply

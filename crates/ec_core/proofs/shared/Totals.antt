@@ -6,12 +6,12 @@ use Rattle.ec_core.specs.declared.act.Act.{Act}
 use Rattle.ec_core.specs.declared.act.Act.TheVariants.{Advance, Read, Await, Go, Ticket, Put, Get, Hand}
 use Rattle.ec_core.specs.declared.act.Entry.{Entry}
 use Rattle.ec_core.specs.Counts.{total, component_total, sum_to, is_advance, is_place, signallers_at, component_at}
-use Rattle.ec_core.specs.Rounds.{width, sum_read, IsPastOf, IsPastOfEach, EachIsPastOf}
+use Rattle.ec_core.specs.Rounds.{component_count, sum_read, IsPastOf, IsPastOfEach, EachIsPastOf}
 use Rattle.ec_core.specs.Acceptance.{IsAccepted, has_right}
 use Rattle.ec_core.proofs.shared.Answering.{place_within, allowed, width_few}
 use Rattle.ec_core.proofs.shared.Signalling.{signallers_length}
 use Rattle.ec_core.specs.Standing.{State, StandsFor, count_at}
-use Rattle.ec_core.specs.Fields.{value_of}
+use Rattle.ec_core.specs.Fields.{count_value}
 
 eqb-off : (d n : ℕ) → n < d → (d == n) ≡ false
 eqb-off d n h = grind arith
@@ -24,7 +24,7 @@ one_at (suc n) f d h =
     let rest : sum_to (λ c. cond (d == c) 1 0 + f c) n ≡ sum_to f n = one_at n f d (omega arith) in
     rw (off, rest) (omega arith)
 
--- one more at one place is one more in all
+-- one more in one summand is one more in the sum
 pub one_more : (n : ℕ) (f : ℕ → ℕ) (d : ℕ) → d < n → sum_to (λ c. cond (d == c) 1 0 + f c) n ≡ 1 + sum_to f n
 unfolding sum_to
 one_more zero f d h = absurd (omega arith)
@@ -41,7 +41,7 @@ unfolding sum_to
 same_sum zero f = refl
 same_sum (suc n) f = (let rest : sum_to (λ c. 0 + f c) n ≡ 0 + sum_to f n = same_sum n f in omega arith)
 
--- if an entry raises one of so many counts the sum is one more, and else the same
+-- if an entry raises one of so many counts the sum is one more, and otherwise the same
 pub raised_sum : (b : Bool) (o : Option ℕ) (n : ℕ) (f : ℕ → ℕ) → (b ≡ true → (d : ℕ) × (o ≡ Some d) × (d < n))
     → sum_to (λ c. cond (b && is_place c o) 1 0 + f c) n ≡ cond b 1 0 + sum_to f n
 raised_sum true o n f h =
@@ -49,21 +49,21 @@ raised_sum true o n f h =
     rw k.1 (one_more n f k.0 k.2)
 raised_sum false o n f h = same_sum n f
 
--- what an option that is some holds
+-- the value of an option that is some
 pub some_of : (o : Option ℕ) → not (is_some o) ≡ false → (d : ℕ) × (o ≡ Some d)
 some_of None h = cc
 some_of (Some d) h = (d, refl)
 
 -- an accepted advance is made by a signaller
 advance_place : (t : Tables) (past : List Entry) (w e : ℕ) (act : Act) → not (has_right t past w act) ≡ false → is_advance e act ≡ true
-    → (d : ℕ) × (component_at t e past w ≡ Some d) × (d < width t e)
+    → (d : ℕ) × (component_at t e past w ≡ Some d) × (d < component_count t e)
 advance_place t past w e (Advance f) right is =
     let same : f ≡ e = eqb-true f e is in
     let k = some_of (component_at t f past w) right in
     let at : component_at t e past w ≡ Some k.0 = ap (λ v. component_at t v past w) (sym same) ∙ k.1 in
     let within : k.0 < 0 + length (signallers_at t e past) = place_within w (signallers_at t e past) 0 k.0 at in
-    let wide : length (signallers_at t e past) ≡ width t e = signallers_length t e past in
-    (k.0, at, (let below : k.0 < width t e = omega arith in below))
+    let wide : length (signallers_at t e past) ≡ component_count t e = signallers_length t e past in
+    (k.0, at, (let below : k.0 < component_count t e = omega arith in below))
 advance_place t past w e (Read f) right is = cc
 advance_place t past w e (Await f v) right is = cc
 advance_place t past w e Go right is = cc
@@ -72,18 +72,18 @@ advance_place t past w e (Put x v) right is = cc
 advance_place t past w e (Get x) right is = cc
 advance_place t past w e (Hand f g) right is = cc
 
--- so many times 0 is 0
+-- a sum of zeros is 0
 pub zeros : (n : ℕ) → sum_to (λ c. 0) n ≡ 0
 unfolding sum_to
 zeros zero = refl
 zeros (suc n) = (let rest : sum_to (λ c. 0) n ≡ 0 = zeros n in omega arith)
 
 -- the components add up to the total
-pub total_is : (t : Tables) (e : ℕ) (past : List Entry) → IsAccepted t past → sum_to (λ c. component_total t e c past) (width t e) ≡ total e past
+pub total_is : (t : Tables) (e : ℕ) (past : List Entry) → IsAccepted t past → sum_to (λ c. component_total t e c past) (component_count t e) ≡ total e past
 unfolding component_total total sum_to
-total_is t e [] acc = zeros (width t e)
+total_is t e [] acc = zeros (component_count t e)
 total_is t e (x ∷ past) acc =
-    raised_sum (is_advance e x.act) (component_at t e past x.worker) (width t e) (λ c. component_total t e c past)
+    raised_sum (is_advance e x.act) (component_at t e past x.worker) (component_count t e) (λ c. component_total t e c past)
     (advance_place t past x.worker e x.act (allowed t past x.worker x.act x.reply acc.0).0.right)
     ∙ ap (λ n. cond (is_advance e x.act) 1 0 + n) (total_is t e past acc.1)
 
@@ -119,11 +119,11 @@ sum_high t e (suc n) late (p ∷ moments) h =
 
 -- the sum of a whole round is at least the total before it and at most the total after it
 pub round_between : (t : Tables) (e : ℕ) (early late : List Entry) (moments : List (List Entry)) → IsAccepted t early → IsAccepted t late
-    → length moments ≡ width t e → IsPastOfEach early moments → EachIsPastOf moments late
-    → (total e early ≤ sum_read t e (width t e) moments) × (sum_read t e (width t e) moments ≤ total e late)
+    → length moments ≡ component_count t e → IsPastOfEach early moments → EachIsPastOf moments late
+    → (total e early ≤ sum_read t e (component_count t e) moments) × (sum_read t e (component_count t e) moments ≤ total e late)
 round_between t e early late moments a b len low high =
-    (let l : sum_to (λ c. component_total t e c early) (width t e) ≤ sum_read t e (width t e) moments = sum_low t e (width t e) early moments len low in
-    let h : sum_read t e (width t e) moments ≤ sum_to (λ c. component_total t e c late) (width t e) = sum_high t e (width t e) late moments high in
+    (let l : sum_to (λ c. component_total t e c early) (component_count t e) ≤ sum_read t e (component_count t e) moments = sum_low t e (component_count t e) early moments len low in
+    let h : sum_read t e (component_count t e) moments ≤ sum_to (λ c. component_total t e c late) (component_count t e) = sum_high t e (component_count t e) late moments high in
     (rw (← total_is t e early a) l, rw (← total_is t e late b) h))
 
 pub sum_to_next : (f : ℕ → ℕ) (n : ℕ) → sum_to f (n + 1) ≡ f n + sum_to f n
@@ -138,10 +138,11 @@ sum_same (suc n) f g h =
     let rest : sum_to f n ≡ sum_to g n = sum_same n f g (λ c lt. h c (omega arith)) in
     cc)
 
--- in a world that stands for a history the counts of an eventcount's components add up to its total
+-- in a world that represents a history the counts of an eventcount's components add up to its total
 pub total_now : (s : State) (h : List Entry) (e : ℕ) → StandsFor s h → e < 32
-    → sum_to (λ c. value_of (count_at s.counts e c)) (width s.setup e) ≡ total e (reverse h)
+    → sum_to (λ c. count_value (count_at s.counts e c)) (component_count s.setup e)
+    ≡ total e (reverse h)
 total_now s h e st lt =
-    sum_same (width s.setup e) (λ c. value_of (count_at s.counts e c)) (λ c. component_total s.setup e c (reverse h))
-    (λ c below. (let few : width s.setup e ≤ 16 = width_few s.setup e st.declared in ap value_of (st.counts e c lt (omega arith))))
+    sum_same (component_count s.setup e) (λ c. count_value (count_at s.counts e c)) (λ c. component_total s.setup e c (reverse h))
+    (λ c below. (let few : component_count s.setup e ≤ 16 = width_few s.setup e st.declared in ap count_value (st.counts e c lt (omega arith))))
     ∙ total_is s.setup e (reverse h) st.accepted

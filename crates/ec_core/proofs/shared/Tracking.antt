@@ -1,4 +1,4 @@
--- A walk keeps what it says it keeps, also if entries whose calls are not on a group are left out.
+-- A pass has the state that it says, also if entries whose calls are not on a group are left out.
 use Rattle.std.proofs.Common.{◌≡◌, ℕ, zero, suc, ◌+◌, ◌<◌, Bool, true, false, not, ◌||◌, List, [], ◌∷◌, ◌++◌, Option, Some, None, is_some, refl, ap, sym, ◌∙◌, subst, ◌==◌, add-one, take, length, reverse, slice_get, slice_set}
 use Rattle.std.proofs.lemmas.Bool.{eqb-true, and_parts}
 use Rattle.std.proofs.lemmas.List.{reverse-append, reverse-reverse, length-reverse}
@@ -9,17 +9,19 @@ use Rattle.ec_core.specs.declared.act.Reply.{Reply}
 use Rattle.ec_core.specs.declared.act.Reply.TheVariants.{Done, Number, Pending}
 use Rattle.ec_core.specs.declared.audit.AuditFault.{AuditFault}
 use Rattle.ec_core.specs.declared.audit.AuditFault.TheVariants.{NotFollowed, Memory}
-use Rattle.ec_core.specs.declared.protocol.Kept.{Kept}
+use Rattle.ec_core.specs.declared.protocol.ListProgress.{ListProgress}
 use Rattle.ec_core.specs.Audits.{IsFirstBreak}
-use Rattle.ec_core.specs.Calls.{CallSoFar, under_way, is_go, is_pending, goes_on}
+use Rattle.ec_core.specs.Calls.{CallSoFar, under_way, is_go, is_pending, is_intermediate}
 use Rattle.ec_core.specs.Counts.{past_at}
-use Rattle.ec_core.specs.Following.{Told, Rule, opened, block_after, block, is_right, Follow, BreaksAt}
+use Rattle.ec_core.specs.Following.{CompletedCall, Rule, opening_act, block_after, block, is_right, Follow, BreaksAt}
 use Rattle.ec_core.specs.JoinedLists.{SpeaksOf}
-use Rattle.ec_core.specs.Scanning.{Tracked, AreKept, IsFinding, IsTracked}
+use Rattle.ec_core.specs.Scanning.{TrackerModel, AreListProgress, IsFinding, IsTrackerModel}
 use Rattle.ec_core.proofs.shared.Breaks.{break_at, follow_or_break}
 use Rattle.ec_core.proofs.shared.Following.{op_at, off_block, other_block, block_pending}
 use Rattle.ec_core.proofs.shared.Moments.{past_next}
 use Rattle.ec_core.proofs.shared.Scans.{lists_after}
+use Rattle.ec_core.proofs.shared.Stepping.{entry as entry_of}
+use Rattle.ec_core.proofs.shared.Pasts.{pending_is}
 
 -- WHAT WAS FOUND
 
@@ -44,7 +46,7 @@ after_early h y x k at =
     ap (λ n. past_at n (h ++ y ∷ [])) (add-one k) ∙ past_next (h ++ y ∷ []) k x (get_early h y x k at) ∙ ap (λ p. x ∷ p) (take_early h y x k at)
     ∙ sym (ap (λ n. past_at n h) (add-one k) ∙ past_next h k x at)
 
--- a first break stays the first, whatever comes after it
+-- a first violation stays the first, whatever comes after it
 break_stays : (rules : ℕ → Rule) (h : List Entry) (y : Entry) (w k : ℕ) → BreaksAt rules h w k → BreaksAt rules (h ++ y ∷ []) w k
 break_stays rules h y w k b = record {
   entry = b.entry;
@@ -66,7 +68,7 @@ pub none_before : (rules : ℕ → Rule) (fault : Option AuditFault) (past : Lis
 none_before rules None past is f = f
 none_before rules (Some fault) past is b = cc
 
--- an entry that is not right is the first break of a past that followed
+-- an entry that is not right is the first violation, if the history before it conformed
 pub found_break : (rules : ℕ → Rule) (x : Entry) (past : List Entry) (place : ℕ) (right : Bool) → place ≡ length past → Follow rules past
     → right ≡ is_right (rules x.worker) (block (rules x.worker) x.worker past) x.act → right ≡ false → IsFinding rules (Some (NotFollowed x.worker place)) (x ∷ past)
 found_break rules x past place right at f is wrong =
@@ -85,33 +87,33 @@ found_either rules Memory h b f = b
 
 -- A WHOLE TRACKER
 
-abbrev pub tracked : List Kept → Option AuditFault → Tracked
+abbrev pub tracked : List ListProgress → Option AuditFault → TrackerModel
 tracked kept fault = record { kept = kept; fault = fault }
 
-pub tracked_first : (rules : ℕ → Rule) (keeps : List Told → Kept) (kept : List Kept) (start : Kept) → start ≡ keeps []
-    → ((w : ℕ) → w < 16 → slice_get kept w ≡ Some start) → IsTracked rules keeps (tracked kept None) []
+pub tracked_first : (rules : ℕ → Rule) (keeps : List CompletedCall → ListProgress) (kept : List ListProgress) (start : ListProgress) → start ≡ keeps []
+    → ((w : ℕ) → w < 16 → slice_get kept w ≡ Some start) → IsTrackerModel rules keeps (tracked kept None) []
 unfolding block
 tracked_first rules keeps kept start e k = record { lists = λ w lt. k w lt ∙ ap Some e; finding = tt }
 
--- what is kept of the lists stays if a call goes on
-lists_pending : (rules : ℕ → Rule) (keeps : List Told → Kept) (kept : List Kept) (x : Entry) (past : List Entry) → is_pending x.reply ≡ true → AreKept rules keeps kept past → AreKept rules keeps kept (x ∷ past)
+-- the progress in the lists is unchanged if a call stays pending
+lists_pending : (rules : ℕ → Rule) (keeps : List CompletedCall → ListProgress) (kept : List ListProgress) (x : Entry) (past : List Entry) → is_pending x.reply ≡ true → AreListProgress rules keeps kept past → AreListProgress rules keeps kept (x ∷ past)
 lists_pending rules keeps kept x past pending s = λ w lt. s w lt ∙ ap (λ b. Some (keeps b)) (sym (block_pending (rules w) w x past pending))
 
--- one more entry whose call goes on, in the words of the code
-pub tracked_pending : (rules : ℕ → Rule) (keeps : List Told → Kept) (kept : List Kept) (fault found : Option AuditFault) (x : Entry) (past : List Entry)
-    → IsTracked rules keeps (tracked kept fault) past → is_pending x.reply ≡ true → IsFinding rules found (x ∷ past) → IsTracked rules keeps (tracked kept found) (x ∷ past)
+-- one more entry whose call stays pending, in the words of the code
+pub tracked_pending : (rules : ℕ → Rule) (keeps : List CompletedCall → ListProgress) (kept : List ListProgress) (fault found : Option AuditFault) (x : Entry) (past : List Entry)
+    → IsTrackerModel rules keeps (tracked kept fault) past → is_pending x.reply ≡ true → IsFinding rules found (x ∷ past) → IsTrackerModel rules keeps (tracked kept found) (x ∷ past)
 tracked_pending rules keeps kept fault found x past s pending finding = record { lists = lists_pending rules keeps kept x past pending s.lists; finding = finding }
 
 -- one more entry, in the words of the code
-pub tracked_take : (rules : ℕ → Rule) (keeps : List Told → Kept) (kept : List Kept) (fault found : Option AuditFault) (x : Entry) (past : List Entry) (i : ℕ) (was k : Kept) (op : Act)
-    → IsTracked rules keeps (tracked kept fault) past → i ≡ x.worker → i < 16
+pub tracked_take : (rules : ℕ → Rule) (keeps : List CompletedCall → ListProgress) (kept : List ListProgress) (fault found : Option AuditFault) (x : Entry) (past : List Entry) (i : ℕ) (was k : ListProgress) (op : Act)
+    → IsTrackerModel rules keeps (tracked kept fault) past → i ≡ x.worker → i < 16
     → was ≡ keeps (block (rules x.worker) x.worker past) → op ≡ op_at x past
-    → ((calls : List Told) → was ≡ keeps calls → k ≡ keeps (block_after (rules x.worker) calls op x.reply))
+    → ((calls : List CompletedCall) → was ≡ keeps calls → k ≡ keeps (block_after (rules x.worker) calls op x.reply))
     → IsFinding rules found (x ∷ past)
-    → IsTracked rules keeps (tracked (slice_set kept i k) found) (x ∷ past)
+    → IsTrackerModel rules keeps (tracked (slice_set kept i k) found) (x ∷ past)
 tracked_take rules keeps kept fault found x past i was k op s at lt was_is op_is list finding =
     let Small : ℕ → Type 0 = λ n. n < 16 in
-    let Q : ℕ → Type 0 = λ n. AreKept rules keeps (slice_set kept n k) (x ∷ past) in
+    let Q : ℕ → Type 0 = λ n. AreListProgress rules keeps (slice_set kept n k) (x ∷ past) in
     record {
       lists = subst Q (sym at)
           (lists_after rules keeps kept x past k s.lists (subst Small at lt)
@@ -125,7 +127,7 @@ not_true : (b c : Bool) → b ≡ false → not b || c ≡ true
 not_true false c h = refl
 not_true true c h = cc
 
-right_off : (r : Rule) (calls : List Told) (act : Act) (o : Option CallSoFar) → r.concerns calls (opened act o) ≡ false → is_right r calls act ≡ true
+right_off : (r : Rule) (calls : List CompletedCall) (act : Act) (o : Option CallSoFar) → r.concerns calls (opening_act act o) ≡ false → is_right r calls act ≡ true
 right_off r calls Go o h = refl
 right_off r calls (Advance e) o h = not_true (r.concerns calls (Advance e)) (r.fits calls (Advance e)) h
 right_off r calls (Read e) o h = not_true (r.concerns calls (Read e)) (r.fits calls (Read e)) h
@@ -148,9 +150,9 @@ block_off rules x past w off =
       | false ↦ λ h. other_block (rules w) w x past h
     ] refl
 
--- if the rules speak of the calls on a group, an entry whose call is not on it changes nothing
-pub tracked_off : (rules : ℕ → Rule) (keeps : List Told → Kept) (is_on : Act → Bool) (z : Tracked) (x : Entry) (past : List Entry)
-    → ((w : ℕ) → SpeaksOf (rules w) is_on) → is_on (op_at x past) ≡ false → IsTracked rules keeps z past → IsTracked rules keeps z (x ∷ past)
+-- if the rules concern only calls on a group, an entry whose call is not on it changes nothing
+pub tracked_off : (rules : ℕ → Rule) (keeps : List CompletedCall → ListProgress) (is_on : Act → Bool) (z : TrackerModel) (x : Entry) (past : List Entry)
+    → ((w : ℕ) → SpeaksOf (rules w) is_on) → is_on (op_at x past) ≡ false → IsTrackerModel rules keeps z past → IsTrackerModel rules keeps z (x ∷ past)
 tracked_off rules keeps is_on z x past speaks off s =
     let apart : (rules x.worker).concerns (block (rules x.worker) x.worker past) (op_at x past) ≡ false = speaks x.worker (block (rules x.worker) x.worker past) (op_at x past) ∙ off in
     record {
@@ -158,7 +160,7 @@ tracked_off rules keeps is_on z x past speaks off s =
       finding = found_off rules z.fault x past (right_off (rules x.worker) (block (rules x.worker) x.worker past) x.act (under_way x.worker past) apart) s.finding;
     }
 
-go_is : (act : Act) → is_go act ≡ true → act ≡ Go
+pub go_is : (act : Act) → is_go act ≡ true → act ≡ Go
 go_is Go h = refl
 go_is (Advance e) h = cc
 go_is (Read e) h = cc
@@ -168,19 +170,11 @@ go_is (Put y v) h = cc
 go_is (Get y) h = cc
 go_is (Hand e f) h = cc
 
-pending_is : (reply : Reply) → is_pending reply ≡ true → reply ≡ Pending
-pending_is Pending h = refl
-pending_is Done h = cc
-pending_is (Number n) h = cc
-
-abbrev entry_of : ℕ → Act → Reply → Entry
-entry_of w act reply = record { worker = w; act = act; reply = reply }
-
 -- the go of a worker that ends no call
 abbrev pub going : ℕ → Entry
 going w = record { worker = w; act = Go; reply = Pending }
 
-going_is : (x : Entry) → goes_on x ≡ true → going x.worker ≡ x
+going_is : (x : Entry) → is_intermediate x ≡ true → going x.worker ≡ x
 going_is x on =
     let k = and_parts (is_go x.act) (is_pending x.reply) on in
     let act : x.act ≡ Go = go_is x.act k.0 in
@@ -188,10 +182,11 @@ going_is x on =
     ap (λ a. entry_of x.worker a Pending) (sym act) ∙ ap (λ p. entry_of x.worker x.act p) (sym reply)
 
 -- what holds after each go that ends no call
-pub by_going : (P : Entry → Type 0) → ((w : ℕ) → P (going w)) → (x : Entry) → goes_on x ≡ true → P x
+pub by_going : (P : Entry → Type 0) → ((w : ℕ) → P (going w)) → (x : Entry)
+    → is_intermediate x ≡ true → P x
 by_going P each x on = subst P (going_is x on) (each x.worker)
 
 -- such a go changes nothing
-pub tracked_going : (rules : ℕ → Rule) (keeps : List Told → Kept) (z : Tracked) (w : ℕ) (past : List Entry) → IsTracked rules keeps z past → IsTracked rules keeps z (going w ∷ past)
+pub tracked_going : (rules : ℕ → Rule) (keeps : List CompletedCall → ListProgress) (z : TrackerModel) (w : ℕ) (past : List Entry) → IsTrackerModel rules keeps z past → IsTrackerModel rules keeps z (going w ∷ past)
 tracked_going rules keeps z w past s =
     record { lists = lists_pending rules keeps z.kept (going w) past refl s.lists; finding = found_off rules z.fault (going w) past refl s.finding }

@@ -1,4 +1,4 @@
--- If nothing speaks against it, an object is added.
+-- If no fault applies, an object is added.
 use Rattle.std.proofs.Common.{◌≡◌, ℕ, ◌+◌, ◌<◌, ◌≤◌, ◌==◌, nat_le, nat_lt, Bool, false, ◌||◌, List, [], ◌∷◌, length, None, refl}
 use Rattle.std.specs.Prelude.{IsOk, Result, Ok, Err}
 use Rattle.std.specs.Result.{result_err}
@@ -7,12 +7,12 @@ use Rattle.ec_count.specs.declared.setup.SetupFault.TheVariants.{TooMany, Unknow
 use Rattle.ec_count.specs.Members.{has_repeat, is_faulty}
 use Rattle.ec_count.specs.Tables.{Tables, first_that, names_unknown, event_fault, list_fault, cells_fault}
 
--- a call that answers no fault has its result
+-- a call that returns no fault has a result
 pub ok_of : {T E : Type 0} (r : Result T E) → result_err r ≡ None → IsOk r
 ok_of (Ok x) h = refl
 ok_of (Err e) h = cc
 
--- where no test holds there is no fault
+-- if no test holds there is no fault
 none_holds : (a b c d : Bool) → a ≡ false → b ≡ false → c ≡ false → d ≡ false → first_that ((a, TooMany) ∷ (b, UnknownWorker) ∷ (c, Repeated) ∷ (d, Empty) ∷ []) ≡ None
 none_holds a b c d p q r s = rw (p, q, r, s) refl
 
@@ -36,12 +36,6 @@ event_free t signal observe room p q some =
     (or_from (names_unknown t signal) (names_unknown t observe) s.known o.known)
     (or_from (has_repeat signal) (has_repeat observe) s.different o.different)
     some
-
-pub sequencer_free : (t : Tables) (take : List ℕ) → length t.takers < 32 → is_faulty t.workers take ≡ false → (length take == 0) ≡ false → list_fault t (nat_le 32 (length t.takers)) take (length take == 0) ≡ None
-sequencer_free t take room p some =
-    let s = sound_of t take p in
-    none_holds _ _ _ _ (or_from (nat_le 32 (length t.takers)) (nat_lt 16 (length take)) (lt-leb 32 (length t.takers) room) s.few)
-    s.known s.different some
 
 -- if there is room for some cells, and the lists are sound and someone writes, they have no fault
 pub cells_free : (t : Tables) (n : ℕ) (write read : List ℕ) → length t.cells + n ≤ 256 → is_faulty t.workers write ≡ false → is_faulty t.workers read ≡ false → (length write == 0) ≡ false → (n == 0) ≡ false → cells_fault t n write read ≡ None

@@ -1,4 +1,4 @@
--- What the tables keep, said of each list, and the place of a signaller.
+-- The invariant of the tables, list by list, and the position of a signaller.
 use Rattle.std.proofs.Common.{◌≡◌, ℕ, zero, suc, ◌+◌, ◌<◌, ◌≤◌, ◌==◌, subst, nat_le, nat_lt, Bool, true, false, ◌||◌, List, [], ◌∷◌, length, slice_get, Some, None, refl, ap, sym, ◌∙◌, arith, cond, add-zero, zero-add, replicate, ◌++◌}
 use Rattle.std.specs.Prelude.{◌↔◌}
 use Rattle.std.specs.List.{All, list_any, position_from}
@@ -7,7 +7,7 @@ use Rattle.std.proofs.lemmas.Bool.{or_parts, or_from, ltb-false, leb-false, lt-l
 use Rattle.std.proofs.lemmas.List.Elements.{All-nil, All-cons}
 use Rattle.ec_count.specs.declared.setup.Rights.{Rights}
 use Rattle.ec_count.specs.declared.setup.Access.{Access}
-use Rattle.ec_count.specs.Members.{AreWorkers, AreTwoLists, is_faulty, is_faulty_pair, is_member, has_repeat, place_of}
+use Rattle.ec_count.specs.Members.{AreWorkers, AreTwoLists, is_faulty, is_faulty_pair, is_member, has_repeat, index_of}
 use Rattle.ec_count.specs.Tables.{Tables, IsDeclared, KeepsTables, signallers, has_faulty_rights, has_faulty_takers, has_faulty_access, cells_fault, names_unknown}
 use Rattle.ec_count.specs.Lists.{observers}
 use Rattle.ec_count.specs.Laws.{OneSignaller}
@@ -16,7 +16,7 @@ use Rattle.ec_count.specs.declared.setup.SetupFault.{SetupFault}
 use Rattle.ec_count.specs.declared.setup.SetupFault.TheVariants.{TooMany, UnknownWorker, Repeated, Empty}
 use Rattle.std.proofs.lemmas.Option.{slice_get_within, slice_get-get_or, get_or_from_slice_get}
 
--- if no element passes a test, each element has what its failing gives
+-- if no element passes a test, each has the property that failing the test implies
 pub all_from_none : {X : Type 0} (bad : X → Bool) (P : X → Type 0) → ((x : X) → bad x ≡ false → P x) → (xs : List X) → list_any bad xs ≡ false → All P xs
 all_from_none bad P each [] h = All-nil P
 all_from_none bad P each (x ∷ xs) h = let p = or_parts (bad x) (list_any bad xs) h in All-cons P x xs (each x p.0) (all_from_none bad P each xs p.1)
@@ -88,7 +88,7 @@ pub access_of : (n : ℕ) (rows : List Access) → has_faulty_access n rows ≡ 
 access_of n rows h =
     all_from_none (λ (a : Access). is_faulty_pair n a.write a.read) (λ (a : Access). AreTwoLists n a.write a.read) (λ a. two_lists_of n a.write a.read) rows h
 
--- the worker at the place that was found
+-- the worker at the position that was found
 pub found_there : (w i c : ℕ) (ws : List ℕ) → position_from (λ v. v == w) i ws ≡ Some c → (k : ℕ) × (c ≡ i + k) × (slice_get ws k ≡ Some w)
 found_there w i c [] h = cc
 found_there w i c (x ∷ ws) h =
@@ -97,7 +97,7 @@ found_there w i c (x ∷ ws) h =
       | false ↦ λ e g. (let r = found_there w (i + 1) c ws g in let at : c ≡ i + 1 + r.0 = r.1 in (suc r.0, omega arith, r.2))
     ] refl h
 
--- who is no member stands at no place
+-- who is not a member is at no position
 pub member_at : (w : ℕ) (ws : List ℕ) (k v : ℕ) → is_member w ws ≡ false → slice_get ws k ≡ Some v → (w == v) ≡ false
 member_at w [] k v h at = cc
 member_at w (x ∷ ws) zero v h at =
@@ -107,7 +107,7 @@ member_at w (x ∷ ws) zero v h at =
     ne_eqb w v (λ e. off (omega arith))
 member_at w (x ∷ ws) (suc k) v h at = member_at w ws k v (or_parts (x == w) (is_member w ws) h).1 at
 
--- the place of the worker that stands there
+-- the position of the worker that is there
 place_there : (w i c : ℕ) (ws : List ℕ) → has_repeat ws ≡ false → slice_get ws c ≡ Some w → position_from (λ v. v == w) i ws ≡ Some (i + c)
 place_there w i c [] h at = cc
 place_there w i zero (x ∷ ws) h at =
@@ -118,7 +118,7 @@ place_there w i (suc c) (x ∷ ws) h at =
     let next : i + 1 + c ≡ i + suc c = omega arith in
     ap (λ b. cond b (Some i) (position_from (λ v. v == w) (i + 1) ws)) (member_at x ws c w p.0 at) ∙ place_there w (i + 1) c ws p.1 at ∙ ap Some next
 
--- what holds of each element holds of the one at a place
+-- what holds of each element holds of the one at a position
 pub at_place : {X : Type 0} (P : X → Type 0) (xs : List X) (i : ℕ) (x : X) → All P xs → slice_get xs i ≡ Some x → P x
 at_place P xs i x all at = subst P (get_or_from_slice_get xs i x x at) (all i x (slice_get_within xs i x at))
 
@@ -142,16 +142,9 @@ some_signaller t e d lt =
       | Some r ↦ λ at. (rights_at t e r d at).1
     ] refl
 
-pub few_observers : (t : Tables) (e : ℕ) → IsDeclared t → length (observers t e) ≤ 16
-few_observers t e d =
-    elim (slice_get t.events e) as (λ o. slice_get t.events e ≡ o → length (option_map_or (λ (r : Rights). r.observe) o []) ≤ 16) [
-      | None ↦ λ at. omega arith
-      | Some r ↦ λ at. (rights_at t e r d at).2.few
-    ] refl
-
 pub one_signaller : OneSignaller
 one_signaller t d e c w =
-    elim (slice_get t.events e) as (λ o. slice_get t.events e ≡ o → (place_of w (option_map_or (λ (r : Rights). r.signal) o []) ≡ Some c) ↔ (option_and_then (λ (r : Rights). slice_get r.signal c) o ≡ Some w)) [
+    elim (slice_get t.events e) as (λ o. slice_get t.events e ≡ o → (index_of w (option_map_or (λ (r : Rights). r.signal) o []) ≡ Some c) ↔ (option_and_then (λ (r : Rights). slice_get r.signal c) o ≡ Some w)) [
       | None ↦ λ at. (λ h. (cc), λ h. (cc))
       | Some r ↦ λ at. (
         λ h. (let k = found_there w 0 c r.signal h in let same : c ≡ k.0 = omega arith in ap (slice_get r.signal) same ∙ k.2),

@@ -11,7 +11,7 @@ use Rattle.ec_count.specs.Tables.{Tables, names_unknown, list_fault}
 use Rattle.ec_count.specs.Roles.{shares_worker, roles_fault}
 use Rattle.ec_count.proofs.First.{none_is}
 
--- lists without repeats that share no worker have none together
+-- lists without repeats that share no worker have no repeat when they are joined
 joined_different : (ws others : List ℕ) → has_repeat ws ≡ false → has_repeat others ≡ false → shares_worker ws others ≡ false → has_repeat (ws ++ others) ≡ false
 joined_different [] others p q apart = q
 joined_different (w ∷ ws) others p q apart =
@@ -21,7 +21,7 @@ joined_different (w ∷ ws) others p q apart =
     (list_any-append (λ v. v == w) ws others ∙ or_from (is_member w ws) (is_member w others) mine.0 both.0)
     (joined_different ws others mine.1 q both.1)
 
--- no member of the list is this one
+-- this worker is not a member of the list
 others_differ : (w : ℕ) (ws : List ℕ) → is_member w ws ≡ false → AllByRecursion (λ v. (w == v) ≡ false) ws
 others_differ w [] h = tt
 others_differ w (v ∷ ws) h =
@@ -44,11 +44,11 @@ member_below n q (w ∷ ws) h m =
       | false ↦ λ e g. member_below n q ws p.1 g
     ] refl m
 
--- different numbers below n are n at most
+-- there are at most n different numbers below n
 pub different_few : (n : ℕ) (ws : List ℕ) → has_repeat ws ≡ false → list_any (λ w. nat_le n w) ws ≡ false → length ws ≤ n
 different_few n ws d known = length-le_from_distinct_below ws n (distinct ws d) (λ q m. member_below n q ws known m)
 
--- two lists of different roles join to a list of different workers, which are 16 at most
+-- two lists of different roles join to a list of different workers, at most 16
 pub joined_sound : (n : ℕ) (ws others : List ℕ) → n ≤ 16 → is_faulty n ws ≡ false → is_faulty n others ≡ false → shares_worker ws others ≡ false → is_faulty n (ws ++ others) ≡ false
 joined_sound n ws others few p q apart =
     let a = or_parts (list_any (λ w. nat_le n w) ws || has_repeat ws) (nat_lt 16 (length ws)) p in
@@ -61,14 +61,6 @@ joined_sound n ws others few p q apart =
     or_from (list_any (λ w. nat_le n w) (ws ++ others) || has_repeat (ws ++ others)) (nat_lt 16 (length (ws ++ others)))
     (or_from (list_any (λ w. nat_le n w) (ws ++ others)) (has_repeat (ws ++ others)) known different)
     (le-ltb 16 (length (ws ++ others)) (omega arith))
-
--- of a list without a fault: there is room, nothing is missing, and the list is sound
-pub role_of : (t : Tables) (full : Bool) (ws : List ℕ) (none : Bool) → list_fault t full ws none ≡ None → (full ≡ false) × (none ≡ false) × (is_faulty t.workers ws ≡ false)
-role_of t full ws none h =
-    let tests = none_is ((full || nat_lt 16 (length ws), TooMany) ∷ (names_unknown t ws, UnknownWorker) ∷ (has_repeat ws, Repeated) ∷ (none, Empty) ∷ []) h in
-    let d : Bool × SetupFault = (true, Empty) in
-    let large = or_parts full (nat_lt 16 (length ws)) (tests 0 d (omega arith)) in
-    (large.0, tests 3 d (omega arith), or_from (names_unknown t ws || has_repeat ws) (nat_lt 16 (length ws)) (or_from (names_unknown t ws) (has_repeat ws) (tests 1 d (omega arith)) (tests 2 d (omega arith))) large.1)
 
 -- what is true of two lists of different roles that have no fault
 pub record AreRoles (t : Tables) (first second : List ℕ) : Type 0 where

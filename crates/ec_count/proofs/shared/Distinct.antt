@@ -1,10 +1,10 @@
--- Putting a new worker in a place keeps the workers different.
+-- If a new worker replaces one, the workers stay different.
 use Rattle.std.proofs.Common.{◌≡◌, ℕ, zero, suc, false, List, [], ◌∷◌, refl, slice_set, ◌==◌, arith, take, drop, length, ◌++◌}
 use Rattle.std.proofs.lemmas.Grind.{common_steps}
 use Rattle.std.proofs.lemmas.Bool.{or_parts, or_from}
 use Rattle.ec_count.specs.Members.{is_member, has_repeat}
 
--- who is no member, and is not put in, is no member
+-- who is not a member, and is not the new worker, is not a member afterwards
 member_set : (v w : ℕ) (ws : List ℕ) (i : ℕ) → is_member v ws ≡ false → (w == v) ≡ false → is_member v (slice_set ws i w) ≡ false
 member_set v w [] i h k = refl
 member_set v w (x ∷ xs) zero h k = or_from (w == v) (is_member v xs) k (or_parts (x == v) (is_member v xs) h).1

@@ -3,7 +3,7 @@ use Rattle.std.proofs.Common.{◌≡◌, ℕ, zero, suc, List, [], ◌∷◌, �
 use Rattle.ec_count.specs.Tables.{Tables, with_event, with_fixed_event, with_cells}
 use Rattle.ec_count.specs.Declares.{KeepsObjects, with_sequencer}
 
--- an element stays at its place where more follow
+-- an element stays at its position if more follow
 pub still_there : {X : Type 0} (xs ys : List X) (i : ℕ) (x : X) → slice_get xs i ≡ Some x → slice_get (xs ++ ys) i ≡ Some x
 still_there [] ys i x h = cc
 still_there (y ∷ xs) ys zero x h = h
@@ -20,9 +20,6 @@ keeps_then t u v p q = record {
   takers = λ s take h. q.takers s take (p.takers s take h);
   cells = λ x a h. q.cells x a (p.cells x a h);
 }
-
-pub keeps_worker : (t : Tables) (n : ℕ) → KeepsObjects t (record t { workers = n })
-keeps_worker t n = record { events = λ e r h. h; takers = λ q take h. h; cells = λ x a h. h }
 
 -- what is declared stays so if an eventcount is added
 pub keeps_event : (t : Tables) (signal observe : List ℕ) → KeepsObjects t (with_event t signal observe)

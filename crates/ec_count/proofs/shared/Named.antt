@@ -1,4 +1,4 @@
--- A look-up in the table is a look-up by bytes, and what a table of names keeps.
+-- A look-up in the table is a look-up by bytes, and the invariant of a table of names.
 use Rattle.std.proofs.Common.{zero-add, Bool, add-zero, option_map, ◌≡◌, ℕ, zero, suc, ◌+◌, ◌<◌, List, [], ◌∷◌, ◌++◌, length, get_or, slice_get, cond, true, false, not, ◌&&◌, Option, None, Some, is_some, refl, sym, ap, subst, ◌∙◌, true≢false, arith, add-one, nat_le}
 use Rattle.std.specs.Prelude.{bytes_eq, IsTrue, ◌≢◌}
 use Rattle.std.specs.List.{AllPairs, list_all, position_from}
@@ -16,7 +16,7 @@ use Rattle.std.proofs.lemmas.List.Elements.{All-push}
 use Rattle.std.proofs.lemmas.List.Quantifiers.{all_pairs_push}
 use Rattle.ec_count.specs.declared.target.Target.{Target}
 use Rattle.ec_count.specs.Laws.{NamesAreFound, IsFirstName}
-use Rattle.ec_count.specs.Names.{AreNames, KeepsNames, by_bytes, find_name, name_of, place_of, with_first, same_target, name_fault}
+use Rattle.ec_count.specs.Names.{AreNames, KeepsNames, by_bytes, find_name, name_of, name_index, with_first, same_target, name_fault}
 use Rattle.ec_count.specs.Tables.{first_that}
 use Rattle.ec_count.specs.declared.names.NameFault.TheVariants.{BadName, NameTaken}
 use Rattle.ec_count.specs.Targets.{target_is, targets_decide}
@@ -59,7 +59,7 @@ by_bytes_at [] i e at = cc
 by_bytes_at (x ∷ es) zero e at = (let q : x ≡ e = cc in ap (λ (y : Vec ℕ × Target). Some (y.0.items, y.1)) q)
 by_bytes_at (x ∷ es) (suc i) e at = by_bytes_at es i e at
 
--- the entry at a place has a name
+-- the entry at a position has a name
 pub name_at : (names : List (List ℕ × Target)) (i : ℕ) (e : List ℕ × Target) → AreNames names → slice_get names i ≡ Some e → is_name e.0 ≡ true
 name_at names i e h at =
     subst (λ (d : List ℕ × Target). is_name d.0 ≡ true) (get_or_from_slice_get names i e e at) (h.each i e (slice_get_within names i e at))
@@ -69,7 +69,7 @@ pub none_left : {A : Type 0} (o : Option A) → ((x : A) → o ≡ Some x → �
 none_left None h = refl
 none_left (Some x) h = absurd (h x refl)
 
--- a word that may be added is a name, and stands for nothing yet
+-- a word that may be added is a name, and has no target yet
 pub no_fault : (name : List ℕ) (names : List (List ℕ × Target)) → name_fault name names ≡ None → (is_name name ≡ true) × (find_name name names ≡ None)
 no_fault name names =
     elim (is_name name) as (λ b. b ≡ is_name name → first_that ((not b, BadName) ∷ (is_some (find_name name names), NameTaken) ∷ []) ≡ None → (is_name name ≡ true) × (find_name name names ≡ None)) [
@@ -102,7 +102,7 @@ AreNames-push names name target h free =
       differ = all_pairs_push (λ d e. d.0 ≢ e.0) names (name, target) h.differ (apart name names tests.1);
     }
 
--- where the place of a target goes on
+-- positions counted from n + 1 are one more than those counted from n
 later : {A : Type 0} (test : A → Bool) (n : ℕ) (xs : List A) → position_from test (n + 1) xs ≡ option_map (λ i. i + 1) (position_from test n xs)
 later test n [] = refl
 later {A} test n (x ∷ xs) =
@@ -115,15 +115,15 @@ one_on : (x : List ℕ × Target) (xs : List (List ℕ × Target)) (o : Option �
 one_on x xs None = refl
 one_on x xs (Some i) = rw add-one refl
 
-pub name_at_place : (target : Target) (names : List (List ℕ × Target)) → name_of target names ≡ option_and_then (λ i. option_map (λ (e : List ℕ × Target). e.0) (slice_get names i)) (place_of target names)
+pub name_at_place : (target : Target) (names : List (List ℕ × Target)) → name_of target names ≡ option_and_then (λ i. option_map (λ (e : List ℕ × Target). e.0) (slice_get names i)) (name_index target names)
 name_at_place target [] = refl
 name_at_place target (x ∷ xs) =
     elim (same_target x.1 target) as (λ b. cond b (Some x.0) (name_of target xs) ≡ option_and_then (λ i. option_map (λ (e : List ℕ × Target). e.0) (slice_get (x ∷ xs) i)) (cond b (Some 0) (position_from (λ e. same_target e.1 target) 1 xs))) [
       | true ↦ refl
-      | false ↦ name_at_place target xs ∙ sym (one_on x xs (place_of target xs)) ∙ ap (option_and_then (λ i. option_map (λ (e : List ℕ × Target). e.0) (slice_get (x ∷ xs) i))) (sym (later (λ e. same_target e.1 target) 0 xs))
+      | false ↦ name_at_place target xs ∙ sym (one_on x xs (name_index target xs)) ∙ ap (option_and_then (λ i. option_map (λ (e : List ℕ × Target). e.0) (slice_get (x ∷ xs) i))) (sym (later (λ e. same_target e.1 target) 0 xs))
     ]
 
--- the places once one more name is added
+-- the positions after one more name was added
 place_after : (t : Target) (n : ℕ) (names : List (List ℕ × Target)) (name : List ℕ) (u : Target) → position_from (λ e. same_target e.1 t) n (names ++ (name, u) ∷ []) ≡ with_first u (n + length names) t (position_from (λ e. same_target e.1 t) n names)
 place_after t n [] name u = rw add-zero refl
 place_after t n (x ∷ xs) name u =
@@ -147,7 +147,7 @@ entry_found (x ∷ xs) h (suc i) e at =
     let off : bytes_eq e.0 x.0 ≡ false = false_from_ne_true (bytes_eq e.0 x.0) (λ p. other (sym ((bytes_eq-Decides e.0 x.0).0 p))) in
     ap (λ b. cond b (Some x.1) (find_name e.0 xs)) off ∙ entry_found xs (differ_tail x xs h) i e at
 
--- the name that is given for a target stands beside it, and no name before it was added for the target
+-- the name that is returned for a target was added for it, and no earlier name was
 other_target : (x : List ℕ × Target) (target : Target) → same_target x.1 target ≡ false → x.1 ≢ target
 other_target x target off same = (let own = (targets_decide x.1 target).1 same in cc)
 
@@ -184,12 +184,12 @@ names_found names h = record {
   first = λ target name e. first_name target names name e;
 }
 
--- the table of names and that of first places keep what they keep if a name is added
+-- the invariant of the table of names and that of first positions holds after a name is added
 pub KeepsNames-push : (names : List (List ℕ × Target)) (firsts after : List (Target × ℕ)) (name : List ℕ) (u : Target) → KeepsNames names firsts → name_fault name names ≡ None
     → ((t : Target) → lookup (same_target t) after ≡ with_first u (length names) t (lookup (same_target t) firsts))
     → KeepsNames (names ++ (name, u) ∷ []) after
 KeepsNames-push names firsts after name u h free noted = record {
   hold = AreNames-push names name u h.hold free;
   places = λ t. (let start : 0 + length names ≡ length names = zero-add (length names) in
-      noted t ∙ ap (with_first u (length names) t) (h.places t) ∙ ap (λ k. with_first u k t (place_of t names)) (sym start) ∙ sym (place_after t 0 names name u));
+      noted t ∙ ap (with_first u (length names) t) (h.places t) ∙ ap (λ k. with_first u k t (name_index t names)) (sym start) ∙ sym (place_after t 0 names name u));
 }

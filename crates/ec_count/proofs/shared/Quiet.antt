@@ -1,11 +1,11 @@
--- A silent worker has no right that changes anything.
+-- A read-only worker has no right to change anything.
 use Rattle.std.proofs.Common.{◌≡◌, ℕ, zero, suc, ◌+◌, ◌<◌, ◌==◌, nat_lt, Bool, true, false, not, ◌||◌, ◌&&◌, List, [], ◌∷◌, slice_get, Some, None, refl, ap, sym, ◌∙◌, cond}
 use Rattle.std.specs.List.{list_any, position_from}
 use Rattle.std.specs.Option.{option_map_or}
 use Rattle.std.proofs.lemmas.Bool.{or_parts, or_from, and_parts, and_from, not-true, not_from_false, ltb-true, lt-ltb}
 use Rattle.ec_count.specs.declared.setup.Rights.{Rights}
 use Rattle.ec_count.specs.declared.setup.Access.{Access}
-use Rattle.ec_count.specs.Members.{is_member, place_of}
+use Rattle.ec_count.specs.Members.{is_member, index_of}
 use Rattle.ec_count.specs.Tables.{Tables, component_of, is_silent, signals_any, takes_any, writes_any, may_take, may_write}
 use Rattle.ec_count.specs.Laws.{SilenceIsNoRight, HasNoRight}
 
@@ -34,7 +34,7 @@ no_member p i (x ∷ xs) h =
 
 component_none : (t : Tables) (w e : ℕ) → signals_any t w ≡ false → component_of t e w ≡ None
 component_none t w e h =
-    elim (slice_get t.events e) as (λ o. slice_get t.events e ≡ o → place_of w (option_map_or (λ (r : Rights). r.signal) o []) ≡ None) [
+    elim (slice_get t.events e) as (λ o. slice_get t.events e ≡ o → index_of w (option_map_or (λ (r : Rights). r.signal) o []) ≡ None) [
       | None ↦ λ at. refl
       | Some r ↦ λ at. no_place (λ v. v == w) 0 r.signal (none_at (λ (x : Rights). is_member w x.signal) t.events e r h at)
     ] refl
@@ -53,7 +53,7 @@ write_none t w x h =
       | Some a ↦ λ at. none_at (λ (b : Access). is_member w b.write) t.cells x a h at
     ] refl
 
--- a silent worker is declared, and has no right to change anything
+-- a read-only worker is declared, and has no right to change anything
 pub silent_has_none : (t : Tables) (w : ℕ) → is_silent t w ≡ true → (w < t.workers) × HasNoRight t w
 silent_has_none t w h =
     let p = and_parts (nat_lt w t.workers && not (signals_any t w) && not (takes_any t w)) (not (writes_any t w)) h in
@@ -67,10 +67,10 @@ silent_has_none t w h =
       },
     )
 
--- a declared worker that has no right to change anything is silent
+-- a declared worker that has no right to change anything is read-only
 pub silent_from_none : (t : Tables) (w : ℕ) → w < t.workers → HasNoRight t w → is_silent t w ≡ true
 silent_from_none t w lt h =
-    let signals : signals_any t w ≡ false = none_from (λ (r : Rights). is_member w r.signal) t.events (λ e r at. no_member (λ v. v == w) 0 r.signal (ap (λ o. place_of w (option_map_or (λ (x : Rights). x.signal) o [])) (sym at) ∙ h.signals e)) in
+    let signals : signals_any t w ≡ false = none_from (λ (r : Rights). is_member w r.signal) t.events (λ e r at. no_member (λ v. v == w) 0 r.signal (ap (λ o. index_of w (option_map_or (λ (x : Rights). x.signal) o [])) (sym at) ∙ h.signals e)) in
     let takes : takes_any t w ≡ false = none_from (λ x. is_member w x) t.takers (λ q ws at. ap (λ o. option_map_or (is_member w) o false) (sym at) ∙ h.takes q) in
     let writes : writes_any t w ≡ false = none_from (λ (a : Access). is_member w a.write) t.cells (λ x a at. ap (λ o. option_map_or (λ (b : Access). is_member w b.write) o false) (sym at) ∙ h.writes x) in
     and_from (nat_lt w t.workers && not (signals_any t w) && not (takes_any t w)) (not (writes_any t w))

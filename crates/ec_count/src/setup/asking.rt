@@ -1,4 +1,4 @@
-//! What is declared: how many of each thing, who has which right, and who is silent.
+//! What is declared: how many of each object, who has which right, and who is read-only.
 ghost use Rattle.std.specs.Prelude.{◌≡◌, ◌≤◌, ◌<◌, length, IfSome};
 ghost use Rattle.ec_count.specs.Lists.{observers, takers, writers, readers};
 ghost use Rattle.ec_count.specs.Tables.{component_of, components, signaller, signallers, is_silent, signals_any, takes_any, writes_any, may_observe, may_hand, may_take, may_write, may_read};
@@ -58,9 +58,10 @@ impl Setup {
         Some(row.signal.len())
     }
 
-    /// Returns the component of an eventcount that is declared as the worker's own: its place, from
-    /// 0, among the signallers. `None` if the worker is declared for none, as if it is not
-    /// declared itself.
+    /// Returns the component of an eventcount that the worker is declared to signal.
+    ///
+    /// That is its position among the signallers, counted from 0. It is `None` if the worker
+    /// signals none, and so if either is not declared.
     pub fn component_of(&self, event: EventId, worker: WorkerId) -> Option<usize>
         ensures value { result ≡ component_of self.now event worker }
         ensures few { IfSome result (λ c. c < 16) }
@@ -69,7 +70,7 @@ impl Setup {
         row.signal.place(worker)
     }
 
-    /// Returns the one worker that is declared to signal a component; `None` if there is no such
+    /// Returns the worker that is declared to signal a component; `None` if there is no such
     /// component.
     pub fn signaller(&self, event: EventId, component: usize) -> Option<WorkerId>
         ensures { result ≡ signaller self.now event component }
@@ -89,7 +90,9 @@ impl Setup {
         }
     }
 
-    /// Returns whether the eventcount is declared and not fixed, as `add_event` adds it.
+    /// Returns whether the eventcount is declared, and its components are transferable.
+    ///
+    /// That is so if `add_event` added it, but not if `add_fixed_event` did.
     #[inline(always)]
     pub fn may_hand(&self, event: EventId) -> bool
         ensures { result ≡ may_hand self.now event }
@@ -133,8 +136,9 @@ impl Setup {
         }
     }
 
-    /// Returns whether the worker is declared, signals no eventcount, takes from no sequencer and
-    /// writes no cell.
+    /// Returns whether the worker is declared and read-only.
+    ///
+    /// Then it signals no eventcount, takes from no sequencer and writes no cell.
     pub fn is_silent(&self, worker: WorkerId) -> bool
         ensures { result ≡ is_silent self.now worker }
     {
@@ -167,8 +171,7 @@ impl Setup {
 }
 
 impl Setup {
-    /// Returns the signallers of an eventcount, in order of component; none if it is not
-    /// declared.
+    /// Returns the signallers of an eventcount in order of component; none if it is not declared.
     pub fn signallers(&self, event: EventId) -> &[WorkerId]
         ensures { result.now ≡ signallers self.now event }
     {
@@ -178,8 +181,7 @@ impl Setup {
         }
     }
 
-    /// Returns the observers of an eventcount, as they were declared; none if it is not
-    /// declared.
+    /// Returns the observers of an eventcount as they were declared; none if it is not declared.
     pub fn observers(&self, event: EventId) -> &[WorkerId]
         ensures { result.now ≡ observers self.now event }
     {

@@ -7,8 +7,9 @@ use super::Setup;
 use crate::{CellId, EventId, SeqId, WorkerId};
 
 impl Setup {
-    /// Returns whether this is a fixed eventcount with just these signallers, in order of
-    /// component, and these observers, in the order in which they were declared.
+    /// Returns whether this is a fixed eventcount with exactly these signallers and observers.
+    ///
+    /// The signallers are in order of component, the observers in order of declaration.
     pub fn declares_fixed_event(
         &self,
         event: EventId,
@@ -20,16 +21,16 @@ impl Setup {
         self.has_fixed_event_row(event.get(), signal, observe)
     }
 
-    /// Returns whether this is a sequencer with just these takers, in the order in which they were
-    /// declared.
+    /// Returns whether this is a sequencer with exactly these takers, in order of declaration.
     pub fn declares_sequencer(&self, sequencer: SeqId, take: &[WorkerId]) -> bool
         ensures { IsTrue result ↔ DeclaresSequencer self.now sequencer take.now }
     {
         self.has_sequencer_row(sequencer.get(), take)
     }
 
-    /// Returns whether the n cells from this one on have just these writers and readers, in the
-    /// order in which they were declared.
+    /// Returns whether the n cells from this one on have exactly these writers and readers.
+    ///
+    /// Both are in order of declaration.
     pub fn declares_cells(
         &self,
         first: CellId,
@@ -39,7 +40,7 @@ impl Setup {
     ) -> bool
         ensures { IsTrue result ↔ DeclaresCells self.now first n write.now read.now }
     {
-        self.known();
+        self.invariant();
         if n > self.cells() {
             return false;
         }

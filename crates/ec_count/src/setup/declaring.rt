@@ -1,4 +1,4 @@
-//! Declarations are added.
+//! Adds declarations.
 ghost use Rattle.std.specs.Prelude.{None, nat_lt, replicate, if◌then◌else◌, ◌≡◌, ◌≤◌, ◌+◌, false, List, [], ◌∷◌, ◌++◌, length, OnOk, OnErr, IfOk, nat_le, Some, ◌==◌};
 ghost use Rattle.std.specs.Result.{result_err};
 ghost use Rattle.ec_count.specs.Members.{has_repeat};
@@ -22,8 +22,9 @@ impl Setup {
         Ok(id)
     }
 
-    /// Adds an eventcount with these signallers, one for each component, and these observers. It is
-    /// not fixed.
+    /// Adds an eventcount with these signallers, one for each component, and these observers.
+    ///
+    /// Its components are transferable.
     pub fn add_event(
         &mut self,
         signal: &[WorkerId],
@@ -37,7 +38,8 @@ impl Setup {
         self.add_rights(signal, observe, false)
     }
 
-    /// Adds a fixed eventcount: as `add_event`, but no worker may ever hand over a component of it.
+    /// Adds a fixed eventcount: as `add_event`, but its components are not transferable.
+    ///
     /// The eventcounts of a group are fixed.
     pub fn add_fixed_event(
         &mut self,
@@ -77,7 +79,7 @@ impl Setup {
         Ok(id)
     }
 
-    /// Adds a sequencer whose tickets these workers take.
+    /// Adds a sequencer from which these workers may draw tickets.
     pub fn add_sequencer(&mut self, take: &[WorkerId]) -> Result<SeqId, SetupFault>
         ensures fault { result_err result ≡ list_fault self.old (nat_le 32 (length self.old.takers)) take.now (length take.now == 0) }
         ensures id { IfOk result (λ q. q ≡ length self.old.takers) }
@@ -94,7 +96,7 @@ impl Setup {
         Ok(id)
     }
 
-    /// Adds n cells with these rights.
+    /// Adds n cells with these writers and readers.
     pub fn add_cells(
         &mut self,
         n: usize,
@@ -171,7 +173,7 @@ impl Setup {
     }
 }
 
-/// Adds n cells with these rights to the table.
+/// Adds n cells with these writers and readers to the table.
 fn push_cells(cells: &mut ArrayVec<Access, 256>, n: usize, write: &[WorkerId], read: &[WorkerId])
     requires room { length cells.old.items + n ≤ 256 }
     requires few { (length write.now ≤ 16) × (length read.now ≤ 16) }

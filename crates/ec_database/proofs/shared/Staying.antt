@@ -19,13 +19,3 @@ still_declared d old new write read k h = record {
 -- a database that is declared stays so if more is declared
 pub databases_stay : DatabasesStay
 databases_stay d old new k f = (f.0, f.1, still_declared d old new f.0 f.1 k f.2)
-
--- what was declared before a database stays declared
-pub keeps_database : (t : Tables) (n : ℕ) (write read : List ℕ) → KeepsObjects t (with_database t n write read)
-keeps_database t n write read =
-    let one = with_fixed_event t write read in
-    let two = with_fixed_event one write (write ++ read) in
-    let three = with_sequencer two write in
-    keeps_then t one _ (keeps_fixed_event t write read)
-    (keeps_then one two _ (keeps_fixed_event one write (write ++ read))
-    (keeps_then two three _ (keeps_sequencer two write) (keeps_cells three n write read)))

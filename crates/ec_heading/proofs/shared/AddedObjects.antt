@@ -1,5 +1,5 @@
--- What the objects of a declaration are, sort by sort: they come after what was there, are apart, are all that the tables
--- have more, and keep what is true of the tables.
+-- What the objects of a declaration are, kind by kind: they come after those before, are disjoint,
+-- are all that the tables gain, and preserve what is true of the tables.
 use Rattle.std.proofs.Common.{◌≡◌, ◌≢◌, ℕ, ◌+◌, ◌<◌, ◌≤◌, List, [], ◌∷◌, ◌++◌, length, Bool, true, false, eqb, ltb, ◌||◌, None, Some, refl, sym, ap, subst, arith, nat_lt, nat_le, inl, inr, ◌⊎◌, replicate, length-append, zero, suc, zero-add, slice_get, ◌∙◌, ne_eqb}
 use Rattle.std.specs.List.{AllByRecursion, list_any}
 use Rattle.std.proofs.lemmas.Bool.{true≢false, and_from, and_right, or_parts, or_from, or_left, ltb-true, lt-ltb, le-ltb, leb-true, le-leb, ltb-false, cases_lt}
@@ -19,39 +19,39 @@ use Rattle.ec_buffer.specs.Shapes.{DeclaresBuffer, buffer_fault, lacks_room, nex
 use Rattle.ec_database.specs.Shapes as databases
 use Rattle.ec_database.specs.Shapes.{DeclaresDatabase, database_fault, next_database, with_database}
 use Rattle.ec_semaphore.specs.Shapes.{DeclaresSemaphore, next_semaphore, with_semaphore}
-use Rattle.ec_heading.specs.Headed.{Headed}
-use Rattle.ec_heading.specs.Objects.{objects_of, group_of}
-use Rattle.ec_heading.specs.Outline.{next_of, with_objects}
-use Rattle.ec_heading.specs.declared.sort.Sort.{Sort}
-use Rattle.ec_heading.specs.declared.sort.Sort.TheVariants as sorts
+use Rattle.ec_heading.specs.HeadingModel.{HeadingModel}
+use Rattle.ec_heading.specs.Objects.{objects_of, group_of_declaration}
+use Rattle.ec_heading.specs.HeaderTree.{next_ids, with_objects}
+use Rattle.ec_heading.specs.declared.decl_kind.DeclKind.{DeclKind}
+use Rattle.ec_heading.specs.declared.decl_kind.DeclKind.TheVariants as sorts
 use Rattle.ec_heading.specs.Spelling.{cell_in}
-use Rattle.ec_heading.specs.Spelled.{Named}
+use Rattle.ec_heading.specs.EntryWords.{NameTable}
 use Rattle.ec_heading.proofs.shared.Declarable.{HasRoom}
 use Rattle.ec_heading.proofs.shared.Listed.{known_below}
-use Rattle.ec_heading.proofs.shared.OutlineFound.{found_at}
-use Rattle.ec_heading.proofs.shared.OutlineGrows.{TablesGrow}
+use Rattle.ec_heading.proofs.shared.TreeFound.{found_at}
+use Rattle.ec_heading.proofs.shared.TreeGrows.{TablesGrow}
 use Rattle.ec_heading.proofs.shared.ReadNames.{is_shared, AreApart, HasName, is_celled}
 
 -- TARGETS WITHIN THE TABLES
 
--- whether a target is within the tables and groups of a heading
-abbrev pub is_below : Headed → Target → Bool
+-- whether a target is within the tables and groups of a header
+abbrev pub is_below : HeadingModel → Target → Bool
 is_below h (Worker w) = nat_lt w h.setup.workers
 is_below h (Event e) = nat_lt e (length h.setup.events)
 is_below h (Sequencer q) = nat_lt q (length h.setup.takers)
 is_below h (Cells x n) = nat_le (x + n) (length h.setup.cells)
 is_below h (Group i) = nat_lt i (length h.groups)
 
--- whether a target is behind the ends of the tables and groups of a heading
-abbrev pub is_beyond : Headed → Target → Bool
+-- whether a target is after the ends of the tables and groups of a header
+abbrev pub is_beyond : HeadingModel → Target → Bool
 is_beyond h (Worker w) = false
 is_beyond h (Event e) = nat_le (length h.setup.events) e
 is_beyond h (Sequencer q) = nat_le (length h.setup.takers) q
 is_beyond h (Cells x n) = nat_le (length h.setup.cells) x
 is_beyond h (Group i) = nat_le (length h.groups) i
 
--- what is beyond is apart from what is below
-pub beyond_apart : (h : Headed) (x y : Target) → is_below h x ≡ true → is_beyond h y ≡ true → is_shared x y ≡ false
+-- a target within is disjoint from one after the ends
+pub beyond_apart : (h : HeadingModel) (x y : Target) → is_below h x ≡ true → is_beyond h y ≡ true → is_shared x y ≡ false
 beyond_apart h (Event d) (Event e) b a = (let low = ltb-true _ _ b in let high = leb-true _ _ a in ne_eqb d e (λ same. omega arith))
 beyond_apart h (Sequencer p) (Sequencer q) b a = (let low = ltb-true _ _ b in let high = leb-true _ _ a in ne_eqb p q (λ same. omega arith))
 beyond_apart h (Cells x m) (Cells y n) b a = (let low = leb-true _ _ b in let high = leb-true _ _ a in and_right (nat_lt x (y + n)) (nat_lt y (x + m)) (le-ltb _ _ (omega arith)))
@@ -65,7 +65,7 @@ itself_beyond n = le-leb n n (omega arith)
 next_beyond : (n : ℕ) → nat_le n (n + 1) ≡ true
 next_beyond n = le-leb n (n + 1) (omega arith)
 
-pub objects_beyond : (s : Sort) (h : Headed) (n : ℕ) → AllByRecursion (λ (o : List ℕ × Target). is_beyond h o.1 ≡ true) (objects_of s (next_of h) n)
+pub objects_beyond : (s : DeclKind) (h : HeadingModel) (n : ℕ) → AllByRecursion (λ (o : List ℕ × Target). is_beyond h o.1 ≡ true) (objects_of s (next_ids h) n)
 objects_beyond sorts.EventCount h n = (itself_beyond (length h.setup.events), tt)
 objects_beyond sorts.Sequencer h n = (itself_beyond (length h.setup.takers), tt)
 objects_beyond sorts.Cells h n = (itself_beyond (length h.setup.cells), tt)
@@ -79,8 +79,9 @@ objects_beyond sorts.Both h n = (itself_beyond (length h.setup.events), (itself_
 other_number : (n : ℕ) → eqb n (n + 1) ≡ false
 other_number n = ne_eqb n (n + 1) (λ e. omega arith)
 
--- the objects of a declaration are apart
-pub objects_apart : (s : Sort) (h : Headed) (n : ℕ) → AreApart (objects_of s (next_of h) n)
+-- the objects of a declaration are disjoint
+pub objects_apart : (s : DeclKind) (h : HeadingModel) (n : ℕ)
+    → AreApart (objects_of s (next_ids h) n)
 objects_apart sorts.EventCount h n = (tt, tt)
 objects_apart sorts.Sequencer h n = (tt, tt)
 objects_apart sorts.Cells h n = (tt, tt)
@@ -91,26 +92,26 @@ objects_apart sorts.Database h n =
 objects_apart sorts.Semaphore h n = ((refl, (refl, tt)), ((refl, tt), (tt, tt)))
 objects_apart sorts.Both h n = ((refl, (refl, tt)), ((refl, tt), (tt, tt)))
 
-pub below_grows : (h l : Headed) (x : Target) → TablesGrow h.setup l.setup → length h.groups ≤ length l.groups → is_below h x ≡ true → is_below l x ≡ true
+pub below_grows : (h l : HeadingModel) (x : Target) → TablesGrow h.setup l.setup → length h.groups ≤ length l.groups → is_below h x ≡ true → is_below l x ≡ true
 below_grows h l (Worker w) g more b = ap (nat_lt w) g.workers ∙ b
 below_grows h l (Event e) g more b = (let low = ltb-true _ _ b in lt-ltb _ _ (omega (arith, g.events)))
 below_grows h l (Sequencer q) g more b = (let low = ltb-true _ _ b in lt-ltb _ _ (omega (arith, g.takers)))
 below_grows h l (Cells x n) g more b = (let low = leb-true _ _ b in le-leb _ _ (omega (arith, g.cells)))
 below_grows h l (Group i) g more b = (let low = ltb-true _ _ b in lt-ltb _ _ (omega arith))
 
--- WHAT THE TABLES HAVE AFTER A DECLARATION, SORT BY SORT
+-- WHAT THE TABLES HAVE AFTER A DECLARATION, KIND BY KIND
 
-counted : {X : Type 0} (xs : List X) (x : X) → length (xs ++ x ∷ []) ≡ length xs + 1
+pub counted : {X : Type 0} (xs : List X) (x : X) → length (xs ++ x ∷ []) ≡ length xs + 1
 counted xs x = length-append xs (x ∷ [])
 
-counted_twice : {X : Type 0} (xs : List X) (x y : X) → length ((xs ++ x ∷ []) ++ y ∷ []) ≡ length xs + 2
+pub counted_twice : {X : Type 0} (xs : List X) (x y : X) → length ((xs ++ x ∷ []) ++ y ∷ []) ≡ length xs + 2
 counted_twice xs x y = omega (arith, length-append (xs ++ x ∷ []) (y ∷ []), length-append xs (x ∷ []))
 
-counted_cells : {X : Type 0} (xs : List X) (n : ℕ) (x : X) → length (xs ++ replicate n x) ≡ length xs + n
+pub counted_cells : {X : Type 0} (xs : List X) (n : ℕ) (x : X) → length (xs ++ replicate n x) ≡ length xs + n
 counted_cells xs n x = omega (arith, length-append xs (replicate n x), length-replicate n x)
 
--- the objects of a declaration are all that its tables have more
-pub record Covers (h : Headed) (u : Tables) (os : Named) : Type 0 where
+-- the objects of a declaration are all that the tables gain
+pub record Covers (h : HeadingModel) (u : Tables) (os : NameTable) : Type 0 where
   pub events : (e : ℕ) → e < length u.events → (e < length h.setup.events) ⊎ HasName os (Event e)
   pub sequencers : (q : ℕ) → q < length u.takers → (q < length h.setup.takers) ⊎ HasName os (Sequencer q)
   pub cells : (x : ℕ) → x < length u.cells → (x < length h.setup.cells) ⊎ (is_celled x os ≡ true)
@@ -137,13 +138,13 @@ cells_more first n x lt = elim (cases_lt x first) [
   | inr above ↦ inr (and_from _ _ (le-leb _ _ above) (lt-ltb _ _ lt))
 ]
 
-pub name_first : (x : List ℕ × Target) (xs : Named) (t : Target) → same_target x.1 t ≡ true → HasName (x ∷ xs) t
+pub name_first : (x : List ℕ × Target) (xs : NameTable) (t : Target) → same_target x.1 t ≡ true → HasName (x ∷ xs) t
 name_first x xs t q = record { word = x.0; is = rw q refl }
 
-pub name_next : (x : List ℕ × Target) (xs : Named) (t : Target) → same_target x.1 t ≡ false → HasName xs t → HasName (x ∷ xs) t
+pub name_next : (x : List ℕ × Target) (xs : NameTable) (t : Target) → same_target x.1 t ≡ false → HasName xs t → HasName (x ∷ xs) t
 name_next x xs t q h = record { word = h.word; is = rw q h.is }
 
-pub name_right : (names more : Named) (t : Target) → HasName more t → HasName (names ++ more) t
+pub name_right : (names more : NameTable) (t : Target) → HasName more t → HasName (names ++ more) t
 name_right [] more t h = h
 name_right (x ∷ xs) more t h =
     elim (same_target x.1 t) as (λ b. same_target x.1 t ≡ b → HasName ((x ∷ xs) ++ more) t) [
@@ -151,35 +152,35 @@ name_right (x ∷ xs) more t h =
       | false ↦ λ q. name_next x (xs ++ more) t q (name_right xs more t h)
     ] refl
 
-names_itself : (w : List ℕ) (t : Target) (rest : Named) → HasName ((w, t) ∷ rest) t
+names_itself : (w : List ℕ) (t : Target) (rest : NameTable) → HasName ((w, t) ∷ rest) t
 names_itself w t rest = name_first (w, t) rest t ((targets_decide t t).1 refl)
 
-names_later : (e : List ℕ × Target) (rest : Named) (t : Target) → HasName rest t → HasName (e ∷ rest) t
+names_later : (e : List ℕ × Target) (rest : NameTable) (t : Target) → HasName rest t → HasName (e ∷ rest) t
 names_later e rest t h = name_right (e ∷ []) rest t h
 
 block_more : (first n x : ℕ) → x < first + n → (x < first) ⊎ ((cell_in x (Cells first n) || false) ≡ true)
 block_more first n x lt = elim (cells_more first n x lt) [ inl below ↦ inl below | inr inside ↦ inr (or_left (cell_in x (Cells first n)) false inside) ]
 
-users_cover : (h : Headed) (ws : List ℕ) → Covers h (with_semaphore h.setup ws) (objects_of sorts.Semaphore (next_of h) 0)
+users_cover : (h : HeadingModel) (ws : List ℕ) → Covers h (with_semaphore h.setup ws) (objects_of sorts.Semaphore (next_ids h) 0)
 users_cover h ws = record {
-  events = λ e lt. one_more (length h.setup.events) e (λ k. HasName (objects_of sorts.Semaphore (next_of h) 0) (Event k)) (names_itself _ (Event (length h.setup.events)) _)
+  events = λ e lt. one_more (length h.setup.events) e (λ k. HasName (objects_of sorts.Semaphore (next_ids h) 0) (Event k)) (names_itself _ (Event (length h.setup.events)) _)
       (omega (arith, counted h.setup.events (record { signal = ws; observe = ws; fixed = true })));
-  sequencers = λ q lt. one_more (length h.setup.takers) q (λ k. HasName (objects_of sorts.Semaphore (next_of h) 0) (Sequencer k))
+  sequencers = λ q lt. one_more (length h.setup.takers) q (λ k. HasName (objects_of sorts.Semaphore (next_ids h) 0) (Sequencer k))
       (names_later _ _ _ (names_itself _ (Sequencer (length h.setup.takers)) _))
       (omega (arith, counted h.setup.takers ws));
   cells = λ x lt. inl lt;
 }
 
-pub covers : (s : Sort) (h : Headed) (n : ℕ) (ws vs : List ℕ) → Covers h (with_objects s h.setup n ws vs) (objects_of s (next_of h) n)
+pub covers : (s : DeclKind) (h : HeadingModel) (n : ℕ) (ws vs : List ℕ) → Covers h (with_objects s h.setup n ws vs) (objects_of s (next_ids h) n)
 covers sorts.EventCount h n ws vs = record {
-  events = λ e lt. one_more (length h.setup.events) e (λ k. HasName (objects_of sorts.EventCount (next_of h) n) (Event k)) (names_itself [] (Event (length h.setup.events)) [])
+  events = λ e lt. one_more (length h.setup.events) e (λ k. HasName (objects_of sorts.EventCount (next_ids h) n) (Event k)) (names_itself [] (Event (length h.setup.events)) [])
       (omega (arith, counted h.setup.events (record { signal = ws; observe = vs; fixed = false })));
   sequencers = λ q lt. inl lt;
   cells = λ x lt. inl lt;
 }
 covers sorts.Sequencer h n ws vs = record {
   events = λ e lt. inl lt;
-  sequencers = λ q lt. one_more (length h.setup.takers) q (λ k. HasName (objects_of sorts.Sequencer (next_of h) n) (Sequencer k)) (names_itself [] (Sequencer (length h.setup.takers)) [])
+  sequencers = λ q lt. one_more (length h.setup.takers) q (λ k. HasName (objects_of sorts.Sequencer (next_ids h) n) (Sequencer k)) (names_itself [] (Sequencer (length h.setup.takers)) [])
       (omega (arith, counted h.setup.takers ws));
   cells = λ x lt. inl lt;
 }
@@ -189,22 +190,22 @@ covers sorts.Cells h n ws vs = record {
   cells = λ x lt. block_more (length h.setup.cells) n x (omega (arith, counted_cells h.setup.cells n (record { write = ws; read = vs })));
 }
 covers sorts.Buffer h n ws vs = record {
-  events = λ e lt. two_more (length h.setup.events) e (λ k. HasName (objects_of sorts.Buffer (next_of h) n) (Event k))
+  events = λ e lt. two_more (length h.setup.events) e (λ k. HasName (objects_of sorts.Buffer (next_ids h) n) (Event k))
       (names_itself _ (Event (length h.setup.events)) _)
       (names_later _ _ (Event (length h.setup.events + 1)) (names_itself _ (Event (length h.setup.events + 1)) _))
       (omega (arith, counted_twice h.setup.events (record { signal = ws; observe = ws ++ vs; fixed = true }) (record { signal = vs; observe = ws ++ vs; fixed = true })));
-  sequencers = λ q lt. two_more (length h.setup.takers) q (λ k. HasName (objects_of sorts.Buffer (next_of h) n) (Sequencer k))
+  sequencers = λ q lt. two_more (length h.setup.takers) q (λ k. HasName (objects_of sorts.Buffer (next_ids h) n) (Sequencer k))
       (names_later _ _ _ (names_later _ _ _ (names_itself _ (Sequencer (length h.setup.takers)) _)))
       (names_later _ _ _ (names_later _ _ _ (names_later _ _ _ (names_itself _ (Sequencer (length h.setup.takers + 1)) _))))
       (omega (arith, counted_twice h.setup.takers ws vs));
   cells = λ x lt. block_more (length h.setup.cells) n x (omega (arith, counted_cells h.setup.cells n (record { write = ws; read = vs })));
 }
 covers sorts.Database h n ws vs = record {
-  events = λ e lt. two_more (length h.setup.events) e (λ k. HasName (objects_of sorts.Database (next_of h) n) (Event k))
+  events = λ e lt. two_more (length h.setup.events) e (λ k. HasName (objects_of sorts.Database (next_ids h) n) (Event k))
       (names_itself _ (Event (length h.setup.events)) _)
       (names_later _ _ (Event (length h.setup.events + 1)) (names_itself _ (Event (length h.setup.events + 1)) _))
       (omega (arith, counted_twice h.setup.events (record { signal = ws; observe = vs; fixed = true }) (record { signal = ws; observe = ws ++ vs; fixed = true })));
-  sequencers = λ q lt. one_more (length h.setup.takers) q (λ k. HasName (objects_of sorts.Database (next_of h) n) (Sequencer k))
+  sequencers = λ q lt. one_more (length h.setup.takers) q (λ k. HasName (objects_of sorts.Database (next_ids h) n) (Sequencer k))
       (names_later _ _ _ (names_later _ _ _ (names_itself _ (Sequencer (length h.setup.takers)) _)))
       (omega (arith, counted h.setup.takers ws));
   cells = λ x lt. block_more (length h.setup.cells) n x (omega (arith, counted_cells h.setup.cells n (record { write = ws; read = vs })));
@@ -212,20 +213,20 @@ covers sorts.Database h n ws vs = record {
 covers sorts.Semaphore h n ws vs = users_cover h ws
 covers sorts.Both h n ws vs = users_cover h ws
 
--- and each of them is there
-cells_there : (h l : Headed) (n : ℕ) (ws vs : List ℕ) → l.setup.cells ≡ h.setup.cells ++ replicate n (record { write = ws; read = vs }) → is_below l (Cells (length h.setup.cells) n) ≡ true
+-- and each of them is in the tables then
+cells_there : (h l : HeadingModel) (n : ℕ) (ws vs : List ℕ) → l.setup.cells ≡ h.setup.cells ++ replicate n (record { write = ws; read = vs }) → is_below l (Cells (length h.setup.cells) n) ≡ true
 cells_there h l n ws vs is = (let c : length l.setup.cells ≡ length h.setup.cells + n = ap length is ∙ counted_cells h.setup.cells n (record { write = ws; read = vs }) in le-leb (length h.setup.cells + n) (length l.setup.cells) (omega arith))
 
 there : (n m k : ℕ) → k ≡ m → n < m → nat_lt n k ≡ true
 there n m k e lt = lt-ltb n k (omega arith)
 
-users_below : (h l : Headed) (ws : List ℕ) → l.setup ≡ with_semaphore h.setup ws → length h.groups < length l.groups → AllByRecursion (λ (o : List ℕ × Target). is_below l o.1 ≡ true) (objects_of sorts.Semaphore (next_of h) 0)
+users_below : (h l : HeadingModel) (ws : List ℕ) → l.setup ≡ with_semaphore h.setup ws → length h.groups < length l.groups → AllByRecursion (λ (o : List ℕ × Target). is_below l o.1 ≡ true) (objects_of sorts.Semaphore (next_ids h) 0)
 users_below h l ws is more =
     let e : length l.setup.events ≡ length h.setup.events + 1 = ap (λ (t : Tables). length t.events) is ∙ counted h.setup.events (record { signal = ws; observe = ws; fixed = true }) in
     let q : length l.setup.takers ≡ length h.setup.takers + 1 = ap (λ (t : Tables). length t.takers) is ∙ counted h.setup.takers ws in
     (there (length h.setup.events) _ _ e (omega arith), (there (length h.setup.takers) _ _ q (omega arith), (lt-ltb (length h.groups) (length l.groups) more, tt)))
 
-pub objects_below : (s : Sort) (h l : Headed) (n : ℕ) (ws vs : List ℕ) → l.setup ≡ with_objects s h.setup n ws vs → (group_of s h.setup n ≢ None → length h.groups < length l.groups) → AllByRecursion (λ (o : List ℕ × Target). is_below l o.1 ≡ true) (objects_of s (next_of h) n)
+pub objects_below : (s : DeclKind) (h l : HeadingModel) (n : ℕ) (ws vs : List ℕ) → l.setup ≡ with_objects s h.setup n ws vs → (group_of_declaration s h.setup n ≢ None → length h.groups < length l.groups) → AllByRecursion (λ (o : List ℕ × Target). is_below l o.1 ≡ true) (objects_of s (next_ids h) n)
 objects_below sorts.EventCount h l n ws vs is more = (there (length h.setup.events) (length h.setup.events + 1) (length l.setup.events) (ap (λ (t : Tables). length t.events) is ∙ counted h.setup.events (record { signal = ws; observe = vs; fixed = false })) (omega arith), tt)
 objects_below sorts.Sequencer h l n ws vs is more = (there (length h.setup.takers) (length h.setup.takers + 1) (length l.setup.takers) (ap (λ (t : Tables). length t.takers) is ∙ counted h.setup.takers ws) (omega arith), tt)
 objects_below sorts.Cells h l n ws vs is more = (cells_there h l n ws vs (ap (λ (t : Tables). t.cells) is), tt)
@@ -300,16 +301,17 @@ kept_cells t n ws vs l others k = record {
 sound_list : (t : Tables) (ws : List ℕ) → list_any (λ w. nat_le t.workers w) ws ≡ false → has_repeat ws ≡ false → ltb 16 (length ws) ≡ false → is_faulty t.workers ws ≡ false
 sound_list t ws known once few = or_from (list_any (λ w. nat_le t.workers w) ws || has_repeat ws) (ltb 16 (length ws)) (or_from (list_any (λ w. nat_le t.workers w) ws) (has_repeat ws) known once) few
 
-first_list : (s : Sort) (t : Tables) (n : ℕ) (ws vs : List ℕ) → HasRoom s t n ws vs → IsList t ws
+first_list : (s : DeclKind) (t : Tables) (n : ℕ) (ws vs : List ℕ) → HasRoom s t n ws vs
+    → IsList t ws
 first_list s t n ws vs r = record { sound = sound_list t ws (known_below t.workers ws r.known_first) r.once_first r.few_first; some = r.some }
 
-second_sound : (s : Sort) (t : Tables) (n : ℕ) (ws vs : List ℕ) → HasRoom s t n ws vs → is_faulty t.workers vs ≡ false
+second_sound : (s : DeclKind) (t : Tables) (n : ℕ) (ws vs : List ℕ) → HasRoom s t n ws vs → is_faulty t.workers vs ≡ false
 second_sound s t n ws vs r = sound_list t vs (known_below t.workers vs r.known_second) r.once_second r.few_second
 
 kept_users : (t : Tables) (ws : List ℕ) → IsList t ws → Kept t → Kept (with_semaphore t ws)
 kept_users t ws l k = kept_sequencer (with_fixed_event t ws ws) ws (record { sound = l.sound; some = l.some }) (kept_fixed_event t ws ws l l.sound k)
 
-pub kept_more : (s : Sort) (t : Tables) (n : ℕ) (ws vs : List ℕ) → HasRoom s t n ws vs → Kept t → Kept (with_objects s t n ws vs)
+pub kept_more : (s : DeclKind) (t : Tables) (n : ℕ) (ws vs : List ℕ) → HasRoom s t n ws vs → Kept t → Kept (with_objects s t n ws vs)
 kept_more sorts.EventCount t n ws vs r k = kept_event t ws vs (first_list sorts.EventCount t n ws vs r) (second_sound sorts.EventCount t n ws vs r) k
 kept_more sorts.Sequencer t n ws vs r k = kept_sequencer t ws (first_list sorts.Sequencer t n ws vs r) k
 kept_more sorts.Cells t n ws vs r k = kept_cells t n ws vs (first_list sorts.Cells t n ws vs r) (second_sound sorts.Cells t n ws vs r) k
@@ -357,7 +359,7 @@ bounded_users t ws room b =
       cells = b.cells;
     }
 
-pub bounds_more : (s : Sort) (t : Tables) (n : ℕ) (ws vs : List ℕ) → HasRoom s t n ws vs → Bounds t → Bounds (with_objects s t n ws vs)
+pub bounds_more : (s : DeclKind) (t : Tables) (n : ℕ) (ws vs : List ℕ) → HasRoom s t n ws vs → Bounds t → Bounds (with_objects s t n ws vs)
 bounds_more sorts.EventCount t n ws vs r b = record {
   events = (let l : length t.events ≤ 31 = ltb-false 31 (length t.events) r.room in omega (arith, counted t.events (record { signal = ws; observe = vs; fixed = false })));
   sequencers = b.sequencers;
@@ -400,7 +402,7 @@ bounds_more sorts.Both t n ws vs r b = bounded_users t ws r.room b
 
 -- THE GROUPS
 
-at_end : {A : Type 0} (xs : List A) (x : A) → slice_get (xs ++ x ∷ []) (length xs) ≡ Some x
+pub at_end : {A : Type 0} (xs : List A) (x : A) → slice_get (xs ++ x ∷ []) (length xs) ≡ Some x
 at_end xs x = found_at xs x []
 
 at_second : {A : Type 0} (xs : List A) (x y : A) → slice_get ((xs ++ x ∷ []) ++ y ∷ []) (length xs + 1) ≡ Some y
@@ -430,23 +432,6 @@ buffer_there t n ws vs none =
       cells = λ k lt. behind t.cells (replicate n (record { write = ws; read = vs })) k ∙ replicated_at n k (record { write = ws; read = vs }) lt;
       apart = (roles_of t (lacks_room t n) ws vs (eqb n 0) none).2.apart;
     }
-
--- and so is a database
-pub database_there : (t : Tables) (n : ℕ) (ws vs : List ℕ) → database_fault t n ws vs ≡ None → DeclaresDatabase (next_database t n) (with_database t n ws vs) ws vs
-database_there t n ws vs none =
-    let roles = (roles_of t (databases.lacks_room t n) ws vs (eqb n 0) none).2 in
-    record {
-      start = at_first t.events (record { signal = ws; observe = vs; fixed = true }) (record { signal = ws; observe = ws ++ vs; fixed = true });
-      done = at_second t.events (record { signal = ws; observe = vs; fixed = true }) (record { signal = ws; observe = ws ++ vs; fixed = true });
-      turn = at_end t.takers ws;
-      cells = λ k lt. behind t.cells (replicate n (record { write = ws; read = vs })) k ∙ replicated_at n k (record { write = ws; read = vs }) lt;
-      readers = some_there vs roles.second_some;
-      apart = roles.apart;
-    }
-  where
-    some_there : (xs : List ℕ) → eqb (length xs) 0 ≡ false → 0 < length xs
-    some_there [] e = absurd (true≢false e)
-    some_there (x ∷ xs) e = omega arith
 
 -- and a semaphore
 pub semaphore_there : (t : Tables) (initial : ℕ) (ws : List ℕ) → DeclaresSemaphore (next_semaphore t initial) (with_semaphore t ws) ws

@@ -1,4 +1,4 @@
--- A declaration may stand exactly if its line has no fault.
+-- A declaration is allowed exactly if its line has no fault.
 use Rattle.std.proofs.Common.{◌≡◌, ℕ, ◌+◌, ◌≤◌, List, [], ◌∷◌, ◌++◌, length, Bool, true, false, not, ◌||◌, ◌&&◌, Option, Some, None, is_some, unwrap_or, Err, refl, sym, ap, subst, ◌∙◌, arith, eqb, nat_le, nat_lt, leb, ltb, append_assoc, append-nil, eqb-true, lit≤}
 use Rattle.std.proofs.lemmas.Bool.{true≢false, or_parts, or_from, and_parts, and_left, and_right, ltb-false, le-ltb, leb-false, lt-leb, leb-true, not-false, not_from_true, ne_eqb}
 use Rattle.ec_count.specs.declared.setup.SetupFault.TheVariants as setups
@@ -6,25 +6,25 @@ use Rattle.ec_count.specs.Tables.{Tables, first_that, names_unknown}
 use Rattle.ec_count.specs.Members.{has_repeat, is_member}
 use Rattle.std.specs.List.{list_any}
 use Rattle.ec_count.specs.Names.{find_name}
-use Rattle.ec_count.specs.Roles.{roles_fault}
+use Rattle.ec_count.specs.Roles.{roles_fault, shares_worker as shares}
 use Rattle.ec_semaphore.specs.Shapes.{semaphore_fault}
 use Rattle.ec_semaphore.specs.declared.shape.TheConstants.{INITIAL_MAX}
-use Rattle.ec_text.specs.Words.{number_of}
-use Rattle.ec_heading.specs.Sorts.{has_number, second_opener, needs_disjoint_lists, needs_second, is_called, is_in_range}
+use Rattle.ec_text.specs.Words.{number_in_word}
+use Rattle.ec_heading.specs.DeclKinds.{has_number, second_opener, needs_disjoint_lists, needs_second, is_called, is_in_range}
 use Rattle.ec_heading.specs.Objects.{Next, objects_of, spelled_objects}
 use Rattle.ec_heading.specs.declared.version.Version.{Version}
-use Rattle.ec_heading.specs.Headed.{Headed}
-use Rattle.ec_heading.specs.Outline.{Declaration, IsDeclarable, opened, numbered, next_of, declared_by, declared_all, objects_fault, with_objects, fits_form}
+use Rattle.ec_heading.specs.HeadingModel.{HeadingModel}
+use Rattle.ec_heading.specs.HeaderTree.{Declaration, IsDeclarable, empty_heading, number_names, next_ids, with_declaration, with_declarations, objects_fault, with_objects, fits_form}
 use Rattle.ec_heading.specs.Form.{Phrase}
 use Rattle.ec_heading.specs.Heading.{FailsAs}
 use Rattle.ec_heading.specs.Kinds.{declaration_of, declaration_fault, kind_of, size_in, second_list, is_full_for, is_bad_number, is_too_many, is_taken, has_unknown_word, has_two_roles}
 use Rattle.ec_heading.specs.Lists.{ids_in, has_unknown}
-use Rattle.ec_heading.specs.declared.sort.Sort.{Sort}
-use Rattle.ec_heading.specs.declared.sort.Sort.TheVariants as sorts
+use Rattle.ec_heading.specs.declared.decl_kind.DeclKind.{DeclKind}
+use Rattle.ec_heading.specs.declared.decl_kind.DeclKind.TheVariants as sorts
 use Rattle.ec_heading.specs.declared.heading.HeadFault.{HeadFault}
 use Rattle.ec_heading.specs.declared.heading.HeadFault.TheVariants as faults
 use Rattle.ec_heading.specs.Phrased.{IsSpelled, SecondFits, NumberFits, HasWords}
-use Rattle.ec_heading.proofs.shared.SortFacts.{zero_in_range, number_small}
+use Rattle.ec_heading.proofs.shared.DeclKindFacts.{zero_in_range, number_small}
 use Rattle.ec_heading.proofs.shared.Listed.{Named, HasNoWorker, no_worker-append, with_others, AreBelow, known_below, below_known, ids_below, ids_some}
 
 -- A LIST OF TESTS
@@ -39,20 +39,20 @@ pub pass : {F : Type 0} (b : Bool) (f : F) (rest : List (Bool × F)) → b ≡ f
 pass true f rest b e = absurd (true≢false b)
 pass false f rest b e = e
 
--- THE HEADINGS OF AN OUTLINE'S WORKERS
+-- THE HEADERS WITH A SYNTAX TREE'S WORKERS
 
--- the workers of the heading have these names, and its other words stand for none
-pub record Heads (ws : List (List ℕ)) (h : Headed) : Type 0 where
+-- the workers of the header have these names, and its other words denote no worker
+pub record Heads (ws : List (List ℕ)) (h : HeadingModel) : Type 0 where
   pub count : h.setup.workers ≡ length ws
   pub others : Named
   pub words : h.words ≡ with_others ws others
   pub none : HasNoWorker others
 
--- the workers of a heading without declarations are those that it was opened with
-pub heads_opened : (version : Version) (limit : ℕ) (ws : List (List ℕ)) → Heads ws (opened version limit ws)
-heads_opened version limit ws = record { count = refl; others = []; words = sym (append-nil (numbered 0 ws)); none = tt }
+-- the workers of a header without declarations are those that it was opened with
+pub heads_opened : (version : Version) (limit : ℕ) (ws : List (List ℕ)) → Heads ws (empty_heading version limit ws)
+heads_opened version limit ws = record { count = refl; others = []; words = sym (append-nil (number_names 0 ws)); none = tt }
 
-keeps_workers : (s : Sort) (t : Tables) (n : ℕ) (first second : List ℕ) → (with_objects s t n first second).workers ≡ t.workers
+pub keeps_workers : (s : DeclKind) (t : Tables) (n : ℕ) (first second : List ℕ) → (with_objects s t n first second).workers ≡ t.workers
 keeps_workers sorts.EventCount t n first second = refl
 keeps_workers sorts.Sequencer t n first second = refl
 keeps_workers sorts.Cells t n first second = refl
@@ -61,7 +61,7 @@ keeps_workers sorts.Database t n first second = refl
 keeps_workers sorts.Semaphore t n first second = refl
 keeps_workers sorts.Both t n first second = refl
 
-no_worker_there : (s : Sort) (k : Next) (n : ℕ) → HasNoWorker (objects_of s k n)
+no_worker_there : (s : DeclKind) (k : Next) (n : ℕ) → HasNoWorker (objects_of s k n)
 no_worker_there sorts.EventCount k n = (refl, tt)
 no_worker_there sorts.Sequencer k n = (refl, tt)
 no_worker_there sorts.Cells k n = (refl, tt)
@@ -74,31 +74,27 @@ no_worker_spelled : (name : List ℕ) (os : Named) → HasNoWorker os → HasNoW
 no_worker_spelled name [] h = tt
 no_worker_spelled name (o ∷ os) h = (h.0, no_worker_spelled name os h.1)
 
-pub heads_more : (ws : List (List ℕ)) (h : Headed) (d : Declaration) → Heads ws h → Heads ws (declared_by h d)
+pub heads_more : (ws : List (List ℕ)) (h : HeadingModel) (d : Declaration) → Heads ws h → Heads ws (with_declaration h d)
 heads_more ws h d heads =
-    let objects : Named = objects_of d.sort (next_of h) d.number in
+    let objects : Named = objects_of d.sort (next_ids h) d.number in
     record {
       count = keeps_workers d.sort h.setup d.number d.first d.second ∙ heads.count;
-      others = heads.others ++ spelled_objects d.name (objects_of d.sort (next_of h) d.number);
+      others = heads.others ++ spelled_objects d.name (objects_of d.sort (next_ids h) d.number);
       words =
-          ap (λ (es : Named). es ++ spelled_objects d.name (objects_of d.sort (next_of h) d.number)) heads.words
-          ∙ append_assoc (numbered 0 ws) heads.others (spelled_objects d.name (objects_of d.sort (next_of h) d.number));
-      none = no_worker-append heads.others (spelled_objects d.name (objects_of d.sort (next_of h) d.number)) heads.none (no_worker_spelled d.name objects (no_worker_there d.sort (next_of h) d.number));
+          ap (λ (es : Named). es ++ spelled_objects d.name (objects_of d.sort (next_ids h) d.number)) heads.words
+          ∙ append_assoc (number_names 0 ws) heads.others (spelled_objects d.name (objects_of d.sort (next_ids h) d.number));
+      none = no_worker-append heads.others (spelled_objects d.name (objects_of d.sort (next_ids h) d.number)) heads.none (no_worker_spelled d.name objects (no_worker_there d.sort (next_ids h) d.number));
     }
 
--- declarations leave a heading the workers that it has
-pub heads_all : (ws : List (List ℕ)) (h : Headed) (ds : List Declaration) → Heads ws h → Heads ws (declared_all h ds)
+-- declarations don't change the workers of a header
+pub heads_all : (ws : List (List ℕ)) (h : HeadingModel) (ds : List Declaration) → Heads ws h → Heads ws (with_declarations h ds)
 heads_all ws h [] heads = heads
-heads_all ws h (d ∷ ds) heads = heads_all ws (declared_by h d) ds (heads_more ws h d heads)
+heads_all ws h (d ∷ ds) heads = heads_all ws (with_declaration h d) ds (heads_more ws h d heads)
 
--- WHAT THE TABLES ASK
-
--- whether a worker stands in both lists
-abbrev pub shares : List ℕ → List ℕ → Bool
-shares first second = list_any (λ w. is_member w second) first
+-- WHAT THE TABLES REQUIRE
 
 -- the tests of a declaration's objects, all passed
-pub record HasRoom (s : Sort) (t : Tables) (n : ℕ) (first second : List ℕ) : Type 0 where
+pub record HasRoom (s : DeclKind) (t : Tables) (n : ℕ) (first second : List ℕ) : Type 0 where
   pub room : is_full_for s t n ≡ false
   pub few_first : ltb 16 (length first) ≡ false
   pub few_second : ltb 16 (length second) ≡ false
@@ -150,8 +146,8 @@ unknown t ws = names_unknown t ws
 abbrev empty : List ℕ → Bool
 empty ws = eqb (length ws) 0
 
--- two lists with roles of their own
-roles_taken : (s : Sort) (t : Tables) (n : ℕ) (first second : List ℕ) → needs_second s ≡ true → needs_disjoint_lists s ≡ true → eqb n 0 ≡ false → HasRoom s t n first second → roles_fault t (is_full_for s t n) first second (eqb n 0) ≡ None
+-- two lists that have to be disjoint
+roles_taken : (s : DeclKind) (t : Tables) (n : ℕ) (first second : List ℕ) → needs_second s ≡ true → needs_disjoint_lists s ≡ true → eqb n 0 ≡ false → HasRoom s t n first second → roles_fault t (is_full_for s t n) first second (eqb n 0) ≡ None
 roles_taken s t n first second needs keeps more h =
     let other : empty second ≡ false = ap (λ (b : Bool). b && empty second) (sym needs) ∙ h.needed in
     let apart : shares first second ≡ false = ap (λ (b : Bool). b && shares first second) (sym keeps) ∙ h.apart in
@@ -162,7 +158,7 @@ roles_taken s t n first second needs keeps more h =
     (or_from _ _ (or_from _ _ more h.some) other)
     apart
 
-roles_room : (s : Sort) (t : Tables) (n : ℕ) (first second : List ℕ) → roles_fault t (is_full_for s t n) first second (eqb n 0) ≡ None → HasRoom s t n first second
+roles_room : (s : DeclKind) (t : Tables) (n : ℕ) (first second : List ℕ) → roles_fault t (is_full_for s t n) first second (eqb n 0) ≡ None → HasRoom s t n first second
 roles_room s t n first second e =
     let p = from_five (is_full_for s t n || long first || long second) (unknown t first || unknown t second) (has_repeat first || has_repeat second) (eqb n 0 || empty first || empty second) (shares first second) setups.TooMany setups.UnknownWorker setups.Repeated setups.Empty setups.TwoRoles e in
     let a = or_parts (is_full_for s t n || long first) (long second) p.0 in
@@ -185,7 +181,7 @@ roles_room s t n first second e =
     }
 
 -- the users of a semaphore
-users_taken : (s : Sort) (t : Tables) (n initial : ℕ) (users second : List ℕ) → initial ≤ 1000000 → (nat_lt 31 (length t.events) || nat_lt 31 (length t.takers)) ≡ false → HasRoom s t n users second → semaphore_fault t initial users ≡ None
+users_taken : (s : DeclKind) (t : Tables) (n initial : ℕ) (users second : List ℕ) → initial ≤ 1000000 → (nat_lt 31 (length t.events) || nat_lt 31 (length t.takers)) ≡ false → HasRoom s t n users second → semaphore_fault t initial users ≡ None
 users_taken s t n initial users second small room h =
     let rooms = or_parts (nat_lt 31 (length t.events)) (nat_lt 31 (length t.takers)) room in
     four (nat_lt INITIAL_MAX initial || nat_le 32 (length t.events) || nat_le 32 (length t.takers) || long users) (unknown t users) (has_repeat users) (empty users) setups.TooMany setups.UnknownWorker setups.Repeated setups.Empty
@@ -194,7 +190,7 @@ users_taken s t n initial users second small room h =
     h.once_first
     h.some
 
-users_room : (s : Sort) (t : Tables) (n initial : ℕ) (users second : List ℕ) → second ≡ [] → needs_second s ≡ false → needs_disjoint_lists s ≡ false → ((nat_lt 31 (length t.events) || nat_lt 31 (length t.takers)) ≡ false → is_full_for s t n ≡ false) → semaphore_fault t initial users ≡ None → HasRoom s t n users second
+users_room : (s : DeclKind) (t : Tables) (n initial : ℕ) (users second : List ℕ) → second ≡ [] → needs_second s ≡ false → needs_disjoint_lists s ≡ false → ((nat_lt 31 (length t.events) || nat_lt 31 (length t.takers)) ≡ false → is_full_for s t n ≡ false) → semaphore_fault t initial users ≡ None → HasRoom s t n users second
 users_room s t n initial users second none needs keeps room e =
     let p = from_four (nat_lt INITIAL_MAX initial || nat_le 32 (length t.events) || nat_le 32 (length t.takers) || long users) (unknown t users) (has_repeat users) (empty users) setups.TooMany setups.UnknownWorker setups.Repeated setups.Empty e in
     let a = or_parts (nat_lt INITIAL_MAX initial || nat_le 32 (length t.events) || nat_le 32 (length t.takers)) (long users) p.0 in
@@ -213,7 +209,7 @@ users_room s t n initial users second none needs keeps room e =
       apart = and_left _ _ keeps;
     }
 
-pub objects_taken : (s : Sort) (t : Tables) (n : ℕ) (first second : List ℕ) → is_in_range s n ≡ true → HasRoom s t n first second → objects_fault s t n first second ≡ None
+pub objects_taken : (s : DeclKind) (t : Tables) (n : ℕ) (first second : List ℕ) → is_in_range s n ≡ true → HasRoom s t n first second → objects_fault s t n first second ≡ None
 objects_taken sorts.EventCount t n first second range h =
     four (nat_le 32 (length t.events) || long first || long second) (unknown t first || unknown t second) (has_repeat first || has_repeat second) (empty first) setups.TooMany setups.UnknownWorker setups.Repeated setups.Empty
     (or_from _ _ (or_from _ _ (full_32 _ h.room) h.few_first) h.few_second)
@@ -242,11 +238,11 @@ objects_taken sorts.Database t n first second range h =
 objects_taken sorts.Semaphore t n first second range h = users_taken sorts.Semaphore t n n first second (number_small sorts.Semaphore n range) h.room h
 objects_taken sorts.Both t n first second range h = users_taken sorts.Both t n 1 first second (lit≤ tt) h.room h
 
-none_listed : (ids : List ℕ) → eqb (length ids) 0 ≡ true → ids ≡ []
+pub none_listed : (ids : List ℕ) → eqb (length ids) 0 ≡ true → ids ≡ []
 none_listed [] e = refl
 none_listed (i ∷ ids) e = absurd (omega (arith, eqb-true (length (i ∷ ids)) 0 e))
 
-pub has_room : (s : Sort) (t : Tables) (n : ℕ) (first second : List ℕ) → fits_form (second_opener s) second ≡ true → objects_fault s t n first second ≡ None → HasRoom s t n first second
+pub has_room : (s : DeclKind) (t : Tables) (n : ℕ) (first second : List ℕ) → fits_form (second_opener s) second ≡ true → objects_fault s t n first second ≡ None → HasRoom s t n first second
 has_room sorts.EventCount t n first second form e =
     let p = from_four (nat_le 32 (length t.events) || long first || long second) (unknown t first || unknown t second) (has_repeat first || has_repeat second) (empty first) setups.TooMany setups.UnknownWorker setups.Repeated setups.Empty e in
     let a = or_parts (nat_le 32 (length t.events) || long first) (long second) p.0 in
@@ -315,13 +311,13 @@ pub record IsClean (t : Tables) (words : Named) (p : Phrase) (d : Declaration) :
   pub once_second : has_repeat d.second ≡ false
   pub known_first : has_unknown words p.first ≡ false
   pub known_second : has_unknown words (second_list p) ≡ false
-  pub number : is_bad_number p.sort (number_of p.number) ≡ false
+  pub number : is_bad_number p.sort (number_in_word p.number) ≡ false
   pub few_first : ltb 16 (length d.first) ≡ false
   pub few_second : ltb 16 (length d.second) ≡ false
   pub room : is_full_for d.sort t d.number ≡ false
   pub apart : has_two_roles d ≡ false
 
-is_none_from : {A : Type 0} (o : Option A) → is_some o ≡ false → o ≡ None
+pub is_none_from : {A : Type 0} (o : Option A) → is_some o ≡ false → o ≡ None
 is_none_from None e = refl
 is_none_from (Some x) e = absurd (true≢false e)
 
@@ -329,13 +325,13 @@ pub clean : (t : Tables) (words : Named) (p : Phrase) (d : Declaration) → kind
 clean t words p d e =
     let l5 : List (Bool × HeadFault) = (has_two_roles d, faults.TwoRoles) ∷ [] in
     let l4 : List (Bool × HeadFault) = (is_too_many t d, faults.TooMany) ∷ l5 in
-    let l3 : List (Bool × HeadFault) = (is_bad_number p.sort (number_of p.number), faults.BadNumber) ∷ l4 in
+    let l3 : List (Bool × HeadFault) = (is_bad_number p.sort (number_in_word p.number), faults.BadNumber) ∷ l4 in
     let l2 : List (Bool × HeadFault) = (has_unknown_word words p, faults.UnknownName) ∷ l3 in
     let l1 : List (Bool × HeadFault) = (is_taken words d, faults.NameTaken) ∷ l2 in
     let p1 = passed (not (is_called d.sort d.name)) faults.BadName l1 e in
     let p2 = passed (is_taken words d) faults.NameTaken l2 p1.1 in
     let p3 = passed (has_unknown_word words p) faults.UnknownName l3 p2.1 in
-    let p4 = passed (is_bad_number p.sort (number_of p.number)) faults.BadNumber l4 p3.1 in
+    let p4 = passed (is_bad_number p.sort (number_in_word p.number)) faults.BadNumber l4 p3.1 in
     let p5 = passed (is_too_many t d) faults.TooMany l5 p4.1 in
     let p6 = passed (has_two_roles d) faults.TwoRoles [] p5.1 in
     let taken = or_parts (is_some (find_name d.name words)) (has_repeat d.first || has_repeat d.second) p2.0 in
@@ -361,26 +357,26 @@ pub no_kind : (t : Tables) (words : Named) (p : Phrase) (d : Declaration) → Is
 no_kind t words p d h =
     let l5 : List (Bool × HeadFault) = (has_two_roles d, faults.TwoRoles) ∷ [] in
     let l4 : List (Bool × HeadFault) = (is_too_many t d, faults.TooMany) ∷ l5 in
-    let l3 : List (Bool × HeadFault) = (is_bad_number p.sort (number_of p.number), faults.BadNumber) ∷ l4 in
+    let l3 : List (Bool × HeadFault) = (is_bad_number p.sort (number_in_word p.number), faults.BadNumber) ∷ l4 in
     let l2 : List (Bool × HeadFault) = (has_unknown_word words p, faults.UnknownName) ∷ l3 in
     let l1 : List (Bool × HeadFault) = (is_taken words d, faults.NameTaken) ∷ l2 in
     pass (not (is_called d.sort d.name)) faults.BadName l1 (not_from_true _ h.word)
     (pass (is_taken words d) faults.NameTaken l2 (or_from _ _ (ap is_some h.new) (or_from _ _ h.once_first h.once_second))
     (pass (has_unknown_word words p) faults.UnknownName l3 (or_from _ _ h.known_first h.known_second)
-    (pass (is_bad_number p.sort (number_of p.number)) faults.BadNumber l4 h.number
+    (pass (is_bad_number p.sort (number_in_word p.number)) faults.BadNumber l4 h.number
     (pass (is_too_many t d) faults.TooMany l5 (or_from _ _ (or_from _ _ h.few_first h.few_second) h.room)
     (pass (has_two_roles d) faults.TwoRoles [] h.apart refl)))))
 
 -- THE NUMBER
 
-good_number : (s : Sort) (o : Option ℕ) → has_number s ≡ true → is_bad_number s o ≡ false → is_in_range s (unwrap_or o 0) ≡ true
+good_number : (s : DeclKind) (o : Option ℕ) → has_number s ≡ true → is_bad_number s o ≡ false → is_in_range s (unwrap_or o 0) ≡ true
 good_number s None has e = absurd (true≢false (sym has ∙ e))
 good_number s (Some n) has e = not-false _ (ap (λ (b : Bool). b && not (is_in_range s n)) (sym has) ∙ e)
 
-good_range : (s : Sort) (word : List ℕ) → NumberFits s word → is_bad_number s (number_of word) ≡ false → is_in_range s (unwrap_or (number_of word) 0) ≡ true
-good_range s word fits e = elim (has_number s) as (λ b. has_number s ≡ b → is_in_range s (unwrap_or (number_of word) 0) ≡ true) [
-  | true ↦ λ q. good_number s (number_of word) q e
-  | false ↦ λ q. ap (λ (w : List ℕ). is_in_range s (unwrap_or (number_of w) 0)) (fits.none q) ∙ zero_in_range s q
+good_range : (s : DeclKind) (word : List ℕ) → NumberFits s word → is_bad_number s (number_in_word word) ≡ false → is_in_range s (unwrap_or (number_in_word word) 0) ≡ true
+good_range s word fits e = elim (has_number s) as (λ b. has_number s ≡ b → is_in_range s (unwrap_or (number_in_word word) 0) ≡ true) [
+  | true ↦ λ q. good_number s (number_in_word word) q e
+  | false ↦ λ q. ap (λ (w : List ℕ). is_in_range s (unwrap_or (number_in_word w) 0)) (fits.none q) ∙ zero_in_range s q
 ] refl
 
 -- A LINE WITHOUT FAULT DECLARES
@@ -394,18 +390,18 @@ first_some : (words : Named) (ws : List (List ℕ)) → HasWords ws → has_unkn
 first_some words ws (v, vs, is) known =
     subst (λ (us : List (List ℕ)). eqb (length (ids_in words us)) 0 ≡ false) (sym is) (ids_some words v vs (subst (λ (us : List (List ℕ)). has_unknown words us ≡ false) is known))
 
--- a second list that must be there names somebody
+-- a second list that must be there names a worker
 second_some : (needs : Bool) (o : Option (List ℕ)) (words : Named) (q : Option (List (List ℕ))) → SecondFits needs o q → has_unknown words (unwrap_or q []) ≡ false → (needs && eqb (length (ids_in words (unwrap_or q []))) 0) ≡ false
 second_some needs o words None fits known = and_left _ _ fits
 second_some needs None words (Some vs) fits known = absurd fits
 second_some needs (Some stop) words (Some vs) fits known = and_right _ _ (first_some words vs fits known)
 
-ids_within : (ws : List (List ℕ)) (h : Headed) (vs : List (List ℕ)) → Heads ws h → AreBelow h.setup.workers (ids_in h.words vs)
+ids_within : (ws : List (List ℕ)) (h : HeadingModel) (vs : List (List ℕ)) → Heads ws h → AreBelow h.setup.workers (ids_in h.words vs)
 ids_within ws h vs heads =
     subst (λ (n : ℕ). AreBelow n (ids_in h.words vs)) (sym heads.count)
     (subst (λ (words : Named). AreBelow (length ws) (ids_in words vs)) (sym heads.words) (ids_below ws heads.others vs heads.none))
 
-pub may_declare : (ws : List (List ℕ)) (h : Headed) (words : List (List ℕ)) (p : Phrase) → Heads ws h → IsSpelled words p → declaration_fault h.setup h.words p ≡ None → IsDeclarable h (declaration_of h.words p)
+pub may_declare : (ws : List (List ℕ)) (h : HeadingModel) (words : List (List ℕ)) (p : Phrase) → Heads ws h → IsSpelled words p → declaration_fault h.setup h.words p ≡ None → IsDeclarable h (declaration_of h.words p)
 may_declare ws h words p heads is none =
     let c : IsClean h.setup h.words p (declaration_of h.words p) = clean h.setup h.words p (declaration_of h.words p) none in
     let range : is_in_range p.sort (size_in p) ≡ true = good_range p.sort p.number is.number c.number in
@@ -429,7 +425,7 @@ may_declare ws h words p heads is none =
     }
 
 -- and what may be declared passes the tests, if its number is good and the words of its lists are known
-pub is_clean : (h : Headed) (p : Phrase) (d : Declaration) → IsDeclarable h d → is_bad_number p.sort (number_of p.number) ≡ false → has_unknown h.words p.first ≡ false → has_unknown h.words (second_list p) ≡ false → IsClean h.setup h.words p d
+pub is_clean : (h : HeadingModel) (p : Phrase) (d : Declaration) → IsDeclarable h d → is_bad_number p.sort (number_in_word p.number) ≡ false → has_unknown h.words p.first ≡ false → has_unknown h.words (second_list p) ≡ false → IsClean h.setup h.words p d
 is_clean h p d may number first second =
     let r : HasRoom d.sort h.setup d.number d.first d.second = has_room d.sort h.setup d.number d.first d.second may.form may.taken in
     record {
@@ -446,7 +442,7 @@ is_clean h p d may number first second =
       apart = r.apart;
     }
 
--- nobody stands in a list and in an empty one
+-- no worker is in a list and in an empty one
 shares_none : (ws : List ℕ) → shares ws [] ≡ false
 shares_none [] = refl
 shares_none (w ∷ ws) = shares_none ws
@@ -454,7 +450,7 @@ shares_none (w ∷ ws) = shares_none ws
 pub no_second : (b : Bool) (first second : List ℕ) → second ≡ [] → false ≡ (b && shares first second)
 no_second b first second none = sym (and_right b (shares first second) (ap (shares first) none ∙ shares_none first))
 
--- the fault of a line is a kind of its own, and not want of memory
+-- the fault of a line is never out of memory
 one_of : (b : Bool) (g f : HeadFault) (rest : List (Bool × HeadFault)) → FailsAs g (Err g) → (first_that rest ≡ Some f → FailsAs f (Err f)) → first_that ((b, g) ∷ rest) ≡ Some f → FailsAs f (Err f)
 one_of true g f rest own others e = (let same : g ≡ f = cc in subst (λ (k : HeadFault). FailsAs k (Err k)) same own)
 one_of false g f rest own others e = others e
@@ -467,12 +463,12 @@ fault_fails t words p f e =
     let d : Declaration = declaration_of words p in
     let l5 : List (Bool × HeadFault) = (has_two_roles (declaration_of words p), faults.TwoRoles) ∷ [] in
     let l4 : List (Bool × HeadFault) = (is_too_many t (declaration_of words p), faults.TooMany) ∷ l5 in
-    let l3 : List (Bool × HeadFault) = (is_bad_number p.sort (number_of p.number), faults.BadNumber) ∷ l4 in
+    let l3 : List (Bool × HeadFault) = (is_bad_number p.sort (number_in_word p.number), faults.BadNumber) ∷ l4 in
     let l2 : List (Bool × HeadFault) = (has_unknown_word words p, faults.UnknownName) ∷ l3 in
     let l1 : List (Bool × HeadFault) = (is_taken words (declaration_of words p), faults.NameTaken) ∷ l2 in
     one_of (not (is_called p.sort p.name)) faults.BadName f l1 refl
     (one_of (is_taken words d) faults.NameTaken f l2 refl
     (one_of (has_unknown_word words p) faults.UnknownName f l3 refl
-    (one_of (is_bad_number p.sort (number_of p.number)) faults.BadNumber f l4 refl
+    (one_of (is_bad_number p.sort (number_in_word p.number)) faults.BadNumber f l4 refl
     (one_of (is_too_many t d) faults.TooMany f l5 refl
     (one_of (has_two_roles d) faults.TwoRoles f [] refl (none_of f)))))) e

@@ -63,7 +63,7 @@ plain_word : (w : List ℕ) → AllByRecursion IsPlain w → AllByRecursion (λ 
 plain_word [] h = tt
 plain_word (b ∷ w) h = (ne_eqb b 32 h.0.space, plain_word w h.1)
 
--- no space stands in a name
+-- no space is in a name
 pub name_is_word : (w : List ℕ) → is_name w ≡ true → IsWord w
 name_is_word w h = All-from_recursion (λ b. eqb b 32 ≡ false) w (plain_word w (named w h).plain)
 

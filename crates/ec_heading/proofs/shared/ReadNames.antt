@@ -1,4 +1,4 @@
--- Names of a heading: each thing has one, and it is found by it.
+-- Names of a header: each object has one, and is found by it.
 use Rattle.std.proofs.Common.{◌≡◌, ℕ, ◌+◌, ◌-◌, ◌<◌, ◌≤◌, List, [], ◌∷◌, ◌++◌, cond, Bool, true, false, eqb, ◌&&◌, ◌||◌, suc, Option, Some, unwrap_or, refl, sym, ap, subst, ◌∙◌, arith, nat_lt, nat_le, codes, decimal, slice_get}
 use Rattle.std.specs.Prelude.{bytes_eq}
 use Rattle.std.specs.List.{AllByRecursion, list_any}
@@ -7,11 +7,12 @@ use Rattle.std.proofs.lemmas.Slice.Eq.{bytes_eq-Decides}
 use Rattle.ec_count.specs.Names.{find_name, name_of, same_target}
 use Rattle.ec_count.specs.declared.target.Target.{Target}
 use Rattle.ec_count.specs.declared.target.Target.TheVariants.{Worker, Event, Sequencer, Cells, Group}
-use Rattle.ec_heading.specs.Spelling.{word_of, cell_word, cell_in, first_of}
-use Rattle.ec_heading.specs.Spelled.{Named}
+use Rattle.ec_heading.specs.Spelling.{target_name, cell_word, cell_in, target_index}
+use Rattle.ec_heading.specs.EntryWords.{NameTable}
 use Rattle.ec_heading.proofs.shared.SpelledWords.{is_plain, IsPlainWord, AreWords, entry_found, entry_word, given_word, named_found}
+use Rattle.ec_heading.proofs.shared.TreeNames.{same_itself as same_self}
 
--- EACH THING HAS ONE NAME
+-- EACH OBJECT HAS ONE NAME
 
 -- whether two targets are one, or share a cell
 abbrev pub is_shared : Target → Target → Bool
@@ -19,7 +20,7 @@ is_shared (Cells x m) (Cells y n) = nat_lt x (y + n) && nat_lt y (x + m)
 is_shared s t = same_target s t
 
 -- no two targets are one, or share a cell
-abbrev pub AreApart : Named → Type 0
+abbrev pub AreApart : NameTable → Type 0
 AreApart [] = Unit {0}
 AreApart (e ∷ es) = AllByRecursion (λ (d : List ℕ × Target). is_shared e.1 d.1 ≡ false) es × AreApart es
 
@@ -31,15 +32,8 @@ plain_same : (s t : Target) → is_block t ≡ false → is_shared s t ≡ same_
 plain_same (Cells x m) (Cells y n) h = absurd (true≢false h)
 plain_same _ _ h = refl
 
-pub same_self : (t : Target) → same_target t t ≡ true
-same_self (Worker w) = eq-eqb w w refl
-same_self (Event e) = eq-eqb e e refl
-same_self (Sequencer q) = eq-eqb q q refl
-same_self (Cells x n) = and_from _ _ (eq-eqb x x refl) (eq-eqb n n refl)
-same_self (Group i) = eq-eqb i i refl
-
 -- what holds of each target holds of one that is found
-pub found_all : (Q : Target → Type 0) (names : Named) (word : List ℕ) (t : Target) → AllByRecursion (λ (d : List ℕ × Target). Q d.1) names → find_name word names ≡ Some t → Q t
+pub found_all : (Q : Target → Type 0) (names : NameTable) (word : List ℕ) (t : Target) → AllByRecursion (λ (d : List ℕ × Target). Q d.1) names → find_name word names ≡ Some t → Q t
 found_all Q [] word t all e = cc
 found_all Q (x ∷ xs) word t all e =
     elim (bytes_eq word x.0) as (λ b. cond b (Some x.1) (find_name word xs) ≡ Some t → Q t) [
@@ -48,7 +42,7 @@ found_all Q (x ∷ xs) word t all e =
     ] e
 
 -- a target that is found is named by the word
-pub named_back : (names : Named) (word : List ℕ) (t : Target) → AreApart names → is_block t ≡ false → find_name word names ≡ Some t → name_of t names ≡ Some word
+pub named_back : (names : NameTable) (word : List ℕ) (t : Target) → AreApart names → is_block t ≡ false → find_name word names ≡ Some t → name_of t names ≡ Some word
 named_back [] word t apart plain e = cc
 named_back (x ∷ xs) word t apart plain e =
     elim (bytes_eq word x.0) as (λ b. bytes_eq word x.0 ≡ b → cond b (Some x.1) (find_name word xs) ≡ Some t → cond (same_target x.1 t) (Some x.0) (name_of t xs) ≡ Some word) [
@@ -63,20 +57,20 @@ named_back (x ∷ xs) word t apart plain e =
     ] refl e
 
 -- if targets are apart, what a word is found as has that word as its name, if it is no block of cells
-pub word_back : (names : Named) (word : List ℕ) (t : Target) → AreApart names → is_block t ≡ false → find_name word names ≡ Some t → word_of names t ≡ word
+pub word_back : (names : NameTable) (word : List ℕ) (t : Target) → AreApart names → is_block t ≡ false → find_name word names ≡ Some t → target_name names t ≡ word
 word_back names word t apart plain e = ap (λ (o : Option (List ℕ)). unwrap_or o []) (named_back names word t apart plain e)
 
 -- CELLS
 
--- a cell of a block, spelled: the block's word, and the cell's number in brackets
+-- the word for a cell of a block: the block's word, and the cell's number in brackets
 abbrev pub bracketed : List ℕ → ℕ → List ℕ
 bracketed block i = block ++ codes "[" ++ decimal i ++ codes "]"
 
-cell_inside : (t : Target) (first n i : ℕ) → i < n → t ≡ Cells first n → (cell_in (first + i) t ≡ true) × (first + i - first_of t ≡ i)
+cell_inside : (t : Target) (first n i : ℕ) → i < n → t ≡ Cells first n → (cell_in (first + i) t ≡ true) × (first + i - target_index t ≡ i)
 cell_inside t first n i small is =
     let low : nat_le first (first + i) ≡ true = le-leb _ _ (omega arith) in
     let high : nat_lt (first + i) (first + n) ≡ true = lt-ltb _ _ (omega arith) in
-    (ap (cell_in (first + i)) is ∙ and_from _ _ low high, ap (λ (s : Target). first + i - first_of s) is ∙ omega arith)
+    (ap (cell_in (first + i)) is ∙ and_from _ _ low high, ap (λ (s : Target). first + i - target_index s) is ∙ omega arith)
 
 cell_outside : (s : Target) (first n i : ℕ) → i < n → is_shared s (Cells first n) ≡ false → cell_in (first + i) s ≡ false
 cell_outside (Cells x m) first n i small off =
@@ -87,12 +81,12 @@ cell_outside (Cells x m) first n i small off =
     true≢false (sym (and_from _ _ (lt-ltb x (first + n) (omega arith)) (lt-ltb first (x + m) (omega arith))) ∙ off))
 cell_outside _ first n i small off = refl
 
--- a cell of a block that is found is spelled by the block's word
-pub cell_back : (names : Named) (block : List ℕ) (first n i : ℕ) → AreApart names → i < n → find_name block names ≡ Some (Cells first n) → cell_word names (first + i) ≡ bracketed block i
+-- the word for a cell of a block that is found begins with the block's word
+pub cell_back : (names : NameTable) (block : List ℕ) (first n i : ℕ) → AreApart names → i < n → find_name block names ≡ Some (Cells first n) → cell_word names (first + i) ≡ bracketed block i
 unfolding cell_word
 cell_back [] block first n i apart small e = cc
 cell_back (x ∷ xs) block first n i apart small e =
-    elim (bytes_eq block x.0) as (λ b. bytes_eq block x.0 ≡ b → cond b (Some x.1) (find_name block xs) ≡ Some (Cells first n) → cond (cell_in (first + i) x.1) (bracketed x.0 (first + i - first_of x.1)) (cell_word xs (first + i)) ≡ bracketed block i) [
+    elim (bytes_eq block x.0) as (λ b. bytes_eq block x.0 ≡ b → cond b (Some x.1) (find_name block xs) ≡ Some (Cells first n) → cond (cell_in (first + i) x.1) (bracketed x.0 (first + i - target_index x.1)) (cell_word xs (first + i)) ≡ bracketed block i) [
       | true ↦ λ q g.
           (let s : x.1 ≡ Cells first n = cc in
           let w : block ≡ x.0 = (bytes_eq-Decides block x.0).0 q in
@@ -106,16 +100,16 @@ cell_back (x ∷ xs) block first n i apart small e =
 -- WHAT IS DECLARED HAS A NAME
 
 -- some word is the name of the target
-pub record HasName (names : Named) (t : Target) : Type 0 where
+pub record HasName (names : NameTable) (t : Target) : Type 0 where
   pub word : List ℕ
   pub is : name_of t names ≡ Some word
 
--- whether a cell lies in some block of the table
-abbrev pub is_celled : ℕ → Named → Bool
+-- whether a cell is in some block of the table
+abbrev pub is_celled : ℕ → NameTable → Bool
 is_celled x names = list_any (λ (e : List ℕ × Target). cell_in x e.1) names
 
 -- the block of a cell
-pub record HasBlock (names : Named) (x : ℕ) : Type 0 where
+pub record HasBlock (names : NameTable) (x : ℕ) : Type 0 where
   pub at : ℕ
   pub block : List ℕ
   pub first : ℕ
@@ -125,7 +119,7 @@ pub record HasBlock (names : Named) (x : ℕ) : Type 0 where
   pub high : x < first + count
   pub word : cell_word names x ≡ bracketed block (x - first)
 
-block_here : (x : ℕ) (block : List ℕ) (t : Target) (rest : Named) → cell_in x t ≡ true → HasBlock ((block, t) ∷ rest) x
+block_here : (x : ℕ) (block : List ℕ) (t : Target) (rest : NameTable) → cell_in x t ≡ true → HasBlock ((block, t) ∷ rest) x
 unfolding cell_word
 block_here x block (Cells first n) rest h =
     let p = and_parts (nat_le first x) (nat_lt x (first + n)) h in record {
@@ -140,7 +134,7 @@ block_here x block (Cells first n) rest h =
     }
 block_here x block _ rest h = absurd (true≢false (sym h))
 
-block_later : (x : ℕ) (e : List ℕ × Target) (rest : Named) → cell_in x e.1 ≡ false → HasBlock rest x → HasBlock (e ∷ rest) x
+block_later : (x : ℕ) (e : List ℕ × Target) (rest : NameTable) → cell_in x e.1 ≡ false → HasBlock rest x → HasBlock (e ∷ rest) x
 unfolding cell_word
 block_later x e rest off b = record {
   at = suc b.at;
@@ -153,8 +147,8 @@ block_later x e rest off b = record {
   word = rw off b.word;
 }
 
--- a cell that lies in a block of the table is spelled by one
-pub has_block : (names : Named) (x : ℕ) → is_celled x names ≡ true → HasBlock names x
+-- a cell that is in a block of the table has a word
+pub has_block : (names : NameTable) (x : ℕ) → is_celled x names ≡ true → HasBlock names x
 has_block [] x h = absurd (true≢false (sym h))
 has_block (e ∷ es) x h =
     elim (cell_in x e.1) as (λ b. cell_in x e.1 ≡ b → (b || is_celled x es) ≡ true → HasBlock (e ∷ es) x) [
@@ -168,26 +162,26 @@ lacks : (c : ℕ) → is_plain c ≡ false → (bs : List ℕ) → AllByRecursio
 lacks c off [] h = tt
 lacks c off (b ∷ bs) h = (ne_eqb b c (λ same. true≢false (sym h.0 ∙ ap is_plain same ∙ off)), lacks c off bs h.1)
 
--- a byte that is no letter, digit, underscore or dot stands in no plain word
+-- a byte that is no letter, digit, underscore or dot is in no plain word
 pub word_lacks : (c : ℕ) (word : List ℕ) → is_plain c ≡ false → IsPlainWord word → AllByRecursion (λ b. eqb b c ≡ false) word
 word_lacks c word off h = lacks c off word h.plain
 
 -- the word is plain, and is found as the target
-pub record IsNamedBy (words : Named) (t : Target) (word : List ℕ) : Type 0 where
+pub record IsNamedBy (words : NameTable) (t : Target) (word : List ℕ) : Type 0 where
   pub found : find_name word words ≡ Some t
   pub plain : IsPlainWord word
 
 -- a target that has a name is found by it, and the name is plain
-pub named_by : (words : Named) (t : Target) → AreWords words → HasName words t → IsNamedBy words t (word_of words t)
+pub named_by : (words : NameTable) (t : Target) → AreWords words → HasName words t → IsNamedBy words t (target_name words t)
 named_by words t are has =
-    let word : has.word ≡ word_of words t = sym (ap (λ (o : Option (List ℕ)). unwrap_or o []) has.is) in
+    let word : has.word ≡ target_name words t = sym (ap (λ (o : Option (List ℕ)). unwrap_or o []) has.is) in
     subst (IsNamedBy words t) word (record {
       found = named_found words t has.word are.distinct has.is;
       plain = given_word IsPlainWord words t has.word are.each has.is;
     })
 
 -- the block of a cell is found by its word, and the word is plain
-pub block_by : (words : Named) (x : ℕ) → AreWords words → (b : HasBlock words x) → IsNamedBy words (Cells b.first b.count) b.block
+pub block_by : (words : NameTable) (x : ℕ) → AreWords words → (b : HasBlock words x) → IsNamedBy words (Cells b.first b.count) b.block
 block_by words x are b = record {
   found = entry_found words b.at (b.block, Cells b.first b.count) are.distinct b.there;
   plain = entry_word IsPlainWord words b.at (b.block, Cells b.first b.count) are.each b.there;

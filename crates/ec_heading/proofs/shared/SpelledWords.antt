@@ -1,4 +1,5 @@
--- The words of a heading: each is plain and short, no two are the same, and what stands before a dot is a word too.
+-- The words of a header: each is plain and short, no two are the same, and what comes before a dot
+-- is a word too.
 use Rattle.std.proofs.Common.{◌≡◌, ◌≢◌, ℕ, ◌≤◌, List, [], ◌∷◌, ◌++◌, length, zero, suc, Bool, true, false, cond, ◌||◌, ◌&&◌, ◌==◌, eqb, nat_le, Some, None, is_some, refl, sym, ap, subst, ◌∙◌, arith, bytes_eq, if◌then◌else◌, slice_get, append_assoc, length-append, ne_eqb}
 use Rattle.std.specs.List.{AllByRecursion, list_all}
 use Rattle.std.proofs.lemmas.Bool.{true≢false, and_parts, or_left, leb-true, false_from_ne_true}
@@ -10,30 +11,25 @@ use Rattle.ec_count.specs.Reserved.{is_name_byte}
 use Rattle.ec_count.specs.Targets.{target_is}
 use Rattle.ec_count.specs.declared.target.Target.{Target}
 use Rattle.ec_heading.specs.Objects.{Next, AreNew, objects_of, spelling, spelled_objects}
-use Rattle.ec_heading.specs.Spelled.{Named}
-use Rattle.ec_heading.specs.declared.sort.Sort.{Sort}
-use Rattle.ec_heading.specs.declared.sort.Sort.TheVariants as sorts
+use Rattle.ec_heading.specs.EntryWords.{NameTable}
+use Rattle.ec_heading.specs.declared.decl_kind.DeclKind.{DeclKind}
+use Rattle.ec_heading.specs.declared.decl_kind.DeclKind.TheVariants as sorts
 use Rattle.ec_heading.proofs.shared.Each.{each_append, each_weaker}
-use Rattle.ec_heading.proofs.shared.SortFacts.{is_letter, letter_byte, IsCalled}
+use Rattle.ec_heading.proofs.shared.DeclKindFacts.{is_letter, letter_byte, IsCalled}
+use Rattle.ec_heading.proofs.shared.Phrases.{same_word as same_bytes, is_itself as its_bytes}
 
 -- WORDS IN A TABLE
 
 -- no two are the same
-abbrev pub AreDistinct : Named → Type 0
+abbrev pub AreDistinct : NameTable → Type 0
 AreDistinct [] = Unit {0}
 AreDistinct (e ∷ es) = AllByRecursion (λ (d : List ℕ × Target). bytes_eq e.0 d.0 ≡ false) es × AreDistinct es
-
-same_bytes : (v w : List ℕ) → bytes_eq v w ≡ true → v ≡ w
-same_bytes v w e = (bytes_eq-Decides v w).0 e
-
-its_bytes : (w : List ℕ) → bytes_eq w w ≡ true
-its_bytes w = (bytes_eq-Decides w w).1 refl
 
 turned : (v w : List ℕ) → bytes_eq v w ≡ false → bytes_eq w v ≡ false
 turned v w off = false_from_ne_true _ (λ e. true≢false (sym ((bytes_eq-Decides v w).1 (sym (same_bytes w v e))) ∙ off))
 
 -- what holds of each word of a table holds of one that is found
-pub found_word : (Q : List ℕ → Type 0) (words : Named) (w : List ℕ) (t : Target) → AllByRecursion (λ (e : List ℕ × Target). Q e.0) words → find_name w words ≡ Some t → Q w
+pub found_word : (Q : List ℕ → Type 0) (words : NameTable) (w : List ℕ) (t : Target) → AllByRecursion (λ (e : List ℕ × Target). Q e.0) words → find_name w words ≡ Some t → Q w
 found_word Q [] w t all e = cc
 found_word Q (x ∷ xs) w t all e =
     elim (bytes_eq w x.0) as (λ b. bytes_eq w x.0 ≡ b → cond b (Some x.1) (find_name w xs) ≡ Some t → Q w) [
@@ -41,7 +37,7 @@ found_word Q (x ∷ xs) w t all e =
       | false ↦ λ q g. found_word Q xs w t all.1 g
     ] refl e
 
-pub given_word : (Q : List ℕ → Type 0) (words : Named) (t : Target) (w : List ℕ) → AllByRecursion (λ (e : List ℕ × Target). Q e.0) words → name_of t words ≡ Some w → Q w
+pub given_word : (Q : List ℕ → Type 0) (words : NameTable) (t : Target) (w : List ℕ) → AllByRecursion (λ (e : List ℕ × Target). Q e.0) words → name_of t words ≡ Some w → Q w
 given_word Q [] t w all e = cc
 given_word Q (x ∷ xs) t w all e =
     elim (same_target x.1 t) as (λ b. cond b (Some x.0) (name_of t xs) ≡ Some w → Q w) [
@@ -49,13 +45,13 @@ given_word Q (x ∷ xs) t w all e =
       | false ↦ λ g. given_word Q xs t w all.1 g
     ] e
 
-pub entry_word : (Q : List ℕ → Type 0) (words : Named) (i : ℕ) (e : List ℕ × Target) → AllByRecursion (λ (d : List ℕ × Target). Q d.0) words → slice_get words i ≡ Some e → Q e.0
+pub entry_word : (Q : List ℕ → Type 0) (words : NameTable) (i : ℕ) (e : List ℕ × Target) → AllByRecursion (λ (d : List ℕ × Target). Q d.0) words → slice_get words i ≡ Some e → Q e.0
 entry_word Q [] i e all at = cc
 entry_word Q (x ∷ xs) zero e all at = (let q : x ≡ e = cc in subst (λ (y : List ℕ × Target). Q y.0) q all.0)
 entry_word Q (x ∷ xs) (suc i) e all at = entry_word Q xs i e all.1 at
 
 -- an entry is found by its word, and so is the target that a word is given for
-pub entry_found : (words : Named) (i : ℕ) (e : List ℕ × Target) → AreDistinct words → slice_get words i ≡ Some e → find_name e.0 words ≡ Some e.1
+pub entry_found : (words : NameTable) (i : ℕ) (e : List ℕ × Target) → AreDistinct words → slice_get words i ≡ Some e → find_name e.0 words ≡ Some e.1
 entry_found [] i e h at = cc
 entry_found (x ∷ xs) zero e h at =
     let q : x ≡ e = cc in
@@ -64,7 +60,7 @@ entry_found (x ∷ xs) (suc i) e h at =
     let off : bytes_eq x.0 e.0 ≡ false = entry_word (λ w. bytes_eq x.0 w ≡ false) xs i e h.0 at in
     ap (λ b. cond b (Some x.1) (find_name e.0 xs)) (turned x.0 e.0 off) ∙ entry_found xs i e h.1 at
 
-pub named_found : (words : Named) (t : Target) (w : List ℕ) → AreDistinct words → name_of t words ≡ Some w → find_name w words ≡ Some t
+pub named_found : (words : NameTable) (t : Target) (w : List ℕ) → AreDistinct words → name_of t words ≡ Some w → find_name w words ≡ Some t
 named_found [] t w h e = cc
 named_found (x ∷ xs) t w h e =
     elim (same_target x.1 t) as (λ b. same_target x.1 t ≡ b → cond b (Some x.0) (name_of t xs) ≡ Some w → find_name w (x ∷ xs) ≡ Some t) [
@@ -79,7 +75,7 @@ named_found (x ∷ xs) t w h e =
 -- WORDS THAT ARE ADDED
 
 -- a word that the first of two tables lacks is looked up in the second
-pub find-append_none : (w : List ℕ) (xs ys : Named) → find_name w xs ≡ None → find_name w (xs ++ ys) ≡ find_name w ys
+pub find-append_none : (w : List ℕ) (xs ys : NameTable) → find_name w xs ≡ None → find_name w (xs ++ ys) ≡ find_name w ys
 find-append_none w [] ys h = refl
 find-append_none w (x ∷ xs) ys h =
     elim (bytes_eq w x.0) as (λ b. cond b (Some x.1) (find_name w xs) ≡ None → cond b (Some x.1) (find_name w (xs ++ ys)) ≡ find_name w ys) [
@@ -87,7 +83,7 @@ find-append_none w (x ∷ xs) ys h =
       | false ↦ λ g. find-append_none w xs ys g
     ] h
 
-pub found-append : (w : List ℕ) (xs ys : Named) → is_some (find_name w xs) ≡ true → is_some (find_name w (xs ++ ys)) ≡ true
+pub found-append : (w : List ℕ) (xs ys : NameTable) → is_some (find_name w xs) ≡ true → is_some (find_name w (xs ++ ys)) ≡ true
 found-append w [] ys h = absurd (true≢false (sym h))
 found-append w (x ∷ xs) ys h =
     elim (bytes_eq w x.0) as (λ b. is_some (cond b (Some x.1) (find_name w xs)) ≡ true → is_some (cond b (Some x.1) (find_name w (xs ++ ys))) ≡ true) [
@@ -95,14 +91,14 @@ found-append w (x ∷ xs) ys h =
       | false ↦ λ g. found-append w xs ys g
     ] h
 
-absent_first : (x : List ℕ × Target) (xs : Named) (w : List ℕ) → find_name w (x ∷ xs) ≡ None → (bytes_eq x.0 w ≡ false) × (find_name w xs ≡ None)
+absent_first : (x : List ℕ × Target) (xs : NameTable) (w : List ℕ) → find_name w (x ∷ xs) ≡ None → (bytes_eq x.0 w ≡ false) × (find_name w xs ≡ None)
 absent_first x xs w h =
     elim (bytes_eq w x.0) as (λ b. bytes_eq w x.0 ≡ b → cond b (Some x.1) (find_name w xs) ≡ None → (bytes_eq x.0 w ≡ false) × (find_name w xs ≡ None)) [
       | true ↦ λ q g. (cc)
       | false ↦ λ q g. (turned w x.0 q, g)
     ] refl h
 
-distinct-append : (xs ys : Named) → AreDistinct xs → AreDistinct ys → AllByRecursion (λ (e : List ℕ × Target). find_name e.0 xs ≡ None) ys → AreDistinct (xs ++ ys)
+distinct-append : (xs ys : NameTable) → AreDistinct xs → AreDistinct ys → AllByRecursion (λ (e : List ℕ × Target). find_name e.0 xs ≡ None) ys → AreDistinct (xs ++ ys)
 distinct-append [] ys h k new = k
 distinct-append (x ∷ xs) ys h k new = (
   each_append (λ (d : List ℕ × Target). bytes_eq x.0 d.0 ≡ false) xs ys h.0
@@ -113,7 +109,7 @@ distinct-append (x ∷ xs) ys h k new = (
 
 -- STEMS
 
--- what stands before the first dot, or all
+-- what comes before the first dot; the whole word if it has none
 abbrev pub stem : List ℕ → List ℕ
 stem [] = []
 stem (b ∷ bs) = if b == 46 then [] else b ∷ stem bs
@@ -133,7 +129,7 @@ pub stem_spelling : (name w : List ℕ) → IsCalled name → stem (spelling nam
 stem_spelling name [] h = stem_itself name h.bytes
 stem_spelling name (b ∷ bs) h = ap stem (append_assoc name (46 ∷ []) (b ∷ bs)) ∙ stem_dotted name (b ∷ bs) h.bytes
 
--- WHAT IS TRUE OF A HEADING'S WORDS
+-- WHAT IS TRUE OF A HEADER'S WORDS
 
 abbrev pub is_plain : ℕ → Bool
 is_plain b = is_name_byte b || b == 46
@@ -143,14 +139,14 @@ pub record IsPlainWord (w : List ℕ) : Type 0 where
   pub plain : AllByRecursion (λ b. is_plain b ≡ true) w
   pub short : length w ≤ 24
 
--- each word is plain and short, no two are the same, and what stands before a dot is a word too
-pub record AreWords (words : Named) : Type 0 where
+-- each word is plain and short, no two are the same, and what comes before a dot is a word too
+pub record AreWords (words : NameTable) : Type 0 where
   pub each : AllByRecursion (λ (e : List ℕ × Target). IsPlainWord e.0) words
   pub distinct : AreDistinct words
   pub stems : AllByRecursion (λ (e : List ℕ × Target). is_some (find_name (stem e.0) words) ≡ true) words
 
--- nothing is spelled by a name that is no word yet
-pub not_there : (words : Named) (name w : List ℕ) → AreWords words → IsCalled name → find_name name words ≡ None → find_name (spelling name w) words ≡ None
+-- if a name is no word yet, neither is that name with a suffix
+pub not_there : (words : NameTable) (name w : List ℕ) → AreWords words → IsCalled name → find_name name words ≡ None → find_name (spelling name w) words ≡ None
 not_there words name w are called none =
     none_left (find_name (spelling name w) words) (λ t found.
     let there : is_some (find_name (stem (spelling name w)) words) ≡ true = found_word (λ v. is_some (find_name (stem v) words) ≡ true) words (spelling name w) t are.stems found in
@@ -161,13 +157,13 @@ not_there words name w are called none =
 abbrev pub is_object_word : List ℕ → Bool
 is_object_word w = list_all is_letter w && nat_le (length w) 5
 
--- the objects of a declaration: what they are called behind the name differs, and one is spelled by the name alone
-pub record AreObjects (os : Named) : Type 0 where
+-- the objects of a declaration: their suffixes differ, and one of them is empty
+pub record AreObjects (os : NameTable) : Type 0 where
   pub each : AllByRecursion (λ (o : List ℕ × Target). is_object_word o.0 ≡ true) os
   pub distinct : AreDistinct os
   pub itself : is_some (find_name [] os) ≡ true
 
-pub objects_good : (s : Sort) (k : Next) (n : ℕ) → AreObjects (objects_of s k n)
+pub objects_good : (s : DeclKind) (k : Next) (n : ℕ) → AreObjects (objects_of s k n)
 objects_good sorts.EventCount k n = record { each = (refl, tt); distinct = (tt, tt); itself = refl }
 objects_good sorts.Sequencer k n = record { each = (refl, tt); distinct = (tt, tt); itself = refl }
 objects_good sorts.Cells k n = record { each = (refl, tt); distinct = (tt, tt); itself = refl }
@@ -223,7 +219,7 @@ spelling_is name (b ∷ bs) (c ∷ cs) e = append_cancel_left (name ++ 46 ∷ []
 spelling_apart : (name v w : List ℕ) → bytes_eq v w ≡ false → bytes_eq (spelling name v) (spelling name w) ≡ false
 spelling_apart name v w off = false_from_ne_true _ (λ e. true≢false (sym ((bytes_eq-Decides v w).1 (spelling_is name v w (same_bytes _ _ e))) ∙ off))
 
-pub each_spelled : (P : List ℕ × Target → Type 0) (name : List ℕ) (os : Named) → AllByRecursion (λ (o : List ℕ × Target). P (spelling name o.0, o.1)) os → AllByRecursion P (spelled_objects name os)
+pub each_spelled : (P : List ℕ × Target → Type 0) (name : List ℕ) (os : NameTable) → AllByRecursion (λ (o : List ℕ × Target). P (spelling name o.0, o.1)) os → AllByRecursion P (spelled_objects name os)
 each_spelled P name [] h = tt
 each_spelled P name (o ∷ os) h = (h.0, each_spelled P name os h.1)
 
@@ -231,7 +227,7 @@ always : {X : Type 0} (P : X → Type 0) → ((x : X) → P x) → (xs : List X)
 always P f [] = tt
 always P f (x ∷ xs) = (f x, always P f xs)
 
-distinct_spelled : (name : List ℕ) (os : Named) → AreDistinct os → AreDistinct (spelled_objects name os)
+distinct_spelled : (name : List ℕ) (os : NameTable) → AreDistinct os → AreDistinct (spelled_objects name os)
 distinct_spelled name [] h = tt
 distinct_spelled name (o ∷ os) h = (
   each_spelled (λ (d : List ℕ × Target). bytes_eq (spelling name o.0) d.0 ≡ false) name os
@@ -239,7 +235,7 @@ distinct_spelled name (o ∷ os) h = (
   distinct_spelled name os h.1,
 )
 
-pub spelled_found : (name w : List ℕ) (os : Named) → is_some (find_name w os) ≡ true → is_some (find_name (spelling name w) (spelled_objects name os)) ≡ true
+pub spelled_found : (name w : List ℕ) (os : NameTable) → is_some (find_name w os) ≡ true → is_some (find_name (spelling name w) (spelled_objects name os)) ≡ true
 spelled_found name w [] h = absurd (true≢false (sym h))
 spelled_found name w (o ∷ os) h =
     elim (bytes_eq w o.0) as (λ b. bytes_eq w o.0 ≡ b → is_some (cond b (Some o.1) (find_name w os)) ≡ true → is_some (find_name (spelling name w) (spelled_objects name (o ∷ os))) ≡ true) [
@@ -250,7 +246,7 @@ spelled_found name w (o ∷ os) h =
     ] refl h
 
 -- each word of a table is found
-pub itself_found : (es : Named) → AllByRecursion (λ (e : List ℕ × Target). is_some (find_name e.0 es) ≡ true) es
+pub itself_found : (es : NameTable) → AllByRecursion (λ (e : List ℕ × Target). is_some (find_name e.0 es) ≡ true) es
 itself_found [] = tt
 itself_found (x ∷ xs) = (
   ap (λ b. is_some (cond b (Some x.1) (find_name x.0 xs))) (its_bytes x.0),
@@ -261,7 +257,7 @@ itself_found (x ∷ xs) = (
     one_on e h = elim (bytes_eq e.0 x.0) as (λ b. is_some (cond b (Some x.1) (find_name e.0 xs)) ≡ true) [ true ↦ refl | false ↦ h ]
 
 -- the words once those of a new name are added
-pub words_more : (words : Named) (name : List ℕ) (os : Named) → AreWords words → IsCalled name → find_name name words ≡ None → AreObjects os → AreWords (words ++ spelled_objects name os)
+pub words_more : (words : NameTable) (name : List ℕ) (os : NameTable) → AreWords words → IsCalled name → find_name name words ≡ None → AreObjects os → AreWords (words ++ spelled_objects name os)
 words_more words name os are called none good =
     let itself : is_some (find_name name (words ++ spelled_objects name os)) ≡ true = ap is_some (find-append_none name words (spelled_objects name os) none) ∙ spelled_found name [] os good.itself in
     record {
@@ -276,10 +272,10 @@ words_more words name os are called none good =
     }
 
 -- each of them may be added in turn
-push_none : (w v : List ℕ) (t : Target) (words : Named) → find_name w words ≡ None → bytes_eq v w ≡ false → find_name w (words ++ (v, t) ∷ []) ≡ None
+push_none : (w v : List ℕ) (t : Target) (words : NameTable) → find_name w words ≡ None → bytes_eq v w ≡ false → find_name w (words ++ (v, t) ∷ []) ≡ None
 push_none w v t words none off = find-append_none w words ((v, t) ∷ []) none ∙ ap (λ b. cond b (Some t) None) (turned v w off)
 
-new_in_turn : (words : Named) (name : List ℕ) (os : Named) → IsCalled name → AllByRecursion (λ (o : List ℕ × Target). is_object_word o.0 ≡ true) os → AreDistinct os → AllByRecursion (λ (o : List ℕ × Target). find_name (spelling name o.0) words ≡ None) os → AreNew name words os
+new_in_turn : (words : NameTable) (name : List ℕ) (os : NameTable) → IsCalled name → AllByRecursion (λ (o : List ℕ × Target). is_object_word o.0 ≡ true) os → AreDistinct os → AllByRecursion (λ (o : List ℕ × Target). find_name (spelling name o.0) words ≡ None) os → AreNew name words os
 new_in_turn words name [] called each distinct none = tt
 new_in_turn words name (o ∷ os) called each distinct none =
     let p : IsPlainWord (spelling name o.0) = plain_spelling name o.0 called each.0 in
@@ -287,11 +283,11 @@ new_in_turn words name (o ∷ os) called each distinct none =
     each_weaker (λ (d : List ℕ × Target). bytes_eq o.0 d.0 ≡ false) (λ (d : List ℕ × Target). bytes_eq (spelling name o.0) (spelling name d.0) ≡ false) (λ d off. spelling_apart name o.0 d.0 off) os distinct.0 in
     (p.short, none.0, new_in_turn (words ++ (spelling name o.0, o.1) ∷ []) name os called each.1 distinct.1 (still os none.1 apart))
   where
-    still : (ds : Named) → AllByRecursion (λ (d : List ℕ × Target). find_name (spelling name d.0) words ≡ None) ds → AllByRecursion (λ (d : List ℕ × Target). bytes_eq (spelling name o.0) (spelling name d.0) ≡ false) ds → AllByRecursion (λ (d : List ℕ × Target). find_name (spelling name d.0) (words ++ (spelling name o.0, o.1) ∷ []) ≡ None) ds
+    still : (ds : NameTable) → AllByRecursion (λ (d : List ℕ × Target). find_name (spelling name d.0) words ≡ None) ds → AllByRecursion (λ (d : List ℕ × Target). bytes_eq (spelling name o.0) (spelling name d.0) ≡ false) ds → AllByRecursion (λ (d : List ℕ × Target). find_name (spelling name d.0) (words ++ (spelling name o.0, o.1) ∷ []) ≡ None) ds
     still [] n a = tt
     still (d ∷ ds) n a = (push_none (spelling name d.0) (spelling name o.0) o.1 words n.0 a.0, still ds n.1 a.1)
 
-pub all_new : (words : Named) (name : List ℕ) (s : Sort) (k : Next) (n : ℕ) → AreWords words → IsCalled name → find_name name words ≡ None → AreNew name words (objects_of s k n)
+pub all_new : (words : NameTable) (name : List ℕ) (s : DeclKind) (k : Next) (n : ℕ) → AreWords words → IsCalled name → find_name name words ≡ None → AreNew name words (objects_of s k n)
 all_new words name s k n are called none =
     let good : AreObjects (objects_of s k n) = objects_good s k n in
     new_in_turn words name (objects_of s k n) called good.each good.distinct (always (λ (o : List ℕ × Target). find_name (spelling name o.0) words ≡ None) (λ o. not_there words name o.0 are called none) (objects_of s k n))

@@ -1,4 +1,4 @@
--- Versions: which limits and which acts each may have, and the first lines by which texts tell them.
+-- Versions: which limits and which acts each allows, and its first line.
 use Rattle.std.proofs.Common.{◌≡◌, ◌≢◌, ℕ, ◌<◌, ◌≤◌, ◌^◌, List, [], ◌∷◌, cond, true, false, Some, None, refl, sym, ap, ◌∙◌, arith, nat_le}
 use Rattle.std.specs.Prelude.{bytes_eq}
 use Rattle.std.specs.List.{AllByRecursion}
@@ -19,7 +19,7 @@ pub limit_low : (v : Version) (n : ℕ) → n ≤ greatest_limit v → n < 2 ^ 4
 limit_low One n h = omega arith
 limit_low Two n h = omega arith
 
--- what a version may have as a limit, version 2 may have
+-- a limit that some version allows, version 2 allows
 pub limit_grows : (v : Version) (n : ℕ) → n ≤ greatest_limit v → n ≤ greatest_limit Two
 limit_grows One n h = omega arith
 limit_grows Two n h = h
@@ -32,7 +32,7 @@ limit_from v n low high = and_from (nat_le 1 n) (nat_le n (greatest_limit v)) (l
 
 -- ACTS
 
-two_spells : (act : Act) → can_spell Two act ≡ true
+pub two_spells : (act : Act) → can_spell Two act ≡ true
 two_spells (Hand e b) = refl
 two_spells _ = refl
 
@@ -40,13 +40,13 @@ two_spells_each : (entries : List Entry) → AllByRecursion (λ (e : Entry). can
 two_spells_each [] = tt
 two_spells_each (e ∷ entries) = (two_spells e.act, two_spells_each entries)
 
--- version 2 has every act
+-- version 2 allows every act
 pub two_spells_all : (entries : List Entry) → CanSpellAll Two entries
 two_spells_all entries = All-from_recursion (λ (e : Entry). can_spell Two e.act ≡ true) entries (two_spells_each entries)
 
 -- FIRST LINES
 
--- a line that tells a version is its first line
+-- a line that has a version is the first line of that version
 pub version_back : (header : Version → List ℕ) (line : List ℕ) (v : Version) → version_of header line ≡ Some v → line ≡ header v
 version_back header line v is =
     (elim (bytes_eq line (header One)) as (λ b. bytes_eq line (header One) ≡ b → cond b (Some One) (cond (bytes_eq line (header Two)) (Some Two) None) ≡ Some v → line ≡ header v) [
@@ -58,7 +58,7 @@ version_back header line v is =
           ]) refl h
     ]) refl is
 
--- a line that tells none is the first line of none
+-- a line that has no version is the first line of none
 pub version_none : (header : Version → List ℕ) (line : List ℕ) → version_of header line ≡ None → (v : Version) → line ≢ header v
 version_none header line none One same =
     let first : version_of header line ≡ Some One = ap (λ b. cond b (Some One) (cond (bytes_eq line (header Two)) (Some Two) None)) ((bytes_eq-Decides line (header One)).1 same) in
@@ -71,7 +71,7 @@ version_none header line none Two same =
           (let f : None ≡ Some Two = sym e ∙ second in cc))
     ]) none
 
--- and a line that is the first line of none tells none
+-- and a line that is the first line of none has no version
 pub version_none_from : (header : Version → List ℕ) (line : List ℕ) → ((v : Version) → line ≢ header v) → version_of header line ≡ None
 version_none_from header line other =
     (elim (version_of header line) as (λ o. version_of header line ≡ o → o ≡ None) [

@@ -6,14 +6,14 @@ use Rattle.ec_core.specs.declared.act.Act.TheVariants.{Advance, Read, Await, Go,
 use Rattle.ec_core.specs.declared.act.Entry.{Entry}
 use Rattle.ec_core.specs.declared.act.Reply.{Reply}
 use Rattle.ec_core.specs.Acceptance.{IsAccepted}
-use Rattle.ec_core.specs.Calls.{CallSoFar, is_go, is_pending, gone_on, under_way}
-use Rattle.ec_core.specs.Following.{Told, opened}
-use Rattle.ec_core.specs.JoinedLists.{finished_by, op_of}
+use Rattle.ec_core.specs.Calls.{CallSoFar, is_go, is_pending, call_with_act, under_way}
+use Rattle.ec_core.specs.Following.{CompletedCall, opening_act}
+use Rattle.ec_core.specs.JoinedLists.{completed_calls_of, op_of}
 use Rattle.ec_core.proofs.shared.Answering.{allowed}
-use Rattle.ec_machine.specs.Steps.{begun_by, opening, finished, own}
+use Rattle.ec_machine.specs.Steps.{begun_by, opening, completed_calls, own}
 use Rattle.ec_machine.specs.Laws.{OwnStepsAreCut}
 
-begun_opened : (act : Act) (o : Option CallSoFar) → begun_by act (op_of o) ≡ opened act o
+begun_opened : (act : Act) (o : Option CallSoFar) → begun_by act (op_of o) ≡ opening_act act o
 begun_opened Go None = refl
 begun_opened Go (Some call) = refl
 begun_opened (Advance e) o = refl
@@ -24,7 +24,7 @@ begun_opened (Put x v) o = refl
 begun_opened (Get x) o = refl
 begun_opened (Hand e b) o = refl
 
-gone_opened : (act : Act) (past : List Entry) (o : Option CallSoFar) → (not (is_some o) && is_go act) ≡ false → op_of (gone_on act past o) ≡ Some (opened act o)
+gone_opened : (act : Act) (past : List Entry) (o : Option CallSoFar) → (not (is_some o) && is_go act) ≡ false → op_of (call_with_act act past o) ≡ Some (opening_act act o)
 gone_opened Go past None going = cc
 gone_opened Go past (Some call) going = refl
 gone_opened (Advance e) past o going = refl
@@ -35,7 +35,7 @@ gone_opened (Put x v) past o going = refl
 gone_opened (Get x) past o going = refl
 gone_opened (Hand e b) past o going = refl
 
-cut_finished : (b : Bool) (mine theirs : List Told) (op other : Act) (reply : Reply) → mine ≡ theirs → op ≡ other
+cut_finished : (b : Bool) (mine theirs : List CompletedCall) (op other : Act) (reply : Reply) → mine ≡ theirs → op ≡ other
     → (if b then mine else mine ++ record { op = op; reply = reply } ∷ []) ≡ (if not b then theirs ++ record { op = other; reply = reply } ∷ [] else theirs)
 cut_finished true mine theirs op other reply same alike = same
 cut_finished false mine theirs op other reply same alike = ap (λ l. l ++ record { op = op; reply = reply } ∷ []) same ∙ ap (λ a. theirs ++ record { op = a; reply = reply } ∷ []) alike
@@ -46,31 +46,31 @@ cut_opening true op other o same is = ap (λ a. Some a) same ∙ sym is
 cut_opening false op other o same is = refl
 
 abbrev IsCut : ℕ → List Entry → Type 0
-IsCut w past = (finished (own w past) ≡ finished_by w past) × (opening (own w past) ≡ op_of (under_way w past))
+IsCut w past = (completed_calls (own w past) ≡ completed_calls_of w past) × (opening (own w past) ≡ op_of (under_way w past))
 
 cut_own : (t : Tables) (w : ℕ) (x : Entry) (past : List Entry) → x.worker ≡ w → IsAccepted t (x ∷ past) → IsCut w past → IsCut w (x ∷ past)
-unfolding finished opening finished_by under_way
+unfolding completed_calls opening completed_calls_of under_way
 cut_own t w x past is acc cut =
     let mine : (x.worker == w) ≡ true = eq-eqb x.worker w is in
     let going = subst (λ v. (not (is_some (under_way v past)) && is_go x.act) ≡ false) is (allowed t past x.worker x.act x.reply acc.0).0.going in
-    let same : begun_by x.act (opening (own w past)) ≡ opened x.act (under_way w past) = ap (begun_by x.act) cut.1 ∙ begun_opened x.act (under_way w past) in (
-      ap (λ b. finished (cond b (x ∷ own w past) (own w past))) mine
-          ∙ cut_finished (is_pending x.reply) (finished (own w past)) (finished_by w past) (begun_by x.act (opening (own w past))) (opened x.act (under_way w past)) x.reply cut.0 same
-          ∙ ap (λ b. if b && not (is_pending x.reply) then finished_by w past ++ record { op = opened x.act (under_way w past); reply = x.reply } ∷ [] else finished_by w past) (sym mine),
+    let same : begun_by x.act (opening (own w past)) ≡ opening_act x.act (under_way w past) = ap (begun_by x.act) cut.1 ∙ begun_opened x.act (under_way w past) in (
+      ap (λ b. completed_calls (cond b (x ∷ own w past) (own w past))) mine
+          ∙ cut_finished (is_pending x.reply) (completed_calls (own w past)) (completed_calls_of w past) (begun_by x.act (opening (own w past))) (opening_act x.act (under_way w past)) x.reply cut.0 same
+          ∙ ap (λ b. if b && not (is_pending x.reply) then completed_calls_of w past ++ record { op = opening_act x.act (under_way w past); reply = x.reply } ∷ [] else completed_calls_of w past) (sym mine),
       ap (λ b. opening (cond b (x ∷ own w past) (own w past))) mine
-          ∙ cut_opening (is_pending x.reply) (begun_by x.act (opening (own w past))) (opened x.act (under_way w past)) (gone_on x.act past (under_way w past)) same (gone_opened x.act past (under_way w past) going)
-          ∙ ap (λ b. op_of (if b then (if is_pending x.reply then gone_on x.act past (under_way w past) else None) else under_way w past)) (sym mine),
+          ∙ cut_opening (is_pending x.reply) (begun_by x.act (opening (own w past))) (opening_act x.act (under_way w past)) (call_with_act x.act past (under_way w past)) same (gone_opened x.act past (under_way w past) going)
+          ∙ ap (λ b. op_of (if b then (if is_pending x.reply then call_with_act x.act past (under_way w past) else None) else under_way w past)) (sym mine),
     )
 
 cut_other : (w : ℕ) (x : Entry) (past : List Entry) → (x.worker == w) ≡ false → IsCut w past → IsCut w (x ∷ past)
-unfolding finished opening finished_by under_way
+unfolding completed_calls opening completed_calls_of under_way
 cut_other w x past other cut = (
-  ap (λ b. finished (cond b (x ∷ own w past) (own w past))) other
+  ap (λ b. completed_calls (cond b (x ∷ own w past) (own w past))) other
       ∙ cut.0
-      ∙ ap (λ b. if b && not (is_pending x.reply) then finished_by w past ++ record { op = opened x.act (under_way w past); reply = x.reply } ∷ [] else finished_by w past) (sym other),
+      ∙ ap (λ b. if b && not (is_pending x.reply) then completed_calls_of w past ++ record { op = opening_act x.act (under_way w past); reply = x.reply } ∷ [] else completed_calls_of w past) (sym other),
   ap (λ b. opening (cond b (x ∷ own w past) (own w past))) other
       ∙ cut.1
-      ∙ ap (λ b. op_of (if b then (if is_pending x.reply then gone_on x.act past (under_way w past) else None) else under_way w past)) (sym other),
+      ∙ ap (λ b. op_of (if b then (if is_pending x.reply then call_with_act x.act past (under_way w past) else None) else under_way w past)) (sym other),
 )
 
 cut_if : (b : Bool) (t : Tables) (w : ℕ) (x : Entry) (past : List Entry) → (x.worker == w) ≡ b → IsAccepted t (x ∷ past) → IsCut w past → IsCut w (x ∷ past)
@@ -79,6 +79,6 @@ cut_if false t w x past is acc cut = cut_other w x past is cut
 
 -- in an accepted history the calls of a worker's own steps are its calls
 pub own_cut : OwnStepsAreCut
-unfolding finished opening finished_by under_way
+unfolding completed_calls opening completed_calls_of under_way
 own_cut t w [] acc = (refl, refl)
 own_cut t w (x ∷ past) acc = cut_if (x.worker == w) t w x past refl acc (own_cut t w past acc.1)

@@ -3,7 +3,7 @@ use Rattle.std.proofs.Common.{◌≡◌, ◌≢◌, ℕ, Bool, true, false, ◌=
 use Rattle.std.proofs.lemmas.List.{reverse-append}
 use Rattle.ec_core.specs.declared.act.Act.{Act}
 use Rattle.ec_core.specs.declared.act.Entry.{Entry}
-use Rattle.ec_core.specs.Following.{Told}
+use Rattle.ec_core.specs.Following.{CompletedCall}
 use Rattle.ec_machine.specs.declared.command.Command.{Command}
 use Rattle.ec_machine.specs.Runs.{program_call, IsRunOf, next_act}
 use Rattle.ec_machine.specs.Steps.{due_after, IsRun, own}
@@ -18,13 +18,13 @@ own_append w [] ys = refl
 own_append w (x ∷ xs) ys =
     ap (λ rest. cond (x.worker == w) (x ∷ rest) rest) (own_append w xs ys) ∙ if_append (x.worker == w) x (own w xs) (own w ys)
 
--- a run's beginnings are runs
-pub run_before : (list : List Told → Option Act) (later past : List Entry) → IsRun list (later ++ past) → IsRun list past
+-- the prefixes of a run are runs
+pub run_before : (list : List CompletedCall → Option Act) (later past : List Entry) → IsRun list (later ++ past) → IsRun list past
 unfolding IsRun
 run_before list [] past run = run
 run_before list (x ∷ later) past run = run_before list later past run.1
 
-pub run_due : (list : List Told → Option Act) (x : Entry) (past : List Entry) → IsRun list (x ∷ past) → due_after list past ≡ Some x.act
+pub run_due : (list : List CompletedCall → Option Act) (x : Entry) (past : List Entry) → IsRun list (x ∷ past) → due_after list past ≡ Some x.act
 unfolding IsRun
 run_due list x past run = run.0
 
@@ -32,7 +32,7 @@ pub own_more : (w : ℕ) (done : List Entry) (x : Entry) → (x.worker == w) ≡
 own_more w done x is =
     ap (own w) (reverse-append done (x ∷ [])) ∙ ap (λ b. cond b (x ∷ own w (reverse done)) (own w (reverse done))) is
 
-slice_here : (done others : List Entry) (x : Entry) → slice_get (done ++ x ∷ others) (length done) ≡ Some x
+pub slice_here : (done others : List Entry) (x : Entry) → slice_get (done ++ x ∷ others) (length done) ≡ Some x
 slice_here [] others x = refl
 slice_here (d ∷ done) others x = slice_here done others x
 
@@ -41,7 +41,7 @@ pub entry_next : (h done rest others : List Entry) (x : Entry) → done ++ rest 
 entry_next h done rest others x is first =
     subst (λ l. slice_get l (length done) ≡ Some x) (ap (λ r. done ++ r) (sym first) ∙ is) (slice_here done others x)
 
--- the entries that were done, with the next one, and those behind it are still the history
+-- the entries passed, with the next one, and those after it are still the history
 pub order_more : (h done rest others : List Entry) (x : Entry) → done ++ rest ≡ h → rest ≡ x ∷ others → (done ++ x ∷ []) ++ others ≡ h
 order_more h done rest others x is first = append_assoc done (x ∷ []) others ∙ ap (λ r. done ++ r) (sym first) ∙ is
 

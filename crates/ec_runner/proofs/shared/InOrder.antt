@@ -16,21 +16,14 @@ use Rattle.ec_machine.specs.declared.outcome.Outcome.TheVariants.{Running}
 use Rattle.ec_machine.specs.Follows.{program_at}
 use Rattle.ec_machine.specs.Runs.{IsRunOf, next_act, outcome_of}
 use Rattle.ec_machine.specs.Steps.{IsRun, own}
-use Rattle.ec_runner.specs.Schedules.{Turn, IsTurn, AreTurns, Plays, HasEnded, with_answer, entries_of, refusal_or, refusal_told, ended_by, outcome_after}
-use Rattle.ec_runner.specs.ScheduleLaws.{made, unrefused, IsMarked, IsPlace, IsRefusedWith, IsHistoryOf}
+use Rattle.ec_runner.specs.Schedules.{Turn, IsTurn, AreTurns, Plays, EndsBeforePlace, with_answer, entries_of, refusal_or, refusal_in_turns, ended_by, outcome_after}
+use Rattle.ec_runner.specs.ScheduleLaws.{made_entries, unrefused, IsMarked, IsPlace, IsRefusedWith, IsHistoryOf}
 use Rattle.ec_runner.proofs.Starting.{get_push}
 use Rattle.ec_runner.proofs.Turning.{none_told}
+use Rattle.ec_core.proofs.shared.Joining.{get_front as get_early}
+use Rattle.ec_heading.proofs.shared.TreeFound.{found_at as get_here}
 
 -- LISTS
-
-pub get_early : {X : Type 0} (xs ys : List X) (i : ℕ) → i < length xs → slice_get (xs ++ ys) i ≡ slice_get xs i
-get_early [] ys i within = absurd (omega arith)
-get_early (x ∷ xs) ys zero within = refl
-get_early (x ∷ xs) ys (suc i) within = get_early xs ys i (omega arith)
-
-get_here : {X : Type 0} (xs : List X) (y : X) (ys : List X) → slice_get (xs ++ y ∷ ys) (length xs) ≡ Some y
-get_here [] y ys = refl
-get_here (x ∷ xs) y ys = get_here xs y ys
 
 pub some_none : (r : Refusal) → Some r ≡ None → ⊥
 some_none r is = cc
@@ -133,31 +126,32 @@ place_is t programs later x before h is right =
     let cs = program_at programs x.worker in
     record {
       act = x.act;
-      running = ap (λ p. outcome_of cs (own x.worker p)) past ∙ both_run (refusal_told x.worker before) (outcome_of cs (own x.worker (entries_of before))) right.running;
+      running = ap (λ p. outcome_of cs (own x.worker p)) past ∙ both_run (refusal_in_turns x.worker before) (outcome_of cs (own x.worker (entries_of before))) right.running;
       due = ap (λ p. next_act cs (own x.worker p)) past ∙ right.due;
       answer = marked x.worker x.act x.answer _ (entries_of before) (reverse (entries_of later)) h (entries_split later x before h is)
           (ap (λ p. answer_of t p x.worker x.act) past ∙ right.answer);
     }
 
-pub made_append : (xs ys : List (Option Refusal)) → made (xs ++ ys) ≡ made xs + made ys
+pub made_append : (xs ys : List (Option Refusal))
+    → made_entries (xs ++ ys) ≡ made_entries xs + made_entries ys
 made_append [] ys = omega arith
 made_append (None ∷ xs) ys = ap (λ n. n + 1) (made_append xs ys) ∙ (omega arith)
 made_append (Some r ∷ xs) ys = made_append xs ys
 
-made_one : (w : ℕ) (act : Act) (answer : Result Reply Refusal) (past : List Entry) → length past + made (refusal_or answer None ∷ []) ≡ length (with_answer w act answer past)
+made_one : (w : ℕ) (act : Act) (answer : Result Reply Refusal) (past : List Entry) → length past + made_entries (refusal_or answer None ∷ []) ≡ length (with_answer w act answer past)
 made_one w act (Ok reply) past = omega arith
 made_one w act (Err r) past = omega arith
 
-made_is : (turns : List Turn) → made (timely mark_of turns) ≡ length (entries_of turns)
+made_is : (turns : List Turn) → made_entries (timely mark_of turns) ≡ length (entries_of turns)
 made_is [] = refl
 made_is (x ∷ turns) =
-    ap made (timely_more mark_of x turns) ∙ made_append (timely mark_of turns) (mark_of x ∷ []) ∙ ap (λ n. n + made (mark_of x ∷ [])) (made_is turns)
+    ap made_entries (timely_more mark_of x turns) ∙ made_append (timely mark_of turns) (mark_of x ∷ []) ∙ ap (λ n. n + made_entries (mark_of x ∷ [])) (made_is turns)
     ∙ made_one x.worker x.act x.answer (entries_of turns)
 
-marks_before : (later : List Turn) (x : Turn) (before : List Turn) → made (take (length before) (timely mark_of (later ++ x ∷ before))) ≡ length (entries_of before)
+marks_before : (later : List Turn) (x : Turn) (before : List Turn) → made_entries (take (length before) (timely mark_of (later ++ x ∷ before))) ≡ length (entries_of before)
 marks_before later x before =
-    ap (λ l. made (take (length before) l)) (timely_split mark_of later x before)
-    ∙ ap made (take_at (timely mark_of before) (mark_of x ∷ timely mark_of later) (length before) (length_timely mark_of before)) ∙ made_is before
+    ap (λ l. made_entries (take (length before) l)) (timely_split mark_of later x before)
+    ∙ ap made_entries (take_at (timely mark_of before) (mark_of x ∷ timely mark_of later) (length before) (length_timely mark_of before)) ∙ made_is before
 
 pub mark_at : {X : Type 0} (f : Turn → X) (later : List Turn) (x : Turn) (before : List Turn) → slice_get (timely f (later ++ x ∷ before)) (length before) ≡ Some (f x)
 mark_at f later x before =
@@ -166,16 +160,16 @@ mark_at f later x before =
 
 places_are : (t : Tables) (programs : List (List Command)) (turns : List Turn) (h : List Entry) → AreTurns t programs turns → reverse h ≡ entries_of turns
     → (i w : ℕ) (mark : Option Refusal) → slice_get (timely worker_of turns) i ≡ Some w → slice_get (timely mark_of turns) i ≡ Some mark
-    → IsPlace t (program_at programs w) h (made (take i (timely mark_of turns))) w mark
-places_are t programs turns h each is i w mark at told =
+    → IsPlace t (program_at programs w) h (made_entries (take i (timely mark_of turns))) w mark
+places_are t programs turns h each is i w mark at returned =
     let s = split_at turns i w at in
     let right = (turn_in t programs s.later s.turn s.before (subst (AreTurns t programs) s.whole each)).0 in
     let place = place_is t programs s.later s.turn s.before h (is ∙ ap entries_of s.whole) right in
     let same : mark_of s.turn ≡ mark =
-    same_Some (mark_of s.turn) mark (sym (ap (λ l. slice_get (timely mark_of l) (length s.before)) s.whole ∙ mark_at mark_of s.later s.turn s.before) ∙ ap (λ k. slice_get (timely mark_of turns) k) s.place ∙ told) in
-    let count : length (entries_of s.before) ≡ made (take i (timely mark_of turns)) =
-    sym (marks_before s.later s.turn s.before) ∙ ap (λ l. made (take (length s.before) (timely mark_of l))) (sym s.whole) ∙ ap (λ k. made (take k (timely mark_of turns))) s.place in
-    subst (λ m. IsPlace t (program_at programs w) h (made (take i (timely mark_of turns))) w m) same
+    same_Some (mark_of s.turn) mark (sym (ap (λ l. slice_get (timely mark_of l) (length s.before)) s.whole ∙ mark_at mark_of s.later s.turn s.before) ∙ ap (λ k. slice_get (timely mark_of turns) k) s.place ∙ returned) in
+    let count : length (entries_of s.before) ≡ made_entries (take i (timely mark_of turns)) =
+    sym (marks_before s.later s.turn s.before) ∙ ap (λ l. made_entries (take (length s.before) (timely mark_of l))) (sym s.whole) ∙ ap (λ k. made_entries (take k (timely mark_of turns))) s.place in
+    subst (λ m. IsPlace t (program_at programs w) h (made_entries (take i (timely mark_of turns))) w m) same
     (subst (λ k. IsPlace t (program_at programs w) h k w (mark_of s.turn)) count
     (subst (λ v. IsPlace t (program_at programs v) h (length (entries_of s.before)) v (mark_of s.turn)) s.worker place))
 
@@ -193,41 +187,41 @@ none_if_ok : (answer : Result Reply Refusal) (o : Option Refusal) → ((r : Refu
 none_if_ok (Ok reply) o never none = none
 none_if_ok (Err r) o never none = absurd (never r refl)
 
-told_running : (t : Tables) (programs : List (List Command)) (before : List Turn) (x : Turn) → IsTurn t programs before x → refusal_told x.worker before ≡ None
-told_running t programs before x right = none_told (refusal_told x.worker before) (outcome_of (program_at programs x.worker) (own x.worker (entries_of before))) right.running
+told_running : (t : Tables) (programs : List (List Command)) (before : List Turn) (x : Turn) → IsTurn t programs before x → refusal_in_turns x.worker before ≡ None
+told_running t programs before x right = none_told (refusal_in_turns x.worker before) (outcome_of (program_at programs x.worker) (own x.worker (entries_of before))) right.running
 
--- the refusal at a place of w is the one that w was told
+-- the refusal at a place of w is the one of w in the turns
 pub told_is : (t : Tables) (programs : List (List Command)) (turns : List Turn) (i w : ℕ) (r : Refusal) → AreTurns t programs turns
-    → slice_get (timely worker_of turns) i ≡ Some w → slice_get (timely mark_of turns) i ≡ Some (Some r) → refusal_told w turns ≡ Some r
+    → slice_get (timely worker_of turns) i ≡ Some w → slice_get (timely mark_of turns) i ≡ Some (Some r) → refusal_in_turns w turns ≡ Some r
 told_is t programs [] i w r each at mark = cc
 told_is t programs (x ∷ turns) i w r each at mark =
-    let told = subst (λ l. slice_get l i ≡ Some (Some r)) (timely_more mark_of x turns) mark in
+    let returned = subst (λ l. slice_get l i ≡ Some (Some r)) (timely_more mark_of x turns) mark in
     ⊎_elim
     (λ early.
     let within = slice_get_within (timely worker_of turns) i w early in
     let same : slice_get (timely mark_of turns) i ≡ Some (Some r) =
-    sym (get_early (timely mark_of turns) (mark_of x ∷ []) i (omega (arith, length_timely worker_of turns, length_timely mark_of turns))) ∙ told in
+    sym (get_early (timely mark_of turns) (mark_of x ∷ []) i (omega (arith, length_timely worker_of turns, length_timely mark_of turns))) ∙ returned in
     let before = told_is t programs turns i w r each.1 early same in
-    when_same (x.worker == w) (λ o. o ≡ Some r) (refusal_or x.answer (refusal_told w turns)) (refusal_told w turns)
-    (λ e. absurd (some_none r (sym before ∙ ap (λ v. refusal_told v turns) (sym (eqb-true x.worker w e)) ∙ told_running t programs turns x each.0)))
+    when_same (x.worker == w) (λ o. o ≡ Some r) (refusal_or x.answer (refusal_in_turns w turns)) (refusal_in_turns w turns)
+    (λ e. absurd (some_none r (sym before ∙ ap (λ v. refusal_in_turns v turns) (sym (eqb-true x.worker w e)) ∙ told_running t programs turns x each.0)))
     (λ e. before))
     (λ last.
     let here : mark_of x ≡ Some r =
-    same_Some _ _ (sym (get_here (timely mark_of turns) (mark_of x) []) ∙ ap (slice_get (timely mark_of turns ++ mark_of x ∷ [])) (length_timely mark_of turns ∙ sym (length_timely worker_of turns) ∙ sym last.0) ∙ told) in
-    ap (λ b. cond b (refusal_or x.answer (refusal_told w turns)) (refusal_told w turns)) (eq-eqb x.worker w last.1) ∙ told_last x.answer r (refusal_told w turns) here)
+    same_Some _ _ (sym (get_here (timely mark_of turns) (mark_of x) []) ∙ ap (slice_get (timely mark_of turns ++ mark_of x ∷ [])) (length_timely mark_of turns ∙ sym (length_timely worker_of turns) ∙ sym last.0) ∙ returned) in
+    ap (λ b. cond b (refusal_or x.answer (refusal_in_turns w turns)) (refusal_in_turns w turns)) (eq-eqb x.worker w last.1) ∙ told_last x.answer r (refusal_in_turns w turns) here)
     (get_push (timely worker_of turns) x.worker i w (subst (λ l. slice_get l i ≡ Some w) (timely_more worker_of x turns) at))
 
--- who has no such place was told none
-pub told_none : (turns : List Turn) (w : ℕ) → ((r : Refusal) → IsRefusedWith (timely worker_of turns) (timely mark_of turns) w r → ⊥) → refusal_told w turns ≡ None
+-- a worker without such a place was not refused
+pub told_none : (turns : List Turn) (w : ℕ) → ((r : Refusal) → IsRefusedWith (timely worker_of turns) (timely mark_of turns) w r → ⊥) → refusal_in_turns w turns ≡ None
 told_none [] w never = refl
 told_none (x ∷ turns) w never =
-    let before : refusal_told w turns ≡ None = told_none turns w (λ r at. never r (
+    let before : refusal_in_turns w turns ≡ None = told_none turns w (λ r at. never r (
       at.0,
       ap (λ l. slice_get l at.0) (timely_more worker_of x turns) ∙ get_early (timely worker_of turns) (x.worker ∷ []) at.0 (slice_get_within (timely worker_of turns) at.0 w at.1) ∙ at.1,
       ap (λ l. slice_get l at.0) (timely_more mark_of x turns) ∙ get_early (timely mark_of turns) (mark_of x ∷ []) at.0 (slice_get_within (timely mark_of turns) at.0 (Some r) at.2) ∙ at.2,
     )) in
-    when_same (x.worker == w) (λ o. o ≡ None) (refusal_or x.answer (refusal_told w turns)) (refusal_told w turns)
-    (λ e. none_if_ok x.answer (refusal_told w turns) (λ r is. never r (
+    when_same (x.worker == w) (λ o. o ≡ None) (refusal_or x.answer (refusal_in_turns w turns)) (refusal_in_turns w turns)
+    (λ e. none_if_ok x.answer (refusal_in_turns w turns) (λ r is. never r (
       length turns,
       mark_at worker_of [] x turns ∙ ap (λ v. Some v) (eqb-true x.worker w e),
       mark_at mark_of [] x turns ∙ ap (λ m. Some m) is,
@@ -272,9 +266,9 @@ parts_are t programs (x ∷ turns) w each =
     (λ is. subst (λ v. next_act (program_at programs v) (own v (entries_of turns)) ≡ Some x.act) is each.0.due)
     (parts_are t programs turns w each.1)
 
--- THE LAWS
+-- THE THEOREMS
 
-pub outcome_told : (programs : List (List Command)) (turns : List Turn) (w : ℕ) (o : Option Refusal) → refusal_told w turns ≡ o
+pub outcome_told : (programs : List (List Command)) (turns : List Turn) (w : ℕ) (o : Option Refusal) → refusal_in_turns w turns ≡ o
     → outcome_after programs w turns ≡ ended_by o (outcome_of (program_at programs w) (own w (entries_of turns)))
 outcome_told programs turns w o is = ap (λ o. ended_by o (outcome_of (program_at programs w) (own w (entries_of turns)))) is
 
@@ -290,9 +284,9 @@ last_of t programs turns i j w r each at mark again less =
     let s = split_at turns j w again in
     let rights = turn_in t programs s.later s.turn s.before (subst (AreTurns t programs) s.whole each) in
     let within : i < length s.before = omega (arith, s.place) in
-    let told = told_is t programs s.before i w r rights.1 (sym (get_in_front worker_of turns s.later s.turn s.before i s.whole within) ∙ at)
+    let returned = told_is t programs s.before i w r rights.1 (sym (get_in_front worker_of turns s.later s.turn s.before i s.whole within) ∙ at)
     (sym (get_in_front mark_of turns s.later s.turn s.before i s.whole within) ∙ mark) in
-    some_none r (sym told ∙ ap (λ v. refusal_told v s.before) (sym s.worker) ∙ told_running t programs s.before s.turn rights.0)
+    some_none r (sym returned ∙ ap (λ v. refusal_in_turns v s.before) (sym s.worker) ∙ told_running t programs s.before s.turn rights.0)
 
 in_time : (t : Tables) (programs : List (List Command)) (turns : List Turn) (h : List Entry) → AreTurns t programs turns → reverse h ≡ entries_of turns
     → IsHistoryOf t programs (timely worker_of turns) h (λ w. outcome_after programs w turns)
@@ -336,14 +330,14 @@ pub one_run : (t : Tables) (programs : List (List Command)) (schedule : List ℕ
 one_run t programs schedule turns others plays other = one_way t programs turns others plays.each other.each (plays.workers ∙ sym other.workers)
 
 -- no turns play a schedule that names a worker that has ended
-pub ended_not_played : (t : Tables) (programs : List (List Command)) (schedule : List ℕ) (place w : ℕ) (turns : List Turn) → HasEnded t programs schedule place w → Plays t programs schedule turns → ⊥
+pub ended_not_played : (t : Tables) (programs : List (List Command)) (schedule : List ℕ) (place w : ℕ) (turns : List Turn) → EndsBeforePlace t programs schedule place w → Plays t programs schedule turns → ⊥
 ended_not_played t programs schedule place w turns ended plays =
     let whole : timely worker_of turns ≡ schedule = ap reverse plays.workers ∙ reverse-reverse schedule in
     let s = split_at turns place w (ap (λ ws. slice_get ws place) whole ∙ ended.named) in
     let rights = turn_in t programs s.later s.turn s.before (subst (AreTurns t programs) s.whole plays.each) in
-    let front : timely worker_of s.before ≡ take place schedule =
+    let prefix : timely worker_of s.before ≡ take place schedule =
     sym (take_at (timely worker_of s.before) (s.turn.worker ∷ timely worker_of s.later) place (length_timely worker_of s.before ∙ s.place))
     ∙ ap (take place) (sym (timely_split worker_of s.later s.turn s.before) ∙ ap (timely worker_of) (sym s.whole) ∙ whole) in
-    let workers : map worker_of s.before ≡ map worker_of ended.turns = sym (reverse-reverse (map worker_of s.before)) ∙ ap reverse front ∙ sym ended.plays.workers in
+    let workers : map worker_of s.before ≡ map worker_of ended.turns = sym (reverse-reverse (map worker_of s.before)) ∙ ap reverse prefix ∙ sym ended.plays.workers in
     let same = one_way t programs s.before ended.turns rights.1 ended.plays.each workers in
     ended.ended (ap (outcome_after programs w) (sym same) ∙ ap (λ v. outcome_after programs v s.before) (sym s.worker) ∙ rights.0.running)

@@ -1,4 +1,5 @@
--- The lines of a script keep its programs confined, and of commands that its version has, and so every plan is.
+-- Invariants of the parser: its programs are confined, and of commands that the version has. So
+-- every plan is.
 use Rattle.std.proofs.Common.{◌≡◌, ℕ, ◌<◌, List, [], ◌∷◌, ◌++◌, length, replicate, zero, suc, Bool, true, false, cond, not, ◌&&◌, eqb, Option, Some, None, Result, Ok, Err, refl, sym, ap, ◌∙◌, subst, arith, nat_lt, eqb-true, length-append, length-set, slice_set}
 use Rattle.std.specs.List.{AllByRecursion}
 use Rattle.std.specs.Option.{IfSome}
@@ -6,43 +7,44 @@ use Rattle.std.specs.Result.{IfOk}
 use Rattle.std.proofs.lemmas.Bool.{and_parts}
 use Rattle.std.proofs.lemmas.List.{length-replicate}
 use Rattle.std.proofs.lemmas.List.Elements.{All-from_recursion, recursion_from_All, All-set}
-use Rattle.ec_text.specs.Words.{words_of, number_of}
+use Rattle.ec_text.specs.Words.{words_of, number_in_word}
 use Rattle.ec_heading.specs.Versions.{is_limit, version_of}
-use Rattle.ec_script.specs.Headers.{script_header, bounded}
+use Rattle.ec_script.specs.Headers.{script_header, version_limit}
 use Rattle.ec_heading.specs.declared.version.Version.{Version}
 use Rattle.ec_heading.specs.declared.heading.HeadFault.{HeadFault}
-use Rattle.ec_heading.specs.Headed.{Headed}
-use Rattle.ec_heading.specs.Outline.{opened}
+use Rattle.ec_heading.specs.HeadingModel.{HeadingModel}
+use Rattle.ec_heading.specs.HeaderTree.{empty_heading}
 use Rattle.ec_heading.specs.Heading.{head_step, is_no_line}
 use Rattle.ec_heading.specs.Lists.{ids_in}
 use Rattle.ec_script.specs.declared.fault.Kind.{Kind}
 use Rattle.ec_script.specs.declared.fault.Kind.TheVariants as kinds
 use Rattle.ec_script.specs.declared.fault.ScriptFault.{ScriptFault}
 use Rattle.ec_script.specs.declared.plan.Plan.{Plan}
-use Rattle.ec_script.specs.declared.verb.Verb.{Verb}
-use Rattle.ec_script.specs.declared.verb.Verb.TheVariants as verbs
+use Rattle.ec_script.specs.declared.verb.LineWord.{LineWord}
+use Rattle.ec_script.specs.declared.verb.LineWord.TheVariants as verbs
 use Rattle.ec_script.specs.declared.object.Object.{Object}
 use Rattle.ec_script.specs.declared.object.Object.TheVariants.{Worker}
-use Rattle.ec_script.specs.declared.order.Order.{Order}
-use Rattle.ec_script.specs.declared.order.Order.TheVariants.{Do, Write, Begin, End}
-use Rattle.ec_script.specs.declared.script.Block.{Block}
+use Rattle.ec_script.specs.declared.block_item.BlockItem.{BlockItem}
+use Rattle.ec_script.specs.declared.block_item.BlockItem.TheVariants.{Do, Write, Begin, End}
+use Rattle.ec_script.specs.declared.script.OpenBlock.{OpenBlock}
 use Rattle.ec_script.specs.declared.stage.Stage.{Stage}
 use Rattle.ec_script.specs.declared.stage.Stage.TheVariants.{Opening, Limiting, Naming, Reading}
-use Rattle.ec_script.specs.Verbs.{has_verb, is_giving}
+use Rattle.ec_script.specs.Verbs.{has_verb, is_update}
 use Rattle.ec_script.specs.Forms.{Phrase, phrase_in}
 use Rattle.ec_script.specs.Objects.{object_for, object_in, is_owned}
-use Rattle.ec_script.specs.Drafted.{Drafted, with_order}
+use Rattle.ec_script.specs.DraftModel.{DraftModel, draft_with_item}
 use Rattle.ec_script.specs.Kinds.{phrase_fault, or_nothing, has_two_roles}
-use Rattle.ec_script.specs.Orders.{size_in, command_in}
-use Rattle.ec_script.specs.Scripted.{Scripted, Planned}
-use Rattle.ec_script.specs.Reading.{seen, began, ordered_in, commanded, ended_in, after_verb, after, fault_or, phrased, headed_on, is_declaring, opens_outer, script_step, limiting, limited, limit_digits, limit_or, limit_step, script_of, named_on, read_on, step}
-use Rattle.ec_script.specs.Outcome.{plan_or, plan_in, outcome, Tells, shown_plan}
+use Rattle.ec_script.specs.BlockItems.{size_in, command_in}
+use Rattle.ec_script.specs.ScriptModel.{ScriptModel, PlanModel}
+use Rattle.ec_script.specs.Reading.{context_of_script, with_worker_block, block_with_item, after_command, with_block_end, after_verb, after, fault_or, after_phrase, map_heading, is_declaring, opens_outer, script_step, stage_of_version, after_limit, limit_digits, limit_or, limit_step, script_of, stage_of_heading, read_on, step}
+use Rattle.ec_script.specs.Outcome.{plan_or, plan_in, parse_result, Returns, shown_plan}
 use Rattle.ec_script.specs.Grammar.{Leads, IsScript}
-use Rattle.ec_script.specs.Versioned.{HasOrder, HasOrders, HasPrograms}
+use Rattle.ec_script.specs.Versioned.{HasItem, HasItems, HasPrograms}
 use Rattle.ec_script.specs.Confined.{IsConfined, AreConfined, IsPlan, AreConfinedPrograms}
 use Rattle.ec_script.proofs.Room.{NoFault, no_fault}
 use Rattle.ec_script.proofs.shared.Texts.{read_is_script}
-use Rattle.ec_script.proofs.shared.WrittenOut.{every_append, confined_lines, had_lines}
+use Rattle.ec_script.proofs.shared.WrittenOut.{confined_lines, had_lines}
+use Rattle.ec_heading.proofs.shared.Each.{each_append as every_append}
 use Rattle.ec_script.proofs.Declaring.{HeadKeeps, Grows, first_keeps, head_grows, ids_below}
 use Rattle.ec_script.proofs.Confining.{object_fits, IsProper, command_proper}
 
@@ -60,33 +62,33 @@ seconds : {X : Type 0} (P Q : X → Type 0) (xs : List X) → AllByRecursion (λ
 seconds P Q [] all = tt
 seconds P Q (x ∷ xs) all = (all.0.1, seconds P Q xs all.1)
 
--- orders that the programs of a script of this heading may have
-abbrev AreProper : Headed → List Order → Type 0
+-- items that the programs of a script with this header may have
+abbrev AreProper : HeadingModel → List BlockItem → Type 0
 AreProper h os = AllByRecursion (IsProper h.groups h.version) os
 
-none_proper : (h : Headed) (n : ℕ) → AllByRecursion (AreProper h) (replicate n [])
+none_proper : (h : HeadingModel) (n : ℕ) → AllByRecursion (AreProper h) (replicate n [])
 none_proper h zero = tt
 none_proper h (suc n) = (tt, none_proper h n)
 
-all_confined : (h : Headed) (programs : List (List Order)) → AllByRecursion (AreProper h) programs → AreConfined h.groups programs
+all_confined : (h : HeadingModel) (programs : List (List BlockItem)) → AllByRecursion (AreProper h) programs → AreConfined h.groups programs
 all_confined h [] all = tt
-all_confined h (os ∷ programs) all = (firsts (IsConfined h.groups) (HasOrder h.version) os all.0, all_confined h programs all.1)
+all_confined h (os ∷ programs) all = (firsts (IsConfined h.groups) (HasItem h.version) os all.0, all_confined h programs all.1)
 
-all_had : (h : Headed) (programs : List (List Order)) → AllByRecursion (AreProper h) programs → HasOrders h.version programs
+all_had : (h : HeadingModel) (programs : List (List BlockItem)) → AllByRecursion (AreProper h) programs → HasItems h.version programs
 all_had h [] all = tt
-all_had h (os ∷ programs) all = (seconds (IsConfined h.groups) (HasOrder h.version) os all.0, all_had h programs all.1)
+all_had h (os ∷ programs) all = (seconds (IsConfined h.groups) (HasItem h.version) os all.0, all_had h programs all.1)
 
--- WHAT A SCRIPT KEEPS
+-- THE INVARIANT
 
-abbrev BlockKeeps : Headed → Option Block → Type 0
+abbrev BlockKeeps : HeadingModel → Option OpenBlock → Type 0
 BlockKeeps h None = Unit {0}
-BlockKeeps h (Some b) = AreProper h b.draft.orders
+BlockKeeps h (Some b) = AreProper h b.draft.block_items
 
--- nothing is commanded yet
-abbrev IsBare : Scripted → Type 0
+-- no block is open and every program is empty
+abbrev IsBare : ScriptModel → Type 0
 IsBare s = (s.block ≡ None) × (s.programs ≡ replicate s.heading.setup.workers [])
 
-pub record Keeps (s : Scripted) : Type 0 where
+pub record Keeps (s : ScriptModel) : Type 0 where
   pub head : HeadKeeps s.heading
   pub programs : length s.programs ≡ s.heading.setup.workers
   pub proper : AllByRecursion (AreProper s.heading) s.programs
@@ -94,7 +96,7 @@ pub record Keeps (s : Scripted) : Type 0 where
   pub schedule : AllByRecursion (λ w. w < s.heading.setup.workers) s.schedule
   pub early : length s.named ≡ 0 → IsBare s
 
-script_keeps : (h : Headed) → HeadKeeps h → Keeps (script_of h)
+script_keeps : (h : HeadingModel) → HeadKeeps h → Keeps (script_of h)
 script_keeps h head = record {
   head = head;
   programs = length-replicate h.setup.workers [];
@@ -106,7 +108,7 @@ script_keeps h head = record {
 
 -- A DECLARATION
 
-grown_keeps : (s : Scripted) (h : Headed) → Keeps s → length s.named ≡ 0 → Grows s.heading h → Keeps (record s { heading = h })
+grown_keeps : (s : ScriptModel) (h : HeadingModel) → Keeps s → length s.named ≡ 0 → Grows s.heading h → Keeps (record s { heading = h })
 grown_keeps s h keeps none grows =
     let bare : IsBare s = keeps.early none in
     let same : s.programs ≡ replicate h.setup.workers [] = bare.1 ∙ ap (λ (n : ℕ). replicate n []) (sym grows.workers) in
@@ -119,55 +121,58 @@ grown_keeps s h keeps none grows =
       early = λ none. (bare.0, same);
     }
 
-declared_keeps : (s t : Scripted) (r : Result Headed HeadFault) → Keeps s → length s.named ≡ 0 → ((h : Headed) → r ≡ Ok h → Grows s.heading h) → headed_on s r ≡ Ok t → Keeps t
+declared_keeps : (s t : ScriptModel) (r : Result HeadingModel HeadFault) → Keeps s → length s.named ≡ 0 → ((h : HeadingModel) → r ≡ Ok h → Grows s.heading h) → map_heading s r ≡ Ok t → Keeps t
 declared_keeps s t (Ok h) keeps none grows is = let e : record s { heading = h } ≡ t = cc in subst Keeps e (grown_keeps s h keeps none (grows h refl))
 declared_keeps s t (Err f) keeps none grows is = cc
 
 -- A LINE OF A BLOCK
 
-with_order_adds : (d : Drafted) (o : Order) → (with_order d o).orders ≡ d.orders ++ o ∷ []
-with_order_adds d (Do c) = refl
-with_order_adds d (Write b vs) = refl
-with_order_adds d (Begin n) = refl
-with_order_adds d End = refl
+pub with_item_adds : (d : DraftModel) (o : BlockItem)
+    → (draft_with_item d o).block_items ≡ d.block_items
+    ++ o ∷ []
+with_item_adds d (Do c) = refl
+with_item_adds d (Write b vs) = refl
+with_item_adds d (Begin n) = refl
+with_item_adds d End = refl
 
-pub not_bare : (s : Scripted) (b : Block) → s.block ≡ Some b → IsBare s → ⊥
+pub not_bare : (s : ScriptModel) (b : OpenBlock) → s.block ≡ Some b → IsBare s → ⊥
 not_bare s b is bare = let e : s.block ≡ None = bare.0 in cc
 
-ordered_keeps : (s : Scripted) (o : Order) (b : Option Block) → s.block ≡ b → Keeps s → IsProper s.heading.groups s.heading.version o → Keeps (ordered_in s b o)
+ordered_keeps : (s : ScriptModel) (o : BlockItem) (b : Option OpenBlock) → s.block ≡ b → Keeps s → IsProper s.heading.groups s.heading.version o → Keeps (block_with_item s b o)
 ordered_keeps s o None is keeps one = keeps
 ordered_keeps s o (Some b) is keeps one = record {
   head = keeps.head;
   programs = keeps.programs;
   proper = keeps.proper;
-  block = subst (AreProper s.heading) (sym (with_order_adds b.draft o))
-      (every_append (IsProper s.heading.groups s.heading.version) b.draft.orders (o ∷ []) (subst (BlockKeeps s.heading) is keeps.block) (one, tt));
+  block = subst (AreProper s.heading) (sym (with_item_adds b.draft o))
+      (every_append (IsProper s.heading.groups s.heading.version) b.draft.block_items (o ∷ []) (subst (BlockKeeps s.heading) is keeps.block) (one, tt));
   schedule = keeps.schedule;
   early = λ none. absurd (not_bare s b is (keeps.early none));
 }
 
-commanded_keeps : (s : Scripted) (o : Option Order) → Keeps s → IfSome o (IsProper s.heading.groups s.heading.version) → Keeps (commanded s o)
+commanded_keeps : (s : ScriptModel) (o : Option BlockItem) → Keeps s → IfSome o (IsProper s.heading.groups s.heading.version) → Keeps (after_command s o)
 commanded_keeps s None keeps one = keeps
 commanded_keeps s (Some o) keeps one = ordered_keeps s o s.block refl keeps one
 
-closed_keeps : (s : Scripted) (b : Block) → s.block ≡ Some b → Keeps s → Keeps (record s { programs = slice_set s.programs b.worker b.draft.orders; block = None })
+closed_keeps : (s : ScriptModel) (b : OpenBlock) → s.block ≡ Some b → Keeps s → Keeps (record s { programs = slice_set s.programs b.worker b.draft.block_items; block = None })
 closed_keeps s b is keeps = record {
   head = keeps.head;
-  programs = length-set s.programs b.worker b.draft.orders ∙ keeps.programs;
-  proper = every_set (AreProper s.heading) s.programs b.worker b.draft.orders (subst (BlockKeeps s.heading) is keeps.block) keeps.proper;
+  programs = length-set s.programs b.worker b.draft.block_items ∙ keeps.programs;
+  proper = every_set (AreProper s.heading) s.programs b.worker b.draft.block_items (subst (BlockKeeps s.heading) is keeps.block) keeps.proper;
   block = tt;
   schedule = keeps.schedule;
   early = λ none. absurd (not_bare s b is (keeps.early none));
 }
 
-ended_keeps : (s : Scripted) (b : Option Block) → s.block ≡ b → Keeps s → Keeps (ended_in s b)
+ended_keeps : (s : ScriptModel) (b : Option OpenBlock) → s.block ≡ b → Keeps s
+    → Keeps (with_block_end s b)
 ended_keeps s None is keeps = keeps
 ended_keeps s (Some b) is keeps =
-    let P : Bool → Type 0 = λ t. Keeps (cond t (record s { programs = slice_set s.programs b.worker b.draft.orders; block = None }) (ordered_in s (Some b) End)) in
+    let P : Bool → Type 0 = λ t. Keeps (cond t (record s { programs = slice_set s.programs b.worker b.draft.block_items; block = None }) (block_with_item s (Some b) End)) in
     let go : P (eqb b.draft.depth 0) = elim (eqb b.draft.depth 0) as P [ true ↦ closed_keeps s b is keeps | false ↦ ordered_keeps s End (Some b) is keeps (tt, refl) ] in
     go
 
-began_keeps : (s : Scripted) (o : Object) → Keeps s → Keeps (began s o)
+began_keeps : (s : ScriptModel) (o : Object) → Keeps s → Keeps (with_worker_block s o)
 began_keeps s (Worker w) keeps = record {
   head = keeps.head;
   programs = keeps.programs;
@@ -178,7 +183,7 @@ began_keeps s (Worker w) keeps = record {
 }
 began_keeps s _ keeps = keeps
 
-scheduled_keeps : (s : Scripted) (ws : List (List ℕ)) → Keeps s → Keeps (record s { schedule = s.schedule ++ ids_in s.heading.words ws })
+scheduled_keeps : (s : ScriptModel) (ws : List (List ℕ)) → Keeps s → Keeps (record s { schedule = s.schedule ++ ids_in s.heading.words ws })
 scheduled_keeps s ws keeps = record {
   head = keeps.head;
   programs = keeps.programs;
@@ -190,13 +195,13 @@ scheduled_keeps s ws keeps = record {
 
 -- BY ITS VERB
 
-command_keeps : (s : Scripted) (v : Verb) (w : List ℕ) (ws : List (List ℕ)) → Keeps s → has_verb s.heading.version v ≡ true → is_owned s.heading.groups (or_nothing (object_for s.heading v w ws)) ≡ false → has_two_roles (or_nothing (object_for s.heading v w ws)) ≡ false
-    → Keeps (commanded s (command_in v (is_giving v) (or_nothing (object_for s.heading v w ws)) ws))
+command_keeps : (s : ScriptModel) (v : LineWord) (w : List ℕ) (ws : List (List ℕ)) → Keeps s → has_verb s.heading.version v ≡ true → is_owned s.heading.groups (or_nothing (object_for s.heading v w ws)) ≡ false → has_two_roles (or_nothing (object_for s.heading v w ws)) ≡ false
+    → Keeps (after_command s (command_in v (is_update v) (or_nothing (object_for s.heading v w ws)) ws))
 command_keeps s v w ws keeps has free roles =
-    commanded_keeps s (command_in v (is_giving v) (or_nothing (object_for s.heading v w ws)) ws) keeps
-    (command_proper s.heading.groups s.heading.version v (is_giving v) (or_nothing (object_for s.heading v w ws)) ws (object_fits s.heading v w ws keeps.head.apart.apart has free roles))
+    commanded_keeps s (command_in v (is_update v) (or_nothing (object_for s.heading v w ws)) ws) keeps
+    (command_proper s.heading.groups s.heading.version v (is_update v) (or_nothing (object_for s.heading v w ws)) ws (object_fits s.heading v w ws keeps.head.apart.apart has free roles))
 
-after_keeps : (s : Scripted) (v : Verb) (w : List ℕ) (ws : List (List ℕ)) → Keeps s → has_verb s.heading.version v ≡ true → is_owned s.heading.groups (or_nothing (object_for s.heading v w ws)) ≡ false → has_two_roles (or_nothing (object_for s.heading v w ws)) ≡ false
+after_keeps : (s : ScriptModel) (v : LineWord) (w : List ℕ) (ws : List (List ℕ)) → Keeps s → has_verb s.heading.version v ≡ true → is_owned s.heading.groups (or_nothing (object_for s.heading v w ws)) ≡ false → has_two_roles (or_nothing (object_for s.heading v w ws)) ≡ false
     → Keeps (after_verb v s (or_nothing (object_for s.heading v w ws)) ws)
 after_keeps s verbs.Worker w ws keeps has free roles = began_keeps s (or_nothing (object_for s.heading verbs.Worker w ws)) keeps
 after_keeps s verbs.Schedule w ws keeps has free roles = scheduled_keeps s ws keeps
@@ -204,29 +209,30 @@ after_keeps s verbs.Repeat w ws keeps has free roles = ordered_keeps s (Begin (s
 after_keeps s verbs.End w ws keeps has free roles = ended_keeps s s.block refl keeps
 after_keeps s v w ws keeps has free roles = command_keeps s v w ws keeps has free roles
 
-unfaulted : (o : Option Kind) (s t : Scripted) → fault_or o s ≡ Ok t → (o ≡ None) × (s ≡ t)
+pub unfaulted : (o : Option Kind) (s t : ScriptModel) → fault_or o s ≡ Ok t → (o ≡ None) × (s ≡ t)
 unfaulted None s t is = (refl, cc)
 unfaulted (Some k) s t is = cc
 
-phrased_keeps : (s t : Scripted) (o : Option Phrase) → Keeps s → phrased s o ≡ Ok t → Keeps t
+phrased_keeps : (s t : ScriptModel) (o : Option Phrase) → Keeps s → after_phrase s o ≡ Ok t
+    → Keeps t
 phrased_keeps s t None keeps is = cc
 phrased_keeps s t (Some p) keeps is =
-    let f = unfaulted (phrase_fault (seen s) p (object_in s.heading p)) (after s p) t is in
-    let n : NoFault (seen s) p (object_in s.heading p) = no_fault (seen s) p (object_in s.heading p) f.0 in
+    let f = unfaulted (phrase_fault (context_of_script s) p (object_in s.heading p)) (after s p) t is in
+    let n : NoFault (context_of_script s) p (object_in s.heading p) = no_fault (context_of_script s) p (object_in s.heading p) f.0 in
     subst Keeps f.1 (after_keeps s p.verb p.object p.rest keeps n.version n.owned n.roles)
 
 -- LINES
 
-not_refused : {S : Type 0} (b : Bool) (k : Kind) (r : Result S Kind) (t : S) → cond b (Err k) r ≡ Ok t → r ≡ Ok t
+pub not_refused : {S : Type 0} (b : Bool) (k : Kind) (r : Result S Kind) (t : S) → cond b (Err k) r ≡ Ok t → r ≡ Ok t
 not_refused true k r t is = cc
 not_refused false k r t is = is
 
-line_keeps : (s t : Scripted) (line : List ℕ) → Keeps s → script_step s line ≡ Ok t → Keeps t
+line_keeps : (s t : ScriptModel) (line : List ℕ) → Keeps s → script_step s line ≡ Ok t → Keeps t
 unfolding script_step
 line_keeps s t line keeps is =
     (elim (is_declaring s && not (opens_outer (words_of line))) as (λ b.
     (is_declaring s && not (opens_outer (words_of line))) ≡ b
-    → cond b (headed_on s (head_step s.heading line)) (cond (is_no_line line) (Err kinds.BadLine) (phrased s (phrase_in (words_of line)))) ≡ Ok t
+    → cond b (map_heading s (head_step s.heading line)) (cond (is_no_line line) (Err kinds.BadLine) (after_phrase s (phrase_in (words_of line)))) ≡ Ok t
     → Keeps t) [
       | true ↦ λ e h.
           let p = and_parts (is_declaring s) (not (opens_outer (words_of line))) e in
@@ -241,31 +247,31 @@ abbrev pub StageKeeps : Stage → Type 0
 StageKeeps (Reading s) = Keeps s
 StageKeeps _ = Unit {0}
 
-opening_keeps : (o : Option Version) (t : Stage) → limiting o ≡ Ok t → StageKeeps t
+opening_keeps : (o : Option Version) (t : Stage) → stage_of_version o ≡ Ok t → StageKeeps t
 opening_keeps (Some v) t is = let e : Limiting v ≡ t = cc in subst StageKeeps e tt
 opening_keeps None t is = cc
 
-naming_keeps : (b : Bool) (v : Version) (n : ℕ) (t : Stage) → cond b (Ok (Naming (bounded v n))) (Err kinds.BadNumber) ≡ Ok t → StageKeeps t
-naming_keeps true v n t is = let e : Naming (bounded v n) ≡ t = cc in subst StageKeeps e tt
+naming_keeps : (b : Bool) (v : Version) (n : ℕ) (t : Stage) → cond b (Ok (Naming (version_limit v n))) (Err kinds.BadNumber) ≡ Ok t → StageKeeps t
+naming_keeps true v n t is = let e : Naming (version_limit v n) ≡ t = cc in subst StageKeeps e tt
 naming_keeps false v n t is = cc
 
-limited_keeps : (v : Version) (o : Option ℕ) (t : Stage) → limited v o ≡ Ok t → StageKeeps t
+limited_keeps : (v : Version) (o : Option ℕ) (t : Stage) → after_limit v o ≡ Ok t → StageKeeps t
 limited_keeps v None t is = cc
 limited_keeps v (Some n) t is = naming_keeps (is_limit v n) v n t is
 
 limit_keeps : (v : Version) (o : Option (List ℕ)) (t : Stage) → limit_or v o ≡ Ok t → StageKeeps t
 limit_keeps v None t is = cc
-limit_keeps v (Some digits) t is = limited_keeps v (number_of digits) t is
+limit_keeps v (Some digits) t is = limited_keeps v (number_in_word digits) t is
 
 limit_line_keeps : (v : Version) (line : List ℕ) (t : Stage) → limit_step v line ≡ Ok t → StageKeeps t
 unfolding limit_step
 limit_line_keeps v line t is = limit_keeps v (limit_digits (words_of line)) t (not_refused (nat_lt 8192 (length line)) kinds.BadLine _ t is)
 
-named_keeps : (r : Result Headed HeadFault) (t : Stage) → ((h : Headed) → r ≡ Ok h → HeadKeeps h) → named_on r ≡ Ok t → StageKeeps t
+named_keeps : (r : Result HeadingModel HeadFault) (t : Stage) → ((h : HeadingModel) → r ≡ Ok h → HeadKeeps h) → stage_of_heading r ≡ Ok t → StageKeeps t
 named_keeps (Ok h) t keeps is = let e : Reading (script_of h) ≡ t = cc in subst StageKeeps e (script_keeps h (keeps h refl))
 named_keeps (Err f) t keeps is = cc
 
-read_keeps : (r : Result Scripted Kind) (t : Stage) → ((s : Scripted) → r ≡ Ok s → Keeps s) → read_on r ≡ Ok t → StageKeeps t
+read_keeps : (r : Result ScriptModel Kind) (t : Stage) → ((s : ScriptModel) → r ≡ Ok s → Keeps s) → read_on r ≡ Ok t → StageKeeps t
 read_keeps (Ok s) t keeps is = let e : Reading s ≡ t = cc in subst StageKeeps e (keeps s refl)
 read_keeps (Err k) t keeps is = cc
 
@@ -273,7 +279,7 @@ step_keeps : (s t : Stage) (line : List ℕ) → StageKeeps s → step s line �
 unfolding step
 step_keeps Opening t line keeps is = opening_keeps (version_of script_header line) t is
 step_keeps (Limiting v) t line keeps is = limit_line_keeps v line t is
-step_keeps (Naming b) t line keeps is = named_keeps (head_step (opened b.version b.limit []) line) t (λ h e. first_keeps b.version b.limit line h e) is
+step_keeps (Naming b) t line keeps is = named_keeps (head_step (empty_heading b.version b.limit []) line) t (λ h e. first_keeps b.version b.limit line h e) is
 step_keeps (Reading s) t line keeps is = read_keeps (script_step s line) t (λ u e. line_keeps s u line keeps e) is
 
 pub leads_keeps : (s : Stage) (lines : List (List ℕ)) (t : Stage) → StageKeeps s → Leads s lines t → StageKeeps t
@@ -282,31 +288,32 @@ leads_keeps s (line ∷ lines) t keeps leads = leads_keeps leads.0 lines t (step
 
 -- PLANS
 
-plan_of : (s : Scripted) (b : Option Block) (p : Planned) → Keeps s → plan_or s b ≡ Some p → IsPlan p
+plan_of : (s : ScriptModel) (b : Option OpenBlock) (p : PlanModel) → Keeps s → plan_or s b ≡ Some p → IsPlan p
 plan_of s None p keeps is =
-    let e : (let q : Planned = record { heading = s.heading; programs = s.programs; schedule = s.schedule } in q) ≡ p = cc in
+    let e : (let q : PlanModel = record { heading = s.heading; programs = s.programs; schedule = s.schedule } in q) ≡ p = cc in
     subst IsPlan e (record { some = keeps.head.some; apart = keeps.head.apart.apart; programs = keeps.programs; confined = all_confined s.heading s.programs keeps.proper; version = all_had s.heading s.programs keeps.proper; schedule = keeps.schedule })
 plan_of s (Some b) p keeps is = cc
 
-plan_keeps : (t : Stage) (p : Planned) → StageKeeps t → plan_in t ≡ Some p → IsPlan p
+plan_keeps : (t : Stage) (p : PlanModel) → StageKeeps t → plan_in t ≡ Some p → IsPlan p
 plan_keeps (Reading s) p keeps is = plan_of s s.block p keeps is
 plan_keeps _ p keeps is = cc
 
--- a plan that a text comes to has groups apart, confined programs, one for each worker and of its version, and a schedule of these
-pub plans_are_confined : (bytes : List ℕ) (p : Planned) → outcome bytes ≡ Ok p → IsPlan p
+-- the plan of a text has groups apart, confined programs, one for each worker and of its version,
+-- and a schedule of these
+pub plans_are_confined : (bytes : List ℕ) (p : PlanModel) → parse_result bytes ≡ Ok p → IsPlan p
 plans_are_confined bytes p is =
     let r : IsScript bytes p = read_is_script bytes p is in
     plan_keeps r.stage p (leads_keeps Opening r.lines r.stage tt r.leads) r.plan
 
--- and so has a plan that is told of a text
-pub told_plan : (bytes : List ℕ) (result : Result Plan ScriptFault) → Tells (outcome bytes) result → IfOk result (λ plan. IsPlan (shown_plan plan))
+-- so has a plan that is returned for a text
+pub told_plan : (bytes : List ℕ) (result : Result Plan ScriptFault) → Returns (parse_result bytes) result → IfOk result (λ plan. IsPlan (shown_plan plan))
 told_plan bytes (Ok plan) tells = plans_are_confined bytes (shown_plan plan) tells
 told_plan bytes (Err f) tells = tt
 
-pub told_commands : (bytes : List ℕ) (result : Result Plan ScriptFault) → Tells (outcome bytes) result → IfOk result (λ plan. AreConfinedPrograms plan.heading.groups plan.programs.items)
+pub told_commands : (bytes : List ℕ) (result : Result Plan ScriptFault) → Returns (parse_result bytes) result → IfOk result (λ plan. AreConfinedPrograms plan.heading.groups plan.programs.items)
 told_commands bytes (Ok plan) tells = confined_lines plan.heading.groups plan.programs.items (plans_are_confined bytes (shown_plan plan) tells).confined
 told_commands bytes (Err f) tells = tt
 
-pub told_version : (bytes : List ℕ) (result : Result Plan ScriptFault) → Tells (outcome bytes) result → IfOk result (λ plan. HasPrograms plan.heading.version plan.programs.items)
+pub told_version : (bytes : List ℕ) (result : Result Plan ScriptFault) → Returns (parse_result bytes) result → IfOk result (λ plan. HasPrograms plan.heading.version plan.programs.items)
 told_version bytes (Ok plan) tells = had_lines plan.heading.version plan.programs.items (plans_are_confined bytes (shown_plan plan) tells).version
 told_version bytes (Err f) tells = tt

@@ -1,4 +1,4 @@
--- Who follows `both` follows its common semaphore as a semaphore.
+-- Workers that follow `both` follow its common semaphore as a semaphore.
 use Rattle.std.proofs.Common.{◌≡◌, ℕ, Bool, true, false, not, ◌&&◌, ◌||◌, List, [], ◌∷◌, refl, ap, sym, ◌∙◌, arith, subst, cond, ◌==◌, ◌⊎◌, inl, inr}
 use Rattle.std.proofs.lemmas.Bool.{eqb-true, eq-eqb, ne_eqb, and_parts, and_from, or_parts}
 use Rattle.ec_count.specs.Tables.{Tables, IsDeclared}
@@ -9,22 +9,22 @@ use Rattle.ec_core.specs.declared.act.Entry.{Entry}
 use Rattle.ec_core.specs.Counts.{issued}
 use Rattle.ec_core.specs.Calls.{is_pending}
 use Rattle.ec_core.specs.Acceptance.{IsAccepted}
-use Rattle.ec_core.specs.Following.{Told, Rule, block, is_right, Follow}
-use Rattle.ec_core.specs.CallLists.{is_act, number_of}
+use Rattle.ec_core.specs.Following.{CompletedCall, Rule, block, is_right, Follow}
+use Rattle.ec_core.specs.CallLists.{is_act, reply_number}
 use Rattle.ec_core.proofs.shared.Answering.{IsReading}
-use Rattle.ec_core.proofs.shared.Following.{other_block, IsTold, op_at, step_told, step_opened, step_due, is_act-true, after_told, after_pending, off_block}
+use Rattle.ec_core.proofs.shared.Following.{other_block, IsReplyTo, op_at, step_told, step_opened, step_due, is_act-true, after_told, after_pending, off_block}
 use Rattle.ec_semaphore.specs.Shapes.{Semaphore}
 use Rattle.ec_semaphore.specs.Uses.{threshold, is_on, use_rule, use_rules}
-use Rattle.ec_semaphore.specs.Both.{line_of, is_begun, both_rule, both_rules}
+use Rattle.ec_semaphore.specs.Both.{sequencer_number, is_begun, both_rule, both_rules}
 
 -- what a worker's calls of a guarded part are as calls of the common semaphore: the ticket is the beginning of a P
-abbrev used : List Told → List Told
+abbrev pub used : List CompletedCall → List CompletedCall
 used (t ∷ []) = t ∷ []
 used calls = []
 
 -- RIGHT ACTS
 
-right_off : (r : Rule) (b : List Told) (act : Act) → r.concerns b act ≡ false → is_right r b act ≡ true
+right_off : (r : Rule) (b : List CompletedCall) (act : Act) → r.concerns b act ≡ false → is_right r b act ≡ true
 right_off r b Go h = refl
 right_off r b (Advance e) h = rw h refl
 right_off r b (Read e) h = rw h refl
@@ -38,10 +38,11 @@ or_true : (b : Bool) → (b || true) ≡ true
 or_true true = refl
 or_true false = refl
 
-fits_or : (b f : Bool) → f ≡ true → (b || f) ≡ true
+pub fits_or : (b f : Bool) → f ≡ true → (b || f) ≡ true
 fits_or b f h = ap (λ x. b || x) h ∙ or_true b
 
-right_fit : (r : Rule) (b : List Told) (act : Act) → r.fits b act ≡ true → is_right r b act ≡ true
+right_fit : (r : Rule) (b : List CompletedCall) (act : Act) → r.fits b act ≡ true
+    → is_right r b act ≡ true
 right_fit r b Go h = refl
 right_fit r b (Advance e) h = fits_or _ _ h
 right_fit r b (Read e) h = fits_or _ _ h
@@ -52,7 +53,7 @@ right_fit r b (Get x) h = fits_or _ _ h
 right_fit r b (Hand e c) h = fits_or _ _ h
 
 -- an entry is right if the call that it is part of does not concern the list, or is next in it
-entry_right : (r : Rule) (b : List Told) (t : Tables) (act op : Act) → (act ≡ op) ⊎ (IsReading t op × (act ≡ Go)) → (r.concerns b op ≡ false) ⊎ (r.fits b op ≡ true) → is_right r b act ≡ true
+entry_right : (r : Rule) (b : List CompletedCall) (t : Tables) (act op : Act) → (act ≡ op) ⊎ (IsReading t op × (act ≡ Go)) → (r.concerns b op ≡ false) ⊎ (r.fits b op ≡ true) → is_right r b act ≡ true
 entry_right r b t act op (inr k) h = ap (is_right r b) k.1
 entry_right r b t act op (inl same) (inl off) = right_off r b act (ap (r.concerns b) same ∙ off)
 entry_right r b t act op (inl same) (inr fit) = right_fit r b act (ap (r.fits b) same ∙ fit)
@@ -75,69 +76,73 @@ aside c lines t x past acc off same = record {
 off_line : (c : Semaphore) (q : ℕ) (op : Act) → op ≡ Ticket q → (q == c.line) ≡ false → is_on c op ≡ false
 off_line c q op is h = ap (is_on c) is ∙ h
 
-on_step : (c : Semaphore) (lines : ℕ → Bool) (t : Tables) (x : Entry) (past : List Entry) (calls : List Told) → c.initial ≡ 1 → lines c.line ≡ false → IsAccepted t (x ∷ past)
+on_step : (c : Semaphore) (lines : ℕ → Bool) (t : Tables) (x : Entry) (past : List Entry) (calls : List CompletedCall) → c.initial ≡ 1 → lines c.line ≡ false → IsAccepted t (x ∷ past)
     → block (both_rule c lines) x.worker past ≡ calls → block (use_rule c) x.worker past ≡ used calls
-    → (is_begun calls || is_on c (op_at x past)) ≡ true → (both_rule c lines).fits calls (op_at x past) ≡ true → IsTold t past (op_at x past) x.reply → IsSame c lines x past
-on_step c lines t x past [] one apart acc at held on due told =
-    let P : Act → Type 0 = λ a. IsTold t past a x.reply in
+    → (is_begun calls || is_on c (op_at x past)) ≡ true → (both_rule c lines).fits calls (op_at x past) ≡ true → IsReplyTo t past (op_at x past) x.reply → IsSame c lines x past
+on_step c lines t x past [] one apart acc at held on due returned =
+    let P : Act → Type 0 = λ a. IsReplyTo t past a x.reply in
     let due_op = (and_parts (is_act (Ticket c.line) (op_at x past)) true due).0 in
     let op : op_at x past ≡ Ticket c.line = sym (is_act-true (Ticket c.line) (op_at x past) due_op) in
-    let reply : x.reply ≡ Number (issued c.line past) = subst P op told in
+    let reply : x.reply ≡ Number (issued c.line past) = subst P op returned in
     let done : is_pending x.reply ≡ false = ap is_pending reply in
     let on_c : is_on c (Ticket c.line) ≡ true = eq-eqb c.line c.line refl in
     let fit : (use_rule c).fits [] (Ticket c.line) ≡ true = ap (λ b. b || false) (eq-eqb c.line c.line refl) in
-    let n : Told = record { op = Ticket c.line; reply = x.reply } in
+    let n : CompletedCall = record { op = Ticket c.line; reply = x.reply } in
     let both : block (both_rule c lines) x.worker (x ∷ past) ≡ n ∷ [] = after_told (both_rule c lines) x past [] (Ticket c.line) at op on_c done in
     let mine : block (use_rule c) x.worker (x ∷ past) ≡ n ∷ [] = after_told (use_rule c) x past [] (Ticket c.line) held op on_c done in
     record {
       right = entry_right (use_rule c) (block (use_rule c) x.worker past) t x.act (op_at x past) (step_opened t x past acc) (inr (ap (λ b. (use_rule c).fits b (op_at x past)) held ∙ ap ((use_rule c).fits []) op ∙ fit));
       own = mine ∙ sym (ap used both);
     }
-on_step c lines t x past (u ∷ []) one apart acc at held on due told =
-    let P : Act → Type 0 = λ a. IsTold t past a x.reply in
-    let due_op = (and_parts (is_act (Await c.count (number_of u.reply)) (op_at x past)) true due).0 in
-    let op : op_at x past ≡ Await c.count (number_of u.reply) = sym (is_act-true (Await c.count (number_of u.reply)) (op_at x past) due_op) in
-    let level : threshold c (number_of u.reply) ≡ number_of u.reply = omega arith in
-    let on_c : is_on c (Await c.count (number_of u.reply)) ≡ true = eq-eqb c.count c.count refl in
-    let fit : (use_rule c).fits (u ∷ []) (Await c.count (number_of u.reply)) ≡ true =
-    ap (λ b. b || false) (and_from (c.count == c.count) (threshold c (number_of u.reply) == number_of u.reply) (eq-eqb c.count c.count refl) (eq-eqb (threshold c (number_of u.reply)) (number_of u.reply) level)) in
+on_step c lines t x past (u ∷ []) one apart acc at held on due returned =
+    let P : Act → Type 0 = λ a. IsReplyTo t past a x.reply in
+    let due_op = (and_parts (is_act (Await c.count (reply_number u.reply)) (op_at x past)) true due).0 in
+    let op : op_at x past ≡ Await c.count (reply_number u.reply) = sym (is_act-true (Await c.count (reply_number u.reply)) (op_at x past) due_op) in
+    let level : threshold c (reply_number u.reply) ≡ reply_number u.reply = omega arith in
+    let on_c : is_on c (Await c.count (reply_number u.reply)) ≡ true =
+    eq-eqb c.count c.count refl in
+    let fit : (use_rule c).fits (u ∷ []) (Await c.count (reply_number u.reply)) ≡ true =
+    ap (λ b. b || false) (and_from (c.count == c.count) (threshold c (reply_number u.reply) == reply_number u.reply) (eq-eqb c.count c.count refl) (eq-eqb (threshold c (reply_number u.reply)) (reply_number u.reply) level)) in
     let right = entry_right (use_rule c) (block (use_rule c) x.worker past) t x.act (op_at x past) (step_opened t x past acc) (inr (ap (λ b. (use_rule c).fits b (op_at x past)) held ∙ ap ((use_rule c).fits (u ∷ [])) op ∙ fit)) in
-    elim (subst P op told) [
+    elim (subst P op returned) [
       | inl pending ↦ record { right = right; own = after_pending (use_rule c) x past pending ∙ held ∙ sym (ap used (after_pending (both_rule c lines) x past pending ∙ at)) }
       | inr k ↦
           (let done : is_pending x.reply ≡ false = ap is_pending k.3 in
-          let n : Told = record { op = Await c.count (number_of u.reply); reply = x.reply } in
-          let both : block (both_rule c lines) x.worker (x ∷ past) ≡ u ∷ n ∷ [] = after_told (both_rule c lines) x past (u ∷ []) (Await c.count (number_of u.reply)) at op refl done in
-          let mine : block (use_rule c) x.worker (x ∷ past) ≡ [] = after_told (use_rule c) x past (u ∷ []) (Await c.count (number_of u.reply)) held op on_c done in
+          let n : CompletedCall =
+          record { op = Await c.count (reply_number u.reply); reply = x.reply } in
+          let both : block (both_rule c lines) x.worker (x ∷ past) ≡ u ∷ n ∷ [] = after_told (both_rule c lines) x past (u ∷ []) (Await c.count (reply_number u.reply)) at op refl done in
+          let mine : block (use_rule c) x.worker (x ∷ past) ≡ [] = after_told (use_rule c) x past (u ∷ []) (Await c.count (reply_number u.reply)) held op on_c done in
           record { right = right; own = mine ∙ sym (ap used both) })
     ]
-on_step c lines t x past (u ∷ a ∷ []) one apart acc at held on due told =
-    let P : Act → Type 0 = λ z. IsTold t past z x.reply in
-    let q = line_of (op_at x past) in
-    let ok = and_parts (is_act (Ticket (line_of (op_at x past))) (op_at x past)) (lines (line_of (op_at x past))) due in
-    let op : op_at x past ≡ Ticket (line_of (op_at x past)) = sym (is_act-true (Ticket (line_of (op_at x past))) (op_at x past) ok.0) in
-    let reply : x.reply ≡ Number (issued (line_of (op_at x past)) past) = subst P op told in
-    let other : (line_of (op_at x past) == c.line) ≡ false = ne_eqb (line_of (op_at x past)) c.line (λ e. (let no_line : lines (line_of (op_at x past)) ≡ false = ap lines e ∙ apart in let yes : lines (line_of (op_at x past)) ≡ true = ok.1 in cc)) in
+on_step c lines t x past (u ∷ a ∷ []) one apart acc at held on due returned =
+    let P : Act → Type 0 = λ z. IsReplyTo t past z x.reply in
+    let q = sequencer_number (op_at x past) in
+    let ok = and_parts (is_act (Ticket (sequencer_number (op_at x past))) (op_at x past)) (lines (sequencer_number (op_at x past))) due in
+    let op : op_at x past ≡ Ticket (sequencer_number (op_at x past)) = sym (is_act-true (Ticket (sequencer_number (op_at x past))) (op_at x past) ok.0) in
+    let reply : x.reply ≡ Number (issued (sequencer_number (op_at x past)) past) =
+    subst P op returned in
+    let other : (sequencer_number (op_at x past) == c.line) ≡ false = ne_eqb (sequencer_number (op_at x past)) c.line (λ e. (let no_line : lines (sequencer_number (op_at x past)) ≡ false = ap lines e ∙ apart in let yes : lines (sequencer_number (op_at x past)) ≡ true = ok.1 in cc)) in
     let both = after_told (both_rule c lines) x past (u ∷ a ∷ []) (op_at x past) at refl refl (ap is_pending reply) in
-    aside c lines t x past acc (off_line c (line_of (op_at x past)) (op_at x past) op other) (held ∙ sym (ap used both))
-on_step c lines t x past (u ∷ a ∷ r ∷ []) one apart acc at held on due told =
-    let P : Act → Type 0 = λ z. IsTold t past z x.reply in
-    let due_parts = and_parts (is_act (Ticket (line_of (op_at x past))) (op_at x past)) (lines (line_of (op_at x past)) && not (line_of r.op == line_of (op_at x past))) due in
-    let ok = and_parts (lines (line_of (op_at x past))) (not (line_of r.op == line_of (op_at x past))) due_parts.1 in
-    let op : op_at x past ≡ Ticket (line_of (op_at x past)) = sym (is_act-true (Ticket (line_of (op_at x past))) (op_at x past) due_parts.0) in
-    let reply : x.reply ≡ Number (issued (line_of (op_at x past)) past) = subst P op told in
-    let other : (line_of (op_at x past) == c.line) ≡ false = ne_eqb (line_of (op_at x past)) c.line (λ e. (let no_line : lines (line_of (op_at x past)) ≡ false = ap lines e ∙ apart in let yes : lines (line_of (op_at x past)) ≡ true = ok.0 in cc)) in
+    aside c lines t x past acc (off_line c (sequencer_number (op_at x past)) (op_at x past) op other) (held ∙ sym (ap used both))
+on_step c lines t x past (u ∷ a ∷ r ∷ []) one apart acc at held on due returned =
+    let P : Act → Type 0 = λ z. IsReplyTo t past z x.reply in
+    let due_parts = and_parts (is_act (Ticket (sequencer_number (op_at x past))) (op_at x past)) (lines (sequencer_number (op_at x past)) && not (sequencer_number r.op == sequencer_number (op_at x past))) due in
+    let ok = and_parts (lines (sequencer_number (op_at x past))) (not (sequencer_number r.op == sequencer_number (op_at x past))) due_parts.1 in
+    let op : op_at x past ≡ Ticket (sequencer_number (op_at x past)) = sym (is_act-true (Ticket (sequencer_number (op_at x past))) (op_at x past) due_parts.0) in
+    let reply : x.reply ≡ Number (issued (sequencer_number (op_at x past)) past) =
+    subst P op returned in
+    let other : (sequencer_number (op_at x past) == c.line) ≡ false = ne_eqb (sequencer_number (op_at x past)) c.line (λ e. (let no_line : lines (sequencer_number (op_at x past)) ≡ false = ap lines e ∙ apart in let yes : lines (sequencer_number (op_at x past)) ≡ true = ok.0 in cc)) in
     let both = after_told (both_rule c lines) x past (u ∷ a ∷ r ∷ []) (op_at x past) at refl refl (ap is_pending reply) in
-    aside c lines t x past acc (off_line c (line_of (op_at x past)) (op_at x past) op other) (held ∙ sym (ap used both))
-on_step c lines t x past (u ∷ a ∷ r ∷ s ∷ []) one apart acc at held on due told =
-    let P : Act → Type 0 = λ a. IsTold t past a x.reply in
+    aside c lines t x past acc (off_line c (sequencer_number (op_at x past)) (op_at x past) op other) (held ∙ sym (ap used both))
+on_step c lines t x past (u ∷ a ∷ r ∷ s ∷ []) one apart acc at held on due returned =
+    let P : Act → Type 0 = λ a. IsReplyTo t past a x.reply in
     let due_op = (and_parts (is_act (Advance c.count) (op_at x past)) true due).0 in
     let op : op_at x past ≡ Advance c.count = sym (is_act-true (Advance c.count) (op_at x past) due_op) in
-    let reply : x.reply ≡ Done = subst P op told in
+    let reply : x.reply ≡ Done = subst P op returned in
     let done : is_pending x.reply ≡ false = ap is_pending reply in
     let on_c : is_on c (Advance c.count) ≡ true = eq-eqb c.count c.count refl in
     let fit : (use_rule c).fits [] (Advance c.count) ≡ true = eq-eqb c.count c.count refl in
-    let n : Told = record { op = Advance c.count; reply = x.reply } in
+    let n : CompletedCall = record { op = Advance c.count; reply = x.reply } in
     let both : block (both_rule c lines) x.worker (x ∷ past) ≡ [] = after_told (both_rule c lines) x past (u ∷ a ∷ r ∷ s ∷ []) (Advance c.count) at op refl done in
     let mine : block (use_rule c) x.worker (x ∷ past) ≡ [] =
     after_told (use_rule c) x past [] (Advance c.count) held op on_c done ∙ ap (λ b. cond b [] (n ∷ [])) (eq-eqb c.count c.count refl) in
@@ -145,9 +150,9 @@ on_step c lines t x past (u ∷ a ∷ r ∷ s ∷ []) one apart acc at held on d
       right = entry_right (use_rule c) (block (use_rule c) x.worker past) t x.act (op_at x past) (step_opened t x past acc) (inr (ap (λ b. (use_rule c).fits b (op_at x past)) held ∙ ap ((use_rule c).fits []) op ∙ fit));
       own = mine ∙ sym (ap used both);
     }
-on_step c lines t x past (u ∷ a ∷ r ∷ s ∷ v ∷ rest) one apart acc at held on due told = cc
+on_step c lines t x past (u ∷ a ∷ r ∷ s ∷ v ∷ rest) one apart acc at held on due returned = cc
 
-outside : (calls : List Told) → is_begun calls ≡ false → calls ≡ []
+pub outside : (calls : List CompletedCall) → is_begun calls ≡ false → calls ≡ []
 outside [] h = refl
 outside (t ∷ rest) h = cc
 
@@ -182,6 +187,7 @@ implied c lines t (x ∷ past) one apart dec acc f =
           ] refl;
     }
 
--- an accepted history that follows `both` follows its common semaphore, of initial value 1 and not among the lines
+-- an accepted history that follows `both` follows its common semaphore, of initial value 1 and not
+-- among the other sequencers
 pub both_implies_use : (c : Semaphore) (lines : ℕ → Bool) (t : Tables) (past : List Entry) → c.initial ≡ 1 → lines c.line ≡ false → IsDeclared t → IsAccepted t past → Follow (both_rules c lines) past → Follow (use_rules c) past
 both_implies_use c lines t past one apart dec acc f = (implied c lines t past one apart dec acc f).follow

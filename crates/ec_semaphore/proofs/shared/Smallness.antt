@@ -4,7 +4,7 @@ use Rattle.ec_count.specs.Tables.{Tables, IsDeclared, signallers}
 use Rattle.ec_count.proofs.shared.Declared.{few_signallers}
 use Rattle.ec_core.specs.declared.act.Entry.{Entry}
 use Rattle.ec_core.specs.Counts.{total, component_total, sum_to}
-use Rattle.ec_core.specs.Rounds.{width}
+use Rattle.ec_core.specs.Rounds.{component_count}
 use Rattle.ec_core.specs.Acceptance.{IsAccepted}
 use Rattle.ec_core.proofs.shared.Bounds.{component_within}
 use Rattle.ec_core.proofs.shared.Totals.{total_is}
@@ -21,7 +21,7 @@ sum_within f m (suc n) h =
 pub total_small : (t : Tables) (e : ℕ) (past : List Entry) → IsDeclared t → IsAccepted t past → total e past < 2 ^ 53
 total_small t e past dec acc =
     let least : (c : ℕ) → component_total t e c past < 2 ^ 48 = λ c. (let k = component_within t e c past acc in let limit : t.limit < 2 ^ 48 = dec.limit.1 in omega arith) in
-    let sum : sum_to (λ c. component_total t e c past) (width t e) ≤ width t e * 2 ^ 48 = sum_within (λ c. component_total t e c past) (2 ^ 48) (width t e) least in
+    let sum : sum_to (λ c. component_total t e c past) (component_count t e) ≤ component_count t e * 2 ^ 48 = sum_within (λ c. component_total t e c past) (2 ^ 48) (component_count t e) least in
     let few : length (signallers t e) ≤ 16 = few_signallers t e dec in
-    let is : sum_to (λ c. component_total t e c past) (width t e) ≡ total e past = total_is t e past acc in
+    let is : sum_to (λ c. component_total t e c past) (component_count t e) ≡ total e past = total_is t e past acc in
     omega arith

@@ -12,9 +12,3 @@ still_declared s old new users k d = record { count = k.events _ _ d.count; line
 -- a semaphore that is declared stays so if more is declared
 pub semaphores_stay : SemaphoresStay
 semaphores_stay s old new k f = (f.0, still_declared s old new f.0 k f.1)
-
--- what was declared before a semaphore stays declared
-pub keeps_semaphore : (t : Tables) (users : List ℕ) → KeepsObjects t (with_semaphore t users)
-keeps_semaphore t users =
-    let one = with_fixed_event t users users in
-    keeps_then t one _ (keeps_fixed_event t users users) (keeps_sequencer one users)

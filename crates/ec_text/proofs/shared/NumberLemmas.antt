@@ -11,7 +11,7 @@ use Rattle.std.proofs.lemmas.List.Elements.{All-from_get_or}
 use Rattle.std.proofs.lemmas.Slice.Eq.{bytes_eq-Decides}
 use Rattle.std.proofs.lemmas.List.{drop_all}
 use Rattle.std.proofs.Math.Nat.{pow-succ', pow-le-pow_right}
-use Rattle.ec_text.specs.Words.{digits_from, number_of, has_form, is_number_form, value_from, IsWord}
+use Rattle.ec_text.specs.Words.{digits_from, number_in_word, has_form, is_number_form, value_from, IsWord}
 
 pub digits_from_step : (n i : ℕ) (word : List ℕ) → i < length word → digits_from n (drop i word) ≡ cond (is_ascii_digit (get_or word i 0) && ltb n 100000000000000000) (digits_from (10 * n + (get_or word i 0 - 48)) (drop (i + 1) word)) None
 unfolding digits_from
@@ -30,7 +30,7 @@ pub guarded : {X : Type 0} (b : Bool) (x : Option X) (m : X) → cond b x None �
 guarded true x m e = (refl, e)
 guarded false x m e = cc
 
--- the test for digits alone, and the number that they spell, mean what they mean in std
+-- the test whether all bytes are digits, and the number that they spell, are those of std
 pub own : IsNumeralModel (λ ds. all_ascii_digits ds ≡ true) (value_from 0)
 own = numerals_by_fold _ (search rules) value_from (search rules)
 
@@ -38,7 +38,7 @@ value_from-ge : (n : ℕ) (w : List ℕ) → n ≤ value_from n w
 value_from-ge n [] = omega arith
 value_from-ge n (c ∷ w) = omega (arith, value_from-ge (10 * n + (c - 48)) w)
 
--- what is read is spelled so
+-- what is read is digits that spell it
 pub reads : (n m : ℕ) (w : List ℕ) → n < 1000000000000000000 → digits_from n w ≡ Some m → (all_ascii_digits w ≡ true) × (m ≡ value_from n w) × (m < 1000000000000000000)
 unfolding digits_from
 reads n m [] small e = let same : m ≡ n = cc in (refl, same, omega arith)
@@ -50,7 +50,7 @@ reads n m (c ∷ w) small e =
     let r = reads (10 * n + (c - 48)) m w (omega arith) g.1 in
     (and_from _ _ p.0 r.0, r.1, r.2)
 
--- what is spelled so is read
+-- digits that spell a number below 10 ^ 18 are read as it
 pub spelled : (n : ℕ) (w : List ℕ) → all_ascii_digits w ≡ true → value_from n w < 1000000000000000000 → digits_from n w ≡ Some (value_from n w)
 unfolding digits_from
 spelled n [] d small = refl
@@ -69,7 +69,7 @@ has_form_parts w e = elim (or_cases (eqb (length w) 1) (ltb 0 (length w) && not 
 ]
 
 -- a word that is read as a number is the digits of that number, which is below 10 ^ 18
-pub number_takes : (w : List ℕ) (n : ℕ) → number_of w ≡ Some n → (w ≡ decimal n) × (n < 1000000000000000000)
+pub number_takes : (w : List ℕ) (n : ℕ) → number_in_word w ≡ Some n → (w ≡ decimal n) × (n < 1000000000000000000)
 number_takes w n e =
     let g = guarded (has_form w) _ n e in
     let r = reads 0 n w (omega arith) g.1 in
@@ -92,7 +92,7 @@ has_form_decimal n small = elim (cases_lt 0 n) [
 ]
 
 -- the digits of a number below 10 ^ 18 are read as that number
-pub number_again : (n : ℕ) → n < 1000000000000000000 → number_of (decimal n) ≡ Some n
+pub number_again : (n : ℕ) → n < 1000000000000000000 → number_in_word (decimal n) ≡ Some n
 number_again n small =
     let d : all_ascii_digits (decimal n) ≡ true = digits_decimal own n (omega arith) in
     let v : value_from 0 (decimal n) ≡ n = digits_value-decimal own n (omega arith) in
@@ -103,7 +103,7 @@ all_digits-list_all [] = refl
 all_digits-list_all (c ∷ w) = ap (λ (b : Bool). is_ascii_digit c && b) (all_digits-list_all w)
 
 -- a word that is read as a number has the form of one, and at most 18 digits
-pub number_is_form : (w : List ℕ) (n : ℕ) → number_of w ≡ Some n → (is_number_form w ≡ true) × (length w ≤ 18)
+pub number_is_form : (w : List ℕ) (n : ℕ) → number_in_word w ≡ Some n → (is_number_form w ≡ true) × (length w ≤ 18)
 number_is_form w n e =
     let g = guarded (has_form w) _ n e in
     let r = reads 0 n w (omega arith) g.1 in
@@ -126,18 +126,20 @@ digits_fit m n (c ∷ w) d small within =
     let next : 10 ^ suc m ≡ 10 * 10 ^ m = pow-succ' 10 m in
     rw (p.0, l) (digits_fit (suc m) (10 * n + (c - 48)) w p.1 (omega (arith, next)) (omega arith))
 
-pub form_is_number : (w : List ℕ) → is_number_form w ≡ true → length w ≤ 18 → IsSome (number_of w)
+pub form_is_number : (w : List ℕ) → is_number_form w ≡ true → length w ≤ 18
+    → IsSome (number_in_word w)
 form_is_number w form short =
     let p = and_parts (has_form w) (list_all is_ascii_digit w) form in
     rw p.0 (digits_fit 0 0 w (all_digits-list_all w ∙ p.1) (omega arith) (omega arith))
 
-some_number : (w : List ℕ) (o : Option ℕ) → number_of w ≡ o → IsSome o → (is_number_form w ≡ true) × (length w ≤ 18)
+some_number : (w : List ℕ) (o : Option ℕ) → number_in_word w ≡ o → IsSome o → (is_number_form w ≡ true) × (length w ≤ 18)
 some_number w None e some = absurd (search rules)
 some_number w (Some n) e some = number_is_form w n e
 
 -- a word is a number exactly if it has the form and at most 18 digits
-pub numbers_short : (w : List ℕ) → IsSome (number_of w) ↔ ((is_number_form w ≡ true) × (length w ≤ 18))
-numbers_short w = (λ some. some_number w (number_of w) refl some, λ p. form_is_number w p.0 p.1)
+pub numbers_short : (w : List ℕ) → IsSome (number_in_word w) ↔ ((is_number_form w ≡ true) × (length w ≤ 18))
+numbers_short w =
+    (λ some. some_number w (number_in_word w) refl some, λ p. form_is_number w p.0 p.1)
 
 first_digit : (w : List ℕ) → 0 < length w → all_ascii_digits w ≡ true → is_ascii_digit (get_or w 0 0) ≡ true
 first_digit [] some d = absurd (omega arith)
@@ -147,12 +149,12 @@ always_none : (b : Bool) → let none : Option ℕ = None in cond b none none �
 always_none true = refl
 always_none false = refl
 
--- no space stands in a number
+-- a number has no space
 pub number_word : (n : ℕ) → n < 1000000000000000000 → IsWord (decimal n)
 number_word n small =
     All-from_get_or (λ b. eqb b 32 ≡ false) (decimal n) 0 (λ i h. ne_eqb _ _ (not_in_digits own (decimal n) 32 (digits_decimal own n (omega arith)) (λ r. omega arith) i h))
 
--- a word that doesn't begin with a digit, as `codes "done"`, is no number's spelling
+-- a word that doesn't begin with a digit, as `codes "done"`, is not the digits of a number
 pub number_is_other : (n : ℕ) (w : List ℕ) → n < 1000000000000000000 → is_ascii_digit (get_or w 0 0) ≡ false → bytes_eq (decimal n) w ≡ false
 number_is_other n w small other = false_from_ne_true _ (λ e.
     let same : decimal n ≡ w = (bytes_eq-Decides (decimal n) w).0 e in
@@ -160,8 +162,8 @@ number_is_other n w small other = false_from_ne_true _ (λ e.
     let both : true ≡ false = sym digit ∙ ap (λ (x : List ℕ). is_ascii_digit (get_or x 0 0)) same ∙ other in
     cc)
 
--- a word that doesn't begin with a digit is read as none
-pub no_number : (w : List ℕ) → is_ascii_digit (get_or w 0 0) ≡ false → number_of w ≡ None
+-- a word that doesn't begin with a digit is not read as a number
+pub no_number : (w : List ℕ) → is_ascii_digit (get_or w 0 0) ≡ false → number_in_word w ≡ None
 unfolding digits_from
 no_number [] other = refl
 no_number (c ∷ w) other = rw other (always_none (has_form (c ∷ w)))

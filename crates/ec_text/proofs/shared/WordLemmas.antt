@@ -52,7 +52,7 @@ pub record HasFirst (line : List ℕ) : Type 0 where
   pub others : List (List ℕ)
   pub is : words_of line ≡ first ∷ others
 
-onto_has : (b : ℕ) (parts : List (List ℕ)) → (first : List ℕ) × (others : List (List ℕ)) × (onto_first b parts ≡ first ∷ others)
+pub onto_has : (b : ℕ) (parts : List (List ℕ)) → (first : List ℕ) × (others : List (List ℕ)) × (onto_first b parts ≡ first ∷ others)
 onto_has b [] = (b ∷ [], [], refl)
 onto_has b (part ∷ parts) = (b ∷ part, parts, refl)
 
@@ -94,10 +94,10 @@ literal_word (b ∷ w) is =
     let p = and_parts (not (eqb b 32)) (list_all (λ c. not (eqb c 32)) w) is in
     All-cons (λ x. eqb x 32 ≡ false) b w (not-true _ p.0) (literal_word w p.1)
 
--- the words of a word, a space and more are that word and the words of what stands behind the space
+-- the words of a word, a space and more are that word and the words of what is after the space
 pub words_at : (w rest : List ℕ) → IsWord w → words_of (w ++ 32 ∷ rest) ≡ w ∷ words_of rest
 words_at w rest is = slice_split_at (λ b. eqb b 32) w 32 rest is refl
 
--- a word alone is a line of one word
+-- a word without a space is a line of one word
 pub words_alone : (w : List ℕ) → IsWord w → words_of w ≡ w ∷ []
 words_alone w is = slice_split_none (λ b. eqb b 32) w is

@@ -6,6 +6,6 @@ pub if_known : (a : Option (List ℕ)) (P : List ℕ → Type 0) → ((xs : List
 if_known None P all = tt
 if_known (Some xs) P all = all xs refl
 
--- and where they are these
+-- and if they are these
 pub known : (a : Option (List ℕ)) (P : List ℕ → Type 0) (xs : List ℕ) → IfSome a P → a ≡ Some xs → P xs
 known a P xs h is = (let h : IfSome (Some xs) P = subst (λ o. IfSome o P) is h in h)

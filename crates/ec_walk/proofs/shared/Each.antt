@@ -1,4 +1,4 @@
--- Lists whose elements stand for one another: one that is made from first to last, and one that is taken apart so.
+-- Lists whose elements correspond: one that is built from first to last, and one that is read so.
 use Rattle.std.proofs.Common.{◌≡◌, ℕ, suc, zero-add, add-zero, ◌+◌, ◌<◌, ◌≤◌, List, [], ◌∷◌, ◌++◌, length, Some, ap, sym, ◌∙◌, subst, arith, slice_get, below_more, length-append}
 use Rattle.std.proofs.lemmas.Option.{slice_get_within}
 use Rattle.ec_count.proofs.shared.Keeping.{still_there}
@@ -6,7 +6,7 @@ use Rattle.ec_core.proofs.shared.Joining.{get_back}
 use Rattle.ec_walk.specs.Each.{EachFrom, Each}
 
 module _ {G A : Type 0} (R : G → A → Type 0) (gs : List G) where
-  -- the first n have their own
+  -- the first n have corresponding elements
   abbrev pub EachFirst : List A → ℕ → Type 0
   EachFirst list n = (i : ℕ) → i < n → (g : G) → slice_get gs i ≡ Some g → (a : A) × (slice_get list i ≡ Some a) × R g a
 

@@ -1,10 +1,10 @@
 -- The audits of groups, one after another.
 use Rattle.std.proofs.Common.{◌≡◌, ℕ, zero, suc, ◌+◌, ◌<◌, List, [], ◌∷◌, ◌++◌, length, Some, None, refl, sym, ap, ◌∙◌, subst, arith, slice_get, ◌⊎◌, inl, inr, take, map, codes, decimal, add-one, append_assoc, append-nil, length-append}
 use Rattle.std.proofs.lemmas.List.Concat.{flat_map-append}
-use Rattle.ec_text.specs.Puts.{Puts, Outgoing}
+use Rattle.ec_text.specs.Puts.{Puts, OutputModel}
 use Rattle.ec_text.proofs.shared.PutLemmas.{puts_then}
-use Rattle.ec_heading.specs.Spelling.{text_of, ended_line}
-use Rattle.evc_engine.specs.AuditTexts.{spaced, spaced_numbers, group_word, audited_lines, groups_lines, audit_text}
+use Rattle.ec_heading.specs.Spelling.{lines_text, ended_line}
+use Rattle.evc_engine.specs.AuditTexts.{word_after_space, spaced_numbers, group_word, audited_lines, groups_lines, audit_text}
 use Rattle.evc_engine.proofs.shared.TotalLemmas.{take_next, take_past, line_put}
 use Rattle.ec_order.proofs.shared.Matching.{at_index}
 use Rattle.ec_core.proofs.shared.Joining.{last_get}
@@ -13,21 +13,21 @@ use Rattle.ec_core.specs.Audits.{IsAuditFault}
 use Rattle.ec_core.specs.declared.audit.AuditFault.{AuditFault}
 use Rattle.ec_core.specs.declared.audit.AuditFault.TheVariants as faults
 use Rattle.ec_core.specs.Following.{BreaksAt}
-use Rattle.ec_heading.specs.Headed.{Headed}
+use Rattle.ec_heading.specs.HeadingModel.{HeadingModel}
 use Rattle.ec_heading.specs.declared.group.Group.{Group}
-use Rattle.evc_engine.specs.declared.audited.Audited.{Audited}
+use Rattle.evc_engine.specs.declared.audit_result.AuditResult.{AuditResult}
 use Rattle.ec_heading.specs.Rules.{group_rules}
 use Rattle.evc_engine.specs.Audits.{IsAudited, IsNotFollowed, IsStop}
 
-module _ (h : Headed) (entries : List Entry) where
+module _ (h : HeadingModel) (entries : List Entry) where
   -- what the audits of the first groups have found
-  abbrev pub EachIsAudited : List Audited → Type 0
-  EachIsAudited found = (i : ℕ) (g : Group) (a : Audited) → slice_get h.groups i ≡ Some g → slice_get found i ≡ Some a → IsAudited h entries g a
+  abbrev pub EachIsAudited : List AuditResult → Type 0
+  EachIsAudited found = (i : ℕ) (g : Group) (a : AuditResult) → slice_get h.groups i ≡ Some g → slice_get found i ≡ Some a → IsAudited h entries g a
 
   pub none_audited : EachIsAudited []
   none_audited i g a at got = cc
 
-  pub one_more_audited : (found : List Audited) (n : ℕ) (g : Group) (a : Audited) → n ≡ length found → slice_get h.groups n ≡ Some g → EachIsAudited found → IsAudited h entries g a
+  pub one_more_audited : (found : List AuditResult) (n : ℕ) (g : Group) (a : AuditResult) → n ≡ length found → slice_get h.groups n ≡ Some g → EachIsAudited found → IsAudited h entries g a
       → EachIsAudited (found ++ a ∷ [])
   one_more_audited found n g a few is each here i g' a' at got = go (last_get found a a' i got)
     where
@@ -39,8 +39,8 @@ module _ (h : Headed) (entries : List Entry) where
           let one : g ≡ g' = cc in
           subst (λ x. IsAudited h entries x a') one (subst (λ x. IsAudited h entries g x) p.1 here)
 
-  -- the first group that is not followed
-  pub not_followed : (found : List Audited) (n : ℕ) (g : Group) (w k : ℕ) → n ≡ length found → slice_get h.groups n ≡ Some g → EachIsAudited found
+  -- the first group whose rules are broken
+  pub not_followed : (found : List AuditResult) (n : ℕ) (g : Group) (w k : ℕ) → n ≡ length found → slice_get h.groups n ≡ Some g → EachIsAudited found
       → BreaksAt (group_rules h.setup h.groups g) entries w k → IsNotFollowed h entries n w k
   not_followed found n g w k few is each breaks = record {
     group = g;
@@ -49,70 +49,72 @@ module _ (h : Headed) (entries : List Entry) where
     breaks = breaks;
   }
 
-  pub stops : (found : List Audited) (n : ℕ) (g : Group) (fault : AuditFault) → n ≡ length found → slice_get h.groups n ≡ Some g → EachIsAudited found
+  pub stops : (found : List AuditResult) (n : ℕ) (g : Group) (fault : AuditFault) → n ≡ length found → slice_get h.groups n ≡ Some g → EachIsAudited found
       → IsAuditFault (group_rules h.setup h.groups g) entries fault → IsStop h entries n fault
   stops found n g (faults.NotFollowed w k) few is each breaks = not_followed found n g w k few is each breaks
   stops found n g faults.Memory few is each breaks = tt
 
-pub audited_length : (found : List Audited) (a : Audited) (more : List Audited) → more ≡ found ++ a ∷ [] → length more ≡ length found + 1
+pub audited_length : (found : List AuditResult) (a : AuditResult) (more : List AuditResult) → more ≡ found ++ a ∷ [] → length more ≡ length found + 1
 audited_length found a more is = ap length is ∙ length-append found (a ∷ [])
 
 -- PIECES OF A TEXT
 
 -- one more line at the end
-pub line_at : {P : Type 0} (a b c : Outgoing) (f : P → List ℕ) (ps : List P) (k : ℕ) (p : P) → slice_get ps k ≡ Some p
-    → Puts a b (text_of (map f (take k ps))) → Puts b c (f p ++ 10 ∷ []) → Puts a c (text_of (map f (take (k + 1) ps)))
-line_at a b c f ps k p is before now = subst (λ l. Puts a c (text_of (map f l))) (sym (take_next ps k p is)) (line_put a b c f (take k ps) p before now)
+pub line_at : {P : Type 0} (a b c : OutputModel) (f : P → List ℕ) (ps : List P) (k : ℕ) (p : P) → slice_get ps k ≡ Some p
+    → Puts a b (lines_text (map f (take k ps))) → Puts b c (f p ++ 10 ∷ []) → Puts a c (lines_text (map f (take (k + 1) ps)))
+line_at a b c f ps k p is before now = subst (λ l. Puts a c (lines_text (map f l))) (sym (take_next ps k p is)) (line_put a b c f (take k ps) p before now)
 
 -- one more number at the end
-pub number_at : (a b c : Outgoing) (ns : List ℕ) (k n : ℕ) → slice_get ns k ≡ Some n
-    → Puts a b (spaced_numbers (take k ns)) → Puts b c (spaced (decimal n)) → Puts a c (spaced_numbers (take (k + 1) ns))
+pub number_at : (a b c : OutputModel) (ns : List ℕ) (k n : ℕ) → slice_get ns k ≡ Some n
+    → Puts a b (spaced_numbers (take k ns)) → Puts b c (word_after_space (decimal n)) → Puts a c (spaced_numbers (take (k + 1) ns))
 number_at a b c ns k n is before now =
-    (let text : spaced_numbers (take (k + 1) ns) ≡ spaced_numbers (take k ns) ++ spaced (decimal n)
-    = ap spaced_numbers (take_next ns k n is) ∙ flat_map-append (λ m. spaced (decimal m)) (take k ns) (n ∷ []) ∙ ap (λ t. spaced_numbers (take k ns) ++ t) (append-nil (spaced (decimal n))) in
+    (let text : spaced_numbers (take (k + 1) ns) ≡ spaced_numbers (take k ns)
+    ++ word_after_space (decimal n)
+    = ap spaced_numbers (take_next ns k n is) ∙ flat_map-append (λ m. word_after_space (decimal m)) (take k ns) (n ∷ []) ∙ ap (λ t. spaced_numbers (take k ns) ++ t) (append-nil (word_after_space (decimal n))) in
     subst (Puts a c) (sym text) (puts_then a b c _ _ before now))
 
--- behind the last there is none more
+-- after the last element a prefix gets no longer
 pub none_at : {A : Type 0} (xs : List A) (k : ℕ) → slice_get xs k ≡ None → take (k + 1) xs ≡ take k xs
 none_at xs k none = ap (λ n. take n xs) (add-one k) ∙ take_past xs k none
 
--- before a place of a list stand as many elements as its number says
+-- the prefix before index k of a list has k elements
 pub taken_length : {A : Type 0} (xs : List A) (k : ℕ) (x : A) → slice_get xs k ≡ Some x → length (take k xs) ≡ k
 taken_length [] k x is = cc
 taken_length (y ∷ xs) zero x is = refl
 taken_length (y ∷ xs) (suc k) x is = ap suc (taken_length xs k x is)
 
 -- the lines of one more group
-groups_next : (h : Headed) (i : ℕ) (found : List Audited) (a : Audited)
-    → text_of (groups_lines h i (found ++ a ∷ [])) ≡ text_of (groups_lines h i found) ++ text_of (audited_lines h (group_word h.names (i + length found)) a)
+groups_next : (h : HeadingModel) (i : ℕ) (found : List AuditResult) (a : AuditResult)
+    → lines_text (groups_lines h i (found ++ a ∷ [])) ≡ lines_text (groups_lines h i found) ++ lines_text (audited_lines h (group_word h.names (i + length found)) a)
 unfolding groups_lines
 groups_next h i [] a =
     (let same : i + 0 ≡ i = omega arith in
-    rw same (ap text_of (append-nil (audited_lines h (group_word h.names i) a))))
+    rw same (ap lines_text (append-nil (audited_lines h (group_word h.names i) a))))
 groups_next h i (f ∷ found) a =
     (let same : i + suc (length found) ≡ i + 1 + length found = omega arith in
     rw same (flat_map-append ended_line (audited_lines h (group_word h.names i) f) (groups_lines h (i + 1) (found ++ a ∷ []))
-    ∙ ap (λ t. text_of (audited_lines h (group_word h.names i) f) ++ t) (groups_next h (i + 1) found a)
-    ∙ sym (append_assoc (text_of (audited_lines h (group_word h.names i) f)) (text_of (groups_lines h (i + 1) found)) _)
-    ∙ ap (λ t. t ++ text_of (audited_lines h (group_word h.names (i + 1 + length found)) a)) (sym (flat_map-append ended_line (audited_lines h (group_word h.names i) f) (groups_lines h (i + 1) found)))))
+    ∙ ap (λ t. lines_text (audited_lines h (group_word h.names i) f) ++ t) (groups_next h (i + 1) found a)
+    ∙ sym (append_assoc (lines_text (audited_lines h (group_word h.names i) f)) (lines_text (groups_lines h (i + 1) found)) _)
+    ∙ ap (λ t. t ++ lines_text (audited_lines h (group_word h.names (i + 1 + length found)) a)) (sym (flat_map-append ended_line (audited_lines h (group_word h.names i) f) (groups_lines h (i + 1) found)))))
 
-pub group_put : (a b c : Outgoing) (h : Headed) (found : List Audited) (k : ℕ) (e : Audited) → slice_get found k ≡ Some e → length (take k found) ≡ k
-    → Puts a b (text_of (groups_lines h 0 (take k found))) → Puts b c (text_of (audited_lines h (group_word h.names k) e))
-    → Puts a c (text_of (groups_lines h 0 (take (k + 1) found)))
+pub group_put : (a b c : OutputModel) (h : HeadingModel) (found : List AuditResult) (k : ℕ) (e : AuditResult) → slice_get found k ≡ Some e → length (take k found) ≡ k
+    → Puts a b (lines_text (groups_lines h 0 (take k found))) → Puts b c (lines_text (audited_lines h (group_word h.names k) e))
+    → Puts a c (lines_text (groups_lines h 0 (take (k + 1) found)))
 group_put a b c h found k e is long before now =
     (let at : 0 + length (take k found) ≡ k = omega arith in
     subst (Puts a c)
-    (sym (ap (λ l. text_of (groups_lines h 0 l)) (take_next found k e is) ∙ groups_next h 0 (take k found) e
-    ∙ ap (λ n. text_of (groups_lines h 0 (take k found)) ++ text_of (audited_lines h (group_word h.names n) e)) at))
+    (sym (ap (λ l. lines_text (groups_lines h 0 l)) (take_next found k e is) ∙ groups_next h 0 (take k found) e
+    ∙ ap (λ n. lines_text (groups_lines h 0 (take k found)) ++ lines_text (audited_lines h (group_word h.names n) e)) at))
     (puts_then a b c _ _ before now))
 
-pub no_groups_put : (now : Outgoing) (h : Headed) → Puts now now (text_of (groups_lines h 0 []))
+pub no_groups_put : (now : OutputModel) (h : HeadingModel)
+    → Puts now now (lines_text (groups_lines h 0 []))
 unfolding groups_lines
 no_groups_put now h = λ first all e. rw append-nil e
 
 -- the whole text, by its parts
-pub audit_parts : (h : Headed) (found : List Audited) → audit_text h found ≡ (ended_line (codes "evc-audit 1") ++ text_of (groups_lines h 0 found)) ++ ended_line (codes "end")
+pub audit_parts : (h : HeadingModel) (found : List AuditResult) → audit_text h found ≡ (ended_line (codes "evc-audit 1") ++ lines_text (groups_lines h 0 found)) ++ ended_line (codes "end")
 unfolding audit_text
 audit_parts h found =
     flat_map-append ended_line (codes "evc-audit 1" ∷ groups_lines h 0 found) (codes "end" ∷ [])
-    ∙ ap (λ t. (ended_line (codes "evc-audit 1") ++ text_of (groups_lines h 0 found)) ++ t) (append-nil (ended_line (codes "end")))
+    ∙ ap (λ t. (ended_line (codes "evc-audit 1") ++ lines_text (groups_lines h 0 found)) ++ t) (append-nil (ended_line (codes "end")))

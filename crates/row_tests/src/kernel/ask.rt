@@ -1,5 +1,5 @@
-//! The words of a line, read as workers, objects and acts. `#3` is the id of number 3, declared or
-//! not.
+//! The words of a line, read as workers, objects and acts. `#3` is the id with number 3, which
+//! need not be declared.
 use crate::fault::Fault;
 use crate::line::Line;
 use ec_buffer::BufferShape;
@@ -10,7 +10,7 @@ use ec_heading::{Group, Heading};
 use ec_semaphore::SemaphoreShape;
 use std::alloc::Global;
 
-/// A line about a heading.
+/// A line about a header and what it declares.
 pub type Ask<'a> = Line<'a, &'a Heading>;
 
 /// Reads digits.
@@ -18,13 +18,13 @@ pub fn digits(word: &str) -> Result<u64, Fault> {
     word.parse().ok().ok_or(Fault::Line)
 }
 
-/// Reads the number behind a `#`.
+/// Reads the number after a `#`.
 fn raw(word: &str) -> Option<usize> {
     let digits = word.strip_prefix('#')?;
     digits.parse().ok()
 }
 
-/// Finds the worker of a word.
+/// Returns the worker that a word names.
 pub fn worker_of(heading: &Heading, word: &str) -> Option<WorkerId> {
     match raw(word) {
         Some(n) => WorkerId::new(n),
@@ -32,7 +32,7 @@ pub fn worker_of(heading: &Heading, word: &str) -> Option<WorkerId> {
     }
 }
 
-/// Finds the eventcount of a word.
+/// Returns the eventcount that a word names.
 pub fn event_of(heading: &Heading, word: &str) -> Option<EventId> {
     match raw(word) {
         Some(n) => EventId::new(n),
@@ -40,7 +40,7 @@ pub fn event_of(heading: &Heading, word: &str) -> Option<EventId> {
     }
 }
 
-/// Finds the sequencer of a word.
+/// Returns the sequencer that a word names.
 pub fn sequencer_of(heading: &Heading, word: &str) -> Option<SeqId> {
     match raw(word) {
         Some(n) => SeqId::new(n),
@@ -48,7 +48,7 @@ pub fn sequencer_of(heading: &Heading, word: &str) -> Option<SeqId> {
     }
 }
 
-/// Finds the cell of a word.
+/// Returns the cell that a word names.
 pub fn cell_of(heading: &Heading, word: &str) -> Option<CellId> {
     match raw(word) {
         Some(n) => CellId::new(n),
@@ -56,7 +56,7 @@ pub fn cell_of(heading: &Heading, word: &str) -> Option<CellId> {
     }
 }
 
-/// Finds `both`.
+/// Returns the group `both`, if it is declared.
 fn common(heading: &Heading) -> Option<&Group> {
     for group in heading.groups() {
         if let Group::Both(_) = group {
@@ -66,7 +66,7 @@ fn common(heading: &Heading) -> Option<&Group> {
     None
 }
 
-/// Finds the group of a name, or `both`.
+/// Returns the group that a name or `both` names.
 pub fn group_of<'a>(heading: &'a Heading, word: &str) -> Option<&'a Group> {
     if word == "both" {
         return common(heading);
@@ -77,7 +77,7 @@ pub fn group_of<'a>(heading: &'a Heading, word: &str) -> Option<&'a Group> {
     }
 }
 
-/// Finds a semaphore, or `both`.
+/// Returns the semaphore that a name or `both` names.
 pub fn semaphore_of(heading: &Heading, word: &str) -> Result<SemaphoreShape, Fault> {
     match group_of(heading, word) {
         Some(Group::Semaphore(shape) | Group::Both(shape)) => Ok(*shape),

@@ -1,4 +1,4 @@
-//! The audits of buffers, databases and semaphores.
+//! Answers lines about the audits of buffers, databases and semaphores.
 use crate::fault::Fault;
 use crate::kernel::ask::{Ask, buffer, database, semaphore, semaphore_of};
 use crate::kernel::writing::{put_object, put_worker};
@@ -9,7 +9,7 @@ use ec_database::{Accepted, versions};
 use ec_semaphore::{Pair, SemaphoreShape, balance, pairs};
 use std::alloc::Global;
 
-/// Writes whose entry is the first that breaks the lists.
+/// Writes which entry is the first that breaks the call lists, and of which worker it is.
 fn tell_break(fault: AuditFault, ask: &mut Ask<'_>) -> Result<(), Fault> {
     match fault {
         AuditFault::Memory => Err(Fault::Memory),
@@ -68,7 +68,7 @@ fn semaphores_of(alloc: Global, ask: &mut Ask<'_>) -> Result<Vec<SemaphoreShape>
     Ok(shapes)
 }
 
-/// Answers what is asked of a group, if the line asks that. The common one of `pairs` is `both`.
+/// Answers a question about a group, if the line is one. The common semaphore of `pairs` is `both`.
 pub fn answer_group(alloc: Global, run: &Run, ask: &mut Ask<'_>) -> Result<(), Fault> {
     match ask.verb {
         "deliveries" => match deliveries(alloc, run, &buffer(ask)?) {

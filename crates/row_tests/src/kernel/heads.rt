@@ -1,4 +1,4 @@
-//! What a heading is asked.
+//! Answers questions about a header.
 use crate::fault::Fault;
 use crate::kernel::ask::{
     Ask, cell, cell_of, event, event_of, group_of, sequencer_of, worker, worker_of,
@@ -21,7 +21,7 @@ fn tell_sizes(ask: &mut Ask<'_>) -> Result<(), Fault> {
     writeln!(ask.out, "{groups} groups, {declared} declarations")
 }
 
-/// Writes what the declarations stand for, in order.
+/// Writes the targets of the declarations, in order.
 fn tell_declared(ask: &mut Ask<'_>) -> Result<(), Fault> {
     for target in ask.about.declarations() {
         write_target(*target, ask.out)?;
@@ -49,7 +49,7 @@ fn tell_group(group: &Group, ask: &mut Ask<'_>) -> Result<(), Fault> {
     writeln!(ask.out, "fits: {fits}")
 }
 
-/// Returns the number that a word spells, as a worker or an object.
+/// Returns the number of the worker or the object that a word names.
 fn spelled(heading: &Heading, what: &str, word: &str) -> Option<usize> {
     Some(match what {
         "worker" => worker_of(heading, word)?.get(),
@@ -59,7 +59,7 @@ fn spelled(heading: &Heading, what: &str, word: &str) -> Option<usize> {
     })
 }
 
-/// Answers what the heading is asked of a word.
+/// Answers a question about a word of the header.
 fn answer_word(what: &str, ask: &mut Ask<'_>) -> Result<(), Fault> {
     let (heading, word) = (ask.about, ask.word());
     match what {
@@ -70,13 +70,13 @@ fn answer_word(what: &str, ask: &mut Ask<'_>) -> Result<(), Fault> {
     }
 }
 
-/// Answers what the heading is asked.
+/// Answers a question about the header.
 pub fn answer_heading(ask: &mut Ask<'_>) -> Result<(), Fault> {
     let what = ask.word();
     match what {
         "sizes" => tell_sizes(ask),
         "declared" => tell_declared(ask),
-        "has-hand" => tell(ask.about.version().has_hand(), ask.out),
+        "has-hand" => tell(ask.about.version().has_transfer(), ask.out),
         "at" => write_word(ask.about.words(), ask.size()?, ask.out),
         "named" => {
             let group = Target::Group(ask.size()?);
@@ -86,7 +86,7 @@ pub fn answer_heading(ask: &mut Ask<'_>) -> Result<(), Fault> {
     }
 }
 
-/// Writes all that a heading is asked: how many there are of each sort, and its words and names.
+/// Writes all that can be asked of a header: how many there are of each sort, and words and names.
 pub fn tell_heading(ask: &mut Ask<'_>) -> Result<(), Fault> {
     let (words, names) = (ask.about.words(), ask.about.names());
     tell_sizes(ask)?;

@@ -1,4 +1,4 @@
-//! Machines of programs, whose steps are made in a run.
+//! Answers lines about interpreters of programs, whose steps are made in a run.
 use crate::driver::answer_lines;
 use crate::fault::Fault;
 use crate::kernel::Kernel;
@@ -6,21 +6,21 @@ use crate::kernel::ask::{Ask, worker};
 use crate::kernel::stage::Stage;
 use crate::kernel::writing::{pending, tell_entry, tell_worker};
 use crate::line::{Line, tell, word};
-use crate::output::Output;
+use crate::output::TestOutput;
 use ec_core::{Act, Entry, Reply, Run, StepFault};
 use ec_count::WorkerId;
 use ec_heading::Heading;
 use ec_machine::{Machine, Outcome, Program, follows};
 use std::alloc::{AllocError, Global};
 
-/// The machines of programs, one for each worker in order.
+/// The interpreters of programs, one for each worker in order.
 #[derive(Drop)]
 pub struct Machines<'a> {
     programs: &'a [Program],
     list: Vec<Machine<'a>>,
 }
 
-/// Makes a machine of each program.
+/// Makes an interpreter of each program.
 fn machines_of<'a>(alloc: Global, programs: &'a [Program]) -> Result<Vec<Machine<'a>>, AllocError> {
     let mut list = Vec::new(alloc);
     for program in programs {
@@ -29,7 +29,7 @@ fn machines_of<'a>(alloc: Global, programs: &'a [Program]) -> Result<Vec<Machine
     Ok(list)
 }
 
-/// Makes the step that a machine asks for, and writes it.
+/// Makes the step that an interpreter asks for, and writes it.
 fn play(
     run: &mut Run,
     worker: WorkerId,
@@ -64,7 +64,7 @@ fn outcome(ask: &mut Ask<'_>) -> Result<Outcome, Fault> {
     }
 }
 
-/// Gives a machine the reply to an advance, if one is due.
+/// Gives an interpreter the reply to its next act, which has to be an advance.
 fn give(worker: WorkerId, machine: &mut Machine<'_>, ask: &mut Ask<'_>) -> Result<(), Fault> {
     let act = machine.next().ok_or(Fault::Line)?;
     let reply = Reply::Done;
@@ -75,13 +75,13 @@ fn give(worker: WorkerId, machine: &mut Machine<'_>, ask: &mut Ask<'_>) -> Resul
     tell_entry(Some(Entry { worker, act, reply }), ask)
 }
 
-/// Answers a line about a worker and its machine.
+/// Answers a line about a worker and its interpreter.
 fn answer_worker<'a>(
     heading: &'a Heading,
     stage: &mut Stage,
     machines: &mut [Machine<'_>],
     line: &'a str,
-    out: &'a mut Output,
+    out: &'a mut TestOutput,
 ) -> Result<(), Fault> {
     let ask = &mut Line::new(heading, line, out);
     let worker = worker(ask)?;
@@ -103,14 +103,14 @@ fn answer_worker<'a>(
 }
 
 impl<'a> Machines<'a> {
-    /// Answers the lines of a text by a kernel and a machine of each program.
+    /// Answers the lines of a text by a kernel and an interpreter of each program.
     pub fn answer_text(
         alloc: Global,
         kernel: &mut Kernel,
         programs: &'a [Program],
         watched: bool,
         text: &str,
-        out: &mut Output,
+        out: &mut TestOutput,
     ) -> Result<(), Fault> {
         let list = machines_of(alloc, programs)?;
         let mut machines = Machines { programs, list };
@@ -120,8 +120,8 @@ impl<'a> Machines<'a> {
         Ok(())
     }
 
-    /// Writes who is first off its program.
-    fn tell_first_off(&self, kernel: &Kernel, out: &mut Output) -> Result<(), Fault> {
+    /// Writes which worker is the first that doesn't follow its program.
+    fn tell_first_off(&self, kernel: &Kernel, out: &mut TestOutput) -> Result<(), Fault> {
         let worker = follows(kernel.parts.stage.run()?, self.programs);
         tell_worker(worker, &mut Line::new(&kernel.heading, "", out))
     }
@@ -133,7 +133,7 @@ impl<'a> Machines<'a> {
         kernel: &mut Kernel,
         line: &str,
         watched: bool,
-        out: &mut Output,
+        out: &mut TestOutput,
     ) -> Result<(), Fault> {
         match word(&mut line.split_whitespace()) {
             "follows" => self.tell_first_off(kernel, out),

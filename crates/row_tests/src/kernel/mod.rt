@@ -1,5 +1,5 @@
-//! A heading, and then a world, a run or a board on what it declares. Each line is a line of a
-//! heading, a step of a worker, or another call.
+//! Answers lines about a header, and then about a world, a run or a board on what it declares. Each
+//! line is a line of the header, a step of a worker, or another call.
 mod ask;
 mod boards;
 mod groups;
@@ -18,7 +18,7 @@ use crate::fault::Fault;
 use crate::kernel::machines::Machines;
 use crate::kernel::stage::{Parts, Stage};
 use crate::line::{Line, number, word};
-use crate::output::Output;
+use crate::output::TestOutput;
 use ec_core::{Run, World};
 use ec_count::Setup;
 use ec_heading::{HeadFault, Heading, Version};
@@ -26,17 +26,17 @@ use ec_runner::Board;
 use std::alloc::Global;
 use std::mem;
 
-/// What lines are about.
+/// A header, and what is made of it.
 #[derive(Drop)]
 pub struct Kernel {
     version: Version,
     pub heading: Heading,
-    /// An empty heading, which stands in for one that is upgraded.
+    /// An empty header, which replaces one while that is upgraded.
     spare: Option<Heading>,
     pub parts: Parts,
 }
 
-/// Makes an empty heading.
+/// Makes an empty header.
 fn empty_heading(alloc: Global, version: Version, n: u64) -> Result<Heading, Fault> {
     let limit = version.limit(n).ok_or(Fault::Line)?;
     Ok(Heading::new(alloc, version, limit)?)
@@ -52,8 +52,13 @@ fn opened(alloc: Global, what: &str, setup: Setup) -> Result<Stage, Fault> {
 }
 
 impl Kernel {
-    /// Takes a line of the heading, or one that ends it.
-    fn read_heading(&mut self, alloc: Global, line: &str, out: &mut Output) -> Result<(), Fault> {
+    /// Reads a line of the header, or one that ends it.
+    fn read_heading(
+        &mut self,
+        alloc: Global,
+        line: &str,
+        out: &mut TestOutput,
+    ) -> Result<(), Fault> {
         match line {
             "evc-trace 1" => self.version = Version::One,
             "evc-trace 2" => self.version = Version::Two,
@@ -69,14 +74,14 @@ impl Kernel {
         Ok(())
     }
 
-    /// Begins an empty heading under a limit.
+    /// Begins an empty header under a limit.
     fn begin(&mut self, alloc: Global, limit: u64) -> Result<(), Fault> {
         self.heading = empty_heading(alloc, self.version, limit)?;
         self.parts.stage = Stage::Heading;
         Ok(())
     }
 
-    /// Has the heading go to version 2, once. That takes no memory.
+    /// Upgrades the header to version 2, at most once, without an allocation.
     fn upgrade(&mut self) -> Result<(), Fault> {
         let empty = self.spare.take().ok_or(Fault::Line)?;
         let heading = mem::replace(&mut self.heading, empty);
@@ -86,7 +91,7 @@ impl Kernel {
 }
 
 impl Driver for Kernel {
-    fn answer(&mut self, alloc: Global, line: &str, out: &mut Output) -> Result<(), Fault> {
+    fn answer(&mut self, alloc: Global, line: &str, out: &mut TestOutput) -> Result<(), Fault> {
         let mut words = line.split_whitespace();
         match (word(&mut words), &self.parts.stage) {
             ("limit", _) => self.begin(alloc, number(&mut words)?),
@@ -98,7 +103,7 @@ impl Driver for Kernel {
         }
     }
 
-    fn write_all(&self, out: &mut Output) -> Result<(), Fault> {
+    fn write_all(&self, out: &mut TestOutput) -> Result<(), Fault> {
         self.parts
             .stage
             .tell(&mut Line::new(&self.heading, "", out))
@@ -106,7 +111,7 @@ impl Driver for Kernel {
 }
 
 impl Kernel {
-    /// Has nothing yet.
+    /// Begins with an empty header.
     pub fn new(alloc: Global) -> Result<Self, Fault> {
         Ok(Kernel {
             version: Version::Two,
@@ -116,13 +121,14 @@ impl Kernel {
         })
     }
 
-    /// Answers the lines of a text: those after a line `machines` by the machines of the programs.
+    /// Answers the lines of a text. Those after a line `machines` are about interpreters of the
+    /// programs.
     pub fn answer_text(
         &mut self,
         alloc: Global,
         watched: bool,
         text: &str,
-        out: &mut Output,
+        out: &mut TestOutput,
     ) -> Result<(), Fault> {
         let Some((lines, rest)) = text.split_once("\nmachines\n") else {
             return answer_lines(alloc, self, watched, text, out);

@@ -1,10 +1,10 @@
-//! The completed calls of a run, their order by points, and verdicts on orders.
+//! Answers lines about the completed calls of a run, their order by points, and verdicts on orders.
 use crate::fault::Fault;
 use crate::kernel::ask::{Ask, act, reply, worker};
 use crate::kernel::writing::{pending, put_entry, tell_entry};
 use crate::line::tell;
-use ec_core::{Calls, Entry, Run, walk};
-use ec_order::{Call, Placed, Timeline, calls, in_order, order, verify};
+use ec_core::{Entry, PendingCalls, Run, walk};
+use ec_order::{Call, Linearizer, Placed, calls, order, order_between, verify};
 use std::alloc::Global;
 
 /// Returns a call as one entry.
@@ -16,9 +16,9 @@ fn entry_of(call: &Call) -> Entry {
     }
 }
 
-/// Returns whether a timeline of the entries of a run gives these calls.
+/// Returns whether a `Linearizer` of the entries of a run gives these calls.
 fn is_timed(alloc: Global, run: &Run, placed: &[Placed]) -> Result<bool, Fault> {
-    let mut timeline = Timeline::open(alloc, run.setup())?;
+    let mut timeline = Linearizer::open(alloc, run.setup())?;
     walk(run, &mut timeline);
     let mut dated = timeline.calls()?;
     for right in placed {
@@ -30,30 +30,35 @@ fn is_timed(alloc: Global, run: &Run, placed: &[Placed]) -> Result<bool, Fault> 
     Ok(dated.next().is_none())
 }
 
-/// Returns whether these calls come in order, one after another.
-fn comes_in_order(alloc: Global, run: &Run, placed: &[Placed]) -> Result<bool, Fault> {
-    let mut calls = in_order(alloc, run)?;
+/// Returns whether of these calls those are given of the middle of the run that began before it, and
+/// did not end before it.
+fn has_middle(alloc: Global, run: &Run, placed: &[Placed]) -> Result<bool, Fault> {
+    let middle = run.len() / 2;
+    let found = order_between(alloc, run, middle, middle + 1)?;
+    let mut left = found.iter();
     for right in placed {
-        if calls.next() != Some(*right) {
+        let is_there = right.call.first <= middle && middle <= right.call.last;
+        if is_there && left.next() != Some(right) {
             return Ok(false);
         }
     }
-    Ok(calls.next().is_none())
+    Ok(left.next().is_none())
 }
 
-/// Writes a call at its point.
+/// Writes a call with its linearization point.
 fn tell_placed(placed: &Placed, ask: &mut Ask<'_>) -> Result<(), Fault> {
     write!(ask.out, "{} ", placed.point)?;
     tell_entry(Some(entry_of(&placed.call)), ask)
 }
 
-/// Writes a call with the places of its first step, of its last round, and of its last step.
+/// Writes a call with the positions of its first step, of its last round, and of its last step.
 fn tell_call(call: &Call, ask: &mut Ask<'_>) -> Result<(), Fault> {
     put_entry(&entry_of(call), ask)?;
     writeln!(ask.out, " at {} {} {}", call.first, call.round, call.last)
 }
 
-/// Returns what is asked for of a list: one, or all. If its size is asked, writes that alone.
+/// Returns the part of a list that a word asks for: one or all. If it asks for the size, writes
+/// only that.
 fn part_of<'a, T>(list: &'a [T], ask: &mut Ask<'_>) -> Result<&'a [T], Fault> {
     match ask.word() {
         "" => Ok(list),
@@ -70,12 +75,12 @@ fn part_of<'a, T>(list: &'a [T], ask: &mut Ask<'_>) -> Result<&'a [T], Fault> {
     }
 }
 
-/// Writes the order of a run, which three calls give.
+/// Writes the order of a run, and compares what three ways to compute it give.
 fn answer_the_order(alloc: Global, run: &Run, ask: &mut Ask<'_>) -> Result<(), Fault> {
     let placed = order(alloc, run)?;
     let placed = placed.as_slice();
-    if !comes_in_order(alloc, run, placed)? || !is_timed(alloc, run, placed)? {
-        tell("another order, call by call or by the timeline", ask.out)?;
+    if !has_middle(alloc, run, placed)? || !is_timed(alloc, run, placed)? {
+        tell("another order, of the middle or by the timeline", ask.out)?;
     }
     for one in part_of(placed, ask)? {
         tell_placed(one, ask)?;
@@ -92,10 +97,10 @@ fn answer_calls(alloc: Global, run: &Run, ask: &mut Ask<'_>) -> Result<(), Fault
     Ok(())
 }
 
-/// Writes the call that the entry at a place is part of, up to that entry.
+/// Writes the call that the entry at a position belongs to, up to that entry.
 fn answer_so_far(run: &Run, ask: &mut Ask<'_>) -> Result<(), Fault> {
     let last = ask.size()?;
-    let mut calls = Calls::new();
+    let mut calls = PendingCalls::new();
     for (place, entry) in run.entries().enumerate() {
         let call = calls.take(run.setup(), place, &entry);
         if place == last {
@@ -108,7 +113,7 @@ fn answer_so_far(run: &Run, ask: &mut Ask<'_>) -> Result<(), Fault> {
     Err(Fault::Line)
 }
 
-/// Adds a call to those that `judge` judges: `POINT FIRST ROUND LAST W ACT = REPLY`.
+/// Adds a call to those that `judge` verifies: `POINT FIRST ROUND LAST W ACT = REPLY`.
 fn add(judged: &mut Vec<Placed>, ask: &mut Ask<'_>) -> Result<(), Fault> {
     let (point, first, round, last) = (ask.size()?, ask.size()?, ask.size()?, ask.size()?);
     let (worker, op) = (worker(ask)?, act(ask)?);
@@ -127,19 +132,19 @@ fn add(judged: &mut Vec<Placed>, ask: &mut Ask<'_>) -> Result<(), Fault> {
     Ok(())
 }
 
-/// Writes the verdict on calls.
+/// Writes the verdict on calls at their points.
 fn judge(alloc: Global, run: &Run, placed: &[Placed], ask: &mut Ask<'_>) -> Result<(), Fault> {
     let verdict = verify(alloc, run, placed)?;
     writeln!(ask.out, "{verdict:?}")
 }
 
-/// Writes the verdict on the order that a run gives.
+/// Writes the verdict on the order that `order` gives of a run.
 fn judge_own(alloc: Global, run: &Run, ask: &mut Ask<'_>) -> Result<(), Fault> {
     let placed = order(alloc, run)?;
     judge(alloc, run, placed.as_slice(), ask)
 }
 
-/// Answers what is asked of the calls of a run. After `judge` none are there to be judged.
+/// Answers a question about the calls of a run. `judge` removes the calls that were added.
 pub fn answer_order(
     alloc: Global,
     run: &Run,

@@ -1,4 +1,4 @@
-//! Programs, from the commands of scripts. The bounds of a program are not looked at here.
+//! Reads programs from the commands of scripts. It does not check the bounds of a program.
 use crate::fault::Fault;
 use crate::kernel::ask::{
     Ask, buffer, cell, database, digits, event, semaphore, sequencer, worker,
@@ -10,14 +10,14 @@ use ec_machine::{Command, Program, Value, follows};
 use std::alloc::Global;
 use std::mem;
 
-/// Commands that are repeated, or those of a whole program.
+/// Commands that are repeated, or those of a complete program.
 #[derive(Drop)]
 struct Block {
     times: u64,
     commands: Vec<Command>,
 }
 
-/// The programs so far, and the blocks that are open in the one that is read.
+/// The programs so far, and the open blocks of the one that is read.
 #[derive(Drop)]
 pub struct Programs {
     open: Vec<Block>,
@@ -33,7 +33,7 @@ fn value_of(word: &str) -> Result<Value, Fault> {
     }
 }
 
-/// Reads the values of a writing.
+/// Reads the values of a `write`.
 fn values(alloc: Global, ask: &mut Ask<'_>) -> Result<Vec<Value>, Fault> {
     let mut list = Vec::new(alloc);
     for word in &mut ask.words {
@@ -52,8 +52,8 @@ fn command_on(event: EventId, ask: &mut Ask<'_>) -> Result<Command, Fault> {
     }
 }
 
-/// Reads a command that is one call, or one on semaphores. Of those that take two semaphores the
-/// common one is named first.
+/// Reads a command that is one call, or one on semaphores. `pboth` names the common semaphore
+/// first.
 fn small_command(ask: &mut Ask<'_>) -> Result<Command, Fault> {
     match ask.verb {
         "ticket" => Ok(Command::Ticket(sequencer(ask)?)),
@@ -84,7 +84,7 @@ fn command(alloc: Global, ask: &mut Ask<'_>) -> Result<Command, Fault> {
 }
 
 impl Programs {
-    /// Has no program yet.
+    /// Begins with no program.
     pub fn new(alloc: Global) -> Self {
         Programs {
             open: Vec::new(alloc),
@@ -97,7 +97,7 @@ impl Programs {
         !self.open.is_empty()
     }
 
-    /// Hands out the programs, and has none then.
+    /// Returns the programs, and leaves none.
     pub fn taken(&mut self, alloc: Global) -> Vec<Program> {
         mem::replace(&mut self.list, Vec::new(alloc))
     }
@@ -133,7 +133,7 @@ impl Programs {
         }
     }
 
-    /// Takes a line of the program that is being read.
+    /// Reads a line of the open program.
     pub fn take(&mut self, alloc: Global, ask: &mut Ask<'_>) -> Result<(), Fault> {
         match ask.verb {
             "end" => self.end(ask),
@@ -142,7 +142,7 @@ impl Programs {
         }
     }
 
-    /// Returns who is first off its program.
+    /// Returns the first worker that doesn't follow its program.
     pub fn first_off(&self, run: &Run) -> Option<WorkerId> {
         follows(run, self.list.as_slice())
     }

@@ -1,4 +1,4 @@
-//! What a run is asked.
+//! Answers questions about a run.
 ghost use Rattle.std.specs.Prelude.{All, IsTrue};
 ghost use Rattle.ec_core.specs.Silence.{IsSilent};
 
@@ -10,7 +10,7 @@ use crate::line::tell;
 use ec_core::Run;
 use ec_count::WorkerId;
 
-/// Returns whether two runs have the same entries, also by their places.
+/// Returns whether two runs have the same entries, in sequence and by index.
 pub fn is_same(run: &Run, other: &Run) -> bool {
     for (place, entry) in run.entries().enumerate() {
         if other.entry(place) != Some(entry) {
@@ -20,7 +20,7 @@ pub fn is_same(run: &Run, other: &Run) -> bool {
     run.len() == other.len()
 }
 
-/// Returns whether each of these workers is silent.
+/// Returns whether each of these workers is read-only.
 pub fn are_silent(run: &Run, workers: &[WorkerId]) -> bool
     ensures { IsTrue result → All (λ w. IsSilent run.now.setup run.now.entries w) workers.now }
 {
@@ -40,7 +40,7 @@ fn tell_entries(run: &Run, ask: &mut Ask<'_>) -> Result<(), Fault> {
     Ok(())
 }
 
-/// Answers what is asked of a run, if the line asks that.
+/// Answers a question about a run, if the line is one.
 pub fn answer_look(run: &Run, ask: &mut Ask<'_>) -> Result<(), Fault> {
     match ask.verb {
         "length" => tell(run.len(), ask.out),
@@ -52,8 +52,7 @@ pub fn answer_look(run: &Run, ask: &mut Ask<'_>) -> Result<(), Fault> {
     }
 }
 
-/// Writes what a run is asked: how long it is, its last entry, what stands behind that, and its
-/// world.
+/// Writes what can be asked of a run: its length, its last entry, the one after it, and its world.
 pub fn tell_run(run: &Run, ask: &mut Ask<'_>) -> Result<(), Fault> {
     let many = run.len();
     tell(many, ask.out)?;

@@ -1,4 +1,4 @@
-//! What steps are made of: a world, a run or a board, and what is kept beside it.
+//! A world, a run or a board, on which steps are made, and what is kept besides it.
 use crate::fault::Fault;
 use crate::kernel::ask::{Ask, act, worker_of, workers};
 use crate::kernel::boards::{answer_board, tell_board};
@@ -17,10 +17,10 @@ use ec_order::Placed;
 use ec_runner::{Board, BoardFault};
 use std::alloc::Global;
 
-/// What steps are made of.
+/// What steps are made on.
 #[derive(Drop)]
 pub enum Stage {
-    /// The heading is read.
+    /// Nothing: the header is still read.
     Heading,
     World(World),
     Run(Run),
@@ -28,7 +28,7 @@ pub enum Stage {
 }
 
 impl Stage {
-    /// Makes a step: its reply, or the name of what it is refused for.
+    /// Makes a step, and returns its reply, or the name of the refusal.
     fn step(&mut self, worker: WorkerId, act: Act) -> Result<Result<Reply, &'static str>, Fault> {
         let refusal = match self {
             Stage::Heading => return Err(Fault::Line),
@@ -83,7 +83,7 @@ impl Stage {
     }
 }
 
-/// What lines behind a heading are about. `copy` and `without` give the rest.
+/// What lines after a header are about. `copy` and `without` set `rest`, a second run.
 #[derive(Drop)]
 pub struct Parts {
     pub stage: Stage,
@@ -94,7 +94,7 @@ pub struct Parts {
 }
 
 impl Parts {
-    /// Has nothing.
+    /// Begins before the end of the header.
     pub fn new(alloc: Global) -> Self {
         Parts {
             stage: Stage::Heading,
@@ -113,7 +113,7 @@ impl Parts {
         }
     }
 
-    /// Keeps the run without read-only workers.
+    /// Keeps a copy of the run without these workers, which have to be read-only.
     fn strike_out(&mut self, alloc: Global, ask: &mut Ask<'_>) -> Result<(), Fault> {
         let (silent, run) = (workers(alloc, ask)?, self.stage.run()?);
         if !are_silent(run, silent.as_slice()) {
@@ -123,7 +123,7 @@ impl Parts {
         Ok(())
     }
 
-    /// Asks the run that was kept.
+    /// Answers a question about the second run.
     fn ask_rest(&self, ask: &mut Ask<'_>) -> Result<(), Fault> {
         let rest = self.rest.as_ref().ok_or(Fault::Line)?;
         ask.verb = ask.word();
@@ -143,7 +143,7 @@ impl Parts {
         }
     }
 
-    /// Answers what is asked of a run, or makes another call.
+    /// Answers a question about a run, or makes another call.
     fn look(&mut self, alloc: Global, ask: &mut Ask<'_>) -> Result<(), Fault> {
         match ask.verb {
             "length" | "count" | "entries" | "entry" | "silent" => {
@@ -159,7 +159,7 @@ impl Parts {
         }
     }
 
-    /// Answers what is asked of a world or a run, or makes another call.
+    /// Answers a question about a world or a run, or makes another call.
     fn look_at(&mut self, alloc: Global, ask: &mut Ask<'_>) -> Result<(), Fault> {
         match ask.verb {
             "total" | "component" | "signaller" | "component-of" => {
@@ -170,7 +170,7 @@ impl Parts {
         }
     }
 
-    /// Answers a line behind the heading, or what the heading is asked.
+    /// Answers a line after the header, or a question about the header.
     pub fn answer(&mut self, alloc: Global, ask: &mut Ask<'_>) -> Result<(), Fault> {
         if self.programs.is_open() {
             return self.programs.take(alloc, ask);

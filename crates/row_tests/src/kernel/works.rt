@@ -1,4 +1,4 @@
-//! Procedures, which a worker goes through step by step.
+//! Answers lines about procedures, which a worker runs step by step.
 ghost use Rattle.std.specs.Prelude.{◌≤◌, IfOk};
 ghost use Rattle.ec_core.specs.declared.act.TheConstants.{VALUE_MAX};
 
@@ -31,7 +31,7 @@ pub struct Begun {
     work: Work,
 }
 
-/// Makes so many steps of a procedure, or fewer where it ends, and returns how far it came.
+/// Makes so many steps of a procedure, or fewer if it ends, and returns how far it got.
 fn go_on<P: Procedure>(
     run: &mut Run,
     worker: WorkerId,
@@ -83,7 +83,7 @@ fn value(ask: &mut Ask<'_>) -> Result<u64, Fault>
     }
 }
 
-/// Reads the writing of two values into a database of two cells.
+/// Reads a write of two values into a database of two cells.
 fn write_of(ask: &mut Ask<'_>) -> Result<Work, Fault> {
     let shape = database(ask)?;
     let (first, second) = (value(ask)?, value(ask)?);
@@ -140,7 +140,7 @@ fn begun_of(ask: &mut Ask<'_>) -> Result<Begun, Fault> {
 
 /// Writes how a snapshot has ended.
 fn tell_end(snapshot: &Snapshot, ask: &mut Ask<'_>) -> Result<(), Fault> {
-    let (version, values) = match snapshot.ended() {
+    let (version, values) = match snapshot.end() {
         None => return tell("goes on", ask.out),
         Some(SnapshotEnd::Disturbed) => return tell("disturbed", ask.out),
         Some(SnapshotEnd::Accepted(version, values)) => (version, values),
@@ -152,7 +152,7 @@ fn tell_end(snapshot: &Snapshot, ask: &mut Ask<'_>) -> Result<(), Fault> {
     tell("", ask.out)
 }
 
-/// Has the procedure at a place go on.
+/// Makes steps of the procedure at an index.
 fn go_on_at(
     works: &mut Vec<Begun>,
     run: &mut Run,
@@ -163,7 +163,7 @@ fn go_on_at(
     begun.go_on(run, steps)
 }
 
-/// Writes how the snapshot at a place has ended.
+/// Writes how the snapshot at an index has ended.
 fn ended(works: &[Begun], ask: &mut Ask<'_>) -> Result<(), Fault> {
     let place = ask.size()?;
     let begun = works.get(place).ok_or(Fault::Line)?;
@@ -174,7 +174,7 @@ fn ended(works: &[Begun], ask: &mut Ask<'_>) -> Result<(), Fault> {
 }
 
 /// Answers a line about procedures, if it is one. `begin` adds one, `go-on` makes steps of the one
-/// at a place, `turn` does so and says nothing, and `make` goes through one in at most nine steps.
+/// at an index, `turn` does so and writes nothing, and `make` runs one for at most nine steps.
 pub fn answer_works(works: &mut Vec<Begun>, run: &mut Run, ask: &mut Ask<'_>) -> Result<(), Fault> {
     match ask.verb {
         "begin" => Ok(works.push(begun_of(ask)?)?),

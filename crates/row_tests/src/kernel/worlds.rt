@@ -1,13 +1,13 @@
-//! What a world is asked, and its steps where it stands alone.
+//! Answers questions about a world, and makes calls of one that is not in a run.
 use crate::fault::Fault;
 use crate::kernel::ask::{Ask, act, cell, event, sequencer, worker};
 use crate::kernel::writing::{pending, put_entry, tell_entry, tell_reply, tell_worker};
 use crate::line::{tell, tell_if};
-use crate::output::Output;
+use crate::output::TestOutput;
 use ec_core::{Entry, Step, World};
 use ec_count::{CellId, EventId, SeqId, WorkerId};
 
-/// Writes the call of a worker that is pending: its act, the next component, and the sum so far.
+/// Writes the pending call of a worker: its act, the next component, and the sum so far.
 fn tell_pending(world: &World, worker: WorkerId, ask: &mut Ask<'_>) -> Result<(), Fault> {
     match world.under_way(worker) {
         Some(call) => {
@@ -18,7 +18,7 @@ fn tell_pending(world: &World, worker: WorkerId, ask: &mut Ask<'_>) -> Result<()
     }
 }
 
-/// Writes what is asked of an eventcount.
+/// Answers a question about an eventcount.
 pub fn answer_event(world: &World, ask: &mut Ask<'_>) -> Result<(), Fault> {
     let event = event(ask)?;
     match ask.verb {
@@ -29,7 +29,7 @@ pub fn answer_event(world: &World, ask: &mut Ask<'_>) -> Result<(), Fault> {
     }
 }
 
-/// Answers another line about a world.
+/// Answers another question about a world.
 pub fn answer_state(world: &World, ask: &mut Ask<'_>) -> Result<(), Fault> {
     match ask.verb {
         "issued" => tell_if(world.issued(sequencer(ask)?), ask.out),
@@ -41,8 +41,8 @@ pub fn answer_state(world: &World, ask: &mut Ask<'_>) -> Result<(), Fault> {
     }
 }
 
-/// Makes a call of a world that stands alone, if the line is one: `would` asks for the answer to a
-/// step, and `call` makes one that is part of a call, and writes what began that.
+/// Makes a call of a world that is not in a run, if the line is one: `would` asks for the answer to
+/// a step, and `call` makes a step, and writes the operation of its call with the reply.
 pub fn answer_world(world: &mut World, ask: &mut Ask<'_>) -> Result<(), Fault> {
     let (worker, act) = (worker(ask)?, act(ask)?);
     if ask.verb == "would" {
@@ -57,7 +57,7 @@ pub fn answer_world(world: &mut World, ask: &mut Ask<'_>) -> Result<(), Fault> {
     }
 }
 
-/// Writes all that is asked of an eventcount.
+/// Writes all that can be asked of an eventcount.
 fn tell_event(world: &World, event: EventId, ask: &mut Ask<'_>) -> Result<(), Fault> {
     tell_if(world.total(event), ask.out)?;
     for place in 0..16 {
@@ -67,8 +67,8 @@ fn tell_event(world: &World, event: EventId, ask: &mut Ask<'_>) -> Result<(), Fa
     Ok(())
 }
 
-/// Writes all that a world is asked of its objects and workers, by numbers below the most that there
-/// are of one sort.
+/// Writes all that can be asked of the objects and workers of a world, by numbers below the size of
+/// the largest table.
 pub fn tell_world(world: &World, ask: &mut Ask<'_>) -> Result<(), Fault> {
     let setup = world.setup();
     let most = setup.events().max(setup.sequencers());

@@ -1,4 +1,4 @@
-//! Workers, sequencers, replies and entries as words.
+//! Writes workers, objects, replies and entries as words.
 use crate::fault::Fault;
 use crate::kernel::ask::Ask;
 use crate::line::tell;
@@ -29,7 +29,7 @@ pub fn put_entry(entry: &Entry, ask: &mut Ask<'_>) -> Result<(), Fault> {
     Ok(ec_trace::write_entry(entry, ask.about, ask.out)?)
 }
 
-/// Returns the entry of an act that is due, or of a call that is pending.
+/// Returns an entry whose reply is pending, for an act that is due or a call that is pending.
 pub fn pending(worker: WorkerId, act: Act) -> Entry {
     Entry {
         worker,
@@ -38,7 +38,7 @@ pub fn pending(worker: WorkerId, act: Act) -> Entry {
     }
 }
 
-/// Writes a line of a worker, or `-`.
+/// Writes a line with a worker, or `-`.
 pub fn tell_worker(worker: Option<WorkerId>, ask: &mut Ask<'_>) -> Result<(), Fault> {
     if let Some(worker) = worker {
         put_worker(worker, ask)?;
@@ -47,7 +47,7 @@ pub fn tell_worker(worker: Option<WorkerId>, ask: &mut Ask<'_>) -> Result<(), Fa
     tell("-", ask.out)
 }
 
-/// Writes a line of a reply.
+/// Writes a line with a reply.
 pub fn tell_reply(reply: Reply, ask: &mut Ask<'_>) -> Result<(), Fault> {
     match reply {
         Reply::Done => tell("done", ask.out),
@@ -56,7 +56,7 @@ pub fn tell_reply(reply: Reply, ask: &mut Ask<'_>) -> Result<(), Fault> {
     }
 }
 
-/// Writes a line of an entry, or `-`.
+/// Writes a line with an entry, or `-`.
 pub fn tell_entry(entry: Option<Entry>, ask: &mut Ask<'_>) -> Result<(), Fault> {
     if let Some(entry) = entry {
         put_entry(&entry, ask)?;

@@ -1,14 +1,14 @@
-//! Lines: their words, read as numbers, ids and lists of workers, and where they are answered.
+//! Lines about declarations: their words, read as numbers, ids and lists of workers.
 use crate::fault::Fault;
 use crate::line::tell;
-use crate::output::Output;
+use crate::output::TestOutput;
 use arrayvec::ArrayVec;
 use ec_count::{CellId, EventId, SeqId, WorkerId};
 
-/// A line.
+/// A line about declarations, names, numbers or texts.
 pub type Line<'a> = crate::line::Line<'a, ()>;
 
-/// Workers, seventeen at most: one more than there may be.
+/// A list of at most seventeen workers, one more than there may be.
 pub type List = ArrayVec<WorkerId, 17>;
 
 /// Two lists of workers.
@@ -18,7 +18,7 @@ pub struct Lists {
     pub second: List,
 }
 
-/// Adds the worker of a number to a list.
+/// Adds the worker with a number to a list.
 fn add(list: &mut List, number: &str) -> Result<(), Fault> {
     let Ok(n) = number.parse() else {
         return Err(Fault::Line);
@@ -68,7 +68,7 @@ pub fn cell(line: &mut Line<'_>) -> Result<CellId, Fault> {
 }
 
 /// Writes the numbers of workers.
-pub fn tell_workers(workers: &[WorkerId], out: &mut Output) -> Result<(), Fault> {
+pub fn tell_workers(workers: &[WorkerId], out: &mut TestOutput) -> Result<(), Fault> {
     write!(out, "{}", workers.len())?;
     for worker in workers {
         write!(out, " {}", worker.get())?;

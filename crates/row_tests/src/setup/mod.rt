@@ -1,5 +1,5 @@
-//! Declarations, names, words, lists of numbers and texts. Workers and objects are numbers here, so
-//! that a list of workers can name any.
+//! Answers lines about declarations, names, words, numbers and texts. Workers and objects are
+//! written as numbers here, so that a list can also name workers that are not declared.
 mod line;
 mod naming;
 mod numbers;
@@ -11,7 +11,7 @@ mod values;
 use crate::driver::Driver;
 use crate::fault::Fault;
 use crate::line::tell;
-use crate::output::Output;
+use crate::output::TestOutput;
 use crate::setup::line::Line;
 use crate::setup::naming::{Naming, cut};
 use crate::setup::numbers::{answer_numbers, tell_numbers};
@@ -36,7 +36,7 @@ pub struct Table {
 }
 
 impl Table {
-    /// Begins with no declarations under a limit.
+    /// Begins with no declarations, under a limit.
     fn begin(&mut self, line: &mut Line<'_>) -> Result<(), Fault> {
         let Some(limit) = Limit::new(line.number()?) else {
             return tell("-", line.out);
@@ -45,8 +45,8 @@ impl Table {
         tell(self.setup.limit().get(), line.out)
     }
 
-    /// Answers a line with a text in brackets.
-    fn answer_brackets(&mut self, text: &str, out: &mut Output) -> Result<(), Fault> {
+    /// Answers a line with a text in angle brackets.
+    fn answer_brackets(&mut self, text: &str, out: &mut TestOutput) -> Result<(), Fault> {
         let (verb, text, behind) = cut(text).ok_or(Fault::Line)?;
         let line = &mut Line {
             about: (),
@@ -60,7 +60,7 @@ impl Table {
         self.texts.take(text, line)
     }
 
-    /// Answers a line without one.
+    /// Answers a line without a text in angle brackets.
     fn answer_line(&mut self, line: &mut Line<'_>) -> Result<(), Fault> {
         let is_answered = declare(&mut self.setup, line)?
             || self.shapes.declare(&mut self.setup, line)?
@@ -91,21 +91,21 @@ impl Table {
 }
 
 impl Driver for Table {
-    fn answer(&mut self, _alloc: Global, text: &str, out: &mut Output) -> Result<(), Fault> {
+    fn answer(&mut self, _alloc: Global, text: &str, out: &mut TestOutput) -> Result<(), Fault> {
         if text.contains('<') {
             return self.answer_brackets(text, out);
         }
         self.answer_line(&mut Line::new((), text, out))
     }
 
-    fn write_all(&self, out: &mut Output) -> Result<(), Fault> {
+    fn write_all(&self, out: &mut TestOutput) -> Result<(), Fault> {
         self.naming.tell(out)?;
         tell_numbers(&self.numbers, out)
     }
 }
 
 impl Table {
-    /// Has nothing yet.
+    /// Makes an empty table.
     pub fn new(alloc: Global) -> Result<Self, Fault> {
         let (naming, limit) = (Naming::new(alloc)?, Limit::new(10).unwrap());
         Ok(Table {

@@ -1,21 +1,21 @@
-//! Names and words, and what they stand for. A name or a word stands in angle brackets.
+//! Answers lines about names and words and their targets. A name or a word is in angle brackets.
 use crate::fault::Fault;
 use crate::line::{tell, tell_if};
-use crate::output::Output;
+use crate::output::TestOutput;
 use crate::setup::line::{Line, cell, event, worker};
 use crate::setup::texts::long;
 use crate::writing::{write_found, write_name, write_word};
-use ec_count::{NameFault, Names, Target, Vocabulary, WORD_MAX};
+use ec_count::{NameFault, Names, SymbolTable, Target, WORD_MAX};
 use std::alloc::Global;
 
-/// Names, and words.
+/// The names and the words of a test.
 #[derive(Drop)]
 pub struct Naming {
     names: Names,
-    words: Vocabulary,
+    words: SymbolTable,
 }
 
-/// Reads what a name or a word stands for.
+/// Reads the target of a name or a word.
 fn target(line: &mut Line<'_>) -> Result<Target, Fault> {
     match line.word() {
         "worker" => Ok(Target::Worker(worker(line)?)),
@@ -26,15 +26,15 @@ fn target(line: &mut Line<'_>) -> Result<Target, Fault> {
     }
 }
 
-/// Cuts a line into what stands before its angle brackets, in them, and behind them.
+/// Cuts a line into the parts before its angle brackets, between them, and after them.
 pub fn cut(line: &str) -> Option<(&str, &str, &str)> {
     let (before, rest) = line.split_once('<')?;
     let (text, behind) = rest.rsplit_once('>')?;
     Some((before, text, behind))
 }
 
-/// Adds a word that is not there yet.
-fn add_word(words: &mut Vocabulary, word: &[u8], target: Target) -> Result<(), Fault> {
+/// Adds a word, which must be new and not too long.
+fn add_word(words: &mut SymbolTable, word: &[u8], target: Target) -> Result<(), Fault> {
     if word.len() > WORD_MAX || words.find(word).is_some() {
         return Err(Fault::Line);
     }
@@ -43,15 +43,15 @@ fn add_word(words: &mut Vocabulary, word: &[u8], target: Target) -> Result<(), F
 }
 
 impl Naming {
-    /// Has no name and no word.
+    /// Makes empty tables.
     pub fn new(alloc: Global) -> Result<Self, Fault> {
         Ok(Naming {
             names: Names::new(alloc)?,
-            words: Vocabulary::new(alloc)?,
+            words: SymbolTable::new(alloc)?,
         })
     }
 
-    /// Adds a name, or writes why not.
+    /// Adds a name, or writes why that is not possible.
     fn add_name(&mut self, name: &str, line: &mut Line<'_>) -> Result<(), Fault> {
         match self.names.add(name, target(line)?) {
             Ok(()) => Ok(()),
@@ -60,7 +60,7 @@ impl Naming {
         }
     }
 
-    /// Answers a line with a name or a word in brackets, if it is one.
+    /// Answers a line with a name or a word in angle brackets, if it is one.
     pub fn take(&mut self, text: &str, line: &mut Line<'_>) -> Result<bool, Fault> {
         match line.verb {
             "name " => self.add_name(text, line)?,
@@ -72,7 +72,7 @@ impl Naming {
         Ok(true)
     }
 
-    /// Answers a line with a place or a length.
+    /// Answers a line with an index or a length.
     fn answer_place(&mut self, line: &mut Line<'_>) -> Result<(), Fault> {
         let n = line.size()?;
         match line.verb {
@@ -102,7 +102,7 @@ impl Naming {
     }
 
     /// Writes the names and the words, and whether each is found.
-    pub fn tell(&self, out: &mut Output) -> Result<(), Fault> {
+    pub fn tell(&self, out: &mut TestOutput) -> Result<(), Fault> {
         for place in 0..self.names.len() {
             write_name(&self.names, place, out)?;
             if let Some((name, target)) = self.names.at(place) {

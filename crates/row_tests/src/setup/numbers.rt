@@ -1,23 +1,23 @@
-//! A list of numbers.
+//! Answers lines about a list of numbers.
 use crate::fault::Fault;
 use crate::line::{tell, tell_if};
-use crate::output::Output;
+use crate::output::TestOutput;
 use crate::setup::line::Line;
 use ec_numbers::NumberList;
 
-/// Puts a number in at a place.
+/// Inserts a number at an index.
 fn put_in(list: &mut NumberList, line: &mut Line<'_>) -> Result<(), Fault> {
     let (place, number) = (line.size()?, line.number()?);
     if place > list.len() {
         return Err(Fault::Line);
     }
-    list.make_room(number)?;
+    list.reserve_for(number)?;
     list.insert(place, number);
     Ok(())
 }
 
 /// Writes how many numbers there are, and each of them.
-pub fn tell_numbers(list: &NumberList, out: &mut Output) -> Result<(), Fault> {
+pub fn tell_numbers(list: &NumberList, out: &mut TestOutput) -> Result<(), Fault> {
     write!(out, "{}:", list.len())?;
     for place in 0..list.len() {
         write!(out, " {}", list.at(place))?;

@@ -1,11 +1,11 @@
-//! Declarations by calls, and what they are asked.
+//! Answers lines that declare workers and objects by calls, and questions about declarations.
 use crate::fault::Fault;
 use crate::line::{tell, tell_if};
 use crate::setup::line::{Line, Lists, cell, event, sequencer, tell_workers, two_lists, worker};
 use crate::writing::write_sizes;
-use ec_count::{CellId, EventId, SeqId, Setup, SetupFault, joined, shares_worker};
+use ec_count::{CellId, EventId, SeqId, Setup, SetupFault, concat, shares_worker};
 
-/// Adds a worker or objects, so many if they are cells, and returns the number of the first.
+/// Adds a worker or objects, `many` if they are cells, and returns the number of the first.
 fn add(setup: &mut Setup, sort: &str, many: usize, lists: &Lists) -> Result<usize, SetupFault> {
     let (first, second) = (&lists.first, &lists.second);
     Ok(match sort {
@@ -17,7 +17,7 @@ fn add(setup: &mut Setup, sort: &str, many: usize, lists: &Lists) -> Result<usiz
     })
 }
 
-/// Adds what the line declares, if it does, and writes the number of the first, or the fault.
+/// Adds what a line declares, if it does, and writes the number of the first, or the fault.
 pub fn declare(setup: &mut Setup, line: &mut Line<'_>) -> Result<bool, Fault> {
     let verb = line.verb;
     if !["worker", "eventcount", "fixed", "sequencer", "cells"].contains(&verb) {
@@ -31,7 +31,7 @@ pub fn declare(setup: &mut Setup, line: &mut Line<'_>) -> Result<bool, Fault> {
     Ok(true)
 }
 
-/// Returns whether objects are declared for just these workers.
+/// Returns whether objects are declared for exactly these workers.
 pub fn declares(setup: &Setup, line: &mut Line<'_>) -> Result<bool, Fault> {
     match line.word() {
         "fixed" => {
@@ -63,7 +63,7 @@ fn answer_right(setup: &Setup, line: &mut Line<'_>) -> Result<(), Fault> {
     tell(is_so, line.out)
 }
 
-/// Writes what an eventcount is asked.
+/// Answers a question about an eventcount.
 fn answer_event(setup: &Setup, line: &mut Line<'_>) -> Result<(), Fault> {
     let event = event(line)?;
     match line.verb {
@@ -80,7 +80,7 @@ fn answer_event(setup: &Setup, line: &mut Line<'_>) -> Result<(), Fault> {
     }
 }
 
-/// Writes what two lists of workers have to do with each other.
+/// Answers a question about two lists of workers.
 fn answer_lists(setup: &Setup, line: &mut Line<'_>) -> Result<(), Fault> {
     let lists = two_lists(line)?;
     let (first, second) = (&lists.first, &lists.second);
@@ -88,11 +88,11 @@ fn answer_lists(setup: &Setup, line: &mut Line<'_>) -> Result<(), Fault> {
         "shares" => tell(shares_worker(first, second), line.out),
         "roles" => tell_if(setup.roles_fault(false, first, second, false), line.out),
         _ if first.len() > 16 || second.len() > 16 => Err(Fault::Line),
-        _ => tell_workers(&joined(first, second), line.out),
+        _ => tell_workers(&concat(first, second), line.out),
     }
 }
 
-/// Answers what is asked of declarations.
+/// Answers a question about declarations.
 pub fn answer_setup(setup: &Setup, line: &mut Line<'_>) -> Result<(), Fault> {
     match line.verb {
         "sizes" => {

@@ -1,7 +1,7 @@
-//! The groups that were declared last, which may be asked of other declarations too.
+//! The groups that were declared last, which can be compared with other declarations too.
 use crate::fault::Fault;
 use crate::line::tell;
-use crate::output::Output;
+use crate::output::TestOutput;
 use crate::setup::line::{Line, Lists, two_lists};
 use crate::writing::{write_buffer, write_database, write_semaphore};
 use ec_buffer::{BufferShape, declare_buffer};
@@ -39,7 +39,7 @@ impl Shapes {
         Ok(())
     }
 
-    /// Declares a group, if the line says that.
+    /// Declares a group, if the line does that.
     pub fn declare(&mut self, setup: &mut Setup, line: &mut Line<'_>) -> Result<bool, Fault> {
         let number = match line.verb {
             "buffer" | "database" | "semaphore" => line.size()?,
@@ -65,7 +65,7 @@ impl Shapes {
     }
 
     /// Writes the objects of the last group of a sort.
-    pub fn write(&self, sort: &str, out: &mut Output) -> Result<(), Fault> {
+    pub fn write(&self, sort: &str, out: &mut TestOutput) -> Result<(), Fault> {
         match sort {
             "buffer" => write_buffer(&self.buffer.ok_or(Fault::Line)?, out),
             "database" => write_database(&self.database.ok_or(Fault::Line)?, out),

@@ -1,29 +1,32 @@
-//! Lines, words, numbers and short texts. What is cut is gathered first, a piece at a time.
+//! Answers lines about the functions of `ec_text`. A text is built first, a piece at a time, and
+//! then cut.
 use crate::fault::Fault;
 use crate::line::{tell, tell_if};
-use crate::output::Output;
+use crate::output::TestOutput;
 use crate::setup::line::Line;
-use ec_text::{Decimal, Out, ShortText, cut_line, cut_word, has_blank, number, number_at_end};
+use ec_text::{
+    CachedDecimal, InlineText, Output, cut_line, cut_word, has_blank, number, number_at_end,
+};
 use std::alloc::Global;
 
-/// Bytes that were gathered, a number with its digits, and a short text.
+/// The bytes so far, a number with its digits, and a short text.
 #[derive(Drop)]
 pub struct Texts {
     bytes: Vec<u8>,
-    decimal: Decimal,
-    short: ShortText,
+    decimal: CachedDecimal,
+    short: InlineText,
 }
 
-/// As many bytes as wait before a writer.
+/// As many bytes as an output buffers.
 static WHOLE: [u8; 8192] = [b'x'; 8192];
 
-/// Returns so many of these bytes.
+/// Returns a text of so many bytes.
 pub fn long(many: usize) -> Result<&'static [u8], Fault> {
     WHOLE.as_slice().get(..many).ok_or(Fault::Line)
 }
 
 /// Writes a piece in angle brackets, or `-`.
-fn put_piece(piece: Option<&[u8]>, out: &mut Output) -> Result<(), Fault> {
+fn put_piece(piece: Option<&[u8]>, out: &mut TestOutput) -> Result<(), Fault> {
     let Some(piece) = piece else {
         write!(out, "-")?;
         return Ok(());
@@ -33,29 +36,29 @@ fn put_piece(piece: Option<&[u8]>, out: &mut Output) -> Result<(), Fault> {
     write!(out, ">")
 }
 
-/// Ends a line that was put.
-fn end(mut out: Out<'_, Output>) -> Result<(), Fault> {
+/// Ends the line of an output, and finishes it.
+fn end(mut out: Output<'_, TestOutput>) -> Result<(), Fault> {
     out.put(b"\n");
     Ok(out.finish()?)
 }
 
 impl Texts {
-    /// Has gathered nothing.
+    /// Makes empty texts.
     pub fn new(alloc: Global) -> Self {
         Texts {
             bytes: Vec::new(alloc),
-            decimal: Decimal::new(7),
-            short: ShortText::new(),
+            decimal: CachedDecimal::new(7),
+            short: InlineText::new(),
         }
     }
 
-    /// Gathers bytes.
+    /// Appends bytes.
     fn gather(&mut self, bytes: &[u8]) -> Result<(), Fault> {
         self.bytes.extend_from_slice(bytes)?;
         Ok(())
     }
 
-    /// Writes the first line, and what stands behind it.
+    /// Writes the first line, and what follows it.
     fn tell_cut_line(&self, line: &mut Line<'_>) -> Result<(), Fault> {
         let Some((first, rest)) = cut_line(self.bytes.as_slice()) else {
             return tell("-", line.out);
@@ -65,7 +68,7 @@ impl Texts {
         tell("", line.out)
     }
 
-    /// Writes the first word, what stands behind it, and whether a word is empty.
+    /// Writes the first word, what follows it, and whether a word is empty.
     fn tell_cut_word(&self, line: &mut Line<'_>) -> Result<(), Fault> {
         let bytes = self.bytes.as_slice();
         let (first, rest) = cut_word(bytes);
@@ -74,7 +77,7 @@ impl Texts {
         tell(if has_blank(bytes) { " blank" } else { "" }, line.out)
     }
 
-    /// Writes the number at the end, and the place of the space before it.
+    /// Writes the number at the end, and the position of the space before it.
     fn tell_at_end(&self, line: &mut Line<'_>) -> Result<(), Fault> {
         let Some((place, n)) = number_at_end(self.bytes.as_slice()) else {
             return tell("-", line.out);
@@ -82,10 +85,10 @@ impl Texts {
         writeln!(line.out, "{n} behind {place}")
     }
 
-    /// Sets the number, and writes its digits, as they are kept, as a number and as a kept number.
+    /// Sets the number, and writes it three times: its digits, the number, and the cached number.
     fn set(&mut self, n: u64, line: &mut Line<'_>) -> Result<(), Fault> {
         self.decimal.set(n);
-        let mut out = Out::new(line.out);
+        let mut out = Output::new(line.out);
         out.put(self.decimal.digits().bytes());
         out.put(b" ");
         out.put_number(n);
@@ -94,34 +97,34 @@ impl Texts {
         end(out)
     }
 
-    /// Writes so many bytes, the short text, and a shorter one.
+    /// Writes so many bytes, the short text, and the text `!`.
     fn put_short(&self, before: usize, line: &mut Line<'_>) -> Result<(), Fault> {
-        let mut shorter = ShortText::new();
+        let mut shorter = InlineText::new();
         let _fits = shorter.take_in(b"!");
-        let mut out = Out::new(line.out);
+        let mut out = Output::new(line.out);
         out.put(long(before)?);
         out.put_short(&self.short);
         out.put_short(&shorter);
         end(out)
     }
 
-    /// Writes so many bytes, a text, and with it the short text.
+    /// Writes so many bytes, and then a text and the short text in one call.
     fn put_with_short(&self, text: &str, line: &mut Line<'_>) -> Result<(), Fault> {
         let before = long(line.size()?)?;
-        let mut out = Out::new(line.out);
+        let mut out = Output::new(line.out);
         out.put(before);
         out.put_with_short(text.as_bytes(), &self.short);
         end(out)
     }
 
-    /// Writes a text, and with it the number.
+    /// Writes a text and the number in one call.
     fn put_with_number(&self, text: &str, line: &mut Line<'_>) -> Result<(), Fault> {
-        let mut out = Out::new(line.out);
+        let mut out = Output::new(line.out);
         out.put_with_decimal(text.as_bytes(), &self.decimal);
         end(out)
     }
 
-    /// Answers a line with a text in brackets.
+    /// Answers a line with a text in angle brackets.
     pub fn take(&mut self, text: &str, line: &mut Line<'_>) -> Result<(), Fault> {
         match line.verb {
             "gather " => self.gather(text.as_bytes()),
@@ -132,7 +135,7 @@ impl Texts {
         }
     }
 
-    /// Adds a byte.
+    /// Appends a byte.
     fn add(&mut self, n: u64) -> Result<(), Fault> {
         let Ok(byte) = u8::try_from(n) else {
             return Err(Fault::Line);
@@ -165,7 +168,7 @@ impl Texts {
         match verb {
             "clear" => self.bytes.clear(),
             "line-feed" => self.gather(b"\n")?,
-            "short" => self.short = ShortText::new(),
+            "short" => self.short = InlineText::new(),
             "byte" => self.add(line.number()?)?,
             "set" => self.set(line.number()?, line)?,
             "put-short" => self.put_short(line.size()?, line)?,

@@ -1,10 +1,10 @@
-//! Counts and ids, each by itself.
+//! Answers lines about a count or an id.
 use crate::fault::Fault;
 use crate::line::tell_if;
 use crate::setup::line::Line;
 use ec_count::{CellId, Count, EventId, Limit, SeqId, WorkerId};
 
-/// Returns the number of an id, if a number has one.
+/// Returns the number of the id that is made of a number, or `None` if there is no such id.
 fn id_of(sort: &str, n: usize) -> Option<usize> {
     Some(match sort {
         "worker" => WorkerId::new(n)?.get(),

@@ -1,22 +1,23 @@
-//! Gates made of rules, one a line: `hold a 1 after b 0` holds `a` before its step 1 until `b` has
-//! come to its step 0. `all` is each worker. With `before` in place of `after`, `b` may not have
-//! come there, for some time; with `awhile` it is looked for, and `a` goes on without it. The step
-//! behind a worker's last one is where it leaves.
+//! Scheduling hooks made of rules, one a line: `hold a 1 after b 0` delays `a` before its step 1
+//! until `b` has reached its step 0. `all` is each worker. With `before` instead of `after`, `b`
+//! must not reach that step for some time; with `awhile`, `a` waits for it for some time, and then
+//! goes on. The step after a worker's last one is where it leaves.
 use crate::fault::Fault;
 use crate::line::{Words, number, word};
-use crate::output::Output;
+use crate::output::TestOutput;
 use ec_count::WorkerId;
 use ec_heading::Heading;
 use ec_runner::Gate;
 use std::sync::atomic::{AtomicBool, AtomicU64, Ordering};
 use std::{array, thread};
 
-/// How often a gate looks before it gives up, and how often for what may not come.
+/// How often a rule `after` checks for a step before it fails.
 const LOOKS: u64 = 100_000_000;
 
+/// How often the other rules check for a step.
 const FEW_LOOKS: u64 = 2_000;
 
-/// What is looked for.
+/// What a rule requires of the other step.
 #[derive(Clone, Copy, PartialEq, Eq)]
 enum Sort {
     After,
@@ -24,7 +25,7 @@ enum Sort {
     Awhile,
 }
 
-/// A step of a worker, or of each.
+/// A step of a worker, or of each worker.
 #[derive(Clone, Copy)]
 struct Step {
     worker: Option<WorkerId>,
@@ -75,7 +76,7 @@ pub fn rule_of(heading: &Heading, words: &mut Words<'_>) -> Result<Rule, Fault> 
     Ok(Rule { held, sort, other })
 }
 
-/// A gate of rules, with how often each of so many workers was called.
+/// A gate of rules, with the number of calls for each of so many workers.
 #[derive(Drop)]
 pub struct Rules<'a> {
     list: &'a [Rule],
@@ -85,7 +86,7 @@ pub struct Rules<'a> {
 }
 
 impl<'a> Rules<'a> {
-    /// Has called nobody.
+    /// Begins with no calls.
     pub fn new(list: &'a [Rule], workers: usize) -> Self {
         Rules {
             list,
@@ -95,7 +96,7 @@ impl<'a> Rules<'a> {
         }
     }
 
-    /// Returns how often a worker was called.
+    /// Returns how often the gate was called with a worker.
     pub fn calls(&self, place: usize) -> u64 {
         match self.calls.get(place) {
             Some(calls) => calls.load(Ordering::SeqCst),
@@ -103,19 +104,19 @@ impl<'a> Rules<'a> {
         }
     }
 
-    /// Returns whether a rule was broken, or a worker called with another number than the next.
+    /// Returns whether a rule was broken, or a worker's step had another number than the next one.
     pub fn has_failed(&self) -> bool {
         self.has_failed.load(Ordering::SeqCst)
     }
 
-    /// Fails if this is not so.
+    /// Notes a failure if this is not so.
     fn hold_to(&self, is_right: bool) {
         if !is_right {
             self.has_failed.store(true, Ordering::SeqCst);
         }
     }
 
-    /// Returns whether a worker comes to a step, in so many looks.
+    /// Returns whether a worker reaches a step, within so many checks.
     fn comes(&self, place: usize, step: u64, looks: u64) -> bool {
         for _ in 0..looks {
             if self.calls(place) > step {
@@ -126,7 +127,7 @@ impl<'a> Rules<'a> {
         false
     }
 
-    /// Holds a worker by a rule on another.
+    /// Delays a worker by a rule on another.
     fn hold(&self, rule: &Rule, other: usize) {
         let step = rule.other.number;
         match rule.sort {
@@ -138,7 +139,7 @@ impl<'a> Rules<'a> {
         }
     }
 
-    /// Holds a worker by a rule on others.
+    /// Delays a worker by a rule on one or all others.
     fn hold_by(&self, rule: &Rule) {
         for other in 0..self.workers {
             if rule.other.is_of(other) {

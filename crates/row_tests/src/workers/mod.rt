@@ -1,13 +1,13 @@
-//! Runs scripts, each worker on a thread that a gate holds up, for rows of `tests/rows`.
+//! Runs scripts, each worker on a thread that a gate delays, for golden tests of `tests/rows`.
 //!
-//! The lines are a script, a line `gate`, and lines `hold ..` and `run ..`, as `gate.rt` and
-//! `running.rt` have them.
+//! The lines are a script, a line `gate`, and lines `hold ..` and `run ..`, which `gate.rt` and
+//! `running.rt` describe.
 mod gate;
 mod running;
 
 use crate::fault::Fault;
 use crate::line::word;
-use crate::output::Output;
+use crate::output::TestOutput;
 use crate::workers::gate::rule_of;
 use crate::workers::running::run;
 use ec_script::{ScriptFault, parse};
@@ -15,12 +15,12 @@ use std::alloc::Global;
 use std::sync::Wait;
 use std::thread::Threads;
 
-/// Answers a script and the lines behind it, or writes what is wrong with the script.
+/// Answers a script and the lines after it, or writes what is wrong with the script.
 pub fn answer_script<R: Threads + Wait + Sync>(
     rt: &R,
     alloc: Global,
     text: &str,
-    out: &mut Output,
+    out: &mut TestOutput,
 ) -> Result<(), Fault> {
     let (script, lines) = text.split_once("gate\n").ok_or(Fault::Line)?;
     let plan = match parse(alloc, script.as_bytes()) {

@@ -1,8 +1,8 @@
-//! `run N ..` runs the script by a gate, with N turns for each worker, and writes what the other
-//! words ask for, and last how each worker has ended.
+//! Answers a line `run N ..`: runs the script with a gate, and N turns for each worker, and writes
+//! what the other words ask for, and last how each worker has ended.
 use crate::fault::Fault;
 use crate::line::{Words, number, tell};
-use crate::output::Output;
+use crate::output::TestOutput;
 use crate::workers::gate::{Rule, Rules};
 use ec_core::{Act, Entry, Reply, Run};
 use ec_heading::Heading;
@@ -15,7 +15,7 @@ use std::sync::Wait;
 use std::thread::Threads;
 
 /// Writes all entries of a run.
-fn write_entries(heading: &Heading, run: &Run, out: &mut Output) -> Result<(), Fault> {
+fn write_entries(heading: &Heading, run: &Run, out: &mut TestOutput) -> Result<(), Fault> {
     for entry in run.entries() {
         write_entry(&entry, heading, out)?;
         writeln!(out)?;
@@ -23,8 +23,8 @@ fn write_entries(heading: &Heading, run: &Run, out: &mut Output) -> Result<(), F
     Ok(())
 }
 
-/// Writes the ticket that its worker drew last, for each advance of a run.
-fn write_turns(run: &Run, out: &mut Output) -> Result<(), Fault> {
+/// Writes, for each advance of a run, the ticket that its worker drew last.
+fn write_turns(run: &Run, out: &mut TestOutput) -> Result<(), Fault> {
     let mut drawn = [0u64; 16];
     for entry in run.entries() {
         let ticket = drawn.get_mut(entry.worker.get()).ok_or(Fault::Line)?;
@@ -38,7 +38,7 @@ fn write_turns(run: &Run, out: &mut Output) -> Result<(), Fault> {
 }
 
 /// Writes the reply at the end of each log.
-fn write_last(logs: &[Vec<Entry>], out: &mut Output) -> Result<(), Fault> {
+fn write_last(logs: &[Vec<Entry>], out: &mut TestOutput) -> Result<(), Fault> {
     for log in logs {
         match log.last() {
             Some(entry) => match entry.reply {
@@ -52,7 +52,7 @@ fn write_last(logs: &[Vec<Entry>], out: &mut Output) -> Result<(), Fault> {
 }
 
 /// Writes how often the gate was called with each of so many workers.
-fn write_calls(gate: &Rules<'_>, workers: usize, out: &mut Output) -> Result<(), Fault> {
+fn write_calls(gate: &Rules<'_>, workers: usize, out: &mut TestOutput) -> Result<(), Fault> {
     for place in 0..workers {
         writeln!(out, "called {} times", gate.calls(place))?;
     }
@@ -60,20 +60,20 @@ fn write_calls(gate: &Rules<'_>, workers: usize, out: &mut Output) -> Result<(),
 }
 
 /// Writes how each worker has ended.
-fn write_outcomes(outcomes: &[Outcome], out: &mut Output) -> Result<(), Fault> {
+fn write_outcomes(outcomes: &[Outcome], out: &mut TestOutput) -> Result<(), Fault> {
     for outcome in outcomes {
         writeln!(out, "{outcome:?}")?;
     }
     Ok(())
 }
 
-/// Writes what is asked of a report.
+/// Writes what the words ask of a report.
 fn write_report(
     plan: &Plan,
     report: &Report,
     gate: &Rules<'_>,
     words: &mut Words<'_>,
-    out: &mut Output,
+    out: &mut TestOutput,
 ) -> Result<(), Fault> {
     for word in words {
         match word {
@@ -95,7 +95,7 @@ pub fn run<R: Threads + Wait + Sync>(
     plan: &Plan,
     rules: &[Rule],
     words: &mut Words<'_>,
-    out: &mut Output,
+    out: &mut TestOutput,
 ) -> Result<(), Fault> {
     let turns = number(words)?;
     let workers = plan.programs.len();

@@ -10,7 +10,8 @@ use Rattle.calls_core.proofs.Settling.{has_order_from}
 use Rattle.calls_cells.specs.kept.Tries.{IsTry}
 use Rattle.calls_cells.specs.declared.deciding.Try.TheVariants.{Ordered, Refused, Open}
 use Rattle.calls_cells.specs.Faults.{Shows, ShowsUndecided}
-use Rattle.calls_cells.proofs.Trying.{before_end, nothing_ordered, fault_longer, some_events}
+use Rattle.calls_cells.proofs.Trying.{before_end, fault_longer, some_events}
+use Rattle.calls_distinct.proofs.Earlier.{order_of_none as nothing_ordered}
 use Rattle.calls_cells.proofs.deciding.decide_beginning.Goals.{in-Ordered, in-Open}
 use Rattle.calls_cells.proofs.deciding.decide_beginning.Goals as goal
 

@@ -1,4 +1,4 @@
--- The pass over the events, and what is made of the scan at its end.
+-- The pass over the events, and the order at its end.
 use Rattle.std.proofs.Common.{◌<◌, length, reverse, sym, arith, subst, below_more}
 use Rattle.calls_core.specs.declared.history.Kind.TheVariants.{Eventcount}
 use Rattle.calls_core.specs.declared.history.Event.{Event}

@@ -1,8 +1,8 @@
--- Each pending call in turn.
+-- The loop over the pending calls.
 use Rattle.std.proofs.Common.{List, drop, ℕ, sym, ap, ◌∙◌, subst, Vec, Global}
 use Rattle.std.proofs.lemmas.List.{take_all, drop_all}
 use Rattle.calls_counts.specs.declared.state.Slot.{Slot}
-use Rattle.calls_counts.specs.declared.state.Noted.{Noted}
+use Rattle.calls_counts.specs.declared.state.NotedCall.{NotedCall}
 use Rattle.calls_counts.specs.Scanning.{IsCompleting}
 use Rattle.calls_counts.proofs.Completing.{completing_none, moves_fill, moves_past}
 use Rattle.calls_counts.proofs.untaken.complete.Goals as goal
@@ -42,7 +42,7 @@ pub returns : goal.returns
 returns c = λ s start calls t begun reads le rise state.
     (let n = c.loop-u in
     let pending = c.args.pending.now in
-    let P : List Noted → List Noted → Type 0 = IsCompleting start c.args.end calls begun
+    let P : List NotedCall → List NotedCall → Type 0 = IsCompleting start c.args.end calls begun
     n.slots.items reads in
     subst (P pending) (drop_all n.u-index pending c.loop-u-test.false)
     (subst (λ zs. P zs (drop n.u-index pending)) (take_all n.u-index pending c.loop-u-test.false)

@@ -1,7 +1,7 @@
 use Rattle.std.proofs.Common.{ℕ, reverse, subst, sym, ap, ◌∙◌}
 use Rattle.calls_core.specs.Histories.{completed_calls, pending_calls}
 use Rattle.calls_distinct.specs.declared.zone.Group.{Group}
-use Rattle.calls_distinct.specs.declared.zone.Grouped.{Grouped}
+use Rattle.calls_distinct.specs.declared.zone.GroupedCall.{GroupedCall}
 use Rattle.calls_distinct.specs.Cells.{value}
 use Rattle.calls_distinct.specs.Outcomes.{IsRepeated}
 use Rattle.calls_distinct.specs.Verdicts.{IsVerdict}
@@ -12,10 +12,11 @@ pub returns-in-Some : goal.returns-in-Some
 returns-in-Some c =
     let past = reverse c.args.events.now in
     subst (λ (n : ℕ). IsRepeated (completed_calls past) (pending_calls past) c.value.result n)
-    (sym (ap (λ (g : Group). g.put) c.group.view_is ∙ ap (λ (z : Grouped). z.group.put)
+    (sym (ap (λ (g : Group). g.put) c.group.view_is ∙ ap (λ (z : GroupedCall). z.group.put)
     c.z.view_is))
     (history_repeats past c.args.end c.value.result c.args.zs.now c.requires.grouped c.in-Some.z.now
-    c.in-Some.ensures.0 c.in-Some.ensures.1 (c.value.ensures ∙ ap (λ (z : Grouped). value z.call)
+    c.in-Some.ensures.0 c.in-Some.ensures.1 (c.value.ensures
+    ∙ ap (λ (z : GroupedCall). value z.call)
     c.z.view_is))
 
 pub returns-in-Ordered : goal.returns-in-Ordered

@@ -7,11 +7,11 @@ use Rattle.calls_core.specs.Histories.{clock}
 use Rattle.calls_core.specs.Beginnings.{past_at}
 use Rattle.calls_core.specs.declared.history.Call.{Call}
 use Rattle.calls_distinct.specs.Groups.{AreGrouped}
-use Rattle.calls_distinct.specs.Verdicts.{IsVerdict, listed}
+use Rattle.calls_distinct.specs.Verdicts.{IsVerdict, calls_of_history}
 use Rattle.calls_distinct.proofs.Earlier.{distinct_at, store_at, clock_at, clock_is}
 use Rattle.calls_distinct.proofs.deciding.judge_beginning.Goals as goal
 
--- what is past the end of a list
+-- the default beyond the end of a list
 abbrev none : Event
 none = record { at = 0; worker = 0; action = Invoke 0 Advance }
 
@@ -37,7 +37,7 @@ returns c =
     clock_is (n - 1) n events none (omega arith) (omega arith)
     ∙ ap (λ (x : Event). x.at + 1) (sym (c.at.ensures none)) in
     let calls = c.in_ok-calls.ensures
-    ∙ ap (λ (zs : List Event). listed (reverse zs) end) c.first-beginning.ensures in
+    ∙ ap (λ (zs : List Event). calls_of_history (reverse zs) end) c.first-beginning.ensures in
     IfOk-weaker _ _ _ (λ v f. subst (λ (t : ℕ). IsVerdict (past_at n events) t v) (sym is)
     (f (past_at n events) (store_at n events c.requires.store) (omega (arith, is))
     (distinct_at n events c.requires.store c.requires.distinct)

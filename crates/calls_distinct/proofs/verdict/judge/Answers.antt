@@ -1,16 +1,16 @@
 use Rattle.std.proofs.Common.{◌∙◌, ap, sym, subst, List}
 use Rattle.calls_core.specs.Lists.{EachPair}
 use Rattle.calls_distinct.specs.declared.cell.Fault.TheVariants.{Nowhere}
-use Rattle.calls_distinct.specs.declared.zone.Grouped.{Grouped}
+use Rattle.calls_distinct.specs.declared.zone.GroupedCall.{GroupedCall}
 use Rattle.calls_distinct.specs.declared.zone.Zone.{Zone}
 use Rattle.calls_distinct.specs.Cells.{Shows}
-use Rattle.calls_distinct.specs.Zones.{KeptZones, AreCrossed, zone_calls}
+use Rattle.calls_distinct.specs.Zones.{KeepZoneOrder, AreCrossed, zone_calls}
 use Rattle.calls_distinct.proofs.Judging.{nowhere_shows, crossing_shows, order_is}
 use Rattle.calls_distinct.proofs.verdict.judge.Goals as goal
 
 pub returns-in-Some : goal.returns-in-Some
 returns-in-Some c = λ past h le distinct grouped.
-    subst (λ (z : Grouped). Shows past (Nowhere z.call)) (sym c.z.view_is)
+    subst (λ (z : GroupedCall). Shows past (Nowhere z.call)) (sym c.z.view_is)
     (nowhere_shows past c.args.end h le distinct c.args.zs.now grouped c.in-Some.z.now
     c.in-Some.ensures.0 c.in-Some.ensures.1)
 
@@ -27,5 +27,5 @@ pub returns : goal.returns
 returns c = λ past h le distinct grouped.
     order_is past c.args.end h le distinct c.args.zs.now grouped c.in_default.ensures
     c.in_ok-order.order.items c.in_ok-order.ensures.moved c.in_ok-order.ensures.sorted
-    (subst (EachPair KeptZones) c.deref.ensures.value c.in-None.ensures) _
+    (subst (EachPair KeepZoneOrder) c.deref.ensures.value c.in-None.ensures) _
     (c.in_ok-calls_of-in-None.ensures ∙ ap zone_calls c.deref-in-None.ensures.value)

@@ -1,17 +1,17 @@
 use Rattle.std.proofs.Common.{sym, subst}
 use Rattle.ec_trace.proofs.shared.KnownInputs.{if_known, known}
-use Rattle.evc_engine.specs.Checks.{Outlets}
+use Rattle.evc_engine.specs.Checks.{Outputs}
 use Rattle.calls_extract.specs.Extracts.{Extracts}
 use Rattle.calls_extract.proofs.Ends.{unread_so, stays}
 use Rattle.calls_extract.proofs.extracting.extract_calls.Goals as goal
 
 pub returns-in-Err-clause-ends : goal.returns-in-Err-clause-ends
 returns-in-Err-clause-ends g c = if_known (g.R.Read.remaining c.args.reader.now) _ (λ bytes is.
-    let old : Outlets = record {
+    let old : Outputs = record {
       out = g.W.Write.contents c.args.out.now;
       notes = c.args.notes.now;
     } in
-    let new : Outlets = record {
+    let new : Outputs = record {
       out = g.W.Write.contents c.args.out.now;
       notes = c.note_unread.new.notes;
     } in

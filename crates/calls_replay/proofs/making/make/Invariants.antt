@@ -1,5 +1,5 @@
 use Rattle.std.proofs.Common.{◌≡◌, true, reverse}
-use Rattle.calls_kernel.specs.Seen.{is_call}
+use Rattle.calls_kernel.specs.Outside.{is_call}
 use Rattle.calls_replay.specs.kept.Going.{IsFree, Goes}
 use Rattle.calls_replay.proofs.making.make.Given as goal
 

@@ -1,7 +1,7 @@
 use Rattle.std.proofs.Common.{◌≡◌, [], List, reverse, take, refl, sym, ap, ◌∙◌, subst}
 use Rattle.ec_count.specs.Tables.{Tables}
 use Rattle.ec_core.specs.declared.act.Entry.{Entry}
-use Rattle.ec_core.specs.Recorded.{Recorded}
+use Rattle.ec_core.specs.RunModel.{RunModel}
 use Rattle.calls_replay.specs.kept.Going.{AreMadeIn}
 use Rattle.calls_replay.specs.Made.{made_of}
 use Rattle.calls_replay.proofs.Rows.{nothing_made, one_more}
@@ -9,8 +9,8 @@ use Rattle.calls_replay.proofs.making.replay.Goals as goal
 
 pub loop-index-init : goal.loop-index-init
 loop-index-init c =
-    let none : c.in-Ok.run'.entries ≡ [] = ap (λ (r : Recorded). r.entries) c.in-Ok.ensures in (
-      ap (λ (r : Recorded). r.setup) c.in-Ok.ensures ∙ c.copy.ensures ∙ c.setup.ensures,
+    let none : c.in-Ok.run'.entries ≡ [] = ap (λ (r : RunModel). r.entries) c.in-Ok.ensures in (
+      ap (λ (r : RunModel). r.setup) c.in-Ok.ensures ∙ c.copy.ensures ∙ c.setup.ensures,
       subst (λ (es : List Entry). AreMadeIn c.args.heading.now.setup [] (reverse es)) (sym none)
           (nothing_made c.args.heading.now.setup),
     )

@@ -7,8 +7,8 @@ use Rattle.calls_replay.proofs.replaying.replay_read.Goals as goal
 pub returns-in-Some-clause-ends : goal.returns-in-Some-clause-ends
 returns-in-Some-clause-ends g c =
     is_hindered c.args.read.now.number c.args.read.now.recording c.args.read.now.rest.now
-    (g.W.Write.contents c.args.out.now) c.args.notes.now c.say_obstacle.new.notes
-    c.in-Some.obstacle c.in-Some.ensures.some c.say_obstacle.ensures.puts
+    (g.W.Write.contents c.args.out.now) c.args.notes.now c.report_obstacle.new.notes
+    c.in-Some.obstacle c.in-Some.ensures.some c.report_obstacle.ensures.puts
 
 pub returns-in-Ok-clause-ends : goal.returns-in-Ok-clause-ends
 returns-in-Ok-clause-ends g c =

@@ -1,7 +1,7 @@
 use Rattle.std.proofs.Common.{sym, subst}
 use Rattle.calls_report.specs.declared.status.Status.{Status}
-use Rattle.calls_report.specs.Checks.{Outlets}
-use Rattle.calls_text.specs.Outcomes.{OneRead, parts_of}
+use Rattle.calls_report.specs.Checks.{Outputs}
+use Rattle.calls_text.specs.Outcomes.{OneRead, lines_of_text}
 use Rattle.calls_replay.specs.Replays.{ReplaysText}
 use Rattle.calls_replay.proofs.Ends.{text_replayed, text_unread}
 use Rattle.calls_replay.proofs.replaying.replay_text.Goals as goal
@@ -11,7 +11,7 @@ replay_read-requires g c =
     let read : OneRead = record {
       recorded = c.in-Ok.read.recording;
       number = c.in-Ok.read.number;
-      rest = parts_of c.in-Ok.read.rest.now;
+      rest = lines_of_text c.in-Ok.read.rest.now;
     } in
     (c.read_is_spelled.ensures c.args.text.now 1 read c.in-Ok.ensures.tells).keeps
 
@@ -26,8 +26,8 @@ returns-in-Ok-clause-ends g c =
 pub returns-in-Err-clause-ends : goal.returns-in-Err-clause-ends
 returns-in-Err-clause-ends g c =
     let out = g.W.Write.contents c.args.out.now in
-    let old : Outlets = record { out = out; notes = c.args.notes.now } in
-    let new : Outlets = record { out = out; notes = c.note_unread.new.notes } in
+    let old : Outputs = record { out = out; notes = c.args.notes.now } in
+    let new : Outputs = record { out = out; notes = c.note_unread.new.notes } in
     subst (λ (s : Status). ReplaysText s c.args.text.now old new) (sym c.note_unread.ensures.status)
     (text_unread c.args.text.now out c.args.notes.now c.note_unread.new.notes c.in-Err.fault
     c.in-Err.ensures.tells c.note_unread.ensures.puts)

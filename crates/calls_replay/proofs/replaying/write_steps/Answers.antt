@@ -8,21 +8,21 @@ pub returns-in-Ok-write_trace-clause-ends : goal.returns-in-Ok-write_trace-claus
 returns-in-Ok-write_trace-clause-ends g c =
     all_written c.args.read.now.recording c.args.order.now c.in-Ok.run'
     c.heading-heading.result.now c.heading-heading.ensures c.requires c.in-Ok.ensures.setup
-    c.known.ensures.accepted c.in-Ok.ensures.made
+    c.invariant.ensures.accepted c.in-Ok.ensures.made
     (record { out = g.W.Write.contents c.args.out.now; notes = c.args.notes.now })
     (record {
       out = g.W.Write.contents c.write_trace.new.writer;
-      notes = c.say_left_out.new.notes;
+      notes = c.report_left_out.new.notes;
     })
     c.in-Ok-write_trace.ensures.ok
-    (subst (λ (n : ℕ). Puts c.args.notes.now c.say_left_out.new.notes (left_note n))
-    c.left_out.ensures c.say_left_out.ensures.puts)
+    (subst (λ (n : ℕ). Puts c.args.notes.now c.report_left_out.new.notes (left_note n))
+    c.left_out.ensures c.report_left_out.ensures.puts)
 
 pub returns-clause-ends : goal.returns-clause-ends
 returns-clause-ends g c =
     part_written c.args.read.now.recording c.args.order.now c.in-Ok.run'
     c.heading-heading.result.now c.heading-heading.ensures c.requires c.in-Ok.ensures.setup
-    c.known.ensures.accepted c.in-Ok.ensures.made
+    c.invariant.ensures.accepted c.in-Ok.ensures.made
     (record { out = g.W.Write.contents c.args.out.now; notes = c.args.notes.now })
     (record {
       out = g.W.Write.contents c.write_trace.new.writer;

@@ -1,6 +1,6 @@
 use Rattle.std.proofs.Common.{◌<◌, ◌≤◌, ◌+◌, sym, subst, arith, rules}
-use Rattle.ec_text.specs.Puts.{Outgoing}
-use Rattle.calls_text.specs.Outcomes.{OneRead, parts_of}
+use Rattle.ec_text.specs.Puts.{OutputModel}
+use Rattle.calls_text.specs.Outcomes.{OneRead, lines_of_text}
 use Rattle.calls_report.specs.declared.status.Status.{Status}
 use Rattle.calls_report.specs.kept.Judging.{Judges, IsJudgedSoFar}
 use Rattle.calls_report.proofs.JudgingLemmas.{judges_unread, judges_stopped, judges_all}
@@ -22,14 +22,14 @@ returns-in-Err-judge-clause-judges g c =
     let o : OneRead = record {
       recorded = c.in-Ok.read.recording;
       number = c.in-Ok.read.number;
-      rest = parts_of c.in-Ok.read.rest.now;
+      rest = lines_of_text c.in-Ok.read.rest.now;
     } in
     subst (λ (s : Status). Judges s c.args.text.now c.args.out.now c.judge.new.out c.args.notes.now
     c.end_by.new.notes) (sym c.end_by.ensures.status)
     (judges_stopped c.args.text.now c.loop-read.number c.loop-read.rest.now c.args.out.now
     c.judge.new.out c.args.notes.now c.loop-read.notes c.judge.new.notes c.end_by.new.notes o
     c.in-Err-judge.stop
-    (subst (λ (k : Outgoing). IsJudgedSoFar c.args.text.now c.loop-read.number c.loop-read.rest.now
+    (subst (λ (k : OutputModel). IsJudgedSoFar c.args.text.now c.loop-read.number c.loop-read.rest.now
     c.args.out.now k c.args.notes.now c.loop-read.notes) (sym c.in-Err-judge.ensures.none)
     c.loop-read.invariant.judged)
     c.in-Ok.ensures.tells c.in-Err-judge.ensures.stop c.end_by.ensures.notes)
@@ -41,10 +41,10 @@ returns-in-Err-judge-clause-written g c = λ written.
 pub returns-then-is_empty-clause-judges : goal.returns-then-is_empty-clause-judges
 returns-then-is_empty-clause-judges g c =
     let more : c.loop-read.number + 1 ≤ c.in-Ok.read.number =
-    goes_past c.loop-read.number (parts_of c.loop-read.rest.now) (record {
+    goes_past c.loop-read.number (lines_of_text c.loop-read.rest.now) (record {
       recorded = c.in-Ok.read.recording;
       number = c.in-Ok.read.number;
-      rest = parts_of c.in-Ok.read.rest.now;
+      rest = lines_of_text c.in-Ok.read.rest.now;
     }) c.in-Ok.ensures.tells in
     let past : 1 < c.in-Ok.read.number = omega (arith, more, c.loop-read.invariant.first) in
     judges_all c.args.text.now c.in-Ok.read.number c.in-Ok.read.rest.now c.args.out.now
@@ -58,10 +58,10 @@ returns-then-is_empty-clause-judges g c =
 pub loop-read-preserved : goal.loop-read-preserved
 loop-read-preserved g c =
     let more : c.loop-read.number + 1 ≤ c.in-Ok.read.number =
-    goes_past c.loop-read.number (parts_of c.loop-read.rest.now) (record {
+    goes_past c.loop-read.number (lines_of_text c.loop-read.rest.now) (record {
       recorded = c.in-Ok.read.recording;
       number = c.in-Ok.read.number;
-      rest = parts_of c.in-Ok.read.rest.now;
+      rest = lines_of_text c.in-Ok.read.rest.now;
     }) c.in-Ok.ensures.tells in
     record {
       judged = so_far_more c.args.text.now c.loop-read.number c.loop-read.rest.now c.args.out.now

@@ -5,4 +5,4 @@ use Rattle.calls_report.proofs.refusal.put_can.Goals as goal
 pub returns : goal.returns
 returns g c =
     subst (λ n. Puts c.args.out.now c.put_with_number.new.out
-    (codes " can have drawn 0 to " ++ decimal n)) c.number_of.ensures c.put_with_number.ensures
+    (codes " can have drawn 0 to " ++ decimal n)) c.ticket_number.ensures c.put_with_number.ensures

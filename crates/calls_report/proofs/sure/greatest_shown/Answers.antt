@@ -21,6 +21,6 @@ loop-event-preserved c =
           (sym c.events-events.ensures) c.kinds-kinds.ensures.history)
           (c.requires ∙ ap (λ (es : List Event). pending_calls (reverse es))
           (sym c.events-events.ensures))
-          left (c.deref.ensures.value ∙ c.loop-event.invariant.calls) c.completed.ensures.call
-          c.completed.ensures.at c.loop-event.invariant.greatest c.in_ok-greatest.ensures;
+          left (c.deref.ensures.value ∙ c.loop-event.invariant.calls) c.completed_call.ensures.call
+          c.completed_call.ensures.at c.loop-event.invariant.greatest c.in_ok-greatest.ensures;
     }

@@ -42,7 +42,7 @@ returns-in-Some c =
 pub returns : goal.returns
 returns c =
     subst (IsOrderOf (Semaphores c.args.units.now) (reverse c.args.events.now) c.args.end)
-    (sym (c.in_ok-placed.ensures ∙ c.deref.ensures.value))
+    (sym (c.in_ok-place_calls.ensures ∙ c.deref.ensures.value))
     (held_whole c.args.units.now c.args.events.now c.args.end c.requires.history c.requires.end
     c.loop-i.scan c.loop-i.invariant.end c.loop-i.i
     (omega (arith, c.loop-i-test.false, c.len-i-end.ensures)) c.loop-i.invariant.holds)

@@ -1,13 +1,13 @@
 use Rattle.std.proofs.Common.{ap, ◌∙◌}
 use Rattle.calls_serial.specs.declared.stage.Stage.{Stage}
-use Rattle.calls_serial.specs.kept.Stages.{held, with_get}
+use Rattle.calls_serial.specs.kept.Stages.{stage_view, with_get}
 use Rattle.calls_serial.proofs.Finding.{pushed}
 use Rattle.calls_serial.proofs.changes.add_get.Goals as goal
 
 pub returns : goal.returns
-returns c front h back e is =
+returns c prefix h back e is =
     (let s = c.index_mut.result.now in
-    pushed c.args.stages.now.items front h back c.args.i c.args.get _ s e is
+    pushed c.args.stages.now.items prefix h back c.args.i c.args.get _ s e is
     (ap (λ gets. record {
       put = s.put;
       value = s.value;
@@ -16,4 +16,4 @@ returns c front h back e is =
       gets = gets;
     })
     c.in_ok-push.ensures.items
-    ∙ ap (λ (z : Stage). with_get c.args.get (held z)) c.index_mut.ensures.value))
+    ∙ ap (λ (z : Stage). with_get c.args.get (stage_view z)) c.index_mut.ensures.value))

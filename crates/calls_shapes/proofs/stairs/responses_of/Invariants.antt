@@ -6,6 +6,6 @@ use Rattle.calls_shapes.proofs.stairs.responses_of.Given as goal
 abbrev pub invariant-loop-event : goal.invariant-loop-event
 invariant-loop-event l = record {
   pending : l.pending.items ≡ pending_calls (reverse (take l.event-index l.events));
-  positions : l.positions.items ≡ responses_in l.course.counted l.course.portion
+  positions : l.positions.items ≡ responses_in l.span.counted l.span.portion
       (take l.event-index l.events);
 }

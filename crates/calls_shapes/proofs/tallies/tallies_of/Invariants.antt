@@ -1,13 +1,13 @@
 use Rattle.std.proofs.Common.{◌≡◌, ℕ, ◌<◌, ◌≤◌, Some, slice_get, length, count_by, reverse, take}
 use Rattle.calls_core.specs.Histories.{pending_calls, completed_calls}
-use Rattle.calls_shapes.specs.Tallies.{calls_counted, is_counted, tally_at}
+use Rattle.calls_shapes.specs.Tallies.{invokes_counted_call, is_counted, tally_at}
 use Rattle.calls_shapes.proofs.tallies.tallies_of.Given as goal
 
--- the tallies so far are there, and the next one is known
+-- the tallies of the moments so far are in the list, and tally is the next one
 abbrev pub invariant-loop-event : goal.invariant-loop-event
 invariant-loop-event l = record {
   pending : l.pending.items ≡ pending_calls (reverse (take l.event-index l.events));
-  called : l.tally.called ≡ count_by (calls_counted l.counted) (take l.event-index l.events);
+  called : l.tally.called ≡ count_by (invokes_counted_call l.counted) (take l.event-index l.events);
   returned : l.tally.returned ≡ count_by (is_counted l.counted) (completed_calls
       (reverse (take l.event-index l.events)));
   few : l.tally.called ≤ l.event-index;

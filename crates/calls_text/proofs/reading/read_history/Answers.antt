@@ -1,8 +1,8 @@
 use Rattle.std.proofs.Common.{◌≡◌, ◌+◌, length, arith, subst, sym, ◌∙◌, refl}
-use Rattle.calls_text.specs.Outcomes.{TellsFault, goes, parts_of}
+use Rattle.calls_text.specs.Outcomes.{ReturnsFault, parse_from, lines_of_text}
 use Rattle.calls_text.specs.Reading.{is_ended}
 use Rattle.calls_text.specs.Reading as reading
-use Rattle.calls_text.specs.kept.Stages.{seen}
+use Rattle.calls_text.specs.kept.Stages.{stage_with_all}
 use Rattle.calls_text.proofs.Lines.{goes_on, fails_line, shorter, never, then_shorter, then_numbers}
 use Rattle.calls_text.proofs.reading.read_history.Goals as goal
 
@@ -28,9 +28,9 @@ returns-in_default-clause-numbers c =
 
 pub returns-in-Err-clause-tells : goal.returns-in-Err-clause-tells
 returns-in-Err-clause-tells c =
-    subst (TellsFault (goes c.args.number reading.Opening (parts_of c.args.text.now)))
+    subst (ReturnsFault (parse_from c.args.number reading.Opening (lines_of_text c.args.text.now)))
     (sym c.fault_at.ensures)
-    (fails_line c.loop-rest.at (seen c.loop-rest.stage) c.in-Some.line.now c.in-Some.behind.now
+    (fails_line c.loop-rest.at (stage_with_all c.loop-rest.stage) c.in-Some.line.now c.in-Some.behind.now
     c.loop-rest.rest.now _ c.in-Err.fault (sym c.is_ended.ensures ∙ c.loop-rest-test.true)
     c.in-Some.ensures.plain c.in-Some.ensures.whole c.loop-rest.invariant.goes c.in-Err.ensures)
 
@@ -43,7 +43,7 @@ loop-rest-preserved c =
       number = omega arith;
       within = omega arith;
       shorter = λ e. omega arith;
-      goes = goes_on c.loop-rest.at (seen c.loop-rest.stage) (seen c.take.new.self) c.in-Some.line.now
+      goes = goes_on c.loop-rest.at (stage_with_all c.loop-rest.stage) (stage_with_all c.take.new.self) c.in-Some.line.now
           c.in-Some.behind.now c.loop-rest.rest.now _
           (sym c.is_ended.ensures ∙ c.loop-rest-test.true) c.in-Some.ensures.plain
           c.in-Some.ensures.whole c.loop-rest.invariant.goes c.in_default-take.ensures.0;

@@ -2,7 +2,8 @@ use Rattle.std.proofs.Common.{reverse, subst, sym, IfOk}
 use Rattle.calls_core.specs.declared.history.Kind.{Kind}
 use Rattle.calls_core.specs.Histories.{IsHistoryOf}
 use Rattle.calls_verdict.specs.Verdicts.{IsDecision}
-use Rattle.calls_verdict.proofs.Databases.{cell_history, database_decision}
+use Rattle.calls_verdict.proofs.Databases.{database_decision}
+use Rattle.calls_serial.proofs.Databases.{history as cell_history}
 use Rattle.calls_verdict.proofs.objects.decide_object.Goals as goal
 
 pub decide_cell-requires-in-Database-clause-history :

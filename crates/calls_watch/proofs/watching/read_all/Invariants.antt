@@ -2,7 +2,7 @@ use Rattle.std.proofs.Common.{◌≡◌, ℕ, List, Option, length}
 use Rattle.calls_watch.specs.kept.Watching.{FedFrom}
 use Rattle.calls_watch.proofs.watching.read_all.Given as goal
 
--- the pieces so far were taken
+-- the pieces so far were fed
 abbrev pub invariant-pieces : goal.invariant-pieces
 invariant-pieces g l = record {
   len : length l.table.items ≡ 8192;

@@ -1,5 +1,5 @@
 use Rattle.std.proofs.Common.{Err, refl, subst}
-use Rattle.calls_watch.specs.declared.watching.Cut.{Cut}
+use Rattle.calls_watch.specs.declared.watching.EarlyEnd.{EarlyEnd}
 use Rattle.calls_watch.specs.kept.Endings.{ReadsAll}
 use Rattle.calls_watch.proofs.EndLemmas.{fed_first, over_known, stop_known}
 use Rattle.calls_watch.proofs.watching.watch.Goals as goal
@@ -17,11 +17,11 @@ returns-in-Ok-clause-ends g c =
 pub returns-clause-ends : goal.returns-clause-ends
 returns-clause-ends g c =
     stop_known (g.R.Read.remaining c.args.reader.now) c.read_all.new.feeder c.in-Err-Stop.stop
-    c.say_stop.result
+    c.report_stop.result
     (record { out = g.W.Write.contents c.args.out.now; notes = c.args.notes.now })
-    (record { out = g.W.Write.contents c.args.out.now; notes = c.say_stop.new.notes }) refl
-    (subst (λ (cut : Cut). ReadsAll (g.R.Read.remaining c.args.reader.now) (Err cut)
+    (record { out = g.W.Write.contents c.args.out.now; notes = c.report_stop.new.notes }) refl
+    (subst (λ (cut : EarlyEnd). ReadsAll (g.R.Read.remaining c.args.reader.now) (Err cut)
     c.read_all.new.feeder) c.in-Err-Stop.field-0-is
     (c.in-Err-Stop.ensures (g.R.Read.remaining c.args.reader.now)
     (fed_first (g.R.Read.remaining c.args.reader.now) c.new-feeder.result c.new-feeder.ensures)))
-    c.say_stop.ensures.says
+    c.report_stop.ensures.says

@@ -8,14 +8,14 @@ use Rattle.ec_buffer.proofs.shape.add_buffer.Goals as goal
 pub unwrap-in_count-requires : goal.unwrap-in_count-requires
 unwrap-in_count-requires c =
     let free = free_of c.args.setup.now c.args.n c.args.produce.now c.args.consume.now c.requires.declared c.requires.free in
-    let both = c.as_slice.ensures.value ∙ c.joined-both.ensures in
+    let both = c.as_slice.ensures.value ∙ c.concat-both.ensures in
     ok_of _ (c.add_fixed_event.ensures.fault ∙ ap (λ (ws : List ℕ). event_fault c.args.setup.now c.args.produce.now ws) both ∙ free.in_count)
 
 pub unwrap-out_count-requires : goal.unwrap-out_count-requires
 unwrap-out_count-requires c =
     let free = free_of c.args.setup.now c.args.n c.args.produce.now c.args.consume.now c.requires.declared c.requires.free in
-    let both = c.as_slice.ensures.value ∙ c.joined-both.ensures in
-    let again = c.as_slice-2.ensures.value ∙ c.joined-both.ensures in
+    let both = c.as_slice.ensures.value ∙ c.concat-both.ensures in
+    let again = c.as_slice-2.ensures.value ∙ c.concat-both.ensures in
     let first : c.add_fixed_event.new.self ≡ with_fixed_event c.args.setup.now c.args.produce.now (c.args.produce.now ++ c.args.consume.now) =
     result_of c.add_fixed_event.result c.unwrap-in_count.result c.unwrap-in_count.ensures c.add_fixed_event.ensures.ok ∙ ap (λ (ws : List ℕ). with_fixed_event c.args.setup.now c.args.produce.now ws) both in
     ok_of _ (c.add_fixed_event-2.ensures.fault ∙ ap (λ (ws : List ℕ). event_fault c.add_fixed_event.new.self c.args.consume.now ws) again ∙ ap (λ (t : Tables). event_fault t c.args.consume.now (c.args.produce.now ++ c.args.consume.now)) first ∙ free.out_count)

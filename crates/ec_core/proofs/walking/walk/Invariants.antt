@@ -1,5 +1,5 @@
 use Rattle.std.proofs.Common.{◌≡◌, ◌++◌, reverse, length}
-use Rattle.ec_core.specs.Ongoing.{AreCalls}
+use Rattle.ec_core.specs.PendingCalls.{AreCalls}
 use Rattle.ec_core.proofs.walking.walk.Given as goal
 
 abbrev pub invariant-loop-entry : goal.invariant-loop-entry
@@ -7,5 +7,5 @@ invariant-loop-entry g l = record {
   place : l.place ≡ length l.yielded;
   order : l.yielded ++ l.entry-iterator ≡ l.run.entries;
   calls : AreCalls l.run.setup l.calls (reverse l.yielded);
-  stands : g.A.Audit.stands l.initial.audit l.audit (reverse l.yielded);
+  represents : g.A.Audit.represents l.initial.audit l.audit (reverse l.yielded);
 }

@@ -8,7 +8,7 @@ use Rattle.ec_database.proofs.shape.add_database.Goals as goal
 pub unwrap-done-requires : goal.unwrap-done-requires
 unwrap-done-requires c =
     let free = free_of c.args.setup.now c.args.n c.args.write.now c.args.read.now c.requires.declared c.requires.free in
-    let both = c.as_slice.ensures.value ∙ c.joined-both.ensures in
+    let both = c.as_slice.ensures.value ∙ c.concat-both.ensures in
     let first : c.add_fixed_event.new.self ≡ with_fixed_event c.args.setup.now c.args.write.now c.args.read.now = result_of c.add_fixed_event.result c.unwrap-start.result c.unwrap-start.ensures c.add_fixed_event.ensures.ok in
     ok_of _ (c.add_fixed_event-2.ensures.fault ∙ ap (λ (ws : List ℕ). event_fault c.add_fixed_event.new.self c.args.write.now ws) both
     ∙ ap (λ (t : Tables). event_fault t c.args.write.now (c.args.write.now ++ c.args.read.now)) first ∙ free.done)

@@ -7,7 +7,7 @@ use Rattle.ec_buffer.specs.Laws.{IsFollowed}
 use Rattle.ec_buffer.specs.Shapes.{Buffer}
 use Rattle.ec_draw.specs.declared.arrow.Arrow.{Arrow}
 use Rattle.ec_draw.specs.declared.arrow.Move.TheVariants as moves
-use Rattle.ec_draw.specs.Arrows.{Moving, IsMoving, places}
+use Rattle.ec_draw.specs.Arrows.{MovesModel, RepresentsMoves, places}
 use Rattle.ec_draw.proofs.Arrowing.{arrows_are, arrows_none}
 use Rattle.ec_draw.proofs.Balancing.{broken_no}
 use Rattle.ec_draw.proofs.arrow.add_buffer.Goals as goal
@@ -18,23 +18,23 @@ returns-in-Ok c =
     let b = c.args.shape.now in
     let h = c.args.run.now.entries in
     let inside = c.moves.inside in
-    let stands = subst (λ (m : Moving). IsMoving m (reverse h)) (sym c.moves.view_is)
-    c.requires.stands in
-    let shape : inside.shape.now ≡ b = ap (λ (m : Moving). m.shape) c.moves.view_is
+    let represents = subst (λ (m : MovesModel). RepresentsMoves m (reverse h)) (sym c.moves.view_is)
+    c.requires.represents in
+    let shape : inside.shape.now ≡ b = ap (λ (m : MovesModel). m.shape) c.moves.view_is
     ∙ c.requires.shape in
-    let of : inside.audit.shape ≡ b = stands.shape ∙ shape in
+    let of : inside.audit.shape ≡ b = represents.shape ∙ shape in
     let followed : IsFollowed t b h = record {
-      declared = c.known.ensures.declared;
-      shape = c.known-2.ensures;
-      accepted = c.known.ensures.accepted;
+      declared = c.invariant.ensures.declared;
+      shape = c.invariant-2.ensures;
+      accepted = c.invariant.ensures.accepted;
       followed = subst (λ (z : Buffer). FollowsBuffer t z (reverse h)) of c.in-Ok.ensures.followed;
     } in
     let found : AreDeliveries t b h c.as_slice-in-Ok-2.result.now =
     subst (AreDeliveries t b h) (sym c.as_slice-in-Ok-2.ensures.value)
     (subst (λ (z : Buffer). AreDeliveries t z h c.in-Ok.list.items) of c.in-Ok.ensures.list) in
-    let puts = c.as_slice.ensures.value ∙ stands.puts c.if-lacks.false
+    let puts = c.as_slice.ensures.value ∙ represents.puts c.if-out_of_memory.false
     ∙ ap (λ z. places moves.Put z (reverse h)) shape in
-    let gets = c.as_slice-in-Ok.ensures.value ∙ stands.gets c.if-lacks.false
+    let gets = c.as_slice-in-Ok.ensures.value ∙ represents.gets c.if-out_of_memory.false
     ∙ ap (λ z. places moves.Get z (reverse h)) shape in
     let is = arrows_are t b c.args.window h c.as_slice.result.now c.as_slice-in-Ok.result.now
     c.as_slice-in-Ok-2.result.now followed found puts gets in
@@ -47,14 +47,14 @@ returns-in-Err-NotFollowed c =
     let t = c.args.run.now.setup in
     let b = c.args.shape.now in
     let h = c.args.run.now.entries in
-    let stands = subst (λ (m : Moving). IsMoving m (reverse h)) (sym c.moves.view_is)
-    c.requires.stands in
-    let of : c.moves.inside.audit.shape ≡ b = stands.shape
-    ∙ ap (λ (m : Moving). m.shape) c.moves.view_is ∙ c.requires.shape in
-    let told = subst
+    let represents = subst (λ (m : MovesModel). RepresentsMoves m (reverse h)) (sym c.moves.view_is)
+    c.requires.represents in
+    let of : c.moves.inside.audit.shape ≡ b = represents.shape
+    ∙ ap (λ (m : MovesModel). m.shape) c.moves.view_is ∙ c.requires.shape in
+    let returned = subst
     (λ (z : Buffer). IsAuditFault (buffer_rules t z) h c.in-Err-NotFollowed.field-0) of
     c.in-Err-NotFollowed.ensures.err in
     sym (append-nil c.args.arrows.now.items)
     ∙ ap (λ list. c.args.arrows.now.items ++ list)
     (arrows_none t b c.args.window h
-    (broken_no (buffer_rules t b) h _ _ _ c.in-Err-NotFollowed.field-0-is told))
+    (broken_no (buffer_rules t b) h _ _ _ c.in-Err-NotFollowed.field-0-is returned))

@@ -1,7 +1,7 @@
 use Rattle.std.proofs.Common.{◌≡◌, ◌≤◌, ◌-◌, ◌++◌, length, replicate}
 use Rattle.ec_draw.proofs.balance.fill.Given as goal
 
--- those so far
+-- the numbers so far
 abbrev pub invariant-loop-place : goal.invariant-loop-place
 invariant-loop-place l = record {
   few : length l.initial.heights.items ≤ l._place;

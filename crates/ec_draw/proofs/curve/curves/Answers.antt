@@ -1,10 +1,10 @@
 use Rattle.std.proofs.Common.{◌≡◌, ap, ◌∙◌, map, arith, length}
-use Rattle.ec_draw.specs.Curves.{shown}
+use Rattle.ec_draw.specs.Curves.{curve_model}
 use Rattle.ec_draw.proofs.Filtering.{no_events, more_events, first_sequencers, more_sequencers}
 use Rattle.ec_draw.proofs.curve.curves.Goals as goal
 
 pub loop-number-init : goal.loop-number-init
-loop-number-init c = ap (map shown) c.new-curves.ensures.items
+loop-number-init c = ap (map curve_model) c.new-curves.ensures.items
     ∙ no_events c.args.window c.args.run.now.entries
 
 pub loop-number-preserved : goal.loop-number-preserved

@@ -21,8 +21,8 @@ loop-column-preserved c =
     let h = c.args.run.now.entries in
     let k = c.args.window.from in
     let j = c.loop-column.column in
-    let step = count_step object h k j c.loop-column.count c.raised-count.result
-    c.loop-column.invariant.is c.raised-count.ensures.value in
+    let step = count_step object h k j c.loop-column.count c.raise_amount-count.result
+    c.loop-column.invariant.is c.raise_amount-count.ensures.value in
     record {
       is = step;
       small = omega arith;

@@ -2,7 +2,7 @@ use Rattle.std.proofs.Common.{◌≡◌, ◌+◌, Some, sym, arith, ap, ◌∙�
 use Rattle.std.proofs.Common.{Global, length}
 use Rattle.std.proofs.lemmas.List.{length-reverse}
 use Rattle.ec_core.specs.Counts.{past_at}
-use Rattle.ec_core.specs.Standing.{State, Stands}
+use Rattle.ec_core.specs.Standing.{State, Represents}
 use Rattle.ec_draw.specs.declared.dot.Dot.{Dot}
 use Rattle.ec_draw.specs.Dots.{dot_of}
 use Rattle.ec_draw.proofs.Counting.{take-few}
@@ -18,7 +18,7 @@ loop-position-init c =
     let long = length-reverse (take c.args.window.from h) in
     record {
       setup = c.requires.setup;
-      stands = c.requires.stands;
+      represents = c.requires.represents;
       dots = c.new-dots.ensures.items
           ∙ sym (dots_before c.args.run.now.setup c.args.window (past_at c.args.window.from h)
           (omega arith));
@@ -36,15 +36,15 @@ loop-position-preserved c =
           let at : slice_get h k ≡ Some x = sym w.in-Some.ensures in
           record {
             setup = ap (λ (s : State). s.setup) w.world-is ∙ w.step-reply.ensures.setup ∙ was.setup;
-            stands = subst (λ (s : State). Stands s (past_at (k + 1) h)) (sym w.world-is)
+            represents = subst (λ (s : State). Represents s (past_at (k + 1) h)) (sym w.world-is)
                 (stands_next t c.loop-position.world w.step-reply.new.self h k x w.step-reply.result
-                c.known.ensures.accepted at was.setup
-                (w.step-reply.ensures.answer (take k h) was.stands)
-                (w.step-reply.ensures.after (take k h) was.stands));
+                c.invariant.ensures.accepted at was.setup
+                (w.step-reply.ensures.answer (take k h) was.represents)
+                (w.step-reply.ensures.after (take k h) was.represents));
             dots = ap (λ (v : Vec Dot Global). v.items) w.dots-is ∙ w.in_ok-push.ensures.items
                 ∙ dots_yes t c.args.window h k x c.loop-position.dots.items w.dot_of.result at
                 (shows_from c.args.window k (length h) (omega arith) (omega arith)) was.dots
-                (w.dot_of.ensures (take k h) was.stands (sym (long_past h k x at))
+                (w.dot_of.ensures (take k h) was.represents (sym (long_past h k x at))
                 ∙ ap (λ u. dot_of u (past_at k h) x) was.setup);
           })
       | in_default w ↦

@@ -8,6 +8,6 @@ use Rattle.ec_draw.proofs.dot.dots.Given as goal
 abbrev pub invariant-loop-position : goal.invariant-loop-position
 invariant-loop-position l = record {
   setup : l.world.setup ≡ l.run.setup;
-  stands : StandsFor l.world (take l.position l.run.entries);
+  represents : StandsFor l.world (take l.position l.run.entries);
   dots : l.dots.items ≡ dots_of l.run.setup l.fn.window (past_at l.position l.run.entries);
 }

@@ -3,18 +3,18 @@ use Rattle.std.specs.List.{flat_map}
 use Rattle.std.specs.Vec.Iter.{into_iter_items, into_iter_len}
 use Rattle.ec_draw.specs.Arrows.{group_arrows}
 use Rattle.ec_draw.specs.Balances.{group_line}
-use Rattle.ec_draw.specs.Curves.{shown}
+use Rattle.ec_draw.specs.Curves.{curve_model}
 use Rattle.ec_draw.specs.Findings.{EachFindsFrom}
-use Rattle.ec_draw.specs.Shades.{group_shades, seen}
+use Rattle.ec_draw.specs.Shades.{group_shades, shade_model}
 use Rattle.ec_draw.proofs.finding.add_groups.Given as goal
 
--- what was found of the groups so far, and what is kept of the others
+-- what was found of the groups so far, and the states of the others
 abbrev pub invariant-loop-number : goal.invariant-loop-number
 invariant-loop-number l = record {
-  curves : map shown l.found.curves.items ≡ map shown l.initial.found.curves.items
+  curves : map curve_model l.found.curves.items ≡ map curve_model l.initial.found.curves.items
       ++ flat_map (group_line l.asked.semaphores.now l.asked.window l.run.entries)
       (take l.number l.groups);
-  shades : map seen l.found.shades.items ≡ map seen l.initial.found.shades.items
+  shades : map shade_model l.found.shades.items ≡ map shade_model l.initial.found.shades.items
       ++ flat_map (group_shades l.run.setup l.asked.window l.run.entries) (take l.number l.groups);
   arrows : l.found.arrows.items ≡ l.initial.found.arrows.items
       ++ flat_map (group_arrows l.run.setup l.asked.window l.run.entries) (take l.number l.groups);

@@ -1,9 +1,11 @@
 use Rattle.std.proofs.Common.{◌≡◌, ◌++◌, map}
 use Rattle.std.specs.Vec.Iter.{into_iter_items}
-use Rattle.ec_draw.specs.Curves.{shown}
+use Rattle.ec_draw.specs.Curves.{curve_model}
 use Rattle.ec_draw.proofs.picture.add_curves.Given as goal
 
--- those so far, and then the rest, are all
+-- the curves so far, followed by the rest, are all curves
 abbrev pub invariant-loop-curve : goal.invariant-loop-curve
-invariant-loop-curve l = map shown l.curves.items ++ map shown (into_iter_items l.curve-iterator)
-    ≡ map shown l.initial.curves.items ++ map shown (into_iter_items l.initial.curve-iterator)
+invariant-loop-curve l = map curve_model l.curves.items
+    ++ map curve_model (into_iter_items l.curve-iterator)
+    ≡ map curve_model l.initial.curves.items
+    ++ map curve_model (into_iter_items l.initial.curve-iterator)

@@ -25,16 +25,16 @@ loop-entry-preserved-then-place-moment c =
     let all = take_all c.args.moment done (omega arith) in
     let more = take_all c.args.moment (done ++ x ∷ []) (omega arith) in
     let stood : StandsFor c.loop-entry.world done =
-    subst (λ (l : List Entry). StandsFor c.loop-entry.world l) all was.stands in
+    subst (λ (l : List Entry). StandsFor c.loop-entry.world l) all was.represents in
     let accepted : IsAccepted t (x ∷ reverse done) =
     subst (IsAccepted t) (past_after done x)
-    (accepted_until t c.args.run.now.entries (done ++ x ∷ []) rest c.known.ensures.accepted
+    (accepted_until t c.args.run.now.entries (done ++ x ∷ []) rest c.invariant.ensures.accepted
     order) in
     record {
       place = omega (arith, clamps);
       order = order;
       setup = c.step-reply.ensures.setup ∙ was.setup;
-      stands = subst (λ (l : List Entry). StandsFor c.step-reply.new.self l) (sym more)
+      represents = subst (λ (l : List Entry). StandsFor c.step-reply.new.self l) (sym more)
           (stands_step t c.loop-entry.world c.step-reply.new.self done x c.step-reply.result
           accepted was.setup (c.step-reply.ensures.answer done stood)
           (c.step-reply.ensures.after done stood));

@@ -8,5 +8,5 @@ invariant-loop-entry l = record {
   place : l.place ≡ min (length l.yielded) l.moment;
   order : l.yielded ++ l.entry-iterator ≡ l.run.entries;
   setup : l.world.setup ≡ l.run.setup;
-  stands : StandsFor l.world (take l.moment l.yielded);
+  represents : StandsFor l.world (take l.moment l.yielded);
 }

@@ -16,7 +16,7 @@ use Rattle.ec_explain.proofs.round.looks_so_far.Goals.{in-Some+in_ok-take, in_de
 pub loop-position-init : goal.loop-position-init
 loop-position-init c = record {
   setup = c.open-world.ensures.setup ∙ c.copy.ensures ∙ c.setup.ensures;
-  stands = c.open-world.ensures.history;
+  represents = c.open-world.ensures.history;
   looks = c.new-looks.ensures.items ∙ no_looks c.args.run.now.setup c.args.worker;
 }
 
@@ -33,14 +33,14 @@ loop-position-preserved c =
           let at : slice_get h k ≡ Some x = sym w.in-Some.ensures in
           let right : answer_of before.setup (past_at k h) x.worker x.act ≡ Ok x.reply =
           ap (λ (u : Tables). answer_of u (past_at k h) x.worker x.act) was.setup
-          ∙ accepted_at t h k x c.known.ensures.accepted at in
+          ∙ accepted_at t h k x c.invariant.ensures.accepted at in
           record {
             setup = ap (λ (s : State). s.setup) w.world-is ∙ w.take.ensures.setup ∙ was.setup;
-            stands = subst (λ (s : State). StandsFor s (take (k + 1) h)) (sym w.world-is)
+            represents = subst (λ (s : State). StandsFor s (take (k + 1) h)) (sym w.world-is)
                 (stands_next w.take.new.world h k x at
-                (w.take.ensures.stands (take k h) was.stands right));
+                (w.take.ensures.represents (take k h) was.represents right));
             looks = ap (λ (v : Vec Look Global). v.items) w.looks-is
-                ∙ w.in_ok-take.ensures.looks (take k h) was.stands right (long_past h k x at)
+                ∙ w.in_ok-take.ensures.looks (take k h) was.represents right (long_past h k x at)
                 (was.looks
                 ∙ ap (λ (u : Tables). looks_so_far u c.args.worker (past_at k h)) (sym was.setup))
                 ∙ ap (λ (u : Tables). looks_so_far u c.args.worker (x ∷ past_at k h)) was.setup

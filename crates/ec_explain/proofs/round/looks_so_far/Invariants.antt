@@ -8,6 +8,6 @@ use Rattle.ec_explain.proofs.round.looks_so_far.Given as goal
 abbrev pub invariant-loop-position : goal.invariant-loop-position
 invariant-loop-position l = record {
   setup : l.world.setup ≡ l.run.setup;
-  stands : StandsFor l.world (take l.position l.run.entries);
+  represents : StandsFor l.world (take l.position l.run.entries);
   looks : l.looks.items ≡ looks_so_far l.run.setup l.worker (past_at l.position l.run.entries);
 }

@@ -2,7 +2,7 @@ use Rattle.std.proofs.Common.{◌≡◌, ◌∙◌, List, Option, true, ap, reve
 use Rattle.std.proofs.lemmas.List.{length-reverse}
 use Rattle.ec_count.specs.Tables.{Tables}
 use Rattle.ec_explain.specs.declared.round.Look.{Look}
-use Rattle.ec_explain.specs.Rounds.{kept, next_look}
+use Rattle.ec_explain.specs.Rounds.{looks_after_act, next_look}
 use Rattle.ec_explain.proofs.Rounds.{looks_last}
 use Rattle.ec_explain.proofs.round.looks_with.Goals as goal
 
@@ -13,9 +13,9 @@ returns c =
     let w = c.args.worker in
     let act = c.args.act.now in
     let found : c.next_look-look.result ≡ next_look t w (reverse h) act =
-    c.next_look-look.ensures h c.world.ensures.stands (c.len.ensures ∙ sym (length-reverse h))
+    c.next_look-look.ensures h c.world.ensures.represents (c.len.ensures ∙ sym (length-reverse h))
     ∙ ap (λ (u : Tables). next_look u w (reverse h) act) c.world.ensures.setup in
-    c.in_ok-keep.ensures
-    ∙ ap (λ (l : Option Look). kept true act l c.in_ok-looks.looks.items) found
-    ∙ ap (λ (l : List Look). kept true act (next_look t w (reverse h) act) l) c.in_ok-looks.ensures
+    c.in_ok-update_looks.ensures
+    ∙ ap (λ (l : Option Look). looks_after_act true act l c.in_ok-looks.looks.items) found
+    ∙ ap (λ (l : List Look). looks_after_act true act (next_look t w (reverse h) act) l) c.in_ok-looks.ensures
     ∙ looks_last t w (reverse h) act

@@ -10,8 +10,9 @@ returns-then-not-is_of-clause-looks c = λ h stood right at was.
 pub returns-clause-looks : goal.returns-clause-looks
 returns-clause-looks c = λ h stood right at was.
     let x = c.args.entry.now in
-    take_kept c.keep.result c.args.world.now.setup c.enter-2.new.world.setup c.args.worker h x
+    take_kept c.update_looks.result c.args.world.now.setup c.enter-2.new.world.setup c.args.worker h x
     c.is_in_round-goes_on.result c.next_look-look.result c.args.looks.now.items
-    c.keep.new.looks.items (sym c.is_of.ensures ∙ c.if-not-is_of.false) c.enter-2.ensures.setup
-    (c.is_in_round-goes_on.ensures (h ++ x ∷ []) (c.enter-2.ensures.stands h stood right))
-    (c.next_look-look.ensures h stood at) was c.keep.ensures
+    c.update_looks.new.looks.items (sym c.is_of.ensures
+    ∙ c.if-not-is_of.false) c.enter-2.ensures.setup
+    (c.is_in_round-goes_on.ensures (h ++ x ∷ []) (c.enter-2.ensures.represents h stood right))
+    (c.next_look-look.ensures h stood at) was c.update_looks.ensures

@@ -7,6 +7,6 @@ use Rattle.ec_machine.proofs.follow.follows_one.Given as goal
 abbrev pub invariant-loop-entry : goal.invariant-loop-entry
 invariant-loop-entry l = record {
   order : l.yielded ++ l.entry-iterator ≡ l.run.entries;
-  stands : StandsFor (program_at l.programs l.worker) l.machine (own l.worker (reverse l.yielded));
+  represents : StandsFor (program_at l.programs l.worker) l.machine (own l.worker (reverse l.yielded));
   unset : is_refused l.machine ≡ false;
 }

@@ -8,10 +8,10 @@ returns-clause-last c =
 
 pub returns-clause-none : goal.returns-clause-none
 returns-clause-none c = λ sleeps.
-    c.woken_if_stuck-woken.ensures.none
+    c.wake_if_deadlocked-woken.ensures.none
     (asleep_free c.step-next.result c.args.board.now c.step-next.new.board c.args.worker c.args.act c.args.may_park c.step-next.ensures.next sleeps)
 
 pub returns-clause-woken : goal.returns-clause-woken
 returns-clause-woken c =
-    c.woken_if_stuck-woken.ensures.woken c.args.board.now (sym c.is_stuck-was_stuck.ensures)
+    c.wake_if_deadlocked-woken.ensures.woken c.args.board.now (sym c.is_deadlocked-was_stuck.ensures)
     (others_stay c.step-next.result c.args.board.now c.step-next.new.board c.args.worker c.args.act c.args.may_park (sym c.is_awaited.ensures ∙ c.if-is_awaited.false) c.step-next.ensures.next)

@@ -1,7 +1,7 @@
 use Rattle.std.proofs.Common.{◌≡◌, ◌<◌, ℕ, length, slice_get, arith, inl, inr, sym, ◌∙◌, ap, subst}
 use Rattle.std.proofs.lemmas.Bool.{cases_eq}
 use Rattle.std.proofs.lemmas.Option.{slice_get_within, get_or_from_slice_get}
-use Rattle.ec_runner.specs.declared.told.Told.{Told}
+use Rattle.ec_runner.specs.declared.summary.Summary.{Summary}
 use Rattle.ec_runner.specs.Fits.{IsRightAt}
 use Rattle.ec_runner.proofs.Asking.{then_right}
 use Rattle.ec_runner.proofs.Walking.{index_is}
@@ -9,27 +9,27 @@ use Rattle.ec_runner.proofs.refused.first_wrong_at.Goals as goal
 
 pub returns-then-not-is_right_at : goal.returns-then-not-is_right_at
 returns-then-not-is_right_at c =
-    let tolds = c.args.tolds.now in
-    let one = c.index-tolds-w.result in
-    let within : c.loop-w.w < length tolds = omega arith in
+    let summaries = c.args.summaries.now in
+    let one = c.index-summaries-w.result in
+    let within : c.loop-w.w < length summaries = omega arith in
     record {
-      told = one;
-      at = ap (slice_get tolds) c.worker_of-worker.ensures ∙ index_is tolds c.loop-w.w one c.index-tolds-w.is within;
+      summary = one;
+      at = ap (slice_get summaries) c.nth_worker-worker.ensures ∙ index_is summaries c.loop-w.w one c.index-summaries-w.is within;
       not = λ borne. (let yes = c.is_right_at.ensures.1 (then_right one.outcome one.asked c.args.run.now c.args.moment _ borne) in let no = c.if-not-is_right_at.true in cc);
     }
 
 pub loop-w-preserved : goal.loop-w-preserved
-loop-w-preserved c = λ w told below is.
+loop-w-preserved c = λ w summary below is.
     elim (cases_eq w c.loop-w.w) [
       | inl same ↦
           let run = c.args.run.now in
-          let one = c.index-tolds-w.result in
-          let here : one ≡ told = c.index-tolds-w.is ∙ (rw same at (get_or_from_slice_get c.args.tolds.now w told one is)) in
-          let number : c.worker_of-worker.result ≡ w = c.worker_of-worker.ensures ∙ sym same in
+          let one = c.index-summaries-w.result in
+          let here : one ≡ summary = c.index-summaries-w.is ∙ (rw same at (get_or_from_slice_get c.args.summaries.now w summary one is)) in
+          let number : c.nth_worker-worker.result ≡ w = c.nth_worker-worker.ensures ∙ sym same in
           let borne = c.is_right_at.ensures.0 c.if-not-is_right_at.false in
-          subst (λ (t : Told). IsRightAt t.outcome t.asked run c.args.moment w) here (subst (λ (v : ℕ). IsRightAt one.outcome one.asked run c.args.moment v) number borne)
-      | inr not ↦ c.loop-w.invariant w told (omega arith) is
+          subst (λ (t : Summary). IsRightAt t.outcome t.asked run c.args.moment w) here (subst (λ (v : ℕ). IsRightAt one.outcome one.asked run c.args.moment v) number borne)
+      | inr not ↦ c.loop-w.invariant w summary (omega arith) is
     ]
 
 pub returns : goal.returns
-returns c = λ w told is. c.loop-w.invariant w told (let h = slice_get_within c.args.tolds.now w told is in omega arith) is
+returns c = λ w summary is. c.loop-w.invariant w summary (let h = slice_get_within c.args.summaries.now w summary is in omega arith) is

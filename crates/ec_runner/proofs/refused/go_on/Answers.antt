@@ -7,14 +7,14 @@ use Rattle.ec_core.specs.Standing.{StandsFor}
 use Rattle.ec_runner.proofs.Walking.{take_next}
 use Rattle.ec_runner.proofs.refused.go_on.Goals as goal
 
-pub returns-clause-stands : goal.returns-clause-stands
-returns-clause-stands c = λ stands same.
+pub returns-clause-represents : goal.returns-clause-represents
+returns-clause-represents c = λ represents same.
     (let run = c.args.run.now in
     let h = run.entries in
     let i = c.args.place in
     let x = c.in-Some.entry in
     let there : slice_get h i ≡ Some x = sym c.in-Some.ensures in
-    let right : answer_of run.setup (past_at i h) x.worker x.act ≡ Ok x.reply = (c.accepted_means_answered.ensures run.setup h).0 c.known.ensures.accepted i x there in
+    let right : answer_of run.setup (past_at i h) x.worker x.act ≡ Ok x.reply = (c.accepted_means_answered.ensures run.setup h).0 c.invariant.ensures.accepted i x there in
     subst (λ (done : List Entry). StandsFor c.make.new.world done) (sym (take_next h i x there))
-    (c.make.ensures.stands (take i h) stands
+    (c.make.ensures.represents (take i h) represents
     (subst (λ (t : Tables). answer_of t (past_at i h) x.worker x.act ≡ Ok x.reply) (sym same) right)))

@@ -13,9 +13,9 @@ is_yes false h = cc
 pub returns-clause-same : goal.returns-clause-same
 returns-clause-same c = λ yes.
     none_there c.args.worker c.args.run.now.entries c.args.place c.in-Some.entry (sym c.in-Some.ensures)
-    (sym c.is_own.ensures ∙ is_not c.is_own.result yes)
+    (sym c.is_of.ensures ∙ is_not c.is_of.result yes)
 
 pub returns-clause-more : goal.returns-clause-more
 returns-clause-more c = λ no.
     more_there c.args.worker c.args.run.now.entries c.args.place c.in-Some.entry (sym c.in-Some.ensures)
-    (sym c.is_own.ensures ∙ is_yes c.is_own.result no)
+    (sym c.is_of.ensures ∙ is_yes c.is_of.result no)

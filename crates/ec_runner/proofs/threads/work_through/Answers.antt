@@ -9,7 +9,7 @@ returns g c =
     let had = c.loop.invariant.had in
     let end = c.loop.invariant.end in
     let within = c.loop.auto.counter-end in
-    c.told.ensures.tells c.args.program.now turns c.loop.invariant.works
+    c.summarize.ensures.tells c.args.program.now turns c.loop.invariant.works
     (elim c.loop-test.branch [
       | else-loop-test w ↦ (let same : c.loop.counter ≡ turns = omega arith in subst (λ (n : ℕ). HasHad n c.loop.machine c.loop.log.items) same had)
       | then-loop-test+then-not-is_running w ↦ (

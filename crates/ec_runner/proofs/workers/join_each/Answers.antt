@@ -8,6 +8,6 @@ loop-handle-preserved g c = record {
   order = (let was = c.loop-handle.invariant.order in let step = c.in-Some.ensures.steps in grind (arith, common_steps));
   left = (let was = c.loop-handle.invariant.left in let step = c.in-Some.ensures.steps in grind (arith, common_steps));
   joined =
-      joined_next c.loop-handle.yielded c.in-Some.handle c.loop-handle.tolds c.joined-told.result c.with_told-tolds.result c.loop-handle.invariant.joined c.joined-told.ensures
-      c.with_told-tolds.ensures;
+      joined_next c.loop-handle.yielded c.in-Some.handle c.loop-handle.summaries c.join_worker-summary.result c.push_summary-summaries.result c.loop-handle.invariant.joined c.join_worker-summary.ensures
+      c.push_summary-summaries.ensures;
 }

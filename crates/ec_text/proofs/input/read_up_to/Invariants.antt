@@ -7,7 +7,7 @@ abbrev pub invariant-loop-n : goal.invariant-loop-n
 invariant-loop-n g l = record {
   within : length l.text.items ≤ l.most;
   table : length l.table.items ≡ 8192;
-  stands : Consumes (g.R.Read.remaining l.initial.reader) (g.R.Read.remaining l.reader) l.text.items;
+  represents : Consumes (g.R.Read.remaining l.initial.reader) (g.R.Read.remaining l.reader) l.text.items;
 }
 
 abbrev pub decreases-loop-n : goal.decreases-loop-n

@@ -10,12 +10,12 @@ pub returns-in-Err : goal.returns-in-Err
 unfolding is_ended
 returns-in-Err g c = λ xs reached. c.in-Err.ensures.comes xs (Limiting c.args.version) refl reached
 
-pub returns-in_default-limit_of : goal.returns-in_default-limit_of
+pub returns-in_default-parse_limit : goal.returns-in_default-parse_limit
 unfolding is_ended
-returns-in_default-limit_of g c = λ xs reached.
+returns-in_default-parse_limit g c = λ xs reached.
     rw c.number.ensures
     (line_refused xs (g.R.Read.remaining c.next.new.reader) c.next.new.self c.next.new.self.line (Limiting c.args.version) _ (c.in_default.ensures.comes xs (Limiting c.args.version) refl reached)
-    (no_limit_line c.args.version c.next.new.self.line (ap (limit_of c.args.version) (sym c.line.ensures) ∙ sym c.in_default-limit_of.ensures.value)) c.in_default.ensures.more.1)
+    (no_limit_line c.args.version c.next.new.self.line (ap (limit_of c.args.version) (sym c.line.ensures) ∙ sym c.in_default-parse_limit.ensures.value)) c.in_default.ensures.more.1)
 
 pub returns-in-Ok : goal.returns-in-Ok
 unfolding is_ended

@@ -3,8 +3,8 @@ use Rattle.std.specs.Prelude.{decimal}
 use Rattle.std.proofs.lemmas.Fmt.{decimal_digit}
 use Rattle.evc_c.proofs.calls.evc_version.Goals as goal
 
-pub returns-clause-told : goal.returns-clause-told
-returns-clause-told c = record {
+pub returns-clause-returned : goal.returns-clause-returned
+returns-clause-returned c = record {
   first = 0;
   second = 2;
   rest = codes "proved and built with rattle-kit-13";

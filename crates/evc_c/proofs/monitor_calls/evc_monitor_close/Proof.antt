@@ -1,4 +1,4 @@
--- The monitor is lent for the call, and lies there again after it.
+-- The monitor is borrowed for the call, and is in its memory again after it.
 use Rattle.evc_c.proofs.MonitorSteps.{ℕ, List, [], ◌∷◌, refl, ap, proved, full_share, id⊢, sep}
 use Rattle.evc_c.proofs.MonitorSteps.{ftrue, flft, flent, named, vptr, vunit, WpFn, fact, tables}
 use Rattle.evc_c.proofs.MonitorSteps.{sem, ‵, raw, ◌⊛◌, some, later, prop, ◌$◌, ◌∵◌, !, qed, done}

@@ -1,4 +1,4 @@
--- The monitor is lent for the call, and lies there again after it.
+-- The monitor is borrowed for the call, and is in its memory again after it.
 use Rattle.evc_c.proofs.MonitorSteps.{ℕ, List, [], ◌∷◌, refl, w8, proved, full_share, id⊢, sep}
 use Rattle.evc_c.proofs.MonitorSteps.{ftrue, flft, flent, named, vptr, WpFn, fact, tables, sem, ‵}
 use Rattle.evc_c.proofs.MonitorSteps.{raw, ◌⊛◌, some, later, prop, ◌$◌, ◌∵◌, !, qed, done, move}

@@ -1,4 +1,4 @@
--- The monitor is lent for the call, and lies there again after it.
+-- The monitor is borrowed for the call, and is in its memory again after it.
 use Rattle.evc_c.proofs.MonitorSteps.{ℕ, List, [], ◌∷◌, refl, ap, proved, full_share, id⊢, sep}
 use Rattle.evc_c.proofs.MonitorSteps.{ftrue, flft, flent, named, vptr, vunit, WpFn, fact, tables}
 use Rattle.evc_c.proofs.MonitorSteps.{sem, ‵, raw, ◌⊛◌, some, later, prop, ◌$◌, ◌∵◌, !, qed, done}
@@ -19,7 +19,7 @@ use Rattle.evc_c.specs.contracts.monitor.Monitor.load as g
 use Rattle.evc_c.proofs.monitor.Monitor.load.Met.{met}
 use Rattle.evc_c.specs.contracts.monitor.EvcLoad.{the_row as L}
 use Rattle.evc_c.specs.declared.monitor.EvcLoad.{EvcLoad}
-use Rattle.evc_c.specs.Monitors.{TellsLoad}
+use Rattle.evc_c.specs.Monitors.{ReportsLoad}
 
 abbrev stayed : Stays f.ended.signature.params f.ended.kept
 stayed = (stay_dropped _ yes, (gave_ref (0 ∷ []) tt (plain (λ _. L)), tt))
@@ -99,7 +99,7 @@ evc_monitor_load_spec 𝓤 𝓛 𝓜 𝓡 wired =
     use1 𝓛 (later (some (λ (r : Unit {0}). ((‵ (flft (α ∷ []) full_share) ⊛ (‵ (flft κs.0 qs.0) ⊛
     ‵ ftrue)) ⊛ ‵ (unit.own_val r (v ∷ []))) ⊛
     some (λ (ws : Monitor × (EvcLoad × Unit {0})). ‵ (lasts g.ended z.0.0 z.0.3 ws) ⊛ raw (fact 𝓤
-    (TellsLoad old ws.0 ws.1.0)))))) (id⊢ 𝓤 _) $
+    (ReportsLoad old ws.0 ws.1.0)))))) (id⊢ 𝓤 _) $
     await ! tt $ pick ! (λ r. split ! $ split ! $ split ! $ lft_end ! tt $ move ! (3 ∷ []) $
     pick ! (λ ws. split ! $
     move ! (1 ∷ []) $ heard ! _ (λ done_so. fsplit ! $ fsplit ! $
@@ -122,5 +122,5 @@ evc_monitor_load_spec 𝓤 𝓛 𝓜 𝓡 wired =
     -- [the load's last value; the result; the monitor; its borrow; the token]
     nothing ! $ join ! $ join ! $ move ! (3 ∷ 0 ∷ []) $ join ! $ frame ! $ keep ! (0 ∷ []) $
     show ! (λ (new : Monitor). sep 𝓤 (sem 𝓛 (lies_at R full_share (block_ptr b o) new)) (fact 𝓤
-    (TellsLoad old new ws.1.0))) ws.0 $
+    (ReportsLoad old new ws.1.0))) ws.0 $
     says ! done_so $ done !))))))))))

@@ -1,4 +1,4 @@
--- The monitor is lent for the call, and lies there again after it.
+-- The monitor is borrowed for the call, and is in its memory again after it.
 use Rattle.evc_c.proofs.MonitorSteps.{ℕ, List, [], ◌∷◌, refl, length, w64, proved, full_share, id⊢}
 use Rattle.evc_c.proofs.MonitorSteps.{sep, ftrue, flft, flent, named, vptr, WpFn, fact, tables, sem}
 use Rattle.evc_c.proofs.MonitorSteps.{‵, raw, ◌⊛◌, some, later, prop, ◌$◌, ◌∵◌, !, qed, done, move}
@@ -20,7 +20,7 @@ use Rattle.evc_c.proofs.monitor_calls.evc_monitor_note.Statement.{statement}
 use Rattle.evc_c.proofs.monitor_calls.evc_monitor_note.Code as code
 use Rattle.evc_c.specs.contracts.monitor.Monitor.note as g
 use Rattle.evc_c.proofs.monitor.Monitor.note.Met.{met}
-use Rattle.evc_c.specs.Monitors.{TellsNote}
+use Rattle.evc_c.specs.Monitors.{ReportsNote}
 
 abbrev stayed : Stays f.ended.signature.params f.ended.kept
 stayed = (stay_dropped _ yes, (gave_slice (0 ∷ []) tt (plain (λ _. u8)), tt))
@@ -117,7 +117,7 @@ evc_monitor_note_spec 𝓤 𝓛 𝓜 𝓡 wired =
     use1 𝓛 (later (some (λ (r : ℕ). ((‵ (flft (α ∷ []) full_share) ⊛ (‵ (flft κs.0 qs.0) ⊛
     ‵ ftrue)) ⊛ ‵ (usize.own_val r (v ∷ []))) ⊛
     some (λ (ws : Monitor × (List ℕ × Unit {0})). ‵ (lasts g.ended z.0.0 z.0.3 ws) ⊛ raw (fact 𝓤
-    (TellsNote old ws.0 r a.1.0.now ws.1.0)))))) (id⊢ 𝓤 _) $
+    (ReportsNote old ws.0 r a.1.0.now ws.1.0)))))) (id⊢ 𝓤 _) $
     await ! tt $ pick ! (λ r. split ! $ split ! $ split ! $ lft_end ! tt $ move ! (3 ∷ []) $
     pick ! (λ ws. split ! $
     move ! (1 ∷ []) $ heard ! _ (λ done_so. fsplit ! $ fsplit ! $
@@ -140,5 +140,5 @@ evc_monitor_note_spec 𝓤 𝓛 𝓜 𝓡 wired =
     join ! $ join ! $ nothing ! $ join ! $ move ! (1 ∷ []) $ move ! (1 ∷ 0 ∷ []) $ join ! $
     move ! (3 ∷ 0 ∷ []) $ join ! $ frame ! $ keep ! (0 ∷ []) $
     show ! (λ (new : Monitor). sep 𝓤 (sem 𝓛 (lies_at R full_share (block_ptr b o) new)) (fact 𝓤
-    (TellsNote old new r a.1.0.now ws.1.0))) ws.0 $
+    (ReportsNote old new r a.1.0.now ws.1.0))) ws.0 $
     says ! done_so $ done !)))))))))))

@@ -1,4 +1,4 @@
--- A new monitor is written if there was room for one.
+-- A new monitor is written to memory that has its size.
 use Rattle.evc_c.proofs.MonitorSteps.{[], ◌∷◌, refl, proved, full_share, id⊢, sep, ftrue, vunit}
 use Rattle.evc_c.proofs.MonitorSteps.{WpFn, fact, tables, sem, ‵, raw, ◌⊛◌, some, later, prop, ◌$◌}
 use Rattle.evc_c.proofs.MonitorSteps.{◌∵◌, !, qed, done, move, keep, drop, use1, use2, split, join}

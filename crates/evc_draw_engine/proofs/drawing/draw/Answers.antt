@@ -23,7 +23,7 @@ returns-in-Ok-Whole-clause-ends g c =
 pub returns-in-Err-clause-ends : goal.returns-in-Err-clause-ends
 returns-in-Err-clause-ends g c =
     want_drawn c.args.view.now (g.R.Read.remaining c.args.reader.now)
-    (g.R.Read.remaining c.read_up_to.new.reader) c.want.result
+    (g.R.Read.remaining c.read_up_to.new.reader) c.report_no_memory.result
     (record { out = g.W.Write.contents c.args.out.now; notes = c.args.notes.now })
-    (record { out = g.W.Write.contents c.args.out.now; notes = c.want.new.notes })
-    c.want.ensures.memory (search rules, (c.want.ensures.puts, c.want.ensures.written))
+    (record { out = g.W.Write.contents c.args.out.now; notes = c.report_no_memory.new.notes })
+    c.report_no_memory.ensures.memory (search rules, (c.report_no_memory.ensures.puts, c.report_no_memory.ensures.written))

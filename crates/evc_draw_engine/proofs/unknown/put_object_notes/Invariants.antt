@@ -4,7 +4,7 @@ use Rattle.ec_text.specs.Puts.{Puts}
 use Rattle.evc_draw_engine.specs.Unknown.{object_note}
 use Rattle.evc_draw_engine.proofs.unknown.put_object_notes.Given as goal
 
--- those so far
+-- the notes on the names so far
 abbrev pub invariant-loop-name : goal.invariant-loop-name
 invariant-loop-name g l =
     Puts l.initial.out l.out (flat_map (λ s. object_note l.words s.now) (take l.name-index l.names))

@@ -2,7 +2,7 @@ use Rattle.std.proofs.Common.{refl, subst, map}
 use Rattle.std.proofs.lemmas.Option.{slice_get_read}
 use Rattle.std.proofs.lemmas.List.{take_all}
 use Rattle.ec_text.specs.Puts.{Puts}
-use Rattle.ec_heading.specs.Spelling.{text_of}
+use Rattle.ec_heading.specs.Spelling.{lines_text}
 use Rattle.evc_engine.specs.AuditTexts.{delivery_line}
 use Rattle.evc_engine.proofs.shared.AuditLemmas.{line_at}
 use Rattle.evc_engine.proofs.audit_text.put_deliveries.Goals as goal
@@ -15,5 +15,5 @@ loop-delivery-preserved g c =
 
 pub returns : goal.returns
 returns g c =
-    subst (λ xs. Puts c.args.out.now c.loop-delivery.out (text_of (map (delivery_line c.args.spellings.now c.args.name.now) xs)))
+    subst (λ xs. Puts c.args.out.now c.loop-delivery.out (lines_text (map (delivery_line c.args.spellings.now c.args.name.now) xs)))
     (take_all c.loop-delivery.delivery-index c.args.list.now c.loop-delivery-test.false) c.loop-delivery.invariant

@@ -3,7 +3,7 @@ use Rattle.std.specs.Io.KnownBytes.{Appends}
 use Rattle.ec_text.specs.Puts.{Puts}
 use Rattle.ec_machine.specs.declared.outcome.Outcome.{Outcome}
 use Rattle.ec_script.specs.Outcome.{shown_plan}
-use Rattle.ec_heading.specs.Outlined.{HasOutline}
+use Rattle.ec_heading.specs.HeadingInvariant.{HasHeaderTree}
 use Rattle.evc_engine.specs.declared.status.Status.{Status}
 use Rattle.evc_scripts.specs.OutcomeNotes.{outcomes_note}
 use Rattle.evc_scripts.specs.Runs.{RunEnds, status_for}
@@ -11,8 +11,9 @@ use Rattle.evc_scripts.proofs.RunLemmas.{have_run, told_ends}
 use Rattle.evc_scripts.proofs.running.write_report.Goals as goal
 
 pub returns-then-write_run-clause-ends : goal.returns-then-write_run-clause-ends
-returns-then-write_run-clause-ends g c = λ turns told.
-    let h : HasOutline c.args.plan.now.heading = c.known.ensures.outline c.requires.plan.some in
+returns-then-write_run-clause-ends g c = λ turns returned.
+    let h : HasHeaderTree c.args.plan.now.heading =
+    c.invariant.ensures.outline c.requires.plan.some in
     let same : c.status_for.result ≡ status_for c.args.report.now.outcomes.items = c.status_for.ensures ∙ ap status_for c.as_slice-outcomes.ensures.value in
     subst (λ (s : Status). RunEnds (shown_plan c.args.plan.now) turns s
     (record { out = g.W.Write.contents c.args.out.now; notes = c.args.notes.now })
@@ -21,7 +22,7 @@ returns-then-write_run-clause-ends g c = λ turns told.
     (told_ends (shown_plan c.args.plan.now) turns (status_for c.args.report.now.outcomes.items) _ _ (
       _,
       _,
-      have_run c.args.plan.now c.args.report.now turns h c.requires.plan.version told c.known-3.ensures.accepted,
+      have_run c.args.plan.now c.args.report.now turns h c.requires.plan.version returned c.invariant-3.ensures.accepted,
       c.if-write_run.ensures.all h.outline h.is h.declares refl,
       (
         subst (λ (os : List Outcome). Puts c.args.notes.now c.write_run.new.notes (outcomes_note c.args.plan.now.heading os))
@@ -31,6 +32,7 @@ returns-then-write_run-clause-ends g c = λ turns told.
     ))
 
 pub returns-else-write_run-clause-ends : goal.returns-else-write_run-clause-ends
-returns-else-write_run-clause-ends g c = λ turns told.
-    let h : HasOutline c.args.plan.now.heading = c.known.ensures.outline c.requires.plan.some in
-    inl (_, _, _, have_run c.args.plan.now c.args.report.now turns h c.requires.plan.version told c.known-3.ensures.accepted, c.if-write_run.ensures.front h.outline h.is h.declares refl, (c.if-write_run.ensures.noted, c.if-write_run.ensures.written))
+returns-else-write_run-clause-ends g c = λ turns returned.
+    let h : HasHeaderTree c.args.plan.now.heading =
+    c.invariant.ensures.outline c.requires.plan.some in
+    inl (_, _, _, have_run c.args.plan.now c.args.report.now turns h c.requires.plan.version returned c.invariant-3.ensures.accepted, c.if-write_run.ensures.prefix h.outline h.is h.declares refl, (c.if-write_run.ensures.noted, c.if-write_run.ensures.written))

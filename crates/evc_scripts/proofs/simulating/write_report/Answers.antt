@@ -1,14 +1,15 @@
 use Rattle.std.proofs.Common.{List, refl, subst}
 use Rattle.ec_text.specs.Puts.{Puts}
 use Rattle.ec_machine.specs.declared.outcome.Outcome.{Outcome}
-use Rattle.ec_heading.specs.Outlined.{HasOutline}
+use Rattle.ec_heading.specs.HeadingInvariant.{HasHeaderTree}
 use Rattle.evc_scripts.specs.OutcomeNotes.{outcomes_note}
 use Rattle.evc_scripts.proofs.SimEnds.{is_played}
 use Rattle.evc_scripts.proofs.simulating.write_report.Goals as goal
 
 pub returns-then-write_run-clause-ends : goal.returns-then-write_run-clause-ends
 returns-then-write_run-clause-ends g c =
-    let h : HasOutline c.args.plan.now.heading = c.known.ensures.outline c.requires.plan.some in (
+    let h : HasHeaderTree c.args.plan.now.heading =
+    c.invariant.ensures.outline c.requires.plan.some in (
       _,
       _,
       is_played c.args.plan.now c.args.report.now h c.requires.plan.version c.requires.report,
@@ -22,5 +23,6 @@ returns-then-write_run-clause-ends g c =
 
 pub returns-else-write_run-clause-ends : goal.returns-else-write_run-clause-ends
 returns-else-write_run-clause-ends g c =
-    let h : HasOutline c.args.plan.now.heading = c.known.ensures.outline c.requires.plan.some in
-    (_, _, is_played c.args.plan.now c.args.report.now h c.requires.plan.version c.requires.report, c.if-write_run.ensures.front h.outline h.is h.declares refl, (c.if-write_run.ensures.noted, c.if-write_run.ensures.written))
+    let h : HasHeaderTree c.args.plan.now.heading =
+    c.invariant.ensures.outline c.requires.plan.some in
+    (_, _, is_played c.args.plan.now c.args.report.now h c.requires.plan.version c.requires.report, c.if-write_run.ensures.prefix h.outline h.is h.declares refl, (c.if-write_run.ensures.noted, c.if-write_run.ensures.written))

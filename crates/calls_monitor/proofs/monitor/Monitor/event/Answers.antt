@@ -22,9 +22,10 @@ returns-else-is_full c = λ kinds past h w.
     (sym c.if-is_full.ensures.value) in
     invoked kinds past c.args.event h (omega arith) old w (omega (arith, c.if-is_full.ensures.fits))
     c.in-Invoke.object c.in-Invoke._op c.in-Invoke.is
-    (below_by (length old.pending.items) WORKERS c.if-is_full.ensures.fits apart) c.hand.new.self
-    (ap (λ ps. ps.items) c.hand.ensures.pending ∙ c.push.ensures.items) c.hand.result
-    c.hand.ensures.handed)
+    (below_by (length old.pending.items) WORKERS c.if-is_full.ensures.fits apart) c.pass_to_object.new.self
+    (ap (λ ps. ps.items) c.pass_to_object.ensures.pending
+    ∙ c.push.ensures.items) c.pass_to_object.result
+    c.pass_to_object.ensures.passed)
 
 pub returns-in-Some : goal.returns-in-Some
 returns-in-Some c = λ kinds past h w.
@@ -34,6 +35,7 @@ returns-in-Some c = λ kinds past h w.
     c.in-Respond._reply c.in-Respond.is c.in-Some.i c.remove-object.result
     (subst (λ ps. position (is_his c.args.event.worker) ps ≡ Some c.in-Some.i)
     c.as_slice.ensures.value (sym c.in-Some.ensures)) c.remove-object.ensures.value
-    c.hand-in-Respond.new.self
-    (ap (λ ps. ps.items) c.hand-in-Respond.ensures.pending ∙ c.remove-object.ensures.items)
-    c.hand-in-Respond.result c.hand-in-Respond.ensures.handed)
+    c.pass_to_object-in-Respond.new.self
+    (ap (λ ps. ps.items) c.pass_to_object-in-Respond.ensures.pending
+    ∙ c.remove-object.ensures.items)
+    c.pass_to_object-in-Respond.result c.pass_to_object-in-Respond.ensures.passed)

@@ -39,7 +39,7 @@ returns-in-None-clause-judges c = λ units past h k room.
     (record { bank = c.take.new.self; pending = c.remove.new.self }) c.remove.ensures.items
     c.in-None.ensures.same
     (subst (λ (z : Call). TakenAs c.args.self.now.bank c.take.new.self z.op c.in-Respond.reply None)
-    c.completion-call.ensures c.in-None.ensures.value))
+    c.complete-call.ensures c.in-None.ensures.value))
 
 pub returns-in-Some-take-clause-judges : goal.returns-in-Some-take-clause-judges
 returns-in-Some-take-clause-judges c = λ units past h k room.
@@ -54,8 +54,8 @@ returns-in-Some-take-clause-judges c = λ units past h k room.
       call = z;
       index =
           c.in-Some-take.index;
-    })) (sym c.completion-call.ensures)
+    })) (sym c.complete-call.ensures)
     (monitor_refused units c.args.event past h c.args.self.now k c.in-Respond.reply c.in-Respond.is
     c.in-Some.k c.remove.result at c.take.new.self c.in-Some-take.index
     (subst (λ (z : Call). TakenAs c.args.self.now.bank c.take.new.self z.op c.in-Respond.reply
-    (Some c.in-Some-take.index)) c.completion-call.ensures c.in-Some-take.ensures.value)))
+    (Some c.in-Some-take.index)) c.complete-call.ensures c.in-Some-take.ensures.value)))

@@ -62,7 +62,7 @@ returns-clause-step c = λ is units past h le k.
     } ∷ []) place c.in_ok-push.ensures.items) in
     let order : c.push-2.new.self.items ≡ s.order.items ++ completion s.end Done
     (invoked_by c.args.event c.args.object c.args.op) ∷ [] =
-    c.in_ok-push-2.ensures.items ∙ ap (λ (z : Call). s.order.items ++ z ∷ []) c.completion.ensures
+    c.in_ok-push-2.ensures.items ∙ ap (λ (z : Call). s.order.items ++ z ∷ []) c.complete.ensures
     ∙ ap (λ (z : PendingCall). s.order.items ++ completion s.end Done z ∷ [])
     c.invoked_by-call.ensures in
     scan_invoked_v units c.args.event past h s new le k refl c.args.object c.args.op is pending

@@ -3,7 +3,7 @@ use Rattle.std.proofs.Common.{false, arith}
 use Rattle.std.specs.List.{position}
 use Rattle.std.specs.Vec.{with_item}
 use Rattle.calls_core.specs.declared.history.Call.{Call}
-use Rattle.calls_semaphores.specs.declared.scan.Open.{Open}
+use Rattle.calls_semaphores.specs.declared.scan.PendingUnits.{PendingUnits}
 use Rattle.calls_semaphores.specs.declared.scan.Scan.{Scan}
 use Rattle.calls_semaphores.specs.Monitors.{IsRefusedAt}
 use Rattle.calls_semaphores.specs.Keeping.{is_v, TakenAs}
@@ -14,35 +14,35 @@ use Rattle.calls_semaphores.proofs.scan.Scan.respond.Goals as goal
 pub returns-in_default-clause-step : goal.returns-in_default-clause-step
 returns-in_default-clause-step c = λ is units past h le k.
     absurd (scan_nobody units c.args.event past h c.args.self.now k c.args.reply is
-    (subst (λ os. position (is_his (λ (o : Open). o.call) c.args.event.worker) os ≡ None)
+    (subst (λ os. position (is_his (λ (o : PendingUnits). o.call) c.args.event.worker) os ≡ None)
     c.deref.ensures.value (sym c.in_default.ensures)))
 
 pub returns-in-Some-take-clause-step : goal.returns-in-Some-take-clause-step
 returns-in-Some-take-clause-step c = λ is units past h le k.
     (let s = c.args.self.now in
     let o = c.remove-open.result in
-    let at : IsAt (λ (p : Open). p.call) c.args.event.worker s.pending.items c.in-Some.k o =
-    at_position (λ (p : Open). p.call) c.args.event.worker s.pending.items c.in-Some.k o
-    (subst (λ os. position (is_his (λ (p : Open). p.call) c.args.event.worker) os
+    let at : IsAt (λ (p : PendingUnits). p.call) c.args.event.worker s.pending.items c.in-Some.k o =
+    at_position (λ (p : PendingUnits). p.call) c.args.event.worker s.pending.items c.in-Some.k o
+    (subst (λ os. position (is_his (λ (p : PendingUnits). p.call) c.args.event.worker) os
     ≡ Some c.in-Some.k) c.deref.ensures.value (sym c.in-Some.ensures))
     c.remove-open.ensures.value in
     subst (λ (z : Call). IsRefusedAt units past c.args.event (record {
       call = z;
       index =
           c.in-Some-take.index;
-    })) (sym c.completion-call.ensures)
+    })) (sym c.complete-call.ensures)
     (scan_refused units c.args.event past h s k c.args.reply is c.in-Some.k o at c.take.new.self
     c.in-Some-take.index
     (subst (λ (z : Call). TakenAs s.bank c.take.new.self z.op c.args.reply
-    (Some c.in-Some-take.index)) c.completion-call.ensures c.in-Some-take.ensures.value)))
+    (Some c.in-Some-take.index)) c.complete-call.ensures c.in-Some-take.ensures.value)))
 
 pub returns-in_ok-push-clause-step : goal.returns-in_ok-push-clause-step
 returns-in_ok-push-clause-step c = λ is units past h le k.
     (let s = c.args.self.now in
     let o = c.remove-open.result in
-    let at : IsAt (λ (p : Open). p.call) c.args.event.worker s.pending.items c.in-Some.k o =
-    at_position (λ (p : Open). p.call) c.args.event.worker s.pending.items c.in-Some.k o
-    (subst (λ os. position (is_his (λ (p : Open). p.call) c.args.event.worker) os
+    let at : IsAt (λ (p : PendingUnits). p.call) c.args.event.worker s.pending.items c.in-Some.k o =
+    at_position (λ (p : PendingUnits). p.call) c.args.event.worker s.pending.items c.in-Some.k o
+    (subst (λ os. position (is_his (λ (p : PendingUnits). p.call) c.args.event.worker) os
     ≡ Some c.in-Some.k) c.deref.ensures.value (sym c.in-Some.ensures))
     c.remove-open.ensures.value in
     let new : Scan = record {
@@ -55,46 +55,46 @@ returns-in_ok-push-clause-step c = λ is units past h le k.
     scan_other units c.args.event past h s new le k refl c.args.reply is c.in-Some.k o at
     c.remove-open.ensures.items c.in_default-take.ensures.same
     (subst (λ (z : Call). TakenAs s.bank c.take.new.self z.op c.args.reply None)
-    c.completion-call.ensures c.in_default-take.ensures.value)
-    (subst (λ (z : Call). is_v z.op ≡ false) c.completion-call.ensures
+    c.complete-call.ensures c.in_default-take.ensures.value)
+    (subst (λ (z : Call). is_v z.op ≡ false) c.complete-call.ensures
     (sym c.is_v.ensures ∙ c.if-not-is_v.true))
-    (subst (λ (z : Call). c.push.new.self.items ≡ s.order.items ++ z ∷ []) c.completion-call.ensures
+    (subst (λ (z : Call). c.push.new.self.items ≡ s.order.items ++ z ∷ []) c.complete-call.ensures
     c.in_ok-push.ensures.items))
 
 pub returns-then-open-len-clause-step : goal.returns-then-open-len-clause-step
 returns-then-open-len-clause-step c = λ is units past h le k.
     (let s = c.args.self.now in
     let o = c.remove-open.result in
-    let at : IsAt (λ (p : Open). p.call) c.args.event.worker s.pending.items c.in-Some.k o =
-    at_position (λ (p : Open). p.call) c.args.event.worker s.pending.items c.in-Some.k o
-    (subst (λ os. position (is_his (λ (p : Open). p.call) c.args.event.worker) os
+    let at : IsAt (λ (p : PendingUnits). p.call) c.args.event.worker s.pending.items c.in-Some.k o =
+    at_position (λ (p : PendingUnits). p.call) c.args.event.worker s.pending.items c.in-Some.k o
+    (subst (λ os. position (is_his (λ (p : PendingUnits). p.call) c.args.event.worker) os
     ≡ Some c.in-Some.k) c.deref.ensures.value (sym c.in-Some.ensures))
     c.remove-open.ensures.value in
     let new : Scan = record {
       bank = c.take.new.self;
       pending = c.remove-open.new.self;
       order =
-          with_item s.order o.place c.completion-call.result;
+          with_item s.order o.place c.complete-call.result;
       end = s.end;
     } in
     scan_v units c.args.event past h s new le k refl c.args.reply is c.in-Some.k o at
     c.remove-open.ensures.items c.in_default-take.ensures.same
     (subst (λ (z : Call). TakenAs s.bank c.take.new.self z.op c.args.reply None)
-    c.completion-call.ensures c.in_default-take.ensures.value)
-    (subst (λ (z : Call). is_v z.op ≡ true) c.completion-call.ensures
+    c.complete-call.ensures c.in_default-take.ensures.value)
+    (subst (λ (z : Call). is_v z.op ≡ true) c.complete-call.ensures
     (sym c.is_v.ensures ∙ c.if-not-is_v.false))
-    (ap (λ (z : Call). set s.order.items o.place z) c.completion-call.ensures))
+    (ap (λ (z : Call). set s.order.items o.place z) c.complete-call.ensures))
 
 pub returns-else-open-len-clause-step : goal.returns-else-open-len-clause-step
 returns-else-open-len-clause-step c = λ is units past h le k.
     (let s = c.args.self.now in
     let o = c.remove-open.result in
-    let at : IsAt (λ (p : Open). p.call) c.args.event.worker s.pending.items c.in-Some.k o =
-    at_position (λ (p : Open). p.call) c.args.event.worker s.pending.items c.in-Some.k o
-    (subst (λ os. position (is_his (λ (p : Open). p.call) c.args.event.worker) os
+    let at : IsAt (λ (p : PendingUnits). p.call) c.args.event.worker s.pending.items c.in-Some.k o =
+    at_position (λ (p : PendingUnits). p.call) c.args.event.worker s.pending.items c.in-Some.k o
+    (subst (λ os. position (is_his (λ (p : PendingUnits). p.call) c.args.event.worker) os
     ≡ Some c.in-Some.k) c.deref.ensures.value (sym c.in-Some.ensures))
     c.remove-open.ensures.value in
     let within = placed_within units c.args.event past h s k c.args.reply is c.in-Some.k o at
-    (subst (λ (z : Call). is_v z.op ≡ true) c.completion-call.ensures
+    (subst (λ (z : Call). is_v z.op ≡ true) c.complete-call.ensures
     (sym c.is_v.ensures ∙ c.if-not-is_v.false)) in
     absurd (omega (arith, within, c.if-open-len.false, c.len.ensures)))

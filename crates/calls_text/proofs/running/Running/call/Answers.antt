@@ -2,7 +2,7 @@ use Rattle.std.proofs.Common.{◌∙◌, ap, sym, subst}
 use Rattle.std.specs.Global.{Vec}
 use Rattle.calls_core.specs.declared.history.PendingCall.{PendingCall}
 use Rattle.calls_text.specs.declared.tally.Tally.{Tally}
-use Rattle.calls_text.specs.Recordings.{Recorded}
+use Rattle.calls_text.specs.Recordings.{RecordingModel}
 use Rattle.calls_text.specs.kept.Judging.{TallyAfter}
 use Rattle.calls_text.specs.kept.Runs.{IsPlaced}
 use Rattle.calls_text.proofs.Fitting.{fits_placed}
@@ -11,7 +11,7 @@ use Rattle.calls_text.proofs.running.Running.call.Goals as goal
 
 pub index_of-index-requires : goal.index_of-index-requires
 index_of-index-requires c =
-    subst (λ (r : Recorded). IsPlaced r.heading c.args.object.now) (sym c.in_ok-n.ensures.after)
+    subst (λ (r : RecordingModel). IsPlaced r.heading c.args.object.now) (sym c.in_ok-n.ensures.after)
     (fits_placed c.args.self.now.recording.heading c.args.verb c.args.object.now c.requires.fits)
 
 pub count-requires : goal.count-requires
@@ -23,12 +23,12 @@ count-requires c =
 pub returns : goal.returns
 returns c =
     call_made c.args.self.now c.args.worker c.args.verb c.args.object.now _
-    c.number_in.new.recording c.count.new.self c.in_ok-n.n c.index_of-index.result c.op_of.result
+    c.number_in.new.recording c.count.new.self c.in_ok-n.n c.index_of-index.result c.op_of_word.result
     c.in_ok-event.event (record {
       mid_is = c.in_ok-n.ensures.after;
       number = c.in_ok-n.ensures.number;
       index = c.index_of-index.ensures;
-      op_is = c.op_of.ensures;
+      op_is = c.op_of_word.ensures;
       event = c.in_ok-event.ensures.at;
       recording = c.count.ensures.recording ∙ c.in_ok-event.ensures.recording;
       count = c.count.ensures.count ∙ c.in_ok-event.ensures.count;

@@ -2,7 +2,7 @@ use Rattle.std.proofs.Common.{◌≡◌, ℕ, List, Option, Ok, subst}
 use Rattle.calls_core.specs.declared.history.Event.{Event}
 use Rattle.calls_text.specs.declared.stage.Stage as held
 use Rattle.calls_text.specs.Reading.{Stage, step, StepFails}
-use Rattle.calls_text.specs.kept.Stages.{seen, IsSound, kept_events, seen_with, Follows}
+use Rattle.calls_text.specs.kept.Stages.{stage_with_all, IsSound, kept_events, seen_with, Follows}
 use Rattle.calls_text.proofs.Lifting.{seen_kept, following, kept_none, kept_next, kept_then}
 use Rattle.calls_text.proofs.stage.Stage.take.Goals as goal
 
@@ -28,7 +28,8 @@ pub returns-in-Ok-None : goal.returns-in-Ok-None
 returns-in-Ok-None c =
     let s = c.args.self.now in
     let new = c.follow.new.self in
-    subst (λ (t : Stage). (step t c.args.line.now ≡ Ok (seen new)) × IsSound new) (seen_kept s)
+    subst (λ (t : Stage). (step t c.args.line.now ≡ Ok (stage_with_all new))
+    × IsSound new) (seen_kept s)
     (kept_none s new (step (seen_with (kept_events s) s) c.args.line.now)
     c.in-Ok-None.ensures.kept
     (subst (From s c.args.line.now new) c.in-Ok-None.field-0-is
@@ -38,7 +39,8 @@ pub returns-in-Ok : goal.returns-in-Ok
 returns-in-Ok c =
     let s = c.args.self.now in
     let new = c.keep.new.self in
-    subst (λ (t : Stage). (step t c.args.line.now ≡ Ok (seen new)) × IsSound new) (seen_kept s)
+    subst (λ (t : Stage). (step t c.args.line.now ≡ Ok (stage_with_all new))
+    × IsSound new) (seen_kept s)
     (kept_then s c.follow.new.self new (step (seen_with (kept_events s) s) c.args.line.now)
     c.in-Ok-Some.event c.in-Ok-Some.ensures.kept
     (subst (From s c.args.line.now c.follow.new.self) c.in-Ok-Some.field-0-is

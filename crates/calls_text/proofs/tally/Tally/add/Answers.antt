@@ -7,7 +7,7 @@ use Rattle.calls_text.proofs.tally.Tally.add.Goals as goal
 abbrev at : List (List ℕ) → ℕ → ℕ → ℕ
 at rows w e = get_or (get_or rows w []) e 0
 
--- one number of one row is another one
+-- a row in which one number is replaced
 row : (xs : List ℕ) (e f n : ℕ) (b : Bool) → e < length xs → eqb f e ≡ b
     → get_or (set xs e n) f 0 ≡ cond b n (get_or xs f 0)
 row xs e f n true lt is = let same : f ≡ e = eqb-true f e is in ap
@@ -26,7 +26,7 @@ rows xs w e v f n true b lt within is other =
 rows xs w e v f n false b lt within is other = ap (λ (r : List ℕ). get_or r f 0)
     (get_or-set_other xs w v (set (get_or xs w []) e n) [] (eqb-false v w is))
 
--- at the same place it is one more than before
+-- the number of this worker and eventcount is one more than before
 counted : (xs : List (List ℕ)) (w e v f x y : ℕ) → w ≡ x → e ≡ y
     → cond (eqb v w && eqb f e) (at xs w e + 1) (at xs v f)
     ≡ cond (eqb v x && eqb f y) (at xs v f + 1) (at xs v f)

@@ -1,5 +1,5 @@
 use Rattle.std.proofs.Common.{◌≡◌, ◌∷◌, true, false, sym, ◌∙◌, arith, subst, length}
-use Rattle.calls_tickets.specs.Faults.{number_of}
+use Rattle.calls_tickets.specs.Faults.{ticket_number}
 use Rattle.calls_tickets.specs.kept.Watching.{IsPendingAt, Watching}
 use Rattle.calls_tickets.proofs.Stepping.{invoked}
 use Rattle.calls_tickets.proofs.Answering.{goes_on, lacks, cannot, refusal, acceptance, taken_is}
@@ -29,12 +29,12 @@ returns-then-not-take c = λ past history w.
     refusal past c.args.event c.in-Respond.reply s.top s.holes.items s.pending.items rest
     c.in-Some.i u c.in-Respond.is k c.remove-ticket.ensures.value c.remove-ticket.ensures.items
     history w
-    c.completed-call.result c.completed-call.ensures
+    c.complete-call.result c.complete-call.ensures
     (cannot past c.args.event c.in-Respond.reply s.top s.holes.items s.pending.items rest
     c.in-Some.i u c.in-Respond.is k c.remove-ticket.ensures.value c.remove-ticket.ensures.items
     history w
     (taken_is s.top new.top s.holes.items new.holes.items (length rest) u.noted c.number.result
-    (number_of c.in-Respond.reply) c.take.result false c.number.ensures c.if-not-take.true
+    (ticket_number c.in-Respond.reply) c.take.result false c.number.ensures c.if-not-take.true
     c.take.ensures.taken)))
 
 pub returns-then-are_paired : goal.returns-then-are_paired
@@ -53,7 +53,7 @@ returns-then-are_paired c = λ past history w.
     history w
     new.top new.holes.items (omega arith)
     (taken_is s.top new.top s.holes.items new.holes.items (length rest) u.noted c.number.result
-    (number_of c.in-Respond.reply) c.take.result true c.number.ensures c.if-not-take.false
+    (ticket_number c.in-Respond.reply) c.take.result true c.number.ensures c.if-not-take.false
     c.take.ensures.taken)
     (pairs_are c.as_slice-in-Respond.result.now new.holes.items c.as_slice-in-Respond-2.result.now
     rest c.are_paired.result true c.as_slice-in-Respond.ensures.value
@@ -71,12 +71,12 @@ returns-else-are_paired c = λ past history w.
     refusal past c.args.event c.in-Respond.reply s.top s.holes.items s.pending.items rest
     c.in-Some.i u c.in-Respond.is k c.remove-ticket.ensures.value c.remove-ticket.ensures.items
     history w
-    c.completed-call.result c.completed-call.ensures
+    c.complete-call.result c.complete-call.ensures
     (lacks past c.args.event c.in-Respond.reply s.top s.holes.items s.pending.items rest c.in-Some.i
     u c.in-Respond.is k c.remove-ticket.ensures.value c.remove-ticket.ensures.items history w
     new.top new.holes.items (omega arith)
     (taken_is s.top new.top s.holes.items new.holes.items (length rest) u.noted c.number.result
-    (number_of c.in-Respond.reply) c.take.result true c.number.ensures c.if-not-take.false
+    (ticket_number c.in-Respond.reply) c.take.result true c.number.ensures c.if-not-take.false
     c.take.ensures.taken)
     (pairs_are c.as_slice-in-Respond.result.now new.holes.items c.as_slice-in-Respond-2.result.now
     rest c.are_paired.result false c.as_slice-in-Respond.ensures.value

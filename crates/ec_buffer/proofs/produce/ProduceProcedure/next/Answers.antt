@@ -9,4 +9,4 @@ pub returns-else-self : goal.returns-else-self
 returns-else-self c =
     let s = c.args.self.now in
     let list = produce_list s.shape s.item in
-    c.produce_at.ensures ∙ rest_next list s.place.at s.place.turn refl ∙ ap (λ (b : Bool). next_of b (rest_of list s.place.at s.place.turn [])) (sym c.if-self.false)
+    c.produce_at.ensures ∙ rest_next list s.phase.at s.phase.turn refl ∙ ap (λ (b : Bool). next_of b (rest_of list s.phase.at s.phase.turn [])) (sym c.if-self.false)

@@ -5,9 +5,9 @@ use Rattle.ec_buffer.proofs.produce.ProduceProcedure.take.Goals as goal
 pub returns-clause-pending : goal.returns-clause-pending
 returns-clause-pending c =
     let s = c.args.self.now in
-    λ pending calls. rest_pending (produce_list s.shape s.item) s.place.at s.place.turn c.take.new.self.at c.take.new.self.turn c.args.reply calls pending c.take.ensures.at c.take.ensures.turn
+    λ pending calls. rest_pending (produce_list s.shape s.item) s.phase.at s.phase.turn c.take.new.self.at c.take.new.self.turn c.args.reply calls pending c.take.ensures.at c.take.ensures.turn
 
-pub returns-clause-told : goal.returns-clause-told
-returns-clause-told c =
+pub returns-clause-returned : goal.returns-clause-returned
+returns-clause-returned c =
     let s = c.args.self.now in
-    λ done op due calls. rest_told (produce_list s.shape s.item) s.place.at s.place.turn c.take.new.self.at c.take.new.self.turn c.args.reply op calls done c.take.ensures.at c.take.ensures.turn
+    λ done op due calls. rest_told (produce_list s.shape s.item) s.phase.at s.phase.turn c.take.new.self.at c.take.new.self.turn c.args.reply op calls done c.take.ensures.at c.take.ensures.turn

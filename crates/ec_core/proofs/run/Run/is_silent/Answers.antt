@@ -18,7 +18,7 @@ returns-then-hands_to c =
     let x = c.in-Some.entry in
     let order : c.loop-entry.yielded ++ x ∷ c.next.new.self ≡ run.entries = ap (λ (r : List Entry). c.loop-entry.yielded ++ r) (sym c.in-Some.ensures.steps) ∙ c.loop-entry.invariant.order in
     let to : hands_to c.args.worker x.act ≡ true = sym c.hands_to.ensures ∙ c.if-hands_to.true in
-    (λ yes. cc, λ silent. absurd (receiver_speaks run.setup run.entries c.loop-entry.yielded c.next.new.self x c.args.worker c.known.ensures.accepted order to silent))
+    (λ yes. cc, λ silent. absurd (receiver_speaks run.setup run.entries c.loop-entry.yielded c.next.new.self x c.args.worker c.invariant.ensures.accepted order to silent))
 
 pub returns : goal.returns
 returns c =

@@ -1,6 +1,6 @@
 use Rattle.std.proofs.Common.{◌≡◌, ◌≤◌, ◌∙◌, drop, take, length, slice_get, Some, refl, ap, sym, arith}
 use Rattle.std.proofs.lemmas.Option.{slice_get_read, slice_get_past}
-use Rattle.ec_core.specs.Stored.{stored_entry, widths}
+use Rattle.ec_core.specs.Packed.{unpack_entry, total_word_count}
 use Rattle.ec_core.proofs.Keeping.{entry_at, length_kept, widths_within}
 use Rattle.ec_core.proofs.segment.Segment.get.Goals as goal
 
@@ -12,9 +12,10 @@ returns-then-i-len-clause-value c =
 pub of-words-requires : goal.of-words-requires
 of-words-requires c =
     let ss = c.self.inside.stored.items in
-    let some : widths (take c.args.i ss) ≤ widths ss = widths_within c.args.i ss in
-    let start : c.start_of-start.result ≡ widths (take c.args.i ss) = c.start_of-start.ensures ∙ ap (λ xs. widths (take c.args.i xs)) c.deref.ensures.value in
-    let whole : length c.self.inside.words.items ≡ widths ss = c.self.invariant.whole in
+    let some : total_word_count (take c.args.i ss) ≤ total_word_count ss =
+    widths_within c.args.i ss in
+    let start : c.word_start-start.result ≡ total_word_count (take c.args.i ss) = c.word_start-start.ensures ∙ ap (λ xs. total_word_count (take c.args.i xs)) c.deref.ensures.value in
+    let whole : length c.self.inside.words.items ≡ total_word_count ss = c.self.invariant.whole in
     let same : length c.deref-3.result.now ≡ length c.self.inside.words.items = ap length c.deref-3.ensures.value in
     omega arith
 
@@ -25,6 +26,6 @@ returns-clause-value c =
     let s = c.index.result.now in
     let i = c.args.i in
     let at : slice_get ss i ≡ Some s = slice_get_read ss (length ss) i s refl (omega arith) c.index.ensures in
-    let start : c.start_of-start.result ≡ widths (take i ss) = c.start_of-start.ensures ∙ ap (λ xs. widths (take i xs)) c.deref.ensures.value in
-    let words : c.of-words.result ≡ drop (widths (take i ss)) ws = c.of-words.ensures ∙ ap (λ n. drop n c.deref-3.result.now) start ∙ ap (drop (widths (take i ss))) c.deref-3.ensures.value in
-    ap Some (c.entry.ensures.value ∙ ap (λ xs. stored_entry xs s) words) ∙ sym (entry_at ws ss i s at) ∙ ap (λ es. slice_get es i) c.self.view_is
+    let start : c.word_start-start.result ≡ total_word_count (take i ss) = c.word_start-start.ensures ∙ ap (λ xs. total_word_count (take i xs)) c.deref.ensures.value in
+    let words : c.of-words.result ≡ drop (total_word_count (take i ss)) ws = c.of-words.ensures ∙ ap (λ n. drop n c.deref-3.result.now) start ∙ ap (drop (total_word_count (take i ss))) c.deref-3.ensures.value in
+    ap Some (c.entry.ensures.value ∙ ap (λ xs. unpack_entry xs s) words) ∙ sym (entry_at ws ss i s at) ∙ ap (λ es. slice_get es i) c.self.view_is

@@ -1,5 +1,5 @@
 use Rattle.std.proofs.Common.{◌≤◌, [], vec_capacity, ap, sym, subst}
-use Rattle.ec_core.specs.Stored.{stored_entries, IsSegment}
+use Rattle.ec_core.specs.Packed.{unpack_entries, IsSegment}
 use Rattle.ec_core.proofs.Keeping.{none_begun}
 use Rattle.ec_core.proofs.segment.Segment.open.Goals as goal
 
@@ -13,5 +13,5 @@ invariant_of-result c =
     (subst (λ ks. IsSegment [] [] ks n m) (sym c.in_ok-starts.ensures.items) (none_begun n m room)))
 
 pub returns : goal.returns
-unfolding stored_entries
-returns c = ap (stored_entries c.in_ok-words.words.items) c.in_ok-stored.ensures.items
+unfolding unpack_entries
+returns c = ap (unpack_entries c.in_ok-words.words.items) c.in_ok-stored.ensures.items

@@ -1,5 +1,5 @@
 use Rattle.std.proofs.Common.{◌≡◌, ◌+◌, ◌*◌, ◌∙◌, length, ap, sym, arith}
-use Rattle.ec_core.specs.Segmented.{joined}
+use Rattle.ec_core.specs.Segments.{concat_segments}
 use Rattle.ec_core.proofs.shared.Joining.{length_joined}
 use Rattle.ec_core.proofs.segments.Segments.len.Goals as goal
 
@@ -7,6 +7,6 @@ pub returns : goal.returns
 returns c =
     let full = c.self.inside.full.items in
     let last = c.self.inside.last in
-    let kept : length (joined full last) ≡ length full * 4096 + length last = length_joined (λ xs. xs) 4096 full last c.self.invariant.whole in
+    let kept : length (concat_segments full last) ≡ length full * 4096 + length last = length_joined (λ xs. xs) 4096 full last c.self.invariant.whole in
     let all : length c.args.self.now ≡ length full * 4096 + length last = ap length (sym c.self.view_is) ∙ kept in
     omega arith

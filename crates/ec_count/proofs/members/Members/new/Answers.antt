@@ -9,7 +9,7 @@ loop-worker-preserved c =
     let before = c.loop-worker in
     record {
       items = grind (arith, common_steps);
-      told = subst (λ ws. TellsMembers ws (slice_set before.table c.get.result true)) (sym c.push.ensures.items)
+      returned = subst (λ ws. TellsMembers ws (slice_set before.table c.get.result true)) (sym c.push.ensures.items)
           (subst (λ w. TellsMembers (before.members.items ++ w ∷ []) (slice_set before.table c.get.result true)) c.get.ensures.value
-          (added before.members.items before.table c.get.result before.invariant.told c.get.ensures.small));
+          (added before.members.items before.table c.get.result before.invariant.returned c.get.ensures.small));
     }

@@ -25,7 +25,7 @@ added c =
     ∙ by_bytes-append c.self.inside.table.entries c.in-Ok.key c.args.target
     ∙ ap (λ (n : List ℕ). by_bytes c.self.inside.table.entries ++ (n, c.args.target) ∷ []) key
 
--- the first places after it
+-- the first positions after it
 noted : (c : goal.After-note_first) → (t : Target) → lookup (same_target t) c.note_first.new.firsts.entries ≡ with_first c.args.target (length (by_bytes c.self.inside.table.entries)) t (lookup (same_target t) c.self.inside.firsts.entries)
 noted c t =
     let place : c.len-place.result ≡ length (by_bytes c.self.inside.table.entries) = c.len-place.ensures ∙ ap length (sym c.self.view_is) in

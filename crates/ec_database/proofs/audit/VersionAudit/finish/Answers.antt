@@ -3,52 +3,55 @@ use Rattle.ec_core.specs.Ending.{EndsAt}
 use Rattle.ec_core.specs.Audits.{IsAuditFault}
 use Rattle.ec_core.proofs.shared.Endings.{break_told}
 use Rattle.ec_database.specs.Following.{database_rules, FollowsDatabase}
-use Rattle.ec_database.specs.Places.{kept_of}
+use Rattle.ec_database.specs.SnapshotPhases.{list_progress}
 use Rattle.ec_database.specs.Tries.{AcceptedTry, ListsTries, AreUndisturbed}
-use Rattle.ec_database.specs.Auditing.{Versioning, IsVersioning}
+use Rattle.ec_database.specs.Auditing.{VersionAuditModel, RepresentsVersions}
 use Rattle.ec_database.proofs.Listing.{listed, all_undisturbed}
 use Rattle.ec_database.proofs.audit.VersionAudit.finish.Goals as goal
 
 pub returns-in-Err-clause-err : goal.returns-in-Err-clause-err
 returns-in-Err-clause-err c h ended =
     let rules = database_rules c.self.inside.lists.setup.now c.self.inside.lists.shape.now in
-    let E : Versioning → Type 0 = λ z. EndsAt z.setup (IsVersioning z) h in
+    let E : VersionAuditModel → Type 0 = λ z. EndsAt z.setup (RepresentsVersions z) h in
     let inside = subst E (sym c.self.view_is) ended in
-    let Q : Versioning → Type 0 = λ z. IsAuditFault (database_rules z.setup z.shape) h c.in-Err.fault in
-    subst Q c.self.view_is (break_told rules h c.in-Err.fault (c.in-Err.ensures rules kept_of h inside.stands.tracked).1)
+    let Q : VersionAuditModel → Type 0 = λ z. IsAuditFault (database_rules z.setup z.shape) h c.in-Err.fault in
+    subst Q c.self.view_is (break_told rules h c.in-Err.fault (c.in-Err.ensures rules list_progress h inside.represents.tracked).1)
 
-pub returns-then-lacks-clause-err : goal.returns-then-lacks-clause-err
-returns-then-lacks-clause-err c h ended =
+pub returns-then-out_of_memory-clause-err : goal.returns-then-out_of_memory-clause-err
+returns-then-out_of_memory-clause-err c h ended =
     let rules = database_rules c.self.inside.lists.setup.now c.self.inside.lists.shape.now in
-    let E : Versioning → Type 0 = λ z. EndsAt z.setup (IsVersioning z) h in
+    let E : VersionAuditModel → Type 0 = λ z. EndsAt z.setup (RepresentsVersions z) h in
     let inside = subst E (sym c.self.view_is) ended in
-    let Q : Versioning → Type 0 = λ z. FollowsDatabase z.setup z.shape (reverse h) in
-    subst Q c.self.view_is ((c.in_default.ensures rules kept_of h inside.stands.tracked).0.0 refl)
+    let Q : VersionAuditModel → Type 0 = λ z. FollowsDatabase z.setup z.shape (reverse h) in
+    subst Q c.self.view_is ((c.in_default.ensures rules list_progress h inside.represents.tracked).0.0 refl)
 
 pub returns-clause-followed : goal.returns-clause-followed
 returns-clause-followed c h ended =
     let rules = database_rules c.self.inside.lists.setup.now c.self.inside.lists.shape.now in
-    let E : Versioning → Type 0 = λ z. EndsAt z.setup (IsVersioning z) h in
+    let E : VersionAuditModel → Type 0 = λ z. EndsAt z.setup (RepresentsVersions z) h in
     let inside = subst E (sym c.self.view_is) ended in
-    let Q : Versioning → Type 0 = λ z. FollowsDatabase z.setup z.shape (reverse h) in
-    subst Q c.self.view_is ((c.in_default.ensures rules kept_of h inside.stands.tracked).0.0 refl)
+    let Q : VersionAuditModel → Type 0 = λ z. FollowsDatabase z.setup z.shape (reverse h) in
+    subst Q c.self.view_is ((c.in_default.ensures rules list_progress h inside.represents.tracked).0.0 refl)
 
 pub returns-clause-tries : goal.returns-clause-tries
 returns-clause-tries c h ended =
     let t = c.self.inside.lists.setup.now in
     let d = c.self.inside.lists.shape.now in
-    let E : Versioning → Type 0 = λ z. EndsAt z.setup (IsVersioning z) h in
+    let E : VersionAuditModel → Type 0 = λ z. EndsAt z.setup (RepresentsVersions z) h in
     let inside = subst E (sym c.self.view_is) ended in
-    let Q : Versioning → Type 0 = λ z. ListsTries z.setup z.shape h c.self.inside.tries.list in
-    subst Q c.self.view_is (subst (λ (l : List AcceptedTry). ListsTries t d h l) (sym (inside.stands.list c.if-lacks.false)) (listed t d h))
+    let Q : VersionAuditModel → Type 0 =
+    λ z. ListsTries z.setup z.shape h c.self.inside.tries.list in
+    subst Q c.self.view_is (subst (λ (l : List AcceptedTry). ListsTries t d h l) (sym (inside.represents.list c.if-out_of_memory.false)) (listed t d h))
 
 pub returns-clause-undisturbed : goal.returns-clause-undisturbed
 returns-clause-undisturbed c h ended =
     let t = c.self.inside.lists.setup.now in
     let d = c.self.inside.lists.shape.now in
-    let E : Versioning → Type 0 = λ z. EndsAt z.setup (IsVersioning z) h in
+    let E : VersionAuditModel → Type 0 = λ z. EndsAt z.setup (RepresentsVersions z) h in
     let inside = subst E (sym c.self.view_is) ended in
-    let found = c.in_default.ensures (database_rules t d) kept_of h inside.stands.tracked in
-    let tries = subst (λ (l : List AcceptedTry). ListsTries t d h l) (sym (inside.stands.list c.if-lacks.false)) (listed t d h) in
-    let R : Versioning → Type 0 = λ z. AreUndisturbed z.setup z.shape h c.self.inside.tries.list in
-    subst R c.self.view_is (all_undisturbed t d h _ (record { declared = inside.declared; shape = c.known.ensures; accepted = inside.accepted; followed = found.0.0 refl }) tries)
+    let found =
+    c.in_default.ensures (database_rules t d) list_progress h inside.represents.tracked in
+    let tries = subst (λ (l : List AcceptedTry). ListsTries t d h l) (sym (inside.represents.list c.if-out_of_memory.false)) (listed t d h) in
+    let R : VersionAuditModel → Type 0 =
+    λ z. AreUndisturbed z.setup z.shape h c.self.inside.tries.list in
+    subst R c.self.view_is (all_undisturbed t d h _ (record { declared = inside.declared; shape = c.invariant.ensures; accepted = inside.accepted; followed = found.0.0 refl }) tries)

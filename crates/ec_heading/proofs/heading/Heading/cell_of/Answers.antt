@@ -2,8 +2,8 @@ use Rattle.std.proofs.Common.{◌≡◌, ◌+◌, ◌∙◌, Some, arith, sym, a
 use Rattle.std.specs.Option.{option_and_then}
 use Rattle.std.proofs.lemmas.Grind.{common_steps}
 use Rattle.ec_count.specs.Names.{find_name}
-use Rattle.ec_heading.specs.Headed.{Headed}
-use Rattle.ec_heading.specs.Spelled.{block_of, cell_of}
+use Rattle.ec_heading.specs.HeadingModel.{HeadingModel}
+use Rattle.ec_heading.specs.EntryWords.{block_of, cell_of}
 use Rattle.ec_heading.proofs.Blocks.{block_ends, made, cell_found}
 use Rattle.ec_heading.proofs.heading.Heading.cell_of.Goals as goal
 
@@ -19,4 +19,4 @@ returns c =
     let ends = block_ends _ c.args.name.now c.in_ok-first.first c.in_ok-first.n c.self.invariant e in
     made c.new.result (c.in_ok-first.first + c.args.i) 256 c.new.ensures.variant c.new.ensures.value (omega (arith, ends, c.if-i-n.false))
     ∙ sym (cell_found c.self.inside.words c.args.name.now c.args.i c.in_ok-first.first c.in_ok-first.n e c.if-i-n.false)
-    ∙ ap (λ (h : Headed). cell_of h.words c.args.name.now c.args.i) c.self.view_is
+    ∙ ap (λ (h : HeadingModel). cell_of h.words c.args.name.now c.args.i) c.self.view_is

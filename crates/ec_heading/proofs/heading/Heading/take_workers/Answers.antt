@@ -3,5 +3,5 @@ use Rattle.ec_heading.specs.Versions.{greatest_limit}
 use Rattle.ec_heading.proofs.shared.Upgrades.{heading_within}
 use Rattle.ec_heading.proofs.heading.Heading.take_workers.Goals as goal
 
-pub opened-requires-clause-within : goal.opened-requires-clause-within
-opened-requires-clause-within c = subst (λ (n : ℕ). n ≤ greatest_limit c.self.inside.version) (sym c.limit.ensures) (heading_within _ c.self.invariant)
+pub empty_heading-requires-clause-within : goal.empty_heading-requires-clause-within
+empty_heading-requires-clause-within c = subst (λ (n : ℕ). n ≤ greatest_limit c.self.inside.version) (sym c.limit.ensures) (heading_within _ c.self.invariant)

@@ -1,7 +1,7 @@
 use Rattle.std.proofs.Common.{sym, ◌∙◌, ap}
 use Rattle.std.specs.Global.{Vec}
 use Rattle.ec_machine.specs.declared.command.Command.{Command}
-use Rattle.ec_script.specs.Drafted.{Drafted, closed}
+use Rattle.ec_script.specs.DraftModel.{DraftModel, draft_with_end}
 use Rattle.ec_script.proofs.Drafts.{closed_is, closed_fits, half_fits, some_long}
 use Rattle.ec_script.proofs.draft.Draft.close.Goals as goal
 
@@ -13,10 +13,10 @@ invariant_of-self-2 c =
     let e = ap (λ (v : Vec Command). v.items) c.replace-block.ensures.after in
     let f = ap (λ (v : Vec Command). v.items) c.replace-block.ensures.value in
     closed_fits _ _ _ _ _ _ c.in-Some.open c.replace-block.result c.in-Some.ensures.items (sym e) f c.in_ok-push.ensures.items
-    (some_long _ (ap (λ (d : Drafted). d.is_empty) c.self.view_is ∙ c.requires.some)) c.self.invariant
+    (some_long _ (ap (λ (d : DraftModel). d.is_empty) c.self.view_is ∙ c.requires.some)) c.self.invariant
 
 pub returns : goal.returns
 returns c =
     let e = ap (λ (v : Vec Command). v.items) c.replace-block.ensures.after in
     let f = ap (λ (v : Vec Command). v.items) c.replace-block.ensures.value in
-    closed_is _ _ _ _ _ _ c.in-Some.open c.replace-block.result c.in-Some.ensures.items (sym e) f c.in_ok-push.ensures.items ∙ ap closed c.self.view_is
+    closed_is _ _ _ _ _ _ c.in-Some.open c.replace-block.result c.in-Some.ensures.items (sym e) f c.in_ok-push.ensures.items ∙ ap draft_with_end c.self.view_is

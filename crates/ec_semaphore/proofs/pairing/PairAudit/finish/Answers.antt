@@ -5,9 +5,9 @@ use Rattle.ec_core.specs.Ending.{EndsAt}
 use Rattle.ec_core.specs.Following.{Follow}
 use Rattle.ec_core.proofs.shared.Endings.{break_told}
 use Rattle.ec_semaphore.specs.declared.pair.Pair.{Pair}
-use Rattle.ec_semaphore.specs.Auditing.{Pairing, IsPairing}
-use Rattle.ec_semaphore.specs.Both.{is_line, both_rules}
-use Rattle.ec_semaphore.specs.Keeping.{kept_of_both}
+use Rattle.ec_semaphore.specs.Auditing.{PairAuditModel, RepresentsPairs}
+use Rattle.ec_semaphore.specs.Both.{is_semaphore_sequencer, both_rules}
+use Rattle.ec_semaphore.specs.Keeping.{list_progress_of_both}
 use Rattle.ec_semaphore.specs.InOrder.{ArePairs}
 use Rattle.ec_semaphore.specs.Pairs.{IsEarlier}
 use Rattle.ec_semaphore.proofs.Drawing.{pairs_drawn}
@@ -17,60 +17,61 @@ use Rattle.ec_semaphore.proofs.pairing.PairAudit.finish.Goals as goal
 
 pub returns-in-Err-clause-err : goal.returns-in-Err-clause-err
 returns-in-Err-clause-err c t h ended =
-    let E : Pairing → Type 0 = λ z. EndsAt t (IsPairing z) h in
+    let E : PairAuditModel → Type 0 = λ z. EndsAt t (RepresentsPairs z) h in
     let inside = subst E (sym c.self.view_is) ended in
-    let rules = both_rules c.self.inside.guarded.common (is_line c.self.inside.guarded.common c.self.inside.guarded.shapes.now) in
-    let Q : Pairing → Type 0 = λ z. IsAuditFault (both_rules z.common (is_line z.common z.shapes)) h c.in-Err.fault in
-    subst Q c.self.view_is (break_told rules h c.in-Err.fault (c.in-Err.ensures rules kept_of_both h inside.stands.tracked).1)
+    let rules = both_rules c.self.inside.sections.common (is_semaphore_sequencer c.self.inside.sections.common c.self.inside.sections.shapes.now) in
+    let Q : PairAuditModel → Type 0 = λ z. IsAuditFault (both_rules z.common (is_semaphore_sequencer z.common z.shapes)) h c.in-Err.fault in
+    subst Q c.self.view_is (break_told rules h c.in-Err.fault (c.in-Err.ensures rules list_progress_of_both h inside.represents.tracked).1)
 
 pub returns-then-self-clause-err : goal.returns-then-self-clause-err
 returns-then-self-clause-err c t h ended =
-    let E : Pairing → Type 0 = λ z. EndsAt t (IsPairing z) h in
+    let E : PairAuditModel → Type 0 = λ z. EndsAt t (RepresentsPairs z) h in
     let inside = subst E (sym c.self.view_is) ended in
-    let rules = both_rules c.self.inside.guarded.common (is_line c.self.inside.guarded.common c.self.inside.guarded.shapes.now) in
-    let F : Pairing → Type 0 = λ z. Follow (both_rules z.common (is_line z.common z.shapes)) (reverse h) in
-    let follows = subst F c.self.view_is ((c.in_default.ensures rules kept_of_both h inside.stands.tracked).0.0 refl) in
+    let rules = both_rules c.self.inside.sections.common (is_semaphore_sequencer c.self.inside.sections.common c.self.inside.sections.shapes.now) in
+    let F : PairAuditModel → Type 0 = λ z. Follow (both_rules z.common (is_semaphore_sequencer z.common z.shapes)) (reverse h) in
+    let follows = subst F c.self.view_is ((c.in_default.ensures rules list_progress_of_both h inside.represents.tracked).0.0 refl) in
     follows
 
 pub returns-clause-followed : goal.returns-clause-followed
 returns-clause-followed c t h ended e =
-    let E : Pairing → Type 0 = λ z. EndsAt t (IsPairing z) h in
+    let E : PairAuditModel → Type 0 = λ z. EndsAt t (RepresentsPairs z) h in
     let inside = subst E (sym c.self.view_is) ended in
-    let rules = both_rules c.self.inside.guarded.common (is_line c.self.inside.guarded.common c.self.inside.guarded.shapes.now) in
-    let F : Pairing → Type 0 = λ z. Follow (both_rules z.common (is_line z.common z.shapes)) (reverse h) in
-    let follows = subst F c.self.view_is ((c.in_default.ensures rules kept_of_both h inside.stands.tracked).0.0 refl) in
+    let rules = both_rules c.self.inside.sections.common (is_semaphore_sequencer c.self.inside.sections.common c.self.inside.sections.shapes.now) in
+    let F : PairAuditModel → Type 0 = λ z. Follow (both_rules z.common (is_semaphore_sequencer z.common z.shapes)) (reverse h) in
+    let follows = subst F c.self.view_is ((c.in_default.ensures rules list_progress_of_both h inside.represents.tracked).0.0 refl) in
     follows
 
 pub returns-clause-pairs : goal.returns-clause-pairs
 returns-clause-pairs c t h ended =
-    let E : Pairing → Type 0 = λ z. EndsAt t (IsPairing z) h in
+    let E : PairAuditModel → Type 0 = λ z. EndsAt t (RepresentsPairs z) h in
     let inside = subst E (sym c.self.view_is) ended in
-    let rules = both_rules c.self.inside.guarded.common (is_line c.self.inside.guarded.common c.self.inside.guarded.shapes.now) in
-    let F : Pairing → Type 0 = λ z. Follow (both_rules z.common (is_line z.common z.shapes)) (reverse h) in
-    let follows = subst F c.self.view_is ((c.in_default.ensures rules kept_of_both h inside.stands.tracked).0.0 refl) in
-    let room = sym (ap (λ (z : Pairing). z.lacks) c.self.view_is) ∙ c.if-self.false in
-    ap (λ (z : Pairing). z.pairs) c.self.view_is ∙ (ended.stands.paired room t ended.declared ended.accepted follows).pairs
+    let rules = both_rules c.self.inside.sections.common (is_semaphore_sequencer c.self.inside.sections.common c.self.inside.sections.shapes.now) in
+    let F : PairAuditModel → Type 0 = λ z. Follow (both_rules z.common (is_semaphore_sequencer z.common z.shapes)) (reverse h) in
+    let follows = subst F c.self.view_is ((c.in_default.ensures rules list_progress_of_both h inside.represents.tracked).0.0 refl) in
+    let room = sym (ap (λ (z : PairAuditModel). z.out_of_memory) c.self.view_is)
+    ∙ c.if-self.false in
+    ap (λ (z : PairAuditModel). z.pairs) c.self.view_is ∙ (ended.represents.paired room t ended.declared ended.accepted follows).pairs
 
 pub returns-clause-drawn : goal.returns-clause-drawn
 returns-clause-drawn c t h ended =
-    let E : Pairing → Type 0 = λ z. EndsAt t (IsPairing z) h in
+    let E : PairAuditModel → Type 0 = λ z. EndsAt t (RepresentsPairs z) h in
     let inside = subst E (sym c.self.view_is) ended in
-    let rules = both_rules c.self.inside.guarded.common (is_line c.self.inside.guarded.common c.self.inside.guarded.shapes.now) in
-    let F : Pairing → Type 0 = λ z. Follow (both_rules z.common (is_line z.common z.shapes)) (reverse h) in
-    let follows = subst F c.self.view_is ((c.in_default.ensures rules kept_of_both h inside.stands.tracked).0.0 refl) in
+    let rules = both_rules c.self.inside.sections.common (is_semaphore_sequencer c.self.inside.sections.common c.self.inside.sections.shapes.now) in
+    let F : PairAuditModel → Type 0 = λ z. Follow (both_rules z.common (is_semaphore_sequencer z.common z.shapes)) (reverse h) in
+    let follows = subst F c.self.view_is ((c.in_default.ensures rules list_progress_of_both h inside.represents.tracked).0.0 refl) in
     let s = c.args.self.common in
-    let lines = is_line s c.args.self.shapes in
+    let lines = is_semaphore_sequencer s c.args.self.shapes in
     let P : List Pair → Type 0 = λ ps. ArePairs s lines h ps in
     subst P (sym (returns-clause-pairs c t h ended)) (pairs_drawn s lines t h (not_common s c.args.self.shapes) ended.declared ended.accepted follows)
 
 pub returns-clause-ordered : goal.returns-clause-ordered
 returns-clause-ordered c t h ended =
-    let E : Pairing → Type 0 = λ z. EndsAt t (IsPairing z) h in
+    let E : PairAuditModel → Type 0 = λ z. EndsAt t (RepresentsPairs z) h in
     let inside = subst E (sym c.self.view_is) ended in
-    let rules = both_rules c.self.inside.guarded.common (is_line c.self.inside.guarded.common c.self.inside.guarded.shapes.now) in
-    let F : Pairing → Type 0 = λ z. Follow (both_rules z.common (is_line z.common z.shapes)) (reverse h) in
-    let follows = subst F c.self.view_is ((c.in_default.ensures rules kept_of_both h inside.stands.tracked).0.0 refl) in
+    let rules = both_rules c.self.inside.sections.common (is_semaphore_sequencer c.self.inside.sections.common c.self.inside.sections.shapes.now) in
+    let F : PairAuditModel → Type 0 = λ z. Follow (both_rules z.common (is_semaphore_sequencer z.common z.shapes)) (reverse h) in
+    let follows = subst F c.self.view_is ((c.in_default.ensures rules list_progress_of_both h inside.represents.tracked).0.0 refl) in
     let s = c.args.self.common in
-    let lines = is_line s c.args.self.shapes in
+    let lines = is_semaphore_sequencer s c.args.self.shapes in
     let P : List Pair → Type 0 = λ ps. AllPairs IsEarlier ps in
     subst P (sym (returns-clause-pairs c t h ended)) (pairs_ordered s lines t (reverse h) (not_common s c.args.self.shapes) ended.declared ended.accepted follows)

@@ -3,7 +3,7 @@ use Rattle.std.specs.List.{All}
 use Rattle.std.proofs.lemmas.List.Elements.{All-append}
 use Rattle.ec_trace.proofs.Ranges.{IsCut, range_cut, holds, empty_at}
 use Rattle.ec_trace.proofs.Readings.{line_ends, line_grows, line_long, line_large}
-use Rattle.ec_trace.specs.Reading.{Reading, Begins}
+use Rattle.ec_trace.specs.Reading.{LinesModel, Begins}
 use Rattle.ec_trace.proofs.lines.Lines.hold.Goals as goal
 
 pub returns-then-is_err-clause-holds : goal.returns-then-is_err-clause-holds
@@ -32,7 +32,7 @@ returns-then-self-clause-holds c = λ xs left s going begins.
     let same : slice_range c.as_slice-piece.result.now c.self.inside.from c.self.inside.end ≡ slice_range c.self.inside.piece.items c.self.inside.from c.self.inside.end =
     ap (λ (l : List ℕ). slice_range l c.self.inside.from c.self.inside.end) c.as_slice-piece.ensures.value in
     let fits : length c.self.inside.apart.items + length (slice_range c.as_slice-piece.result.now c.self.inside.from c.self.inside.end) ≤ 8192 = search rules in
-    let now : Reading = record {
+    let now : LinesModel = record {
       number = c.self.inside.number;
       taken = c.self.inside.before + c.self.inside.end;
       line = [];

@@ -1,5 +1,5 @@
 use Rattle.std.proofs.Common.{ℕ, Ok, length, arith, ap, subst}
-use Rattle.ec_trace.specs.Reading.{Holds}
+use Rattle.ec_trace.specs.Reading.{ReadsPart}
 use Rattle.ec_trace.proofs.Readings.{part_cleared, part_whole}
 use Rattle.ec_trace.proofs.lines.Lines.next_over_pieces.Goals as goal
 
@@ -15,7 +15,7 @@ returns-in-Err-clause-comes g c = λ xs s going reached. c.in-Err.ensures.holds 
 pub returns-in-Err-go_on-clause-comes : goal.returns-in-Err-go_on-clause-comes
 returns-in-Err-go_on-clause-comes g c = λ xs s going reached.
     c.in-Err-go_on.ensures.goes xs s going
-    (subst (λ whole. Holds xs (g.R.Read.remaining c.loop-fault.reader) c.hold.new.self s (Ok whole)) c.in-Ok-false.field-0-test
+    (subst (λ whole. ReadsPart xs (g.R.Read.remaining c.loop-fault.reader) c.hold.new.self s (Ok whole)) c.in-Ok-false.field-0-test
     (c.in-Ok-false.ensures.holds xs (g.R.Read.remaining c.loop-fault.reader) s going (c.loop-fault.invariant.begins xs s going reached)))
 
 pub loop-fault-preserved : goal.loop-fault-preserved
@@ -26,7 +26,7 @@ loop-fault-preserved g c =
       taken = omega (arith, c.loop-fault.invariant.taken, h.0, m.0);
       begins = λ xs s going reached.
           c.in_default.ensures.goes xs s going
-          (subst (λ whole. Holds xs (g.R.Read.remaining c.loop-fault.reader) c.hold.new.self s (Ok whole)) c.in-Ok-false.field-0-test
+          (subst (λ whole. ReadsPart xs (g.R.Read.remaining c.loop-fault.reader) c.hold.new.self s (Ok whole)) c.in-Ok-false.field-0-test
           (c.in-Ok-false.ensures.holds xs (g.R.Read.remaining c.loop-fault.reader) s going (c.loop-fault.invariant.begins xs s going reached)));
     }
 
@@ -39,5 +39,5 @@ loop-fault-smaller g c =
 pub returns-clause-comes : goal.returns-clause-comes
 returns-clause-comes g c = λ xs s going reached.
     part_whole xs (g.R.Read.remaining c.loop-fault.reader) c.hold.new.self _ s c.set_apart.ensures
-    (subst (λ whole. Holds xs (g.R.Read.remaining c.loop-fault.reader) c.hold.new.self s (Ok whole)) c.in-Ok-true.field-0-test
+    (subst (λ whole. ReadsPart xs (g.R.Read.remaining c.loop-fault.reader) c.hold.new.self s (Ok whole)) c.in-Ok-true.field-0-test
     (c.in-Ok-true.ensures.holds xs (g.R.Read.remaining c.loop-fault.reader) s going (c.loop-fault.invariant.begins xs s going reached)))

@@ -4,14 +4,14 @@ use Rattle.evc_c.proofs.monitor.Monitor.note.Goals as goal
 
 pub returns : goal.returns
 returns c =
-    let told = c.put_front.ensures.front ∙ ap (take
+    let note_text = c.copy_prefix.ensures.prefix ∙ ap (take
     (length c.args.room.now)) c.as_slice.ensures.value in (
       refl,
-      said c.args.self.now c.in-Stopped.stop c.say_stop.result _
-          (length c.args.room.now) c.new-told.result c.say_stop.new.notes c.new-bytes.result.items
+      said c.args.self.now c.in-Stopped.stop c.report_stop.result _
+          (length c.args.room.now) c.new-note_text.result c.report_stop.new.notes c.new-bytes.result.items
           c.into_writer.result.now.items _
-          c.in-Stopped.is c.say_stop.ensures.says c.say_stop.ensures.written
-          c.new-told.ensures.value c.new-bytes.ensures c.into_writer.ensures.contents told,
-      c.put_front.ensures.within,
-      c.put_front.ensures.rest,
+          c.in-Stopped.is c.report_stop.ensures.says c.report_stop.ensures.written
+          c.new-note_text.ensures.value c.new-bytes.ensures c.into_writer.ensures.contents note_text,
+      c.copy_prefix.ensures.within,
+      c.copy_prefix.ensures.rest,
     )

@@ -1,6 +1,0 @@
-use Rattle.std.proofs.Common.{take}
-use Rattle.calls_distinct.specs.Groups.{AreGrouped}
-use Rattle.calls_distinct.proofs.groups.grouped.Given as goal
-
-abbrev pub invariant-loop-call : goal.invariant-loop-call
-invariant-loop-call l = AreGrouped l.calls (take l.call-index l.calls) l.out.items

@@ -1,5 +1,0 @@
-use Rattle.std.proofs.Common.{length}
-use Rattle.calls_text.proofs.object.+both_of.Given as goal
-
-abbrev pub decreases-both_of : goal.decreases-both_of
-decreases-both_of l = length l.groups.now

@@ -1,5 +1,0 @@
-use Rattle.ec_confined.proofs.Both.{both_follows}
-use Rattle.ec_confined.proofs.laws.both_is_followed.Goals as goal
-
-pub returns : goal.returns
-returns c = both_follows

@@ -1,5 +1,0 @@
-use Rattle.ec_confined.proofs.Databases.{databases_follow}
-use Rattle.ec_confined.proofs.laws.databases_are_followed.Goals as goal
-
-pub returns : goal.returns
-returns c = databases_follow

@@ -1,5 +1,0 @@
-use Rattle.ec_confined.proofs.Reported.{reported_follow}
-use Rattle.ec_confined.proofs.laws.reported_groups_are_followed.Goals as goal
-
-pub returns : goal.returns
-returns c = reported_follow

@@ -1,5 +1,0 @@
-use Rattle.ec_core.proofs.shared.Moments.{beginnings}
-use Rattle.ec_core.proofs.laws.beginnings_are_accepted.Goals as goal
-
-pub returns : goal.returns
-returns c = beginnings

@@ -1,6 +1,0 @@
-use Rattle.ec_core.specs.Calls.{under_way}
-use Rattle.ec_core.proofs.ongoing.Calls.new.Goals as goal
-
-pub returns : goal.returns
-unfolding under_way
-returns c = λ t w lt. c.all_alike.ensures w lt

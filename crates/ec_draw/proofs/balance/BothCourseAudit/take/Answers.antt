@@ -1,7 +1,0 @@
-use Rattle.ec_draw.proofs.balance.BothCourseAudit.take.Goals as goal
-
-pub returns : goal.returns
-returns c = λ start past at is stands. (
-  c.take.ensures start.course past at is stands.0,
-  c.take-2.ensures start.pairs past at is stands.1,
-)

@@ -1,0 +1,73 @@
+-- Which other line of a text shows why a line is rejected: where a call began, and where an object
+-- is declared.
+use Rattle.std.specs.Prelude.{ℕ, ◌+◌, ◌==◌, ◌&&◌, ◌||◌, not, Bool, List, [], ◌∷◌, take, min, Option}
+use Rattle.std.specs.Prelude.{Some, None, bytes_eq, codes, if◌then◌else◌}
+use Rattle.std.specs.List.{slice_split}
+use Rattle.ec_explain.specs.declared.related_line.Target.{Target}
+use Rattle.ec_explain.specs.declared.related_line.Target.TheVariants.{Call, Declaration, Hand}
+use Rattle.ec_explain.specs.Places.{word_at}
+use Rattle.ec_explain.specs.TextLines.{text_before_line, line_at, position_or_end}
+
+-- whether the worker begins a call by the line: each act but go begins one
+abbrev pub begins_by : List ℕ → List ℕ → Bool
+begins_by worker line = bytes_eq (word_at 0 line) worker
+    && not (bytes_eq (word_at 1 line) (codes "go"))
+
+-- whether the line declares what is called so
+abbrev pub declares : List ℕ → List ℕ → Bool
+declares name line = bytes_eq (word_at 1 line) name || bytes_eq (word_at 0 line) name
+
+-- whether the worker transfers its component of the eventcount called so by the line
+abbrev pub hands_by : List ℕ → List ℕ → List ℕ → Bool
+hands_by worker name line =
+    bytes_eq (word_at 0 line) worker
+    && (bytes_eq (word_at 1 line) (codes "hand") && bytes_eq (word_at 2 line) name)
+
+abbrev pub fits : Target → List ℕ → Bool
+fits (Call worker) line = begins_by worker.now line
+fits (Declaration name) line = declares name.now line
+fits (Hand worker name) line = hands_by worker.now name.now line
+
+-- the lines of a text, and what follows the last LF
+abbrev pub lines_of : List ℕ → List (List ℕ)
+lines_of text = slice_split (λ b. b == 10) text
+
+-- the number of the last of these lines that passes a test, if k lines come before them, and
+-- `found` is the last of those that passes; what follows the last LF is no line
+abbrev pub last_before : (List ℕ → Bool) → ℕ → Option ℕ → List ℕ → List (List ℕ) → Option ℕ
+last_before p k found line [] = found
+last_before p k found line (next ∷ lines) =
+    last_before p (k + 1) (if p line then Some (k + 1) else found) next lines
+
+abbrev pub last_in : (List ℕ → Bool) → ℕ → Option ℕ → List (List ℕ) → Option ℕ
+last_in p k found [] = found
+last_in p k found (line ∷ lines) = last_before p k found line lines
+
+-- the line by which the worker of line n began its last call before it
+abbrev pub call_line : ℕ → List ℕ → Option ℕ
+call_line n text = last_in (begins_by (word_at 0 (line_at n text))) 0 None
+    (lines_of (text_before_line n text))
+
+-- the name of an object's declaration: what its word has before a dot or a bracket
+abbrev pub base_of : List ℕ → List ℕ
+base_of w = take (min (position_or_end 46 w) (position_or_end 91 w)) w
+
+-- the line that declares the object of line n
+abbrev pub declaration_line : ℕ → List ℕ → Option ℕ
+declaration_line n text =
+    last_in (declares (base_of (word_at 2 (line_at n text)))) 0 None (lines_of (text_before_line n text))
+
+-- the line by which the worker of line n last transferred its component of the object of line n
+abbrev pub hand_line : ℕ → List ℕ → Option ℕ
+hand_line n text =
+    last_in (hands_by (word_at 0 (line_at n text)) (word_at 2 (line_at n text))) 0 None
+    (lines_of (text_before_line n text))
+
+abbrev pub or_else : Option ℕ → Option ℕ → Option ℕ
+or_else None other = other
+or_else (Some n) other = Some n
+
+-- the line by which the worker of line n lost its right to the object of line n; or that which
+-- declares the object, and says who has it
+abbrev pub right_line : ℕ → List ℕ → Option ℕ
+right_line n text = or_else (hand_line n text) (declaration_line n text)

@@ -1,0 +1,62 @@
+//! What a word of an entry names.
+ghost use Rattle.std.specs.Prelude.{◌≡◌, option_map, Some};
+ghost use Rattle.ec_heading.specs.EntryWords.{block_of, target_event, target_sequencer, cut_at};
+ghost use Rattle.ec_heading.specs.EntryWords.{closed_number};
+
+use ec_count::{EventId, SeqId, Target};
+use ec_text::number;
+
+/// Returns the eventcount that a name denotes; `None` if it denotes something else.
+pub(crate) fn target_event(target: Target) -> Option<EventId>
+    ensures { result ≡ target_event target }
+{
+    match target {
+        Target::Event(id) => Some(id),
+        _ => None,
+    }
+}
+
+/// Returns the sequencer that a name denotes; `None` if it denotes something else.
+pub(crate) fn target_sequencer(target: Target) -> Option<SeqId>
+    ensures { result ≡ target_sequencer target }
+{
+    match target {
+        Target::Sequencer(id) => Some(id),
+        _ => None,
+    }
+}
+
+/// Returns the first cell of the block that a name denotes, and how many cells the block has;
+/// `None` if it denotes no block.
+pub(crate) fn block_of(target: Target) -> Option<(usize, usize)>
+    ensures { result ≡ block_of target }
+{
+    match target {
+        Target::Cells(first, n) => Some((first.get(), n)),
+        _ => None,
+    }
+}
+
+/// Returns what is before the first such byte, and what is after it; `None` if there is none.
+#[tactic(auto, using(crate::proofs::Bytes::cuts))]
+pub(crate) fn cut_at(word: &[u8], byte: u8) -> Option<(&[u8], &[u8])>
+    ensures { option_map (λ p. (p.0.now, p.1.now)) result ≡ cut_at byte word.now }
+{
+    for (i, b) in word.iter().enumerate() {
+        if *b == byte {
+            return Some((&word[..i], &word[i + 1..]));
+        }
+    }
+    None
+}
+
+/// Returns the number before a bracket that ends the word.
+pub(crate) fn closed_number(rest: &[u8]) -> Option<u64>
+    ensures { result ≡ closed_number (cut_at 93 rest.now) }
+{
+    let (digits, behind) = cut_at(rest, b']')?;
+    if !behind.is_empty() {
+        return None;
+    }
+    number(digits)
+}

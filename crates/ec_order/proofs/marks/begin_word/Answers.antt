@@ -1,7 +1,0 @@
-use Rattle.std.proofs.Common.{ap, ◌∙◌}
-use Rattle.ec_order.specs.Marks.{marks_in}
-use Rattle.ec_order.proofs.Marking.{marks_put}
-use Rattle.ec_order.proofs.marks.begin_word.Goals as goal
-
-pub returns-clause-same : goal.returns-clause-same
-returns-clause-same c = ap (λ ws. marks_in ws 1) c.in_ok-push.ensures.items ∙ marks_put c.args.words.now.items c.args.last.now

@@ -1,5 +1,0 @@
-use Rattle.ec_order.proofs.Scanning.{call_ended}
-use Rattle.ec_order.proofs.scan.take_in.Goals as goal
-
-pub returns : goal.returns
-returns c = record { ends = λ past acc here s. call_ended _ past c.args.entry.now c.args.i c.take.result c.ended.result c.take.new.self here c.ended.ensures (c.take.ensures past acc here s) }

@@ -1,9 +1,0 @@
-use Rattle.std.proofs.Common.{◌≡◌, ◌==◌, ◌&&◌, not, ℕ, ◌<◌, length, slice_get, Some}
-use Rattle.ec_runner.specs.Seated.{is_waiting, seat_of}
-use Rattle.ec_runner.proofs.holding.waiting.Given as goal
-
-abbrev pub invariant-loop-v : goal.invariant-loop-v
-invariant-loop-v l = record {
-  long : length l.table ≡ 16;
-  each : (k : ℕ) → k < l.v → slice_get l.table k ≡ Some (not (k == l.worker) && is_waiting (seat_of l.board.seats k));
-}

@@ -1,7 +1,0 @@
-use Rattle.std.proofs.Common.{rules, ◌∙◌, ap}
-use Rattle.arrayvec.proofs.ArrayVecLemmas.{filter-from_retain}
-use Rattle.ec_runner.specs.Lined.{without}
-use Rattle.ec_runner.proofs.line.Line.drop_out.Goals as goal
-
-pub returns : goal.returns
-returns c = filter-from_retain _ _ _ (λ x b f' y called. search rules) _ _ c.retain.ensures.filtered ∙ ap (without c.args.worker) c.self.view_is

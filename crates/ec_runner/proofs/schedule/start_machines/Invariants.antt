@@ -1,0 +1,9 @@
+use Rattle.std.proofs.Common.{◌≡◌, [], length}
+use Rattle.ec_runner.specs.Machines.{AreMachines}
+use Rattle.ec_runner.proofs.schedule.start_machines.Given as goal
+
+abbrev pub invariant-loop-program : goal.invariant-loop-program
+invariant-loop-program l = record {
+  each : length l.machines.items ≡ l.program-index;
+  start : AreMachines l.programs [] l.machines.items;
+}

@@ -1,9 +1,0 @@
-use Rattle.std.proofs.Common.{◌≡◌, ◌∙◌, ap, slice_get, Some}
-use Rattle.ec_runner.proofs.Lining.{settled}
-use Rattle.ec_runner.proofs.seats.Seats.settle.Goals as goal
-
-pub invariant_of-self : goal.invariant_of-self
-invariant_of-self c =
-    let i = c.self.inside in
-    let at : slice_get i.table c.args.worker ≡ Some c.get-was.result = ap (λ xs. slice_get xs c.args.worker) c.self.view_is ∙ c.get-was.ensures in
-    rw (c.get.ensures.value, c.drop_out.ensures) (settled i.table i.lines c.args.worker c.args.seat c.get-was.result c.self.invariant at c.requires)

@@ -1,9 +1,0 @@
-use Rattle.std.proofs.Common.{◌≡◌, ℕ, ◌<◌, length, slice_get, Some, cond, nat_lt}
-use Rattle.ec_runner.specs.declared.seat.Seat.TheVariants.{Gone, Running}
-use Rattle.ec_runner.proofs.seats.running.Given as goal
-
-abbrev pub invariant-loop-w : goal.invariant-loop-w
-invariant-loop-w l = record {
-  long : length l.seats ≡ 16;
-  each : (k : ℕ) → k < 16 → slice_get l.seats k ≡ Some (cond (nat_lt k l.w) Running Gone);
-}

@@ -1,5 +1,0 @@
-use Rattle.ec_script.proofs.KindsTold.{faultless_taken}
-use Rattle.ec_script.proofs.laws.faultless_lines_are_taken.Goals as goal
-
-pub returns : goal.returns
-returns c = faultless_taken

@@ -1,5 +1,0 @@
-use Rattle.ec_script.proofs.FaultsTold.{faults_are_told}
-use Rattle.ec_script.proofs.laws.faults_are_told.Goals as goal
-
-pub returns : goal.returns
-returns c = faults_are_told

@@ -1,5 +1,0 @@
-use Rattle.ec_script.proofs.KindsTold.{least_is_told}
-use Rattle.ec_script.proofs.laws.least_kind_is_told.Goals as goal
-
-pub returns : goal.returns
-returns c = least_is_told

@@ -1,5 +1,0 @@
-use Rattle.ec_script.proofs.Sayings.{lines_say}
-use Rattle.ec_script.proofs.laws.lines_say_orders.Goals as goal
-
-pub returns : goal.returns
-returns c = lines_say

@@ -1,5 +1,0 @@
-use Rattle.ec_script.proofs.Endings.{unfinished_told}
-use Rattle.ec_script.proofs.laws.unfinished_is_told.Goals as goal
-
-pub returns : goal.returns
-returns c = unfinished_told

@@ -1,5 +1,0 @@
-use Rattle.ec_script.proofs.TwoRoles.{roles_told}
-use Rattle.ec_script.proofs.pairs.two_roles_are_told.Goals as goal
-
-pub returns : goal.returns
-returns c = roles_told

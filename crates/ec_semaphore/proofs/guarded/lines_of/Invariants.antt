@@ -1,9 +1,0 @@
-use Rattle.std.proofs.Common.{◌≡◌, ℕ, ◌<◌, Some, slice_get, take, length}
-use Rattle.ec_semaphore.specs.Both.{is_line}
-use Rattle.ec_semaphore.proofs.guarded.lines_of.Given as goal
-
-abbrev pub invariant-loop-shape : goal.invariant-loop-shape
-invariant-loop-shape l = record {
-  room : length l.lines ≡ 32;
-  tabled : (q : ℕ) → q < 32 → slice_get l.lines q ≡ Some (is_line l.common (take l.shape-index l.shapes) q);
-}

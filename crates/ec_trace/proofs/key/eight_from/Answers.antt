@@ -1,6 +1,0 @@
-use Rattle.std.proofs.Common.{rules}
-use Rattle.ec_trace.proofs.KeyLemmas.{eight_held}
-use Rattle.ec_trace.proofs.key.eight_from.Goals as goal
-
-pub returns : goal.returns
-returns c = eight_held c.args.text.now c.args.from _ c.requires (search rules) c.from_le_bytes.ensures

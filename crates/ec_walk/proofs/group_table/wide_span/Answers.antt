@@ -1,0 +1,14 @@
+use Rattle.std.proofs.Common.{refl, arith}
+use Rattle.std.proofs.lemmas.Option.{slice_get_read}
+use Rattle.ec_walk.specs.Walks.{sees_every_call}
+use Rattle.ec_walk.proofs.WalkLemmas.{covers_all}
+use Rattle.ec_walk.proofs.group_table.wide_span.Goals as goal
+
+pub loop-number-preserved : goal.loop-number-preserved
+loop-number-preserved c =
+    c.with_group-span.ensures c.args.groups.now sees_every_call c.index-groups-number.result
+    (slice_get_read c.args.groups.now _ c.loop-number.number c.index-groups-number.result refl c.loop-number-test.true c.index-groups-number.is) c.sees_every_call.ensures
+    c.loop-number.invariant
+
+pub returns : goal.returns
+returns c = covers_all c.args.groups.now sees_every_call c.loop-number.span c.loop-number.number c.loop-number.invariant (omega arith)

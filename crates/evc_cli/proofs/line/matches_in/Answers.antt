@@ -1,0 +1,10 @@
+use Rattle.std.proofs.Common.{ap}
+use Rattle.clap.specs.Words.{fault_of, is_simple_and_free}
+use Rattle.clap.proofs.FaultLemmas.{fails_as}
+use Rattle.evc_cli.specs.CommandLine.{texts_of}
+use Rattle.evc_cli.proofs.line.matches_in.Goals as goal
+
+pub returns-clause-faults : goal.returns-clause-faults
+returns-clause-faults c =
+    let app_is = c.in_ok-evc_command.ensures in
+    fails_as _ _ _ (ap (λ a. fault_of a (texts_of c.args.words.now)) app_is) (c.try_get_matches_from.ensures.kinds (ap is_simple_and_free app_is))

@@ -1,7 +1,0 @@
-use Rattle.evc_explain_engine.proofs.Scripts.{scripted}
-use Rattle.evc_explain_engine.proofs.telling.tell_script.Goals as goal
-
-pub returns-in-Ok : goal.returns-in-Ok
-returns-in-Ok c =
-    scripted c.args.text.now c.in-Ok.plan c.tell_plan.result c.in-Ok.ensures.tells
-    c.tell_plan.ensures

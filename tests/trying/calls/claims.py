@@ -1,0 +1,280 @@
+"""Checks by counting what a note on a history without a linearization claims, and that it excludes a linearization."""
+
+from trying.calls.notes import said_in
+from trying.calls.orders import text_of_reply
+from trying.calls.search import search
+from trying.calls.theorems import (
+    called_before,
+    doubled,
+    givers,
+    is_below,
+    is_open,
+    least_of,
+    made_between,
+    may_have_drawn,
+    most_of,
+    overlap,
+    puts_of,
+    takers,
+    times_put,
+    value_of,
+)
+from trying.counting import Fault, need
+
+
+def note_faults(history, verdict, note):
+    """Returns what is wrong with the note (without its line feed) on a history with this verdict, which is not
+    `linearizable`, or None."""
+    line, said = said_in(note)
+    if not said:
+        return "it has none of the forms"
+    try:
+        for name, words in said:
+            if (name == "undecided") != (verdict.name == "undecided"):
+                raise Fault(f"the verdict is {verdict.name}")
+            if line is None:
+                check_undecided(history, words)
+                continue
+            claim = Claim(history, line)
+            if claim.at != verdict.position:
+                right = history.line_of(verdict.position)
+                raise Fault(f"the first faulty event is at line {right}")
+            getattr(claim, name)(words)
+    except Fault as wrong:
+        return str(wrong)
+    return None
+
+
+def check_undecided(history, words):
+    """Checks that the object is not decided: the value was returned by a get, and put more than once, and the puts at
+    these two lines overlap."""
+    part = next((part for part in history.parts() if part.key == words["X"]), None)
+    need(part is not None and is_open(part), f"{words['X']} is decided")
+    is_database = part.key in history.databases
+    right = ("written", "writes") if is_database else ("put", "puts")
+    need((words["put"], words["puts"]) == right, "`put` and `write`")
+    found = map(text_of_reply, doubled(part.calls, part.start))
+    need(words["value"] in found, "no such value was got, and put more than once")
+    lines = int(words["one"]), int(words["other"])
+    puts = [put for put in puts_of(part.calls) if history.line_of(put.first) in lines]
+    need(len(puts) == 2, "the lines are not those of two puts")
+    need(lines[0] < lines[1], "the later put is named first")
+    need(overlap(*puts), "the puts do not overlap")
+
+
+def ordinal(number):
+    is_teen = number % 100 in (11, 12, 13)
+    ending = "th" if is_teen else {1: "st", 2: "nd", 3: "rd"}.get(number % 10, "th")
+    return f"{number}{ending}"
+
+
+class Claim:
+    """What a note claims of a history. Each method checks one form: it counts what the form says, and checks that this
+    excludes a linearization."""
+
+    def __init__(self, history, line):
+        self.history, self.at = history, line - history.first_line
+        self.part, self.calls, self.call = None, [], None
+        for part in history.parts():
+            calls = part.before(self.at + 1)
+            for call in calls:
+                if call.last == self.at:
+                    self.part, self.calls, self.call = part, calls, call
+
+    def own(self, kind, name=None):
+        """Checks that the line is of a response on an object of this kind, and of this name if there is one."""
+        need(self.call is not None, "the line is of no response")
+        need(self.part.kind == kind, f"the line is of {self.part.kind}")
+        need(name in (None, self.call.object), f"the line is of {self.call.object}")
+
+    def line(self, number, position, what):
+        need(int(number) == self.history.line_of(position), f"line {number} is not {what}")
+
+    def response(self, number):
+        """Returns the call on the same object that returned at this line."""
+        position = int(number) - self.history.first_line
+        found = [call for call in self.calls if call.last == position]
+        need(found, f"line {number} is no response on this object before line N")
+        return found[0]
+
+    def invocation(self, number):
+        position = int(number) - self.history.first_line
+        found = [call for call in self.calls if call.first == position]
+        need(found, f"line {number} is no invocation on this object before line N")
+        return found[0]
+
+    # Eventcounts
+
+    def reads(self, words, call, name="returned"):
+        """Checks that a read or an await is named by what it returned."""
+        need(call.op[0] in ("read", "await"), "it is neither a read nor an await")
+        if call.reply == "timeout":
+            right = f"gave up on {call.op[1]}"
+        elif call.reply == "done":
+            right = f"awaited {call.op[1]}"
+        else:
+            right = f"returned {call.reply}"
+        need(words[name] == right, f"`{words[name]}` in place of `{right}`")
+
+    def advances(self, words, right):
+        need(words["E"] == self.call.object, "the eventcount is another")
+        need(int(words["n"]) == right, f"{words['n']} advances in place of {right}")
+        need((words["advances"] == "advance") == (right == 1), "`advance` and `advances`")
+
+    def starts(self, words):
+        start = self.history.starts.get(self.call.object)
+        right = None if start is None else str(start)
+        need(words["start"] == right, "the count at the beginning is another")
+
+    def few(self, words):
+        self.own("eventcount")
+        self.reads(words, self.call)
+        count = called_before(self.calls, self.at)
+        self.advances(words, count)
+        self.starts(words)
+        need(self.part.start + count < least_of(self.call), "so many advances are enough")
+
+    def many(self, words):
+        self.own("eventcount")
+        self.reads(words, self.call)
+        self.line(words["L"], self.call.first, "its invocation")
+        count = made_between(self.calls, -1, self.call.first)
+        self.advances(words, count)
+        self.starts(words)
+        most = most_of(self.call)
+        need(most is not None and most < self.part.start + count, "that is not too many")
+
+    def since(self, words):
+        count = self.after_an_earlier(words)
+        self.advances(words, count)
+        need(count > 0, "the form is that with advances")
+
+    def after_an_earlier(self, words):
+        """Checks that an earlier read and the advances since then are too many, and returns how many advances."""
+        self.own("eventcount")
+        self.reads(words, self.call)
+        earlier = self.response(words["K"])
+        self.reads(words, earlier, "earlier")
+        self.line(words["L"], self.call.first, "its invocation")
+        need(earlier.precedes(self.call), "line K is not before line L")
+        count, most = made_between(self.calls, earlier.last, self.call.first), most_of(self.call)
+        need(most is not None and most < least_of(earlier) + count, "that is not too many")
+        return count
+
+    def below(self, words):
+        self.own("eventcount")
+        need(is_below(self.call), "it is not below what it awaited")
+        right = str(self.call.reply), str(self.call.op[1])
+        need((words["value"], words["v"]) == right, "what it returned or awaited is another")
+
+    # Sequencers, and what has the same form
+
+    def turned(self, words):
+        if self.part is not None and self.part.kind == "eventcount":
+            need(self.after_an_earlier(words) == 0, "there are advances between")
+            return
+        self.own("sequencer")
+        earlier = self.response(words["K"])
+        self.line(words["L"], self.call.first, "its invocation")
+        need(words["returned"] == f"returned {self.call.reply}", "it returned another number")
+        need(words["earlier"] == f"returned {earlier.reply}", "line K returned another number")
+        need(earlier.precedes(self.call), "line K is not before line L")
+        need(earlier.reply > self.call.reply, "the earlier number is not greater")
+
+    def twice(self, words):
+        self.own("sequencer")
+        earlier = self.response(words["K"])
+        need(earlier is not self.call, "line K is line N")
+        need(str(self.call.reply) == words["value"], "it returned another number")
+        need(earlier.reply == self.call.reply, "line K returned another number")
+
+    def drew(self, words, call):
+        need(words["T"] == call.object, "the sequencer is another")
+        need(str(call.reply) == words["value"] == words["upto"], "the number is another")
+        count = may_have_drawn(self.calls, call)
+        need(int(words["n"]) == count, f"{words['n']} tickets in place of {count}")
+        need((words["tickets"] == "ticket") == (count == 1), "`ticket` and `tickets`")
+        need(count <= call.reply, "so many tickets are enough")
+
+    def drawn(self, words):
+        self.own("sequencer")
+        self.drew(words, self.call)
+
+    def drawn_earlier(self, words):
+        self.own("sequencer")
+        earlier = self.response(words["K"])
+        need(earlier is not self.call, "line K is line N")
+        self.drew(words, earlier)
+
+    # Semaphores
+
+    def taken(self, words):
+        self.own("semaphores")
+        name = words["S"]
+        is_done = self.call.op[0] == "take" and self.call.reply == "done"
+        need(is_done and name in self.call.op[1], f"it took no unit of {name}")
+        count, given = takers(self.calls, name, self.at), givers(self.calls, name, self.at)
+        units = self.part.start[name]
+        need(words["nth"] == ordinal(count), f"it is the {ordinal(count)}")
+        need(words["units"] == str(units), f"there were {units} units at first")
+        need(words["v"] == str(given), f"{given} v had been called")
+        need(count > units + given, "so many units are enough")
+
+    # Cells and databases
+
+    def get(self, words):
+        self.own("cell", words["X"])
+        need(self.call.op[0] == "get", "the line is of no get")
+        right = text_of_reply(self.call.reply)
+        need(words["value"] == right, f"it returned {right}")
+
+    def word(self, word, put, write):
+        right = write if self.call.object in self.history.databases else put
+        need(word == right, f"`{word}` in place of `{right}`")
+
+    def nowhere(self, words):
+        self.get(words)
+        self.word(words["put"], "put", "write")
+        need(words["same"] == words["value"], "the values differ")
+        need(times_put(self.calls, self.part.start, self.call.reply) == 0, "it was put")
+
+    def stale(self, words):
+        self.get(words)
+        self.line(words["L"], self.call.first, "its invocation")
+        earlier = self.response(words["K"])
+        if earlier.op[0] == "put":
+            self.word(words["put"], "put", "written")
+        else:
+            need(words["put"] == "returned", "line K is of a get")
+        need(text_of_reply(value_of(earlier)) == words["other"], "line K is of another value")
+        need(earlier.precedes(self.call), "line K is not before line L")
+        start = self.part.start
+        need(self.call.reply == start != value_of(earlier), "it is not the first value")
+        need(times_put(self.calls, start, start) == 1, "the first value was put again")
+
+    def alternate(self, words):
+        self.get(words)
+        one, two, three, four = words["lines"].split(" ")
+        a, b = self.response(one), self.invocation(two)
+        c, d = self.response(three), self.invocation(four)
+        need(a.precedes(b) and c.precedes(d), "the lines do not precede")
+        values = [value_of(call) for call in (a, b, c, d)]
+        need(None not in values, "one of the calls is pending")
+        need(values[0] == values[3] != values[1] == values[2], "the values do not alternate")
+        both = words["one"], words["other"]
+        need(set(both) == set(map(text_of_reply, values)), "the values are others")
+        need(words["value"] == words["one"], "the first value is not what it returned")
+        for first, second in ((a, d), (b, c)):
+            is_once = times_put(self.calls, self.part.start, value_of(first)) == 1
+            need(first is second or is_once, f"{text_of_reply(value_of(first))} was not put once")
+
+    def chain(self, words):
+        self.get(words)
+        self.word(words["put"], "put", "write")
+        lines = [int(word) for word in (words["lines"] or "").split()]
+        need(lines == sorted(set(lines), reverse=True), "the latest line is not the first")
+        named = [self.response(line) for line in lines]
+        need(all(call.op[0] == "get" for call in named), "one of the lines is of no get")
+        need(self.call not in named, "line N is among the lines")
+        kept = [call for call in self.calls if call.op[0] == "put" or call in [*named, self.call]]
+        need(search("cell", self.part.start, kept) is None, "a put is left for it")

@@ -1,0 +1,178 @@
+"""What `evc-calls watch` has to do with a text of histories, line by line, by the second reading."""
+
+import re
+
+from trying.calls.claims import Claim
+from trying.calls.notes import ADVANCES, FROM, NOTE, NOTES, NUMBER, RETURNED
+from trying.calls.reader import Reader, scan
+from trying.calls.theorems import fault_by_theorem, givers, least_of, made_between, most_of, readers, takers
+from trying.counting import Fault, need
+
+UNWATCHED = "cells and databases are not watched: evc-calls check decides them"
+
+SURE = re.compile(
+    f"{RETURNED}, but when it was called \\(line (?P<L>{NUMBER})\\)"
+    f" {ADVANCES} had surely taken effect{FROM}"
+)
+UNORDERED = re.compile(
+    f"returned (?P<value>{NUMBER}), which no order of the tickets of (?P<T>[^ ]+) gives"
+)
+NO_UNIT = re.compile("no unit of (?P<S>[^ ]+) was left")
+
+
+class WatchClaim(Claim):
+    """What a note of `watch` claims of a history."""
+
+    def sure(self, words):
+        """Checks the most advances that earlier calls show: those that had returned, or those that an earlier
+        reply implies, plus the ones that were called after it and returned."""
+        self.own("eventcount")
+        self.reads(words, self.call)
+        self.line(words["L"], self.call.first, "its invocation")
+        made = made_between
+        seen = [made(self.calls, -1, self.call.first)]
+        for one in readers(self.calls):
+            if one.precedes(self.call):
+                after = made(self.calls, one.last, self.call.first)
+                seen.append(least_of(one) + after - self.part.start)
+        self.advances(words, max(seen))
+        self.starts(words)
+        most = most_of(self.call)
+        need(most is not None and most < self.part.start + max(seen), "not too many")
+
+    def unordered(self, words):
+        self.own("sequencer", words["T"])
+        need(words["value"] == str(self.call.reply), "it returned another number")
+
+    def no_unit(self, words):
+        self.own("semaphores")
+        name, at = words["S"], self.at
+        need(name in self.call.op[1], "it takes of another")
+        taken = takers(self.calls, name, at)
+        units = self.part.start[name] + givers(self.calls, name, at)
+        need(taken > units, "a unit was left")
+
+
+FORMS = {"sure": SURE, "unordered": UNORDERED, "no_unit": NO_UNIT}
+FORMS |= {name: re.compile(NOTES[name]) for name in ("few", "below")}
+
+
+def claim_faults(history, position, note):
+    """Returns what is wrong with the note (without its line feed) on the event at this position, or None."""
+    form = NOTE.fullmatch(note)
+    if not form or form["N"] is None:
+        return f"no form: {note}"
+    if int(form["N"]) != history.line_of(position):
+        return f"the first faulty event is at line {history.line_of(position)}"
+    said = [(name, text.fullmatch(form["rest"])) for name, text in FORMS.items()]
+    said = [it for it in said if it[1]]
+    if len(said) != 1:
+        return f"{len(said)} forms: {note}"
+    try:
+        getattr(WatchClaim(history, int(form["N"])), said[0][0])(said[0][1])
+    except Fault as wrong:
+        return str(wrong)
+    return None
+
+
+def stop_of(history):
+    """Returns the first event that ends the command, as its position and why it does, or None."""
+    cells = [call.first for call in history.calls if call.op[0] in ("put", "get")]
+    end = min(cells, default=history.events)
+    faults = []
+    for part in history.parts():
+        if part.kind != "cell":
+            faults.append(fault_by_theorem(part.cut(end)))
+    refused = min((it for it in faults if it is not None), default=None)
+    if refused is not None:
+        return refused, "refused"
+    return (end, "cells") if cells else None
+
+
+def overlaps(history):
+    """Returns how many other calls are pending when a call is invoked, added up over all calls."""
+    pending = total = 0
+    ends = {call.last for call in history.calls if call.last is not None}
+    firsts = {call.first for call in history.calls}
+    for position in range(history.events):
+        if position in firsts:
+            total += pending
+            pending += 1
+        elif position in ends:
+            pending -= 1
+    return total
+
+
+class Watched:
+    """What `watch` has to do with a text."""
+
+    def __init__(self, text):
+        self.whole, self.fault, number = scan(text)
+        histories, begun = list(self.whole), Reader()
+        for at, line in enumerate(text.split(b"\n")[: number - 1], start=1):
+            begun.take(line, at)
+        if begun.place == "events":
+            histories.append(begun.history)
+        self.stop = self.history = None
+        for history in histories:
+            self.stop = stop_of(history)
+            if self.stop:
+                self.history = history
+                break
+
+    @property
+    def status(self):
+        if self.stop:
+            return {"refused": 1, "cells": 5}[self.stop[1]]
+        return 1 if self.fault else 0
+
+    def output(self):
+        if self.status:
+            return b""
+        calls = sum(len(history.calls) for history in self.whole)
+        others = sum(map(overlaps, self.whole))
+        hundredths = 100 * others // calls if calls else 0
+        overlap = f"{hundredths // 100}.{hundredths % 100:02}"
+        return f"{len(self.whole)} histories, {calls} calls, overlap {overlap}\n".encode()
+
+    def note_fault(self, notes):
+        """Returns what is wrong with the notes, or None."""
+        if not self.stop:
+            right = f"{self.fault}\n" if self.fault else ""
+            return None if notes == right else f"right is {right!r}"
+        if notes.count("\n") != 1 or not notes.endswith("\n"):
+            return "it is not one line"
+        position, what = self.stop
+        if what == "cells":
+            right = f"line {self.history.line_of(position)}: {UNWATCHED}\n"
+            return None if notes == right else f"right is {right!r}"
+        return claim_faults(self.history, position, notes[:-1])
+
+    def faults(self, ran):
+        """Returns what is wrong with the result of a command."""
+        status, output, notes = ran
+        found = []
+        if status != self.status:
+            found.append(f"status {status}, and right is {self.status}")
+        if output != self.output():
+            found.append(f"output {output[:200]}, and right is {self.output()}")
+        wrong = self.note_fault(notes.decode("latin-1"))
+        return [*found, f"notes {notes[:300]}: {wrong}"] if wrong else found
+
+
+def agreement_faults(watched, checked):
+    """Returns what differs between `watch` and `check` of one text."""
+    if watched[0] == 5:
+        return []
+    if watched[0] != checked[0]:
+        return [f"watch ends with {watched[0]}, check with {checked[0]}: {checked[2][-200:]}"]
+    if watched[0] == 0:
+        return []
+    lines = [re.match(rb"line (\d+): (\d+ [A-Z])?", notes.splitlines()[-1]) for _, _, notes in (watched, checked)]
+    if not all(lines):
+        return [f"notes {watched[2]} and {checked[2]}"]
+    (one, is_text), (other, is_other_text) = ((int(it[1]), bool(it[2])) for it in lines)
+    if is_text == is_other_text:
+        return [] if one == other else [f"watch names line {one}, check line {other}"]
+    # (`watch` stops at a faulty event at once, and `check` reads the whole history first)
+    return [] if one < other and is_other_text else [f"watch: {watched[2]}, check: {checked[2]}"]

@@ -1,0 +1,138 @@
+"""Histories of calls: all of a few calls on one object, random ones on several, and long ones."""
+
+import itertools
+import random
+
+from trying.verdicts.brute import first_state, natural, step
+
+# The calls of which the histories of one object are made: the operations, and the replies of each.
+VALUES = [
+    (["put", 0], ["done"]),
+    (["put", 1], ["done"]),
+    (["put", 2], ["done"]),
+    (["get"], [0, 1, 2]),
+]
+ALPHABETS = {
+    ("eventcount", 0): [
+        (["advance"], ["done"]),
+        (["read"], [0, 1, 2]),
+        (["await", 1], ["done", "timeout", 2]),
+        (["await", 2], ["timeout", 1]),
+    ],
+    ("eventcount", 1): [
+        (["advance"], ["done"]),
+        (["read"], [0, 1, 2]),
+        (["await", 2], ["done", 2, "timeout"]),
+    ],
+    ("sequencer",): [(["ticket"], [0, 1, 2, 3])],
+    ("semaphores", 1): [(["p", 0], ["done", "timeout"]), (["v", 0], ["done"])],
+    ("semaphores", 0, 1): [
+        (["p", 0], ["done"]),
+        (["v", 0], ["done"]),
+        (["pboth", 0, 1], ["done", "timeout"]),
+        (["v", 1], ["done"]),
+    ],
+    ("cell",): VALUES,
+    ("database", 2): VALUES,
+}
+
+
+def shapes(count):
+    """Returns each way in which so many calls may overlap, as events ('calls' or 'returns', which call)."""
+
+    def go(begun, pending):
+        if begun == count:
+            yield []
+        else:
+            for rest in go(begun + 1, pending | {begun}):
+                yield [("calls", begun), *rest]
+        for i in sorted(pending):
+            for rest in go(begun, pending - {i}):
+                yield [("returns", i), *rest]
+
+    return list(go(0, frozenset()))
+
+
+def small_histories(kind, count, letters):
+    """Yields all histories of so many calls of one object, each call by a worker of its own."""
+    for shape in shapes(count):
+        ended = {i for what, i in shape if what == "returns"}
+        completed = [(op, reply) for op, replies in letters for reply in replies]
+        pending = [(op, None) for op, _ in letters]
+        choices = [completed if i in ended else pending for i in range(count)]
+        for given in itertools.product(*choices):
+            ends = {"calls": lambda i: (0, given[i][0]), "returns": lambda i: (given[i][1],)}
+            yield [kind], [(str(i), what, *ends[what](i)) for what, i in shape]
+
+
+def random_history(rng, kinds, count, workers):
+    """Returns a history from a simulation of the objects: a call takes effect between its two events. In some histories
+    one reply is changed."""
+    states = [first_state(kind) for kind in kinds]
+    busy, events, changed = {}, [], rng.random() < 0.5
+    begun = 0
+    while begun < count or (busy and rng.random() < 0.9):
+        worker = str(rng.randrange(workers))
+        if worker not in busy:
+            if begun < count:
+                k = rng.randrange(len(kinds))
+                op = rng.choice(ALPHABETS[tuple(kinds[k])])[0]
+                busy[worker] = [k, op, None]
+                events.append((worker, "calls", k, op))
+                begun += 1
+            continue
+        k, op, reply = busy[worker]
+        if reply is None:
+            reply = natural(states[k], op)
+            if reply is None and op[0] in ("await", "p", "pboth") and rng.random() < 0.2:
+                reply = "timeout"
+            if reply is not None:
+                states[k] = step(states[k], op, reply)
+                busy[worker][2] = reply
+            elif rng.random() < 0.3 and begun == count:
+                break
+            continue
+        if rng.random() < 0.6:
+            if changed and isinstance(reply, int) and rng.random() < 0.3:
+                reply, changed = max(0, reply + rng.choice([-1, 1])), False
+            events.append((worker, "returns", reply))
+            del busy[worker]
+    return kinds, events
+
+
+def random_histories(seed, count):
+    rng = random.Random(seed)
+    sorts = [list(kind) for kind in ALPHABETS]
+    for _ in range(count):
+        kinds = [rng.choice(sorts) for _ in range(rng.choice([1, 1, 2, 3]))]
+        yield random_history(rng, kinds, rng.randint(1, 8), rng.randint(2, 4))
+
+
+def long_history(rng, kind, count, workers):
+    """Returns a history of many calls of one object, as text, from a simulation of it."""
+    sort = kind[0]
+    state, busy, fresh = 1 if sort == "semaphores" else 0, {}, 0
+    lines = [" ".join(map(str, kind)), "run"]
+    for _ in range(2 * count):
+        worker = rng.randrange(workers)
+        if worker in busy:
+            lines.append(f"{worker} returns {busy.pop(worker)}")
+            continue
+        if sort == "eventcount":
+            op, reply = rng.choice(
+                [("advance", "done"), ("read", state), (f"await {state // 2}", "done")]
+            )
+            state += op == "advance"
+        elif sort == "sequencer":
+            op, reply, state = "ticket", state, state + 1
+        elif sort == "semaphores":
+            op = "p 0" if state and rng.random() < 0.5 else "v 0"
+            reply, state = "done", state + (1 if op == "v 0" else -1)
+        elif rng.random() < 0.3:
+            fresh += 1
+            op, reply, state = f"put {fresh}", "done", fresh
+        else:
+            op, reply = "get", state
+        busy[worker] = reply
+        lines.append(f"{worker} calls 0 {op}")
+    return "\n".join(lines) + "\nend\n"
