@@ -4,7 +4,7 @@ use Rattle.std.specs.Prelude.{Option, Some, None, Result, Ok, Err, false}
 use Rattle.calls_core.specs.declared.history.TheConstants.{WORKERS}
 use Rattle.calls_core.specs.declared.history.Kind.{Kind}
 use Rattle.calls_core.specs.declared.history.Kind.TheVariants.{Eventcount, Sequencer, Semaphores}
-use Rattle.calls_core.specs.declared.history.Kind.TheVariants.{Cell, Database}
+use Rattle.calls_core.specs.declared.history.Kind.TheVariants.{Cell, Database, Buffer}
 use Rattle.calls_core.specs.declared.history.Event.{Event}
 use Rattle.calls_core.specs.Histories.{pending_calls, IsHistory, part}
 use Rattle.calls_core.specs.Completions.{is_response, IsLinearizable}
@@ -18,13 +18,14 @@ use Rattle.calls_monitor.specs.declared.whole.Stop.{Stop}
 use Rattle.calls_monitor.specs.Refusals.{Explains}
 use Rattle.calls_monitor.specs.kept.Watching.{Watches}
 
--- which objects are watched: all but cells and databases
+-- which objects are watched: all but cells, databases and buffers
 abbrev pub IsWatched : Kind → Type 0
 IsWatched (Eventcount n) = Unit {0}
 IsWatched Sequencer = Unit {0}
 IsWatched (Semaphores units) = Unit {0}
 IsWatched Cell = ⊥
 IsWatched (Database n) = ⊥
+IsWatched (Buffer n) = ⊥
 
 abbrev pub AreWatched : List Kind → Type 0
 AreWatched kinds = (k : ℕ) (kind : Kind) → slice_get kinds k ≡ Some kind → IsWatched kind

@@ -7,7 +7,7 @@ use Rattle.std.specs.List.Sorted.{IsPermutation}
 use Rattle.calls_core.specs.declared.history.Kind.TheVariants.{Semaphores}
 use Rattle.calls_core.specs.declared.history.Op.{Op}
 use Rattle.calls_core.specs.declared.history.Op.TheVariants.{Advance, Read, Await, Ticket, P, V}
-use Rattle.calls_core.specs.declared.history.Op.TheVariants.{PBoth, Put, Get}
+use Rattle.calls_core.specs.declared.history.Op.TheVariants.{PBoth, Put, Get, Produce, Consume}
 use Rattle.calls_core.specs.declared.history.Reply.{Reply}
 use Rattle.calls_core.specs.declared.history.Reply.TheVariants.{Done}
 use Rattle.calls_core.specs.declared.history.Event.{Event}
@@ -85,6 +85,8 @@ is_v (V j) = true
 is_v (PBoth j k) = false
 is_v (Put v) = false
 is_v Get = false
+is_v (Produce v) = false
+is_v Consume = false
 
 -- a pending v takes effect, and another pending call does not
 abbrev pub answer : PendingCall → Option Reply

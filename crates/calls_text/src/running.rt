@@ -231,14 +231,17 @@ fn number_in(
 fn takes_done(op: Op) -> bool
     ensures { result ≡ takes_done op }
 {
-    !matches!(op, Op::Read | Op::Ticket | Op::Get)
+    !matches!(op, Op::Read | Op::Ticket | Op::Get | Op::Consume)
 }
 
 /// Returns whether `timeout` is a reply to the operation.
 fn takes_timeout(op: Op) -> bool
     ensures { result ≡ takes_timeout op }
 {
-    matches!(op, Op::Await(_) | Op::P(_) | Op::PBoth(_, _))
+    matches!(
+        op,
+        Op::Await(_) | Op::P(_) | Op::PBoth(_, _) | Op::Produce(_) | Op::Consume
+    )
 }
 
 /// Returns whether `n` numbers are a reply to the call.
@@ -246,7 +249,7 @@ fn takes_numbers(heading: &Heading, call: &PendingCall, n: usize) -> bool
     ensures { result ≡ takes_numbers heading.now call.now call.now.op n }
 {
     match call.op {
-        Op::Read | Op::Await(_) | Op::Ticket => n == 1,
+        Op::Read | Op::Await(_) | Op::Ticket | Op::Consume => n == 1,
         Op::Get => n == numbers_of(heading, call.object),
         _ => false,
     }

@@ -49,6 +49,7 @@ fn takes(kind: &Kind, op: Op) -> bool
         Kind::Semaphores(units) => takes_units(units, op),
         Kind::Cell => matches!(op, Op::Put(_) | Op::Get),
         Kind::Database(_) => matches!(op, Op::Put(_) | Op::Get),
+        Kind::Buffer(_) => matches!(op, Op::Produce(_) | Op::Consume),
     }
 }
 
@@ -70,6 +71,8 @@ fn suits(op: Op, reply: Reply) -> bool
         Op::Advance | Op::V(_) | Op::Put(_) => matches!(reply, Reply::Done),
         Op::Read | Op::Ticket | Op::Get => matches!(reply, Reply::Number(_)),
         Op::P(_) | Op::PBoth(_, _) => matches!(reply, Reply::Done | Reply::Timeout),
+        Op::Produce(_) => matches!(reply, Reply::Done | Reply::Timeout),
+        Op::Consume => matches!(reply, Reply::Number(_) | Reply::Timeout),
         Op::Await(_) => true,
     }
 }

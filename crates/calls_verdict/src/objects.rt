@@ -5,7 +5,8 @@ ghost use Rattle.calls_core.specs.declared.history.Kind.TheVariants.{Semaphores,
 ghost use Rattle.calls_core.specs.Histories.{IsHistoryOf, clock};
 ghost use Rattle.calls_verdict.specs.Verdicts.{IsDecision};
 
-use crate::verdict::{Decision, Fault};
+use crate::buffers::decide_buffer;
+use crate::verdict::{Cause, Decision, Fault};
 use calls_core::{Kind, Part};
 use std::alloc::{AllocError, Global};
 
@@ -71,7 +72,7 @@ fn decide_cell(alloc: Global, events: &Part<'_, '_>, end: usize) -> Result<Decis
     match calls_cells::decide(alloc, events, end)? {
         calls_cells::Outcome::Ordered(calls) => Ok(Decision::Ordered(calls)),
         calls_cells::Outcome::Refused(i, fault) => Ok(Decision::Refused(i, Fault::Value(fault))),
-        calls_cells::Outcome::Undecided(i, cause) => Ok(Decision::Open(i, cause)),
+        calls_cells::Outcome::Undecided(i, cause) => Ok(Decision::Open(i, Cause::Values(cause))),
     }
 }
 
@@ -92,5 +93,6 @@ pub fn decide_object(
         Kind::Semaphores(units) => decide_semaphores(alloc, units, events, end),
         Kind::Cell => decide_cell(alloc, events, end),
         Kind::Database(_) => decide_cell(alloc, events, end),
+        Kind::Buffer(room) => decide_buffer(alloc, *room, events, end),
     }
 }
