@@ -99,17 +99,6 @@ impl<'a, W: Write> Output<'a, W> {
         self.put_behind(bytes);
     }
 
-    /// Adds bytes and a short text to the buffer, if there is room for the longest such text.
-    #[inline(always)]
-    fn take_in_short(&mut self, before: &[u8], text: &InlineText) -> bool
-        ensures puts { IsTrue result → Puts self.old self.new (before.now ++ text.now) }
-        ensures full { result ≡ false → self.new ≡ self.old }
-        ensures stays { self.old.failed ≡ true → self.new ≡ self.old }
-        ensures taken { self.old.failed ≡ false → result ≡ true → self.new ≡ with_bytes self.old (before.now ++ text.now) }
-    {
-        self.bytes.take_in_short(before, text)
-    }
-
     /// Puts bytes, and a short text after them.
     ///
     /// If the bytes are a literal, this costs little more than only the text.
@@ -120,22 +109,10 @@ impl<'a, W: Write> Output<'a, W> {
             → self.new ≡ with_bytes self.old (before.now ++ text.now) }
         ensures stays { self.old.failed ≡ true → self.new ≡ self.old }
     {
-        if self.take_in_short(before, text) {
+        if self.bytes.take_in_short(before, text) {
             return;
         }
         self.put_at_end(before, text);
-    }
-
-    /// Adds bytes and a short text with this last byte instead of its own, as `take_in_short` does.
-    #[inline(always)]
-    fn take_in_ending(&mut self, before: &[u8], text: &InlineText, last: u8) -> bool
-        requires { 0 < length text.now }
-        ensures puts { IsTrue result → Puts self.old self.new (before.now ++ slice_set text.now (length text.now - 1) last) }
-        ensures full { result ≡ false → self.new ≡ self.old }
-        ensures stays { self.old.failed ≡ true → self.new ≡ self.old }
-        ensures taken { self.old.failed ≡ false → result ≡ true → self.new ≡ with_bytes self.old (before.now ++ slice_set text.now (length text.now - 1) last) }
-    {
-        self.bytes.take_in_ending(before, text, last)
     }
 
     /// Puts bytes, and the digits of a number that is stored with them.
@@ -147,7 +124,7 @@ impl<'a, W: Write> Output<'a, W> {
         ensures stays { self.old.failed ≡ true → self.new ≡ self.old }
     {
         let (digits, last) = number.ending();
-        if self.take_in_ending(before, digits, last) {
+        if self.bytes.take_in_ending(before, digits, last) {
             return;
         }
         self.put_decimal_at_end(before, number);
@@ -175,7 +152,7 @@ impl<'a, W: Write> Output<'a, W> {
         self.put_with_decimal(b"", number);
     }
 
-    /// Puts bytes and a short text that `take_in_short` did not add.
+    /// Puts bytes and a short text that the buffer did not take in.
     #[cold]
     #[inline(never)]
     fn put_at_end(&mut self, before: &[u8], text: &InlineText)
@@ -188,7 +165,7 @@ impl<'a, W: Write> Output<'a, W> {
         self.put(text.bytes());
     }
 
-    /// Puts bytes and the digits of a number that `take_in_ending` did not add.
+    /// Puts bytes and the digits of a number that the buffer did not take in.
     ///
     /// The text of all digits is made here. In `put_with_decimal`, which rarely needs it, each call
     /// would clear the memory for it.
