@@ -52,21 +52,6 @@ impl<'a, W: Write> Output<'a, W> {
         self.failed
     }
 
-    /// Adds the bytes to the buffer if there is room for all of them, and returns whether it did.
-    ///
-    /// Bytes that are added after a failed write are never written. They are dropped when the
-    /// buffer is full.
-    #[inline(always)]
-    fn take_in(&mut self, bytes: &[u8]) -> bool
-        ensures puts { IsTrue result → Puts self.old self.new bytes.now }
-        ensures full { result ≡ false → self.new ≡ self.old }
-        ensures stays { self.old.failed ≡ true → self.new ≡ self.old }
-        ensures room { self.old.failed ≡ false → length self.old.waiting + length bytes.now ≤ 8192
-            → (result ≡ true) × (self.new ≡ with_bytes self.old bytes.now) }
-    {
-        self.bytes.take_in(bytes)
-    }
-
     /// Writes what is in the buffer, and empties it.
     ///
     /// It doesn't call the writer's own `flush`. A failure is reported by `finish`.
@@ -86,6 +71,9 @@ impl<'a, W: Write> Output<'a, W> {
     }
 
     /// Puts bytes after those that were put before. A failure is reported by `finish`.
+    ///
+    /// Bytes that are put after a failed write are never written. They are dropped when the buffer
+    /// is full.
     #[inline(always)]
     pub fn put(&mut self, bytes: &[u8])
         ensures puts { Puts self.old self.new bytes.now }
@@ -93,7 +81,7 @@ impl<'a, W: Write> Output<'a, W> {
             → self.new ≡ with_bytes self.old bytes.now }
         ensures stays { self.old.failed ≡ true → self.new ≡ self.old }
     {
-        if self.take_in(bytes) {
+        if self.bytes.take_in(bytes) {
             return;
         }
         self.put_behind(bytes);
@@ -191,7 +179,7 @@ impl<'a, W: Write> Output<'a, W> {
         if self.has_failed() {
             return;
         }
-        if self.take_in(bytes) {
+        if self.bytes.take_in(bytes) {
             return;
         }
         self.put_long(bytes);
