@@ -18,11 +18,11 @@ ghost use Rattle.ec_heading.specs.HeaderTree.{empty_heading, IsDeclarable, numbe
 ghost use Rattle.ec_heading.specs.HeaderTree.{with_declaration};
 
 use crate::decl_kind::DeclKind;
-use crate::entry_words::{block_of, closed_number, cut_at, target_event, target_sequencer};
+use crate::entry_words::{closed_number, cut_at};
 use crate::form::{Parts, split_declaration};
 use crate::group::Group;
 use crate::kinds::{declaration_fault, size_of, workers_fault};
-use crate::lists::{is_same, push_ids, worker_in};
+use crate::lists::{push_ids, worker_in};
 use crate::objects::{add_objects, spell_objects, target_of};
 use crate::version::Version;
 use arrayvec::ArrayVec;
@@ -122,7 +122,7 @@ fn worker_list(line: &[u8]) -> Option<&[u8]>
     let (word, Some(list)) = cut_word(line) else {
         return None;
     };
-    if is_same(word, b"workers".as_slice()) {
+    if word == b"workers".as_slice() {
         Some(list)
     } else {
         None
@@ -154,36 +154,6 @@ fn add_workers(
         None => Ok(()),
         Some(rest) => add_workers(names, words, setup, rest),
     }
-}
-
-/// Returns a header with these workers and no declarations.
-fn empty_heading(
-    alloc: Global,
-    version: Version,
-    limit: Limit,
-    list: &[u8],
-) -> Result<Heading, NameFault>
-    requires within { limit ≤ greatest_limit version }
-    requires none { workers_fault (words_of list.now) ≡ None }
-    ensures { IfOk result (λ heading. heading ≡ empty_heading version limit (words_of list.now)) }
-{
-    let _limit = limit.get();
-    let Ok(mut names) = Names::new(alloc) else {
-        return Err(NameFault::Memory);
-    };
-    let Ok(mut words) = SymbolTable::new(alloc) else {
-        return Err(NameFault::Memory);
-    };
-    let mut setup = Setup::new(limit);
-    add_workers(&mut names, &mut words, &mut setup, list)?;
-    Ok(Heading {
-        version,
-        setup,
-        names,
-        words,
-        groups: Vec::new(alloc),
-        declarations: Vec::new(alloc),
-    })
 }
 
 impl Heading {
@@ -234,10 +204,24 @@ impl Heading {
             return Err(fault);
         }
         let alloc = *self.declarations.allocator();
-        let Ok(heading) = empty_heading(alloc, self.version, self.setup.limit(), list) else {
+        let Ok(mut names) = Names::new(alloc) else {
             return Err(HeadFault::Memory);
         };
-        *self = heading;
+        let Ok(mut words) = SymbolTable::new(alloc) else {
+            return Err(HeadFault::Memory);
+        };
+        let mut setup = Setup::new(self.setup.limit());
+        let Ok(()) = add_workers(&mut names, &mut words, &mut setup, list) else {
+            return Err(HeadFault::Memory);
+        };
+        *self = Heading {
+            version: self.version,
+            setup,
+            names,
+            words,
+            groups: Vec::new(alloc),
+            declarations: Vec::new(alloc),
+        };
         Ok(())
     }
 
@@ -377,14 +361,20 @@ impl Heading {
     pub fn event(&self, word: &[u8]) -> Option<EventId>
         ensures { result ≡ event_in self.now.words word.now }
     {
-        target_event(self.words.find(word)?)
+        match self.words.find(word)? {
+            Target::Event(id) => Some(id),
+            _ => None,
+        }
     }
 
     /// Returns the sequencer that a word names.
     pub fn sequencer(&self, word: &[u8]) -> Option<SeqId>
         ensures { result ≡ sequencer_in self.now.words word.now }
     {
-        target_sequencer(self.words.find(word)?)
+        match self.words.find(word)? {
+            Target::Sequencer(id) => Some(id),
+            _ => None,
+        }
     }
 
     /// Returns the cell that a word names: its block's name, `[`, its number there, and `]`.
@@ -400,11 +390,10 @@ impl Heading {
     fn cell_of(&self, name: &[u8], i: u64) -> Option<CellId>
         ensures { result ≡ cell_of self.now.words name.now i }
     {
-        let (first, n) = block_of(self.words.find(name)?)?;
-        if i >= n as u64 {
-            return None;
+        match self.words.find(name)? {
+            Target::Cells(first, n) if i < n as u64 => CellId::new(first.get() + i as usize),
+            _ => None,
         }
-        CellId::new(first + i as usize)
     }
 
     /// Returns the worker that a word names.

@@ -47,10 +47,7 @@ pub(crate) fn workers_fault(list: &[u8]) -> Option<HeadFault>
 pub(crate) fn size_of(parts: &Parts<'_>) -> u64
     ensures { result ≡ size_in (phrase_of_parts parts.now) }
 {
-    match number(parts.number) {
-        Some(n) => n,
-        None => 0,
-    }
+    number(parts.number).unwrap_or(0)
 }
 
 /// Returns whether the name is in use, or a list names a worker twice.
@@ -126,8 +123,7 @@ fn is_too_many(setup: &Setup, words: &SymbolTable, parts: &Parts<'_>) -> bool
         DeclKind::Database => {
             setup.events() > 30 || setup.sequencers() > 31 || is_over(setup.cells(), size_of(parts))
         }
-        DeclKind::Semaphore => setup.events() > 31 || setup.sequencers() > 31,
-        DeclKind::Both => setup.events() > 31 || setup.sequencers() > 31,
+        DeclKind::Semaphore | DeclKind::Both => setup.events() > 31 || setup.sequencers() > 31,
     }
 }
 
