@@ -404,22 +404,6 @@ impl Heading {
     }
 }
 
-/// Adds the name of a declaration, if its form has one.
-fn add_name(
-    names: &mut Names,
-    sort: DeclKind,
-    name: &[u8],
-    target: &Target,
-) -> Result<(), NameFault>
-    ensures ok { OnOk result (names.new ≡ names.old ++ named_as sort name.now target.now) }
-    ensures err { OnErr result (names.new ≡ names.old) }
-{
-    if !sort.has_name() {
-        return Ok(());
-    }
-    names.add_bytes(name, *target)
-}
-
 /// Adds the words and the name of the next declaration, after this setup and `groups` groups; on an
 /// error none of them.
 fn spell_declaration(
@@ -440,13 +424,11 @@ fn spell_declaration(
     ensures same_names { OnErr result (names.new ≡ names.old) }
 {
     let before = words.len();
-    let Ok(()) = spell_objects(words, parts.name, setup, groups, parts.sort, n) else {
-        return Err(AllocError);
-    };
-    let Ok(()) = add_name(names, parts.sort, parts.name, target) else {
+    spell_objects(words, parts.name, setup, groups, parts.sort, n)?;
+    if parts.sort.has_name() && names.add_bytes(parts.name, *target).is_err() {
         words.truncate(before);
         return Err(AllocError);
-    };
+    }
     Ok(())
 }
 
@@ -457,13 +439,8 @@ fn reserve_one(declarations: &mut Vec<Target>, groups: &mut Vec<Group>) -> Resul
     ensures more { OnOk result (length declarations.new.items + 1 ≤ vec_capacity declarations.new) }
     ensures room { OnOk result (length groups.new.items + 1 ≤ vec_capacity groups.new) }
 {
-    let Ok(()) = declarations.reserve(1) else {
-        return Err(AllocError);
-    };
-    let Ok(()) = groups.reserve(1) else {
-        return Err(AllocError);
-    };
-    Ok(())
+    declarations.reserve(1)?;
+    groups.reserve(1)
 }
 
 /// Adds what was declared. Room for it was reserved.

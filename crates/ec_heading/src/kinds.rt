@@ -54,26 +54,17 @@ pub(crate) fn size_of(parts: &Parts<'_>) -> u64
 fn is_taken(words: &SymbolTable, parts: &Parts<'_>) -> bool
     ensures { result ≡ is_taken words.now (declaration_of words.now (phrase_of_parts parts.now)) }
 {
-    if words.find(parts.name).is_some() || has_repeat(words, parts.first) {
-        return true;
-    }
-    match parts.second {
-        None => false,
-        Some(second) => has_repeat(words, second),
-    }
+    words.find(parts.name).is_some()
+        || has_repeat(words, parts.first)
+        || parts.second.is_some_and(|second| has_repeat(words, second))
 }
 
 /// Returns whether a word of a list is no worker's name.
 fn has_unknown_word(words: &SymbolTable, parts: &Parts<'_>) -> bool
     ensures { result ≡ has_unknown_word words.now (phrase_of_parts parts.now) }
 {
-    if has_unknown(words, parts.first) {
-        return true;
-    }
-    match parts.second {
-        None => false,
-        Some(second) => has_unknown(words, second),
-    }
+    has_unknown(words, parts.first)
+        || parts.second.is_some_and(|second| has_unknown(words, second))
 }
 
 /// Returns whether the number is out of its range; one of more than 18 digits is.
