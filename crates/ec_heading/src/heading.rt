@@ -236,48 +236,25 @@ impl Heading {
         if let Some(fault) = declaration_fault(&self.setup, &self.words, &parts) {
             return Err(fault);
         }
-        self.declare(&parts)
+        self.declare(&parts).map_err(|_| HeadFault::Memory)
     }
 
-    /// Adds what a line without fault declares.
-    fn declare(&mut self, parts: &Parts<'_>) -> Result<(), HeadFault>
+    /// Adds what a line without fault declares. What allocates comes first, so an error changes
+    /// nothing.
+    fn declare(&mut self, parts: &Parts<'_>) -> Result<(), AllocError>
         requires some { self.old.setup.workers ≢ 0 }
         requires may { IsDeclarable self.old
             (declaration_of self.old.words (phrase_of_parts parts.now)) }
         ensures ok { OnOk result (self.new ≡ with_declaration self.old (declaration_of self.old.words (phrase_of_parts parts.now))) }
         ensures err { OnErr result (self.new ≡ self.old) }
-        ensures fault { IfErr result (λ fault. fault ≡ HeadFault.Memory) }
     {
         let first = workers_of(&self.words, parts.first);
         let second = second_workers(&self.words, parts);
-        self.declare_with(parts, first.as_slice(), second.as_slice())
-    }
-
-    /// Adds a declaration with these workers. What allocates comes first, so an error changes
-    /// nothing.
-    fn declare_with(
-        &mut self,
-        parts: &Parts<'_>,
-        first: &[WorkerId],
-        second: &[WorkerId],
-    ) -> Result<(), HeadFault>
-        requires some { self.old.setup.workers ≢ 0 }
-        requires may { IsDeclarable self.old
-            (declaration_of self.old.words (phrase_of_parts parts.now)) }
-        requires first { first.now ≡ ids_in self.old.words (phrase_of_parts parts.now).first }
-        requires second { second.now
-            ≡ ids_in self.old.words (second_list (phrase_of_parts parts.now)) }
-        ensures ok { OnOk result (self.new ≡ with_declaration self.old (declaration_of self.old.words (phrase_of_parts parts.now))) }
-        ensures err { OnErr result (self.new ≡ self.old) }
-        ensures fault { IfErr result (λ fault. fault ≡ HeadFault.Memory) }
-    {
         let n = size_of(parts) as usize;
         let groups = self.groups.len();
         let target = target_of(&self.setup, groups, parts.sort, n);
-        let Ok(()) = reserve_one(&mut self.declarations, &mut self.groups) else {
-            return Err(HeadFault::Memory);
-        };
-        let Ok(()) = spell_declaration(
+        reserve_one(&mut self.declarations, &mut self.groups)?;
+        spell_declaration(
             &mut self.words,
             &mut self.names,
             &self.setup,
@@ -285,9 +262,8 @@ impl Heading {
             parts,
             n,
             &target,
-        ) else {
-            return Err(HeadFault::Memory);
-        };
+        )?;
+        let (first, second) = (first.as_slice(), second.as_slice());
         let group = add_objects(&mut self.setup, parts.sort, n, first, second);
         push_group(&mut self.groups, group);
         push_target(&mut self.declarations, target);

@@ -71,20 +71,14 @@ fn has_unknown_word(words: &SymbolTable, parts: &Parts<'_>) -> bool
 fn is_bad_number(sort: DeclKind, number: Option<u64>) -> bool
     ensures { result ≡ is_bad_number sort number }
 {
-    match number {
-        None => sort.has_number(),
-        Some(n) => sort.has_number() && !sort.is_in_range(n),
-    }
+    sort.has_number() && !number.is_some_and(|n| sort.is_in_range(n))
 }
 
 /// Returns how many workers the second list names.
 fn count_second(words: &SymbolTable, parts: &Parts<'_>) -> usize
     ensures { result ≡ length (declaration_of words.now (phrase_of_parts parts.now)).second }
 {
-    match parts.second {
-        None => 0,
-        Some(second) => count_ids(words, second),
-    }
+    parts.second.map_or(0, |second| count_ids(words, second))
 }
 
 /// Returns whether `cells` cells and `n` more exceed 256.
