@@ -14,8 +14,7 @@ ghost use Rattle.ec_heading.specs.DeclKinds.{is_in_range};
 ghost use Rattle.ec_heading.specs.EntryWords.{event_in, sequencer_in, cell_in_word, cell_of};
 ghost use Rattle.ec_heading.specs.Versions.{greatest_limit};
 ghost use Rattle.ec_heading.specs.Upgrade.{upgrade_heading};
-ghost use Rattle.ec_heading.specs.HeaderTree.{empty_heading, IsDeclarable, number_names, named_as};
-ghost use Rattle.ec_heading.specs.HeaderTree.{with_declaration};
+ghost use Rattle.ec_heading.specs.HeaderTree.{empty_heading, IsDeclarable, number_names, named_as, with_declaration};
 
 use crate::decl_kind::DeclKind;
 use crate::entry_words::{closed_number, cut_at};

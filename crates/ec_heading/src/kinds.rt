@@ -64,7 +64,9 @@ fn has_unknown_word(words: &SymbolTable, parts: &Parts<'_>) -> bool
     ensures { result ≡ has_unknown_word words.now (phrase_of_parts parts.now) }
 {
     has_unknown(words, parts.first)
-        || parts.second.is_some_and(|second| has_unknown(words, second))
+        || parts
+            .second
+            .is_some_and(|second| has_unknown(words, second))
 }
 
 /// Returns whether the number is out of its range; one of more than 18 digits is.

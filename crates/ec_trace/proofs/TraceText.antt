@@ -5,7 +5,7 @@ use Rattle.ec_core.specs.declared.act.Entry.{Entry}
 use Rattle.ec_heading.specs.DeclKinds.{sort_word, opener, second_opener}
 use Rattle.ec_heading.specs.HeaderTree.{Declaration, HeaderTree, IsHeaderTree, heading_of_tree}
 use Rattle.ec_heading.specs.Spelling.{NameTable, list_words, second_words, name_words, number_words, declaration_line, limit_line, workers_line, trace_header, entry_line, heading_lines, lines_text, trace_text}
-use Rattle.ec_heading.specs.Recalled.{names_of, second_names, declared_words, declared_line, declarations_of, worker_names, opening_text, written_text}
+use Rattle.ec_heading.specs.Recalled.{names_of, second_names, declared_line, declarations_of, worker_names, opening_text, written_text}
 use Rattle.ec_trace.specs.Written.{heading_text}
 use Rattle.ec_trace.proofs.shared.LineParts.{join_spaced, text_of-append}
 use Rattle.ec_heading.proofs.shared.TreeNames.{workers_found}
@@ -18,7 +18,7 @@ second_same ws names (Some word) (i ∷ ids) h = ap (λ (r : List (List ℕ)). w
 
 line_same : (ws : List (List ℕ)) (names : NameTable) (d : Declaration) → ((is : List ℕ) → names_of names is ≡ list_words ws is) → declared_line names d ≡ declaration_line ws d
 line_same ws names d h =
-    sym (join_spaced (sort_word d.sort) (declared_words names d))
+    sym (join_spaced (sort_word d.sort) _)
     ∙ ap (λ (r : List (List ℕ)). join_with_byte 32 (sort_word d.sort ∷ (name_words d.sort d.name ++ number_words d.sort d.number ++ opener d.sort ∷ r) ++ second_names names (second_opener d.sort) d.second)) (h d.first)
     ∙ ap (λ (r : List (List ℕ)). join_with_byte 32 (sort_word d.sort ∷ (name_words d.sort d.name ++ number_words d.sort d.number ++ opener d.sort ∷ list_words ws d.first) ++ r)) (second_same ws names (second_opener d.sort) d.second h)
 

@@ -107,10 +107,7 @@ fn declaration_line(heading: &Heading, target: Target) -> Option<DeclarationLine
             first: setup.writers(*first),
             second: setup.readers(*first),
         }),
-        Target::Group(place) => match heading.groups().get(*place) {
-            None => None,
-            Some(group) => Some(group_line(setup, name, group)),
-        },
+        Target::Group(place) => Some(group_line(setup, name, heading.groups().get(*place)?)),
         Target::Worker(_) => None,
     }
 }
@@ -233,13 +230,6 @@ pub(crate) fn first_line(version: Version) -> &'static [u8]
     }
 }
 
-/// Puts the first line, without LF.
-fn put_first<W: Write>(out: &mut Output<'_, W>, version: Version)
-    ensures { Puts out.old out.new (trace_header version) }
-{
-    out.put(first_line(version));
-}
-
 /// Puts the limit, the workers and the declarations of a header, and `run`.
 #[tactic(auto, using(crate::proofs::shared::LineParts::heading_parts))]
 pub fn put_heading<W: Write>(out: &mut Output<'_, W>, spellings: &Spellings<'_>, heading: &Heading)
@@ -267,7 +257,7 @@ pub(crate) fn put_opening<W: Write>(
 )
     ensures { Puts out.old out.new (opening_text spellings.now heading.now) }
 {
-    put_first(out, heading.version());
+    out.put(first_line(heading.version()));
     out.put_byte(b'\n');
     put_heading(out, spellings, heading);
 }
