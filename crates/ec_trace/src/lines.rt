@@ -149,10 +149,7 @@ impl Lines {
             (λ _. Stays self.old self.new (R.remaining reader.old) (R.remaining reader.new)) }
     {
         let room = TRACE_MAX - self.before - self.end;
-        let n = match read_piece(reader, &mut self.piece) {
-            Ok(n) => n,
-            Err(failed) => return Err(failed),
-        };
+        let n = read_piece(reader, &mut self.piece)?;
         self.before += self.end;
         self.from = 0;
         self.end = n.min(room);
