@@ -47,9 +47,7 @@ fn short_word(word: &[u8]) -> Option<InlineText>
 fn short_cell(cell: &Option<CellName<'_>>) -> Option<InlineText>
     ensures { IsShortOf result (option_map_or cell_name_bytes cell.now []) }
 {
-    let Some(name) = cell else {
-        return None;
-    };
+    let name = (*cell)?;
     let mut text = InlineText::new();
     let number = CachedDecimal::new(name.place as u64);
     let fits = text.take_in(name.block)

@@ -37,10 +37,10 @@ impl<'a> Model for DeclarationLine<'a> {
 fn declared_name(heading: &Heading, target: Target) -> &[u8]
     ensures { result.now ≡ target_name heading.now.names target }
 {
-    match heading.names().name_of(target) {
-        Some(name) => name.as_bytes(),
-        None => b"".as_slice(),
-    }
+    heading
+        .names()
+        .name_of(target)
+        .map_or(b"".as_slice(), |name| name.as_bytes())
 }
 
 /// Returns what was declared for a group of this name.
@@ -157,11 +157,11 @@ fn put_second<W: Write>(
 )
     ensures { Puts out.old out.new (with_spaces (second_names spellings.now (second_opener sort) workers.now)) }
 {
-    if let Some(word) = sort.second_opener() {
-        if !workers.is_empty() {
-            put_word(out, word);
-            put_names(out, spellings, workers);
-        }
+    if let Some(word) = sort.second_opener()
+        && !workers.is_empty()
+    {
+        put_word(out, word);
+        put_names(out, spellings, workers);
     }
 }
 
