@@ -1,5 +1,4 @@
 pub mod Grammar
-pub mod Written
 pub mod WordTables
 pub mod Entries
 pub mod PackedBytes

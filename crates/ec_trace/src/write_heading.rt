@@ -5,8 +5,7 @@ ghost use Rattle.ec_text.specs.Puts.{Puts};
 ghost use Rattle.ec_heading.specs.Spelling.{trace_header, target_name, name_words, number_words, limit_line, workers_line, heading_lines, lines_text};
 ghost use Rattle.ec_heading.specs.HeaderTree.{HeaderTree, IsHeaderTree, heading_of_tree};
 ghost use Rattle.ec_heading.specs.DeclKinds.{sort_word, opener, second_opener};
-ghost use Rattle.ec_trace.specs.Written.{heading_text};
-ghost use Rattle.ec_heading.specs.Recalled.{names_of, worker_names, declared_group, declaration_of, declarations_of, declared_line, declared_text, opening_text, second_names, with_spaces};
+ghost use Rattle.ec_heading.specs.Recalled.{names_of, worker_names, declared_group, declaration_of, declarations_of, declared_line, declared_text, heading_text, opening_text, second_names, with_spaces};
 
 use crate::spell::Spellings;
 use ec_count::{Setup, Target, WorkerId};
