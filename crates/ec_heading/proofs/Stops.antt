@@ -1,9 +1,10 @@
 -- The lists before and after a word.
-use Rattle.std.proofs.Common.{◌≡◌, ℕ, ◌+◌, ◌-◌, ◌<◌, List, [], ◌∷◌, ◌++◌, length, take, drop, Bool, true, false, Option, Some, None, zero, suc, refl, sym, ap, ◌∙◌, arith, bytes_eq, take_all, zero-add, unwrap_or, if◌then◌else◌, get_or, add-one, drop-cons}
+use Rattle.std.proofs.Common.{◌≡◌, ℕ, ◌+◌, ◌-◌, ◌<◌, List, [], ◌∷◌, ◌++◌, length, take, drop, Bool, true, false, Option, Some, None, zero, suc, refl, sym, ap, ◌∙◌, arith, bytes_eq, take_all, zero-add, unwrap_or, if◌then◌else◌, get_or, add-one, drop-cons, MatchOption, IfSome, IfNone}
 use Rattle.std.proofs.lemmas.List.{length-append, length-drop}
 use Rattle.std.proofs.lemmas.Slice.Eq.{bytes_eq-Decides}
 use Rattle.std.proofs.lemmas.Option.{none-some}
 use Rattle.std.proofs.Math.Seq.{take-append-add, drop-append-add, take-append_seam, drop-append_seam, drop-length}
+use Rattle.std.specs.Borrow.{Bor}
 use Rattle.ec_text.specs.Words.{words_of, IsWord}
 use Rattle.ec_text.proofs.shared.WordLemmas.{has_first, words_at, words_alone}
 use Rattle.ec_heading.specs.DeclKinds.{sort_word, sort_of, has_name, opener, second_opener, needs_second}
@@ -24,7 +25,7 @@ unfolding split_words
 split_none stop = refl
 
 -- the one word is the word
-pub stops_at_end : (stop list w : List ℕ) → list ≡ w → words_of list ≡ w ∷ [] → bytes_eq w stop ≡ true → StopsAt stop list 0
+stops_at_end : (stop list w : List ℕ) → list ≡ w → words_of list ≡ w ∷ [] → bytes_eq w stop ≡ true → StopsAt stop list 0
 stops_at_end stop list w is words same =
     let e : w ≡ stop = (bytes_eq-Decides w stop).0 same in
     let whole : stop ≡ list = sym e ∙ sym is in
@@ -37,7 +38,7 @@ stops_at_end stop list w is words same =
 pub goes_to_end : (stop list w : List ℕ) → words_of list ≡ w ∷ [] → bytes_eq w stop ≡ false → split_words stop (words_of list) ≡ (words_of list, None)
 goes_to_end stop list w words other = rw words (split_on stop w [] other ∙ ap (on_first w) (split_none stop))
 
-pub stops_here : (stop list w rest : List ℕ) → list ≡ w ++ 32 ∷ rest → IsWord w → bytes_eq w stop ≡ true → StopsAt stop list 0
+stops_here : (stop list w rest : List ℕ) → list ≡ w ++ 32 ∷ rest → IsWord w → bytes_eq w stop ≡ true → StopsAt stop list 0
 stops_here stop list w rest is word same =
     let e : w ≡ stop = (bytes_eq-Decides w stop).0 same in
     record {
@@ -45,6 +46,11 @@ stops_here stop list w rest is word same =
       splits = ap (λ xs. split_words stop (words_of xs)) is ∙ ap (split_words stop) (words_at w rest word) ∙ split_here stop w (words_of rest) same
           ∙ ap (λ xs. ([], Some (behind_words xs))) (sym (ap (λ xs. drop (0 + length stop) xs) is ∙ ap (λ n. drop n (w ++ 32 ∷ rest)) (zero-add (length stop) ∙ ap length (sym e)) ∙ drop-append_seam w (32 ∷ rest)));
     }
+
+-- the first word is the word, whether others follow or not
+pub stops_first : (stop list w : List ℕ) (rest : Option (Bor (List ℕ))) → MatchOption rest (words_of list ≡ w ∷ []) (λ r. words_of list ≡ w ∷ words_of r.now) → IfSome rest (λ r. list ≡ w ++ 32 ∷ r.now) → IfNone rest (list ≡ w) → IsWord w → bytes_eq w stop ≡ true → StopsAt stop list 0
+stops_first stop list w None words whole only word same = stops_at_end stop list w only words same
+stops_first stop list w (Some r) words whole only word same = stops_here stop list w r.now whole word same
 
 pub goes_on : (stop list w rest : List ℕ) → words_of list ≡ w ∷ words_of rest → bytes_eq w stop ≡ false → split_words stop (words_of rest) ≡ (words_of rest, None) → split_words stop (words_of list) ≡ (words_of list, None)
 goes_on stop list w rest words other none = rw words (split_on stop w (words_of rest) other ∙ ap (on_first w) none)
@@ -83,9 +89,6 @@ is_well_none a = let f = has_first a in ap (λ ws. is_well false (ws, None)) f.i
 well : (needs : Bool) (p q : List (List ℕ) × Option (List (List ℕ))) → q ≡ p → is_well needs p ≡ true → Some p ≡ well_or needs q
 well needs p q is true_is = sym (ap (well_or needs) is ∙ ap (λ b. if b then Some p else None) true_is)
 
-pub well_whole : (needs : Bool) (stop list : List ℕ) → split_words stop (words_of list) ≡ (words_of list, None) → needs ≡ false → Some (words_of list, None) ≡ well_or needs (split_words stop (words_of list))
-well_whole needs stop list is no_need = well needs (words_of list, None) _ is (ap (λ b. is_well b (words_of list, None)) no_need ∙ is_well_none list)
-
 fronts : (at : ℕ) (list : List ℕ) → 0 < at → front_words at list ≡ words_of (take (at - 1) list)
 fronts zero list some = absurd (omega arith)
 fronts (suc k) list some = let e : suc k - 1 ≡ k = omega arith in ap (λ n. words_of (take n list)) (sym e)
@@ -101,8 +104,8 @@ well_parts needs stop list at stops some within = well needs _ _
     (stops.splits ∙ ap (λ ws. (ws, Some (behind_words (drop (at + length stop) list)))) (fronts at list some) ∙ ap (λ ws. (words_of (take (at - 1) list), Some ws)) (behinds (at + length stop) list within))
     (is_well_some needs (take (at - 1) list) (take (length list - (at + length stop + 1)) (drop (at + length stop + 1) list)))
 
-pub well_alone : (needs : Bool) (o : Option (List ℕ)) (list : List ℕ) → o ≡ None → needs ≡ false → Some (words_of list, None) ≡ well_or needs (both_lists o (words_of list))
-well_alone needs o list is no_need = well needs (words_of list, None) _ (ap (λ p. both_lists p (words_of list)) is) (ap (λ b. is_well b (words_of list, None)) no_need ∙ is_well_none list)
+pub well_alone : (needs : Bool) (list : List ℕ) → needs ≡ false → Some (words_of list, None) ≡ well_or needs (words_of list, None)
+well_alone needs list is_no_need = well needs (words_of list, None) _ refl (ap (λ b. is_well b (words_of list, None)) is_no_need ∙ is_well_none list)
 
 both_none : (o : Option (List ℕ)) → both_lists o [] ≡ ([], None)
 both_none None = refl

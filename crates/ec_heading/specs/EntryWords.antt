@@ -5,9 +5,7 @@ use Rattle.ec_count.specs.Names.{find_name}
 use Rattle.ec_count.specs.declared.target.Target.{Target}
 use Rattle.ec_count.specs.declared.target.Target.TheVariants.{Event, Sequencer, Cells}
 use Rattle.ec_text.specs.Words.{number_in_word}
-
-abbrev pub NameTable : Type 0
-NameTable = List (List ℕ × Target)
+pub use Rattle.ec_heading.specs.Lists.{NameTable}
 
 -- the eventcount or sequencer that a name denotes, if it denotes one
 abbrev pub target_event : Target → Option ℕ

@@ -52,5 +52,4 @@ has_sequencer (groups.Both s) q = s.line == q
 abbrev pub has_cell : Group → ℕ → Bool
 has_cell (groups.Buffer b) x = nat_le b.first_cell x && nat_lt x (b.first_cell + b.cells)
 has_cell (groups.Database d) x = nat_le d.first_cell x && nat_lt x (d.first_cell + d.cells)
-has_cell (groups.Semaphore s) x = false
-has_cell (groups.Both s) x = false
+has_cell _ x = false

@@ -43,8 +43,7 @@ with_objects sorts.Sequencer t n ws vs = with_sequencer t ws
 with_objects sorts.Cells t n ws vs = with_cells t n ws vs
 with_objects sorts.Buffer t n ws vs = with_buffer t n ws vs
 with_objects sorts.Database t n ws vs = with_database t n ws vs
-with_objects sorts.Semaphore t n ws vs = with_semaphore t ws
-with_objects sorts.Both t n ws vs = with_semaphore t ws
+with_objects _ t n ws vs = with_semaphore t ws
 
 -- why they can't be added to the tables, if they can't
 abbrev pub objects_fault : DeclKind → Tables → ℕ → List ℕ → List ℕ → Option SetupFault

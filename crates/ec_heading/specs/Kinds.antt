@@ -5,7 +5,6 @@ use Rattle.ec_count.specs.Tables.{Tables, first_that}
 use Rattle.ec_count.specs.Members.{is_member, has_repeat}
 use Rattle.ec_count.specs.Names.{find_name}
 use Rattle.ec_count.specs.Reserved.{is_name}
-use Rattle.ec_count.specs.declared.target.Target.{Target}
 use Rattle.ec_buffer.specs.Shapes as buffers
 use Rattle.ec_database.specs.Shapes as databases
 use Rattle.ec_text.specs.Words.{number_in_word}
@@ -16,10 +15,7 @@ use Rattle.ec_heading.specs.declared.heading.HeadFault.TheVariants as faults
 use Rattle.ec_heading.specs.DeclKinds.{has_number, needs_disjoint_lists, is_called, is_in_range}
 use Rattle.ec_heading.specs.HeaderTree.{Declaration}
 use Rattle.ec_heading.specs.Form.{Phrase}
-use Rattle.ec_heading.specs.Lists.{ids_in, has_unknown, has_word_twice}
-
-abbrev pub NameTable : Type 0
-NameTable = List (List ℕ × Target)
+use Rattle.ec_heading.specs.Lists.{NameTable, ids_in, has_unknown, has_word_twice}
 
 -- the number of each kind of fault, among the kinds of errors of scripts; out of memory is no fault
 -- of a line
@@ -76,8 +72,7 @@ is_full_for sorts.Sequencer t n = nat_lt 31 (length t.takers)
 is_full_for sorts.Cells t n = nat_lt 256 (length t.cells + n)
 is_full_for sorts.Buffer t n = buffers.lacks_room t n
 is_full_for sorts.Database t n = databases.lacks_room t n
-is_full_for sorts.Semaphore t n = nat_lt 31 (length t.events) || nat_lt 31 (length t.takers)
-is_full_for sorts.Both t n = nat_lt 31 (length t.events) || nat_lt 31 (length t.takers)
+is_full_for _ t n = nat_lt 31 (length t.events) || nat_lt 31 (length t.takers)
 
 abbrev pub is_too_many : Tables → Declaration → Bool
 is_too_many t d = (nat_lt 16 (length d.first) || nat_lt 16 (length d.second)) || is_full_for d.sort t d.number

@@ -41,20 +41,15 @@ abbrev pub target_of : DeclKind → Next → ℕ → Target
 target_of sorts.EventCount k n = Event k.event
 target_of sorts.Sequencer k n = Sequencer k.sequencer
 target_of sorts.Cells k n = Cells k.cell n
-target_of sorts.Buffer k n = Group k.group
-target_of sorts.Database k n = Group k.group
-target_of sorts.Semaphore k n = Group k.group
-target_of sorts.Both k n = Group k.group
+target_of _ k n = Group k.group
 
 -- the group that a declaration is
 abbrev pub group_of_declaration : DeclKind → Tables → ℕ → Option kinds.Group
-group_of_declaration sorts.EventCount t n = None
-group_of_declaration sorts.Sequencer t n = None
-group_of_declaration sorts.Cells t n = None
 group_of_declaration sorts.Buffer t n = Some (groups.Buffer (next_buffer t n))
 group_of_declaration sorts.Database t n = Some (groups.Database (next_database t n))
 group_of_declaration sorts.Semaphore t n = Some (groups.Semaphore (next_semaphore t n))
 group_of_declaration sorts.Both t n = Some (groups.Both (next_semaphore t 1))
+group_of_declaration _ t n = None
 
 -- the word for an object: the name, or the name, a dot and the suffix
 abbrev pub spelling : List ℕ → List ℕ → List ℕ

@@ -12,7 +12,7 @@ use Rattle.ec_heading.specs.declared.decl_kind.DeclKind.TheVariants as sorts
 use Rattle.ec_heading.specs.DeclKinds.{sort_word, opener, second_opener}
 use Rattle.ec_heading.specs.HeadingModel.{HeadingModel}
 use Rattle.ec_heading.specs.HeaderTree.{Declaration, HeaderTree}
-use Rattle.ec_heading.specs.Spelling.{NameTable, target_name, name_words, number_words, limit_line, workers_line, trace_header, entry_line, lines_text}
+use Rattle.ec_heading.specs.Spelling.{NameTable, target_name, name_words, number_words, limit_line, workers_line, trace_header, entry_line, ended_line, lines_text}
 
 -- the names of workers
 abbrev pub names_of : NameTable → List ℕ → List (List ℕ)
@@ -54,25 +54,23 @@ second_names names None ids = []
 second_names names (Some word) [] = []
 second_names names (Some word) (i ∷ ids) = word ∷ names_of names (i ∷ ids)
 
-abbrev pub declared_words : NameTable → Declaration → List (List ℕ)
-declared_words names d = name_words d.sort d.name ++ number_words d.sort d.number ++ opener d.sort ∷ names_of names d.first ++ second_names names (second_opener d.sort) d.second
-
 abbrev pub declared_line : NameTable → Declaration → List ℕ
-declared_line names d = sort_word d.sort ++ with_spaces (declared_words names d)
+declared_line names d = sort_word d.sort ++ with_spaces (name_words d.sort d.name ++ number_words d.sort d.number ++ opener d.sort ∷ names_of names d.first ++ second_names names (second_opener d.sort) d.second)
 
 -- the line of a declaration, if there is one
 abbrev pub declared_text : NameTable → Option Declaration → List ℕ
 declared_text names None = []
 declared_text names (Some d) = declared_line names d ++ 10 ∷ []
 
--- the lines before the entries
-abbrev pub opening_lines : NameTable → HeadingModel → List (List ℕ)
-opening_lines names h =
-    trace_header h.version ∷ limit_line h.setup.limit ∷ workers_line (names_of names (range_with_len 0 h.setup.workers)) ∷ map (declared_line names) (declarations_of h)
-    ++ codes "run" ∷ []
+-- the lines of a header after the first one, and `run`
+unfoldable pub heading_text : NameTable → HeadingModel → List ℕ
+heading_text names h = lines_text (
+    limit_line h.setup.limit ∷ workers_line (names_of names (range_with_len 0 h.setup.workers))
+    ∷ map (declared_line names) (declarations_of h) ++ codes "run" ∷ [])
 
+-- the lines before the entries
 unfoldable pub opening_text : NameTable → HeadingModel → List ℕ
-opening_text names h = lines_text (opening_lines names h)
+opening_text names h = ended_line (trace_header h.version) ++ heading_text names h
 
 -- the line of an entry, if there is one
 abbrev pub entry_text : NameTable → Option Entry → List ℕ

@@ -15,9 +15,7 @@ use Rattle.ec_heading.specs.DeclKinds.{sort_word, has_name, has_number, opener, 
 use Rattle.ec_heading.specs.declared.version.Version.{Version}
 use Rattle.ec_heading.specs.declared.version.Version.TheVariants.{One, Two}
 use Rattle.ec_heading.specs.HeaderTree.{Declaration, HeaderTree, heading_of_tree}
-
-abbrev pub NameTable : Type 0
-NameTable = List (List ℕ × Target)
+pub use Rattle.ec_heading.specs.Lists.{NameTable}
 
 -- HEADERS
 

@@ -2,7 +2,6 @@
 ghost use Rattle.std.specs.Prelude.{◌≡◌, option_map};
 ghost use Rattle.ec_heading.specs.DeclKinds.{sort_word, sort_of, has_name, has_number, least, greatest, is_in_range, is_called, opener, second_opener, needs_second, needs_disjoint_lists};
 
-use crate::lists::is_same;
 use ec_count::is_name;
 use ec_semaphore::INITIAL_MAX;
 
@@ -66,11 +65,7 @@ impl DeclKind {
     pub fn has_name(self) -> bool
         ensures { result ≡ has_name self }
     {
-        match self {
-            DeclKind::EventCount | DeclKind::Sequencer | DeclKind::Cells => true,
-            DeclKind::Buffer | DeclKind::Database | DeclKind::Semaphore => true,
-            DeclKind::Both => false,
-        }
+        !matches!(self, DeclKind::Both)
     }
 
     /// Returns whether a declaration of this kind may be called so.
@@ -82,7 +77,7 @@ impl DeclKind {
         if self.has_name() {
             is_name(name)
         } else {
-            is_same(name, self.word())
+            name == self.word()
         }
     }
 
@@ -90,10 +85,7 @@ impl DeclKind {
     pub fn has_number(self) -> bool
         ensures { result ≡ has_number self }
     {
-        match self {
-            DeclKind::EventCount | DeclKind::Sequencer | DeclKind::Both => false,
-            DeclKind::Cells | DeclKind::Buffer | DeclKind::Database | DeclKind::Semaphore => true,
-        }
+        self.greatest() > 0
     }
 
     /// Returns the least number of such a declaration, 0 if its form has none.
@@ -155,21 +147,13 @@ impl DeclKind {
     pub fn needs_second(self) -> bool
         ensures { result ≡ needs_second self }
     {
-        match self {
-            DeclKind::EventCount | DeclKind::Sequencer | DeclKind::Cells => false,
-            DeclKind::Buffer | DeclKind::Database => true,
-            DeclKind::Semaphore | DeclKind::Both => false,
-        }
+        matches!(self, DeclKind::Buffer | DeclKind::Database)
     }
 
     /// Returns whether no worker may be in both lists.
     pub fn needs_disjoint_lists(self) -> bool
         ensures { result ≡ needs_disjoint_lists self }
     {
-        match self {
-            DeclKind::EventCount | DeclKind::Sequencer | DeclKind::Cells => false,
-            DeclKind::Database | DeclKind::Buffer => true,
-            DeclKind::Semaphore | DeclKind::Both => false,
-        }
+        matches!(self, DeclKind::Database | DeclKind::Buffer)
     }
 }

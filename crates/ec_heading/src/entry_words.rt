@@ -1,41 +1,8 @@
 //! What a word of an entry names.
 ghost use Rattle.std.specs.Prelude.{◌≡◌, option_map, Some};
-ghost use Rattle.ec_heading.specs.EntryWords.{block_of, target_event, target_sequencer, cut_at};
-ghost use Rattle.ec_heading.specs.EntryWords.{closed_number};
+ghost use Rattle.ec_heading.specs.EntryWords.{cut_at, closed_number};
 
-use ec_count::{EventId, SeqId, Target};
 use ec_text::number;
-
-/// Returns the eventcount that a name denotes; `None` if it denotes something else.
-pub(crate) fn target_event(target: Target) -> Option<EventId>
-    ensures { result ≡ target_event target }
-{
-    match target {
-        Target::Event(id) => Some(id),
-        _ => None,
-    }
-}
-
-/// Returns the sequencer that a name denotes; `None` if it denotes something else.
-pub(crate) fn target_sequencer(target: Target) -> Option<SeqId>
-    ensures { result ≡ target_sequencer target }
-{
-    match target {
-        Target::Sequencer(id) => Some(id),
-        _ => None,
-    }
-}
-
-/// Returns the first cell of the block that a name denotes, and how many cells the block has;
-/// `None` if it denotes no block.
-pub(crate) fn block_of(target: Target) -> Option<(usize, usize)>
-    ensures { result ≡ block_of target }
-{
-    match target {
-        Target::Cells(first, n) => Some((first.get(), n)),
-        _ => None,
-    }
-}
 
 /// Returns what is before the first such byte, and what is after it; `None` if there is none.
 #[tactic(auto, using(crate::proofs::Bytes::cuts))]

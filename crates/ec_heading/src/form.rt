@@ -5,7 +5,6 @@ ghost use Rattle.ec_heading.specs.DeclKinds.{needs_second, second_opener};
 ghost use Rattle.ec_heading.specs.Form.{parts_in, numbered_in, opened_in, split_words, both_lists, phrase_of_parts, shown_lists, well_or, StopsAt};
 
 use crate::decl_kind::{DeclKind, sort_of};
-use crate::lists::is_same;
 use ec_text::{cut_word, is_number_form};
 
 /// A declaration, by its words. If its form has no name, `name` is the word of its kind; if it has
@@ -32,54 +31,41 @@ fn stop_at(list: &[u8], stop: &[u8]) -> Option<usize>
     ensures some { IfSome result (λ at. StopsAt stop.now list.now at) }
 {
     let (word, rest) = cut_word(list);
-    let is_stop = is_same(word, stop);
-    match rest {
-        None => {
-            if is_stop {
-                return Some(0);
-            }
-            None
-        }
-        Some(rest) => {
-            if is_stop {
-                return Some(0);
-            }
-            match stop_at(rest, stop) {
-                None => None,
-                Some(at) => Some(word.len() + 1 + at),
-            }
-        }
+    if word == stop {
+        return Some(0);
     }
+    let at = stop_at(rest?, stop)?;
+    Some(word.len() + 1 + at)
+}
+
+/// Returns a list without a second one, unless that must be there.
+fn one_list(list: &[u8], needs: bool) -> Option<Lists<'_>>
+    ensures { option_map shown_lists result ≡ well_or needs (words_of list.now, None) }
+{
+    if needs {
+        return None;
+    }
+    Some(Lists {
+        first: list,
+        second: None,
+    })
 }
 
 /// Returns the lists before and after the first `stop` of a list, if both are well formed.
 fn split_lists<'a>(list: &'a [u8], stop: &[u8], needs: bool) -> Option<Lists<'a>>
     ensures { option_map shown_lists result ≡ well_or needs (split_words stop.now (words_of list.now)) }
 {
-    match stop_at(list, stop) {
-        None => {
-            if needs {
-                return None;
-            }
-            Some(Lists {
-                first: list,
-                second: None,
-            })
-        }
-        Some(at) => {
-            if at == 0 {
-                return None;
-            }
-            let end = at + stop.len();
-            if end >= list.len() {
-                return None;
-            }
-            Some(Lists {
-                first: &list[..at - 1],
-                second: Some(&list[end + 1..]),
-            })
-        }
+    let Some(at) = stop_at(list, stop) else {
+        return one_list(list, needs);
+    };
+    let end = at + stop.len();
+    if at == 0 || end >= list.len() {
+        return None;
     }
+    Some(Lists {
+        first: &list[..at - 1],
+        second: Some(&list[end + 1..]),
+    })
 }
 
 /// Returns the two lists of names of a declaration of this kind, if both are well formed.
@@ -87,15 +73,7 @@ fn parse_lists<'a>(sort: DeclKind, list: &'a [u8]) -> Option<Lists<'a>>
     ensures { option_map shown_lists result ≡ well_or (needs_second sort) (both_lists (second_opener sort) (words_of list.now)) }
 {
     match sort.second_opener() {
-        None => {
-            if sort.needs_second() {
-                return None;
-            }
-            Some(Lists {
-                first: list,
-                second: None,
-            })
-        }
+        None => one_list(list, sort.needs_second()),
         Some(stop) => split_lists(list, stop, sort.needs_second()),
     }
 }
@@ -114,7 +92,7 @@ fn parts_from_first_list<'a>(
     let (word, Some(rest)) = cut_word(rest) else {
         return None;
     };
-    if !is_same(word, sort.opener()) {
+    if word != sort.opener() {
         return None;
     }
     let lists = parse_lists(sort, rest)?;

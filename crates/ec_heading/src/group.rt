@@ -61,8 +61,7 @@ impl Group {
         match *self {
             Group::Buffer(shape) => shape.in_count() == event || shape.out_count() == event,
             Group::Database(shape) => shape.start() == event || shape.done() == event,
-            Group::Semaphore(shape) => shape.count() == event,
-            Group::Both(shape) => shape.count() == event,
+            Group::Semaphore(shape) | Group::Both(shape) => shape.count() == event,
         }
     }
 
@@ -73,8 +72,7 @@ impl Group {
         match *self {
             Group::Buffer(shape) => shape.put_seq() == sequencer || shape.take_seq() == sequencer,
             Group::Database(shape) => shape.turn() == sequencer,
-            Group::Semaphore(shape) => shape.line() == sequencer,
-            Group::Both(shape) => shape.line() == sequencer,
+            Group::Semaphore(shape) | Group::Both(shape) => shape.line() == sequencer,
         }
     }
 
@@ -109,15 +107,10 @@ fn push_semaphores(list: &mut Vec<SemaphoreShape>, groups: &[Group]) -> Result<(
     let [group, rest @ ..] = groups else {
         return Ok(());
     };
-    match group {
-        Group::Semaphore(shape) => {
-            list.push(*shape)?;
-            push_semaphores(list, rest)
-        }
-        Group::Buffer(_) => push_semaphores(list, rest),
-        Group::Database(_) => push_semaphores(list, rest),
-        Group::Both(_) => push_semaphores(list, rest),
+    if let Group::Semaphore(shape) = group {
+        list.push(*shape)?;
     }
+    push_semaphores(list, rest)
 }
 
 /// Returns the semaphores among groups, except the common one of `both`.

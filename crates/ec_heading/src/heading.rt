@@ -14,15 +14,14 @@ ghost use Rattle.ec_heading.specs.DeclKinds.{is_in_range};
 ghost use Rattle.ec_heading.specs.EntryWords.{event_in, sequencer_in, cell_in_word, cell_of};
 ghost use Rattle.ec_heading.specs.Versions.{greatest_limit};
 ghost use Rattle.ec_heading.specs.Upgrade.{upgrade_heading};
-ghost use Rattle.ec_heading.specs.HeaderTree.{empty_heading, IsDeclarable, number_names, named_as};
-ghost use Rattle.ec_heading.specs.HeaderTree.{with_declaration};
+ghost use Rattle.ec_heading.specs.HeaderTree.{empty_heading, IsDeclarable, number_names, named_as, with_declaration};
 
 use crate::decl_kind::DeclKind;
-use crate::entry_words::{block_of, closed_number, cut_at, target_event, target_sequencer};
+use crate::entry_words::{closed_number, cut_at};
 use crate::form::{Parts, split_declaration};
 use crate::group::Group;
 use crate::kinds::{declaration_fault, size_of, workers_fault};
-use crate::lists::{is_same, push_ids, worker_in};
+use crate::lists::{push_ids, worker_in};
 use crate::objects::{add_objects, spell_objects, target_of};
 use crate::version::Version;
 use arrayvec::ArrayVec;
@@ -122,7 +121,7 @@ fn worker_list(line: &[u8]) -> Option<&[u8]>
     let (word, Some(list)) = cut_word(line) else {
         return None;
     };
-    if is_same(word, b"workers".as_slice()) {
+    if word == b"workers".as_slice() {
         Some(list)
     } else {
         None
@@ -154,36 +153,6 @@ fn add_workers(
         None => Ok(()),
         Some(rest) => add_workers(names, words, setup, rest),
     }
-}
-
-/// Returns a header with these workers and no declarations.
-fn empty_heading(
-    alloc: Global,
-    version: Version,
-    limit: Limit,
-    list: &[u8],
-) -> Result<Heading, NameFault>
-    requires within { limit ≤ greatest_limit version }
-    requires none { workers_fault (words_of list.now) ≡ None }
-    ensures { IfOk result (λ heading. heading ≡ empty_heading version limit (words_of list.now)) }
-{
-    let _limit = limit.get();
-    let Ok(mut names) = Names::new(alloc) else {
-        return Err(NameFault::Memory);
-    };
-    let Ok(mut words) = SymbolTable::new(alloc) else {
-        return Err(NameFault::Memory);
-    };
-    let mut setup = Setup::new(limit);
-    add_workers(&mut names, &mut words, &mut setup, list)?;
-    Ok(Heading {
-        version,
-        setup,
-        names,
-        words,
-        groups: Vec::new(alloc),
-        declarations: Vec::new(alloc),
-    })
 }
 
 impl Heading {
@@ -234,10 +203,24 @@ impl Heading {
             return Err(fault);
         }
         let alloc = *self.declarations.allocator();
-        let Ok(heading) = empty_heading(alloc, self.version, self.setup.limit(), list) else {
+        let Ok(mut names) = Names::new(alloc) else {
             return Err(HeadFault::Memory);
         };
-        *self = heading;
+        let Ok(mut words) = SymbolTable::new(alloc) else {
+            return Err(HeadFault::Memory);
+        };
+        let mut setup = Setup::new(self.setup.limit());
+        let Ok(()) = add_workers(&mut names, &mut words, &mut setup, list) else {
+            return Err(HeadFault::Memory);
+        };
+        *self = Heading {
+            version: self.version,
+            setup,
+            names,
+            words,
+            groups: Vec::new(alloc),
+            declarations: Vec::new(alloc),
+        };
         Ok(())
     }
 
@@ -252,48 +235,25 @@ impl Heading {
         if let Some(fault) = declaration_fault(&self.setup, &self.words, &parts) {
             return Err(fault);
         }
-        self.declare(&parts)
+        self.declare(&parts).map_err(|_| HeadFault::Memory)
     }
 
-    /// Adds what a line without fault declares.
-    fn declare(&mut self, parts: &Parts<'_>) -> Result<(), HeadFault>
+    /// Adds what a line without fault declares. What allocates comes first, so an error changes
+    /// nothing.
+    fn declare(&mut self, parts: &Parts<'_>) -> Result<(), AllocError>
         requires some { self.old.setup.workers ≢ 0 }
         requires may { IsDeclarable self.old
             (declaration_of self.old.words (phrase_of_parts parts.now)) }
         ensures ok { OnOk result (self.new ≡ with_declaration self.old (declaration_of self.old.words (phrase_of_parts parts.now))) }
         ensures err { OnErr result (self.new ≡ self.old) }
-        ensures fault { IfErr result (λ fault. fault ≡ HeadFault.Memory) }
     {
         let first = workers_of(&self.words, parts.first);
         let second = second_workers(&self.words, parts);
-        self.declare_with(parts, first.as_slice(), second.as_slice())
-    }
-
-    /// Adds a declaration with these workers. What allocates comes first, so an error changes
-    /// nothing.
-    fn declare_with(
-        &mut self,
-        parts: &Parts<'_>,
-        first: &[WorkerId],
-        second: &[WorkerId],
-    ) -> Result<(), HeadFault>
-        requires some { self.old.setup.workers ≢ 0 }
-        requires may { IsDeclarable self.old
-            (declaration_of self.old.words (phrase_of_parts parts.now)) }
-        requires first { first.now ≡ ids_in self.old.words (phrase_of_parts parts.now).first }
-        requires second { second.now
-            ≡ ids_in self.old.words (second_list (phrase_of_parts parts.now)) }
-        ensures ok { OnOk result (self.new ≡ with_declaration self.old (declaration_of self.old.words (phrase_of_parts parts.now))) }
-        ensures err { OnErr result (self.new ≡ self.old) }
-        ensures fault { IfErr result (λ fault. fault ≡ HeadFault.Memory) }
-    {
         let n = size_of(parts) as usize;
         let groups = self.groups.len();
         let target = target_of(&self.setup, groups, parts.sort, n);
-        let Ok(()) = reserve_one(&mut self.declarations, &mut self.groups) else {
-            return Err(HeadFault::Memory);
-        };
-        let Ok(()) = spell_declaration(
+        reserve_one(&mut self.declarations, &mut self.groups)?;
+        spell_declaration(
             &mut self.words,
             &mut self.names,
             &self.setup,
@@ -301,9 +261,8 @@ impl Heading {
             parts,
             n,
             &target,
-        ) else {
-            return Err(HeadFault::Memory);
-        };
+        )?;
+        let (first, second) = (first.as_slice(), second.as_slice());
         let group = add_objects(&mut self.setup, parts.sort, n, first, second);
         push_group(&mut self.groups, group);
         push_target(&mut self.declarations, target);
@@ -377,14 +336,20 @@ impl Heading {
     pub fn event(&self, word: &[u8]) -> Option<EventId>
         ensures { result ≡ event_in self.now.words word.now }
     {
-        target_event(self.words.find(word)?)
+        match self.words.find(word)? {
+            Target::Event(id) => Some(id),
+            _ => None,
+        }
     }
 
     /// Returns the sequencer that a word names.
     pub fn sequencer(&self, word: &[u8]) -> Option<SeqId>
         ensures { result ≡ sequencer_in self.now.words word.now }
     {
-        target_sequencer(self.words.find(word)?)
+        match self.words.find(word)? {
+            Target::Sequencer(id) => Some(id),
+            _ => None,
+        }
     }
 
     /// Returns the cell that a word names: its block's name, `[`, its number there, and `]`.
@@ -400,11 +365,10 @@ impl Heading {
     fn cell_of(&self, name: &[u8], i: u64) -> Option<CellId>
         ensures { result ≡ cell_of self.now.words name.now i }
     {
-        let (first, n) = block_of(self.words.find(name)?)?;
-        if i >= n as u64 {
-            return None;
+        match self.words.find(name)? {
+            Target::Cells(first, n) if i < n as u64 => CellId::new(first.get() + i as usize),
+            _ => None,
         }
-        CellId::new(first + i as usize)
     }
 
     /// Returns the worker that a word names.
@@ -413,22 +377,6 @@ impl Heading {
     {
         worker_in(&self.words, word)
     }
-}
-
-/// Adds the name of a declaration, if its form has one.
-fn add_name(
-    names: &mut Names,
-    sort: DeclKind,
-    name: &[u8],
-    target: &Target,
-) -> Result<(), NameFault>
-    ensures ok { OnOk result (names.new ≡ names.old ++ named_as sort name.now target.now) }
-    ensures err { OnErr result (names.new ≡ names.old) }
-{
-    if !sort.has_name() {
-        return Ok(());
-    }
-    names.add_bytes(name, *target)
 }
 
 /// Adds the words and the name of the next declaration, after this setup and `groups` groups; on an
@@ -451,13 +399,11 @@ fn spell_declaration(
     ensures same_names { OnErr result (names.new ≡ names.old) }
 {
     let before = words.len();
-    let Ok(()) = spell_objects(words, parts.name, setup, groups, parts.sort, n) else {
-        return Err(AllocError);
-    };
-    let Ok(()) = add_name(names, parts.sort, parts.name, target) else {
+    spell_objects(words, parts.name, setup, groups, parts.sort, n)?;
+    if parts.sort.has_name() && names.add_bytes(parts.name, *target).is_err() {
         words.truncate(before);
         return Err(AllocError);
-    };
+    }
     Ok(())
 }
 
@@ -468,13 +414,8 @@ fn reserve_one(declarations: &mut Vec<Target>, groups: &mut Vec<Group>) -> Resul
     ensures more { OnOk result (length declarations.new.items + 1 ≤ vec_capacity declarations.new) }
     ensures room { OnOk result (length groups.new.items + 1 ≤ vec_capacity groups.new) }
 {
-    let Ok(()) = declarations.reserve(1) else {
-        return Err(AllocError);
-    };
-    let Ok(()) = groups.reserve(1) else {
-        return Err(AllocError);
-    };
-    Ok(())
+    declarations.reserve(1)?;
+    groups.reserve(1)
 }
 
 /// Adds what was declared. Room for it was reserved.

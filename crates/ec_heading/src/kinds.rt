@@ -47,56 +47,40 @@ pub(crate) fn workers_fault(list: &[u8]) -> Option<HeadFault>
 pub(crate) fn size_of(parts: &Parts<'_>) -> u64
     ensures { result ≡ size_in (phrase_of_parts parts.now) }
 {
-    match number(parts.number) {
-        Some(n) => n,
-        None => 0,
-    }
+    number(parts.number).unwrap_or(0)
 }
 
 /// Returns whether the name is in use, or a list names a worker twice.
 fn is_taken(words: &SymbolTable, parts: &Parts<'_>) -> bool
     ensures { result ≡ is_taken words.now (declaration_of words.now (phrase_of_parts parts.now)) }
 {
-    if words.find(parts.name).is_some() || has_repeat(words, parts.first) {
-        return true;
-    }
-    match parts.second {
-        None => false,
-        Some(second) => has_repeat(words, second),
-    }
+    words.find(parts.name).is_some()
+        || has_repeat(words, parts.first)
+        || parts.second.is_some_and(|second| has_repeat(words, second))
 }
 
 /// Returns whether a word of a list is no worker's name.
 fn has_unknown_word(words: &SymbolTable, parts: &Parts<'_>) -> bool
     ensures { result ≡ has_unknown_word words.now (phrase_of_parts parts.now) }
 {
-    if has_unknown(words, parts.first) {
-        return true;
-    }
-    match parts.second {
-        None => false,
-        Some(second) => has_unknown(words, second),
-    }
+    has_unknown(words, parts.first)
+        || parts
+            .second
+            .is_some_and(|second| has_unknown(words, second))
 }
 
 /// Returns whether the number is out of its range; one of more than 18 digits is.
 fn is_bad_number(sort: DeclKind, number: Option<u64>) -> bool
     ensures { result ≡ is_bad_number sort number }
 {
-    match number {
-        None => sort.has_number(),
-        Some(n) => sort.has_number() && !sort.is_in_range(n),
-    }
+    sort.has_number() && !number.is_some_and(|n| sort.is_in_range(n))
 }
 
 /// Returns how many workers the second list names.
 fn count_second(words: &SymbolTable, parts: &Parts<'_>) -> usize
     ensures { result ≡ length (declaration_of words.now (phrase_of_parts parts.now)).second }
 {
-    match parts.second {
-        None => 0,
-        Some(second) => count_ids(words, second),
-    }
+    parts.second.map_or(0, |second| count_ids(words, second))
 }
 
 /// Returns whether `cells` cells and `n` more exceed 256.
@@ -126,8 +110,7 @@ fn is_too_many(setup: &Setup, words: &SymbolTable, parts: &Parts<'_>) -> bool
         DeclKind::Database => {
             setup.events() > 30 || setup.sequencers() > 31 || is_over(setup.cells(), size_of(parts))
         }
-        DeclKind::Semaphore => setup.events() > 31 || setup.sequencers() > 31,
-        DeclKind::Both => setup.events() > 31 || setup.sequencers() > 31,
+        DeclKind::Semaphore | DeclKind::Both => setup.events() > 31 || setup.sequencers() > 31,
     }
 }
 

@@ -1,20 +1,13 @@
 //! Lists of words in a line, and the workers that they name.
-ghost use Rattle.std.specs.Prelude.{◌≡◌, ◌+◌, ◌++◌, ◌≤◌, length, bytes_eq};
+ghost use Rattle.std.specs.Prelude.{◌≡◌, ◌+◌, ◌++◌, ◌≤◌, length};
 ghost use Rattle.std.specs.List.{list_any};
 ghost use Rattle.ec_text.specs.Words.{words_of};
 ghost use Rattle.ec_count.specs.Members.{is_member, has_repeat};
-ghost use Rattle.ec_heading.specs.Lists.{target_worker, worker_in, ids_in, has_unknown, has_word, has_word_twice};
+ghost use Rattle.ec_heading.specs.Lists.{worker_in, ids_in, has_unknown, has_word, has_word_twice};
 
 use arrayvec::ArrayVec;
 use ec_count::{SymbolTable, Target, WorkerId};
 use ec_text::cut_word;
-
-/// Returns whether two words are the same.
-pub(crate) fn is_same(word: &[u8], other: &[u8]) -> bool
-    ensures { result ≡ bytes_eq word.now other.now }
-{
-    word == other
-}
 
 /// Returns how many words a list has: one more than spaces.
 pub fn count_words(list: &[u8]) -> usize
@@ -33,7 +26,7 @@ pub(crate) fn has_word(word: &[u8], list: &[u8]) -> bool
     ensures { result ≡ has_word word.now (words_of list.now) }
 {
     let (other, rest) = cut_word(list);
-    if is_same(word, other) {
+    if word == other {
         return true;
     }
     match rest {
@@ -52,21 +45,14 @@ pub(crate) fn has_word_twice(list: &[u8]) -> bool
     has_word(word, rest) || has_word_twice(rest)
 }
 
-/// Returns the worker that a name denotes; `None` if it denotes something else.
-fn target_worker(target: Target) -> Option<WorkerId>
-    ensures { result ≡ target_worker target }
-{
-    match target {
-        Target::Worker(id) => Some(id),
-        _ => None,
-    }
-}
-
 /// Returns the worker that a word names.
 pub(crate) fn worker_in(words: &SymbolTable, word: &[u8]) -> Option<WorkerId>
     ensures { result ≡ worker_in words.now word.now }
 {
-    target_worker(words.find(word)?)
+    match words.find(word)? {
+        Target::Worker(id) => Some(id),
+        _ => None,
+    }
 }
 
 /// Returns whether a word of the list names no worker.

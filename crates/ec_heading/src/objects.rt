@@ -117,76 +117,6 @@ fn add_words(words: &mut SymbolTable, name: &[u8], objects: &[Object]) -> Result
     Ok(())
 }
 
-/// Adds the words for the objects of the next buffer; on an error none of them.
-fn spell_buffer(
-    words: &mut SymbolTable,
-    name: &[u8],
-    setup: &Setup,
-    n: usize,
-) -> Result<(), AllocError>
-    requires room { is_full_for DeclKind.Buffer setup.now n ≡ false }
-    requires some { is_in_range DeclKind.Buffer n ≡ true }
-    requires new { AreNew name.now words.old (objects_of DeclKind.Buffer (ids_after setup.now 0) n) }
-    ensures ok { OnOk result (words.new ≡ words.old ++ spelled_objects name.now (objects_of DeclKind.Buffer (ids_after setup.now 0) n)) }
-    ensures err { OnErr result (words.new ≡ words.old) }
-{
-    let events = setup.events();
-    let sequencers = setup.sequencers();
-    let objects = [
-        Object::new(b"in", Target::Event(event(events))),
-        Object::new(b"out", Target::Event(event(events + 1))),
-        Object::new(b"put", Target::Sequencer(sequencer(sequencers))),
-        Object::new(b"take", Target::Sequencer(sequencer(sequencers + 1))),
-        Object::new(b"", Target::Cells(cell(setup.cells()), n)),
-    ];
-    add_words(words, name, &objects)
-}
-
-/// Adds the words for the objects of the next database; on an error none of them.
-fn spell_database(
-    words: &mut SymbolTable,
-    name: &[u8],
-    setup: &Setup,
-    n: usize,
-) -> Result<(), AllocError>
-    requires room { is_full_for DeclKind.Database setup.now n ≡ false }
-    requires some { is_in_range DeclKind.Database n ≡ true }
-    requires new { AreNew name.now words.old
-        (objects_of DeclKind.Database (ids_after setup.now 0) n) }
-    ensures ok { OnOk result (words.new ≡ words.old ++ spelled_objects name.now (objects_of DeclKind.Database (ids_after setup.now 0) n)) }
-    ensures err { OnErr result (words.new ≡ words.old) }
-{
-    let events = setup.events();
-    let objects = [
-        Object::new(b"start", Target::Event(event(events))),
-        Object::new(b"done", Target::Event(event(events + 1))),
-        Object::new(b"turn", Target::Sequencer(sequencer(setup.sequencers()))),
-        Object::new(b"", Target::Cells(cell(setup.cells()), n)),
-    ];
-    add_words(words, name, &objects)
-}
-
-/// Adds the words for the objects of the next semaphore, after this setup and `groups` groups; on
-/// an error none of them.
-fn spell_semaphore(
-    words: &mut SymbolTable,
-    name: &[u8],
-    setup: &Setup,
-    groups: usize,
-) -> Result<(), AllocError>
-    requires room { is_full_for DeclKind.Semaphore setup.now 0 ≡ false }
-    requires new { AreNew name.now words.old (objects_of DeclKind.Semaphore (ids_after setup.now groups) 0) }
-    ensures ok { OnOk result (words.new ≡ words.old ++ spelled_objects name.now (objects_of DeclKind.Semaphore (ids_after setup.now groups) 0)) }
-    ensures err { OnErr result (words.new ≡ words.old) }
-{
-    let objects = [
-        Object::new(b"v", Target::Event(event(setup.events()))),
-        Object::new(b"p", Target::Sequencer(sequencer(setup.sequencers()))),
-        Object::new(b"", Target::Group(groups)),
-    ];
-    add_words(words, name, &objects)
-}
-
 /// Adds the words for the objects of the next declaration, after this setup and `groups` groups; on
 /// an error none of them.
 pub(crate) fn spell_objects(
@@ -203,15 +133,39 @@ pub(crate) fn spell_objects(
     ensures ok { OnOk result (words.new ≡ words.old ++ spelled_objects name.now (objects_of sort (ids_after setup.now groups) n)) }
     ensures err { OnErr result (words.new ≡ words.old) }
 {
-    let itself = target_of(setup, groups, sort, n);
+    let (events, sequencers) = (setup.events(), setup.sequencers());
+    let itself = Object::new(b"", target_of(setup, groups, sort, n));
     match sort {
-        DeclKind::EventCount => add_words(words, name, &[Object::new(b"", itself)]),
-        DeclKind::Sequencer => add_words(words, name, &[Object::new(b"", itself)]),
-        DeclKind::Cells => add_words(words, name, &[Object::new(b"", itself)]),
-        DeclKind::Buffer => spell_buffer(words, name, setup, n),
-        DeclKind::Database => spell_database(words, name, setup, n),
-        DeclKind::Semaphore => spell_semaphore(words, name, setup, groups),
-        DeclKind::Both => spell_semaphore(words, name, setup, groups),
+        DeclKind::EventCount | DeclKind::Sequencer | DeclKind::Cells => {
+            add_words(words, name, &[itself])
+        }
+        DeclKind::Buffer => {
+            let objects = [
+                Object::new(b"in", Target::Event(event(events))),
+                Object::new(b"out", Target::Event(event(events + 1))),
+                Object::new(b"put", Target::Sequencer(sequencer(sequencers))),
+                Object::new(b"take", Target::Sequencer(sequencer(sequencers + 1))),
+                Object::new(b"", Target::Cells(cell(setup.cells()), n)),
+            ];
+            add_words(words, name, &objects)
+        }
+        DeclKind::Database => {
+            let objects = [
+                Object::new(b"start", Target::Event(event(events))),
+                Object::new(b"done", Target::Event(event(events + 1))),
+                Object::new(b"turn", Target::Sequencer(sequencer(sequencers))),
+                Object::new(b"", Target::Cells(cell(setup.cells()), n)),
+            ];
+            add_words(words, name, &objects)
+        }
+        DeclKind::Semaphore | DeclKind::Both => {
+            let objects = [
+                Object::new(b"v", Target::Event(event(events))),
+                Object::new(b"p", Target::Sequencer(sequencer(sequencers))),
+                itself,
+            ];
+            add_words(words, name, &objects)
+        }
     }
 }
 

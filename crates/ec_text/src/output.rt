@@ -52,21 +52,6 @@ impl<'a, W: Write> Output<'a, W> {
         self.failed
     }
 
-    /// Adds the bytes to the buffer if there is room for all of them, and returns whether it did.
-    ///
-    /// Bytes that are added after a failed write are never written. They are dropped when the
-    /// buffer is full.
-    #[inline(always)]
-    fn take_in(&mut self, bytes: &[u8]) -> bool
-        ensures puts { IsTrue result → Puts self.old self.new bytes.now }
-        ensures full { result ≡ false → self.new ≡ self.old }
-        ensures stays { self.old.failed ≡ true → self.new ≡ self.old }
-        ensures room { self.old.failed ≡ false → length self.old.waiting + length bytes.now ≤ 8192
-            → (result ≡ true) × (self.new ≡ with_bytes self.old bytes.now) }
-    {
-        self.bytes.take_in(bytes)
-    }
-
     /// Writes what is in the buffer, and empties it.
     ///
     /// It doesn't call the writer's own `flush`. A failure is reported by `finish`.
@@ -86,6 +71,9 @@ impl<'a, W: Write> Output<'a, W> {
     }
 
     /// Puts bytes after those that were put before. A failure is reported by `finish`.
+    ///
+    /// Bytes that are put after a failed write are never written. They are dropped when the buffer
+    /// is full.
     #[inline(always)]
     pub fn put(&mut self, bytes: &[u8])
         ensures puts { Puts self.old self.new bytes.now }
@@ -93,21 +81,10 @@ impl<'a, W: Write> Output<'a, W> {
             → self.new ≡ with_bytes self.old bytes.now }
         ensures stays { self.old.failed ≡ true → self.new ≡ self.old }
     {
-        if self.take_in(bytes) {
+        if self.bytes.take_in(bytes) {
             return;
         }
         self.put_behind(bytes);
-    }
-
-    /// Adds bytes and a short text to the buffer, if there is room for the longest such text.
-    #[inline(always)]
-    fn take_in_short(&mut self, before: &[u8], text: &InlineText) -> bool
-        ensures puts { IsTrue result → Puts self.old self.new (before.now ++ text.now) }
-        ensures full { result ≡ false → self.new ≡ self.old }
-        ensures stays { self.old.failed ≡ true → self.new ≡ self.old }
-        ensures taken { self.old.failed ≡ false → result ≡ true → self.new ≡ with_bytes self.old (before.now ++ text.now) }
-    {
-        self.bytes.take_in_short(before, text)
     }
 
     /// Puts bytes, and a short text after them.
@@ -120,22 +97,10 @@ impl<'a, W: Write> Output<'a, W> {
             → self.new ≡ with_bytes self.old (before.now ++ text.now) }
         ensures stays { self.old.failed ≡ true → self.new ≡ self.old }
     {
-        if self.take_in_short(before, text) {
+        if self.bytes.take_in_short(before, text) {
             return;
         }
         self.put_at_end(before, text);
-    }
-
-    /// Adds bytes and a short text with this last byte instead of its own, as `take_in_short` does.
-    #[inline(always)]
-    fn take_in_ending(&mut self, before: &[u8], text: &InlineText, last: u8) -> bool
-        requires { 0 < length text.now }
-        ensures puts { IsTrue result → Puts self.old self.new (before.now ++ slice_set text.now (length text.now - 1) last) }
-        ensures full { result ≡ false → self.new ≡ self.old }
-        ensures stays { self.old.failed ≡ true → self.new ≡ self.old }
-        ensures taken { self.old.failed ≡ false → result ≡ true → self.new ≡ with_bytes self.old (before.now ++ slice_set text.now (length text.now - 1) last) }
-    {
-        self.bytes.take_in_ending(before, text, last)
     }
 
     /// Puts bytes, and the digits of a number that is stored with them.
@@ -147,7 +112,7 @@ impl<'a, W: Write> Output<'a, W> {
         ensures stays { self.old.failed ≡ true → self.new ≡ self.old }
     {
         let (digits, last) = number.ending();
-        if self.take_in_ending(before, digits, last) {
+        if self.bytes.take_in_ending(before, digits, last) {
             return;
         }
         self.put_decimal_at_end(before, number);
@@ -175,7 +140,7 @@ impl<'a, W: Write> Output<'a, W> {
         self.put_with_decimal(b"", number);
     }
 
-    /// Puts bytes and a short text that `take_in_short` did not add.
+    /// Puts bytes and a short text that the buffer did not take in.
     #[cold]
     #[inline(never)]
     fn put_at_end(&mut self, before: &[u8], text: &InlineText)
@@ -188,7 +153,7 @@ impl<'a, W: Write> Output<'a, W> {
         self.put(text.bytes());
     }
 
-    /// Puts bytes and the digits of a number that `take_in_ending` did not add.
+    /// Puts bytes and the digits of a number that the buffer did not take in.
     ///
     /// The text of all digits is made here. In `put_with_decimal`, which rarely needs it, each call
     /// would clear the memory for it.
@@ -214,7 +179,7 @@ impl<'a, W: Write> Output<'a, W> {
         if self.has_failed() {
             return;
         }
-        if self.take_in(bytes) {
+        if self.bytes.take_in(bytes) {
             return;
         }
         self.put_long(bytes);

@@ -5,33 +5,18 @@ ghost use Rattle.ec_text.specs.Words.{words_of, IsWord};
 
 use std::simd::prelude::*;
 
-/// Returns how many of the first 16 bytes come before their first space.
+/// Returns how many of the first N bytes come before their first space.
 #[inline(always)]
-fn first_word_length_of_16(line: &[u8]) -> usize
-    requires { 16 ≤ length line.now }
-    ensures { result ≡ position_or_len (λ b. b == 32) (take 16 line.now) }
+fn first_word_length_of<const N: usize>(line: &[u8]) -> usize
+    requires wide { N ≤ 64 }
+    requires long { N ≤ length line.now }
+    ensures { result ≡ position_or_len (λ b. b == 32) (take N line.now) }
 {
-    let spaces = u8x16::from_slice(line)
-        .simd_eq(u8x16::splat(b' '))
+    let spaces = Simd::<u8, N>::from_slice(line)
+        .simd_eq(Simd::splat(b' '))
         .to_bitmask();
     if spaces == 0 {
-        16
-    } else {
-        spaces.trailing_zeros() as usize
-    }
-}
-
-/// Returns how many of the first 8 bytes come before their first space.
-#[inline(always)]
-fn first_word_length_of_8(line: &[u8]) -> usize
-    requires { 8 ≤ length line.now }
-    ensures { result ≡ position_or_len (λ b. b == 32) (take 8 line.now) }
-{
-    let spaces = u8x8::from_slice(line)
-        .simd_eq(u8x8::splat(b' '))
-        .to_bitmask();
-    if spaces == 0 {
-        8
+        N
     } else {
         spaces.trailing_zeros() as usize
     }
@@ -47,9 +32,9 @@ fn first_word_length(line: &[u8]) -> usize
     ensures none { (k : ℕ) → k < result → slice_index line.now k ≢ 32 }
 {
     if line.len() >= 16 {
-        first_word_length_of_16(line)
+        first_word_length_of::<16>(line)
     } else if line.len() >= 8 {
-        first_word_length_of_8(line)
+        first_word_length_of::<8>(line)
     } else {
         0
     }

@@ -1,5 +1,4 @@
 pub mod Grammar
-pub mod Written
 pub mod WordTables
 pub mod Entries
 pub mod PackedBytes
@@ -13,19 +12,3 @@ pub mod Reading
 pub mod ReadingLaws
 pub mod FirstFault
 pub mod EntryLines
-pub use Rattle.ec_heading.specs.Form
-pub use Rattle.ec_heading.specs.Groups
-pub use Rattle.ec_heading.specs.HeadingModel
-pub use Rattle.ec_heading.specs.Heading
-pub use Rattle.ec_heading.specs.HeadingLaws
-pub use Rattle.ec_heading.specs.Kinds
-pub use Rattle.ec_heading.specs.Lists
-pub use Rattle.ec_heading.specs.Objects
-pub use Rattle.ec_heading.specs.HeaderTree
-pub use Rattle.ec_heading.specs.HeadingInvariant
-pub use Rattle.ec_heading.specs.Recalled
-pub use Rattle.ec_heading.specs.DeclKinds
-pub use Rattle.ec_heading.specs.EntryWords
-pub use Rattle.ec_heading.specs.Spelling
-pub use Rattle.ec_heading.specs.Upgrade
-pub use Rattle.ec_heading.specs.Versions

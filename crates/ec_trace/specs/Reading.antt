@@ -98,18 +98,6 @@ ReadsPart xs left r s (Ok true) = HasLine xs left r r.part s
 ReadsPart xs left r s (Ok false) = Begins xs left r r.part s
 ReadsPart xs left r s (Err f) = Returns TRACE_MAX xs left (Err f)
 
--- the part of the line is still its beginning, and more was read; or the fault of the text is
--- returned
-abbrev pub ReadsMore : List ℕ → Option (List ℕ) → LinesModel → Stage → Result (Unit {0}) TraceFault
-    → Type 0
-ReadsMore xs left r s (Ok x) = Begins xs left r r.part s
-ReadsMore xs left r s (Err f) = Returns TRACE_MAX xs left (Err f)
-
--- the next line was read; or the fault of the text is returned
-abbrev pub ReadsLine : List ℕ → Option (List ℕ) → LinesModel → Stage → Result (Unit {0}) TraceFault → Type 0
-ReadsLine xs left r s (Ok x) = HasLine xs left r r.line s
-ReadsLine xs left r s (Err f) = Returns TRACE_MAX xs left (Err f)
-
 -- the line may be the last before the entries
 abbrev pub is_run : HeadingModel → List ℕ → Bool
 is_run h line = bytes_eq line (codes "run") && nat_lt 0 h.setup.workers

@@ -271,11 +271,7 @@ impl LineCache {
 fn is_valued(act: &Act) -> bool
     ensures { result ≡ has_value act.now }
 {
-    match *act {
-        Act::Await(_, _) | Act::Put(_, _) => true,
-        Act::Advance(_) | Act::Read(_) | Act::Go | Act::Ticket(_) | Act::Get(_) | Act::Hand(_, _) =>
-            false,
-    }
+    matches!(*act, Act::Await(_, _) | Act::Put(_, _))
 }
 
 /// Returns the act with another value, if it has one.

@@ -4,7 +4,7 @@ ghost use Rattle.ec_trace.specs.TraceModel.{TraceModel};
 ghost use Rattle.ec_trace.specs.Stages.{Stage, Ended};
 ghost use Rattle.ec_trace.specs.Step.{is_ended};
 ghost use Rattle.ec_trace.specs.Outcome.{parse_result, Returns};
-ghost use Rattle.ec_trace.specs.Reading.{IsWithin, Refills, Stays, Begins, Reaches, HasLine, ReadsPart, ReadsMore, ReadsLine};
+ghost use Rattle.ec_trace.specs.Reading.{IsWithin, Refills, Stays, Begins, Reaches, HasLine, ReadsPart};
 
 use crate::fault::TraceFault;
 use crate::read::TRACE_MAX;
@@ -149,10 +149,7 @@ impl Lines {
             (λ _. Stays self.old self.new (R.remaining reader.old) (R.remaining reader.new)) }
     {
         let room = TRACE_MAX - self.before - self.end;
-        let n = match read_piece(reader, &mut self.piece) {
-            Ok(n) => n,
-            Err(failed) => return Err(failed),
-        };
+        let n = read_piece(reader, &mut self.piece)?;
         self.before += self.end;
         self.from = 0;
         self.end = n.min(room);
@@ -165,7 +162,7 @@ impl Lines {
         requires taken { self.old.behind ≡ [] }
         requires within { self.old.over ≡ [] }
         ensures more { OnOk result ((self.new.taken ≡ self.old.taken) × (0 < length self.new.behind + length self.new.over)) }
-        ensures goes { (xs : List ℕ) (s : Stage) → is_ended s ≡ false → Begins xs (R.remaining reader.old) self.old self.old.part s → ReadsMore xs (R.remaining reader.new) self.new s result }
+        ensures goes { (xs : List ℕ) (s : Stage) → is_ended s ≡ false → Begins xs (R.remaining reader.old) self.old self.old.part s → MatchResult result (λ _. Begins xs (R.remaining reader.new) self.new self.new.part s) (λ fault. Returns TRACE_MAX xs (R.remaining reader.new) (Err fault)) }
     {
         match self.refill(reader) {
             Ok(true) => Ok(()),
@@ -179,7 +176,7 @@ impl Lines {
     #[inline(never)]
     fn next_over_pieces<R: Read>(&mut self, reader: &mut R) -> Result<(), TraceFault>
         ensures more { OnOk result ((self.old.taken < self.new.taken) × (self.new.taken ≤ TRACE_MAX)) }
-        ensures comes { (xs : List ℕ) (s : Stage) → is_ended s ≡ false → Reaches xs (R.remaining reader.old) self.old s → ReadsLine xs (R.remaining reader.new) self.new s result }
+        ensures comes { (xs : List ℕ) (s : Stage) → is_ended s ≡ false → Reaches xs (R.remaining reader.old) self.old s → MatchResult result (λ _. HasLine xs (R.remaining reader.new) self.new self.new.line s) (λ fault. Returns TRACE_MAX xs (R.remaining reader.new) (Err fault)) }
     {
         self.clear_part();
         loop {
@@ -212,7 +209,7 @@ impl Lines {
     #[inline(always)]
     pub(crate) fn next<R: Read>(&mut self, reader: &mut R) -> Result<(), TraceFault>
         ensures more { OnOk result ((self.old.taken < self.new.taken) × (self.new.taken ≤ TRACE_MAX)) }
-        ensures comes { (xs : List ℕ) (s : Stage) → is_ended s ≡ false → Reaches xs (R.remaining reader.old) self.old s → ReadsLine xs (R.remaining reader.new) self.new s result }
+        ensures comes { (xs : List ℕ) (s : Stage) → is_ended s ≡ false → Reaches xs (R.remaining reader.old) self.old s → MatchResult result (λ _. HasLine xs (R.remaining reader.new) self.new self.new.line s) (λ fault. Returns TRACE_MAX xs (R.remaining reader.new) (Err fault)) }
     {
         if self.find() {
             return Ok(());

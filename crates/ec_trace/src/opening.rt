@@ -61,9 +61,7 @@ fn read_version<R: Read>(lines: &mut Lines, reader: &mut R) -> Result<Version, T
         (λ version. Reaches xs (R.remaining reader.new) lines.new (Limiting version))
         (λ fault. Returns TRACE_MAX xs (R.remaining reader.new) (Err fault)) }
 {
-    if let Err(fault) = lines.next(reader) {
-        return Err(fault);
-    }
+    lines.next(reader)?;
     match parse_version(lines.line()) {
         Some(version) => Ok(version),
         None => Err(TraceFault::BadLine(lines.number())),
@@ -83,9 +81,7 @@ fn read_limit<R: Read>(
         (λ heading. Reaches xs (R.remaining reader.new) lines.new (Declaring heading))
         (λ fault. Returns TRACE_MAX xs (R.remaining reader.new) (Err fault)) }
 {
-    if let Err(fault) = lines.next(reader) {
-        return Err(fault);
-    }
+    lines.next(reader)?;
     let Some(limit) = parse_limit(version, lines.line()) else {
         return Err(TraceFault::BadLine(lines.number()));
     };
@@ -124,15 +120,11 @@ fn read_declarations<R: Read>(
         (λ fault. Returns TRACE_MAX xs (R.remaining reader.new) (Err fault)) }
 {
     loop {
-        if let Err(fault) = lines.next(reader) {
-            return Err(fault);
-        }
+        lines.next(reader)?;
         if is_run(heading, lines.line()) {
             return Ok(());
         }
-        if let Err(fault) = declare(heading, lines) {
-            return Err(fault);
-        }
+        declare(heading, lines)?;
     }
 }
 
@@ -145,16 +137,8 @@ pub fn open_trace<R: Read>(alloc: Global, reader: &mut R) -> Result<TraceOpening
         (λ fault. Returns TRACE_MAX bytes (R.remaining reader.new) (Err fault))) }
 {
     let mut lines = Lines::new();
-    let version = match read_version(&mut lines, reader) {
-        Ok(version) => version,
-        Err(fault) => return Err(fault),
-    };
-    let mut heading = match read_limit(alloc, version, &mut lines, reader) {
-        Ok(heading) => heading,
-        Err(fault) => return Err(fault),
-    };
-    match read_declarations(&mut heading, &mut lines, reader) {
-        Ok(()) => Ok(TraceOpening { heading, lines }),
-        Err(fault) => Err(fault),
-    }
+    let version = read_version(&mut lines, reader)?;
+    let mut heading = read_limit(alloc, version, &mut lines, reader)?;
+    read_declarations(&mut heading, &mut lines, reader)?;
+    Ok(TraceOpening { heading, lines })
 }

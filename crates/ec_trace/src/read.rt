@@ -28,10 +28,7 @@ pub const TRACE_MAX: usize = 67_108_864;
 fn can_spell(heading: &Heading, act: &Act) -> bool
     ensures { result ≡ can_spell heading.now.version act.now }
 {
-    match *act {
-        Act::Hand(_, _) => heading.version().has_transfer(),
-        _ => true,
-    }
+    !matches!(*act, Act::Hand(_, _)) || heading.version().has_transfer()
 }
 
 /// Returns the fault of a line, with its number.

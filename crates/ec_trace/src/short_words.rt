@@ -47,9 +47,7 @@ fn short_word(word: &[u8]) -> Option<InlineText>
 fn short_cell(cell: &Option<CellName<'_>>) -> Option<InlineText>
     ensures { IsShortOf result (option_map_or cell_name_bytes cell.now []) }
 {
-    let Some(name) = cell else {
-        return None;
-    };
+    let name = (*cell)?;
     let mut text = InlineText::new();
     let number = CachedDecimal::new(name.place as u64);
     let fits = text.take_in(name.block)
@@ -59,22 +57,13 @@ fn short_cell(cell: &Option<CellName<'_>>) -> Option<InlineText>
     if fits { Some(text) } else { None }
 }
 
-/// Stores an inline text at an index.
-fn set_short(short: &mut [Option<InlineText>], place: usize, text: Option<InlineText>)
-    requires { place < length short.old }
-    ensures set { (i : ℕ) → short_at short.new i ≡ (if place == i then text else short_at short.old i) }
-    ensures len { length short.new ≡ length short.old }
-{
-    short[place] = text;
-}
-
 /// Stores the inline text of each short word at the index of the word.
 fn shorten(short: &mut [Option<InlineText>], words: &[&[u8]])
     requires { length short.old ≡ length words.now }
     ensures { (i : ℕ) → i < length words.now → IsShortOf (short_at short.new i) (word_at words.now i) }
 {
     for i in 0..words.len() {
-        set_short(short, i, short_word(words[i]));
+        short[i] = short_word(words[i]);
     }
 }
 
@@ -84,6 +73,6 @@ fn shorten_cells(short: &mut [Option<InlineText>], cells: &[Option<CellName<'_>>
     ensures { (x : ℕ) → x < length cells.now → IsShortOf (short_at short.new x) (cell_at cells.now x) }
 {
     for x in 0..cells.len() {
-        set_short(short, x, short_cell(&cells[x]));
+        short[x] = short_cell(&cells[x]);
     }
 }

@@ -117,26 +117,14 @@ impl<'a> Spellings<'a> {
         word_in(&self.words.sequencers, sequencer.get())
     }
 
-    /// Returns the name of a cell's block and the cell's number there, if it has a name.
-    fn cell(&self, cell: CellId) -> Option<CellName<'a>>
-        ensures { option_map_or cell_name_bytes result [] ≡ cell_word self.now cell }
-    {
-        cell_in(&self.words.cells, cell.get())
-    }
-
     /// Puts bytes, and the name of a worker.
     #[inline(always)]
-    pub(crate) fn put_worker<W: Write>(
-        &self,
-        out: &mut Output<'_, W>,
-        before: &[u8],
-        worker: WorkerId,
-    )
-        ensures { Puts out.old out.new (before.now ++ target_name self.now (Worker worker)) }
+    pub(crate) fn put_worker<W: Write>(&self, out: &mut Output<'_, W>, before: &[u8], id: WorkerId)
+        ensures { Puts out.old out.new (before.now ++ target_name self.now (Worker id)) }
     {
-        match short_in(&self.short.workers, worker.get()) {
+        match short_in(&self.short.workers, id.get()) {
             Some(text) => out.put_with_short(before, text),
-            None => put_long(out, before, self.worker(worker)),
+            None => put_long(out, before, self.worker(id)),
         }
     }
 
@@ -153,17 +141,12 @@ impl<'a> Spellings<'a> {
 
     /// Puts bytes, and the name of a sequencer.
     #[inline(always)]
-    pub(crate) fn put_sequencer<W: Write>(
-        &self,
-        out: &mut Output<'_, W>,
-        before: &[u8],
-        sequencer: SeqId,
-    )
-        ensures { Puts out.old out.new (before.now ++ target_name self.now (Sequencer sequencer)) }
+    pub(crate) fn put_sequencer<W: Write>(&self, out: &mut Output<'_, W>, before: &[u8], id: SeqId)
+        ensures { Puts out.old out.new (before.now ++ target_name self.now (Sequencer id)) }
     {
-        match short_in(&self.short.sequencers, sequencer.get()) {
+        match short_in(&self.short.sequencers, id.get()) {
             Some(text) => out.put_with_short(before, text),
-            None => put_long(out, before, self.sequencer(sequencer)),
+            None => put_long(out, before, self.sequencer(id)),
         }
     }
 
@@ -185,7 +168,7 @@ impl<'a> Spellings<'a> {
         ensures { Puts out.old out.new (before.now ++ cell_word self.now cell) }
     {
         out.put(before);
-        if let Some(name) = self.cell(cell) {
+        if let Some(name) = cell_in(&self.words.cells, cell.get()) {
             out.put(name.block);
             out.put_byte(b'[');
             out.put_number(name.place as u64);

@@ -67,27 +67,19 @@ pub fn put_act<W: Write>(
     ensures { Puts out.old out.new (32 ∷ join_with_byte 32 (act_words spellings.now act.now)) }
 {
     match *act {
-        Act::Advance(event) => {
-            spellings.put_event(out, b" advance ", event);
-        }
-        Act::Read(event) => {
-            spellings.put_event(out, b" read ", event);
-        }
+        Act::Advance(event) => spellings.put_event(out, b" advance ", event),
+        Act::Read(event) => spellings.put_event(out, b" read ", event),
         Act::Await(event, threshold) => {
             spellings.put_event(out, b" await ", event);
             put_next(out, b" ", last, threshold);
         }
         Act::Go => out.put(b" go"),
-        Act::Ticket(sequencer) => {
-            spellings.put_sequencer(out, b" ticket ", sequencer);
-        }
+        Act::Ticket(sequencer) => spellings.put_sequencer(out, b" ticket ", sequencer),
         Act::Put(cell, value) => {
             spellings.put_cell(out, b" put ", cell);
             put_next(out, b" ", last, value);
         }
-        Act::Get(cell) => {
-            spellings.put_cell(out, b" get ", cell);
-        }
+        Act::Get(cell) => spellings.put_cell(out, b" get ", cell),
         Act::Hand(event, to) => {
             spellings.put_event(out, b" hand ", event);
             spellings.put_worker(out, b" ", to);

@@ -5,8 +5,7 @@ ghost use Rattle.ec_text.specs.Puts.{Puts};
 ghost use Rattle.ec_heading.specs.Spelling.{trace_header, target_name, name_words, number_words, limit_line, workers_line, heading_lines, lines_text};
 ghost use Rattle.ec_heading.specs.HeaderTree.{HeaderTree, IsHeaderTree, heading_of_tree};
 ghost use Rattle.ec_heading.specs.DeclKinds.{sort_word, opener, second_opener};
-ghost use Rattle.ec_trace.specs.Written.{heading_text};
-ghost use Rattle.ec_heading.specs.Recalled.{names_of, worker_names, declared_group, declaration_of, declarations_of, declared_line, declared_text, opening_text, second_names, with_spaces};
+ghost use Rattle.ec_heading.specs.Recalled.{names_of, worker_names, declared_group, declaration_of, declarations_of, declared_line, declared_text, heading_text, opening_text, second_names, with_spaces};
 
 use crate::spell::Spellings;
 use ec_count::{Setup, Target, WorkerId};
@@ -37,10 +36,10 @@ impl<'a> Model for DeclarationLine<'a> {
 fn declared_name(heading: &Heading, target: Target) -> &[u8]
     ensures { result.now ≡ target_name heading.now.names target }
 {
-    match heading.names().name_of(target) {
-        Some(name) => name.as_bytes(),
-        None => b"".as_slice(),
-    }
+    heading
+        .names()
+        .name_of(target)
+        .map_or(b"".as_slice(), |name| name.as_bytes())
 }
 
 /// Returns what was declared for a group of this name.
@@ -107,10 +106,7 @@ fn declaration_line(heading: &Heading, target: Target) -> Option<DeclarationLine
             first: setup.writers(*first),
             second: setup.readers(*first),
         }),
-        Target::Group(place) => match heading.groups().get(*place) {
-            None => None,
-            Some(group) => Some(group_line(setup, name, group)),
-        },
+        Target::Group(place) => Some(group_line(setup, name, heading.groups().get(*place)?)),
         Target::Worker(_) => None,
     }
 }
@@ -160,11 +156,11 @@ fn put_second<W: Write>(
 )
     ensures { Puts out.old out.new (with_spaces (second_names spellings.now (second_opener sort) workers.now)) }
 {
-    if let Some(word) = sort.second_opener() {
-        if !workers.is_empty() {
-            put_word(out, word);
-            put_names(out, spellings, workers);
-        }
+    if let Some(word) = sort.second_opener()
+        && !workers.is_empty()
+    {
+        put_word(out, word);
+        put_names(out, spellings, workers);
     }
 }
 
@@ -233,13 +229,6 @@ pub(crate) fn first_line(version: Version) -> &'static [u8]
     }
 }
 
-/// Puts the first line, without LF.
-fn put_first<W: Write>(out: &mut Output<'_, W>, version: Version)
-    ensures { Puts out.old out.new (trace_header version) }
-{
-    out.put(first_line(version));
-}
-
 /// Puts the limit, the workers and the declarations of a header, and `run`.
 #[tactic(auto, using(crate::proofs::shared::LineParts::heading_parts))]
 pub fn put_heading<W: Write>(out: &mut Output<'_, W>, spellings: &Spellings<'_>, heading: &Heading)
@@ -267,7 +256,7 @@ pub(crate) fn put_opening<W: Write>(
 )
     ensures { Puts out.old out.new (opening_text spellings.now heading.now) }
 {
-    put_first(out, heading.version());
+    out.put(first_line(heading.version()));
     out.put_byte(b'\n');
     put_heading(out, spellings, heading);
 }

@@ -18,40 +18,29 @@ is_letter b = nat_le 97 b && nat_le b 122
 abbrev pub is_literal : List ℕ → Bool
 is_literal w = list_all is_letter w && nat_lt 0 (length w) && nat_le (length w) 10
 
--- the word that opens a declaration is 1 to 10 small letters
-pub sort_literal : (s : DeclKind) → is_literal (sort_word s) ≡ true
-sort_literal sorts.EventCount = refl
-sort_literal sorts.Sequencer = refl
-sort_literal sorts.Cells = refl
-sort_literal sorts.Buffer = refl
-sort_literal sorts.Database = refl
-sort_literal sorts.Semaphore = refl
-sort_literal sorts.Both = refl
-
--- the word before the first list is 1 to 10 small letters
-pub opener_literal : (s : DeclKind) → is_literal (opener s) ≡ true
-opener_literal sorts.EventCount = refl
-opener_literal sorts.Sequencer = refl
-opener_literal sorts.Cells = refl
-opener_literal sorts.Buffer = refl
-opener_literal sorts.Database = refl
-opener_literal sorts.Semaphore = refl
-opener_literal sorts.Both = refl
-
 -- whether a word, if there is one, is 1 to 10 small letters, and no name
 abbrev pub is_stop : Option (List ℕ) → Bool
 is_stop None = true
 is_stop (Some w) = is_literal w && is_reserved w
 
--- the word before the second list, if there is one, is 1 to 10 small letters, and no name
+-- the words of a kind are 1 to 10 small letters, and the one before the second list is no name
+words_literal : (s : DeclKind) → (is_literal (sort_word s) ≡ true) × (is_literal (opener s) ≡ true) × (is_stop (second_opener s) ≡ true)
+words_literal sorts.EventCount = (refl, refl, refl)
+words_literal sorts.Sequencer = (refl, refl, refl)
+words_literal sorts.Cells = (refl, refl, refl)
+words_literal sorts.Buffer = (refl, refl, refl)
+words_literal sorts.Database = (refl, refl, refl)
+words_literal sorts.Semaphore = (refl, refl, refl)
+words_literal sorts.Both = (refl, refl, refl)
+
+pub sort_literal : (s : DeclKind) → is_literal (sort_word s) ≡ true
+sort_literal s = (words_literal s).0
+
+pub opener_literal : (s : DeclKind) → is_literal (opener s) ≡ true
+opener_literal s = (words_literal s).1
+
 pub other_stop : (s : DeclKind) → is_stop (second_opener s) ≡ true
-other_stop sorts.EventCount = refl
-other_stop sorts.Sequencer = refl
-other_stop sorts.Cells = refl
-other_stop sorts.Buffer = refl
-other_stop sorts.Database = refl
-other_stop sorts.Semaphore = refl
-other_stop sorts.Both = refl
+other_stop s = (words_literal s).2
 
 -- numbers are small, and 0 if there are none
 pub greatest_small : (s : DeclKind) → greatest s ≤ 1000000

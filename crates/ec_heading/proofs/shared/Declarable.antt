@@ -2,7 +2,7 @@
 use Rattle.std.proofs.Common.{◌≡◌, ℕ, ◌+◌, ◌≤◌, List, [], ◌∷◌, ◌++◌, length, Bool, true, false, not, ◌||◌, ◌&&◌, Option, Some, None, is_some, unwrap_or, Err, refl, sym, ap, subst, ◌∙◌, arith, eqb, nat_le, nat_lt, leb, ltb, append_assoc, append-nil, eqb-true, lit≤}
 use Rattle.std.proofs.lemmas.Bool.{true≢false, or_parts, or_from, and_parts, and_left, and_right, ltb-false, le-ltb, leb-false, lt-leb, leb-true, not-false, not_from_true, ne_eqb}
 use Rattle.ec_count.specs.declared.setup.SetupFault.TheVariants as setups
-use Rattle.ec_count.specs.Tables.{Tables, first_that, names_unknown}
+use Rattle.ec_count.specs.Tables.{Tables, first_that, list_fault, names_unknown}
 use Rattle.ec_count.specs.Members.{has_repeat, is_member}
 use Rattle.std.specs.List.{list_any}
 use Rattle.ec_count.specs.Names.{find_name}
@@ -180,27 +180,55 @@ roles_room s t n first second e =
       apart = and_right _ _ p.4;
     }
 
--- the users of a semaphore
-users_taken : (s : DeclKind) (t : Tables) (n initial : ℕ) (users second : List ℕ) → initial ≤ 1000000 → (nat_lt 31 (length t.events) || nat_lt 31 (length t.takers)) ≡ false → HasRoom s t n users second → semaphore_fault t initial users ≡ None
-users_taken s t n initial users second small room h =
-    let rooms = or_parts (nat_lt 31 (length t.events)) (nat_lt 31 (length t.takers)) room in
-    four (nat_lt INITIAL_MAX initial || nat_le 32 (length t.events) || nat_le 32 (length t.takers) || long users) (unknown t users) (has_repeat users) (empty users) setups.TooMany setups.UnknownWorker setups.Repeated setups.Empty
-    (or_from _ _ (or_from _ _ (or_from _ _ (le-ltb INITIAL_MAX initial small) (full_32 _ rooms.0)) (full_32 _ rooms.1)) h.few_first)
-    (known_below t.workers users h.known_first)
+-- two lists that may share workers
+lists_taken : (s : DeclKind) (t : Tables) (n : ℕ) (first second : List ℕ) (full none : Bool) → full ≡ false → none ≡ false → HasRoom s t n first second
+    → first_that ((full || long first || long second, setups.TooMany) ∷ (unknown t first || unknown t second, setups.UnknownWorker) ∷ (has_repeat first || has_repeat second, setups.Repeated) ∷ (none, setups.Empty) ∷ []) ≡ None
+lists_taken s t n first second full none room some h =
+    four (full || long first || long second) (unknown t first || unknown t second) (has_repeat first || has_repeat second) none setups.TooMany setups.UnknownWorker setups.Repeated setups.Empty
+    (or_from _ _ (or_from _ _ room h.few_first) h.few_second)
+    (or_from _ _ (known_below t.workers first h.known_first) (known_below t.workers second h.known_second))
+    (or_from _ _ h.once_first h.once_second)
+    some
+
+lists_room : (s : DeclKind) (t : Tables) (n : ℕ) (first second : List ℕ) (full none : Bool) → needs_second s ≡ false → needs_disjoint_lists s ≡ false → (full ≡ false → is_full_for s t n ≡ false) → (none ≡ false → empty first ≡ false)
+    → first_that ((full || long first || long second, setups.TooMany) ∷ (unknown t first || unknown t second, setups.UnknownWorker) ∷ (has_repeat first || has_repeat second, setups.Repeated) ∷ (none, setups.Empty) ∷ []) ≡ None → HasRoom s t n first second
+lists_room s t n first second full none needs keeps room some e =
+    let p = from_four (full || long first || long second) (unknown t first || unknown t second) (has_repeat first || has_repeat second) none setups.TooMany setups.UnknownWorker setups.Repeated setups.Empty e in
+    let a = or_parts (full || long first) (long second) p.0 in
+    let b = or_parts full (long first) a.0 in
+    let u = or_parts (unknown t first) (unknown t second) p.1 in
+    let r = or_parts (has_repeat first) (has_repeat second) p.2 in
+    record {
+      room = room b.0;
+      few_first = b.1;
+      few_second = a.1;
+      known_first = below_known t.workers first u.0;
+      known_second = below_known t.workers second u.1;
+      once_first = r.0;
+      once_second = r.1;
+      some = some p.3;
+      needed = and_left _ _ needs;
+      apart = and_left _ _ keeps;
+    }
+
+-- one list
+list_taken : (s : DeclKind) (t : Tables) (n : ℕ) (first second : List ℕ) (full : Bool) → full ≡ false → HasRoom s t n first second → list_fault t full first (empty first) ≡ None
+list_taken s t n first second full room h =
+    four (full || long first) (unknown t first) (has_repeat first) (empty first) setups.TooMany setups.UnknownWorker setups.Repeated setups.Empty
+    (or_from _ _ room h.few_first)
+    (known_below t.workers first h.known_first)
     h.once_first
     h.some
 
-users_room : (s : DeclKind) (t : Tables) (n initial : ℕ) (users second : List ℕ) → second ≡ [] → needs_second s ≡ false → needs_disjoint_lists s ≡ false → ((nat_lt 31 (length t.events) || nat_lt 31 (length t.takers)) ≡ false → is_full_for s t n ≡ false) → semaphore_fault t initial users ≡ None → HasRoom s t n users second
-users_room s t n initial users second none needs keeps room e =
-    let p = from_four (nat_lt INITIAL_MAX initial || nat_le 32 (length t.events) || nat_le 32 (length t.takers) || long users) (unknown t users) (has_repeat users) (empty users) setups.TooMany setups.UnknownWorker setups.Repeated setups.Empty e in
-    let a = or_parts (nat_lt INITIAL_MAX initial || nat_le 32 (length t.events) || nat_le 32 (length t.takers)) (long users) p.0 in
-    let b = or_parts (nat_lt INITIAL_MAX initial || nat_le 32 (length t.events)) (nat_le 32 (length t.takers)) a.0 in
-    let c = or_parts (nat_lt INITIAL_MAX initial) (nat_le 32 (length t.events)) b.0 in
+list_room : (s : DeclKind) (t : Tables) (n : ℕ) (first second : List ℕ) (full : Bool) → second ≡ [] → needs_second s ≡ false → needs_disjoint_lists s ≡ false → (full ≡ false → is_full_for s t n ≡ false) → list_fault t full first (empty first) ≡ None → HasRoom s t n first second
+list_room s t n first second full none needs keeps room e =
+    let p = from_four (full || long first) (unknown t first) (has_repeat first) (empty first) setups.TooMany setups.UnknownWorker setups.Repeated setups.Empty e in
+    let b = or_parts full (long first) p.0 in
     record {
-      room = room (or_from _ _ (room_32 _ c.1) (room_32 _ b.1));
-      few_first = a.1;
+      room = room b.0;
+      few_first = b.1;
       few_second = ap long none;
-      known_first = below_known t.workers users p.1;
+      known_first = below_known t.workers first p.1;
       known_second = subst (AreBelow t.workers) (sym none) tt;
       once_first = p.2;
       once_second = ap has_repeat none;
@@ -209,26 +237,25 @@ users_room s t n initial users second none needs keeps room e =
       apart = and_left _ _ keeps;
     }
 
+-- the users of a semaphore
+users_taken : (s : DeclKind) (t : Tables) (n initial : ℕ) (users second : List ℕ) → initial ≤ 1000000 → (nat_lt 31 (length t.events) || nat_lt 31 (length t.takers)) ≡ false → HasRoom s t n users second → semaphore_fault t initial users ≡ None
+users_taken s t n initial users second small room h =
+    let rooms = or_parts (nat_lt 31 (length t.events)) (nat_lt 31 (length t.takers)) room in
+    list_taken s t n users second (nat_lt INITIAL_MAX initial || nat_le 32 (length t.events) || nat_le 32 (length t.takers))
+    (or_from _ _ (or_from _ _ (le-ltb INITIAL_MAX initial small) (full_32 _ rooms.0)) (full_32 _ rooms.1)) h
+
+users_room : (t : Tables) (initial : ℕ) → (nat_lt INITIAL_MAX initial || nat_le 32 (length t.events) || nat_le 32 (length t.takers)) ≡ false → (nat_lt 31 (length t.events) || nat_lt 31 (length t.takers)) ≡ false
+users_room t initial full =
+    let b = or_parts (nat_lt INITIAL_MAX initial || nat_le 32 (length t.events)) (nat_le 32 (length t.takers)) full in
+    let c = or_parts (nat_lt INITIAL_MAX initial) (nat_le 32 (length t.events)) b.0 in
+    or_from _ _ (room_32 _ c.1) (room_32 _ b.1)
+
 pub objects_taken : (s : DeclKind) (t : Tables) (n : ℕ) (first second : List ℕ) → is_in_range s n ≡ true → HasRoom s t n first second → objects_fault s t n first second ≡ None
-objects_taken sorts.EventCount t n first second range h =
-    four (nat_le 32 (length t.events) || long first || long second) (unknown t first || unknown t second) (has_repeat first || has_repeat second) (empty first) setups.TooMany setups.UnknownWorker setups.Repeated setups.Empty
-    (or_from _ _ (or_from _ _ (full_32 _ h.room) h.few_first) h.few_second)
-    (or_from _ _ (known_below t.workers first h.known_first) (known_below t.workers second h.known_second))
-    (or_from _ _ h.once_first h.once_second)
-    h.some
-objects_taken sorts.Sequencer t n first second range h =
-    four (nat_le 32 (length t.takers) || long first) (unknown t first) (has_repeat first) (empty first) setups.TooMany setups.UnknownWorker setups.Repeated setups.Empty
-    (or_from _ _ (full_32 _ h.room) h.few_first)
-    (known_below t.workers first h.known_first)
-    h.once_first
-    h.some
+objects_taken sorts.EventCount t n first second range h = lists_taken sorts.EventCount t n first second (nat_le 32 (length t.events)) (empty first) (full_32 _ h.room) h.some h
+objects_taken sorts.Sequencer t n first second range h = list_taken sorts.Sequencer t n first second (nat_le 32 (length t.takers)) (full_32 _ h.room) h
 objects_taken sorts.Cells t n first second range h =
     let p = and_parts (leb 1 n) (leb n 256) range in
-    four (nat_lt 256 (length t.cells + n) || long first || long second) (unknown t first || unknown t second) (has_repeat first || has_repeat second) (eqb n 0 || empty first) setups.TooMany setups.UnknownWorker setups.Repeated setups.Empty
-    (or_from _ _ (or_from _ _ h.room h.few_first) h.few_second)
-    (or_from _ _ (known_below t.workers first h.known_first) (known_below t.workers second h.known_second))
-    (or_from _ _ h.once_first h.once_second)
-    (or_from _ _ (none_zero n (leb-true 1 n p.0)) h.some)
+    lists_taken sorts.Cells t n first second (nat_lt 256 (length t.cells + n)) (eqb n 0 || empty first) h.room (or_from _ _ (none_zero n (leb-true 1 n p.0)) h.some) h
 objects_taken sorts.Buffer t n first second range h =
     let p = and_parts (leb 1 n) (leb n 256) range in
     roles_taken sorts.Buffer t n first second refl refl (none_zero n (leb-true 1 n p.0)) h
@@ -243,63 +270,13 @@ none_listed [] e = refl
 none_listed (i ∷ ids) e = absurd (omega (arith, eqb-true (length (i ∷ ids)) 0 e))
 
 pub has_room : (s : DeclKind) (t : Tables) (n : ℕ) (first second : List ℕ) → fits_form (second_opener s) second ≡ true → objects_fault s t n first second ≡ None → HasRoom s t n first second
-has_room sorts.EventCount t n first second form e =
-    let p = from_four (nat_le 32 (length t.events) || long first || long second) (unknown t first || unknown t second) (has_repeat first || has_repeat second) (empty first) setups.TooMany setups.UnknownWorker setups.Repeated setups.Empty e in
-    let a = or_parts (nat_le 32 (length t.events) || long first) (long second) p.0 in
-    let b = or_parts (nat_le 32 (length t.events)) (long first) a.0 in
-    let u = or_parts (unknown t first) (unknown t second) p.1 in
-    let r = or_parts (has_repeat first) (has_repeat second) p.2 in
-    record {
-      room = room_32 _ b.0;
-      few_first = b.1;
-      few_second = a.1;
-      known_first = below_known t.workers first u.0;
-      known_second = below_known t.workers second u.1;
-      once_first = r.0;
-      once_second = r.1;
-      some = p.3;
-      needed = refl;
-      apart = refl;
-    }
-has_room sorts.Sequencer t n first second form e =
-    let p = from_four (nat_le 32 (length t.takers) || long first) (unknown t first) (has_repeat first) (empty first) setups.TooMany setups.UnknownWorker setups.Repeated setups.Empty e in
-    let b = or_parts (nat_le 32 (length t.takers)) (long first) p.0 in
-    let none : second ≡ [] = none_listed second form in
-    record {
-      room = room_32 _ b.0;
-      few_first = b.1;
-      few_second = ap long none;
-      known_first = below_known t.workers first p.1;
-      known_second = subst (AreBelow t.workers) (sym none) tt;
-      once_first = p.2;
-      once_second = ap has_repeat none;
-      some = p.3;
-      needed = refl;
-      apart = refl;
-    }
-has_room sorts.Cells t n first second form e =
-    let p = from_four (nat_lt 256 (length t.cells + n) || long first || long second) (unknown t first || unknown t second) (has_repeat first || has_repeat second) (eqb n 0 || empty first) setups.TooMany setups.UnknownWorker setups.Repeated setups.Empty e in
-    let a = or_parts (nat_lt 256 (length t.cells + n) || long first) (long second) p.0 in
-    let b = or_parts (nat_lt 256 (length t.cells + n)) (long first) a.0 in
-    let u = or_parts (unknown t first) (unknown t second) p.1 in
-    let r = or_parts (has_repeat first) (has_repeat second) p.2 in
-    let l = or_parts (eqb n 0) (empty first) p.3 in
-    record {
-      room = b.0;
-      few_first = b.1;
-      few_second = a.1;
-      known_first = below_known t.workers first u.0;
-      known_second = below_known t.workers second u.1;
-      once_first = r.0;
-      once_second = r.1;
-      some = l.1;
-      needed = refl;
-      apart = refl;
-    }
+has_room sorts.EventCount t n first second form e = lists_room sorts.EventCount t n first second (nat_le 32 (length t.events)) (empty first) refl refl (room_32 _) (λ some. some) e
+has_room sorts.Sequencer t n first second form e = list_room sorts.Sequencer t n first second (nat_le 32 (length t.takers)) (none_listed second form) refl refl (room_32 _) e
+has_room sorts.Cells t n first second form e = lists_room sorts.Cells t n first second (nat_lt 256 (length t.cells + n)) (eqb n 0 || empty first) refl refl (λ room. room) (λ some. (or_parts (eqb n 0) (empty first) some).1) e
 has_room sorts.Buffer t n first second form e = roles_room sorts.Buffer t n first second e
 has_room sorts.Database t n first second form e = roles_room sorts.Database t n first second e
-has_room sorts.Semaphore t n first second form e = users_room sorts.Semaphore t n n first second (none_listed second form) refl refl (λ r. r) e
-has_room sorts.Both t n first second form e = users_room sorts.Both t n 1 first second (none_listed second form) refl refl (λ r. r) e
+has_room sorts.Semaphore t n first second form e = list_room sorts.Semaphore t n first second _ (none_listed second form) refl refl (users_room t n) e
+has_room sorts.Both t n first second form e = list_room sorts.Both t n first second _ (none_listed second form) refl refl (users_room t 1) e
 
 -- THE TESTS OF A LINE
 

@@ -13,8 +13,7 @@ use Rattle.ec_count.specs.declared.target.Target.{Target}
 use Rattle.ec_count.specs.declared.target.Target.TheVariants.{Worker}
 use Rattle.ec_core.specs.declared.act.Entry.{Entry}
 use Rattle.ec_heading.specs.Spelling.{entry_line, NameTable, name_words, number_words, target_name, lines_text, ended_line, limit_line, workers_line, trace_header}
-use Rattle.ec_trace.specs.Written.{heading_text}
-use Rattle.ec_heading.specs.Recalled.{with_spaces, names_of, second_names, declared_line, declared_text, declaration_of, declarations_of, opening_text, entry_text}
+use Rattle.ec_heading.specs.Recalled.{with_spaces, names_of, second_names, declared_line, declared_text, declaration_of, declarations_of, heading_text, opening_text, entry_text}
 
 pub spaced-append : (xs ys : List (List ℕ)) → with_spaces (xs ++ ys) ≡ with_spaces xs
     ++ with_spaces ys

@@ -5,8 +5,7 @@ use Rattle.ec_text.specs.Puts.{Puts}
 use Rattle.ec_text.proofs.shared.PutLemmas.{puts_then}
 use Rattle.ec_heading.specs.HeadingModel.{HeadingModel}
 use Rattle.ec_heading.specs.Spelling.{NameTable, heading_lines, lines_text}
-use Rattle.ec_heading.specs.Recalled.{with_spaces, names_of}
-use Rattle.ec_trace.specs.Written.{heading_text}
+use Rattle.ec_heading.specs.Recalled.{with_spaces, names_of, heading_text}
 use Rattle.ec_trace.proofs.shared.LineParts.{heading_parts}
 use Rattle.ec_trace.proofs.TraceText.{heading_found}
 use Rattle.ec_trace.proofs.write_heading.put_heading.Goals as goal

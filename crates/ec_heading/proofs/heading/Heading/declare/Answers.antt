@@ -7,7 +7,7 @@ use Rattle.ec_heading.specs.Objects.{AreNew, ids_after, objects_of}
 use Rattle.ec_heading.specs.HeaderTree.{next_ids}
 use Rattle.ec_heading.specs.HeadingInvariant.{IsHeading}
 use Rattle.ec_heading.proofs.shared.Standing.{declares, words_new}
-use Rattle.ec_heading.proofs.heading.Heading.declare_with.Goals as goal
+use Rattle.ec_heading.proofs.heading.Heading.declare.Goals as goal
 
 pub spell_declaration-requires-clause-new : goal.spell_declaration-requires-clause-new
 spell_declaration-requires-clause-new c =
