@@ -17,7 +17,7 @@ use crate::command::{command_in, size_in};
 use crate::draft::Draft;
 use crate::fault::{Kind, StageFault, stage_fault};
 use crate::form::{Parts, split_line};
-use crate::kinds::{BlockContext, LineContext, or_nothing, phrase_fault};
+use crate::kinds::{BlockContext, LineContext, phrase_fault};
 use crate::lists::push_ids;
 use crate::object::{Object, object_in};
 use crate::plan::Plan;
@@ -109,6 +109,14 @@ fn set_program(programs: &mut Vec<Program>, place: usize, program: Program)
     }
 }
 
+/// Returns whether a line opens with `worker` or `schedule`.
+fn opens_outer(line: &[u8]) -> bool
+    ensures { result ≡ opens_outer (words_of line.now) }
+{
+    let (word, _) = cut_word(line);
+    parse_line_word(word).is_some_and(|verb| verb.is_outer())
+}
+
 impl Script {
     /// Makes a script with this header, before its blocks.
     pub(crate) fn new(alloc: Global, heading: Heading) -> Result<Self, AllocError>
@@ -135,13 +143,6 @@ impl Script {
         }
     }
 
-    /// Returns how many names the schedule has.
-    fn schedule_length(&self) -> usize
-        ensures { result ≡ length self.now.schedule }
-    {
-        self.schedule.len()
-    }
-
     /// Returns the least fault of a line of one of the forms, which has this object.
     fn fault(&self, parts: &Parts<'_>, found: &Option<Object>) -> Option<Kind>
         ensures { result ≡ phrase_fault (context_of_script self.now) (phrase_of_parts parts.now)
@@ -151,7 +152,7 @@ impl Script {
             heading: &self.heading,
             named: self.named.as_slice(),
             block: self.block_view(),
-            scheduled: self.schedule_length(),
+            scheduled: self.schedule.len(),
         };
         phrase_fault(&view, parts, *found)
     }
@@ -174,13 +175,11 @@ impl Script {
         requires { MayTakeItem self.old.block item }
         ensures { OnOk result (self.new ≡ after_item self.old item) }
     {
-        let Some(block) = self.block.take() else {
+        let Some(mut block) = self.block.take() else {
             return Ok(());
         };
-        let OpenBlock { worker, draft } = block;
-        let mut draft = draft;
-        draft.take(item)?;
-        self.block = Some(OpenBlock { worker, draft });
+        block.draft.take(item)?;
+        self.block = Some(block);
         Ok(())
     }
 
@@ -206,12 +205,11 @@ impl Script {
         let Some(block) = self.block.take() else {
             return Ok(());
         };
-        let OpenBlock { worker, draft } = block;
+        let OpenBlock { worker, mut draft } = block;
         if draft.depth() == 0 {
             set_program(&mut self.programs, worker.get(), draft.finish());
             return Ok(());
         }
-        let mut draft = draft;
         draft.take(BlockItem::End)?;
         self.block = Some(OpenBlock { worker, draft });
         Ok(())
@@ -226,16 +224,14 @@ impl Script {
             Some(list) => push_ids(&self.heading, list, &mut self.schedule),
         }
     }
-}
 
-impl Script {
     /// Does what a line without fault says.
     fn apply(&mut self, parts: &Parts<'_>, found: &Option<Object>) -> Result<(), AllocError>
         requires { phrase_fault (context_of_script self.old) (phrase_of_parts parts.now) found.now
             ≡ None }
         ensures { OnOk result (self.new ≡ after_verb parts.now.verb self.old (or_nothing found.now) (rest_words parts.now.rest)) }
     {
-        let object = or_nothing(*found);
+        let object = (*found).unwrap_or(Object::Nothing);
         match parts.verb {
             LineWord::Worker => self.begin(&object),
             LineWord::Schedule => self.extend(parts.rest),
@@ -293,20 +289,7 @@ impl Script {
             None => Err(StageFault::Of(Kind::BadLine)),
         }
     }
-}
 
-/// Returns whether a line opens with `worker` or `schedule`.
-fn opens_outer(line: &[u8]) -> bool
-    ensures { result ≡ opens_outer (words_of line.now) }
-{
-    let (word, _) = cut_word(line);
-    match parse_line_word(word) {
-        Some(verb) => verb.is_outer(),
-        None => false,
-    }
-}
-
-impl Script {
     /// Returns the plan, if no block is open.
     pub(crate) fn plan(self) -> Option<Plan>
         ensures { option_map shown_plan result ≡ plan_or self self.block }

@@ -21,7 +21,7 @@ command-requires c =
     let parts = c.args.parts.now in
     let f = no_fault (context_of_script c.args.self.now) (phrase_of_parts parts) c.args.found.now c.requires in
     record {
-      numbers = ap (λ o. is_bad_tail (tail_of parts.verb) parts.verb (rest_words parts.rest) o) c.or_nothing-object.ensures ∙ f.number;
-      roles = ap has_two_roles c.or_nothing-object.ensures ∙ f.roles;
+      numbers = ap (λ o. is_bad_tail (tail_of parts.verb) parts.verb (rest_words parts.rest) o) c.unwrap_or-object.ensures ∙ f.number;
+      roles = ap has_two_roles c.unwrap_or-object.ensures ∙ f.roles;
       room = command_room c.args.self.now parts.verb parts.object.now (rest_words parts.rest) c.args.found.now c.in_default.not-Worker c.in_default.not-Schedule c.in_default.not-End c.requires;
     }
