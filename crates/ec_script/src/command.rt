@@ -1,13 +1,11 @@
 //! The command of a line of a block.
 ghost use Rattle.std.specs.Prelude.{◌≡◌, ◌==◌, false, true, IfOk, IfSome, map, length};
 ghost use Rattle.std.specs.List.{list_all};
-ghost use Rattle.std.specs.Option.{option_and_then};
-ghost use Rattle.ec_text.specs.Words.{number_in_word};
 ghost use Rattle.ec_machine.specs.Limits.{is_value};
 ghost use Rattle.ec_script.specs.Verbs.{tail_of, is_update};
 ghost use Rattle.ec_script.specs.Forms.{only_in, rest_words};
 ghost use Rattle.ec_script.specs.Kinds.{is_bad_tail, is_count, has_two_roles};
-ghost use Rattle.ec_script.specs.BlockItems.{amount_of, amount_in, size_in, event_item, cell_item, buffer_item, database_item, semaphore_item, command_in, IsSound};
+ghost use Rattle.ec_script.specs.BlockItems.{amount_of, amount_in, size_in, event_item, database_item, semaphore_item, command_in, IsSound};
 
 use crate::block_item::{BlockItem, Values};
 use crate::form::{Parts, only_word};

@@ -5,11 +5,10 @@ ghost use Rattle.ec_script.specs.Confined.{ConfinedLinesAreConfinedCommands, Pla
 ghost use Rattle.ec_script.specs.Counted.{BlocksAreCounted};
 ghost use Rattle.ec_script.specs.Endings.{FaultlessLinesAreAccepted, UnfinishedIsReported};
 ghost use Rattle.ec_script.specs.Faults.{HeadFaultsKeepTheirNumbers};
-ghost use Rattle.ec_script.specs.Given.{LinesMeanItems};
+ghost use Rattle.ec_script.specs.Given.{LinesMeanItems, ScriptsAreSpelled};
 ghost use Rattle.ec_script.specs.Grammar.{FaultIsTheFirst, FaultsAreReported, LongIsLine1, ReadIsScript, ScriptIsRead};
 ghost use Rattle.ec_script.specs.Holding.{LeastKindWins};
 ghost use Rattle.ec_script.specs.Layout.{LayoutsAreScripts, ScriptsAreLaidOut};
-ghost use Rattle.ec_script.specs.ScriptTree.{ScriptsAreSpelled};
 ghost use Rattle.ec_script.specs.Spelling.{LayoutsAreSpelled, LinesAreSpelled};
 
 /// States that each script is parsed to the plan that it says.

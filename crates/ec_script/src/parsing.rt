@@ -1,9 +1,7 @@
 //! The parser of whole scripts.
 ghost use Rattle.std.specs.Prelude.{◌≡◌, ◌<◌, ◌^◌, Err, IfOk, length};
-ghost use Rattle.ec_script.specs.Confined.{AreConfinedPrograms, IsPlan};
+ghost use Rattle.ec_script.specs.Confined.{AreConfinedPrograms, IsPlan, HasPrograms};
 ghost use Rattle.ec_script.specs.Outcome.{Returns, parse_end, fault_at, plan_or_fault, first_or_empty, parse_from, long_kind, parse_result, lines_of_text, plan_in, shown_plan, after_line};
-ghost use Rattle.ec_script.specs.Reading.{step};
-ghost use Rattle.ec_script.specs.Versioned.{HasPrograms};
 
 use crate::fault::{Kind, ScriptFault, StageFault};
 use crate::plan::Plan;

@@ -10,7 +10,7 @@ ghost use Rattle.ec_script.specs.BlockItems.{command_in};
 ghost use Rattle.ec_script.specs.Verbs.{is_update, tail_of};
 ghost use Rattle.ec_script.specs.Reading.{view_of_block, context_of_script, with_worker_block, after_item, after_command, with_block_end, after_verb, after_phrase, map_heading, is_declaring, opens_outer, script_of, script_step, Steps};
 ghost use Rattle.ec_script.specs.Outcome.{plan_or, shown_plan};
-ghost use Rattle.ec_script.specs.Rooms.{MayTakeItem, MayEnd, HasRoom};
+ghost use Rattle.ec_script.specs.ScriptModel.{MayTakeItem, MayEnd, HasRoom};
 
 use crate::block_item::BlockItem;
 use crate::command::{command_in, size_in};
