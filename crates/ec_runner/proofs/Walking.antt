@@ -41,6 +41,18 @@ pub index_is : (summaries : List Summary) (w : ℕ) (summary : Summary) → summ
 index_is summaries w summary is within = slice_get-get_or summaries w summary within
     ∙ ap (λ t. Some t) (sym is)
 
+-- what holds of the summaries before a place, and of the one there, holds of those up to it
+pub one_more : (P : Summary → ℕ → Type 0) (summaries : List Summary) (k v : ℕ) (one : Summary) → one ≡ get_or summaries k one → v ≡ k → P one v
+    → ((w : ℕ) (summary : Summary) → w < k → slice_get summaries w ≡ Some summary → P summary w)
+    → (w : ℕ) (summary : Summary) → w < k + 1 → slice_get summaries w ≡ Some summary → P summary w
+one_more P summaries k v one is number here before w summary below there =
+    elim (cases_eq w k) [
+      | inl same ↦
+          let found : one ≡ summary = is ∙ (rw same at (get_or_from_slice_get summaries w summary one there)) in
+          subst (λ (t : Summary). P t w) found (subst (P one) (number ∙ sym same) here)
+      | inr not ↦ before w summary (omega arith) there
+    ]
+
 -- if the entry at a place is another worker's, a worker has no more entries after it
 pub none_there : (w : ℕ) (h : List Entry) (k : ℕ) (x : Entry) → slice_get h k ≡ Some x → (x.worker == w) ≡ false → own w (take (k + 1) h) ≡ own w (take k h)
 none_there w h k x is not = ap (own w) (take_next h k x is) ∙ own_same w (take k h) x not
