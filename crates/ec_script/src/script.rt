@@ -36,20 +36,6 @@ pub(crate) struct OpenBlock {
     draft: Draft,
 }
 
-impl OpenBlock {
-    /// Returns what the faults of a line depend on.
-    fn view(&self) -> BlockContext
-        ensures { result ≡ view_of_block self.now }
-    {
-        BlockContext {
-            worker: self.worker,
-            depth: self.draft.depth(),
-            is_empty: self.draft.is_empty(),
-            commands: self.draft.commands(),
-        }
-    }
-}
-
 /// The header, the workers whose blocks began, the programs, the open block and the schedule, after
 /// the lines so far.
 #[derive(Drop)]
@@ -133,13 +119,18 @@ impl Script {
         })
     }
 
-    /// Returns the block that the next line is in.
+    /// Returns the block that the next line is in, by what the faults of a line depend on.
     fn block_view(&self) -> Option<BlockContext>
         ensures { result ≡ option_map view_of_block self.now.block }
     {
         match &self.block {
             None => None,
-            Some(block) => Some(block.view()),
+            Some(block) => Some(BlockContext {
+                worker: block.worker,
+                depth: block.draft.depth(),
+                is_empty: block.draft.is_empty(),
+                commands: block.draft.commands(),
+            }),
         }
     }
 
@@ -249,10 +240,7 @@ impl Script {
         if let Some(kind) = self.fault(parts, &found) {
             return Err(StageFault::Of(kind));
         }
-        match self.apply(parts, &found) {
-            Ok(()) => Ok(()),
-            Err(_) => Err(StageFault::Memory),
-        }
+        self.apply(parts, &found).map_err(|_| StageFault::Memory)
     }
 
     /// Reads a declaration.

@@ -77,9 +77,7 @@ impl Stage {
         requires { self.old ≡ Stage.Opening }
         ensures { Steps result (step self.old line.now) self.new }
     {
-        let Some(version) = parse_version(line) else {
-            return Err(StageFault::Of(Kind::BadHeader));
-        };
+        let version = parse_version(line).ok_or(StageFault::Of(Kind::BadHeader))?;
         *self = Stage::Limiting(version);
         Ok(())
     }
