@@ -183,27 +183,6 @@ fn report_or_mismatch(
     }
 }
 
-/// Runs programs of the workers of these declarations, each in a thread of its own.
-fn run_on<R: Threads + Wait + Sync, G: Gate + Sync>(
-    rt: &R,
-    alloc: Global,
-    setup: &Setup,
-    programs: &[Program],
-    gate: &G,
-    turns: u64,
-) -> Result<Report, RunFault>
-    requires { length programs.now ≡ setup.now.workers }
-    ensures report { IfOk result (IsReportOf setup.now programs.now turns) }
-    ensures named { IfErr result (NamesDeclared setup.now) }
-    ensures fault { IfErr result (IsRunFault setup.now programs.now turns) }
-{
-    setup.invariant();
-    match run_threads(rt, alloc, setup, programs, gate, turns) {
-        Ok((run, summaries)) => report_or_mismatch(alloc, setup, run, summaries),
-        Err(fault) => Err(fault),
-    }
-}
-
 /// Runs the programs of a parsed script, each worker's in a thread of its own, all at once, on one
 /// board under one lock. The script's schedule is not used. A turn is one step that a worker asks
 /// the board for, in one critical section, and no worker has more than `turns`. A worker whose
@@ -224,12 +203,10 @@ pub fn run_workers<R: Threads + Wait + Sync, G: Gate + Sync>(
     ensures named { IfErr result (NamesDeclared plan.now.heading.setup) }
     ensures fault { IfErr result (IsRunFault plan.now.heading.setup plan.now.programs.items turns) }
 {
-    run_on(
-        rt,
-        alloc,
-        plan.heading.setup(),
-        plan.programs.as_slice(),
-        gate,
-        turns,
-    )
+    let setup = plan.heading.setup();
+    setup.invariant();
+    match run_threads(rt, alloc, setup, plan.programs.as_slice(), gate, turns) {
+        Ok((run, summaries)) => report_or_mismatch(alloc, setup, run, summaries),
+        Err(fault) => Err(fault),
+    }
 }
