@@ -11,8 +11,7 @@ use Rattle.ec_machine.specs.Follows.{program_at}
 use Rattle.ec_machine.specs.Runs.{outcome_of}
 use Rattle.ec_machine.specs.Steps.{own}
 use Rattle.ec_runner.proofs.Walking.{own_at, is_declared}
-use Rattle.ec_runner.specs.RunReports.{EndedAs}
-use Rattle.ec_runner.specs.RunLaws.{ReportsInterleave, OutcomesAreTheirs}
+use Rattle.ec_runner.specs.RunReports.{EndedAs, ReportsInterleave, OutcomesAreTheirs}
 
 there : {X : Type 0} → (xs : List X) (w : ℕ) → w < length xs → (x : X) × (slice_get xs w ≡ Some x)
 there [] w h = absurd (omega (arith, h))

@@ -4,7 +4,6 @@ pub mod Boarding
 pub mod Walking
 pub mod Asking
 pub mod Turning
-pub mod Places
 pub mod Starting
 pub mod Logging
 pub mod Reporting

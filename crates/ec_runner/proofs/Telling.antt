@@ -1,5 +1,5 @@
 -- The summaries of workers, as a report.
-use Rattle.std.proofs.Common.{◌≡◌, ◌<◌, ◌≤◌, ℕ, List, length, Option, Some, None, Result, Ok, Err, IfOk, IfErr, MatchResult, inl, inr, slice_get, refl, ap, sym, ◌∙◌, subst}
+use Rattle.std.proofs.Common.{◌≡◌, ◌<◌, ◌≤◌, ℕ, List, length, Option, Some, None, Result, Ok, Err, IfOk, IfErr, inl, inr, slice_get, refl, ap, sym, ◌∙◌, subst}
 use Rattle.std.proofs.lemmas.List.{length-map}
 use Rattle.std.specs.Global.{Vec}
 use Rattle.std.specs.Option.{option_map}
@@ -97,7 +97,7 @@ misfit_within : (run : RunModel) (summaries : List Summary) (w : ℕ) → IsMisf
 misfit_within run summaries w m = slice_get_within summaries w m.summary m.at
 
 -- a verdict names a declared worker
-verdict_names : (t : Tables) (run : RunModel) (summaries : List Summary) (r : Result Report RunFault) → length summaries ≡ t.workers → IsVerdict r t run summaries
+pub verdict_names : (t : Tables) (run : RunModel) (summaries : List Summary) (r : Result Report RunFault) → length summaries ≡ t.workers → IsVerdict r t run summaries
     → IfErr r (NamesDeclared t)
 verdict_names t run summaries (Ok r) many v = tt
 verdict_names t run summaries (Err (faults.Mismatch w)) many (inl other) = λ some. subst (λ (v : ℕ). v < t.workers) (sym other.1) some
@@ -105,51 +105,20 @@ verdict_names t run summaries (Err (faults.Mismatch w)) many (inr misfit) = λ s
 verdict_names t run summaries (Err faults.Spawn) many v = tt
 verdict_names t run summaries (Err faults.Memory) many v = tt
 
-thread_fault_names : (t : Tables) (fault : RunFault) → IsThreadFault fault → NamesDeclared t fault
+pub thread_fault_names : (t : Tables) (fault : RunFault) → IsThreadFault fault → NamesDeclared t fault
 thread_fault_names t faults.Spawn is = tt
 thread_fault_names t faults.Memory is = tt
 thread_fault_names t (faults.Mismatch w) is = absurd is
 
--- what threads returned, and the verdict on it
-pub answer_few : (programs : List (List Command)) (turns : ℕ) (ran : Result (RunModel × Vec Summary) RunFault) → length programs ≤ 16
-    → MatchResult ran (λ r. AreSummariesOf programs turns r.1.items) IsThreadFault → IfOk ran (λ r. length r.1.items ≤ 16)
-answer_few programs turns (Ok r) few summary = subst (λ (n : ℕ). n ≤ 16) (sym (told_many programs turns r.1.items summary)) few
-answer_few programs turns (Err fault) few summary = tt
-
-pub answer_each : (t : Tables) (programs : List (List Command)) (turns : ℕ) (ran : Result (RunModel × Vec Summary) RunFault) → length programs ≡ t.workers
-    → MatchResult ran (λ r. AreSummariesOf programs turns r.1.items) IsThreadFault → IfOk ran (λ r. length r.1.items ≡ t.workers)
-answer_each t programs turns (Ok r) many summary = told_many programs turns r.1.items summary ∙ many
-answer_each t programs turns (Err fault) many summary = tt
-
-pub answer_report : (t : Tables) (programs : List (List Command)) (turns : ℕ) (ran : Result (RunModel × Vec Summary) RunFault) (result : Result Report RunFault) → length programs ≡ t.workers
-    → MatchResult ran (λ r. AreSummariesOf programs turns r.1.items) IsThreadFault → MatchResult ran (λ r. IsVerdict result t r.0 r.1.items) (λ fault. result ≡ Err fault)
-    → IfOk result (IsReportOf t programs turns)
-answer_report t programs turns (Ok r) result many summary v = verdict_report t programs turns r.0 r.1.items result many summary v
-answer_report t programs turns (Err fault) result many summary is = subst (λ (x : Result Report RunFault). IfOk x (IsReportOf t programs turns)) (sym is) tt
-
-pub answer_names : (t : Tables) (programs : List (List Command)) (turns : ℕ) (ran : Result (RunModel × Vec Summary) RunFault) (result : Result Report RunFault)
-    → length programs ≡ t.workers
-    → MatchResult ran (λ r. AreSummariesOf programs turns r.1.items) IsThreadFault
-    → MatchResult ran (λ r. IsVerdict result t r.0 r.1.items) (λ fault. result ≡ Err fault) → IfErr result (NamesDeclared t)
-answer_names t programs turns (Ok r) result many summary v = verdict_names t r.0 r.1.items result (told_many programs turns r.1.items summary ∙ many) v
-answer_names t programs turns (Err fault) result many summary is = subst (λ (x : Result Report RunFault). IfErr x (NamesDeclared t)) (sym is) (thread_fault_names t fault summary)
-
 -- a mismatch is of what the threads returned, and the threads themselves return none
-verdict_fault : (t : Tables) (programs : List (List Command)) (turns : ℕ) (run : RunModel) (summaries : List Summary) (r : Result Report RunFault)
+pub verdict_fault : (t : Tables) (programs : List (List Command)) (turns : ℕ) (run : RunModel) (summaries : List Summary) (r : Result Report RunFault)
     → AreSummariesOf programs turns summaries → IsVerdict r t run summaries → IfErr r (IsRunFault t programs turns)
 verdict_fault t programs turns run summaries (Ok r) summary v = tt
 verdict_fault t programs turns run summaries (Err (faults.Mismatch w)) summary v = record { run = run; summaries = summaries; returned = summary; found = v }
 verdict_fault t programs turns run summaries (Err faults.Spawn) summary v = tt
 verdict_fault t programs turns run summaries (Err faults.Memory) summary v = tt
 
-want_fault : (t : Tables) (programs : List (List Command)) (turns : ℕ) (fault : RunFault) → IsThreadFault fault → IsRunFault t programs turns fault
+pub want_fault : (t : Tables) (programs : List (List Command)) (turns : ℕ) (fault : RunFault) → IsThreadFault fault → IsRunFault t programs turns fault
 want_fault t programs turns faults.Spawn is = tt
 want_fault t programs turns faults.Memory is = tt
 want_fault t programs turns (faults.Mismatch w) is = absurd is
-
-pub answer_fault : (t : Tables) (programs : List (List Command)) (turns : ℕ) (ran : Result (RunModel × Vec Summary) RunFault) (result : Result Report RunFault)
-    → MatchResult ran (λ r. AreSummariesOf programs turns r.1.items) IsThreadFault
-    → MatchResult ran (λ r. IsVerdict result t r.0 r.1.items) (λ fault. result ≡ Err fault) → IfErr result (IsRunFault t programs turns)
-answer_fault t programs turns (Ok r) result summary v = verdict_fault t programs turns r.0 r.1.items result summary v
-answer_fault t programs turns (Err fault) result summary is =
-    subst (λ (x : Result Report RunFault). IfErr x (IsRunFault t programs turns)) (sym is) (want_fault t programs turns fault summary)

@@ -1,7 +1,7 @@
 -- One step of the pass over a run and the logs of its workers.
-use Rattle.std.proofs.Common.{◌≡◌, ◌≢◌, ℕ, zero, suc, ◌+◌, ◌<◌, true, false, ◌==◌, nat_le, inl, inr, List, [], ◌∷◌, ◌++◌, length, reverse, take, Option, Some, None, MatchOption, cond, slice_get, slice_index, slice_set, get_or, length-take-le, refl, ap, sym, subst, ◌∙◌, arith}
+use Rattle.std.proofs.Common.{◌≡◌, ◌≢◌, ℕ, zero, suc, ◌+◌, ◌<◌, true, false, ◌==◌, nat_le, inl, inr, List, [], ◌∷◌, ◌++◌, length, reverse, take, Option, Some, None, MatchOption, cond, slice_get, slice_index, slice_set, get_or, length-take-le, append-nil, ne_eqb, refl, ap, sym, subst, ◌∙◌, arith}
 use Rattle.std.proofs.lemmas.Grind.{common_steps}
-use Rattle.std.proofs.lemmas.Bool.{cases_eq, eqb-true, eq-eqb}
+use Rattle.std.proofs.lemmas.Bool.{cases_eq, eq-eqb}
 use Rattle.std.proofs.lemmas.List.{take_more}
 use Rattle.std.proofs.Math.Seq.{take-length}
 use Rattle.std.proofs.lemmas.Option.{slice_get_within, get_or_from_slice_get, slice_get-get_or}
@@ -17,10 +17,6 @@ use Rattle.ec_machine.proofs.shared.OwnSteps.{slice_here as get_at, own_append}
 use Rattle.ec_runner.specs.declared.summary.Summary.{Summary}
 use Rattle.ec_runner.specs.LogComparison.{AreComparedSoFar, AreLogsOf, IsUnfinished, IsLogMismatch}
 
-pub append_none : (xs : List Entry) → xs ++ [] ≡ xs
-append_none [] = refl
-append_none (x ∷ xs) = ap (λ rest. x ∷ rest) (append_none xs)
-
 -- what holds in both cases
 pub then_match : {X : Type 0} {P P' : Type 0} {Q Q' : X → Type 0} → (o : Option X) → (P → P') → ((x : X) → Q x → Q' x) → MatchOption o P Q → MatchOption o P' Q'
 then_match None f g h = f h
@@ -30,7 +26,7 @@ pub own_more : (w : ℕ) (done : List Entry) (x : Entry) → (x.worker == w) ≡
 own_more w done x is = own_append w done (x ∷ []) ∙ ap (λ b. own w done ++ cond b (x ∷ []) []) is
 
 pub own_same : (w : ℕ) (done : List Entry) (x : Entry) → (x.worker == w) ≡ false → own w (done ++ x ∷ []) ≡ own w done
-own_same w done x not = own_append w done (x ∷ []) ∙ ap (λ b. own w done ++ cond b (x ∷ []) []) not ∙ append_none (own w done)
+own_same w done x not = own_append w done (x ∷ []) ∙ ap (λ b. own w done ++ cond b (x ∷ []) []) not ∙ append-nil (own w done)
 
 -- the elements before a place, and the one there
 pub take_next : (xs : List Entry) (k : ℕ) (x : Entry) → slice_get xs k ≡ Some x → take (k + 1) xs ≡ take k xs ++ x ∷ []
@@ -40,6 +36,18 @@ take_next xs k x is =
 pub index_is : (summaries : List Summary) (w : ℕ) (summary : Summary) → summary ≡ get_or summaries w summary → w < length summaries → slice_get summaries w ≡ Some summary
 index_is summaries w summary is within = slice_get-get_or summaries w summary within
     ∙ ap (λ t. Some t) (sym is)
+
+-- what holds of the summaries before a place, and of the one there, holds of those up to it
+pub one_more : (P : Summary → ℕ → Type 0) (summaries : List Summary) (k v : ℕ) (one : Summary) → one ≡ get_or summaries k one → v ≡ k → P one v
+    → ((w : ℕ) (summary : Summary) → w < k → slice_get summaries w ≡ Some summary → P summary w)
+    → (w : ℕ) (summary : Summary) → w < k + 1 → slice_get summaries w ≡ Some summary → P summary w
+one_more P summaries k v one is number here before w summary below there =
+    elim (cases_eq w k) [
+      | inl same ↦
+          let found : one ≡ summary = is ∙ (rw same at (get_or_from_slice_get summaries w summary one there)) in
+          subst (λ (t : Summary). P t w) found (subst (P one) (number ∙ sym same) here)
+      | inr not ↦ before w summary (omega arith) there
+    ]
 
 -- if the entry at a place is another worker's, a worker has no more entries after it
 pub none_there : (w : ℕ) (h : List Entry) (k : ℕ) (x : Entry) → slice_get h k ≡ Some x → (x.worker == w) ≡ false → own w (take (k + 1) h) ≡ own w (take k h)
@@ -55,11 +63,7 @@ set_long : (cursors : List ℕ) (v n : ℕ) → length (slice_set cursors v n) �
 set_long cursors v n = grind (arith, common_steps)
 
 not_same : (v w : ℕ) → w ≢ v → (v == w) ≡ false
-not_same v w n =
-    elim (v == w) as (λ b. (v == w) ≡ b → b ≡ false) [
-      | true ↦ λ t. absurd (n (sym (eqb-true v w t)))
-      | false ↦ λ t. refl
-    ] refl
+not_same v w n = ne_eqb v w (λ e. n (sym e))
 
 pub walks : (summaries : List Summary) (cursors : List ℕ) (done : List Entry) (x : Entry) (summary : Summary) → AreComparedSoFar summaries cursors done → x.worker < 16
     → slice_get summaries x.worker ≡ Some summary → slice_get summary.log.items (slice_index cursors x.worker) ≡ Some x

@@ -1,5 +1,5 @@
 -- A board: a run, a state for each worker, and a flag that is set once all active workers wait.
-use Rattle.std.specs.Prelude.{◌≡◌, ℕ, ◌<◌, Bool, true, ◌==◌, ◌&&◌, ◌||◌, not, nat_lt, List, [], ◌∷◌, ◌++◌, reverse, Option, Some, None, if◌then◌else◌, slice_get, slice_set, Result}
+use Rattle.std.specs.Prelude.{◌≡◌, ℕ, ◌<◌, Bool, true, ◌==◌, ◌&&◌, ◌||◌, not, nat_lt, List, [], ◌∷◌, ◌++◌, reverse, Option, Some, None, if◌then◌else◌, slice_get, slice_set, Result, false, Err, IsOk}
 use Rattle.std.specs.Option.{option_and_then}
 use Rattle.ec_count.specs.Tables.{Tables}
 use Rattle.ec_core.specs.declared.act.Act.{Act}
@@ -16,6 +16,8 @@ use Rattle.ec_runner.specs.declared.worker_state.WorkerState.{WorkerState}
 use Rattle.ec_runner.specs.declared.worker_state.WorkerState.TheVariants.{Running, Waiting}
 use Rattle.ec_runner.specs.declared.wait.Wait.{Wait}
 use Rattle.ec_runner.specs.WorkerStates.{is_active, worker_state, every_active_waits, is_deadlocked, states_after_act}
+use Rattle.ec_runner.specs.declared.board.BoardFault.{BoardFault}
+use Rattle.ec_runner.specs.declared.board.BoardFault.TheVariants.{Stopped, Refused, Memory}
 
 pub record BoardModel : Type 0 where
   pub run : RunModel
@@ -82,3 +84,10 @@ is_stopped b w = b.deadlocked || has_left b w
 -- the answer of the run to an act of w
 abbrev pub answer_on : BoardModel → ℕ → Act → Result Reply Refusal
 answer_on b w act = answer_of b.run.setup (past_of b.run) w act
+
+-- a worker that is stopped is reported so, whatever it asks for; otherwise the refusal is reported;
+-- and out of memory only if the step is not refused
+abbrev pub IsBoardFault : BoardFault → BoardModel → ℕ → Act → Type 0
+IsBoardFault Stopped b w act = is_stopped b w ≡ true
+IsBoardFault (Refused r) b w act = (is_stopped b w ≡ false) × (answer_on b w act ≡ Err r)
+IsBoardFault Memory b w act = (is_stopped b w ≡ false) × IsOk (answer_on b w act)

@@ -53,22 +53,13 @@ MayBeBorneOut outcomes.Stopped run w asked = IsAtEnd asked run × WaitsForever r
 MayBeBorneOut _ run w asked = Unit {0}
 
 -- the refusal of w is right, if it was at moment k
-abbrev pub IsRightThen : Option LastRequest → RunModel → ℕ → ℕ → Refusal → Type 0
-IsRightThen None run k w r = Unit {0}
-IsRightThen (Some a) run k w r = a.moment ≡ k → IsRefusedSo run w r a
-
 abbrev pub IsRightAt : Outcome → Option LastRequest → RunModel → ℕ → ℕ → Type 0
-IsRightAt (outcomes.Refused r) asked run k w = IsRightThen asked run k w r
+IsRightAt (outcomes.Refused r) (Some a) run k w = a.moment ≡ k → IsRefusedSo run w r a
 IsRightAt _ asked run k w = Unit {0}
-
--- the moment of a request, 0 if there is none
-abbrev pub asked_at : Option LastRequest → ℕ
-asked_at None = 0
-asked_at (Some a) = a.moment
 
 -- the moment of the refusal of a worker, 0 if it was not refused
 abbrev pub moment_of_summary : Outcome → Option LastRequest → ℕ
-moment_of_summary (outcomes.Refused r) asked = asked_at asked
+moment_of_summary (outcomes.Refused r) (Some a) = a.moment
 moment_of_summary _ asked = 0
 
 -- THE SUMMARY OF w FITS THE RUN: its log is its entries there, and the run bears out how it ended

@@ -4,7 +4,6 @@ pub mod BoardModel
 pub mod Works
 pub mod Holds
 pub mod WorkPromises
-pub mod BoardFaults
 pub mod RunReports
 pub mod LogComparison
 pub mod Fits
@@ -13,4 +12,3 @@ pub mod Schedules
 pub mod Reported
 pub mod Machines
 pub mod ScheduleLaws
-pub mod RunLaws

@@ -1,14 +1,10 @@
 //! The board that workers share under one lock.
 ghost use Rattle.std.specs.Prelude.{◌≡◌, ℕ, ◌<◌, ◌++◌, ◌∷◌, true, false, [], Some, None, Ok, IfOk, OnErr, MatchResult, if◌then◌else◌, nat_lt, slice_get, length};
-ghost use Rattle.ec_core.specs.Acceptance.{names_unknown_object};
 ghost use Rattle.ec_core.specs.Values.{TellsAtMost};
 ghost use Rattle.ec_core.specs.Procedures.{IsReply};
-ghost use Rattle.ec_core.specs.RunModel.{RunModel};
 ghost use Rattle.ec_runner.specs.declared.wait.Wait.{Wait};
-ghost use Rattle.ec_runner.specs.declared.worker_state.WorkerState.TheVariants.{Gone, Running};
-ghost use Rattle.ec_runner.specs.declared.worker_state.WorkerState.TheVariants.{Waiting};
-ghost use Rattle.ec_runner.specs.WorkerStates.{is_active, is_waiting, worker_state};
-ghost use Rattle.ec_runner.specs.WorkerStates.{states_after_act};
+ghost use Rattle.ec_runner.specs.declared.worker_state.WorkerState.TheVariants.{Gone, Running, Waiting};
+ghost use Rattle.ec_runner.specs.WorkerStates.{is_active, is_waiting, worker_state, states_after_act};
 
 use crate::WorkerState;
 use crate::wait::{Wait, unmet_await};
@@ -64,10 +60,9 @@ impl Model for Board {
     ghost invariant = { λ b. AreWaiters (record { run = b.run; states = b.states; deadlocked = b.deadlocked }) };
 }
 
-ghost use Rattle.ec_runner.specs.BoardModel.{AreWaiters, wait_of, with_worker_state, after_entry, is_stopped, has_left, answer_on};
+ghost use Rattle.ec_runner.specs.BoardModel.{AreWaiters, IsBoardFault, wait_of, with_worker_state, after_entry, is_stopped, has_left, answer_on};
 
 impl Board {
-    ghost use Rattle.ec_runner.specs.BoardFaults.{IsBoardFault};
     ghost use Rattle.ec_runner.specs.Holds.{is_asleep, is_awaited};
 
     /// Makes a board with an empty run on these declarations. Every declared worker is active, and
@@ -173,16 +168,14 @@ impl Board {
     pub fn is_active(&self, worker: WorkerId) -> bool
         ensures { result ≡ is_active (worker_state self.now.states worker) }
     {
-        let state = self.states.get(worker);
-        state.is_active()
+        self.states.get(worker).is_active()
     }
 
     /// Returns whether the worker waits.
     pub fn is_waiting(&self, worker: WorkerId) -> bool
         ensures { result ≡ is_waiting (worker_state self.now.states worker) }
     {
-        let state = self.states.get(worker);
-        state.is_waiting()
+        self.states.get(worker).is_waiting()
     }
 
     /// Returns whether the board is deadlocked: at some moment some worker was active, and every

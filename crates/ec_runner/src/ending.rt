@@ -1,11 +1,11 @@
 //! The comparison of how workers ended with the run.
 ghost use Rattle.std.specs.Prelude.{◌≡◌, ◌↔◌, ◌<◌, ◌≤◌, ℕ, length, Some, slice_get, IsTrue, MatchOption};
 ghost use Rattle.ec_runner.specs.declared.summary.Summary.{Summary};
-ghost use Rattle.ec_runner.specs.Fits.{IsAtEnd, IsBorneOut, IsUnborne, IsWithin, MayBeBorneOut, asked_at, moment_of_summary};
+ghost use Rattle.ec_runner.specs.Fits.{IsAtEnd, IsBorneOut, IsUnborne, IsWithin, MayBeBorneOut, moment_of_summary};
 
-use crate::endless_wait::waits_forever;
 use crate::refused::first_wrong;
 use crate::summary::{LastRequest, Summary};
+use crate::wait::waits_forever;
 use ec_core::Run;
 use ec_count::WorkerId;
 use ec_machine::Outcome;
@@ -14,20 +14,14 @@ use ec_machine::Outcome;
 fn is_within(run: &Run, asked: Option<LastRequest>) -> bool
     ensures { IsTrue result ↔ IsWithin asked run.now }
 {
-    match asked {
-        Some(asked) => asked.moment <= run.len(),
-        None => false,
-    }
+    matches!(asked, Some(asked) if asked.moment <= run.len())
 }
 
 /// Returns whether there is a last request, made at the end of the run.
 fn is_at_end(run: &Run, asked: Option<LastRequest>) -> bool
     ensures { IsTrue result ↔ IsAtEnd asked run.now }
 {
-    match asked {
-        Some(asked) => asked.moment == run.len(),
-        None => false,
-    }
+    matches!(asked, Some(asked) if asked.moment == run.len())
 }
 
 /// Returns whether the run bears out how a worker ended. Of a refusal only the moment is checked.
@@ -41,21 +35,12 @@ fn may_be_borne_out(run: &Run, worker: WorkerId, summary: &Summary) -> bool
     }
 }
 
-fn asked_at(asked: Option<LastRequest>) -> usize
-    ensures { result ≡ asked_at asked }
-{
-    match asked {
-        Some(asked) => asked.moment,
-        None => 0,
-    }
-}
-
 /// Returns the moment of a worker's refusal, 0 if it was not refused.
 fn moment_of_summary(summary: &Summary) -> usize
     ensures { result ≡ moment_of_summary summary.now.outcome summary.now.asked }
 {
-    match summary.outcome {
-        Outcome::Refused(_) => asked_at(summary.asked),
+    match (summary.outcome, summary.asked) {
+        (Outcome::Refused(_), Some(asked)) => asked.moment,
         _ => 0,
     }
 }

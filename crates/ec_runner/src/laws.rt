@@ -1,5 +1,5 @@
 //! What the definitions mean: each function states a theorem and does nothing.
-ghost use Rattle.ec_runner.specs.RunLaws.{OutcomesAreTheirs, ReportsInterleave};
+ghost use Rattle.ec_runner.specs.RunReports.{OutcomesAreTheirs, ReportsInterleave};
 ghost use Rattle.ec_runner.specs.ScheduleLaws.{EndedHasNoHistory, EndedIsAfterAHistory, EndedIsNotPlayed, HistoriesAreOfTurns, SchedulesArePlayedInOrder, SchedulesHaveOneHistory, SchedulesHaveOneRun};
 
 /// States that the turns of a schedule make a history of it, in the order of time. The workers of

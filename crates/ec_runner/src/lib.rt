@@ -3,7 +3,6 @@
 
 mod board;
 mod ending;
-mod endless_wait;
 mod gate;
 mod holding;
 mod laws;

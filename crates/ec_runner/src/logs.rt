@@ -1,26 +1,13 @@
 //! The logs of the workers: the entries of each.
-ghost use Rattle.std.specs.Prelude.{◌≡◌, ◌∷◌, ◌++◌, [], IfOk, OnOk, map, Vec};
+ghost use Rattle.std.specs.Prelude.{◌≡◌, IfOk, map, Vec};
 ghost use Rattle.std.specs.declared.alloc.Global.{Global};
 ghost use Rattle.ec_core.specs.declared.act.Entry.{Entry};
 ghost use Rattle.ec_machine.specs.Steps.{own};
 ghost use Rattle.ec_runner.specs.Reported.{AreLogs};
 
-use ec_core::{Act, Entry, Reply, Run};
+use ec_core::{Entry, Run};
 use ec_count::WorkerId;
 use std::alloc::{AllocError, Global};
-
-/// Adds one entry.
-fn add_step(
-    log: &mut Vec<Entry>,
-    worker: WorkerId,
-    act: Act,
-    reply: Reply,
-) -> Result<(), AllocError>
-    ensures { OnOk result (log.new.items ≡ log.old.items ++ record { worker = worker; act = act; reply = reply } ∷ []) }
-{
-    log.push(Entry { worker, act, reply })?;
-    Ok(())
-}
 
 /// Returns the entries of a worker in order.
 fn log_of(alloc: Global, run: &Run, worker: WorkerId) -> Result<Vec<Entry>, AllocError>
@@ -28,10 +15,13 @@ fn log_of(alloc: Global, run: &Run, worker: WorkerId) -> Result<Vec<Entry>, Allo
 {
     let mut log = Vec::new(alloc);
     for entry in run.entries() {
-        if !entry.is_of(worker) {
-            continue;
+        if entry.is_of(worker) {
+            log.push(Entry {
+                worker: entry.worker,
+                act: entry.act,
+                reply: entry.reply,
+            })?;
         }
-        add_step(&mut log, entry.worker, entry.act, entry.reply)?;
     }
     Ok(log)
 }

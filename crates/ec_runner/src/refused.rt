@@ -1,16 +1,13 @@
 //! The comparison of the workers' refusals with the run.
 ghost use Rattle.std.specs.Prelude.{◌≡◌, ◌≢◌, ℕ, ◌≤◌, ◌<◌, ◌↔◌, ◌==◌, ◌+◌, ◌∷◌, ◌++◌, false, [], List, length, reverse, take, slice_get, Some, Ok, Err, IsTrue, MatchOption};
-ghost use Rattle.ec_core.specs.declared.act.Entry.{Entry};
-ghost use Rattle.ec_core.specs.Acceptance.{answer_of};
-ghost use Rattle.ec_core.specs.Counts.{past_at};
 ghost use Rattle.ec_core.specs.Standing.{StandsFor};
 ghost use Rattle.ec_machine.specs.Steps.{own};
 ghost use Rattle.ec_runner.specs.declared.summary.Summary.{Summary};
-ghost use Rattle.ec_runner.specs.Fits.{IsDoneBy, IsRefusedSo, IsRightThen, IsRightAt, IsUnborne};
+ghost use Rattle.ec_runner.specs.Fits.{IsDoneBy, IsRefusedSo, IsRightAt, IsUnborne};
 
 use crate::ending::nth_worker;
 use crate::summary::{LastRequest, Summary};
-use ec_core::{Act, Entry, Refusal, Run, World, accepted_means_answered};
+use ec_core::{Refusal, Run, World, accepted_means_answered};
 use ec_count::WorkerId;
 use ec_machine::Outcome;
 
@@ -18,15 +15,6 @@ fn is_same_refusal(refusal: Refusal, other: Refusal) -> bool
     ensures { IsTrue result ↔ (refusal ≡ other) }
 {
     refusal == other
-}
-
-/// Makes the step of an entry, whose reply is the world's answer to it.
-fn make(world: &mut World, entry: &Entry)
-    ensures represents { (h : List Entry) → StandsFor world.old h → answer_of world.old.setup (reverse h) entry.now.worker entry.now.act ≡ Ok entry.now.reply
-        → StandsFor world.new (h ++ entry.now ∷ []) }
-    ensures setup { world.new.setup ≡ world.old.setup }
-{
-    let _ = world.step(entry.worker, entry.act);
 }
 
 /// Makes the step of the entry at a place of a run.
@@ -40,26 +28,7 @@ fn go_on(world: &mut World, run: &Run, place: usize)
     let Some(entry) = run.entry(place) else {
         return;
     };
-    make(world, &entry);
-}
-
-/// Returns whether a world that has come to a moment of a run refuses an act with this refusal.
-fn is_refused_by(
-    run: &Run,
-    world: &World,
-    moment: usize,
-    worker: WorkerId,
-    act: &Act,
-    refusal: Refusal,
-) -> bool
-    requires represents { StandsFor world.now (take moment run.now.entries) }
-    requires setup { world.now.setup ≡ run.now.setup }
-    ensures { IsTrue result ↔ (answer_of run.now.setup (past_at moment run.now.entries) worker act.now ≡ Err refusal) }
-{
-    match world.answer(worker, act) {
-        Ok(_) => false,
-        Err(found) => is_same_refusal(found, refusal),
-    }
+    let _ = world.step(entry.worker, entry.act);
 }
 
 /// Returns whether the entry at a place is another worker's.
@@ -105,43 +74,22 @@ fn is_refused_so(
     if !is_done_by(run, asked.moment, worker) {
         return false;
     }
-    is_refused_by(run, world, asked.moment, worker, &asked.act, refusal)
-}
-
-/// Returns whether a worker's refusal is right, if it was at the moment to which the world has
-/// come; `true` if it was at another.
-fn is_right_then(
-    run: &Run,
-    world: &World,
-    moment: usize,
-    worker: WorkerId,
-    refusal: Refusal,
-    asked: Option<LastRequest>,
-) -> bool
-    requires represents { StandsFor world.now (take moment run.now.entries) }
-    requires setup { world.now.setup ≡ run.now.setup }
-    ensures { IsTrue result ↔ IsRightThen asked run.now moment worker refusal }
-{
-    match asked {
-        Some(asked) => {
-            if asked.moment != moment {
-                return true;
-            }
-            is_refused_so(run, world, worker, refusal, &asked)
-        }
-        None => true,
+    match world.answer(worker, &asked.act) {
+        Ok(_) => false,
+        Err(found) => is_same_refusal(found, refusal),
     }
 }
 
-/// Returns the same of a worker's summary; `true` if the worker was not refused.
+/// Returns whether a worker's refusal is right, if it was at the moment to which the world has
+/// come; `true` if it was at another, or the worker was not refused.
 fn is_right_at(run: &Run, world: &World, moment: usize, worker: WorkerId, summary: &Summary) -> bool
     requires represents { StandsFor world.now (take moment run.now.entries) }
     requires setup { world.now.setup ≡ run.now.setup }
     ensures { IsTrue result ↔ IsRightAt summary.now.outcome summary.now.asked run.now moment worker }
 {
-    match summary.outcome {
-        Outcome::Refused(refusal) => {
-            is_right_then(run, world, moment, worker, refusal, summary.asked)
+    match (summary.outcome, summary.asked) {
+        (Outcome::Refused(refusal), Some(asked)) if asked.moment == moment => {
+            is_refused_so(run, world, worker, refusal, &asked)
         }
         _ => true,
     }

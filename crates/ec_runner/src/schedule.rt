@@ -13,7 +13,7 @@ use crate::logs::logs_of;
 use crate::playing::play_places;
 use crate::{Report, SimFault};
 use ec_core::Run;
-use ec_count::{Setup, WorkerId};
+use ec_count::WorkerId;
 use ec_machine::{Machine, Outcome, Program};
 use ec_script::Plan;
 use std::alloc::{AllocError, Global};
@@ -78,26 +78,6 @@ fn play_out(
     }
 }
 
-/// Plays a schedule of these programs on these declarations.
-fn play(
-    alloc: Global,
-    setup: Setup,
-    programs: &[Program],
-    schedule: &[WorkerId],
-) -> Result<Report, SimFault>
-    requires programs { length programs.now ≡ setup.workers }
-    requires schedule { All (λ w. w < setup.workers) schedule.now }
-    ensures { MatchResult result (IsReport setup programs.now schedule.now) (IsSimFault setup programs.now schedule.now) }
-{
-    let Ok(run) = Run::open(alloc, setup) else {
-        return Err(SimFault::Memory);
-    };
-    let Ok(mut machines) = start_machines(alloc, programs) else {
-        return Err(SimFault::Memory);
-    };
-    play_out(alloc, run, machines.as_mut_slice(), schedule)
-}
-
 /// Plays the schedule of a parsed script on one thread, one turn for each place. In its turn a
 /// worker makes the step that its program asks for next. If the step is refused, no entry is made,
 /// and the program has ended. The time is linear in the number of places.
@@ -109,10 +89,12 @@ pub fn simulate(alloc: Global, plan: &Plan) -> Result<Report, SimFault>
         (IsSimFault plan.now.heading.setup plan.now.programs.items plan.now.schedule.items) }
 {
     let setup = plan.heading.setup().copy();
-    play(
-        alloc,
-        setup,
-        plan.programs.as_slice(),
-        plan.schedule.as_slice(),
-    )
+    let Ok(run) = Run::open(alloc, setup) else {
+        return Err(SimFault::Memory);
+    };
+    let Ok(mut machines) = start_machines(alloc, plan.programs.as_slice()) else {
+        return Err(SimFault::Memory);
+    };
+    let schedule = plan.schedule.as_slice();
+    play_out(alloc, run, machines.as_mut_slice(), schedule)
 }

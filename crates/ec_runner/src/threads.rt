@@ -1,5 +1,5 @@
 //! A thread for each worker.
-ghost use Rattle.std.specs.Prelude.{◌≡◌, ◌≢◌, ℕ, ◌+◌, ◌<◌, ◌≤◌, nat_lt, true, false, List, [], ◌∷◌, ◌++◌, length, Some, vec_len, vec_capacity};
+ghost use Rattle.std.specs.Prelude.{◌≡◌, ◌≢◌, ℕ, ◌+◌, ◌<◌, ◌≤◌, true, false, List, [], ◌∷◌, ◌++◌, length, Some, vec_len, vec_capacity};
 ghost use Rattle.ec_core.specs.declared.act.Entry.{Entry};
 ghost use Rattle.ec_core.specs.Procedures.{IsReply};
 ghost use Rattle.ec_machine.specs.declared.command.Command.{Command};
@@ -68,22 +68,9 @@ fn wake(condvars: &[Condvar], woken: &[bool]) {
     }
 }
 
-/// Wakes these workers, if any.
-fn wake_some(condvars: &[Condvar], woken: &Option<[bool; 16]>) {
-    if let Some(woken) = woken {
-        wake(condvars, woken);
-    }
-}
-
-/// Returns whether a worker has a turn left after the next one. Its steps so far are in its log.
-fn has_turn_after_next(log: &[Entry], turns: u64) -> bool
-    ensures { result ≡ nat_lt (length log.now + 1) turns }
-{
-    (log.len() as u64) < turns.saturating_sub(1)
-}
-
 /// Runs one critical section and, if the worker is to wait, the sleep. In its last turn a worker
-/// doesn't wait. Others are woken once the lock is free; a worker that goes to sleep wakes nobody.
+/// doesn't wait; its steps so far are in its log. Others are woken once the lock is free; a worker
+/// that goes to sleep wakes nobody.
 fn step_under_lock<R: Wait, G>(
     rt: &R,
     shared: SharedState<'_, G>,
@@ -95,7 +82,7 @@ fn step_under_lock<R: Wait, G>(
     ensures last { is_sleep result ≡ true → length log.now + 1 < shared.entry.turns }
 {
     let condvars = shared.condvars;
-    let may_park = has_turn_after_next(log, shared.turns);
+    let may_park = (log.len() as u64) < shared.turns.saturating_sub(1);
     let mut guard = lock_board(rt, shared.board);
     let held = hold(&mut *guard, worker, act, may_park);
     match held.next {
@@ -105,7 +92,9 @@ fn step_under_lock<R: Wait, G>(
         }
         Next::GoOn(_) | Next::Leave(_, _) => {
             drop(guard);
-            wake_some(condvars, &held.woken);
+            if let Some(woken) = held.woken {
+                wake(condvars, &woken);
+            }
         }
     }
     held.next

@@ -1,7 +1,8 @@
 //! What a worker waits for.
-ghost use Rattle.std.specs.Prelude.{◌≡◌, ◌<◌, Some, length};
+ghost use Rattle.std.specs.Prelude.{◌≡◌, ◌↔◌, ◌<◌, IsTrue, Some, length};
 ghost use Rattle.ec_runner.specs.declared.wait.Wait.{Wait};
 ghost use Rattle.ec_runner.specs.BoardModel.{await_fallen_short, past_of, unmet};
+ghost use Rattle.ec_runner.specs.RunReports.{WaitsForever};
 
 use ec_core::{Act, Run};
 use ec_count::{EventId, WorkerId};
@@ -47,4 +48,12 @@ pub(crate) fn unmet_await(run: &Run, worker: WorkerId) -> Option<Wait>
     run.invariant();
     let wait = await_fallen_short(run, worker);
     unmet(run, wait)
+}
+
+/// Returns whether the worker's pending call is an await that fell short, whose threshold the total
+/// has not reached.
+pub(crate) fn waits_forever(run: &Run, worker: WorkerId) -> bool
+    ensures { IsTrue result ↔ WaitsForever run.now worker }
+{
+    unmet_await(run, worker).is_some()
 }

@@ -20,29 +20,20 @@ impl WorkerState {
     pub fn is_active(&self) -> bool
         ensures { result ≡ is_active self.now }
     {
-        match self {
-            WorkerState::Gone => false,
-            WorkerState::Running | WorkerState::Waiting(_, _) => true,
-        }
+        !matches!(self, WorkerState::Gone)
     }
 
     /// Returns whether it waits.
     pub fn is_waiting(&self) -> bool
         ensures { result ≡ is_waiting self.now }
     {
-        match self {
-            WorkerState::Waiting(_, _) => true,
-            WorkerState::Gone | WorkerState::Running => false,
-        }
+        matches!(self, WorkerState::Waiting(_, _))
     }
 
     /// Returns whether it is active and doesn't wait.
     pub(crate) fn is_running(&self) -> bool
         ensures { result ≡ is_running self.now }
     {
-        match self {
-            WorkerState::Running => true,
-            WorkerState::Gone | WorkerState::Waiting(_, _) => false,
-        }
+        matches!(self, WorkerState::Running)
     }
 }

@@ -1,12 +1,9 @@
 //! The states of all workers, and the queues of those that wait.
 ghost use Rattle.std.specs.Prelude.{◌≡◌, ℕ, ◌<◌, ◌≤◌, true, false, map, slice_get, slice_set, Some, if◌then◌else◌, nat_lt, List, length, drop, is_some};
 ghost use Rattle.std.specs.List.{list_any};
-ghost use Rattle.ec_runner.specs.declared.worker_state.WorkerState.TheVariants.{Gone, Running};
-ghost use Rattle.ec_runner.specs.declared.worker_state.WorkerState.TheVariants.{Waiting};
-ghost use Rattle.ec_runner.specs.WorkerStates.{is_active, is_running, is_waiting, is_deadlocked, every_active_waits, state_at_total};
-ghost use Rattle.ec_runner.specs.WorkerStates.{states_after_act};
-ghost use Rattle.ec_runner.specs.WaitQueues.{LetsOneGo, remove_waiter, insert_waiter, first_ready};
-ghost use Rattle.ec_runner.specs.WaitQueues.{waits_on};
+ghost use Rattle.ec_runner.specs.declared.worker_state.WorkerState.TheVariants.{Gone, Running, Waiting};
+ghost use Rattle.ec_runner.specs.WorkerStates.{is_active, is_running, is_waiting, is_deadlocked, every_active_waits, state_at_total, states_after_act};
+ghost use Rattle.ec_runner.specs.WaitQueues.{LetsOneGo, remove_waiter, insert_waiter, first_ready, waits_on};
 ghost use Rattle.ec_core.specs.Fields.{map_at};
 ghost use Rattle.ec_runner.specs.declared.wait_queue.Waiter.{Waiter};
 ghost use Rattle.ec_runner.specs.BoardModel.{past_of};
@@ -138,8 +135,7 @@ fn remove_from_queue(queues: &mut [WaitQueue; 32], state: WorkerState, worker: W
     ensures { queues.new ≡ remove_waiter state worker queues.old }
 {
     if let WorkerState::Waiting(event, _) = state {
-        let queue = &mut queues[event.get()];
-        queue.remove(worker);
+        queues[event.get()].remove(worker);
     }
 }
 
@@ -149,8 +145,7 @@ fn insert_into_queue(queues: &mut [WaitQueue; 32], event: EventId, waiter: Waite
     ensures queue { queues.new ≡ map_at (insert_waiter waiter) queues.old event }
     ensures event { event < 32 }
 {
-    let queue = &mut queues[event.get()];
-    queue.insert(waiter);
+    queues[event.get()].insert(waiter);
 }
 
 /// Removes and returns the first waiter on an eventcount, if the total has reached its threshold.
@@ -159,8 +154,7 @@ fn pop_ready(queues: &mut [WaitQueue; 32], event: EventId, total: u64) -> Option
     ensures rest { queues.new ≡ map_at (λ queue. if is_some result then drop 1 queue else queue) queues.old event }
     ensures event { event < 32 }
 {
-    let queue = &mut queues[event.get()];
-    queue.pop_ready(total)
+    queues[event.get()].pop_ready(total)
 }
 
 /// Makes states in which the first `workers` workers run, and the others are gone.

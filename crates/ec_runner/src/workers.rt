@@ -1,8 +1,7 @@
 //! Workers on threads of their own.
 ghost use Rattle.std.specs.Prelude.{◌≡◌, ℕ, ◌≤◌, map, length, Err, IfOk, IfErr, MatchResult};
 ghost use Rattle.ec_runner.specs.Fits.{AllFit, IsVerdict};
-ghost use Rattle.ec_runner.specs.WorkPromises.{IsJoinResult, IsOneMore, AreJoinResults};
-ghost use Rattle.ec_runner.specs.WorkPromises.{AreSummariesOf, IsThreadFault};
+ghost use Rattle.ec_runner.specs.WorkPromises.{IsJoinResult, IsOneMore, AreJoinResults, AreSummariesOf, IsThreadFault};
 ghost use Rattle.ec_runner.specs.RunReports.{IsReportOf, NamesDeclared};
 ghost use Rattle.ec_runner.specs.RunFaults.{IsRunFault};
 
@@ -121,11 +120,6 @@ fn start_and_join<'s, E: 's, R: Threads + Wait + Sync, G: Gate + Sync>(
     join_each(rt, alloc, handles)
 }
 
-/// Returns a condition variable for each worker.
-fn new_condvars() -> [Condvar; 16] {
-    std::array::from_fn(|_| Condvar::new())
-}
-
 /// Runs each program in a thread of its own, all at once, on one board. Returns the board's run,
 /// once all threads have ended, and their summaries.
 fn run_threads<R: Threads + Wait + Sync, G: Gate + Sync>(
@@ -143,7 +137,7 @@ fn run_threads<R: Threads + Wait + Sync, G: Gate + Sync>(
         return Err(RunFault::Memory);
     };
     let board = Mutex::new(board);
-    let condvars = new_condvars();
+    let condvars: [Condvar; 16] = std::array::from_fn(|_| Condvar::new());
     let lock = &board;
     let shared_condvars = &condvars;
     let summaries = thread::scope(
@@ -180,47 +174,13 @@ fn report_or_mismatch(
     requires each { length summaries.items ≡ setup.now.workers }
     ensures { IsVerdict result setup.now run summaries.items }
 {
-    match find_mismatch(setup, &run, summaries.as_slice()) {
-        Some(worker) => return Err(RunFault::Mismatch(worker)),
-        None => {}
+    if let Some(worker) = find_mismatch(setup, &run, summaries.as_slice()) {
+        return Err(RunFault::Mismatch(worker));
     }
     match report_of_summaries(alloc, run, summaries) {
         Ok(report) => Ok(report),
         Err(_) => Err(RunFault::Memory),
     }
-}
-
-/// Returns the report of workers that have ended, or why there is none.
-fn conclude(
-    alloc: Global,
-    setup: &Setup,
-    ran: Result<(Run, Vec<Summary>), RunFault>,
-) -> Result<Report, RunFault>
-    requires few { IfOk ran (λ r. length r.1.items ≤ 16) }
-    requires each { IfOk ran (λ r. length r.1.items ≡ setup.now.workers) }
-    ensures { MatchResult ran (λ r. IsVerdict result setup.now r.0 r.1.items) (λ fault. result ≡ Err fault) }
-{
-    let (run, summaries) = ran?;
-    report_or_mismatch(alloc, setup, run, summaries)
-}
-
-/// Runs programs of the workers of these declarations, each in a thread of its own.
-fn run_on<R: Threads + Wait + Sync, G: Gate + Sync>(
-    rt: &R,
-    alloc: Global,
-    setup: &Setup,
-    programs: &[Program],
-    gate: &G,
-    turns: u64,
-) -> Result<Report, RunFault>
-    requires { length programs.now ≡ setup.now.workers }
-    ensures report { IfOk result (IsReportOf setup.now programs.now turns) }
-    ensures named { IfErr result (NamesDeclared setup.now) }
-    ensures fault { IfErr result (IsRunFault setup.now programs.now turns) }
-{
-    setup.invariant();
-    let ended = run_threads(rt, alloc, setup, programs, gate, turns);
-    conclude(alloc, setup, ended)
 }
 
 /// Runs the programs of a parsed script, each worker's in a thread of its own, all at once, on one
@@ -243,12 +203,10 @@ pub fn run_workers<R: Threads + Wait + Sync, G: Gate + Sync>(
     ensures named { IfErr result (NamesDeclared plan.now.heading.setup) }
     ensures fault { IfErr result (IsRunFault plan.now.heading.setup plan.now.programs.items turns) }
 {
-    run_on(
-        rt,
-        alloc,
-        plan.heading.setup(),
-        plan.programs.as_slice(),
-        gate,
-        turns,
-    )
+    let setup = plan.heading.setup();
+    setup.invariant();
+    match run_threads(rt, alloc, setup, plan.programs.as_slice(), gate, turns) {
+        Ok((run, summaries)) => report_or_mismatch(alloc, setup, run, summaries),
+        Err(fault) => Err(fault),
+    }
 }

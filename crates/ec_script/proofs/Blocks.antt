@@ -1,7 +1,7 @@
 -- The lines after the declarations: whole blocks, and then the lines of the schedule.
 use Rattle.std.proofs.Common.{◌≡◌, ◌==◌, ℕ, ◌+◌, ◌<◌, ◌≤◌, List, [], ◌∷◌, ◌++◌, length, map, true, false, cond, eqb, nat_le, nat_lt, Option, Some, None, option_map, refl, sym, ap, ap₂, ◌∙◌, subst, arith, codes, append_assoc, append-nil, length-append, slice_set, get_or, eqb-true, ne_eqb}
 use Rattle.std.specs.List.{AllByRecursion, flat_map, join_with_byte, list_any}
-use Rattle.std.proofs.lemmas.Bool.{or_parts, or_from, leb-true, ltb-false, eqb-false, and_left, and_right}
+use Rattle.std.proofs.lemmas.Bool.{leb-false, or_parts, or_from, leb-true, ltb-false, eqb-false, and_left, and_right}
 use Rattle.ec_count.specs.Members.{is_member, has_repeat}
 use Rattle.ec_text.specs.Words.{words_of}
 use Rattle.ec_text.proofs.shared.WordLemmas.{split_join}
@@ -21,7 +21,7 @@ use Rattle.ec_script.specs.declared.block_item.BlockItem.TheVariants.{Begin, End
 use Rattle.ec_script.specs.declared.script.OpenBlock.{OpenBlock as Open}
 use Rattle.ec_script.specs.declared.stage.Stage.{Stage}
 use Rattle.ec_script.specs.declared.stage.Stage.TheVariants.{Reading}
-use Rattle.ec_script.specs.Forms.{Phrase, phrase_in}
+use Rattle.ec_script.specs.Forms.{Phrase, phrase_in, Worded}
 use Rattle.ec_script.specs.Objects.{object_for, object_in}
 use Rattle.ec_script.specs.Kinds.{or_nothing, is_named_again}
 use Rattle.ec_script.specs.BlockItems.{size_in, command_in}
@@ -31,12 +31,11 @@ use Rattle.ec_script.specs.ScriptModel.{ScriptModel, PlanModel}
 use Rattle.ec_script.specs.Reading.{view_of_block, context_of_script, after, after_verb, after_command, block_with_item, is_declaring, script_step, step}
 use Rattle.ec_script.specs.Outcome.{plan_in}
 use Rattle.ec_script.specs.Grammar.{Leads}
-use Rattle.ec_script.specs.Layout.{item_by, IsLineOfItem, Block, IsBlock, texts_of, items_of, AreNested, commands_in, worker_line, block_lines, schedule_line, IsRow, concat_rows, workers_of}
-use Rattle.ec_script.specs.Phrased.{Worded}
+use Rattle.ec_script.specs.Layout.{item_by, IsLineOfItem, Block, IsBlock, texts_of, items_of, AreNested, commands_in, worker_line, block_lines, schedule_line, IsRow, concat_rows, workers_of, blocks_of_items, blocks_of_items}
 use Rattle.ec_script.proofs.PhraseWords.{made, worded}
-use Rattle.ec_script.proofs.Passing.{Passes, IsAcceptedAs, IsNoDeclaration, taken_back, read_back}
+use Rattle.ec_script.proofs.Passing.{IsAcceptedAs, IsNoDeclaration, taken_back, read_back}
 use Rattle.ec_script.proofs.Said.{IsCommand, Ordered, ordered_of, some_object, said, MayNest, step_may, nested_more, few_more, room_more}
-use Rattle.ec_script.proofs.Room.{below, end_deep as end_inner}
+use Rattle.ec_script.proofs.Room.{Passes, end_deep as end_inner}
 use Rattle.ec_script.proofs.shared.Keeping.{with_item_adds as orders_more}
 
 abbrev pub state : HeadingModel → List ℕ → List (List BlockItem) → Option Open → List ℕ
@@ -59,7 +58,7 @@ pub record Closed (h : HeadingModel) (ws : List (List ℕ)) (named : List ℕ) (
   pub are : lines ≡ flat_map (block_lines ws) blocks ++ map (schedule_line ws) rows
   pub each : AllByRecursion (IsBlock h) blocks
   pub new : AllByRecursion (λ (b : Block). is_member b.worker named ≡ false) blocks
-  pub differ : has_repeat (workers_of blocks) ≡ false
+  pub differ : has_repeat (workers_of (blocks_of_items blocks)) ≡ false
   pub rows_are : AllByRecursion (IsRow ws) rows
   pub few : length (sc ++ concat_rows rows) ≤ 65536
   pub late : 0 < length sc → blocks ≡ []
@@ -101,7 +100,7 @@ member_push w i (v ∷ named) is =
     (or_from _ _ p.0 q.0, q.1)
 
 none_new : (i : ℕ) (named : List ℕ) (bs : List Block) → AllByRecursion (λ (b : Block). is_member b.worker (named ++ i ∷ []) ≡ false) bs
-    → AllByRecursion (λ (b : Block). is_member b.worker named ≡ false) bs × (is_member i (workers_of bs) ≡ false)
+    → AllByRecursion (λ (b : Block). is_member b.worker named ≡ false) bs × (is_member i (workers_of (blocks_of_items bs)) ≡ false)
 none_new i named [] all = (tt, refl)
 none_new i named (b ∷ bs) all =
     let p = member_push b.worker i named all.0 in
@@ -271,7 +270,7 @@ command_goes h ws p line lines named ps b sc v w us command within form passes i
     let x = some_object (object_for h v w us) passes.found in
     let d : Ordered v x.0 us = ordered_of h v w us x.0 command x.1 in
     let says : IsLineOfItem h b.worker line d.item = said (context_of_script (state h named ps (Some b) sc)) (view_of_block b) line v w us x.0 d.item form.0 form.1 inner refl x.1 passes (by x.0 ∙ d.is) in
-    item_goes h ws p line lines named ps b sc d.item (after (state h named ps (Some b) sc) (made v w us)) within says (step_may b.draft d.item d.step (below 4096 b.draft.commands room))
+    item_goes h ws p line lines named ps b sc d.item (after (state h named ps (Some b) sc) (made v w us)) within says (step_may b.draft d.item d.step (leb-false 4096 b.draft.commands room))
     (leads ∙ ap (λ y. after_command (state h named ps (Some b) sc) (command_in v (is_update v) (or_nothing y) us)) x.1 ∙ ap (after_command (state h named ps (Some b) sc)) d.is) others
 
 repeat_goes : (h : HeadingModel) (ws : List (List ℕ)) (p : PlanModel) (line : List ℕ) (lines : List (List ℕ)) (named : List ℕ) (ps : List (List BlockItem)) (b : Open) (sc : List ℕ) (w : List ℕ) (us : List (List ℕ))
@@ -279,7 +278,7 @@ repeat_goes : (h : HeadingModel) (ws : List (List ℕ)) (p : PlanModel) (line : 
     → Others h ws lines p (after (state h named ps (Some b) sc) (made verbs.Repeat w us)) → Opened h ws named ps b sc (line ∷ lines) p
 repeat_goes h ws p line lines named ps b sc w us within form passes others =
     let says : IsLineOfItem h b.worker line (Begin (size_in us)) = said (context_of_script (state h named ps (Some b) sc)) (view_of_block b) line verbs.Repeat w us Nothing (Begin (size_in us)) form.0 form.1 refl refl refl passes refl in
-    item_goes h ws p line lines named ps b sc (Begin (size_in us)) (after (state h named ps (Some b) sc) (made verbs.Repeat w us)) within says (below 4 b.draft.depth passes.nested, below 4096 b.draft.commands passes.few) refl others
+    item_goes h ws p line lines named ps b sc (Begin (size_in us)) (after (state h named ps (Some b) sc) (made verbs.Repeat w us)) within says (leb-false 4 b.draft.depth passes.nested, leb-false 4096 b.draft.commands passes.few) refl others
 
 end_goes : (h : HeadingModel) (ws : List (List ℕ)) (p : PlanModel) (line : List ℕ) (lines : List (List ℕ)) (named : List ℕ) (ps : List (List BlockItem)) (b : Open) (sc : List ℕ) (w : List ℕ) (us : List (List ℕ))
     → IsWithin named (Some b) sc → Form line verbs.End w us → PassesIn (state h named ps (Some b) sc) verbs.End w us

@@ -33,10 +33,9 @@ use Rattle.ec_script.specs.declared.block_item.BlockItem.{BlockItem}
 use Rattle.ec_script.specs.declared.block_item.BlockItem.TheVariants.{Do, Write, Begin, End}
 use Rattle.ec_script.specs.Confined.{UsesGroups}
 use Rattle.ec_script.specs.Grammar.{IsLine}
-use Rattle.ec_script.specs.Layout.{schedule_line}
+use Rattle.ec_script.specs.Layout.{ScriptTree, schedule_line}
 use Rattle.ec_script.specs.Spelling.{value_word, group_word, command_words, item_words, item_line, spelled_block, script_lines}
-use Rattle.ec_script.specs.Given.{may_do, is_line_of, IsGiven, MayGive}
-use Rattle.ec_script.specs.ScriptTree.{ScriptTree, IsGivenBlock, IsScriptTree}
+use Rattle.ec_script.specs.Given.{may_do, is_line_of, IsGiven, MayGive, IsGivenBlock, IsScriptTree}
 use Rattle.ec_script.proofs.Owners.{owning}
 use Rattle.ec_script.proofs.Namings.{IsFound, found_in, IsClean, name_clean, decimal_clean, worker_clean, event_clean, sequencer_clean, cell_clean, group_clean}
 use Rattle.ec_script.proofs.Sayings.{signals, handed, observed, taken, written, read_from}

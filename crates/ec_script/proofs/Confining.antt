@@ -4,7 +4,6 @@ use Rattle.std.specs.List.{Contains, slice_get}
 use Rattle.std.specs.Option.{IfSome}
 use Rattle.std.proofs.lemmas.Bool.{and_parts, not-false, true≢false}
 use Rattle.std.proofs.lemmas.Option.{slice_get_within, get_or_from_slice_get, option_and_then_some}
-use Rattle.ec_buffer.specs.Shapes.{Buffer}
 use Rattle.ec_database.specs.Shapes.{Database}
 use Rattle.ec_semaphore.specs.Shapes.{Semaphore}
 use Rattle.ec_count.specs.Names.{find_name}
@@ -33,9 +32,8 @@ use Rattle.ec_script.specs.Forms.{only_in}
 use Rattle.ec_script.specs.Objects.{group_place, group_in, semaphore_in, semaphore_pair, transfer_object, object_for, is_owned}
 use Rattle.ec_heading.specs.Groups.{buffer_of, database_of, semaphore_of, both_of}
 use Rattle.ec_script.specs.Kinds.{or_nothing, has_two_roles}
-use Rattle.ec_script.specs.BlockItems.{event_item, cell_item, buffer_item, database_item, semaphore_item, command_in, amount_in, size_in}
-use Rattle.ec_script.specs.Versioned.{has_command, HasItem}
-use Rattle.ec_script.specs.Confined.{UsesGroups, IsConfined, AreApart}
+use Rattle.ec_script.specs.BlockItems.{event_item, database_item, semaphore_item, command_in, amount_in, size_in}
+use Rattle.ec_script.specs.Confined.{UsesGroups, IsConfined, AreApart, has_command, HasItem}
 use Rattle.ec_script.proofs.shared.WrittenOut.{by_layer}
 
 -- OBJECTS
@@ -173,14 +171,6 @@ event_proper gs ver verbs.Advance e x free = proper_of gs ver (layer.Advance e) 
 event_proper gs ver verbs.Read e x free = proper_of gs ver (layer.Read e) (commands.Read e) (commands.rolls-Read e) free refl
 event_proper gs ver _ e x free = proper_of gs ver (layer.Await e x) (commands.Await e x) (commands.rolls-Await e x) free refl
 
-cell_proper : (gs : List Group) (ver : Version) (update : Bool) (i : ℕ) (x : amounts.Value) → is_owned gs (Cell i) ≡ false → IsProper gs ver (cell_item update i x)
-cell_proper gs ver true i x free = proper_of gs ver (layer.Put i x) (commands.Put i x) (commands.rolls-Put i x) free refl
-cell_proper gs ver false i x free = proper_of gs ver (layer.Get i) (commands.Get i) (commands.rolls-Get i) free refl
-
-buffer_proper : (gs : List Group) (ver : Version) (update : Bool) (b : Buffer) (x : amounts.Value) → Contains gs (groups.Buffer b) → IsProper gs ver (buffer_item update b x)
-buffer_proper gs ver true b x declared = proper_of gs ver (layer.Produce b x) (commands.Produce b x) (commands.rolls-Produce b x) declared refl
-buffer_proper gs ver false b x declared = proper_of gs ver (layer.Consume b) (commands.Consume b) (commands.rolls-Consume b) declared refl
-
 database_proper : (gs : List Group) (ver : Version) (v : LineWord) (d : Database) (ws : List (List ℕ)) → Contains gs (groups.Database d) → IfSome (database_item v d ws) (IsProper gs ver)
 database_proper gs ver verbs.Write d ws declared = (declared, refl)
 database_proper gs ver verbs.Snapshot d ws declared = proper_of gs ver (layer.Snapshot d (size_in ws)) (commands.Snapshot d (size_in ws)) (commands.rolls-Snapshot d (size_in ws)) declared refl
@@ -194,9 +184,11 @@ semaphore_proper gs ver _ s declared = proper_of gs ver (layer.Up s) (commands.U
 pub command_proper : (gs : List Group) (ver : Version) (v : LineWord) (update : Bool) (o : Object) (ws : List (List ℕ)) → IsFit gs ver o → IfSome (command_in v update o ws) (IsProper gs ver)
 command_proper gs ver v update (Event e) ws fit = event_proper gs ver v e (amount_in ws) fit
 command_proper gs ver v update (Sequencer q) ws fit = proper_of gs ver (layer.Ticket q) (commands.Ticket q) (commands.rolls-Ticket q) fit refl
-command_proper gs ver v update (Cell x) ws fit = cell_proper gs ver update x (amount_in ws) fit
+command_proper gs ver v true (Cell x) ws fit = proper_of gs ver (layer.Put x (amount_in ws)) (commands.Put x (amount_in ws)) (commands.rolls-Put x (amount_in ws)) fit refl
+command_proper gs ver v false (Cell x) ws fit = proper_of gs ver (layer.Get x) (commands.Get x) (commands.rolls-Get x) fit refl
 command_proper gs ver v update (Handed e b) ws fit = proper_of gs ver (layer.Hand e b) (commands.Hand e b) (commands.rolls-Hand e b) fit.0 fit.1
-command_proper gs ver v update (OfBuffer b) ws fit = buffer_proper gs ver update b (amount_in ws) fit
+command_proper gs ver v true (OfBuffer b) ws fit = proper_of gs ver (layer.Produce b (amount_in ws)) (commands.Produce b (amount_in ws)) (commands.rolls-Produce b (amount_in ws)) fit refl
+command_proper gs ver v false (OfBuffer b) ws fit = proper_of gs ver (layer.Consume b) (commands.Consume b) (commands.rolls-Consume b) fit refl
 command_proper gs ver v update (OfDatabase d) ws fit = database_proper gs ver v d ws fit
 command_proper gs ver v update (OfSemaphore s) ws fit = semaphore_proper gs ver v s fit
 command_proper gs ver v update (SemaphorePair common one other) ws fit = proper_of gs ver (layer.DownBoth common one other) (commands.DownBoth common one other) (commands.rolls-DownBoth common one other) fit refl

@@ -14,8 +14,6 @@ use Rattle.ec_heading.specs.HeaderTree.{empty_heading as heading_opened}
 use Rattle.ec_machine.specs.declared.command.Value as amounts
 use Rattle.ec_database.specs.Shapes.{Database}
 use Rattle.ec_semaphore.specs.Shapes.{Semaphore}
-use Rattle.ec_buffer.specs.Shapes.{Buffer}
-use Rattle.ec_script.specs.declared.fault.Kind.{Kind}
 use Rattle.ec_script.specs.declared.fault.Kind.TheVariants as kinds
 use Rattle.ec_script.specs.declared.object.Object.{Object}
 use Rattle.ec_script.specs.declared.object.Object.TheVariants.{Nothing, Worker, Event, Sequencer, Cell, Handed, OfBuffer, OfDatabase, OfSemaphore, SemaphorePair}
@@ -33,11 +31,12 @@ use Rattle.ec_script.specs.Grammar.{Leads}
 use Rattle.ec_script.specs.Kinds.{phrase_fault, or_nothing}
 use Rattle.ec_script.specs.Layout.{commands_in}
 use Rattle.ec_script.specs.Objects.{object_in}
-use Rattle.ec_script.specs.BlockItems.{size_in, event_item, cell_item, buffer_item, database_item, semaphore_item, command_in}
+use Rattle.ec_script.specs.BlockItems.{size_in, event_item, database_item, semaphore_item, command_in}
 use Rattle.ec_script.specs.Reading.{context_of_script, with_worker_block, block_with_item, after_command, with_block_end, after_verb, after, fault_or, after_phrase, map_heading, is_declaring, opens_outer, script_step, stage_of_version, after_limit, limit_digits, limit_or, limit_step, script_of, stage_of_heading, step}
 use Rattle.ec_script.specs.ScriptModel.{ScriptModel}
 use Rattle.ec_script.specs.Verbs.{is_update}
 use Rattle.ec_script.proofs.Passing.{read_back}
+use Rattle.ec_script.proofs.shared.Keeping.{unfaulted}
 use Rattle.ec_script.proofs.Said.{IsStep}
 
 -- ONE MORE LINE
@@ -109,14 +108,6 @@ event_steps verbs.Advance e a = tt
 event_steps verbs.Read e a = tt
 event_steps _ e a = tt
 
-cell_steps : (update : Bool) (x : ℕ) (a : amounts.Value) → IsStep (cell_item update x a)
-cell_steps true x a = tt
-cell_steps false x a = tt
-
-buffer_steps : (update : Bool) (b : Buffer) (a : amounts.Value) → IsStep (buffer_item update b a)
-buffer_steps true b a = tt
-buffer_steps false b a = tt
-
 database_steps : (v : LineWord) (d : Database) (ws : List (List ℕ)) → IfSome (database_item v d ws) IsStep
 database_steps verbs.Write d ws = tt
 database_steps verbs.Snapshot d ws = tt
@@ -129,9 +120,11 @@ semaphore_steps _ s = tt
 command_steps : (v : LineWord) (update : Bool) (o : Object) (ws : List (List ℕ)) → IfSome (command_in v update o ws) IsStep
 command_steps v update (Event e) ws = event_steps v e _
 command_steps v update (Sequencer q) ws = tt
-command_steps v update (Cell x) ws = cell_steps update x _
+command_steps v true (Cell x) ws = tt
+command_steps v false (Cell x) ws = tt
 command_steps v update (Handed e b) ws = tt
-command_steps v update (OfBuffer b) ws = buffer_steps update b _
+command_steps v true (OfBuffer b) ws = tt
+command_steps v false (OfBuffer b) ws = tt
 command_steps v update (OfDatabase d) ws = database_steps v d ws
 command_steps v update (OfSemaphore s) ws = semaphore_steps v s
 command_steps v update (SemaphorePair common one other) ws = tt
@@ -175,14 +168,10 @@ after_counts s verbs.Repeat o ws counts = ordered_counts s (Begin (size_in ws)) 
 after_counts s verbs.End o ws counts = ended_counts s s.block refl counts
 after_counts s v o ws counts = commanded_counts s (command_in v (is_update v) o ws) counts (command_steps v (is_update v) o ws)
 
-pub unfaulted : (o : Option Kind) (s t : ScriptModel) → fault_or o s ≡ Ok t → s ≡ t
-unfaulted None s t is = cc
-unfaulted (Some k) s t is = cc
-
 phrased_counts : (s t : ScriptModel) (o : Option Phrase) → BlockCounts s.block → after_phrase s o ≡ Ok t → BlockCounts t.block
 phrased_counts s t None counts is = cc
 phrased_counts s t (Some p) counts is =
-    subst (λ (x : ScriptModel). BlockCounts x.block) (unfaulted (phrase_fault (context_of_script s) p (object_in s.heading p)) (after s p) t is) (after_counts s p.verb (or_nothing (object_in s.heading p)) p.rest counts)
+    subst (λ (x : ScriptModel). BlockCounts x.block) (unfaulted (phrase_fault (context_of_script s) p (object_in s.heading p)) (after s p) t is).1 (after_counts s p.verb (or_nothing (object_in s.heading p)) p.rest counts)
 
 headed_counts : (s t : ScriptModel) (r : Result HeadingModel HeadFault) → BlockCounts s.block → map_heading s r ≡ Ok t → BlockCounts t.block
 headed_counts s t (Ok h) counts is = (let same : record s { heading = h } ≡ t = cc in subst (λ (x : ScriptModel). BlockCounts x.block) same counts)

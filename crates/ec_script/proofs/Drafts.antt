@@ -13,7 +13,6 @@ use Rattle.ec_machine.specs.declared.command.Command.TheVariants.{Repeat, WriteA
 use Rattle.ec_machine.specs.declared.command.Command.TheOpen as layer
 use Rattle.ec_machine.specs.declared.command.Command.TheFolds.{fold-roll-Command}
 use Rattle.ec_machine.specs.Limits.{is_sound, is_sound_one, sound_step, is_value, nesting, nesting_one, nesting_step, count, count_one, count_step}
-use Rattle.ec_machine.specs.Programs.{IsProgram}
 use Rattle.ec_script.specs.declared.block_item.BlockItem.{BlockItem}
 use Rattle.ec_script.specs.declared.block_item.BlockItem.TheVariants.{Do, Write, Begin, End}
 use Rattle.ec_script.specs.declared.draft.OpenRepeat.{OpenRepeat}

@@ -30,16 +30,14 @@ use Rattle.ec_script.specs.declared.object.Object.TheVariants.{Event, Sequencer,
 use Rattle.ec_script.specs.declared.block_item.BlockItem.{BlockItem}
 use Rattle.ec_script.specs.declared.block_item.BlockItem.TheVariants.{Do, Write, Begin, End}
 use Rattle.ec_script.specs.Verbs.{has_verb, tail_of, is_update, is_outer}
-use Rattle.ec_script.specs.Forms.{more_in, last_plus, number_or_more, value_of, only_in, is_tail}
+use Rattle.ec_script.specs.Forms.{more_in, last_plus, number_or_more, value_of, only_in, is_tail, Worded}
 use Rattle.ec_script.specs.Objects.{object_for, group_in, buffer_in, database_in, semaphore_in, semaphore_pair, transfer_object, is_owned}
 use Rattle.ec_heading.specs.Groups.{both_of}
 use Rattle.ec_script.specs.Kinds.{is_no_value, is_bad_tail, has_two_roles, has_right}
 use Rattle.ec_script.specs.BlockItems.{amount_of, amount_in, size_in}
-use Rattle.ec_script.specs.Versioned.{has_command}
-use Rattle.ec_script.specs.Confined.{UsesGroups, AreApart}
+use Rattle.ec_script.specs.Confined.{UsesGroups, AreApart, has_command}
 use Rattle.ec_script.specs.Layout.{item_by, IsLineOfItem}
 use Rattle.ec_script.specs.Given.{may_do, is_line_of, IsGiven}
-use Rattle.ec_script.specs.Phrased.{Worded}
 use Rattle.ec_script.proofs.PhraseWords.{worded}
 use Rattle.ec_script.proofs.Said.{IsCommand}
 use Rattle.ec_script.proofs.Sizes.{count_range, size_sound, as_many}

@@ -6,7 +6,6 @@ use Rattle.std.specs.List.{Any, Contains, list_any}
 use Rattle.std.specs.Option.{option_map_or}
 use Rattle.std.proofs.lemmas.Bool.{and_parts, ltb-true, lt-ltb, leb-true}
 use Rattle.std.proofs.lemmas.Bool.Decides.{Decides-like, Decides-or, Decides-and, Decides-at, Decides-ltb}
-use Rattle.std.proofs.lemmas.List.{length-replicate}
 use Rattle.ec_count.specs.Members.{is_member, has_repeat}
 use Rattle.ec_count.specs.Names.{find_name}
 use Rattle.ec_count.specs.Reserved.{is_name}

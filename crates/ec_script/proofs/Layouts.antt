@@ -29,7 +29,7 @@ use Rattle.ec_script.specs.ScriptModel.{ScriptModel, PlanModel}
 use Rattle.ec_script.specs.Reading.{map_heading, after_phrase, opens_outer, script_step, stage_of_version, after_limit, limit_digits, limit_or, limit_step, script_of, stage_of_heading, step}
 use Rattle.ec_script.specs.Outcome.{plan_in}
 use Rattle.ec_script.specs.Grammar.{Leads}
-use Rattle.ec_script.specs.Layout.{Block, items_of, workers_of, concat_rows, layout_lines, program_of, ScriptsAreLaidOut}
+use Rattle.ec_script.specs.Layout.{Block, items_of, workers_of, blocks_of_items, concat_rows, layout_lines, items_of_worker, ScriptsAreLaidOut}
 use Rattle.ec_script.proofs.Declaring.{HeadKeeps, Grows, first_keeps, head_grows}
 use Rattle.ec_script.proofs.Passing.{read_back}
 use Rattle.ec_script.proofs.Blocks.{state, set_all, planned, Closed, AreNoDeclarations, line_of, rests}
@@ -40,21 +40,21 @@ set_all_length : (bs : List Block) (ps : List (List BlockItem)) → length (set_
 set_all_length [] ps = refl
 set_all_length (b ∷ bs) ps = set_all_length bs (slice_set ps b.worker (items_of b.lines)) ∙ length-set ps b.worker (items_of b.lines)
 
-untouched : (bs : List Block) (ps : List (List BlockItem)) (w : ℕ) → is_member w (workers_of bs) ≡ false → get_or (set_all ps bs) w [] ≡ get_or ps w []
+untouched : (bs : List Block) (ps : List (List BlockItem)) (w : ℕ) → is_member w (workers_of (blocks_of_items bs)) ≡ false → get_or (set_all ps bs) w [] ≡ get_or ps w []
 untouched [] ps w none = refl
 untouched (b ∷ bs) ps w none =
-    let p = or_parts (eqb b.worker w) (is_member w (workers_of bs)) none in
+    let p = or_parts (eqb b.worker w) (is_member w (workers_of (blocks_of_items bs))) none in
     untouched bs (slice_set ps b.worker (items_of b.lines)) w p.1
     ∙ get_or-set_other ps b.worker w (items_of b.lines) [] (λ e. eqb-false b.worker w p.0 (sym e))
 
-program_is : (bs : List Block) (ps : List (List BlockItem)) (w : ℕ) → has_repeat (workers_of bs) ≡ false → w < length ps → get_or ps w [] ≡ [] → get_or (set_all ps bs) w [] ≡ program_of bs w
+program_is : (bs : List Block) (ps : List (List BlockItem)) (w : ℕ) → has_repeat (workers_of (blocks_of_items bs)) ≡ false → w < length ps → get_or ps w [] ≡ [] → get_or (set_all ps bs) w [] ≡ items_of_worker (blocks_of_items bs) w
 program_is [] ps w differ within none = none
 program_is (b ∷ bs) ps w differ within none =
-    let p = or_parts (is_member b.worker (workers_of bs)) (has_repeat (workers_of bs)) differ in
-    (elim (eqb b.worker w) as (λ t. eqb b.worker w ≡ t → get_or (set_all (slice_set ps b.worker (items_of b.lines)) bs) w [] ≡ cond t (items_of b.lines) (program_of bs w)) [
+    let p = or_parts (is_member b.worker (workers_of (blocks_of_items bs))) (has_repeat (workers_of (blocks_of_items bs))) differ in
+    (elim (eqb b.worker w) as (λ t. eqb b.worker w ≡ t → get_or (set_all (slice_set ps b.worker (items_of b.lines)) bs) w [] ≡ cond t (items_of b.lines) (items_of_worker (blocks_of_items bs) w)) [
       | true ↦ λ e.
           (let same : b.worker ≡ w = eqb-true b.worker w e in
-          untouched bs (slice_set ps b.worker (items_of b.lines)) w (ap (λ i. is_member i (workers_of bs)) (sym same) ∙ p.0)
+          untouched bs (slice_set ps b.worker (items_of b.lines)) w (ap (λ i. is_member i (workers_of (blocks_of_items bs))) (sym same) ∙ p.0)
           ∙ ap (λ i. get_or (slice_set ps i (items_of b.lines)) w []) same
           ∙ get_or-set_same ps w (items_of b.lines) [] within)
       | false ↦ λ e.
@@ -62,14 +62,14 @@ program_is (b ∷ bs) ps w differ within none =
           (get_or-set_other ps b.worker w (items_of b.lines) [] (λ same. eqb-false b.worker w e (sym same)) ∙ none)
     ]) refl
 
-pub programs_are : (bs : List Block) (n : ℕ) → has_repeat (workers_of bs) ≡ false → set_all (replicate n []) bs ≡ map (program_of bs) (range_with_len 0 n)
+pub programs_are : (bs : List Block) (n : ℕ) → has_repeat (workers_of (blocks_of_items bs)) ≡ false → set_all (replicate n []) bs ≡ map (items_of_worker (blocks_of_items bs)) (range_with_len 0 n)
 programs_are bs n differ =
     let none : List BlockItem = [] in
     let long : length (set_all (replicate n none) bs) ≡ n = set_all_length bs (replicate n none) ∙ length-replicate n none in
-    ext_get_or [] (set_all (replicate n none) bs) (map (program_of bs) (range_with_len 0 n)) (long ∙ sym (length-map-range_with_len (program_of bs) 0 n))
+    ext_get_or [] (set_all (replicate n none) bs) (map (items_of_worker (blocks_of_items bs)) (range_with_len 0 n)) (long ∙ sym (length-map-range_with_len (items_of_worker (blocks_of_items bs)) 0 n))
     (λ i within.
     program_is bs (replicate n none) i differ (omega (arith, within, long, length-replicate n none)) (get_or-replicate n i none [] (omega (arith, within, long)))
-    ∙ sym (get_or-map-range_with_len (program_of bs) 0 n i i [] (omega (arith, within, long)) (omega arith)))
+    ∙ sym (get_or-map-range_with_len (items_of_worker (blocks_of_items bs)) 0 n i i [] (omega (arith, within, long)) (omega arith)))
 
 -- THE FIRST LINES
 
@@ -239,7 +239,7 @@ laid_out bytes p is =
     let c : Closed (heading_of_tree g.outline) g.outline.workers [] (replicate (heading_of_tree g.outline).setup.workers none) [] g.rest p =
     rests (heading_of_tree g.outline) g.outline.workers heads p is.stage g.rest [] (replicate (heading_of_tree g.outline).setup.workers none) None [] (omega arith) g.behind g.leads is.plan in
     let all : is.lines ≡ layout_lines (record { outline = g.outline; blocks = c.blocks; rows = c.rows }) = g.are ∙ ap (λ (ls : List (List ℕ)). script_header g.outline.version ∷ heading_lines g.outline ++ ls) c.are in
-    let programs : set_all (replicate (heading_of_tree g.outline).setup.workers none) c.blocks ≡ map (program_of c.blocks) (range_with_len 0 (length g.outline.workers)) =
+    let programs : set_all (replicate (heading_of_tree g.outline).setup.workers none) c.blocks ≡ map (items_of_worker (blocks_of_items c.blocks)) (range_with_len 0 (length g.outline.workers)) =
     ap (λ n. set_all (replicate n none) c.blocks) heads.count ∙ programs_are c.blocks (length g.outline.workers) c.differ in
     record {
       layout = record { outline = g.outline; blocks = c.blocks; rows = c.rows };

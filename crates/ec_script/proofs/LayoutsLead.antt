@@ -21,7 +21,6 @@ use Rattle.ec_heading.specs.Heading.{head_step, words_step, workers_in, opened_b
 use Rattle.ec_heading.specs.HeadingLaws.{LinesLead, outline_lines}
 use Rattle.ec_heading.specs.Lists.{worker_in, ids_in, has_unknown}
 use Rattle.ec_heading.specs.Spelling.{limit_line, heading_lines, list_words}
-use Rattle.ec_heading.specs.declared.heading.HeadFault.{HeadFault}
 use Rattle.ec_heading.specs.declared.heading.HeadFault.TheVariants as faults
 use Rattle.ec_heading.proofs.shared.Declarable.{Heads, heads_opened, heads_all}
 use Rattle.ec_heading.proofs.shared.LeadLines.{outline_leads}
@@ -38,7 +37,7 @@ use Rattle.ec_script.specs.declared.script.OpenBlock.{OpenBlock as Open}
 use Rattle.ec_script.specs.declared.stage.Stage.{Stage}
 use Rattle.ec_script.specs.declared.stage.Stage.TheVariants.{Opening, Limiting, Naming, Reading}
 use Rattle.ec_script.specs.Verbs.{parse_line_word, is_update, is_outer}
-use Rattle.ec_script.specs.Forms.{phrase_in}
+use Rattle.ec_script.specs.Forms.{phrase_in, verb_word}
 use Rattle.ec_script.specs.Objects.{object_for, owns, is_owned}
 use Rattle.ec_script.specs.Kinds.{or_nothing, is_allowed, is_named_again, has_unknown_name, is_too_many, is_badly_nested}
 use Rattle.ec_script.specs.BlockItems.{size_in, command_in}
@@ -46,11 +45,11 @@ use Rattle.ec_script.specs.DraftModel.{DraftModel, empty_draft, draft_with_item}
 use Rattle.ec_script.specs.ScriptModel.{ScriptModel, PlanModel}
 use Rattle.ec_script.specs.Reading.{view_of_block, context_of_script, after_verb, after_command, block_with_item, map_heading, after_phrase, opens_outer, script_step, limit_digits, limit_or, after_limit, limit_step, script_of, stage_of_heading, read_on, step}
 use Rattle.ec_script.specs.Grammar.{Leads, IsScript, IsLine}
-use Rattle.ec_script.specs.Layout.{item_by, IsLineOfItem, Block, IsBlock, texts_of, items_of, AreNested, commands_in, worker_line, block_lines, schedule_line, IsRow, concat_rows, workers_of, layout_lines, program_of, IsLaidOut}
+use Rattle.ec_script.specs.Layout.{item_by, IsLineOfItem, Block, IsBlock, texts_of, items_of, AreNested, commands_in, worker_line, block_lines, schedule_line, IsRow, concat_rows, workers_of, blocks_of_items, layout_lines, items_of_worker, IsLaidOut}
 use Rattle.ec_script.proofs.Declaring.{not_refused, HeadKeeps, Grows, first_keeps, head_grows}
-use Rattle.ec_script.specs.Phrased.{verb_word}
 use Rattle.ec_script.proofs.PhraseWords.{made, verb_back}
-use Rattle.ec_script.proofs.Passing.{Passes, taken_so}
+use Rattle.ec_script.proofs.Passing.{taken_so}
+use Rattle.ec_script.proofs.Room.{Passes}
 use Rattle.ec_script.proofs.Said.{IsCommand, IsStep, Ordered, ordered_of, MayNest}
 use Rattle.ec_script.proofs.shared.Keeping.{with_item_adds as orders_more}
 use Rattle.ec_script.proofs.Blocks.{state, set_all, planned, joins}
@@ -305,10 +304,10 @@ push_member : (w i : ℕ) (named : List ℕ) → is_member w named ≡ false →
 push_member w i [] is other = or_from _ _ other refl
 push_member w i (v ∷ named) is other = (let p = or_parts (eqb v w) (is_member w named) is in or_from _ _ p.0 (push_member w i named p.1 other))
 
-still_new : (i : ℕ) (named : List ℕ) (bs : List Block) → is_member i (workers_of bs) ≡ false → AllByRecursion (λ (b : Block). is_member b.worker named ≡ false) bs → AllByRecursion (λ (b : Block). is_member b.worker (named ++ i ∷ []) ≡ false) bs
+still_new : (i : ℕ) (named : List ℕ) (bs : List Block) → is_member i (workers_of (blocks_of_items bs)) ≡ false → AllByRecursion (λ (b : Block). is_member b.worker named ≡ false) bs → AllByRecursion (λ (b : Block). is_member b.worker (named ++ i ∷ []) ≡ false) bs
 still_new i named [] none all = tt
 still_new i named (b ∷ bs) none all =
-    let p = or_parts (eqb b.worker i) (is_member i (workers_of bs)) none in
+    let p = or_parts (eqb b.worker i) (is_member i (workers_of (blocks_of_items bs))) none in
     (push_member b.worker i named all.0 (ne_eqb i b.worker (λ e. eqb-false b.worker i p.0 (sym e))), still_new i named bs p.1 all.1)
 
 all_new : (bs : List Block) → AllByRecursion (λ (b : Block). is_member b.worker [] ≡ false) bs
@@ -316,11 +315,11 @@ all_new [] = tt
 all_new (b ∷ bs) = (refl, all_new bs)
 
 blocks_lead : (h : HeadingModel) (ws : List (List ℕ)) → Heads ws h → AreWorkers ws → (named : List ℕ) (ps : List (List BlockItem)) (bs : List Block) (rest : List (List ℕ)) (t : Stage)
-    → AllByRecursion (IsBlock h) bs → AllByRecursion (λ (b : Block). is_member b.worker named ≡ false) bs → has_repeat (workers_of bs) ≡ false
+    → AllByRecursion (IsBlock h) bs → AllByRecursion (λ (b : Block). is_member b.worker named ≡ false) bs → has_repeat (workers_of (blocks_of_items bs)) ≡ false
     → Leads (Reading (state h (named_all named bs) (set_all ps bs) None [])) rest t → Leads (Reading (state h named ps None [])) (flat_map (block_lines ws) bs ++ rest) t
 blocks_lead h ws heads are named ps [] rest t all new differ leads = leads
 blocks_lead h ws heads are named ps (b ∷ bs) rest t all new differ leads =
-    let p = or_parts (is_member b.worker (workers_of bs)) (has_repeat (workers_of bs)) differ in
+    let p = or_parts (is_member b.worker (workers_of (blocks_of_items bs))) (has_repeat (workers_of (blocks_of_items bs))) differ in
     let within : b.worker < length ws = omega (arith, all.0.worker, heads.count) in (
       Reading (state h (named ++ b.worker ∷ []) ps (Some (record { worker = b.worker; draft = empty_draft })) []),
       worker_leads h ws heads are named ps b.worker within new.0,
@@ -431,7 +430,7 @@ layout_leads bytes p is each =
     let none : List BlockItem = [] in
     let heads : Heads is.layout.outline.workers (heading_of_tree is.layout.outline) =
     heads_all is.layout.outline.workers (empty_heading is.layout.outline.version is.layout.outline.limit is.layout.outline.workers) is.layout.outline.declarations (heads_opened is.layout.outline.version is.layout.outline.limit is.layout.outline.workers) in
-    let programs : set_all (replicate (heading_of_tree is.layout.outline).setup.workers none) is.layout.blocks ≡ map (program_of is.layout.blocks) (range_with_len 0 (length is.layout.outline.workers)) =
+    let programs : set_all (replicate (heading_of_tree is.layout.outline).setup.workers none) is.layout.blocks ≡ map (items_of_worker (blocks_of_items is.layout.blocks)) (range_with_len 0 (length is.layout.outline.workers)) =
     ap (λ n. set_all (replicate n none) is.layout.blocks) heads.count ∙ programs_are is.layout.blocks (length is.layout.outline.workers) is.is.differ in
     record {
       lines = layout_lines is.layout;

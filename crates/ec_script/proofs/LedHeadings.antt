@@ -31,8 +31,7 @@ use Rattle.ec_script.specs.ScriptModel.{ScriptModel}
 use Rattle.ec_script.specs.Reading.{context_of_script, with_worker_block, block_with_item, after_command, with_block_end, after_verb, after, fault_or, after_phrase, map_heading, is_declaring, opens_outer, script_step, stage_of_version, after_limit, limit_digits, limit_or, limit_step, script_of, stage_of_heading, read_on, step}
 use Rattle.ec_script.specs.Grammar.{Leads}
 use Rattle.ec_script.specs.Pairs.{LinesLeadToHeadings}
-use Rattle.ec_script.proofs.Counting.{unfaulted}
-use Rattle.ec_script.proofs.shared.Keeping.{not_refused}
+use Rattle.ec_script.proofs.shared.Keeping.{not_refused, unfaulted}
 
 -- LINES THAT DECLARE NOTHING
 
@@ -67,7 +66,7 @@ phrased_same : (s t : ScriptModel) (o : Option Phrase) → after_phrase s o ≡ 
     → t.heading ≡ s.heading
 phrased_same s t None is = cc
 phrased_same s t (Some p) is =
-    let same : after s p ≡ t = unfaulted (phrase_fault (context_of_script s) p (object_in s.heading p)) (after s p) t is in
+    let same : after s p ≡ t = (unfaulted (phrase_fault (context_of_script s) p (object_in s.heading p)) (after s p) t is).1 in
     ap (λ (x : ScriptModel). x.heading) (sym same) ∙ after_same s p.verb (or_nothing (object_in s.heading p)) p.rest
 
 -- LINES

@@ -37,14 +37,13 @@ use Rattle.ec_script.specs.declared.object.Object.TheVariants.{Event, Sequencer,
 use Rattle.ec_script.specs.declared.block_item.BlockItem.{BlockItem}
 use Rattle.ec_script.specs.declared.block_item.BlockItem.TheVariants.{Do, Write, Begin, End}
 use Rattle.ec_script.specs.Verbs.{tail_of, has_object, is_outer}
-use Rattle.ec_script.specs.Forms.{more_in, last_plus, number_or_more, value_of, only_in, is_tail}
+use Rattle.ec_script.specs.Forms.{more_in, last_plus, number_or_more, value_of, only_in, is_tail, verb_word, behind_verb, Worded}
 use Rattle.ec_script.specs.Objects.{object_for, group_place, group_in, buffer_in, database_in, semaphore_in, semaphore_pair, transfer_object, owns}
 use Rattle.ec_heading.specs.Groups.{buffer_of, database_of, semaphore_of, both_of}
 use Rattle.ec_script.specs.Kinds.{is_no_value, cells_of, is_count, is_bad_tail}
 use Rattle.ec_script.specs.BlockItems.{amount_of, amount_in, size_in}
-use Rattle.ec_script.specs.Layout.{item_by, IsLineOfItem, Block, IsBlock, texts_of, items_of, worker_line, block_lines, schedule_line, Layout, IsLayout, layout_lines}
-use Rattle.ec_script.specs.Spelling.{value_word, group_word, command_words, item_words, item_line, spelled_block, script_lines, blocks_of_items, LinesAreSpelled, LayoutsAreSpelled}
-use Rattle.ec_script.specs.Phrased.{verb_word, behind_verb, Worded}
+use Rattle.ec_script.specs.Layout.{item_by, IsLineOfItem, Block, IsBlock, texts_of, items_of, worker_line, block_lines, schedule_line, Layout, IsLayout, layout_lines, blocks_of_items}
+use Rattle.ec_script.specs.Spelling.{value_word, group_word, command_words, item_words, item_line, spelled_block, script_lines, LinesAreSpelled, LayoutsAreSpelled}
 use Rattle.ec_script.proofs.PhraseWords.{worded}
 use Rattle.ec_script.proofs.Blocks.{line_of, no_words}
 use Rattle.ec_script.proofs.Said.{IsCommand}

@@ -6,14 +6,9 @@ use Rattle.std.specs.Option.{option_map_or, option_and_then}
 use Rattle.std.proofs.lemmas.Bool.{true≢false, and_parts, and_from, false_from_ne_true, leb-true, le-leb, ne_eqb}
 use Rattle.std.proofs.lemmas.Bool.Decides.{Decides-like, Decides-or, Decides-and, Decides-at, Decides-ltb, Decides-eqb}
 use Rattle.std.proofs.lemmas.Option.{same_Some}
-use Rattle.ec_core.specs.declared.act.TheConstants.{VALUE_MAX}
 use Rattle.ec_count.specs.Tables.{first_that}
 use Rattle.ec_database.specs.Shapes.{Database}
 use Rattle.ec_text.specs.Words.{number_in_word}
-use Rattle.ec_text.proofs.shared.NumberLemmas.{number_takes}
-use Rattle.ec_machine.specs.declared.command.Value.{Value}
-use Rattle.ec_machine.specs.declared.command.Value.TheVariants.{Number, Last, LastPlus}
-use Rattle.ec_machine.specs.Limits.{is_value}
 use Rattle.ec_heading.specs.declared.group.Group.{Group}
 use Rattle.ec_heading.specs.HeadingModel.{HeadingModel}
 use Rattle.ec_heading.specs.Lists.{worker_in, has_unknown}
@@ -29,7 +24,7 @@ use Rattle.ec_script.specs.declared.verb.LineWord.{LineWord}
 use Rattle.ec_script.specs.declared.verb.LineWord.TheVariants as verbs
 use Rattle.ec_script.specs.Forms.{Phrase, is_value_form, only_in, more_in, last_plus, number_or_more, value_of, is_tail}
 use Rattle.ec_script.specs.Holding.{About, IsBegun, IsNoValue, IsBadNumber, IsTooLong, IsMisplaced, OtherHas}
-use Rattle.ec_script.specs.Kinds.{is_no_value, cells_of, is_count, is_allowed, is_named_again, has_unknown_name, is_bad_tail, is_too_many, has_two_roles, has_right, lacks_right, is_badly_nested, or_nothing, phrase_fault}
+use Rattle.ec_script.specs.Kinds.{is_no_value, cells_of, is_count, is_allowed, is_named_again, has_unknown_name, is_bad_tail, is_too_many, has_two_roles, has_right, lacks_right, is_badly_nested, or_nothing, phrase_tests, phrase_fault}
 use Rattle.ec_script.specs.Objects.{object_for, object_in, database_in, owns, is_owned}
 use Rattle.ec_script.specs.Reading.{view_of_block, context_of_script}
 use Rattle.ec_script.specs.ScriptModel.{ScriptModel}
@@ -211,14 +206,5 @@ other_decided s p kinds.BadNesting is tail = decides_block s.block (is_badly_nes
 other_decided s p _ is tail = never (λ t. t)
 
 -- if such a line is allowed, the first test that holds gives the fault
-pub other_least : (s : ScriptModel) (p : Phrase) → (has_verb s.heading.version p.verb && is_allowed p.verb (is_some (option_map view_of_block s.block)) (length s.schedule)) ≡ true → phrase_fault (context_of_script s) p (object_in s.heading p) ≡ first_that (
-    (is_named_again s.named (or_nothing (object_in s.heading p)), kinds.NameTaken)
-    ∷ (is_none (object_in s.heading p) || has_unknown_name s.heading p.verb p.rest, kinds.UnknownName)
-    ∷ (is_bad_tail (tail_of p.verb) p.verb p.rest (or_nothing (object_in s.heading p)), kinds.BadNumber)
-    ∷ (is_too_many p.verb p.rest (option_map view_of_block s.block) (length s.schedule), kinds.TooMany)
-    ∷ (is_owned s.heading.groups (or_nothing (object_in s.heading p)), kinds.Hidden)
-    ∷ (has_two_roles (or_nothing (object_in s.heading p)), kinds.TwoRoles)
-    ∷ (lacks_right s.heading (option_map view_of_block s.block) p.verb (or_nothing (object_in s.heading p)), kinds.NoRight)
-    ∷ (is_badly_nested p.verb (option_map view_of_block s.block), kinds.BadNesting)
-    ∷ [])
+pub other_least : (s : ScriptModel) (p : Phrase) → (has_verb s.heading.version p.verb && is_allowed p.verb (is_some (option_map view_of_block s.block)) (length s.schedule)) ≡ true → phrase_fault (context_of_script s) p (object_in s.heading p) ≡ first_that (phrase_tests (context_of_script s) p (object_in s.heading p))
 other_least s p allowed = rw allowed refl

@@ -4,8 +4,7 @@ use Rattle.std.proofs.lemmas.Slice.Eq.{bytes_eq-Decides}
 use Rattle.ec_script.specs.declared.verb.LineWord.{LineWord}
 use Rattle.ec_script.specs.declared.verb.LineWord.TheVariants as verbs
 use Rattle.ec_script.specs.Verbs.{raw_verb_of, procedure_verb_of, item_verb_of, or_else, parse_line_word, has_object, tail_of}
-use Rattle.ec_script.specs.Phrased.{verb_word, behind_verb, object_word, Worded}
-use Rattle.ec_script.specs.Forms.{Phrase, is_tail, tailed_in, objected_in, verbed_in, phrase_in}
+use Rattle.ec_script.specs.Forms.{Phrase, is_tail, tailed_in, objected_in, verbed_in, phrase_in, verb_word, behind_verb, object_word, Worded}
 
 -- THE FIRST WORD
 

@@ -38,12 +38,11 @@ use Rattle.ec_script.specs.declared.verb.LineWord.{LineWord}
 use Rattle.ec_script.specs.declared.verb.LineWord.TheVariants as verbs
 use Rattle.ec_script.specs.Endings.{FaultlessLinesAreAccepted}
 use Rattle.ec_script.specs.Faults.{kind_number, kind_of_head}
-use Rattle.ec_script.specs.Forms.{Phrase, phrase_in}
+use Rattle.ec_script.specs.Forms.{Phrase, phrase_in, Worded}
 use Rattle.ec_script.specs.Grammar.{Leads}
 use Rattle.ec_script.specs.Holding.{LimitHas, WorkersHave, DeclarationHas, OtherHas, OfForm, OfEither, HasKind, LeastKindWins}
 use Rattle.ec_script.specs.Kinds.{is_allowed, phrase_fault}
 use Rattle.ec_script.specs.Objects.{object_in}
-use Rattle.ec_script.specs.Phrased.{Worded}
 use Rattle.ec_script.specs.Placed.{IsOfWords, IsLimitLine, IsWorkersLine, IsDeclaration, MayOccur, IsOther}
 use Rattle.ec_script.specs.Reading.{view_of_block, context_of_script, after, fault_or, after_phrase, map_heading, is_declaring, opens_outer, script_step, stage_of_version, after_limit, limit_digits, limit_or, limit_step, stage_of_heading, read_on, step}
 use Rattle.ec_script.specs.ScriptModel.{ScriptModel}

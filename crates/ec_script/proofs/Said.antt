@@ -24,7 +24,7 @@ use Rattle.ec_script.specs.BlockItems.{command_in}
 use Rattle.ec_script.specs.DraftModel.{DraftModel, draft_with_item}
 use Rattle.ec_script.specs.Layout.{item_by, IsLineOfItem, AreNested, commands_in}
 use Rattle.ec_script.proofs.PhraseWords.{made}
-use Rattle.ec_script.proofs.Passing.{Passes}
+use Rattle.ec_script.proofs.Room.{Passes}
 
 -- THE ITEM OF A COMMAND
 

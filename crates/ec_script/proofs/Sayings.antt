@@ -43,17 +43,15 @@ use Rattle.ec_script.specs.declared.object.Object.TheVariants.{Nothing, Event, S
 use Rattle.ec_script.specs.declared.block_item.BlockItem.{BlockItem}
 use Rattle.ec_script.specs.declared.block_item.BlockItem.TheVariants.{Do, Write, Begin, End}
 use Rattle.ec_script.specs.Verbs.{has_verb, tail_of, has_object, is_update, is_outer}
-use Rattle.ec_script.specs.Forms.{more_in, last_plus, number_or_more, value_of, is_value_form, is_tail, objected_in, tailed_in, verbed_in, phrase_in}
+use Rattle.ec_script.specs.Forms.{more_in, last_plus, number_or_more, value_of, is_value_form, is_tail, objected_in, tailed_in, verbed_in, phrase_in, verb_word}
 use Rattle.ec_script.specs.Objects.{object_for, buffer_in, database_in, semaphore_in, semaphore_pair, transfer_object, is_owned}
 use Rattle.ec_heading.specs.Groups.{buffer_of, database_of, semaphore_of}
 use Rattle.ec_script.specs.Kinds.{is_no_value, is_count, is_bad_tail, has_two_roles, may_signal, are_declared, has_right}
 use Rattle.ec_script.specs.BlockItems.{amount_of}
-use Rattle.ec_script.specs.Versioned.{has_command}
-use Rattle.ec_script.specs.Confined.{UsesGroups}
+use Rattle.ec_script.specs.Confined.{UsesGroups, has_command}
 use Rattle.ec_script.specs.Layout.{item_by, IsLineOfItem}
 use Rattle.ec_script.specs.Spelling.{value_word, group_word, command_words, item_words, item_line}
 use Rattle.ec_script.specs.Given.{may_do, is_line_of, IsGiven, MayGive, LinesMeanItems}
-use Rattle.ec_script.specs.Phrased.{verb_word}
 use Rattle.ec_script.proofs.PhraseWords.{made, verb_again}
 use Rattle.ec_script.proofs.LayoutsLead.{fit_line, none_owned}
 use Rattle.ec_script.proofs.OrderLines.{line_spelled}

@@ -1,6 +1,6 @@
 -- A text is a script exactly if it is the canonical encoding of a header, blocks and a schedule.
-use Rattle.std.proofs.Common.{◌≡◌, ◌==◌, ℕ, ◌≤◌, List, [], ◌∷◌, length, map, true, cond, refl, sym, ap, ap₂, ◌∙◌, subst}
-use Rattle.std.specs.List.{AllByRecursion, range_with_len}
+use Rattle.std.proofs.Common.{◌≡◌, ℕ, ◌≤◌, List, [], ◌∷◌, map, true, refl, sym, ap, ap₂, ◌∙◌, subst}
+use Rattle.std.specs.List.{AllByRecursion}
 use Rattle.ec_count.specs.Members.{has_repeat}
 use Rattle.ec_heading.specs.HeadingModel.{HeadingModel}
 use Rattle.ec_heading.specs.HeaderTree.{HeaderTree, IsHeaderTree, heading_of_tree}
@@ -8,32 +8,14 @@ use Rattle.ec_script.specs.declared.block_item.BlockItem.{BlockItem}
 use Rattle.ec_script.specs.ScriptModel.{PlanModel}
 use Rattle.ec_script.specs.Grammar.{IsScript, IsLine}
 use Rattle.ec_heading.specs.Spelling.{lines_text}
-use Rattle.ec_script.specs.Layout.{IsLineOfItem, Block, IsBlock, items_of, workers_of, concat_rows, AreNested, commands_in, IsLayout, layout_lines, program_of, plan_of, IsLaidOut, LayoutsAreScripts, Layout}
-use Rattle.ec_script.specs.Spelling.{item_line, script_lines, blocks_of_items}
-use Rattle.ec_script.specs.Given.{MayGive}
-use Rattle.ec_script.specs.ScriptTree.{IsGivenBlock, their_workers, items_of_worker, plan_of_tree, IsSpelling, ScriptsAreSpelled, ScriptTree, IsScriptTree}
+use Rattle.ec_script.specs.Layout.{IsLineOfItem, Block, IsBlock, items_of, workers_of, AreNested, commands_in, IsLayout, layout_lines, plan_of_tree, tree_of, blocks_of_items, IsLaidOut, LayoutsAreScripts, Layout, ScriptTree}
+use Rattle.ec_script.specs.Spelling.{item_line, script_lines}
+use Rattle.ec_script.specs.Given.{MayGive, IsGivenBlock, IsSpelling, ScriptsAreSpelled, IsScriptTree}
 use Rattle.ec_script.proofs.Layouts.{laid_out}
 use Rattle.ec_script.proofs.LayoutsLead.{layout_leads}
 use Rattle.ec_script.proofs.Cleans.{spelled_lines}
 use Rattle.ec_script.proofs.OrderLines.{layout_lines_are}
 use Rattle.ec_script.proofs.Sayings.{lines_say}
-
--- BLOCKS BY THEIR ITEMS
-
-same_workers : (blocks : List Block) → workers_of blocks ≡ their_workers (blocks_of_items blocks)
-same_workers [] = refl
-same_workers (b ∷ blocks) = ap (λ (ws : List ℕ). b.worker ∷ ws) (same_workers blocks)
-
-same_program : (blocks : List Block) (w : ℕ) → program_of blocks w ≡ items_of_worker (blocks_of_items blocks) w
-same_program [] w = refl
-same_program (b ∷ blocks) w = ap (λ os. cond (b.worker == w) (items_of b.lines) os) (same_program blocks w)
-
-same_programs : (blocks : List Block) (ws : List ℕ) → map (program_of blocks) ws ≡ map (items_of_worker (blocks_of_items blocks)) ws
-same_programs blocks [] = refl
-same_programs blocks (w ∷ ws) = ap₂ (λ (os : List BlockItem) (more : List (List BlockItem)). os ∷ more) (same_program blocks w) (same_programs blocks ws)
-
-same_plan : (o : HeaderTree) (blocks : List Block) (rows : List (List ℕ)) → plan_of (record { outline = o; blocks = blocks; rows = rows }) ≡ plan_of_tree (record { outline = o; blocks = blocks_of_items blocks; rows = rows })
-same_plan o blocks rows = ap (λ (ps : List (List BlockItem)). let q : PlanModel = record { heading = heading_of_tree o; programs = ps; schedule = concat_rows rows } in q) (same_programs blocks (range_with_len 0 (length o.workers)))
 
 -- WHAT LINES SAY IS ALLOWED
 
@@ -49,14 +31,11 @@ blocks_given o is (b ∷ blocks) all = (
 )
 
 -- what a layout says
-abbrev spelled_of : Layout → ScriptTree
-spelled_of l = record { outline = l.outline; blocks = blocks_of_items l.blocks; rows = l.rows }
-
-is_spelled : (l : Layout) → IsLayout l → IsScriptTree (spelled_of l)
+is_spelled : (l : Layout) → IsLayout l → IsScriptTree (tree_of l)
 is_spelled l is = record {
   heading = is.heading;
   blocks = blocks_given l.outline is.heading l.blocks is.blocks;
-  differ = ap has_repeat (sym (same_workers l.blocks)) ∙ is.differ;
+  differ = is.differ;
   rows = is.rows;
   few = is.few;
 }
@@ -65,16 +44,16 @@ spells : (bytes : List ℕ) (p : PlanModel) → IsScript bytes p → IsSpelling 
 spells bytes p script =
     let d : IsLaidOut bytes p = laid_out bytes p script in
     record {
-      spelled = spelled_of d.layout;
+      spelled = tree_of d.layout;
       is = is_spelled d.layout d.is;
       text = d.text ∙ ap lines_text (layout_lines_are d.layout d.is);
       within = d.within;
-      plan = d.plan ∙ same_plan d.layout.outline d.layout.blocks d.layout.rows;
+      plan = d.plan;
     }
 
 -- its lines have no LF
 pub is_script : LayoutsAreScripts
-is_script bytes p d = layout_leads bytes p d (subst (AllByRecursion IsLine) (sym (layout_lines_are d.layout d.is)) (spelled_lines (spelled_of d.layout) (is_spelled d.layout d.is)))
+is_script bytes p d = layout_leads bytes p d (subst (AllByRecursion IsLine) (sym (layout_lines_are d.layout d.is)) (spelled_lines (tree_of d.layout) (is_spelled d.layout d.is)))
 
 -- WHAT IS ALLOWED IS SAID BY LINES
 
@@ -117,7 +96,7 @@ spelled_is_script bytes p s =
     let is : IsLayout (record { outline = s.spelled.outline; blocks = lined_blocks (heading_of_tree s.spelled.outline) s.spelled.blocks; rows = s.spelled.rows }) = record {
       heading = s.is.heading;
       blocks = blocks_said s.spelled.outline s.is.heading s.spelled.blocks s.is.blocks;
-      differ = ap has_repeat (same_workers (lined_blocks (heading_of_tree s.spelled.outline) s.spelled.blocks) ∙ ap their_workers again) ∙ s.is.differ;
+      differ = ap (λ bs. has_repeat (workers_of bs)) again ∙ s.is.differ;
       rows = s.is.rows;
       few = s.is.few;
     } in
@@ -128,9 +107,7 @@ spelled_is_script bytes p s =
       is = is;
       text = s.text ∙ ap lines_text lines;
       within = s.within;
-      plan = s.plan
-          ∙ sym (same_plan s.spelled.outline (lined_blocks (heading_of_tree s.spelled.outline) s.spelled.blocks) s.spelled.rows
-          ∙ ap (λ bs. plan_of_tree (record { outline = s.spelled.outline; blocks = bs; rows = s.spelled.rows })) again);
+      plan = s.plan ∙ sym (ap (λ bs. plan_of_tree (record { outline = s.spelled.outline; blocks = bs; rows = s.spelled.rows })) again);
     })
 
 pub scripts_spelled : ScriptsAreSpelled

@@ -1,6 +1,5 @@
 -- The words of a line: there is one at least.
 use Rattle.std.proofs.Common.{◌≡◌, ℕ, ◌≤◌, List, [], ◌∷◌, length, None, Bool, true, false, cond, eqb, refl, arith}
-use Rattle.std.specs.List.{onto_first}
 use Rattle.ec_text.specs.Words.{words_of}
 use Rattle.ec_script.specs.Forms.{only_in}
 use Rattle.ec_script.specs.Reading.{limit_digits}

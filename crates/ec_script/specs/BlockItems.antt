@@ -1,8 +1,7 @@
 -- The command of a line of a block.
-use Rattle.std.specs.Prelude.{◌≡◌, ℕ, ◌==◌, Bool, true, false, List, [], length, map, Option, Some, None, unwrap_or}
+use Rattle.std.specs.Prelude.{◌≡◌, ℕ, ◌==◌, Bool, true, List, [], length, map, Option, Some, None, unwrap_or, if◌then◌else◌}
 use Rattle.std.specs.Option.{option_and_then}
 use Rattle.std.specs.List.{list_all}
-use Rattle.ec_buffer.specs.Shapes.{Buffer}
 use Rattle.ec_database.specs.Shapes.{Database}
 use Rattle.ec_semaphore.specs.Shapes.{Semaphore}
 use Rattle.ec_text.specs.Words.{number_in_word}
@@ -37,14 +36,6 @@ event_item verbs.Advance e v = Do (commands.Advance e)
 event_item verbs.Read e v = Do (commands.Read e)
 event_item _ e v = Do (commands.Await e v)
 
-abbrev pub cell_item : Bool → ℕ → amounts.Value → BlockItem
-cell_item true x v = Do (commands.Put x v)
-cell_item false x v = Do (commands.Get x)
-
-abbrev pub buffer_item : Bool → Buffer → amounts.Value → BlockItem
-buffer_item true b v = Do (commands.Produce b v)
-buffer_item false b v = Do (commands.Consume b)
-
 abbrev pub database_item : LineWord → Database → List (List ℕ) → Option BlockItem
 database_item verbs.Write d ws = Some (Write d (map amount_of ws))
 database_item verbs.Snapshot d ws = Some (Do (commands.Snapshot d (size_in ws)))
@@ -59,9 +50,9 @@ semaphore_item _ s = Do (commands.Up s)
 abbrev pub command_in : LineWord → Bool → Object → List (List ℕ) → Option BlockItem
 command_in v update (Event e) ws = Some (event_item v e (amount_in ws))
 command_in v update (Sequencer q) ws = Some (Do (commands.Ticket q))
-command_in v update (Cell x) ws = Some (cell_item update x (amount_in ws))
+command_in v update (Cell x) ws = Some (if update then Do (commands.Put x (amount_in ws)) else Do (commands.Get x))
 command_in v update (Handed e b) ws = Some (Do (commands.Hand e b))
-command_in v update (OfBuffer b) ws = Some (buffer_item update b (amount_in ws))
+command_in v update (OfBuffer b) ws = Some (if update then Do (commands.Produce b (amount_in ws)) else Do (commands.Consume b))
 command_in v update (OfDatabase d) ws = database_item v d ws
 command_in v update (OfSemaphore s) ws = Some (semaphore_item v s)
 command_in v update (SemaphorePair common one other) ws = Some (Do (commands.DownBoth common one other))

@@ -1,11 +1,14 @@
--- Which commands use the objects of groups only by the groups' own procedures.
-use Rattle.std.specs.Prelude.{◌≡◌, ◌≢◌, ℕ, ◌<◌, ◌≤◌, true, false, List, length, map, Some, Ok}
+-- Which commands scripts of a version have, and which use the objects of groups only by the groups'
+-- own procedures.
+use Rattle.std.specs.Prelude.{◌≡◌, ◌≢◌, ℕ, ◌<◌, ◌≤◌, Bool, true, false, List, length, map, Some, Ok}
 use Rattle.std.specs.List.{AllByRecursion, Contains}
 use Rattle.ec_machine.specs.declared.command.Command.{Command}
 use Rattle.ec_machine.specs.declared.command.Command.TheViews.{out-Command}
 use Rattle.ec_machine.specs.declared.command.Command.TheOpen.{Command-F}
 use Rattle.ec_machine.specs.declared.command.Command.TheOpen as layer
 use Rattle.ec_machine.specs.Unrolled.{unroll}
+use Rattle.ec_heading.specs.declared.version.Version.{Version}
+use Rattle.ec_heading.specs.Versions.{has_transfer}
 use Rattle.ec_heading.specs.declared.group.Group.{Group}
 use Rattle.ec_heading.specs.declared.group.Group.TheVariants as groups
 use Rattle.ec_script.specs.declared.object.Object.{Object}
@@ -14,10 +17,37 @@ use Rattle.ec_script.specs.declared.block_item.BlockItem.{BlockItem}
 use Rattle.ec_script.specs.declared.block_item.BlockItem.TheVariants.{Do, Write, Begin, End}
 use Rattle.ec_script.specs.Objects.{owns, is_owned}
 use Rattle.ec_heading.specs.Groups.{both_of}
-use Rattle.ec_script.specs.Versioned.{HasItems}
 use Rattle.ec_script.specs.Flat.{flat}
 use Rattle.ec_script.specs.ScriptModel.{PlanModel}
 use Rattle.ec_script.specs.Outcome.{parse_result}
+
+-- OF A VERSION
+
+-- whether scripts of the version have the command
+abbrev pub has_command : Version → Command-F Command → Bool
+has_command v (layer.Hand e b) = has_transfer v
+has_command v _ = true
+
+-- by their lines
+abbrev pub has_item : Version → BlockItem → Bool
+has_item v (Do c) = has_command v (out-Command c)
+has_item v (Write d vs) = true
+has_item v (Begin n) = true
+has_item v End = true
+
+abbrev pub HasItem : Version → BlockItem → Type 0
+HasItem v o = has_item v o ≡ true
+
+-- each line of each program
+abbrev pub HasItems : Version → List (List BlockItem) → Type 0
+HasItems v programs = AllByRecursion (AllByRecursion (HasItem v)) programs
+
+-- each command of a program with its repeats unrolled
+abbrev pub HasProgram : Version → List Command → Type 0
+HasProgram v cs = AllByRecursion (λ c. has_command v (out-Command c) ≡ true) (unroll cs)
+
+abbrev pub HasPrograms : Version → List (List Command) → Type 0
+HasPrograms v programs = AllByRecursion (HasProgram v) programs
 
 -- ONE COMMAND
 

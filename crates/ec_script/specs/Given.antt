@@ -1,6 +1,7 @@
--- Which items a script may give to a worker, by what they say.
-use Rattle.std.specs.Prelude.{◌≡◌, ◌↔◌, ℕ, ◌≤◌, ◌==◌, ◌&&◌, Bool, true, false, nat_le, List, length}
-use Rattle.std.specs.List.{list_all, Contains}
+-- Which items a script may give to a worker, by what they say, and which syntax trees are those of
+-- scripts.
+use Rattle.std.specs.Prelude.{◌≡◌, ◌↔◌, ℕ, ◌≤◌, ◌==◌, ◌&&◌, Bool, true, false, nat_le, List, length, ◌<◌}
+use Rattle.std.specs.List.{list_all, Contains, AllByRecursion}
 use Rattle.ec_count.specs.Tables.{Tables, may_observe, may_take, may_write, may_read}
 use Rattle.ec_machine.specs.declared.command.Command.{Command}
 use Rattle.ec_machine.specs.declared.command.Command.TheViews.{out-Command}
@@ -14,10 +15,13 @@ use Rattle.ec_heading.specs.HeaderTree.{HeaderTree, IsHeaderTree, heading_of_tre
 use Rattle.ec_script.specs.declared.block_item.BlockItem.{BlockItem}
 use Rattle.ec_script.specs.declared.block_item.BlockItem.TheVariants.{Do, Write, Begin, End}
 use Rattle.ec_script.specs.Kinds.{may_signal, are_declared}
-use Rattle.ec_script.specs.Versioned.{has_command}
-use Rattle.ec_script.specs.Confined.{UsesGroups}
-use Rattle.ec_script.specs.Layout.{IsLineOfItem}
-use Rattle.ec_script.specs.Spelling.{item_line}
+use Rattle.ec_script.specs.Confined.{UsesGroups, has_command}
+use Rattle.ec_script.specs.Layout.{IsLineOfItem, AreNested, commands_in, IsRow, concat_rows, ScriptTree, workers_of, plan_of_tree}
+use Rattle.ec_script.specs.Spelling.{item_line, script_text}
+use Rattle.ec_count.specs.Members.{has_repeat}
+use Rattle.ec_script.specs.declared.parsing.TheConstants.{SCRIPT_MAX}
+use Rattle.ec_script.specs.ScriptModel.{PlanModel}
+use Rattle.ec_script.specs.Grammar.{IsScript}
 
 -- whether a script of the version may have the worker do this, by the rights of its declarations
 abbrev pub may_do : Version → Tables → ℕ → Command-F Command → Bool
@@ -67,3 +71,34 @@ MayGive h w o = IsGiven h w o × (length (item_line h o) ≤ 8192)
 -- a line says an item exactly if it is the canonical encoding of the item, and the item is allowed
 abbrev pub LinesMeanItems : Type 0
 LinesMeanItems = (o : HeaderTree) (w : ℕ) (line : List ℕ) (item : BlockItem) → IsHeaderTree o → IsLineOfItem (heading_of_tree o) w line item ↔ ((line ≡ item_line (heading_of_tree o) item) × MayGive (heading_of_tree o) w item)
+
+-- WHOLE SCRIPTS
+
+-- the block of a declared worker: each item is allowed to it, the repeats are properly nested, and
+-- there are at most 4096 commands
+pub record IsGivenBlock (h : HeadingModel) (b : ℕ × List BlockItem) : Type 0 where
+  pub worker : b.0 < h.setup.workers
+  pub each : AllByRecursion (MayGive h b.0) b.1
+  pub nested : AreNested 0 true b.1
+  pub few : commands_in b.1 ≤ 4096
+
+-- no worker has two blocks, and the schedule has at most 65536 names
+pub record IsScriptTree (s : ScriptTree) : Type 0 where
+  pub heading : IsHeaderTree s.outline
+  pub blocks : AllByRecursion (IsGivenBlock (heading_of_tree s.outline)) s.blocks
+  pub differ : has_repeat (workers_of s.blocks) ≡ false
+  pub rows : AllByRecursion (IsRow s.outline.workers) s.rows
+  pub few : length (concat_rows s.rows) ≤ 65536
+
+-- the bytes are the canonical encoding of a syntax tree, and the plan is what it says
+pub record IsSpelling (bytes : List ℕ) (p : PlanModel) : Type 0 where
+  pub spelled : ScriptTree
+  pub is : IsScriptTree spelled
+  pub text : bytes ≡ script_text spelled.outline spelled.blocks spelled.rows
+  pub within : length bytes ≤ SCRIPT_MAX
+  pub plan : p ≡ plan_of_tree spelled
+
+-- a text is a script of a plan exactly if it is the canonical encoding of a syntax tree of that
+-- plan
+abbrev pub ScriptsAreSpelled : Type 0
+ScriptsAreSpelled = (bytes : List ℕ) (p : PlanModel) → IsScript bytes p ↔ IsSpelling bytes p

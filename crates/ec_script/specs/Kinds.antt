@@ -147,11 +147,10 @@ is_badly_nested v (Some n) = false
 abbrev pub or_nothing : Option Object → Object
 or_nothing o = unwrap_or o Nothing
 
--- the least fault of a line of one of the forms, which has this object
-abbrev pub phrase_fault : LineContextModel → Phrase → Option Object → Option Kind
-phrase_fault s p o = first_that (
-    (not (has_verb s.heading.version p.verb && is_allowed p.verb (is_some s.block) s.scheduled), kinds.BadLine)
-    ∷ (is_named_again s.named (or_nothing o), kinds.NameTaken)
+-- the tests of a line that is allowed here, in the order of their kinds
+abbrev pub phrase_tests : LineContextModel → Phrase → Option Object → List (Bool × Kind)
+phrase_tests s p o =
+    (is_named_again s.named (or_nothing o), kinds.NameTaken)
     ∷ (is_none o || has_unknown_name s.heading p.verb p.rest, kinds.UnknownName)
     ∷ (is_bad_tail (tail_of p.verb) p.verb p.rest (or_nothing o), kinds.BadNumber)
     ∷ (is_too_many p.verb p.rest s.block s.scheduled, kinds.TooMany)
@@ -159,4 +158,8 @@ phrase_fault s p o = first_that (
     ∷ (has_two_roles (or_nothing o), kinds.TwoRoles)
     ∷ (lacks_right s.heading s.block p.verb (or_nothing o), kinds.NoRight)
     ∷ (is_badly_nested p.verb s.block, kinds.BadNesting)
-    ∷ [])
+    ∷ []
+
+-- the least fault of a line of one of the forms, which has this object
+abbrev pub phrase_fault : LineContextModel → Phrase → Option Object → Option Kind
+phrase_fault s p o = first_that ((not (has_verb s.heading.version p.verb && is_allowed p.verb (is_some s.block) s.scheduled), kinds.BadLine) ∷ phrase_tests s p o)

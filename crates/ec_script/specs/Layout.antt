@@ -110,20 +110,45 @@ concat_rows rows = flat_map (λ (ids : List ℕ). ids) rows
 
 -- A WHOLE SCRIPT
 
--- the syntax tree of a header, blocks, and the workers of each line of the schedule
+-- the syntax tree of a script: a header, the items of each block, and the workers of each line of
+-- the schedule
+pub record ScriptTree : Type 0 where
+  pub outline : HeaderTree
+  pub blocks : List (ℕ × List BlockItem)
+  pub rows : List (List ℕ)
+
+abbrev pub workers_of : List (ℕ × List BlockItem) → List ℕ
+workers_of blocks = map (λ (b : ℕ × List BlockItem). b.0) blocks
+
+-- the items of a worker's block, none if it has no block
+abbrev pub items_of_worker : List (ℕ × List BlockItem) → ℕ → List BlockItem
+items_of_worker [] w = []
+items_of_worker (b ∷ blocks) w = if b.0 == w then b.1 else items_of_worker blocks w
+
+abbrev pub plan_of_tree : ScriptTree → PlanModel
+plan_of_tree s = record {
+  heading = heading_of_tree s.outline;
+  programs = map (items_of_worker s.blocks) (range_with_len 0 (length s.outline.workers));
+  schedule = concat_rows s.rows;
+}
+
+-- the same with the lines of the blocks
 pub record Layout : Type 0 where
   pub outline : HeaderTree
   pub blocks : List Block
   pub rows : List (List ℕ)
 
-abbrev pub workers_of : List Block → List ℕ
-workers_of blocks = map (λ (b : Block). b.worker) blocks
+abbrev pub blocks_of_items : List Block → List (ℕ × List BlockItem)
+blocks_of_items blocks = map (λ (b : Block). (b.worker, items_of b.lines)) blocks
+
+abbrev pub tree_of : Layout → ScriptTree
+tree_of l = record { outline = l.outline; blocks = blocks_of_items l.blocks; rows = l.rows }
 
 -- no worker has two blocks, and the schedule has at most 65536 names
 pub record IsLayout (l : Layout) : Type 0 where
   pub heading : IsHeaderTree l.outline
   pub blocks : AllByRecursion (IsBlock (heading_of_tree l.outline)) l.blocks
-  pub differ : has_repeat (workers_of l.blocks) ≡ false
+  pub differ : has_repeat (workers_of (blocks_of_items l.blocks)) ≡ false
   pub rows : AllByRecursion (IsRow l.outline.workers) l.rows
   pub few : length (concat_rows l.rows) ≤ 65536
 
@@ -132,25 +157,13 @@ layout_lines l =
     script_header l.outline.version ∷ heading_lines l.outline
     ++ (flat_map (block_lines l.outline.workers) l.blocks ++ map (schedule_line l.outline.workers) l.rows)
 
--- the items of a worker's block, none if it has no block
-abbrev pub program_of : List Block → ℕ → List BlockItem
-program_of [] w = []
-program_of (b ∷ blocks) w = if b.worker == w then items_of b.lines else program_of blocks w
-
-abbrev pub plan_of : Layout → PlanModel
-plan_of l = record {
-  heading = heading_of_tree l.outline;
-  programs = map (program_of l.blocks) (range_with_len 0 (length l.outline.workers));
-  schedule = concat_rows l.rows;
-}
-
 -- the bytes are the text of a layout, and the plan is what it says
 pub record IsLaidOut (bytes : List ℕ) (p : PlanModel) : Type 0 where
   pub layout : Layout
   pub is : IsLayout layout
   pub text : bytes ≡ lines_text (layout_lines layout)
   pub within : length bytes ≤ SCRIPT_MAX
-  pub plan : p ≡ plan_of layout
+  pub plan : p ≡ plan_of_tree (tree_of layout)
 
 -- THEOREMS
 

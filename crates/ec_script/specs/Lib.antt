@@ -1,6 +1,5 @@
 pub mod Verbs
 pub mod Forms
-pub mod Phrased
 pub mod Faults
 pub mod Flat
 pub mod Objects
@@ -10,17 +9,14 @@ pub mod Inner
 pub mod Kinds
 pub mod Pairs
 pub mod ScriptModel
-pub mod Rooms
 pub mod Headers
 pub mod Reading
 pub mod Outcome
 pub mod Grammar
-pub mod Versioned
 pub mod Confined
 pub mod Layout
 pub mod Spelling
 pub mod Given
-pub mod ScriptTree
 pub mod Placed
 pub mod Holding
 pub mod Endings

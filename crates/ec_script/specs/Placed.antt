@@ -7,8 +7,7 @@ use Rattle.ec_heading.specs.Form as headings
 use Rattle.ec_heading.specs.Phrased.{IsSpelled}
 use Rattle.ec_script.specs.declared.verb.LineWord.{LineWord}
 use Rattle.ec_script.specs.declared.verb.LineWord.TheVariants as verbs
-use Rattle.ec_script.specs.Forms.{Phrase}
-use Rattle.ec_script.specs.Phrased.{Worded}
+use Rattle.ec_script.specs.Forms.{Phrase, Worded}
 use Rattle.ec_script.specs.ScriptModel.{ScriptModel}
 
 -- a line of at most 8192 bytes, each of whose words has a byte

@@ -20,7 +20,7 @@ use Rattle.ec_script.specs.declared.object.Object.TheVariants.{Event, Sequencer}
 use Rattle.ec_script.specs.declared.block_item.BlockItem.{BlockItem}
 use Rattle.ec_script.specs.declared.block_item.BlockItem.TheVariants.{Do, Write, Begin, End}
 use Rattle.ec_script.specs.Objects.{owns}
-use Rattle.ec_script.specs.Layout.{IsLineOfItem, Block, items_of, worker_line, schedule_line, Layout, IsLayout, layout_lines}
+use Rattle.ec_script.specs.Layout.{IsLineOfItem, worker_line, schedule_line, Layout, IsLayout, layout_lines, blocks_of_items}
 
 -- VALUES
 
@@ -89,9 +89,6 @@ script_lines o blocks rows = script_header o.version ∷ heading_lines o ++ (fla
 -- and their text
 abbrev pub script_text : HeaderTree → List (ℕ × List BlockItem) → List (List ℕ) → List ℕ
 script_text o blocks rows = lines_text (script_lines o blocks rows)
-
-abbrev pub blocks_of_items : List Block → List (ℕ × List BlockItem)
-blocks_of_items blocks = map (λ (b : Block). (b.worker, items_of b.lines)) blocks
 
 -- THEOREMS
 

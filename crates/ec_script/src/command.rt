@@ -1,21 +1,18 @@
 //! The command of a line of a block.
 ghost use Rattle.std.specs.Prelude.{◌≡◌, ◌==◌, false, true, IfOk, IfSome, map, length};
 ghost use Rattle.std.specs.List.{list_all};
-ghost use Rattle.std.specs.Option.{option_and_then};
-ghost use Rattle.ec_text.specs.Words.{number_in_word};
 ghost use Rattle.ec_machine.specs.Limits.{is_value};
 ghost use Rattle.ec_script.specs.Verbs.{tail_of, is_update};
 ghost use Rattle.ec_script.specs.Forms.{only_in, rest_words};
 ghost use Rattle.ec_script.specs.Kinds.{is_bad_tail, is_count, has_two_roles};
-ghost use Rattle.ec_script.specs.BlockItems.{amount_of, amount_in, size_in, event_item, cell_item, buffer_item, database_item, semaphore_item, command_in, IsSound};
+ghost use Rattle.ec_script.specs.BlockItems.{amount_of, amount_in, size_in, event_item, database_item, semaphore_item, command_in, IsSound};
 
 use crate::block_item::{BlockItem, Values};
 use crate::form::{Parts, only_word};
 use crate::lists::{amount_of, push_values};
 use crate::object::Object;
 use crate::verb::LineWord;
-use ec_buffer::BufferShape;
-use ec_count::{CellId, EventId};
+use ec_count::EventId;
 use ec_database::DatabaseShape;
 use ec_machine::{Command, Value};
 use ec_semaphore::SemaphoreShape;
@@ -27,23 +24,14 @@ fn amount_in(rest: Option<&[u8]>) -> Value
     ensures value { result ≡ amount_in (rest_words rest.entry) }
     ensures sound { is_value result ≡ true }
 {
-    match only_word(rest) {
-        Some(word) => amount_of(word),
-        None => amount_of(b"".as_slice()),
-    }
+    amount_of(only_word(rest).unwrap_or(b"".as_slice()))
 }
 
 /// Returns the number of the only word; 0 if there is none.
 pub(crate) fn size_in(rest: Option<&[u8]>) -> u64
     ensures { result ≡ size_in (rest_words rest.entry) }
 {
-    let Some(word) = only_word(rest) else {
-        return 0;
-    };
-    match number(word) {
-        Some(n) => n,
-        None => 0,
-    }
+    only_word(rest).and_then(|word| number(word)).unwrap_or(0)
 }
 
 /// Returns the values of the words.
@@ -70,30 +58,6 @@ fn event_item(verb: LineWord, event: EventId, value: Value) -> BlockItem
     }
 }
 
-fn cell_item(update: bool, cell: CellId, value: Value) -> BlockItem
-    requires { is_value value ≡ true }
-    ensures value { result ≡ cell_item update cell value }
-    ensures sound { IsSound result }
-{
-    if update {
-        BlockItem::Do(Command::Put(cell, value))
-    } else {
-        BlockItem::Do(Command::Get(cell))
-    }
-}
-
-fn buffer_item(update: bool, shape: BufferShape, value: Value) -> BlockItem
-    requires { is_value value ≡ true }
-    ensures value { result ≡ buffer_item update shape value }
-    ensures sound { IsSound result }
-{
-    if update {
-        BlockItem::Do(Command::Produce(shape, value))
-    } else {
-        BlockItem::Do(Command::Consume(shape))
-    }
-}
-
 fn semaphore_item(verb: LineWord, shape: SemaphoreShape) -> BlockItem
     ensures value { result ≡ semaphore_item verb shape }
     ensures sound { IsSound result }
@@ -104,32 +68,8 @@ fn semaphore_item(verb: LineWord, shape: SemaphoreShape) -> BlockItem
     }
 }
 
-/// Returns the item that writes these values into a database.
-#[tactic(auto, using(crate::proofs::Sizes::as_many))]
-fn write_item(
-    alloc: Global,
-    shape: DatabaseShape,
-    rest: Option<&[u8]>,
-) -> Result<BlockItem, AllocError>
-    requires { (length (rest_words rest) == shape.cells) ≡ true }
-    ensures value { IfOk result (λ o. o ≡ BlockItem.Write shape (map amount_of (rest_words rest.entry))) }
-    ensures sound { IfOk result IsSound }
-{
-    Ok(BlockItem::Write(shape, amounts_in(alloc, rest)?))
-}
-
-/// Returns the item that reads a database in at most this many tries.
-#[tactic(auto, using(crate::proofs::Sizes::size_sound))]
-fn snapshot_item(shape: DatabaseShape, rest: Option<&[u8]>) -> BlockItem
-    requires { is_count 1000 (option_and_then number_in_word (only_in (rest_words rest))) ≡ true }
-    ensures value { result
-        ≡ BlockItem.Do (Command.Snapshot shape (size_in (rest_words rest.entry))) }
-    ensures sound { IsSound result }
-{
-    BlockItem::Do(Command::Snapshot(shape, size_in(rest) as usize))
-}
-
 /// Returns the item of a line about a database; `None` if the verb is none of a database.
+#[tactic(auto, using(crate::proofs::Sizes::as_many, crate::proofs::Sizes::size_sound))]
 fn database_item(
     alloc: Global,
     verb: LineWord,
@@ -141,8 +81,11 @@ fn database_item(
     ensures sound { IfOk result (λ o. IfSome o IsSound) }
 {
     match verb {
-        LineWord::Write => Ok(Some(write_item(alloc, shape, rest)?)),
-        LineWord::Snapshot => Ok(Some(snapshot_item(shape, rest))),
+        LineWord::Write => Ok(Some(BlockItem::Write(shape, amounts_in(alloc, rest)?))),
+        LineWord::Snapshot => {
+            let tries = size_in(rest) as usize;
+            Ok(Some(BlockItem::Do(Command::Snapshot(shape, tries))))
+        }
         _ => Ok(None),
     }
 }
@@ -164,9 +107,11 @@ pub(crate) fn command_in(
     let item = match *object {
         Object::Event(event) => event_item(verb, event, value),
         Object::Sequencer(sequencer) => BlockItem::Do(Command::Ticket(sequencer)),
-        Object::Cell(cell) => cell_item(update, cell, value),
+        Object::Cell(cell) if update => BlockItem::Do(Command::Put(cell, value)),
+        Object::Cell(cell) => BlockItem::Do(Command::Get(cell)),
         Object::Handed(event, to) => BlockItem::Do(Command::Hand(event, to)),
-        Object::OfBuffer(shape) => buffer_item(update, shape, value),
+        Object::OfBuffer(shape) if update => BlockItem::Do(Command::Produce(shape, value)),
+        Object::OfBuffer(shape) => BlockItem::Do(Command::Consume(shape)),
         Object::OfDatabase(shape) => return database_item(alloc, verb, shape, parts.rest),
         Object::OfSemaphore(shape) => semaphore_item(verb, shape),
         Object::SemaphorePair(common, one, other) => BlockItem::Do(Command::DownBoth(

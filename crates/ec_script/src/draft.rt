@@ -147,9 +147,7 @@ impl Draft {
     {
         self.commands
     }
-}
 
-impl Draft {
     /// Returns the program.
     pub(crate) fn finish(self) -> Program
         requires { self.depth ≡ 0 }

@@ -1,6 +1,6 @@
 //! Why a text is no script.
 ghost use Rattle.std.specs.Prelude.{◌≡◌};
-ghost use Rattle.ec_script.specs.Faults.{kind_number, kind_name, kind_of_head, stage_fault};
+ghost use Rattle.ec_script.specs.Faults.{kind_number, kind_name, stage_fault};
 
 use ec_heading::HeadFault;
 use thiserror::Error;
@@ -109,27 +109,19 @@ pub(crate) enum StageFault {
     Memory,
 }
 
-/// Returns the kind of a fault of a header's line.
-fn kind_of_head(fault: HeadFault) -> Kind
-    ensures { result ≡ kind_of_head fault }
+/// Returns the fault of a line that a header rejected.
+pub(crate) fn stage_fault(fault: HeadFault) -> StageFault
+    ensures { result ≡ stage_fault fault }
 {
-    match fault {
-        HeadFault::BadLine | HeadFault::Memory => Kind::BadLine,
+    let kind = match fault {
+        HeadFault::Memory => return StageFault::Memory,
+        HeadFault::BadLine => Kind::BadLine,
         HeadFault::BadName => Kind::BadName,
         HeadFault::NameTaken => Kind::NameTaken,
         HeadFault::UnknownName => Kind::UnknownName,
         HeadFault::BadNumber => Kind::BadNumber,
         HeadFault::TooMany => Kind::TooMany,
         HeadFault::TwoRoles => Kind::TwoRoles,
-    }
-}
-
-/// Returns the fault of a line that a header rejected.
-pub(crate) fn stage_fault(fault: HeadFault) -> StageFault
-    ensures { result ≡ stage_fault fault }
-{
-    match fault {
-        HeadFault::Memory => StageFault::Memory,
-        other => StageFault::Of(kind_of_head(other)),
-    }
+    };
+    StageFault::Of(kind)
 }

@@ -17,24 +17,12 @@ pub(crate) struct Parts<'a> {
     pub(crate) rest: Option<&'a [u8]>,
 }
 
-/// Returns the digits after `last+`.
-fn more_of(word: &[u8]) -> Option<&[u8]>
-    ensures { option_map (λ m. m.now) result ≡ more_in word.now }
-{
-    word.strip_prefix(b"last+".as_slice())
-}
-
 /// Returns whether a word has the form of a value.
 fn is_value_form(word: &[u8]) -> bool
     ensures { result ≡ is_value_form word.now }
 {
-    if word == b"last".as_slice() {
-        return true;
-    }
-    match more_of(word) {
-        Some(digits) => is_number_form(digits),
-        None => is_number_form(word),
-    }
+    word == b"last".as_slice()
+        || is_number_form(word.strip_prefix(b"last+".as_slice()).unwrap_or(word))
 }
 
 /// Returns the value of a word; `None` if it is none or its number is out of range.
@@ -46,7 +34,7 @@ pub(crate) fn parse_value(word: &[u8]) -> Option<Value>
     if word == b"last".as_slice() {
         return Some(Value::Last);
     }
-    match more_of(word) {
+    match word.strip_prefix(b"last+".as_slice()) {
         Some(digits) => {
             let n = number(digits)?;
             if n < 1 {
@@ -90,18 +78,9 @@ fn is_tail(tail: Tail, rest: Option<&[u8]>) -> bool
 {
     match tail {
         Tail::Nothing => rest.is_none(),
-        Tail::Value => match only_word(rest) {
-            Some(word) => is_value_form(word),
-            None => false,
-        },
-        Tail::Values => match rest {
-            Some(rest) => are_value_forms(rest),
-            None => false,
-        },
-        Tail::Digits => match only_word(rest) {
-            Some(word) => is_number_form(word),
-            None => false,
-        },
+        Tail::Value => only_word(rest).is_some_and(is_value_form),
+        Tail::Values => rest.is_some_and(are_value_forms),
+        Tail::Digits => only_word(rest).is_some_and(|word| is_number_form(word)),
         Tail::Word => only_word(rest).is_some(),
         Tail::Words => rest.is_some(),
     }
@@ -132,9 +111,6 @@ pub(crate) fn split_line(line: &[u8]) -> Option<Parts<'_>>
     if !verb.has_object() {
         return parts_after_object(verb, b"".as_slice(), rest);
     }
-    let Some(rest) = rest else {
-        return None;
-    };
-    let (object, rest) = cut_word(rest);
+    let (object, rest) = cut_word(rest?);
     parts_after_object(verb, object, rest)
 }

@@ -6,7 +6,7 @@ ghost use Rattle.ec_count.specs.Members.{is_member};
 ghost use Rattle.ec_text.specs.Words.{number_in_word};
 ghost use Rattle.ec_script.specs.Forms.{rest_words, phrase_of_parts};
 ghost use Rattle.ec_script.specs.Verbs.{tail_of};
-ghost use Rattle.ec_script.specs.Kinds.{context_model, is_no_value, is_count, is_allowed, is_named_again, has_unknown_name, cells_of, greatest, is_bad_tail, is_too_many, has_two_roles, may_signal, are_declared, has_right, lacks_right, is_badly_nested, or_nothing, phrase_fault};
+ghost use Rattle.ec_script.specs.Kinds.{context_model, is_no_value, is_count, is_allowed, is_named_again, has_unknown_name, cells_of, greatest, is_bad_tail, is_too_many, has_two_roles, may_signal, are_declared, has_right, lacks_right, is_badly_nested, phrase_fault};
 
 use crate::fault::Kind;
 use crate::form::{Parts, only_word, parse_value};
@@ -120,10 +120,7 @@ fn are_bad_values(rest: Option<&[u8]>, cells: usize) -> bool
 fn is_count(most: u64, digits: Option<&[u8]>) -> bool
     ensures { result ≡ is_count most (option_and_then number_in_word (option_map (λ w. w.now) digits.entry)) }
 {
-    let Some(word) = digits else {
-        return false;
-    };
-    match number(word) {
+    match digits.and_then(|word| number(word)) {
         Some(n) => 1 <= n && n <= most,
         None => false,
     }
@@ -134,23 +131,10 @@ fn is_bad_tail(parts: &Parts<'_>, object: &Object) -> bool
     ensures { result ≡ is_bad_tail (tail_of parts.now.verb) parts.now.verb (rest_words parts.now.rest) object.now }
 {
     match parts.verb.tail() {
-        Tail::Value => match only_word(parts.rest) {
-            Some(word) => is_no_value(word),
-            None => false,
-        },
+        Tail::Value => only_word(parts.rest).is_some_and(is_no_value),
         Tail::Values => are_bad_values(parts.rest, cells_of(object)),
         Tail::Digits => !is_count(greatest(parts.verb), only_word(parts.rest)),
         _ => false,
-    }
-}
-
-/// Returns how many words are left.
-fn count_rest(rest: Option<&[u8]>) -> usize
-    ensures { result ≡ length (rest_words rest.entry) }
-{
-    match rest {
-        None => 0,
-        Some(list) => count_words(list),
     }
 }
 
@@ -166,7 +150,10 @@ fn is_too_many(parts: &Parts<'_>, block: Option<BlockContext>, scheduled: usize)
     ensures { result ≡ is_too_many parts.now.verb (rest_words parts.now.rest) block scheduled }
 {
     match (parts.verb, block) {
-        (LineWord::Schedule, _) => is_over(scheduled, count_rest(parts.rest)),
+        (LineWord::Schedule, _) => is_over(
+            scheduled,
+            parts.rest.map_or(0, |list| count_words(list)),
+        ),
         (verb, Some(block)) => verb.is_counted() && block.commands >= COMMANDS_MAX,
         (_, None) => false,
     }
@@ -212,37 +199,16 @@ fn has_right(
     ensures { result ≡ has_right version setup.now worker update object.now }
 {
     match *object {
-        Object::Event(event) => {
-            if update {
-                may_signal(version, setup, event, worker)
-            } else {
-                setup.may_observe(event, worker)
-            }
-        }
+        Object::Event(event) if update => may_signal(version, setup, event, worker),
+        Object::Event(event) => setup.may_observe(event, worker),
         Object::Sequencer(sequencer) => setup.may_take(sequencer, worker),
-        Object::Cell(cell) => {
-            if update {
-                setup.may_write(cell, worker)
-            } else {
-                setup.may_read(cell, worker)
-            }
-        }
+        Object::Cell(cell) if update => setup.may_write(cell, worker),
+        Object::Cell(cell) => setup.may_read(cell, worker),
         Object::Handed(event, to) => are_declared(setup, event, to),
-        Object::OfBuffer(shape) => {
-            let line = if update {
-                shape.put_seq()
-            } else {
-                shape.take_seq()
-            };
-            setup.may_take(line, worker)
-        }
-        Object::OfDatabase(shape) => {
-            if update {
-                setup.may_take(shape.turn(), worker)
-            } else {
-                setup.may_observe(shape.start(), worker)
-            }
-        }
+        Object::OfBuffer(shape) if update => setup.may_take(shape.put_seq(), worker),
+        Object::OfBuffer(shape) => setup.may_take(shape.take_seq(), worker),
+        Object::OfDatabase(shape) if update => setup.may_take(shape.turn(), worker),
+        Object::OfDatabase(shape) => setup.may_observe(shape.start(), worker),
         Object::OfSemaphore(shape) => setup.may_take(shape.line(), worker),
         Object::SemaphorePair(common, one, other) => {
             setup.may_take(common.line(), worker)
@@ -290,16 +256,6 @@ fn is_badly_nested(verb: LineWord, block: Option<BlockContext>) -> bool
     }
 }
 
-/// Returns the object, or `Nothing`.
-pub(crate) fn or_nothing(object: Option<Object>) -> Object
-    ensures { result ≡ or_nothing object }
-{
-    match object {
-        Some(object) => object,
-        None => Object::Nothing,
-    }
-}
-
 /// Returns the least fault of a line that has one of the forms; `found` is its object, if it names
 /// a declared one of the right kind.
 pub(crate) fn phrase_fault(
@@ -309,7 +265,7 @@ pub(crate) fn phrase_fault(
 ) -> Option<Kind>
     ensures { result ≡ phrase_fault (context_model view.now) (phrase_of_parts parts.now) found }
 {
-    let object = or_nothing(found);
+    let object = found.unwrap_or(Object::Nothing);
     if !parts.verb.is_of(view.heading.version())
         || !is_allowed(parts.verb, view.block.is_some(), view.scheduled)
     {

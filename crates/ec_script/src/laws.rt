@@ -5,11 +5,11 @@ ghost use Rattle.ec_script.specs.Confined.{ConfinedLinesAreConfinedCommands, Pla
 ghost use Rattle.ec_script.specs.Counted.{BlocksAreCounted};
 ghost use Rattle.ec_script.specs.Endings.{FaultlessLinesAreAccepted, UnfinishedIsReported};
 ghost use Rattle.ec_script.specs.Faults.{HeadFaultsKeepTheirNumbers};
-ghost use Rattle.ec_script.specs.Given.{LinesMeanItems};
+ghost use Rattle.ec_script.specs.Given.{LinesMeanItems, ScriptsAreSpelled};
 ghost use Rattle.ec_script.specs.Grammar.{FaultIsTheFirst, FaultsAreReported, LongIsLine1, ReadIsScript, ScriptIsRead};
 ghost use Rattle.ec_script.specs.Holding.{LeastKindWins};
 ghost use Rattle.ec_script.specs.Layout.{LayoutsAreScripts, ScriptsAreLaidOut};
-ghost use Rattle.ec_script.specs.ScriptTree.{ScriptsAreSpelled};
+ghost use Rattle.ec_script.specs.Pairs.{LinesLeadToHeadings, LinesOfTwoRoles, TwoRolesAreOneName, TwoRolesAreReported};
 ghost use Rattle.ec_script.specs.Spelling.{LayoutsAreSpelled, LinesAreSpelled};
 
 /// States that each script is parsed to the plan that it says.
@@ -115,6 +115,29 @@ pub fn lines_mean_items()
 /// worker has two blocks.
 pub fn scripts_are_spelled()
     ensures { ScriptsAreSpelled }
+{}
+
+/// States that two of the three semaphores of a `pboth` line are equal exactly if its two words are
+/// equal: the common semaphore has no name, and two names have no object in common.
+pub fn two_roles_are_one_name()
+    ensures { TwoRolesAreOneName }
+{}
+
+/// States that `TwoRoles` is reported for a line after the declarations exactly if it is a `pboth`
+/// that names one declared semaphore twice, in a block that has room for it.
+pub fn two_roles_are_reported()
+    ensures { TwoRolesAreReported }
+{}
+
+/// States that what the lines of a script have declared is a header.
+pub fn lines_lead_to_headings()
+    ensures { LinesLeadToHeadings }
+{}
+
+/// States that `TwoRoles` is reported for each line of a script that is such a `pboth`, and
+/// otherwise only for a declaration that the header rejects with it.
+pub fn lines_of_two_roles()
+    ensures { LinesOfTwoRoles }
 {}
 
 /// States the most bytes that a script may have, as a number.

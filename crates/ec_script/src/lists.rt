@@ -51,10 +51,7 @@ pub(crate) fn amount_of(word: &[u8]) -> Value
     ensures value { result ≡ amount_of word.now }
     ensures sound { is_value result ≡ true }
 {
-    match parse_value(word) {
-        Some(value) => value,
-        None => Value::Last,
-    }
+    parse_value(word).unwrap_or(Value::Last)
 }
 
 /// Adds the values of the words of the list.

@@ -5,7 +5,7 @@ ghost use Rattle.ec_heading.specs.Groups.{both_of};
 ghost use Rattle.ec_heading.specs.Lists.{worker_in};
 ghost use Rattle.ec_heading.specs.EntryWords.{event_in};
 ghost use Rattle.ec_script.specs.Forms.{only_in, rest_words, phrase_of_parts};
-ghost use Rattle.ec_script.specs.Objects.{group_in, buffer_in, database_in, semaphore_in, semaphore_pair, transfer_object, object_in, owns, is_owned};
+ghost use Rattle.ec_script.specs.Objects.{group_in, semaphore_in, semaphore_pair, transfer_object, object_in, owns, is_owned};
 
 use crate::form::{Parts, only_word};
 use crate::verb::LineWord;
@@ -40,20 +40,6 @@ fn group_in(heading: &Heading, word: &[u8]) -> Option<Group>
         return None;
     };
     heading.groups().get(place).copied()
-}
-
-/// Returns the buffer of a name.
-fn buffer_in(heading: &Heading, word: &[u8]) -> Option<BufferShape>
-    ensures { result ≡ buffer_in heading.now word.now }
-{
-    group_in(heading, word)?.buffer()
-}
-
-/// Returns the database of a name.
-fn database_in(heading: &Heading, word: &[u8]) -> Option<DatabaseShape>
-    ensures { result ≡ database_in heading.now word.now }
-{
-    group_in(heading, word)?.database()
 }
 
 /// Returns the semaphore of a name.
@@ -95,10 +81,12 @@ pub(crate) fn object_in(heading: &Heading, parts: &Parts<'_>) -> Option<Object>
         LineWord::Ticket => Some(Object::Sequencer(heading.sequencer(word)?)),
         LineWord::Put | LineWord::Get => Some(Object::Cell(heading.cell(word)?)),
         LineWord::Hand => find_transfer(heading, parts),
-        LineWord::Produce | LineWord::Consume => Some(Object::OfBuffer(buffer_in(heading, word)?)),
-        LineWord::Write | LineWord::Snapshot => Some(Object::OfDatabase(database_in(
-            heading, word,
-        )?)),
+        LineWord::Produce | LineWord::Consume => {
+            Some(Object::OfBuffer(group_in(heading, word)?.buffer()?))
+        }
+        LineWord::Write | LineWord::Snapshot => {
+            Some(Object::OfDatabase(group_in(heading, word)?.database()?))
+        }
         LineWord::Down | LineWord::Up => Some(Object::OfSemaphore(semaphore_in(heading, word)?)),
         LineWord::DownBoth => pair_in(heading, parts),
         LineWord::Worker => Some(Object::Worker(heading.worker(word)?)),

@@ -1,9 +1,7 @@
 //! The parser of whole scripts.
 ghost use Rattle.std.specs.Prelude.{◌≡◌, ◌<◌, ◌^◌, Err, IfOk, length};
-ghost use Rattle.ec_script.specs.Confined.{AreConfinedPrograms, IsPlan};
+ghost use Rattle.ec_script.specs.Confined.{AreConfinedPrograms, IsPlan, HasPrograms};
 ghost use Rattle.ec_script.specs.Outcome.{Returns, parse_end, fault_at, plan_or_fault, first_or_empty, parse_from, long_kind, parse_result, lines_of_text, plan_in, shown_plan, after_line};
-ghost use Rattle.ec_script.specs.Reading.{step};
-ghost use Rattle.ec_script.specs.Versioned.{HasPrograms};
 
 use crate::fault::{Kind, ScriptFault, StageFault};
 use crate::plan::Plan;
@@ -45,41 +43,17 @@ fn long_kind(text: &[u8]) -> Kind
     }
 }
 
-/// Returns the result of a text that ends with the LF before line n.
-fn end_here(stage: Stage, line: u64) -> Result<Plan, ScriptFault>
-    ensures { Returns (plan_or_fault line (plan_in stage)) result }
-{
-    match stage.plan() {
-        Some(plan) => Ok(plan),
-        None => Err(ScriptFault::At {
-            line,
-            kind: Kind::Unfinished,
-        }),
-    }
-}
-
-/// Returns the result of a text whose last line, of number n, lacks its LF.
-fn cut_off(alloc: Global, stage: Stage, line: u64, rest: &[u8]) -> Result<Plan, ScriptFault>
-    ensures { Returns (after_line line (step stage rest.now) (λ t. Err (line, Kind.Unfinished)))
-        result }
-{
-    let mut stage = stage;
-    match stage.line(alloc, rest) {
-        Err(fault) => Err(fault_at(line, fault)),
-        Ok(()) => Err(ScriptFault::At {
-            line,
-            kind: Kind::Unfinished,
-        }),
-    }
-}
-
 /// Returns the result of a text that ends with these bytes, of line n.
-fn finish(alloc: Global, stage: Stage, line: u64, rest: &[u8]) -> Result<Plan, ScriptFault>
+fn finish(alloc: Global, mut stage: Stage, line: u64, rest: &[u8]) -> Result<Plan, ScriptFault>
     ensures { Returns (parse_end line stage rest.now) result }
 {
+    let unfinished = fault_at(line, StageFault::Of(Kind::Unfinished));
     match rest {
-        [] => end_here(stage, line),
-        [_, ..] => cut_off(alloc, stage, line, rest),
+        [] => stage.plan().ok_or(unfinished),
+        [_, ..] => match stage.line(alloc, rest) {
+            Err(fault) => Err(fault_at(line, fault)),
+            Ok(()) => Err(unfinished),
+        },
     }
 }
 

@@ -10,14 +10,14 @@ ghost use Rattle.ec_script.specs.BlockItems.{command_in};
 ghost use Rattle.ec_script.specs.Verbs.{is_update, tail_of};
 ghost use Rattle.ec_script.specs.Reading.{view_of_block, context_of_script, with_worker_block, after_item, after_command, with_block_end, after_verb, after_phrase, map_heading, is_declaring, opens_outer, script_of, script_step, Steps};
 ghost use Rattle.ec_script.specs.Outcome.{plan_or, shown_plan};
-ghost use Rattle.ec_script.specs.Rooms.{MayTakeItem, MayEnd, HasRoom};
+ghost use Rattle.ec_script.specs.ScriptModel.{MayTakeItem, MayEnd, HasRoom};
 
 use crate::block_item::BlockItem;
 use crate::command::{command_in, size_in};
 use crate::draft::Draft;
 use crate::fault::{Kind, StageFault, stage_fault};
 use crate::form::{Parts, split_line};
-use crate::kinds::{BlockContext, LineContext, or_nothing, phrase_fault};
+use crate::kinds::{BlockContext, LineContext, phrase_fault};
 use crate::lists::push_ids;
 use crate::object::{Object, object_in};
 use crate::plan::Plan;
@@ -34,20 +34,6 @@ use std::marker::Model;
 pub(crate) struct OpenBlock {
     worker: WorkerId,
     draft: Draft,
-}
-
-impl OpenBlock {
-    /// Returns what the faults of a line depend on.
-    fn view(&self) -> BlockContext
-        ensures { result ≡ view_of_block self.now }
-    {
-        BlockContext {
-            worker: self.worker,
-            depth: self.draft.depth(),
-            is_empty: self.draft.is_empty(),
-            commands: self.draft.commands(),
-        }
-    }
 }
 
 /// The header, the workers whose blocks began, the programs, the open block and the schedule, after
@@ -109,6 +95,14 @@ fn set_program(programs: &mut Vec<Program>, place: usize, program: Program)
     }
 }
 
+/// Returns whether a line opens with `worker` or `schedule`.
+fn opens_outer(line: &[u8]) -> bool
+    ensures { result ≡ opens_outer (words_of line.now) }
+{
+    let (word, _) = cut_word(line);
+    parse_line_word(word).is_some_and(|verb| verb.is_outer())
+}
+
 impl Script {
     /// Makes a script with this header, before its blocks.
     pub(crate) fn new(alloc: Global, heading: Heading) -> Result<Self, AllocError>
@@ -125,21 +119,19 @@ impl Script {
         })
     }
 
-    /// Returns the block that the next line is in.
+    /// Returns the block that the next line is in, by what the faults of a line depend on.
     fn block_view(&self) -> Option<BlockContext>
         ensures { result ≡ option_map view_of_block self.now.block }
     {
         match &self.block {
             None => None,
-            Some(block) => Some(block.view()),
+            Some(block) => Some(BlockContext {
+                worker: block.worker,
+                depth: block.draft.depth(),
+                is_empty: block.draft.is_empty(),
+                commands: block.draft.commands(),
+            }),
         }
-    }
-
-    /// Returns how many names the schedule has.
-    fn schedule_length(&self) -> usize
-        ensures { result ≡ length self.now.schedule }
-    {
-        self.schedule.len()
     }
 
     /// Returns the least fault of a line of one of the forms, which has this object.
@@ -151,7 +143,7 @@ impl Script {
             heading: &self.heading,
             named: self.named.as_slice(),
             block: self.block_view(),
-            scheduled: self.schedule_length(),
+            scheduled: self.schedule.len(),
         };
         phrase_fault(&view, parts, *found)
     }
@@ -174,13 +166,11 @@ impl Script {
         requires { MayTakeItem self.old.block item }
         ensures { OnOk result (self.new ≡ after_item self.old item) }
     {
-        let Some(block) = self.block.take() else {
+        let Some(mut block) = self.block.take() else {
             return Ok(());
         };
-        let OpenBlock { worker, draft } = block;
-        let mut draft = draft;
-        draft.take(item)?;
-        self.block = Some(OpenBlock { worker, draft });
+        block.draft.take(item)?;
+        self.block = Some(block);
         Ok(())
     }
 
@@ -206,12 +196,11 @@ impl Script {
         let Some(block) = self.block.take() else {
             return Ok(());
         };
-        let OpenBlock { worker, draft } = block;
+        let OpenBlock { worker, mut draft } = block;
         if draft.depth() == 0 {
             set_program(&mut self.programs, worker.get(), draft.finish());
             return Ok(());
         }
-        let mut draft = draft;
         draft.take(BlockItem::End)?;
         self.block = Some(OpenBlock { worker, draft });
         Ok(())
@@ -226,16 +215,14 @@ impl Script {
             Some(list) => push_ids(&self.heading, list, &mut self.schedule),
         }
     }
-}
 
-impl Script {
     /// Does what a line without fault says.
     fn apply(&mut self, parts: &Parts<'_>, found: &Option<Object>) -> Result<(), AllocError>
         requires { phrase_fault (context_of_script self.old) (phrase_of_parts parts.now) found.now
             ≡ None }
         ensures { OnOk result (self.new ≡ after_verb parts.now.verb self.old (or_nothing found.now) (rest_words parts.now.rest)) }
     {
-        let object = or_nothing(*found);
+        let object = (*found).unwrap_or(Object::Nothing);
         match parts.verb {
             LineWord::Worker => self.begin(&object),
             LineWord::Schedule => self.extend(parts.rest),
@@ -253,10 +240,7 @@ impl Script {
         if let Some(kind) = self.fault(parts, &found) {
             return Err(StageFault::Of(kind));
         }
-        match self.apply(parts, &found) {
-            Ok(()) => Ok(()),
-            Err(_) => Err(StageFault::Memory),
-        }
+        self.apply(parts, &found).map_err(|_| StageFault::Memory)
     }
 
     /// Reads a declaration.
@@ -293,20 +277,7 @@ impl Script {
             None => Err(StageFault::Of(Kind::BadLine)),
         }
     }
-}
 
-/// Returns whether a line opens with `worker` or `schedule`.
-fn opens_outer(line: &[u8]) -> bool
-    ensures { result ≡ opens_outer (words_of line.now) }
-{
-    let (word, _) = cut_word(line);
-    match parse_line_word(word) {
-        Some(verb) => verb.is_outer(),
-        None => false,
-    }
-}
-
-impl Script {
     /// Returns the plan, if no block is open.
     pub(crate) fn plan(self) -> Option<Plan>
         ensures { option_map shown_plan result ≡ plan_or self self.block }

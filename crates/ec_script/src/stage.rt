@@ -34,12 +34,12 @@ pub(crate) fn parse_version(line: &[u8]) -> Option<Version>
     ensures { result ≡ version_of script_header line.now }
 {
     if line == b"evc-script 1".as_slice() {
-        return Some(Version::One);
+        Some(Version::One)
+    } else if line == b"evc-script 2".as_slice() {
+        Some(Version::Two)
+    } else {
+        None
     }
-    if line == b"evc-script 2".as_slice() {
-        return Some(Version::Two);
-    }
-    None
 }
 
 /// Returns the digits after the word `limit`, if nothing else follows it.
@@ -65,16 +65,9 @@ fn parse_limit(version: Version, line: &[u8]) -> Result<Limit, Kind>
     ensures value { LimitIs version result (limit_or version (limit_digits (words_of line.now))) }
     ensures within { IfOk result (λ limit. limit ≤ greatest_limit version) }
 {
-    let Some(digits) = limit_digits(line) else {
-        return Err(Kind::BadLine);
-    };
-    let Some(n) = number(digits) else {
-        return Err(Kind::BadNumber);
-    };
-    let Some(limit) = version.limit(n) else {
-        return Err(Kind::BadNumber);
-    };
-    Ok(limit)
+    let digits = limit_digits(line).ok_or(Kind::BadLine)?;
+    let n = number(digits).ok_or(Kind::BadNumber)?;
+    version.limit(n).ok_or(Kind::BadNumber)
 }
 
 impl Stage {
@@ -84,9 +77,7 @@ impl Stage {
         requires { self.old ≡ Stage.Opening }
         ensures { Steps result (step self.old line.now) self.new }
     {
-        let Some(version) = parse_version(line) else {
-            return Err(StageFault::Of(Kind::BadHeader));
-        };
+        let version = parse_version(line).ok_or(StageFault::Of(Kind::BadHeader))?;
         *self = Stage::Limiting(version);
         Ok(())
     }
@@ -150,9 +141,7 @@ impl Stage {
             },
         }
     }
-}
 
-impl Stage {
     /// Returns the plan, if the text may end here.
     pub(crate) fn plan(self) -> Option<Plan>
         ensures { option_map shown_plan result ≡ plan_in self }

@@ -48,27 +48,22 @@ fn raw_verb_of(word: &[u8]) -> Option<LineWord>
     ensures { result ≡ raw_verb_of word.now }
 {
     if word == b"advance".as_slice() {
-        return Some(LineWord::Advance);
+        Some(LineWord::Advance)
+    } else if word == b"read".as_slice() {
+        Some(LineWord::Read)
+    } else if word == b"await".as_slice() {
+        Some(LineWord::Await)
+    } else if word == b"ticket".as_slice() {
+        Some(LineWord::Ticket)
+    } else if word == b"put".as_slice() {
+        Some(LineWord::Put)
+    } else if word == b"get".as_slice() {
+        Some(LineWord::Get)
+    } else if word == b"hand".as_slice() {
+        Some(LineWord::Hand)
+    } else {
+        None
     }
-    if word == b"read".as_slice() {
-        return Some(LineWord::Read);
-    }
-    if word == b"await".as_slice() {
-        return Some(LineWord::Await);
-    }
-    if word == b"ticket".as_slice() {
-        return Some(LineWord::Ticket);
-    }
-    if word == b"put".as_slice() {
-        return Some(LineWord::Put);
-    }
-    if word == b"get".as_slice() {
-        return Some(LineWord::Get);
-    }
-    if word == b"hand".as_slice() {
-        return Some(LineWord::Hand);
-    }
-    None
 }
 
 /// Returns the procedure that a word names.
@@ -76,27 +71,22 @@ fn procedure_verb_of(word: &[u8]) -> Option<LineWord>
     ensures { result ≡ procedure_verb_of word.now }
 {
     if word == b"produce".as_slice() {
-        return Some(LineWord::Produce);
+        Some(LineWord::Produce)
+    } else if word == b"consume".as_slice() {
+        Some(LineWord::Consume)
+    } else if word == b"write".as_slice() {
+        Some(LineWord::Write)
+    } else if word == b"snapshot".as_slice() {
+        Some(LineWord::Snapshot)
+    } else if word == b"p".as_slice() {
+        Some(LineWord::Down)
+    } else if word == b"v".as_slice() {
+        Some(LineWord::Up)
+    } else if word == b"pboth".as_slice() {
+        Some(LineWord::DownBoth)
+    } else {
+        None
     }
-    if word == b"consume".as_slice() {
-        return Some(LineWord::Consume);
-    }
-    if word == b"write".as_slice() {
-        return Some(LineWord::Write);
-    }
-    if word == b"snapshot".as_slice() {
-        return Some(LineWord::Snapshot);
-    }
-    if word == b"p".as_slice() {
-        return Some(LineWord::Down);
-    }
-    if word == b"v".as_slice() {
-        return Some(LineWord::Up);
-    }
-    if word == b"pboth".as_slice() {
-        return Some(LineWord::DownBoth);
-    }
-    None
 }
 
 /// Returns the structure word that a word is: `repeat`, `end`, `worker` or `schedule`.
@@ -104,31 +94,25 @@ fn item_verb_of(word: &[u8]) -> Option<LineWord>
     ensures { result ≡ item_verb_of word.now }
 {
     if word == b"repeat".as_slice() {
-        return Some(LineWord::Repeat);
+        Some(LineWord::Repeat)
+    } else if word == b"end".as_slice() {
+        Some(LineWord::End)
+    } else if word == b"worker".as_slice() {
+        Some(LineWord::Worker)
+    } else if word == b"schedule".as_slice() {
+        Some(LineWord::Schedule)
+    } else {
+        None
     }
-    if word == b"end".as_slice() {
-        return Some(LineWord::End);
-    }
-    if word == b"worker".as_slice() {
-        return Some(LineWord::Worker);
-    }
-    if word == b"schedule".as_slice() {
-        return Some(LineWord::Schedule);
-    }
-    None
 }
 
 /// Returns the line word that a word is, of any of the three sorts.
 pub(crate) fn parse_line_word(word: &[u8]) -> Option<LineWord>
     ensures { result ≡ parse_line_word word.now }
 {
-    if let Some(verb) = raw_verb_of(word) {
-        return Some(verb);
-    }
-    if let Some(verb) = procedure_verb_of(word) {
-        return Some(verb);
-    }
-    item_verb_of(word)
+    raw_verb_of(word)
+        .or_else(|| procedure_verb_of(word))
+        .or_else(|| item_verb_of(word))
 }
 
 impl LineWord {
@@ -146,10 +130,7 @@ impl LineWord {
     pub(crate) fn has_object(self) -> bool
         ensures { result ≡ has_object self }
     {
-        match self {
-            LineWord::Repeat | LineWord::End | LineWord::Schedule => false,
-            _ => true,
-        }
+        !matches!(self, LineWord::Repeat | LineWord::End | LineWord::Schedule)
     }
 
     /// Returns the form of what follows these.
@@ -171,10 +152,10 @@ impl LineWord {
     pub(crate) fn is_update(self) -> bool
         ensures { result ≡ is_update self }
     {
-        match self {
-            LineWord::Advance | LineWord::Put | LineWord::Produce | LineWord::Write => true,
-            _ => false,
-        }
+        matches!(
+            self,
+            LineWord::Advance | LineWord::Put | LineWord::Produce | LineWord::Write
+        )
     }
 
     /// Returns whether it opens a block or goes on with the schedule; otherwise it is inside a
@@ -182,19 +163,13 @@ impl LineWord {
     pub(crate) fn is_outer(self) -> bool
         ensures { result ≡ is_outer self }
     {
-        match self {
-            LineWord::Worker | LineWord::Schedule => true,
-            _ => false,
-        }
+        matches!(self, LineWord::Worker | LineWord::Schedule)
     }
 
     /// Returns whether it counts as a command of the block.
     pub(crate) fn is_counted(self) -> bool
         ensures { result ≡ is_counted self }
     {
-        match self {
-            LineWord::End | LineWord::Worker | LineWord::Schedule => false,
-            _ => true,
-        }
+        !matches!(self, LineWord::End | LineWord::Worker | LineWord::Schedule)
     }
 }

@@ -1,9 +1,7 @@
 -- What `sim` and `run` wrote passes `check` and `audit`.
 use Rattle.std.proofs.Common.{◌≡◌, ◌≢◌, ◌≤◌, ℕ, List, [], ◌++◌, length, reverse, slice_get, Option, Some, Ok, inl, inr, refl, sym, ◌∙◌, subst, append-nil}
-use Rattle.std.specs.List.{All}
 use Rattle.std.specs.Io.KnownBytes.{Appends, Keeps}
 use Rattle.std.proofs.lemmas.List.{append_cancel_left, reverse-reverse}
-use Rattle.std.proofs.lemmas.Option.{get_or_from_slice_get, slice_get_within}
 use Rattle.ec_core.specs.declared.act.Entry.{Entry}
 use Rattle.ec_core.specs.Acceptance.{IsAccepted}
 use Rattle.ec_core.proofs.shared.Breaks.{follow_or_break}

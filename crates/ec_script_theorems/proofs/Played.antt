@@ -11,7 +11,7 @@ use Rattle.ec_machine.specs.Follows.{program_at}
 use Rattle.ec_machine.specs.Runs.{next_act, IsRunOf}
 use Rattle.ec_machine.specs.Steps.{IsRun, own}
 use Rattle.ec_runner.specs.Schedules.{Turn, with_answer, entries_of, AreTurns}
-use Rattle.ec_script_theorems.specs.Reports.{PlayedGroupsAreFollowed}
+use Rattle.ec_script_theorems.specs.Headings.{PlayedGroupsAreFollowed}
 use Rattle.ec_script_theorems.proofs.AllGroups.{groups_follow}
 use Rattle.evc_scripts.proofs.shared.ReadAgain.{accepted_turns as turns_accepted}
 

@@ -7,7 +7,7 @@ use Rattle.ec_machine.specs.Runs.{IsRunOf}
 use Rattle.ec_machine.specs.Steps.{own}
 use Rattle.ec_runner.specs.declared.report.Report.{Report}
 use Rattle.ec_runner.specs.RunReports.{IsReportOf}
-use Rattle.ec_script_theorems.specs.Reports.{ReportedGroupsAreFollowed}
+use Rattle.ec_script_theorems.specs.Headings.{ReportedGroupsAreFollowed}
 use Rattle.ec_script_theorems.proofs.AllGroups.{groups_follow}
 use Rattle.ec_script_theorems.proofs.ReversedEntries.{own_turned}
 use Rattle.ec_runner.proofs.shared.Histories.{there_is}

@@ -1,9 +1,6 @@
 //! Theorems about programs and groups, each the contract of a function that does nothing.
-ghost use Rattle.ec_script_theorems.specs.Headings.{GroupsAreFollowed};
-ghost use Rattle.ec_script_theorems.specs.Passing.{FollowedTracesPass, RanTracesPass};
-ghost use Rattle.ec_script_theorems.specs.Passing.{SimulatedTracesPass};
-ghost use Rattle.ec_script_theorems.specs.Reports.{PlayedGroupsAreFollowed};
-ghost use Rattle.ec_script_theorems.specs.Reports.{ReportedGroupsAreFollowed};
+ghost use Rattle.ec_script_theorems.specs.Headings.{GroupsAreFollowed, PlayedGroupsAreFollowed, ReportedGroupsAreFollowed};
+ghost use Rattle.ec_script_theorems.specs.Passing.{FollowedTracesPass, RanTracesPass, SimulatedTracesPass};
 ghost use Rattle.ec_script_theorems.specs.Laws.{BuffersAreFollowed, DatabasesAreFollowed, SemaphoresAreFollowed, BothIsFollowed, OwnEntriesAreReversed};
 
 /// States that programs that use a declared buffer only by Produce and Consume follow it: in every

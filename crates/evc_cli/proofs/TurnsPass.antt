@@ -2,7 +2,7 @@
 -- use of an argument was tested when it was met, and no other argument of `run` adds a row.
 use Rattle.std.proofs.Common.{◌≡◌, ◌∙◌, ◌++◌, ◌⊎◌, inl, inr, ℕ, zero, suc, Bool, true, false, true≢false, cond, refl, sym, ap, subst, List, [], ◌∷◌, length, drop, Option, Some, None, is_some, option_map, codes, fold}
 use Rattle.std.specs.Prelude.{◌&&◌, IfSome, encode_utf8, find, option_and_then, slice_get}
-use Rattle.std.specs.List.{list_all, slice_index_or}
+use Rattle.std.specs.List.{AllByRecursion as Each, list_all, slice_index_or}
 use Rattle.std.specs.Option.{option_map_or}
 use Rattle.std.specs.Str.{bytes_eq, chars}
 use Rattle.clap.specs.Lexer.{long_of, short_of}
@@ -23,10 +23,6 @@ use Rattle.evc_cli.specs.Turns.{PassTurns, turns_parser, turns_rule}
 use Rattle.evc_cli.proofs.CommandMet.{first_none, not_empty, ready, second_none}
 
 -- ---- lists all of whose elements have a property
-
-abbrev Each : {X : Type 0} → (X → Type 0) → List X → Type 0
-Each P [] = Unit {0}
-Each P (x ∷ xs) = P x × Each P xs
 
 found_each : {X : Type 0} (P : X → Type 0) (p : X → Bool) (xs : List X) → Each P xs → IfSome (find p xs) P
 found_each P p [] h = tt

@@ -16,13 +16,10 @@ texts_of = map (λ word. word.bytes.items)
 abbrev pub bare_app : App
 bare_app = let new : App = new_app (codes "evc") in record new { top = record new.top { subcommand_required = true; has_version = true } }
 
--- the commands that read traces
-abbrev pub trace_app : App
-trace_app = with_subcommand (with_subcommand (with_subcommand bare_app (new_app (codes "check")).top) (new_app (codes "audit")).top) (new_app (codes "upgrade")).top
-
 -- `evc` as clap knows it
 abbrev pub evc_app : App
-evc_app = with_subcommand (with_subcommand trace_app (new_app (codes "sim")).top) run_app.top
+evc_app = with_subcommand (with_subcommand (with_subcommand (with_subcommand (with_subcommand bare_app (new_app (codes "check")).top) (new_app (codes "audit")).top)
+    (new_app (codes "upgrade")).top) (new_app (codes "sim")).top) run_app.top
 
 -- the names of its commands
 abbrev pub command_names : List Text

@@ -1,12 +1,9 @@
 //! Reads the command line.
 ghost use Rattle.std.specs.Prelude.{◌≡◌, IfNone, IfOk, IfSome, codes, false};
-ghost use Rattle.clap.specs.Words.{FailsBy, app_of, first_of, found_of, kind_of, new_app};
-ghost use Rattle.clap.specs.Words.{rows_of, rule_of, subcommand_of, subcommand_rows_of};
+ghost use Rattle.clap.specs.Words.{FailsBy, app_of, first_of, found_of, kind_of, new_app, rows_of, rule_of, subcommand_of, subcommand_rows_of, with_subcommand};
 ghost use Rattle.clap.specs.declared.builder.command.Command.TheViews.{out-Command as fields_of};
-ghost use Rattle.evc_cli.specs.CommandLine.{IsOneOf, NamesTask, ReadsPlainLines, ReadsTurns, command_names, evc_app};
-ghost use Rattle.evc_cli.specs.CommandLine.{bare_app, faults_in, name_of, status_by, texts_of, trace_app, turns_text};
-ghost use Rattle.evc_cli.specs.Turns.{HasTurnsInRange, HasTurnsOf, IsInRange, IsTurnsOf, PassTurns};
-ghost use Rattle.evc_cli.specs.Turns.{run_app, turns_rule};
+ghost use Rattle.evc_cli.specs.CommandLine.{IsOneOf, NamesTask, ReadsPlainLines, ReadsTurns, command_names, evc_app, bare_app, faults_in, name_of, status_by, texts_of, turns_text};
+ghost use Rattle.evc_cli.specs.Turns.{HasTurnsInRange, HasTurnsOf, IsInRange, IsTurnsOf, PassTurns, run_app, turns_rule};
 
 use crate::choice::Task;
 use crate::help;
@@ -17,40 +14,12 @@ use std::alloc::{AllocError, Global};
 // The most turns of each worker of `run`, if the command line doesn't say.
 const DEFAULT_TURNS: u64 = 10_000;
 
-fn check_command<'a>(alloc: Global) -> Command<'a>
-    ensures app { app_of result ≡ new_app (codes "check") }
+// Returns a command without arguments of its own, by its name and its two helps.
+fn plain_command<'a>(alloc: Global, name: &'a str, about: &'a str, long: &'a str) -> Command<'a>
+    ensures app { app_of result ≡ new_app name.entry.now }
     ensures local { (fields_of result).has_globals ≡ false }
 {
-    Command::new(alloc, "check")
-        .about(help::CHECK_ABOUT)
-        .long_about(help::CHECK_LONG_ABOUT)
-}
-
-fn audit_command<'a>(alloc: Global) -> Command<'a>
-    ensures app { app_of result ≡ new_app (codes "audit") }
-    ensures local { (fields_of result).has_globals ≡ false }
-{
-    Command::new(alloc, "audit")
-        .about(help::AUDIT_ABOUT)
-        .long_about(help::AUDIT_LONG_ABOUT)
-}
-
-fn upgrade_command<'a>(alloc: Global) -> Command<'a>
-    ensures app { app_of result ≡ new_app (codes "upgrade") }
-    ensures local { (fields_of result).has_globals ≡ false }
-{
-    Command::new(alloc, "upgrade")
-        .about(help::UPGRADE_ABOUT)
-        .long_about(help::UPGRADE_LONG_ABOUT)
-}
-
-fn sim_command<'a>(alloc: Global) -> Command<'a>
-    ensures app { app_of result ≡ new_app (codes "sim") }
-    ensures local { (fields_of result).has_globals ≡ false }
-{
-    Command::new(alloc, "sim")
-        .about(help::SIM_ABOUT)
-        .long_about(help::SIM_LONG_ABOUT)
+    Command::new(alloc, name).about(about).long_about(long)
 }
 
 fn turns_argument<'a>(alloc: Global) -> Arg<'a>
@@ -70,10 +39,7 @@ fn run_command<'a>(alloc: Global) -> Result<Command<'a>, AllocError>
     ensures local { IfOk result (λ c. (fields_of c).has_globals ≡ false) }
 {
     let turns = turns_argument(alloc);
-    Command::new(alloc, "run")
-        .about(help::RUN_ABOUT)
-        .long_about(help::RUN_LONG_ABOUT)
-        .arg(turns)
+    plain_command(alloc, "run", help::RUN_ABOUT, help::RUN_LONG_ABOUT).arg(turns)
 }
 
 // Returns clap's command for the program without its subcommands.
@@ -90,11 +56,16 @@ fn bare_command<'a>(alloc: Global) -> Command<'a>
 
 // Returns the command with the subcommands that read traces.
 fn trace_command<'a>(alloc: Global) -> Result<Command<'a>, AllocError>
-    ensures { IfOk result (λ c. app_of c ≡ trace_app) }
+    ensures { IfOk result (λ c. app_of c ≡ with_subcommand (with_subcommand (with_subcommand bare_app (new_app (codes "check")).top) (new_app (codes "audit")).top) (new_app (codes "upgrade")).top) }
 {
-    let check = check_command(alloc);
-    let audit = audit_command(alloc);
-    let upgrade = upgrade_command(alloc);
+    let check = plain_command(alloc, "check", help::CHECK_ABOUT, help::CHECK_LONG_ABOUT);
+    let audit = plain_command(alloc, "audit", help::AUDIT_ABOUT, help::AUDIT_LONG_ABOUT);
+    let upgrade = plain_command(
+        alloc,
+        "upgrade",
+        help::UPGRADE_ABOUT,
+        help::UPGRADE_LONG_ABOUT,
+    );
     bare_command(alloc)
         .subcommand(check)?
         .subcommand(audit)?
@@ -105,7 +76,7 @@ fn trace_command<'a>(alloc: Global) -> Result<Command<'a>, AllocError>
 fn evc_command<'a>(alloc: Global) -> Result<Command<'a>, AllocError>
     ensures { IfOk result (λ c. app_of c ≡ evc_app) }
 {
-    let sim = sim_command(alloc);
+    let sim = plain_command(alloc, "sim", help::SIM_ABOUT, help::SIM_LONG_ABOUT);
     let run = run_command(alloc)?;
     trace_command(alloc)?.subcommand(sim)?.subcommand(run)
 }

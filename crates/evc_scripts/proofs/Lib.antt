@@ -1,10 +1,8 @@
 pub mod shared
-pub mod WrittenLines
 pub mod SameLines
 pub mod OneRun
 pub mod OneNote
 pub mod OutcomeLines
-pub mod SimEnds
-pub mod RunLemmas
+pub mod Ends
 pub mod SameReports
 pub mod PlainActs

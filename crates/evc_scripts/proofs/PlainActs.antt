@@ -37,7 +37,7 @@ use Rattle.ec_heading.specs.declared.version.Version.{Version}
 use Rattle.ec_heading.specs.declared.version.Version.TheVariants.{One, Two}
 use Rattle.ec_heading.specs.Versions.{can_spell, CanSpellAll}
 use Rattle.ec_heading.proofs.shared.VersionFacts.{two_spells_all}
-use Rattle.ec_script.specs.Versioned.{has_command, HasProgram, HasPrograms}
+use Rattle.ec_script.specs.Confined.{has_command, HasProgram, HasPrograms}
 use Rattle.ec_heading.proofs.shared.Each.{each_append as every_append}
 use Rattle.ec_runner.specs.declared.report.Report.{Report}
 use Rattle.ec_runner.specs.RunReports.{IsReportOf}

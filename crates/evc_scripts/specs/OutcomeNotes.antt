@@ -41,8 +41,5 @@ abbrev pub script_note : ℕ → Kind → List ℕ
 script_note n kind = line_words n ++ kind_words kind ++ codes "\n"
 
 -- the note on a place of a schedule that names a worker that has ended
-abbrev pub ended_words : ℕ → List ℕ → List ℕ
-ended_words place worker = codes "schedule place " ++ decimal place ++ codes ": worker " ++ worker ++ codes " has ended\n"
-
 abbrev pub ended_note : HeadingModel → ℕ → ℕ → List ℕ
-ended_note h place w = ended_words place (worker_word h.words w)
+ended_note h place w = codes "schedule place " ++ decimal place ++ codes ": worker " ++ worker_word h.words w ++ codes " has ended\n"

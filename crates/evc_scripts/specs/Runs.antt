@@ -10,11 +10,9 @@ use Rattle.ec_machine.specs.declared.outcome.Outcome.{Outcome}
 use Rattle.ec_machine.specs.declared.outcome.Outcome.TheVariants as outcomes
 use Rattle.ec_script.specs.declared.fault.Kind.{Kind}
 use Rattle.ec_script.specs.declared.parsing.TheConstants.{SCRIPT_MAX}
-use Rattle.ec_script.specs.Outcome.{parse_result}
 use Rattle.ec_script.specs.ScriptModel.{PlanModel}
 use Rattle.ec_runner.specs.declared.report.Report.{Report}
 use Rattle.ec_runner.specs.declared.run_fault.RunFault.{RunFault}
-use Rattle.ec_runner.specs.declared.run_fault.RunFault.TheVariants.{Mismatch, Spawn}
 use Rattle.ec_runner.specs.declared.run_fault.RunFault.TheVariants as faults
 use Rattle.ec_heading.specs.HeadingModel.{HeadingModel}
 use Rattle.ec_runner.specs.RunReports.{IsReportOf}
@@ -62,16 +60,16 @@ WroteReport p turns status old new = (trace note : List ℕ) × HaveRun p turns 
 
 -- the status if there is no report, and the note
 abbrev pub run_fault_status : RunFault → Status
-run_fault_status (Mismatch w) = Stopped
-run_fault_status Spawn = InputOutput
+run_fault_status (faults.Mismatch w) = Stopped
+run_fault_status faults.Spawn = InputOutput
 run_fault_status faults.Memory = Memory
 
 abbrev pub mismatch_words : List ℕ → List ℕ
 mismatch_words worker = codes "mismatch " ++ worker ++ codes "\n"
 
 abbrev pub run_fault_note : HeadingModel → RunFault → List ℕ
-run_fault_note h (Mismatch w) = mismatch_words (worker_word h.words w)
-run_fault_note h Spawn = codes "no thread\n"
+run_fault_note h (faults.Mismatch w) = mismatch_words (worker_word h.words w)
+run_fault_note h faults.Spawn = codes "no thread\n"
 run_fault_note h faults.Memory = codes "no memory\n"
 
 -- nothing was written but this note
@@ -80,8 +78,8 @@ WritesOnlyNote old new note = Keeps old.out new.out × Notes old new note
 
 -- a mismatch names a declared worker
 abbrev pub NamesWorker : Tables → RunFault → Type 0
-NamesWorker t (Mismatch w) = w < t.workers
-NamesWorker t Spawn = Unit {0}
+NamesWorker t (faults.Mismatch w) = w < t.workers
+NamesWorker t faults.Spawn = Unit {0}
 NamesWorker t faults.Memory = Unit {0}
 
 -- there is no report, for a fault with this status: a mismatch is of workers that ran the programs
@@ -108,13 +106,6 @@ RunEnds p turns Refused old new = ⊥
 RunEnds p turns Usage old new = ⊥
 
 -- THE COMMAND
-
--- how it ended for a text that was read
-abbrev pub TextRuns : List ℕ → ℕ → Status → Outputs → Outputs → Type 0
-TextRuns text turns Refused old new = (n : ℕ) × (kind : Kind) × (parse_result text ≡ Err (n, kind)) × WritesOnlyNote old new (script_note n kind)
-TextRuns text turns Memory old new =
-    ((p : PlanModel) × (parse_result text ≡ Ok p) × RunEnds p turns Memory old new) ⊎ WritesOnlyNote old new (codes "no memory\n")
-TextRuns text turns status old new = (p : PlanModel) × (parse_result text ≡ Ok p) × RunEnds p turns status old new
 
 -- how `run` ended: the bytes are a script, its workers ran, and their trace was written, with no
 -- worker stopped, out of turns or out of memory (0); or the bytes are no script, and only the note

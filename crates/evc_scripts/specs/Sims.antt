@@ -17,7 +17,6 @@ use Rattle.ec_script.specs.Outcome.{parse_result}
 use Rattle.ec_script.specs.ScriptModel.{PlanModel}
 use Rattle.ec_runner.specs.Reported.{AreOutcomes}
 use Rattle.ec_runner.specs.declared.report.SimFault.{SimFault}
-use Rattle.ec_runner.specs.declared.report.SimFault.TheVariants.{Ended}
 use Rattle.ec_runner.specs.declared.report.SimFault.TheVariants as faults
 use Rattle.ec_runner.specs.Schedules.{Turn, Plays, EndsBeforePlace, entries_of}
 use Rattle.evc_engine.specs.declared.status.Status.{Status}
@@ -63,11 +62,11 @@ pub record IsPlayed (p : PlanModel) (trace note : List ℕ) : Type 0 where
 
 -- the status if the schedule was not played, and the note
 abbrev pub fault_status : SimFault → Status
-fault_status (Ended place w) = Refused
+fault_status (faults.Ended place w) = Refused
 fault_status faults.Memory = Memory
 
 abbrev pub sim_fault_note : HeadingModel → SimFault → List ℕ
-sim_fault_note h (Ended place w) = ended_note h place w
+sim_fault_note h (faults.Ended place w) = ended_note h place w
 sim_fault_note h faults.Memory = codes "no memory\n"
 
 -- how the command ended for a plan
@@ -78,17 +77,6 @@ PlanEnds p InputOutput old new = (trace note : List ℕ) × IsPlayed p trace not
 PlanEnds p Memory old new = Keeps old.out new.out × Notes old new (codes "no memory\n")
 PlanEnds p Usage old new = ⊥
 PlanEnds p Stopped old new = ⊥
-
--- TEXTS
-
--- how the command ended for a text that was read
-abbrev pub TextEnds : List ℕ → Status → Outputs → Outputs → Type 0
-TextEnds text Refused old new =
-    ((p : PlanModel) × (parse_result text ≡ Ok p) × PlanEnds p Refused old new)
-    ⊎ ((n : ℕ) × (kind : Kind) × (parse_result text ≡ Err (n, kind)) × Keeps old.out new.out × Notes old new (script_note n kind))
-TextEnds text Memory old new = Keeps old.out new.out × Notes old new (codes "no memory\n")
-TextEnds text status old new = (p : PlanModel) × (parse_result text ≡ Ok p)
-    × PlanEnds p status old new
 
 -- THE COMMAND
 

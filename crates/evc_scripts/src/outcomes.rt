@@ -1,8 +1,8 @@
 //! The notes of the commands on scripts.
-ghost use Rattle.std.specs.Prelude.{◌≡◌, ◌≤◌, ◌∷◌, [], length, slice_get};
+ghost use Rattle.std.specs.Prelude.{◌≡◌, ◌≤◌, ◌∷◌, [], ◌++◌, codes, decimal, length, slice_get};
 ghost use Rattle.ec_text.specs.Puts.{Puts, IsWrittenOut};
 ghost use Rattle.ec_heading.specs.Spelling.{lines_text};
-ghost use Rattle.evc_scripts.specs.OutcomeNotes.{outcome_words, outcome_line, outcome_lines, outcomes_note, kind_words, script_note, ended_words, ended_note};
+ghost use Rattle.evc_scripts.specs.OutcomeNotes.{outcome_words, outcome_lines, outcomes_note, kind_words, script_note, ended_note};
 ghost use Rattle.evc_engine.specs.AuditTexts.{worker_word};
 ghost use Rattle.evc_scripts.specs.Runs.{mismatch_words};
 
@@ -29,21 +29,6 @@ fn put_outcome<W: Write>(out: &mut Output<'_, W>, outcome: &Outcome)
     }
 }
 
-/// Puts the outcome of a worker's program.
-fn put_outcome_of<W: Write>(
-    out: &mut Output<'_, W>,
-    spellings: &Spellings<'_>,
-    worker: WorkerId,
-    outcome: &Outcome,
-)
-    ensures { Puts out.old out.new (outcome_line spellings.now worker outcome.now) }
-{
-    out.put(b"outcome ");
-    out.put(spellings.worker(worker));
-    out.put(b" ");
-    put_outcome(out, outcome);
-}
-
 /// Puts the line of a worker's outcome, with its LF.
 fn put_outcome_line<W: Write>(
     out: &mut Output<'_, W>,
@@ -53,7 +38,10 @@ fn put_outcome_line<W: Write>(
 )
     ensures { Puts out.old out.new (lines_text (outcome_lines spellings.now worker (outcome.now ∷ []))) }
 {
-    put_outcome_of(out, spellings, worker, outcome);
+    out.put(b"outcome ");
+    out.put(spellings.worker(worker));
+    out.put(b" ");
+    put_outcome(out, outcome);
     out.put_byte(b'\n');
 }
 
@@ -121,7 +109,7 @@ pub(crate) fn note_kind<N: Write>(notes: &mut Output<'_, N>, line: u64, kind: Ki
 
 /// Puts the note on a place of a schedule that names a worker that has ended.
 fn put_ended<W: Write>(out: &mut Output<'_, W>, place: u64, worker: &[u8])
-    ensures { Puts out.old out.new (ended_words place worker.now) }
+    ensures { Puts out.old out.new (codes "schedule place " ++ decimal place ++ codes ": worker " ++ worker.now ++ codes " has ended\n") }
 {
     out.put(b"schedule place ");
     out.put_number(place);
@@ -145,15 +133,6 @@ pub(crate) fn note_ended<N: Write>(
     notes.flush();
 }
 
-/// Puts the note on a worker whose summary does not fit the run.
-fn put_mismatch<W: Write>(out: &mut Output<'_, W>, worker: &[u8])
-    ensures { Puts out.old out.new (mismatch_words worker.now) }
-{
-    out.put(b"mismatch ");
-    out.put(worker);
-    out.put(b"\n");
-}
-
 /// Writes the note on a worker whose summary does not fit the run. No run is known to need it; the
 /// function is public so that a test can write the note.
 pub fn note_mismatch<N: Write>(notes: &mut Output<'_, N>, heading: &Heading, worker: WorkerId)
@@ -161,6 +140,8 @@ pub fn note_mismatch<N: Write>(notes: &mut Output<'_, N>, heading: &Heading, wor
     ensures written { IsWrittenOut notes.new }
 {
     let spellings = Spellings::new(heading.words());
-    put_mismatch(notes, spellings.worker(worker));
+    notes.put(b"mismatch ");
+    notes.put(spellings.worker(worker));
+    notes.put(b"\n");
     notes.flush();
 }

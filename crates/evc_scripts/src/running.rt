@@ -6,7 +6,7 @@ ghost use Rattle.ec_text.specs.Puts.{Puts, IsWrittenOut};
 ghost use Rattle.ec_script.specs.Outcome.{shown_plan};
 ghost use Rattle.ec_script.specs.Confined.{IsPlan};
 ghost use Rattle.ec_runner.specs.RunReports.{IsReportOf};
-ghost use Rattle.evc_scripts.specs.Runs.{RunEnds, TextRuns, Runs, status_for, is_memory, is_cut_short, run_fault_status, run_fault_note};
+ghost use Rattle.evc_scripts.specs.Runs.{RunEnds, Runs, status_for, is_memory, is_cut_short, run_fault_status, run_fault_note};
 
 use crate::outcomes::{note_kind, note_mismatch};
 use crate::writing::write_run;
@@ -114,33 +114,6 @@ fn run_plan<H: Threads + Wait + Sync, W: Write, N: Write>(
     }
 }
 
-/// Parses a script, and runs its workers.
-fn run_text<H: Threads + Wait + Sync, W: Write, N: Write>(
-    rt: &H,
-    alloc: Global,
-    turns: u64,
-    text: &[u8],
-    out: &mut W,
-    notes: &mut Output<'_, N>,
-) -> Status
-    ensures ends { TextRuns text.now turns result
-        (record { out = W.contents out.old; notes = notes.old })
-        (record { out = W.contents out.new; notes = notes.new }) }
-    ensures written { IsWrittenOut notes.new }
-{
-    match parse(alloc, text) {
-        Ok(plan) => run_plan(rt, alloc, turns, &plan, out, notes),
-        Err(ScriptFault::At { line, kind }) => {
-            note_kind(notes, line, kind);
-            Status::Refused
-        }
-        Err(ScriptFault::Memory) => {
-            notes.say(b"no memory\n");
-            Status::Memory
-        }
-    }
-}
-
 /// Reads a script, runs its workers, each on a thread of its own and for at most this many turns,
 /// and writes their trace. Then the notes say how each worker's program has ended. The schedule of
 /// the script is checked, but not used.
@@ -162,7 +135,17 @@ pub fn run<H: Threads + Wait + Sync, R: Read, W: Write, N: Write>(
     ensures written { IsWrittenOut notes.new }
 {
     match read_up_to(alloc, reader, SCRIPT_MAX) {
-        Ok(Input::Whole(text)) => run_text(rt, alloc, turns, text.as_slice(), out, notes),
+        Ok(Input::Whole(text)) => match parse(alloc, text.as_slice()) {
+            Ok(plan) => run_plan(rt, alloc, turns, &plan, out, notes),
+            Err(ScriptFault::At { line, kind }) => {
+                note_kind(notes, line, kind);
+                Status::Refused
+            }
+            Err(ScriptFault::Memory) => {
+                notes.say(b"no memory\n");
+                Status::Memory
+            }
+        },
         Ok(Input::CutOff(_)) => {
             notes.say(b"read fault\n");
             Status::InputOutput

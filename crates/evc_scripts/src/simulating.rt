@@ -5,7 +5,7 @@ ghost use Rattle.ec_text.specs.Puts.{Puts, IsWrittenOut};
 ghost use Rattle.ec_runner.specs.Reported.{IsReport};
 ghost use Rattle.ec_script.specs.Confined.{IsPlan};
 ghost use Rattle.ec_script.specs.Outcome.{shown_plan};
-ghost use Rattle.evc_scripts.specs.Sims.{PlanEnds, TextEnds, Sims, fault_status, sim_fault_note};
+ghost use Rattle.evc_scripts.specs.Sims.{PlanEnds, Sims, fault_status, sim_fault_note};
 
 use crate::outcomes::{note_ended, note_kind};
 use crate::writing::write_run;
@@ -78,31 +78,6 @@ fn sim_plan<W: Write, N: Write>(
     }
 }
 
-/// Parses a script, and plays its schedule.
-fn sim_text<W: Write, N: Write>(
-    alloc: Global,
-    text: &[u8],
-    out: &mut W,
-    notes: &mut Output<'_, N>,
-) -> Status
-    ensures ends { TextEnds text.now result
-        (record { out = W.contents out.old; notes = notes.old })
-        (record { out = W.contents out.new; notes = notes.new }) }
-    ensures written { IsWrittenOut notes.new }
-{
-    match parse(alloc, text) {
-        Ok(plan) => sim_plan(alloc, &plan, out, notes),
-        Err(ScriptFault::At { line, kind }) => {
-            note_kind(notes, line, kind);
-            Status::Refused
-        }
-        Err(ScriptFault::Memory) => {
-            notes.say(b"no memory\n");
-            Status::Memory
-        }
-    }
-}
-
 /// Reads a script, and writes the trace of its workers by its schedule. Then the notes say how each
 /// worker's program has ended. If the script or its schedule is rejected, a note says why.
 ///
@@ -121,7 +96,17 @@ pub fn sim<R: Read, W: Write, N: Write>(
     ensures written { IsWrittenOut notes.new }
 {
     match read_up_to(alloc, reader, SCRIPT_MAX) {
-        Ok(Input::Whole(text)) => sim_text(alloc, text.as_slice(), out, notes),
+        Ok(Input::Whole(text)) => match parse(alloc, text.as_slice()) {
+            Ok(plan) => sim_plan(alloc, &plan, out, notes),
+            Err(ScriptFault::At { line, kind }) => {
+                note_kind(notes, line, kind);
+                Status::Refused
+            }
+            Err(ScriptFault::Memory) => {
+                notes.say(b"no memory\n");
+                Status::Memory
+            }
+        },
         Ok(Input::CutOff(_)) => {
             notes.say(b"read fault\n");
             Status::InputOutput

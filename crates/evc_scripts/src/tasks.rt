@@ -1,6 +1,5 @@
 //! The tasks of the command line.
 ghost use Rattle.std.specs.Prelude.{◌≡◌, IfErr, IfOk, IfSome, ℕ};
-ghost use Rattle.evc_engine.specs.Checks.{Checks};
 ghost use Rattle.evc_cli.specs.declared.choice.Task.TheVariants.{Run};
 ghost use Rattle.evc_scripts.specs.Tasks.{Does};
 ghost use Rattle.ec_text.specs.Puts.{IsWrittenOut};

@@ -39,9 +39,8 @@ use Rattle.ec_script.specs.ScriptModel.{ScriptModel, PlanModel}
 use Rattle.ec_script.specs.Reading.{context_of_script, with_worker_block, block_with_item, after_command, with_block_end, after_verb, after, fault_or, after_phrase, map_heading, is_declaring, opens_outer, script_step, stage_of_version, after_limit, limit_digits, limit_or, limit_step, script_of, stage_of_heading, read_on, step}
 use Rattle.ec_script.specs.Outcome.{plan_or, plan_in, parse_result, Returns, shown_plan}
 use Rattle.ec_script.specs.Grammar.{Leads, IsScript}
-use Rattle.ec_script.specs.Versioned.{HasItem, HasItems, HasPrograms}
-use Rattle.ec_script.specs.Confined.{IsConfined, AreConfined, IsPlan, AreConfinedPrograms}
-use Rattle.ec_script.proofs.Room.{NoFault, no_fault}
+use Rattle.ec_script.specs.Confined.{IsConfined, AreConfined, IsPlan, AreConfinedPrograms, HasItem, HasItems, HasPrograms}
+use Rattle.ec_script.proofs.Room.{passes}
 use Rattle.ec_script.proofs.shared.Texts.{read_is_script}
 use Rattle.ec_script.proofs.shared.WrittenOut.{confined_lines, had_lines}
 use Rattle.ec_heading.proofs.shared.Each.{each_append as every_append}
@@ -218,8 +217,8 @@ phrased_keeps : (s t : ScriptModel) (o : Option Phrase) → Keeps s → after_ph
 phrased_keeps s t None keeps is = cc
 phrased_keeps s t (Some p) keeps is =
     let f = unfaulted (phrase_fault (context_of_script s) p (object_in s.heading p)) (after s p) t is in
-    let n : NoFault (context_of_script s) p (object_in s.heading p) = no_fault (context_of_script s) p (object_in s.heading p) f.0 in
-    subst Keeps f.1 (after_keeps s p.verb p.object p.rest keeps n.version n.owned n.roles)
+    let n = passes (context_of_script s) p (object_in s.heading p) f.0 in
+    subst Keeps f.1 (after_keeps s p.verb p.object p.rest keeps n.version n.apart n.differ)
 
 -- LINES
 

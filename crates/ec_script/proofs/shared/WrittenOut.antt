@@ -17,8 +17,7 @@ use Rattle.ec_heading.specs.declared.version.Version.{Version}
 use Rattle.ec_script.specs.declared.block_item.BlockItem.{BlockItem}
 use Rattle.ec_script.specs.declared.block_item.BlockItem.TheVariants.{Do, Write, Begin, End}
 use Rattle.ec_script.specs.Flat.{flat, flat_one, flat_step, all_of}
-use Rattle.ec_script.specs.Versioned.{has_command, HasItem, HasItems, HasPrograms}
-use Rattle.ec_script.specs.Confined.{UsesGroups, IsConfined, AreConfined, AreConfinedPrograms}
+use Rattle.ec_script.specs.Confined.{UsesGroups, IsConfined, AreConfined, AreConfinedPrograms, has_command, HasItem, HasItems, HasPrograms}
 use Rattle.ec_heading.proofs.shared.Each.{each_append as every_append}
 
 -- LISTS

@@ -13,8 +13,6 @@ use Rattle.ec_heading.specs.declared.version.Version.{Version}
 use Rattle.ec_heading.specs.Versions.{CanSpellAll}
 use Rattle.ec_heading.proofs.shared.TreeFound.{version_found}
 use Rattle.ec_trace.specs.Outcome.{parse_result}
-use Rattle.ec_heading.specs.HeaderTree.{heading_of_tree}
-use Rattle.ec_trace.specs.TraceModel.{TraceModel}
 use Rattle.ec_trace.specs.declared.read.TheConstants.{TRACE_MAX}
 use Rattle.ec_trace.proofs.shared.ReadTraces.{written_is_read}
 use Rattle.ec_runner.specs.Schedules.{Turn, AreTurns, entries_of, with_answer}

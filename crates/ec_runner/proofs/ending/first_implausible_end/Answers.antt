@@ -1,10 +1,9 @@
-use Rattle.std.proofs.Common.{◌≡◌, ◌<◌, ℕ, length, slice_get, arith, inl, inr, sym, ◌∙◌, ap, subst}
-use Rattle.std.proofs.lemmas.Bool.{cases_eq}
-use Rattle.std.proofs.lemmas.Option.{slice_get_within, get_or_from_slice_get}
+use Rattle.std.proofs.Common.{◌<◌, ℕ, length, slice_get, arith, ◌∙◌, ap}
+use Rattle.std.proofs.lemmas.Option.{slice_get_within}
 use Rattle.ec_runner.specs.declared.summary.Summary.{Summary}
 use Rattle.ec_runner.specs.Fits.{MayBeBorneOut}
 use Rattle.ec_runner.proofs.Asking.{then_likely}
-use Rattle.ec_runner.proofs.Walking.{index_is}
+use Rattle.ec_runner.proofs.Walking.{index_is, one_more}
 use Rattle.ec_runner.proofs.ending.first_implausible_end.Goals as goal
 
 pub returns-then-not-may_be_borne_out : goal.returns-then-not-may_be_borne_out
@@ -19,17 +18,9 @@ returns-then-not-may_be_borne_out c =
     }
 
 pub loop-w-preserved : goal.loop-w-preserved
-loop-w-preserved c = λ w summary below is.
-    elim (cases_eq w c.loop-w.w) [
-      | inl same ↦
-          let run = c.args.run.now in
-          let one = c.index-summaries-w.result in
-          let here : one ≡ summary = c.index-summaries-w.is ∙ (rw same at (get_or_from_slice_get c.args.summaries.now w summary one is)) in
-          let number : c.nth_worker-worker.result ≡ w = c.nth_worker-worker.ensures ∙ sym same in
-          let borne = c.may_be_borne_out.ensures.0 c.if-not-may_be_borne_out.false in
-          subst (λ (t : Summary). MayBeBorneOut t.outcome run w t.asked) here (subst (λ (v : ℕ). MayBeBorneOut one.outcome run v one.asked) number borne)
-      | inr not ↦ c.loop-w.invariant w summary (omega arith) is
-    ]
+loop-w-preserved c =
+    one_more (λ (t : Summary) (w : ℕ). MayBeBorneOut t.outcome c.args.run.now w t.asked) c.args.summaries.now c.loop-w.w _ c.index-summaries-w.result c.index-summaries-w.is c.nth_worker-worker.ensures
+    (c.may_be_borne_out.ensures.0 c.if-not-may_be_borne_out.false) c.loop-w.invariant
 
 pub returns : goal.returns
 returns c = λ w summary is. c.loop-w.invariant w summary (let h = slice_get_within c.args.summaries.now w summary is in omega arith) is

@@ -1,8 +1,8 @@
-use Rattle.std.proofs.Common.{◌≡◌, ◌<◌, List, length, sym, ◌∙◌, ap, ◌++◌, subst, arith}
+use Rattle.std.proofs.Common.{append-nil, ◌≡◌, ◌<◌, List, length, sym, ◌∙◌, ap, ◌++◌, subst, arith}
 use Rattle.ec_core.specs.declared.act.Entry.{Entry}
 use Rattle.ec_machine.proofs.shared.OwnSteps.{order_more, entry_next as entry_there}
 use Rattle.ec_runner.specs.LogComparison.{AreLogsOf, IsLogMismatch}
-use Rattle.ec_runner.proofs.Walking.{all_walked, append_none, is_declared, then_match, unfinished, unlike_there}
+use Rattle.ec_runner.proofs.Walking.{all_walked, is_declared, then_match, unfinished, unlike_there}
 use Rattle.ec_runner.proofs.log_comparison.first_log_mismatch.Goals as goal
 
 pub advances_cursor-requires : goal.advances_cursor-requires
@@ -31,7 +31,7 @@ returns c =
     let summaries = c.args.summaries.now in
     let done = c.loop-entry.yielded in
     let whole : done ≡ c.args.run.now.entries =
-    sym (append_none done) ∙ ap (λ r. done ++ r) (sym c.in-None.ensures.steps.0) ∙ c.loop-entry.invariant.order in
+    sym (append-nil done) ∙ ap (λ r. done ++ r) (sym c.in-None.ensures.steps.0) ∙ c.loop-entry.invariant.order in
     then_match c.first_unfinished.result
     (λ ends. subst (AreLogsOf summaries) whole (all_walked summaries c.loop-entry.cursors done c.loop-entry.invariant.walked ends))
     (λ w u. subst (λ (h : List Entry). IsLogMismatch summaries h w) whole (unfinished summaries c.loop-entry.cursors done w c.loop-entry.invariant.walked u))

@@ -1,10 +1,9 @@
-use Rattle.std.proofs.Common.{◌≡◌, ◌<◌, ℕ, length, slice_get, arith, inl, inr, sym, ◌∙◌, ap, subst}
-use Rattle.std.proofs.lemmas.Bool.{cases_eq}
-use Rattle.std.proofs.lemmas.Option.{slice_get_within, get_or_from_slice_get}
+use Rattle.std.proofs.Common.{◌<◌, ℕ, length, slice_get, arith, ◌∙◌, ap}
+use Rattle.std.proofs.lemmas.Option.{slice_get_within}
 use Rattle.ec_runner.specs.declared.summary.Summary.{Summary}
 use Rattle.ec_runner.specs.Fits.{IsRightAt}
 use Rattle.ec_runner.proofs.Asking.{then_right}
-use Rattle.ec_runner.proofs.Walking.{index_is}
+use Rattle.ec_runner.proofs.Walking.{index_is, one_more}
 use Rattle.ec_runner.proofs.refused.first_wrong_at.Goals as goal
 
 pub returns-then-not-is_right_at : goal.returns-then-not-is_right_at
@@ -19,17 +18,9 @@ returns-then-not-is_right_at c =
     }
 
 pub loop-w-preserved : goal.loop-w-preserved
-loop-w-preserved c = λ w summary below is.
-    elim (cases_eq w c.loop-w.w) [
-      | inl same ↦
-          let run = c.args.run.now in
-          let one = c.index-summaries-w.result in
-          let here : one ≡ summary = c.index-summaries-w.is ∙ (rw same at (get_or_from_slice_get c.args.summaries.now w summary one is)) in
-          let number : c.nth_worker-worker.result ≡ w = c.nth_worker-worker.ensures ∙ sym same in
-          let borne = c.is_right_at.ensures.0 c.if-not-is_right_at.false in
-          subst (λ (t : Summary). IsRightAt t.outcome t.asked run c.args.moment w) here (subst (λ (v : ℕ). IsRightAt one.outcome one.asked run c.args.moment v) number borne)
-      | inr not ↦ c.loop-w.invariant w summary (omega arith) is
-    ]
+loop-w-preserved c =
+    one_more (λ (t : Summary) (w : ℕ). IsRightAt t.outcome t.asked c.args.run.now c.args.moment w) c.args.summaries.now c.loop-w.w _ c.index-summaries-w.result c.index-summaries-w.is c.nth_worker-worker.ensures
+    (c.is_right_at.ensures.0 c.if-not-is_right_at.false) c.loop-w.invariant
 
 pub returns : goal.returns
 returns c = λ w summary is. c.loop-w.invariant w summary (let h = slice_get_within c.args.summaries.now w summary is in omega arith) is

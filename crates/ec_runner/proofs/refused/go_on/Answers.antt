@@ -1,6 +1,8 @@
-use Rattle.std.proofs.Common.{◌≡◌, List, Some, Ok, slice_get, take, sym, subst}
+use Rattle.std.proofs.Common.{◌≡◌, List, [], ◌∷◌, ◌++◌, Some, Result, Ok, IfOk, slice_get, take, sym, subst, ◌∙◌}
 use Rattle.ec_count.specs.Tables.{Tables}
 use Rattle.ec_core.specs.declared.act.Entry.{Entry}
+use Rattle.ec_core.specs.declared.act.Reply.{Reply}
+use Rattle.ec_core.specs.declared.act.Refusal.{Refusal}
 use Rattle.ec_core.specs.Acceptance.{answer_of}
 use Rattle.ec_core.specs.Counts.{past_at}
 use Rattle.ec_core.specs.Standing.{StandsFor}
@@ -15,6 +17,7 @@ returns-clause-represents c = λ represents same.
     let x = c.in-Some.entry in
     let there : slice_get h i ≡ Some x = sym c.in-Some.ensures in
     let right : answer_of run.setup (past_at i h) x.worker x.act ≡ Ok x.reply = (c.accepted_means_answered.ensures run.setup h).0 c.invariant.ensures.accepted i x there in
-    subst (λ (done : List Entry). StandsFor c.make.new.world done) (sym (take_next h i x there))
-    (c.make.ensures.represents (take i h) represents
-    (subst (λ (t : Tables). answer_of t (past_at i h) x.worker x.act ≡ Ok x.reply) (sym same) right)))
+    subst (λ (done : List Entry). StandsFor c.step.new.self done) (sym (take_next h i x there))
+    (subst (λ (r : Result Reply Refusal). IfOk r (λ reply. StandsFor c.step.new.self (take i h ++ record { worker = x.worker; act = x.act; reply = reply } ∷ [])))
+    (c.step.ensures.answer (take i h) represents ∙ subst (λ (t : Tables). answer_of t (past_at i h) x.worker x.act ≡ Ok x.reply) (sym same) right)
+    (c.step.ensures.after (take i h) represents)))

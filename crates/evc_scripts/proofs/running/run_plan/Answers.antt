@@ -1,5 +1,5 @@
 use Rattle.std.proofs.KnownBytes.{Keeps-refl}
-use Rattle.evc_scripts.proofs.RunLemmas.{fault_ends, names_worker}
+use Rattle.evc_scripts.proofs.Ends.{fault_ends, names_worker}
 use Rattle.evc_scripts.proofs.running.run_plan.Goals as goal
 
 pub returns-in-Err-clause-ends : goal.returns-in-Err-clause-ends

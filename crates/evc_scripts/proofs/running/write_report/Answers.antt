@@ -1,5 +1,4 @@
 use Rattle.std.proofs.Common.{◌≡◌, ◌∙◌, List, ap, inl, refl, sym, subst}
-use Rattle.std.specs.Io.KnownBytes.{Appends}
 use Rattle.ec_text.specs.Puts.{Puts}
 use Rattle.ec_machine.specs.declared.outcome.Outcome.{Outcome}
 use Rattle.ec_script.specs.Outcome.{shown_plan}
@@ -7,7 +6,7 @@ use Rattle.ec_heading.specs.HeadingInvariant.{HasHeaderTree}
 use Rattle.evc_engine.specs.declared.status.Status.{Status}
 use Rattle.evc_scripts.specs.OutcomeNotes.{outcomes_note}
 use Rattle.evc_scripts.specs.Runs.{RunEnds, status_for}
-use Rattle.evc_scripts.proofs.RunLemmas.{have_run, told_ends}
+use Rattle.evc_scripts.proofs.Ends.{have_run, told_ends}
 use Rattle.evc_scripts.proofs.running.write_report.Goals as goal
 
 pub returns-then-write_run-clause-ends : goal.returns-then-write_run-clause-ends

@@ -3,7 +3,7 @@ use Rattle.ec_text.specs.Puts.{Puts}
 use Rattle.ec_machine.specs.declared.outcome.Outcome.{Outcome}
 use Rattle.ec_heading.specs.HeadingInvariant.{HasHeaderTree}
 use Rattle.evc_scripts.specs.OutcomeNotes.{outcomes_note}
-use Rattle.evc_scripts.proofs.SimEnds.{is_played}
+use Rattle.evc_scripts.proofs.Ends.{is_played}
 use Rattle.evc_scripts.proofs.simulating.write_report.Goals as goal
 
 pub returns-then-write_run-clause-ends : goal.returns-then-write_run-clause-ends

@@ -4,8 +4,8 @@ use Rattle.ec_script.specs.Verbs.{tail_of}
 use Rattle.ec_script.specs.Forms.{rest_words, phrase_of_parts}
 use Rattle.ec_script.specs.Kinds.{is_bad_tail, has_two_roles}
 use Rattle.ec_script.specs.Reading.{context_of_script}
-use Rattle.ec_script.specs.Rooms.{MayTakeItem}
-use Rattle.ec_script.proofs.Room.{repeat_may, end_may, command_room, no_fault}
+use Rattle.ec_script.specs.ScriptModel.{MayTakeItem}
+use Rattle.ec_script.proofs.Room.{repeat_may, end_may, command_room, passes}
 use Rattle.ec_script.proofs.script.Script.apply.Goals as goal
 
 pub add_item-requires : goal.add_item-requires
@@ -19,9 +19,9 @@ end-requires c = end_may c.args.self.now c.args.parts.now.verb c.args.parts.now.
 pub command-requires : goal.command-requires
 command-requires c =
     let parts = c.args.parts.now in
-    let f = no_fault (context_of_script c.args.self.now) (phrase_of_parts parts) c.args.found.now c.requires in
+    let f = passes (context_of_script c.args.self.now) (phrase_of_parts parts) c.args.found.now c.requires in
     record {
-      numbers = ap (λ o. is_bad_tail (tail_of parts.verb) parts.verb (rest_words parts.rest) o) c.or_nothing-object.ensures ∙ f.number;
-      roles = ap has_two_roles c.or_nothing-object.ensures ∙ f.roles;
+      numbers = ap (λ o. is_bad_tail (tail_of parts.verb) parts.verb (rest_words parts.rest) o) c.unwrap_or-object.ensures ∙ f.range;
+      roles = ap has_two_roles c.unwrap_or-object.ensures ∙ f.differ;
       room = command_room c.args.self.now parts.verb parts.object.now (rest_words parts.rest) c.args.found.now c.in_default.not-Worker c.in_default.not-Schedule c.in_default.not-End c.requires;
     }

@@ -1,4 +1,4 @@
-use Rattle.std.proofs.Common.{◌≡◌, ℕ, List, length, Option, option_map, ap, ◌∙◌}
+use Rattle.std.proofs.Common.{◌≡◌, ℕ, List, length, Option, option_map, ap, ◌∙◌, rules}
 use Rattle.ec_heading.specs.HeadingModel.{HeadingModel}
 use Rattle.ec_script.specs.declared.kinds.BlockContext.{BlockContext}
 use Rattle.ec_script.specs.Forms.{phrase_of_parts}
@@ -17,6 +17,7 @@ seen_same h w n k s a b c d =
 pub returns : goal.returns
 returns c =
     let v = c.self.view_is in
-    let e = seen_same c.self.inside.heading c.as_slice.result.now c.block_view.result c.schedule_length.result c.args.self.now
-    (ap (λ (s : ScriptModel). s.heading) v) (c.as_slice.ensures.value ∙ ap (λ (s : ScriptModel). s.named) v) c.block_view.ensures c.schedule_length.ensures in
+    let long : c.len.result ≡ length c.self.inside.schedule.items = search rules in
+    let e = seen_same c.self.inside.heading c.as_slice.result.now c.block_view.result c.len.result c.args.self.now
+    (ap (λ (s : ScriptModel). s.heading) v) (c.as_slice.ensures.value ∙ ap (λ (s : ScriptModel). s.named) v) c.block_view.ensures (long ∙ ap (λ (s : ScriptModel). length s.schedule) v) in
     c.phrase_fault.ensures ∙ ap (λ (s : LineContextModel). phrase_fault s (phrase_of_parts c.args.parts.now) c.args.found.now) e

@@ -1,5 +1,5 @@
 use Rattle.ec_script.proofs.TwoRoles.{roles_told}
-use Rattle.ec_script.proofs.pairs.two_roles_are_reported.Goals as goal
+use Rattle.ec_script.proofs.laws.two_roles_are_reported.Goals as goal
 
 pub returns : goal.returns
 returns c = roles_told
