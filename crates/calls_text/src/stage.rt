@@ -3,9 +3,8 @@ ghost use Rattle.std.specs.Prelude.{◌≡◌, List, IfOk, OnOk, true};
 ghost use Rattle.calls_core.specs.declared.history.Event.{Event};
 ghost use Rattle.calls_text.specs.Reading.{step, is_ended};
 ghost use Rattle.calls_text.specs.kept.Stages.{stage_with_all, IsSound, Takes, kept_events};
-ghost use Rattle.calls_text.specs.kept.Stages.{IsNextIn, Keeps};
-ghost use Rattle.calls_text.specs.kept.Stages.{seen_with, IsFollowing, Follows, turns, GoesTo};
-ghost use Rattle.calls_text.specs.kept.Stages.{TurnsTo};
+ghost use Rattle.calls_text.specs.kept.Stages.{IsNextIn, Keeps, seen_with, IsFollowing, Follows};
+ghost use Rattle.calls_text.specs.kept.Stages.{turns, GoesTo, TurnsTo};
 
 use crate::fault::{FaultKind, LineFault};
 use crate::opening::Draft;
