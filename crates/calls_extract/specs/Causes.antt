@@ -50,10 +50,8 @@ abbrev pub name_at : NameTable → List Entry → ℕ → List ℕ
 name_at names entries i =
     option_map_or (λ (x : Entry). target_name names (Worker x.worker)) (slice_get entries i) []
 
--- the entry, by the name of its worker and its position
-abbrev pub entry_words : List ℕ → ℕ → List ℕ
-entry_words worker i =
-    codes "no history of calls: worker " ++ worker ++ codes " entry " ++ decimal i
-
+-- the entry, by the name of its worker and its position, and why
 abbrev pub cause_note : List ℕ → ℕ → Cause → List ℕ
-cause_note worker i why = entry_words worker i ++ cause_words why
+cause_note worker i why =
+    codes "no history of calls: worker " ++ worker ++ codes " entry " ++ decimal i
+    ++ cause_words why

@@ -5,7 +5,7 @@ ghost use Rattle.std.specs.Option.{IfNone};
 ghost use Rattle.ec_heading.specs.Groups.{has_event, has_sequencer, has_cell};
 ghost use Rattle.ec_text.specs.Puts.{Puts, IsWrittenOut};
 ghost use Rattle.calls_extract.specs.Causes.{cause_of, cause_at, IsFirstCause, HasNoneBefore};
-ghost use Rattle.calls_extract.specs.Causes.{cause_words, entry_words, cause_note, name_at};
+ghost use Rattle.calls_extract.specs.Causes.{cause_words, cause_note, name_at};
 
 use ec_core::{Act, Run};
 use ec_count::{CellId, EventId, SeqId};
@@ -99,21 +99,14 @@ fn cause_words(cause: Cause) -> &'static [u8]
     }
 }
 
-/// Writes which entry keeps a trace from having a history of calls.
-fn put_entry<N: Write>(notes: &mut Output<'_, N>, worker: &[u8], place: u64)
-    ensures { Puts notes.old notes.new (entry_words worker.now place) }
+/// Writes which entry keeps a trace from having a history of calls, and why.
+fn put_cause<N: Write>(notes: &mut Output<'_, N>, worker: &[u8], place: u64, cause: Cause)
+    ensures { Puts notes.old notes.new (cause_note worker.now place cause) }
 {
     notes.put(b"no history of calls: worker ");
     notes.put(worker);
     notes.put(b" entry ");
     notes.put_number(place);
-}
-
-/// Writes why a trace has no history of calls.
-fn put_cause<N: Write>(notes: &mut Output<'_, N>, worker: &[u8], place: u64, cause: Cause)
-    ensures { Puts notes.old notes.new (cause_note worker.now place cause) }
-{
-    put_entry(notes, worker, place);
     notes.put(cause_words(cause));
 }
 

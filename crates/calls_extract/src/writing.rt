@@ -1,9 +1,8 @@
 //! Writes the calls of a run of steps.
-ghost use Rattle.std.specs.Prelude.{◌≡◌, ◌++◌, ◌∷◌, [], codes, OnOk, OnErr};
+ghost use Rattle.std.specs.Prelude.{◌≡◌, OnOk, OnErr};
 ghost use Rattle.std.specs.Io.KnownBytes.{Appends};
 ghost use Rattle.std.specs.List.{flat_map};
 ghost use Rattle.ec_text.specs.Puts.{Puts, AppendsPrefix};
-ghost use Rattle.ec_heading.specs.Spelling.{reply_word};
 ghost use Rattle.ec_heading.specs.HeaderTree.{HeaderTree, IsHeaderTree, heading_of_tree};
 ghost use Rattle.calls_kernel.specs.Outside.{is_call, is_of_call};
 ghost use Rattle.calls_extract.specs.Lines.{calls_text};
@@ -20,10 +19,7 @@ use std::io::Write;
 fn is_call(act: &Act) -> bool
     ensures { result ≡ is_call act.now }
 {
-    match *act {
-        Act::Go | Act::Hand(_, _) => false,
-        _ => true,
-    }
+    !matches!(act, Act::Go | Act::Hand(_, _))
 }
 
 /// Returns whether an act belongs to a call.
@@ -31,10 +27,7 @@ fn is_call(act: &Act) -> bool
 fn is_of_call(act: &Act) -> bool
     ensures { result ≡ is_of_call act.now }
 {
-    match *act {
-        Act::Hand(_, _) => false,
-        _ => true,
-    }
+    !matches!(act, Act::Hand(_, _))
 }
 
 /// Writes the line of the call that an entry begins, if it begins one.
@@ -55,18 +48,6 @@ fn put_call<W: Write>(
     }
 }
 
-/// Writes the line of a response.
-#[inline(always)]
-fn put_response<W: Write>(out: &mut Output<'_, W>, worker: &[u8], reply: &Reply)
-    ensures { Puts out.old out.new (worker.now ++ codes " returns " ++ reply_word reply.now
-        ++ 10 ∷ []) }
-{
-    out.put(worker);
-    out.put(b" returns ");
-    put_reply(out, reply);
-    out.put_byte(b'\n');
-}
-
 /// Writes the line of the response to the call that an entry ends, if it ends one.
 #[inline(always)]
 fn put_return<W: Write>(out: &mut Output<'_, W>, spellings: &Spellings<'_>, entry: &Entry)
@@ -76,7 +57,10 @@ fn put_return<W: Write>(out: &mut Output<'_, W>, spellings: &Spellings<'_>, entr
         Reply::Pending => {}
         Reply::Done | Reply::Number(_) => {
             if is_of_call(&entry.act) {
-                put_response(out, spellings.worker(entry.worker), &entry.reply);
+                out.put(spellings.worker(entry.worker));
+                out.put(b" returns ");
+                put_reply(out, &entry.reply);
+                out.put_byte(b'\n');
             }
         }
     }

@@ -55,16 +55,6 @@ fn opening_act(heading: &Heading, call: &Call) -> Option<Act>
     }
 }
 
-/// Returns whether the reply is a number that reaches a threshold.
-fn is_at_least(given: Reply, threshold: usize) -> bool
-    ensures { IsTrue result → IsReplyOf (Op.Await threshold) answers.Done given }
-{
-    match given {
-        Reply::Number(n) => threshold as u64 <= n,
-        _ => false,
-    }
-}
-
 /// Returns whether the reply is this number.
 fn is_number(given: Reply, n: usize) -> bool
     ensures { IsTrue result → given ≡ Reply.Number n }
@@ -75,23 +65,14 @@ fn is_number(given: Reply, n: usize) -> bool
     }
 }
 
-/// Returns whether the reply is `Done`.
-fn is_done(given: Reply) -> bool
-    ensures { IsTrue result → given ≡ Reply.Done }
-{
-    match given {
-        Reply::Done => true,
-        _ => false,
-    }
-}
-
 /// Returns whether the reply of the last step suits a call that returned `done`.
 fn is_done_by(op: Op, given: Reply) -> bool
     ensures { IsTrue result → IsReplyOf op answers.Done given }
 {
-    match op {
-        Op::Await(threshold) => is_at_least(given, threshold),
-        _ => is_done(given),
+    match (op, given) {
+        (Op::Await(threshold), Reply::Number(n)) => threshold as u64 <= n,
+        (_, Reply::Done) => true,
+        _ => false,
     }
 }
 

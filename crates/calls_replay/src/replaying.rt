@@ -17,21 +17,14 @@ use ec_trace::write_trace;
 use std::alloc::Global;
 use std::io::{Read, Write};
 
-/// Returns whether an event is an invocation.
-fn is_invocation(event: &Event) -> bool
-    ensures { result ≡ is_invocation event.now.action }
-{
-    match event.action {
-        Action::Invoke(_, _) => true,
-        Action::Respond(_) => false,
-    }
-}
-
 /// Returns how many calls were invoked.
 fn count_invoked(events: &[Event]) -> usize
     ensures { result ≡ count_by (λ e. is_invocation e.action) events.now }
 {
-    events.iter().filter(|event| is_invocation(event)).count()
+    events
+        .iter()
+        .filter(|event| matches!(event.action, Action::Invoke(_, _)))
+        .count()
 }
 
 /// Returns how many calls of an order are made.

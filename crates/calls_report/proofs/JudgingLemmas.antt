@@ -19,12 +19,13 @@ use Rattle.calls_text.specs.Outcomes.{OneRead, ParseResult, LineAt, lines_of_tex
 use Rattle.calls_text.specs.Outcomes.{ReturnsFault}
 use Rattle.calls_report.specs.declared.checking.Stop.{Stop}
 use Rattle.calls_report.specs.declared.checking.Stop.TheVariants as stops
+use Rattle.calls_report.specs.declared.status.Status.{Status}
 use Rattle.calls_report.specs.declared.status.Status.TheVariants as statuses
 use Rattle.calls_report.specs.Notes.{fault_note}
 use Rattle.calls_report.specs.Orders.{order_lines}
 use Rattle.calls_report.specs.Remarks.{remarks_text}
 use Rattle.calls_report.specs.Checks.{JudgedHistory, HasOrder, AreJudged, texts_of, remarks_on}
-use Rattle.calls_report.specs.Checks.{history_text, IsNoEnd}
+use Rattle.calls_report.specs.Checks.{history_text, IsNoEnd, Ends}
 use Rattle.calls_report.specs.kept.Judging.{PutsOrder, StopsBy, status_by, EndsBy, fault_status}
 use Rattle.calls_report.specs.kept.Judging.{Judges, IsJudgedSoFar}
 use Rattle.calls_text.proofs.TextParts.{by_rest, by_line}
@@ -197,41 +198,38 @@ none_put now = λ first all h. rw append-nil h
 same_put : (a b c : OutputModel) (bs : List ℕ) → c ≡ b → Puts a b bs → Puts a c bs
 same_put a b c bs same put = subst (λ k. Puts a k bs) (sym same) put
 
+-- after the histories so far it ended so
+ended : (status : Status) (text : List ℕ) (n : ℕ) (rest : List ℕ)
+    (old new before among after : OutputModel) → IsJudgedSoFar text n rest old new before among
+    → Ends status n (lines_of_text rest) among after → Judges status text old new before after
+ended status text n rest old new before among after so ends = (
+  so.judged,
+  record {
+    number = n;
+    rest = lines_of_text rest;
+    judged_are = so.judged_are;
+    remarked = among;
+    remarks = so.remarks;
+    ends = ends;
+  },
+  so.texts,
+)
+
 pub judges_unread : (text : List ℕ) (n : ℕ) (rest : List ℕ) (old new before among after : OutputModel)
     (fault : TextFault) → IsJudgedSoFar text n rest old new before among
     → IsNoEnd n (lines_of_text rest)
     → ReturnsFault (parse_from n Opening (lines_of_text rest)) fault
     → Puts among after (fault_note fault)
     → Judges (fault_status fault) text old new before after
-judges_unread text n rest old new before among after (faults.At m kind cause) so goes_on tells says = (
-  so.judged,
-  record {
-    number = n;
-    rest = lines_of_text rest;
-    judged_are = so.judged_are;
-    remarked = among;
-    remarks = so.remarks;
-    ends = inl (
+judges_unread text n rest old new before among after (faults.At m kind cause) so goes_on tells says =
+    ended statuses.Refused text n rest old new before among after so (inl (
       fault_note (faults.At m kind cause),
       (m, kind, tells.0, tells.1, ap (λ c. fault_note (faults.At m kind c)) tells.2),
       goes_on,
       says,
-    );
-  },
-  so.texts,
-)
-judges_unread text n rest old new before among after faults.Memory so goes_on tells says = (
-  so.judged,
-  record {
-    number = n;
-    rest = lines_of_text rest;
-    judged_are = so.judged_are;
-    remarked = among;
-    remarks = so.remarks;
-    ends = says;
-  },
-  so.texts,
-)
+    ))
+judges_unread text n rest old new before among after faults.Memory so goes_on tells says =
+    ended statuses.Memory text n rest old new before among after so says
 
 pub judges_stopped : (text : List ℕ) (n : ℕ) (rest : List ℕ)
     (old new before among mid after : OutputModel) (o : OneRead) (stop : Stop)
@@ -239,68 +237,27 @@ pub judges_stopped : (text : List ℕ) (n : ℕ) (rest : List ℕ)
     → parse_from n Opening (lines_of_text rest) ≡ Ok o
     → StopsBy o.number o.recorded among mid stop → EndsBy stop mid after
     → Judges (status_by stop) text old new before after
-judges_stopped text n rest old new before among mid after o stops.Refused so reads stop same = (
-  so.judged,
-  record {
-    number = n;
-    rest = lines_of_text rest;
-    judged_are = so.judged_are;
-    remarked = among;
-    remarks = so.remarks;
-    ends = inr (
+judges_stopped text n rest old new before among mid after o stops.Refused so reads stop same =
+    ended statuses.Refused text n rest old new before among after so (inr (
       o,
       stop.0,
       reads,
       stop.1,
-      (
-        stop.2.0,
-        stop.2.1,
-        same_put among mid after _ same stop.2.2,
-      ),
-    );
-  },
-  so.texts,
-)
-judges_stopped text n rest old new before among mid after o stops.NotDecided so reads stop same = (
-  so.judged,
-  record {
-    number = n;
-    rest = lines_of_text rest;
-    judged_are = so.judged_are;
-    remarked = among;
-    remarks = so.remarks;
-    ends = (o, stop.0, reads, stop.1, same_put among mid after _ same stop.2);
-  },
-  so.texts,
-)
-judges_stopped text n rest old new before among mid after o stops.Memory so reads stop says = (
-  so.judged,
-  record {
-    number = n;
-    rest = lines_of_text rest;
-    judged_are = so.judged_are;
-    remarked = among;
-    remarks = so.remarks;
-    ends = subst (λ k. Puts k after (codes "no memory\n")) stop says;
-  },
-  so.texts,
-)
+      (stop.2.0, stop.2.1, same_put among mid after _ same stop.2.2),
+    ))
+judges_stopped text n rest old new before among mid after o stops.NotDecided so reads stop same =
+    ended statuses.NotDecided text n rest old new before among after so
+    (o, stop.0, reads, stop.1, same_put among mid after _ same stop.2)
+judges_stopped text n rest old new before among mid after o stops.Memory so reads stop says =
+    ended statuses.Memory text n rest old new before among after so
+    (subst (λ k. Puts k after (codes "no memory\n")) stop says)
 
 pub judges_all : (text : List ℕ) (n : ℕ) (rest : List ℕ) (old new before after : OutputModel)
     → IsJudgedSoFar text n rest old new before after → 1 < n → rest ≡ []
     → Judges statuses.Done text old new before after
-judges_all text n rest old new before after so past none = (
-  so.judged,
-  record {
-    number = n;
-    rest = lines_of_text rest;
-    judged_are = so.judged_are;
-    remarked = after;
-    remarks = so.remarks;
-    ends = (past, ap lines_of_text none, refl);
-  },
-  so.texts,
-)
+judges_all text n rest old new before after so past none =
+    ended statuses.Done text n rest old new before after after so
+    (past, ap lines_of_text none, refl)
 
 pub nothing : (xs : List ℕ) → length xs ≡ 0 → xs ≡ []
 nothing [] none = refl

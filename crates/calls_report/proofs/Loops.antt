@@ -1,8 +1,7 @@
 -- What a loop over a list has put.
 use Rattle.std.proofs.Common.{◌≡◌, ℕ, ◌+◌, ◌<◌, List, [], ◌∷◌, ◌++◌, length, get_or, take}
-use Rattle.std.proofs.Common.{replicate}
-use Rattle.std.proofs.Common.{ap, ◌∙◌, sym, subst, append-nil, refl, zero, suc}
-use Rattle.std.proofs.Common.{add-one, decimal, None, slice_get, slice_index_or}
+use Rattle.std.proofs.Common.{replicate, ap, ◌∙◌, sym, subst, append-nil, refl, zero, suc, add-one}
+use Rattle.std.proofs.Common.{decimal, None, slice_get, slice_index_or}
 use Rattle.std.specs.List.{flat_map}
 use Rattle.std.proofs.lemmas.List.{take_more}
 use Rattle.std.proofs.lemmas.List.Concat.{flat_map-append}

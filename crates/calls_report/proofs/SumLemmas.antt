@@ -1,12 +1,10 @@
 -- The sums over an order with one more call.
 use Rattle.std.proofs.Common.{◌≡◌, ℕ, ◌+◌, ◌==◌, ◌&&◌, Bool, true, false, List, [], ◌∷◌, ◌++◌}
-use Rattle.std.proofs.Common.{get_or}
-use Rattle.std.proofs.Common.{if◌then◌else◌, refl, ap, sym, ◌∙◌, count_by, arith}
+use Rattle.std.proofs.Common.{get_or, if◌then◌else◌, refl, ap, sym, ◌∙◌, count_by, arith}
 use Rattle.std.proofs.lemmas.List.Sums.{sum_by_push}
 use Rattle.calls_core.specs.declared.history.Placed.{Placed}
 use Rattle.calls_report.specs.declared.sums.Sums.{Sums}
-use Rattle.calls_report.specs.Totals.{value_after, put_value, has_effect}
-use Rattle.calls_report.specs.Totals.{adds_to, is_pair}
+use Rattle.calls_report.specs.Totals.{value_after, put_value, has_effect, adds_to, is_pair}
 use Rattle.calls_semaphores.specs.Banks.{takes, is_done}
 use Rattle.calls_report.specs.kept.Sums.{AreSums, AddsEffect, AddsUnits}
 

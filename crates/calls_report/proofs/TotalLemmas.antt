@@ -1,11 +1,8 @@
 -- The lines of totals, one after another.
 use Rattle.std.proofs.Common.{◌≡◌, ◌≤◌, ℕ, zero, suc, ◌+◌, ◌-◌, ◌==◌, nat_lt, Bool, true, false}
-use Rattle.std.proofs.Common.{List, []}
-use Rattle.std.proofs.Common.{◌∷◌, ◌++◌, Option, Some, None, refl, ap, sym, ◌∙◌, subst, arith}
-use Rattle.std.proofs.Common.{add-one}
-use Rattle.std.proofs.Common.{append_assoc, append-nil, codes, if◌then◌else◌, length, take}
-use Rattle.std.proofs.Common.{slice_get}
-use Rattle.std.proofs.Common.{get_or}
+use Rattle.std.proofs.Common.{List, [], ◌∷◌, ◌++◌, Option, Some, None, refl, ap, sym, ◌∙◌, subst}
+use Rattle.std.proofs.Common.{arith, add-one, append_assoc, append-nil, codes, if◌then◌else◌}
+use Rattle.std.proofs.Common.{length, take, slice_get, get_or}
 use Rattle.std.specs.List.{flat_map}
 use Rattle.std.specs.Option.{option_map_or}
 use Rattle.std.proofs.lemmas.List.{take_all}
@@ -24,9 +21,8 @@ use Rattle.ec_heading.specs.Groups.{has_event, has_sequencer}
 use Rattle.calls_text.specs.Recordings.{RecordingModel, first_group}
 use Rattle.calls_text.specs.Spelling.{numbers_of_list}
 use Rattle.calls_report.specs.Totals.{effects, group_event, group_sequencer, event_total}
-use Rattle.calls_report.specs.Totals.{sequencer_total}
-use Rattle.calls_report.specs.Totals.{cell_total, count_line, cell_line, cell_lines, word_totals}
-use Rattle.calls_report.specs.Totals.{totals_at, totals_text}
+use Rattle.calls_report.specs.Totals.{sequencer_total, cell_total, count_line, cell_line}
+use Rattle.calls_report.specs.Totals.{cell_lines, word_totals, totals_at, totals_text}
 
 -- GROUPS
 

@@ -67,16 +67,7 @@ fault_note faults.Memory = codes "no memory\n"
 abbrev pub first_line : ℕ → RecordingModel → ℕ
 first_line n r = n - 1 - length r.events
 
-abbrev pub site_of : ℕ → RecordingModel → ℕ → ℕ → SiteModel
-site_of n r object at = record {
-  heading = r.heading;
-  lists = r.lists;
-  object = object;
-  first = first_line n r;
-  at = at;
-}
-
--- the same, if n is the number of the line of the event at position 0
+-- the site of a certificate, if n is the number of the line of the event at position 0
 abbrev pub site_at : RecordingModel → ℕ → ℕ → ℕ → SiteModel
 site_at r object n at = record {
   heading = r.heading;
@@ -85,6 +76,10 @@ site_at r object n at = record {
   first = n;
   at = at;
 }
+
+-- the same, if n is the number of the line after `end`
+abbrev pub site_of : ℕ → RecordingModel → ℕ → ℕ → SiteModel
+site_of n r object at = site_at r object (first_line n r) at
 
 -- the note of a certificate
 abbrev pub refusal_note : SiteModel → Certificate → List ℕ

@@ -71,15 +71,11 @@ only_text s n = codes ", but only " ++ advances_text s n ++ codes " had been cal
 abbrev pub few_text : SiteModel → Call → ℕ → ℕ → List ℕ
 few_text s c n start = count_text c ++ only_text s n ++ start_text start
 
-abbrev pub when_text : SiteModel → Call → List ℕ
-when_text s c = codes ", but when it was called (line " ++ line_of s c.first ++ codes ") "
-
-abbrev pub made_text : SiteModel → ℕ → ℕ → List ℕ
-made_text s n start = advances_text s n ++ codes " had returned" ++ start_text start
-
--- there were too many advances for the count
-abbrev pub many_text : SiteModel → Call → ℕ → ℕ → List ℕ
-many_text s c n start = count_text c ++ when_text s c ++ made_text s n start
+-- there were too many advances for the count; the words say which
+abbrev pub many_text : SiteModel → Call → ℕ → List ℕ → ℕ → List ℕ
+many_text s c n words start =
+    count_text c ++ codes ", but when it was called (line " ++ line_of s c.first ++ codes ") "
+    ++ advances_text s n ++ words ++ start_text start
 
 -- the line of an earlier response
 abbrev pub but_line : SiteModel → ℕ → List ℕ
@@ -88,14 +84,12 @@ but_line s n = codes ", but line " ++ line_of s n
 abbrev pub before_text : SiteModel → Call → List ℕ
 before_text s c = codes " before it was called (line " ++ line_of s c.first ++ codes ")"
 
-abbrev pub among_text : SiteModel → Call → ℕ → List ℕ
-among_text s c n =
-    codes ", and " ++ advances_text s n ++ codes " were called and returned between it and line "
-    ++ line_of s c.first
-
 -- that no advance lies between two calls, or how many do
 abbrev pub between_text : SiteModel → Call → ℕ → List ℕ
-between_text s c n = if n == 0 then before_text s c else among_text s c n
+between_text s c n =
+    if n == 0 then before_text s c
+    else codes ", and " ++ advances_text s n
+    ++ codes " were called and returned between it and line " ++ line_of s c.first
 
 abbrev pub had_text : SiteModel → Call → List ℕ
 had_text s d = but_line s d.last ++ codes " had " ++ count_text d
@@ -104,13 +98,9 @@ had_text s d = but_line s d.last ++ codes " had " ++ count_text d
 abbrev pub since_text : SiteModel → Call → Call → ℕ → List ℕ
 since_text s c d n = count_text c ++ had_text s d ++ between_text s c n
 
--- how many advances had surely taken effect
-abbrev pub surely_text : SiteModel → ℕ → ℕ → List ℕ
-surely_text s n start =
-    advances_text s n ++ codes " had surely taken effect" ++ start_text start
-
+-- too many advances had surely taken effect
 abbrev pub raised_text : SiteModel → Call → ℕ → ℕ → List ℕ
-raised_text s c n start = count_text c ++ when_text s c ++ surely_text s n start
+raised_text s c n start = many_text s c n (codes " had surely taken effect") start
 
 -- SEQUENCERS
 
@@ -199,8 +189,12 @@ value_text s c =
 abbrev pub got_text : SiteModel → Call → List ℕ
 got_text s c = store_word s.heading s.object ++ codes " returned" ++ value_text s c
 
+-- the words for a cell, or those for a database
+abbrev pub by_store : SiteModel → List ℕ → List ℕ → List ℕ
+by_store s cell database = if is_cell s then cell else database
+
 unfoldable pub no_put : SiteModel → List ℕ
-no_put s = if is_cell s then codes ", but no put of" else codes ", but no write of"
+no_put s = by_store s (codes ", but no put of") (codes ", but no write of")
 
 unfoldable pub called_words : List ℕ
 called_words = codes " had been called"
@@ -209,11 +203,8 @@ called_words = codes " had been called"
 abbrev pub nowhere_text : SiteModel → Call → List ℕ
 nowhere_text s c = got_text s c ++ no_put s ++ value_text s c ++ called_words
 
-abbrev pub put_had : SiteModel → List ℕ
-put_had s = if is_cell s then codes " had put" else codes " had written"
-
 abbrev pub had_stored : SiteModel → Op → List ℕ
-had_stored s (ops.Put n) = put_had s
+had_stored s (ops.Put n) = by_store s (codes " had put") (codes " had written")
 had_stored s _ = codes " had returned"
 
 abbrev pub stored_text : SiteModel → Call → List ℕ
@@ -227,13 +218,10 @@ stale_text s c d = got_text s d ++ but_line s c.last ++ stored_text s c ++ befor
 abbrev pub line_text : SiteModel → ℕ → List ℕ
 line_text s n = 32 ∷ line_of s n
 
-unfoldable pub alternate_words : List ℕ
-alternate_words = codes " alternate: lines"
-
 abbrev pub two_text : SiteModel → Call → Call → List ℕ
 two_text s c d =
-    got_text s c ++ (codes ", but" ++ value_text s c) ++ (codes " and" ++ value_text s d)
-    ++ alternate_words
+    got_text s c ++ codes ", but" ++ value_text s c ++ codes " and" ++ value_text s d
+    ++ codes " alternate: lines"
 
 abbrev pub is_get : Op → Bool
 is_get ops.Get = true
@@ -247,13 +235,11 @@ ends_second s b c = (c.last == s.at) || (is_get b.op && (b.last == s.at))
 abbrev pub values_text : SiteModel → Call → Call → Call → List ℕ
 values_text s a b c = if ends_second s b c then two_text s c a else two_text s a c
 
-abbrev pub four_lines : SiteModel → Call → Call → Call → Call → List ℕ
-four_lines s a b c d =
-    line_text s a.last ++ line_text s b.first ++ line_text s c.last ++ line_text s d.first
-
 -- two values alternate
 abbrev pub alternate_text : SiteModel → Call → Call → Call → Call → List ℕ
-alternate_text s a b c d = values_text s a b c ++ four_lines s a b c d
+alternate_text s a b c d =
+    values_text s a b c ++ line_text s a.last ++ line_text s b.first ++ line_text s c.last
+    ++ line_text s d.first
 
 -- the lines of responses
 abbrev pub response_lines : SiteModel → List Call → List ℕ
@@ -263,21 +249,20 @@ response_lines s cs = flat_map (λ (c : Call). line_text s c.last) cs
 abbrev pub by_text : SiteModel → List Call → List ℕ
 by_text s cs = if length cs == 0 then [] else codes ", by lines" ++ response_lines s cs
 
-unfoldable pub none_left : SiteModel → List ℕ
-none_left s =
-    if is_cell s then codes ", but no put is left for it" else codes ", but no write is left for it"
-
 -- no put is left for the first of these gets
 abbrev pub none_left_text : SiteModel → List Call → List ℕ
 none_left_text s [] = []
-none_left_text s (c ∷ cs) = got_text s c ++ none_left s ++ by_text s cs
+none_left_text s (c ∷ cs) =
+    got_text s c
+    ++ by_store s (codes ", but no put is left for it") (codes ", but no write is left for it")
+    ++ by_text s cs
 
 -- ANY CERTIFICATE
 
 abbrev pub certificate_text : SiteModel → Certificate → List ℕ
 certificate_text s (shows.Below c) = below_text c
 certificate_text s (shows.Few c n start) = few_text s c n start
-certificate_text s (shows.Many c n start) = many_text s c n start
+certificate_text s (shows.Many c n start) = many_text s c n (codes " had returned") start
 certificate_text s (shows.Since c d n) = since_text s c d n
 certificate_text s (shows.Sure c n start) = raised_text s c n start
 certificate_text s (shows.Unordered c) = unordered_text s c

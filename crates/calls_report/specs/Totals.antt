@@ -1,9 +1,7 @@
 -- The totals of the objects after the calls of a linearization, as text.
 use Rattle.std.specs.Prelude.{ℕ, ◌+◌, ◌^◌, ◌==◌, zero, suc, Bool, true, false, ◌&&◌, nat_lt}
-use Rattle.std.specs.Prelude.{count_by}
-use Rattle.std.specs.Prelude.{List, [], ◌∷◌, ◌++◌}
-use Rattle.std.specs.Prelude.{codes, decimal, min, if◌then◌else◌, ◌-◌, slice_index_or, Option, Some}
-use Rattle.std.specs.Prelude.{None, unwrap_or}
+use Rattle.std.specs.Prelude.{count_by, List, [], ◌∷◌, ◌++◌, codes, decimal, min, if◌then◌else◌}
+use Rattle.std.specs.Prelude.{◌-◌, slice_index_or, Option, Some, None, unwrap_or}
 use Rattle.std.specs.List.{flat_map}
 use Rattle.ec_count.specs.declared.target.Target.{Target}
 use Rattle.ec_count.specs.declared.target.Target.TheVariants.{Worker, Event, Sequencer, Cells}

@@ -3,8 +3,7 @@ ghost use Rattle.std.specs.Prelude.{◌≡◌, ◌++◌, codes, OnOk, OnErr};
 ghost use Rattle.ec_text.specs.Puts.{Puts, IsWrittenOut};
 ghost use Rattle.calls_report.specs.Refusals.{line_of};
 ghost use Rattle.calls_report.specs.Notes.{cause_text, kind_text, line_words, kind_words};
-ghost use Rattle.calls_report.specs.Notes.{fault_note, first_line, site_of, site_at};
-ghost use Rattle.calls_report.specs.Notes.{refusal_note};
+ghost use Rattle.calls_report.specs.Notes.{fault_note, first_line, site_of, site_at, refusal_note};
 ghost use Rattle.calls_report.specs.Notes.{SaysRefusal, repeated_words, repeated_text};
 ghost use Rattle.calls_report.specs.Notes.{overlap_text, undecided_text, undecided_note};
 
@@ -116,16 +115,23 @@ fn first_line(read: &Read<'_>) -> u64
     read.number.saturating_sub(1).saturating_sub(events)
 }
 
+/// Returns the site of a certificate. `first` is the number of the line of the event at position 0.
+fn site_at(recording: &Recording, object: usize, first: u64, at: usize) -> Site<'_>
+    ensures { result ≡ site_at recording.now object first at }
+{
+    Site {
+        speaker: Speaker::new(recording.heading(), recording.lists()),
+        object,
+        first,
+        at,
+    }
+}
+
 /// Returns the site of a certificate in a history that was read.
 pub(crate) fn site_of<'a>(read: &'a Read<'_>, object: usize, at: usize) -> Site<'a>
     ensures { result ≡ site_of read.now.number read.now.recording object at }
 {
-    Site {
-        speaker: Speaker::new(read.recording.heading(), read.recording.lists()),
-        object,
-        first: first_line(read),
-        at,
-    }
+    site_at(&read.recording, object, first_line(read), at)
 }
 
 /// Puts the number of the line of the first faulty event.
@@ -163,18 +169,6 @@ pub fn report_refusal<N: Write>(
     put_refusal(notes, &site, shown);
     notes.flush();
     Ok(())
-}
-
-/// Returns the site of a certificate. `first` is the number of the line of the event at position 0.
-fn site_at(recording: &Recording, object: usize, first: u64, at: usize) -> Site<'_>
-    ensures { result ≡ site_at recording.now object first at }
-{
-    Site {
-        speaker: Speaker::new(recording.heading(), recording.lists()),
-        object,
-        first,
-        at,
-    }
 }
 
 /// Reports why the calls of an object have no linearization from the event at position `at` on.

@@ -4,21 +4,19 @@ ghost use Rattle.calls_tickets.specs.Faults.{number};
 ghost use Rattle.calls_text.specs.Spelling.{worker_word, event_word, group_word, numbers_of_value};
 ghost use Rattle.calls_text.specs.Spelling.{numbers_after_spaces};
 ghost use Rattle.ec_text.specs.Puts.{Puts};
-ghost use Rattle.calls_report.specs.Refusals.{line_of, advances_word, advances_text, start_text};
-ghost use Rattle.calls_report.specs.Refusals.{counted_text, count_text, threshold, returned_text};
-ghost use Rattle.calls_report.specs.Refusals.{below_text, only_text, few_text, when_text};
-ghost use Rattle.calls_report.specs.Refusals.{made_text, many_text, but_line, before_text};
-ghost use Rattle.calls_report.specs.Refusals.{among_text, between_text, had_text, since_text};
+ghost use Rattle.calls_report.specs.Refusals.{line_of, advances_text, start_text, advances_word};
+ghost use Rattle.calls_report.specs.Refusals.{count_text, threshold, returned_text, below_text};
+ghost use Rattle.calls_report.specs.Refusals.{only_text, few_text, many_text, but_line};
+ghost use Rattle.calls_report.specs.Refusals.{before_text, between_text, had_text, since_text};
 ghost use Rattle.calls_report.specs.Refusals.{number_text, twice_text, had_number, turned_text};
-ghost use Rattle.calls_report.specs.Refusals.{earlier_text, tickets_word, tickets_text, drawn_text};
-ghost use Rattle.calls_report.specs.Refusals.{ordinal, nth_text, units_text, unit_text};
-ghost use Rattle.calls_report.specs.Refusals.{stored_value, value_text, got_text, no_put};
-ghost use Rattle.calls_report.specs.Refusals.{nowhere_text, put_had, had_stored, stored_text};
-ghost use Rattle.calls_report.specs.Refusals.{stale_text, line_text, two_text, values_text};
-ghost use Rattle.calls_report.specs.Refusals.{four_lines, alternate_text, response_lines, by_text};
-ghost use Rattle.calls_report.specs.Refusals.{called_words, alternate_words, ends_second};
-ghost use Rattle.calls_report.specs.Refusals.{none_left, none_left_text, certificate_text};
-ghost use Rattle.calls_report.specs.Refusals.{surely_text, raised_text, unordered_text};
+ghost use Rattle.calls_report.specs.Refusals.{earlier_text, tickets_word, tickets_text};
+ghost use Rattle.calls_report.specs.Refusals.{drawn_text, ordinal, nth_text, units_text};
+ghost use Rattle.calls_report.specs.Refusals.{unit_text, stored_value, value_text, got_text};
+ghost use Rattle.calls_report.specs.Refusals.{by_store, no_put, nowhere_text, had_stored};
+ghost use Rattle.calls_report.specs.Refusals.{stored_text, stale_text, line_text, two_text};
+ghost use Rattle.calls_report.specs.Refusals.{values_text, alternate_text, response_lines};
+ghost use Rattle.calls_report.specs.Refusals.{by_text, called_words, ends_second, none_left_text};
+ghost use Rattle.calls_report.specs.Refusals.{certificate_text, raised_text, unordered_text};
 ghost use Rattle.calls_report.specs.Refusals.{no_unit_text};
 
 use crate::certificate::{Certificate, ticket_number};
@@ -79,23 +77,22 @@ fn put_start<W: Write>(out: &mut Output<'_, W>, start: u64)
     }
 }
 
+/// Puts bytes and a number.
+fn put_with_number<W: Write>(out: &mut Output<'_, W>, before: &[u8], n: usize)
+    ensures { Puts out.old out.new (before.now ++ decimal n) }
+{
+    out.put(before);
+    out.put_number(n as u64);
+}
+
 /// Puts what a read or an await returned, awaited or gave up on.
 fn put_count<W: Write>(out: &mut Output<'_, W>, call: &Call)
     ensures { Puts out.old out.new (count_text call.now) }
 {
     match (call.op, call.reply) {
-        (_, Reply::Number(n)) => {
-            out.put(b"returned ");
-            out.put_number(n as u64);
-        }
-        (Op::Await(n), Reply::Timeout) => {
-            out.put(b"gave up on ");
-            out.put_number(n as u64);
-        }
-        (Op::Await(n), Reply::Done) => {
-            out.put(b"awaited ");
-            out.put_number(n as u64);
-        }
+        (_, Reply::Number(n)) => put_with_number(out, b"returned ", n),
+        (Op::Await(n), Reply::Timeout) => put_with_number(out, b"gave up on ", n),
+        (Op::Await(n), Reply::Done) => put_with_number(out, b"awaited ", n),
         _ => out.put(b"returned"),
     }
 }
@@ -105,20 +102,9 @@ fn put_returned<W: Write>(out: &mut Output<'_, W>, reply: Reply)
     ensures { Puts out.old out.new (returned_text reply) }
 {
     match reply {
-        Reply::Number(n) => {
-            out.put(b"returned ");
-            out.put_number(n as u64);
-        }
+        Reply::Number(n) => put_with_number(out, b"returned ", n),
         _ => out.put(b"returned timeout"),
     }
-}
-
-/// Puts bytes and a number.
-fn put_with_number<W: Write>(out: &mut Output<'_, W>, before: &[u8], n: usize)
-    ensures { Puts out.old out.new (before.now ++ decimal n) }
-{
-    out.put(before);
-    out.put_number(n as u64);
 }
 
 /// Returns the threshold of an await.
@@ -203,14 +189,6 @@ fn put_called<W: Write>(out: &mut Output<'_, W>)
     out.put(b" had been called");
 }
 
-/// Puts that values alternate.
-#[tactic(auto, unfolding(crate::specs::Refusals::alternate_words))]
-fn put_alternating<W: Write>(out: &mut Output<'_, W>)
-    ensures { Puts out.old out.new alternate_words }
-{
-    out.put(b" alternate: lines");
-}
-
 /// Returns the value of a put or a get.
 fn stored_value(call: &Call) -> usize
     ensures { result ≡ stored_value call.now.op call.now.reply }
@@ -271,31 +249,24 @@ impl<'a> Site<'a> {
         put_start(out, start);
     }
 
-    /// Puts when a call was called.
-    fn put_when<W: Write>(&self, out: &mut Output<'_, W>, call: &Call)
-        ensures { Puts out.old out.new (when_text self.now call.now) }
+    /// Puts that there were too many advances when a call was called. `words` say which.
+    fn put_many<W: Write>(
+        &self,
+        out: &mut Output<'_, W>,
+        call: &Call,
+        n: usize,
+        words: &[u8],
+        start: u64,
+    )
+        ensures { Puts out.old out.new (many_text self.now call.now n words.now start) }
     {
+        put_count(out, call);
         out.put(b", but when it was called (line ");
         self.put_line(out, call.first);
         out.put(b") ");
-    }
-
-    /// Puts how many advances had returned.
-    fn put_made<W: Write>(&self, out: &mut Output<'_, W>, n: usize, start: u64)
-        ensures { Puts out.old out.new (made_text self.now n start) }
-    {
         self.put_advances(out, n);
-        out.put(b" had returned");
+        out.put(words);
         put_start(out, start);
-    }
-
-    /// Puts that too many advances had returned.
-    fn put_many<W: Write>(&self, out: &mut Output<'_, W>, call: &Call, n: usize, start: u64)
-        ensures { Puts out.old out.new (many_text self.now call.now n start) }
-    {
-        put_count(out, call);
-        self.put_when(out, call);
-        self.put_made(out, n, start);
     }
 
     /// Puts the line of an earlier response.
@@ -315,16 +286,6 @@ impl<'a> Site<'a> {
         out.put(b")");
     }
 
-    /// Puts how many advances lie between two calls.
-    fn put_among<W: Write>(&self, out: &mut Output<'_, W>, call: &Call, n: usize)
-        ensures { Puts out.old out.new (among_text self.now call.now n) }
-    {
-        out.put(b", and ");
-        self.put_advances(out, n);
-        out.put(b" were called and returned between it and line ");
-        self.put_line(out, call.first);
-    }
-
     /// Puts that no advance lies between two calls, or how many do.
     fn put_between<W: Write>(&self, out: &mut Output<'_, W>, call: &Call, n: usize)
         ensures { Puts out.old out.new (between_text self.now call.now n) }
@@ -332,7 +293,10 @@ impl<'a> Site<'a> {
         if n == 0 {
             self.put_before(out, call);
         } else {
-            self.put_among(out, call, n);
+            out.put(b", and ");
+            self.put_advances(out, n);
+            out.put(b" were called and returned between it and line ");
+            self.put_line(out, call.first);
         }
     }
 
@@ -354,22 +318,11 @@ impl<'a> Site<'a> {
         self.put_between(out, call, n);
     }
 
-    /// Puts how many advances had surely taken effect.
-    fn put_surely<W: Write>(&self, out: &mut Output<'_, W>, n: usize, start: u64)
-        ensures { Puts out.old out.new (surely_text self.now n start) }
-    {
-        self.put_advances(out, n);
-        out.put(b" had surely taken effect");
-        put_start(out, start);
-    }
-
     /// Puts that too many advances had surely taken effect.
     fn put_raised<W: Write>(&self, out: &mut Output<'_, W>, call: &Call, n: usize, start: u64)
         ensures { Puts out.old out.new (raised_text self.now call.now n start) }
     {
-        put_count(out, call);
-        self.put_when(out, call);
-        self.put_surely(out, n, start);
+        self.put_many(out, call, n, b" had surely taken effect", start);
     }
 
     /// Puts that no order of the tickets gives a number.
@@ -491,16 +444,23 @@ impl<'a> Site<'a> {
         self.put_value(out, call);
     }
 
+    /// Returns the words for a cell, or those for a database.
+    fn by_store(&self, cell: &'static [u8], database: &'static [u8]) -> &'static [u8]
+        ensures { result.now ≡ by_store self.now cell.now database.now }
+    {
+        if self.speaker.is_cell(self.object) {
+            cell
+        } else {
+            database
+        }
+    }
+
     /// Puts that there was no put.
     #[tactic(auto, unfolding(crate::specs::Refusals::no_put))]
     fn put_no_put<W: Write>(&self, out: &mut Output<'_, W>)
         ensures { Puts out.old out.new (no_put self.now) }
     {
-        if self.speaker.is_cell(self.object) {
-            out.put(b", but no put of");
-        } else {
-            out.put(b", but no write of");
-        }
+        out.put(self.by_store(b", but no put of", b", but no write of"));
     }
 
     /// Puts that no put of a value had been called.
@@ -513,23 +473,12 @@ impl<'a> Site<'a> {
         put_called(out);
     }
 
-    /// Puts that a put had stored something.
-    fn put_put_had<W: Write>(&self, out: &mut Output<'_, W>)
-        ensures { Puts out.old out.new (put_had self.now) }
-    {
-        if self.speaker.is_cell(self.object) {
-            out.put(b" had put");
-        } else {
-            out.put(b" had written");
-        }
-    }
-
     /// Puts that a call had stored or returned something.
     fn put_had_stored<W: Write>(&self, out: &mut Output<'_, W>, op: Op)
         ensures { Puts out.old out.new (had_stored self.now op) }
     {
         match op {
-            Op::Put(_) => self.put_put_had(out),
+            Op::Put(_) => out.put(self.by_store(b" had put", b" had written")),
             _ => out.put(b" had returned"),
         }
     }
@@ -569,22 +518,16 @@ impl<'a> Site<'a> {
         self.speaker.put_value(out, self.object, value);
     }
 
-    /// Puts bytes, and the value of a call.
-    fn put_with_value<W: Write>(&self, out: &mut Output<'_, W>, before: &[u8], call: &Call)
-        ensures { Puts out.old out.new (before.now ++ value_text self.now call.now) }
-    {
-        out.put(before);
-        self.put_value(out, call);
-    }
-
     /// Puts two values that alternate.
     fn put_two<W: Write>(&self, out: &mut Output<'_, W>, one: &Call, other: &Call)
         ensures { Puts out.old out.new (two_text self.now one.now other.now) }
     {
         self.put_got(out, one);
-        self.put_with_value(out, b", but", one);
-        self.put_with_value(out, b" and", other);
-        put_alternating(out);
+        out.put(b", but");
+        self.put_value(out, one);
+        out.put(b" and");
+        self.put_value(out, other);
+        out.put(b" alternate: lines");
     }
 
     /// Returns whether the first faulty event is the response of the second of these calls, or of
@@ -606,24 +549,8 @@ impl<'a> Site<'a> {
         }
     }
 
-    /// Puts the lines of two responses, each with an invocation after it.
-    fn put_four_lines<W: Write>(
-        &self,
-        out: &mut Output<'_, W>,
-        a: &Call,
-        b: &Call,
-        c: &Call,
-        d: &Call,
-    )
-        ensures { Puts out.old out.new (four_lines self.now a.now b.now c.now d.now) }
-    {
-        self.put_next_line(out, a.last);
-        self.put_next_line(out, b.first);
-        self.put_next_line(out, c.last);
-        self.put_next_line(out, d.first);
-    }
-
-    /// Puts that two values alternate.
+    /// Puts that two values alternate, with the lines of two responses, each with an invocation
+    /// after it.
     fn put_alternate<W: Write>(
         &self,
         out: &mut Output<'_, W>,
@@ -635,7 +562,10 @@ impl<'a> Site<'a> {
         ensures { Puts out.old out.new (alternate_text self.now a.now b.now c.now d.now) }
     {
         self.put_values(out, a, b, c);
-        self.put_four_lines(out, a, b, c, d);
+        self.put_next_line(out, a.last);
+        self.put_next_line(out, b.first);
+        self.put_next_line(out, c.last);
+        self.put_next_line(out, d.first);
     }
 
     /// Puts the lines of responses, each after a space.
@@ -657,25 +587,16 @@ impl<'a> Site<'a> {
         }
     }
 
-    /// Puts that no put is left.
-    #[tactic(auto, unfolding(crate::specs::Refusals::none_left))]
-    fn put_none<W: Write>(&self, out: &mut Output<'_, W>)
-        ensures { Puts out.old out.new (none_left self.now) }
-    {
-        if self.speaker.is_cell(self.object) {
-            out.put(b", but no put is left for it");
-        } else {
-            out.put(b", but no write is left for it");
-        }
-    }
-
     /// Puts that no put is left for the first of these gets, by the others.
     fn put_none_left<W: Write>(&self, out: &mut Output<'_, W>, gets: &[Call])
         ensures { Puts out.old out.new (none_left_text self.now gets.now) }
     {
         if let [call, earlier @ ..] = gets {
             self.put_got(out, call);
-            self.put_none(out);
+            out.put(self.by_store(
+                b", but no put is left for it",
+                b", but no write is left for it",
+            ));
             self.put_by(out, earlier);
         }
     }
@@ -691,7 +612,9 @@ impl<'a> Site<'a> {
         match certificate {
             Certificate::Below(call) => put_below(out, &call),
             Certificate::Few(call, n, start) => self.put_few(out, &call, n, start),
-            Certificate::Many(call, n, start) => self.put_many(out, &call, n, start),
+            Certificate::Many(call, n, start) => {
+                self.put_many(out, &call, n, b" had returned", start);
+            }
             Certificate::Since(call, earlier, n) => self.put_since(out, &call, &earlier, n),
             Certificate::Sure(call, n, start) => self.put_raised(out, &call, n, start),
             Certificate::Unordered(call) => self.put_unordered(out, &call),

@@ -2,8 +2,7 @@
 ghost use Rattle.std.specs.Prelude.{ℕ, List, ◌≡◌, ◌+◌, ◌<◌, ◌∷◌, ◌++◌, [], IfOk, OnOk, length};
 ghost use Rattle.std.specs.Prelude.{slice_index_or};
 ghost use Rattle.calls_report.specs.Totals.{is_effect};
-ghost use Rattle.calls_report.specs.kept.Sums.{IsSetAt, AreSums, AddsEffect};
-ghost use Rattle.calls_report.specs.kept.Sums.{AddsUnits, AddsPair};
+ghost use Rattle.calls_report.specs.kept.Sums.{IsSetAt, AreSums, AddsEffect, AddsUnits, AddsPair};
 
 use calls_core::{Call, Op, Placed, Reply};
 use std::alloc::{AllocError, Global};

@@ -5,12 +5,10 @@ ghost use Rattle.std.specs.Option.{option_map_or};
 ghost use Rattle.ec_text.specs.Puts.{Puts};
 ghost use Rattle.calls_core.specs.declared.history.Placed.{Placed};
 ghost use Rattle.calls_text.specs.Recordings.{first_group};
-ghost use Rattle.calls_report.specs.Totals.{effects};
-ghost use Rattle.calls_report.specs.Totals.{group_event, group_sequencer, group_cell};
-ghost use Rattle.calls_report.specs.Totals.{final_numbers};
-ghost use Rattle.calls_report.specs.Totals.{event_total, sequencer_total, cell_total};
-ghost use Rattle.calls_report.specs.Totals.{count_line, cell_line, cell_lines, word_totals};
-ghost use Rattle.calls_report.specs.Totals.{totals_text, totals_at};
+ghost use Rattle.calls_report.specs.Totals.{effects, group_event, group_sequencer, group_cell};
+ghost use Rattle.calls_report.specs.Totals.{final_numbers, event_total, sequencer_total};
+ghost use Rattle.calls_report.specs.Totals.{cell_total, count_line, cell_line, cell_lines};
+ghost use Rattle.calls_report.specs.Totals.{word_totals, totals_text, totals_at};
 ghost use Rattle.calls_report.specs.kept.Sums.{AreSums};
 
 use crate::sums::{Sums, number_at};

@@ -4,9 +4,8 @@ ghost use Rattle.ec_text.specs.Puts.{Puts};
 ghost use Rattle.calls_text.specs.Recordings.{first_sequencer, first_group};
 ghost use Rattle.calls_text.specs.Spelling.{worker_word, event_word, sequencer_word, cell_name};
 ghost use Rattle.calls_text.specs.Spelling.{group_word, store_word, numbers_of_list};
-ghost use Rattle.calls_text.specs.Spelling.{numbers_of_value, numbers_after_spaces};
-ghost use Rattle.calls_text.specs.Spelling.{put_word, get_word, call_text, returned_value};
-ghost use Rattle.calls_text.specs.Spelling.{spaced_reply};
+ghost use Rattle.calls_text.specs.Spelling.{numbers_of_value, numbers_after_spaces, put_word};
+ghost use Rattle.calls_text.specs.Spelling.{get_word, call_text, returned_value, spaced_reply};
 ghost use Rattle.calls_report.specs.kept.Speakers.{IsStoreOp};
 
 use calls_core::{Op, Reply};

@@ -1,8 +1,7 @@
 -- A call without a fault may be the next event.
 use Rattle.std.proofs.Common.{◌≡◌, ◌<◌, ◌&&◌, ◌==◌, ℕ, zero, suc, ◌+◌, ◌^◌, Bool, true, false, not}
-use Rattle.std.proofs.Common.{List, [], ◌∷◌}
-use Rattle.std.proofs.Common.{length, Option, Some, None, slice_get, refl, ap, sym, ◌∙◌, subst}
-use Rattle.std.proofs.Common.{arith, cond, Ok}
+use Rattle.std.proofs.Common.{List, [], ◌∷◌, length, Option, Some, None, slice_get, refl, ap, sym}
+use Rattle.std.proofs.Common.{◌∙◌, subst, arith, cond, Ok}
 use Rattle.std.specs.Prelude.{is_some}
 use Rattle.std.specs.Option.{option_map_or}
 use Rattle.std.proofs.lemmas.Bool.{eq-eqb, leb-false, eqb-true}
@@ -39,9 +38,8 @@ use Rattle.calls_text.specs.Reading.{number_in, lists_of}
 use Rattle.calls_text.specs.declared.running.Running.{Running}
 use Rattle.calls_text.specs.declared.tally.Tally.{Tally}
 use Rattle.calls_text.specs.Tallies.{tally_at, IsCountedFurther}
-use Rattle.calls_text.specs.kept.Judging.{pending_by, spent_at, spent_by, fault_by}
-use Rattle.calls_text.specs.kept.Judging.{invocation, NextEvent}
-use Rattle.calls_text.specs.kept.Judging.{TallyAfter, IsTallied, Answers}
+use Rattle.calls_text.specs.kept.Judging.{pending_by, spent_at, spent_by, fault_by, invocation}
+use Rattle.calls_text.specs.kept.Judging.{NextEvent, TallyAfter, IsTallied, Answers}
 use Rattle.calls_text.specs.kept.Runs.{Fits}
 use Rattle.ec_heading.proofs.shared.Declarable.{is_none_from as none_of}
 

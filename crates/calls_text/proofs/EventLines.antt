@@ -1,7 +1,6 @@
 -- A line that is read as an event is the text of that event.
 use Rattle.std.proofs.Common.{◌≡◌, inl, inr, ℕ, List, [], ◌∷◌, ◌++◌, length, Bool, true, false}
-use Rattle.std.proofs.Common.{cond, Option, Some}
-use Rattle.std.proofs.Common.{Ok, refl, sym, ap, ap₂, ◌∙◌, subst, codes}
+use Rattle.std.proofs.Common.{cond, Option, Some, Ok, refl, sym, ap, ap₂, ◌∙◌, subst, codes}
 use Rattle.std.proofs.Common.{append-nil, bytes_eq}
 use Rattle.std.specs.List.{list_any, join_with_byte}
 use Rattle.ec_text.specs.Words.{words_of}
@@ -21,11 +20,9 @@ use Rattle.calls_text.specs.Forms.{is_tail}
 use Rattle.calls_text.specs.Objects.{object_in}
 use Rattle.calls_text.specs.Lists.{is_zeros, lists_after}
 use Rattle.calls_text.specs.Recordings.{RecordingModel}
-use Rattle.calls_text.specs.Reading.{pending_in, is_bad_tail, index_of, op_of_word}
-use Rattle.calls_text.specs.Reading.{number_in, numbers_in, lists_of}
-use Rattle.calls_text.specs.Reading.{is_bad_reply, is_suited, gives_list}
-use Rattle.calls_text.specs.Reading.{reply_of_word, lists_with}
-use Rattle.calls_text.specs.Reading.{other_word, event_step}
+use Rattle.calls_text.specs.Reading.{pending_in, is_bad_tail, index_of, op_of_word, number_in}
+use Rattle.calls_text.specs.Reading.{numbers_in, lists_of, is_bad_reply, is_suited, gives_list}
+use Rattle.calls_text.specs.Reading.{reply_of_word, lists_with, other_word, event_step}
 use Rattle.calls_text.specs.Spelling.{worker_word, call_text}
 use Rattle.calls_text.specs.Grammar.{action_text, event_line}
 use Rattle.calls_text.proofs.Values.{join_spaced}

@@ -1,7 +1,6 @@
 -- The parts of a line that is accepted as an event: an invocation or a response, and its worker.
 use Rattle.std.proofs.Common.{◌≡◌, ◌⊎◌, inl, inr, ℕ, List, [], ◌∷◌, Bool, true, false, cond, Option}
-use Rattle.std.proofs.Common.{Some}
-use Rattle.std.proofs.Common.{None, Ok, Err, refl, codes, not}
+use Rattle.std.proofs.Common.{Some, None, Ok, Err, refl, codes, not}
 use Rattle.std.specs.Prelude.{is_some}
 use Rattle.ec_text.specs.Words.{words_of}
 use Rattle.ec_heading.specs.Heading.{is_no_line}
@@ -17,11 +16,10 @@ use Rattle.calls_text.specs.Verbs.{verb_word, tail_of, is_update}
 use Rattle.calls_text.specs.Forms.{Phrase, Calls, Returns, phrase_in, is_tail}
 use Rattle.calls_text.specs.Objects.{object_in, is_owned, has_right}
 use Rattle.calls_text.specs.Recordings.{RecordingModel}
-use Rattle.calls_text.specs.Reading.{pending_in, is_bad_tail, call_fault, fault_or}
-use Rattle.calls_text.specs.Reading.{with_call, after_invocation}
-use Rattle.calls_text.specs.Reading.{is_bad_reply, is_suited, is_over, suit_fault}
-use Rattle.calls_text.specs.Reading.{with_reply, after_reply, after_response}
-use Rattle.calls_text.specs.Reading.{other_word, after_phrase, event_step, has_two_roles, is_spent}
+use Rattle.calls_text.specs.Reading.{pending_in, is_bad_tail, call_fault, fault_or, with_call}
+use Rattle.calls_text.specs.Reading.{after_invocation, is_bad_reply, is_suited, is_over, suit_fault}
+use Rattle.calls_text.specs.Reading.{with_reply, after_reply, after_response, other_word}
+use Rattle.calls_text.specs.Reading.{after_phrase, event_step, has_two_roles, is_spent}
 use Rattle.calls_text.proofs.PhraseWords.{IsPhrase, SaysAnswer, phrase_back}
 use Rattle.calls_text.proofs.CallLines.{not_back}
 

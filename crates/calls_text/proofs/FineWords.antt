@@ -1,7 +1,6 @@
 -- Words that make a line.
 use Rattle.std.proofs.Common.{◌≡◌, ℕ, ◌*◌, ◌<◌, ◌≤◌, List, [], ◌∷◌, ◌++◌, length, map, Bool, true}
-use Rattle.std.proofs.Common.{false}
-use Rattle.std.proofs.Common.{eqb, leb, nat_lt, not, ◌||◌, refl, ap, ap₂, ◌∙◌, arith}
+use Rattle.std.proofs.Common.{false, eqb, leb, nat_lt, not, ◌||◌, refl, ap, ap₂, ◌∙◌, arith}
 use Rattle.std.proofs.Common.{decimal, length-append, le-ltb, ne_eqb}
 use Rattle.std.specs.Int.{IsInRange}
 use Rattle.std.specs.List.{AllByRecursion, join_with_byte, list_any, list_all}

@@ -1,10 +1,8 @@
 -- Each semaphore and each database of a header has a name, and no word is empty.
 use Rattle.std.proofs.Common.{◌≡◌, ◌⊎◌, inl, inr, ℕ, zero, suc, ◌+◌, ◌<◌, ◌≤◌, List, [], ◌∷◌, ◌++◌}
-use Rattle.std.proofs.Common.{length}
-use Rattle.std.proofs.Common.{Bool, true, false, cond, eqb, if◌then◌else◌, Option, Some, None, refl}
-use Rattle.std.proofs.Common.{sym, ap, ◌∙◌, subst, arith, bytes_eq, codes, ne_eqb, slice_get}
-use Rattle.std.proofs.Common.{nat_le}
-use Rattle.std.proofs.Common.{length-append, true≢false}
+use Rattle.std.proofs.Common.{length, Bool, true, false, cond, eqb, if◌then◌else◌, Option, Some}
+use Rattle.std.proofs.Common.{None, refl, sym, ap, ◌∙◌, subst, arith, bytes_eq, codes, ne_eqb}
+use Rattle.std.proofs.Common.{slice_get, nat_le, length-append, true≢false}
 use Rattle.std.specs.Prelude.{is_some}
 use Rattle.std.specs.Option.{option_map_or}
 use Rattle.std.specs.List.{AllByRecursion, cons_option}

@@ -1,7 +1,6 @@
 -- The lines that are read as a history are its text.
 use Rattle.std.proofs.Common.{◌≡◌, ℕ, ◌<◌, ◌≤◌, List, [], ◌∷◌, ◌++◌, true, false, cond, Result, Ok}
-use Rattle.std.proofs.Common.{Err}
-use Rattle.std.proofs.Common.{length, refl, sym, ap, ap₂, ◌∙◌, subst, codes, append_assoc}
+use Rattle.std.proofs.Common.{Err, length, refl, sym, ap, ap₂, ◌∙◌, subst, codes, append_assoc}
 use Rattle.std.proofs.Common.{append-nil, bytes_eq}
 use Rattle.std.proofs.lemmas.Slice.Eq.{bytes_eq-Decides}
 use Rattle.ec_heading.specs.declared.version.Version.TheVariants.{Two}
@@ -18,8 +17,7 @@ use Rattle.calls_text.specs.Recordings.{RecordingModel}
 use Rattle.calls_text.specs.Reading.{Draft, Stage, Opening, Limiting, Declaring, Running, Ended}
 use Rattle.calls_text.specs.Reading.{step}
 use Rattle.calls_text.specs.Reading.{draft_of, limit_step, map_running, event_step, recorded_of}
-use Rattle.calls_text.specs.Grammar.{from_lines, event_line, event_lines}
-use Rattle.calls_text.specs.Grammar.{history_lines}
+use Rattle.calls_text.specs.Grammar.{from_lines, event_line, event_lines, history_lines}
 use Rattle.calls_text.specs.kept.Leading.{Leads}
 use Rattle.calls_text.specs.Rules.{AreStarts, GrowsBy, KeepsRules}
 use Rattle.calls_text.proofs.EventLines.{Extends, Adds, line_adds}

@@ -1,7 +1,6 @@
 -- An event whose line is accepted keeps the rules.
-use Rattle.std.proofs.Common.{◌≡◌, ℕ, ◌<◌, List, [], ◌∷◌, length, Bool, true, false, cond, eqb}
-use Rattle.std.proofs.Common.{not, Option, Some, None, refl, ap, ◌∙◌, subst, arith}
-use Rattle.std.proofs.Common.{◌||◌}
+use Rattle.std.proofs.Common.{◌≡◌, ℕ, ◌<◌, List, [], ◌∷◌, length, Bool, true, false, cond, eqb, not}
+use Rattle.std.proofs.Common.{Option, Some, None, refl, ap, ◌∙◌, subst, arith, ◌||◌}
 use Rattle.std.specs.Prelude.{is_none, is_some, unwrap_or}
 use Rattle.std.specs.Option.{option_map_or, option_and_then}
 use Rattle.std.specs.List.{list_any}
@@ -35,8 +34,7 @@ use Rattle.calls_text.specs.Objects.{semaphore_in, database_in, is_owned, has_ri
 use Rattle.calls_text.specs.Lists.{list_number, lists_after}
 use Rattle.calls_text.specs.Recordings.{RecordingModel}
 use Rattle.calls_text.specs.Reading.{is_no_number, number_or_0, only_number, numbers_in}
-use Rattle.calls_text.specs.Reading.{is_bad_tail}
-use Rattle.calls_text.specs.Reading.{pending_in, has_two_roles, is_spent, with_call}
+use Rattle.calls_text.specs.Reading.{is_bad_tail, pending_in, has_two_roles, is_spent, with_call}
 use Rattle.calls_text.specs.Reading.{other_word, is_bad_reply, is_suited, is_over, takes_numbers}
 use Rattle.calls_text.specs.Reading.{gives_list, with_event, with_reply}
 use Rattle.calls_text.specs.Rules.{AreSmall, only, IsDeclaredIn, TakesNumbers, MayCall, after_call}

@@ -1,7 +1,6 @@
 -- The lines of a text.
 use Rattle.std.proofs.Common.{◌≡◌, ◌≢◌, ◌<◌, ◌≤◌, ℕ, ◌+◌, List, [], ◌∷◌, ◌++◌, length, Result, Ok}
-use Rattle.std.proofs.Common.{Err, IfOk}
-use Rattle.std.proofs.Common.{true, false, eqb, refl, ap, sym, ◌∙◌, ne_eqb, arith}
+use Rattle.std.proofs.Common.{Err, IfOk, true, false, eqb, refl, ap, sym, ◌∙◌, ne_eqb, arith}
 use Rattle.std.proofs.Common.{length-append}
 use Rattle.std.specs.List.{All}
 use Rattle.std.proofs.lemmas.List.Splits.{slice_split_at, slice_split_none}
@@ -16,8 +15,7 @@ use Rattle.calls_text.specs.kept.Stages.{stage_with_all}
 use Rattle.calls_text.specs.declared.fault.TextFault.{TextFault}
 use Rattle.calls_text.specs.declared.fault.LineFault.{LineFault}
 use Rattle.calls_text.specs.declared.fault.LineFault.TheVariants as faults
-use Rattle.calls_text.specs.Reading.{Stage, step}
-use Rattle.calls_text.specs.Reading.{StepFails, is_ended}
+use Rattle.calls_text.specs.Reading.{Stage, step, StepFails, is_ended}
 use Rattle.calls_text.specs.Outcomes.{ParseResult, lines_of_text, parse_from, after_line, parse_end, fault_in, ReturnsFault}
 use Rattle.calls_text.specs.Outcomes.{fault_at}
 use Rattle.calls_text.proofs.TextParts.{HasFirst, has_first, by_line, by_rest}

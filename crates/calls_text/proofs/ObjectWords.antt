@@ -1,7 +1,6 @@
 -- A word that names a worker, an object or a group is the word of that.
-use Rattle.std.proofs.Common.{◌≡◌, ℕ, ◌+◌, ◌<◌, ◌≤◌, List, length, true}
-use Rattle.std.proofs.Common.{nat_lt, Option, Some, None, refl, subst, arith}
-use Rattle.std.proofs.Common.{slice_get}
+use Rattle.std.proofs.Common.{◌≡◌, ℕ, ◌+◌, ◌<◌, ◌≤◌, List, length, true, nat_lt, Option, Some, None}
+use Rattle.std.proofs.Common.{refl, subst, arith, slice_get}
 use Rattle.std.specs.Prelude.{option_map}
 use Rattle.std.specs.Option.{option_and_then}
 use Rattle.std.proofs.lemmas.Bool.{ltb-true, lt-ltb, leb-true}

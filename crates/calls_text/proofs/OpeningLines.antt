@@ -1,11 +1,10 @@
 -- The lines that are read before `run` are the text of what they declare.
-use Rattle.std.proofs.Common.{◌≡◌, ◌⊎◌, inl, inr, ℕ, ◌<◌, ◌≤◌, List, [], ◌∷◌, ◌++◌, length}
-use Rattle.std.proofs.Common.{Bool, true, false, cond, nat_lt, nat_le, not, ◌&&◌, ◌||◌, Option}
-use Rattle.std.proofs.Common.{Some}
+use Rattle.std.proofs.Common.{◌≡◌, ◌⊎◌, inl, inr, ℕ, ◌<◌, ◌≤◌, List, [], ◌∷◌, ◌++◌, length, Bool}
+use Rattle.std.proofs.Common.{true, false, cond, nat_lt, nat_le, not, ◌&&◌, ◌||◌, Option, Some}
 use Rattle.std.proofs.Common.{None, Result, Ok, Err, refl, sym, ap, ap₂, ◌∙◌, subst, arith, codes}
 use Rattle.std.proofs.Common.{decimal, append-nil, append_assoc, bytes_eq, length-append}
 use Rattle.std.specs.List.{join_with_byte}
-use Rattle.std.proofs.lemmas.Bool.{and_parts, ltb-true, lt-ltb}
+use Rattle.std.proofs.lemmas.Bool.{and_parts, ltb-true, lt-ltb, leb-true}
 use Rattle.std.proofs.lemmas.Slice.Eq.{bytes_eq-Decides}
 use Rattle.ec_text.specs.Words.{words_of, number_in_word, is_number_form}
 use Rattle.ec_text.proofs.shared.WordLemmas.{split_join}
@@ -42,7 +41,6 @@ use Rattle.calls_text.specs.Objects.{is_owned}
 use Rattle.calls_text.specs.declared.object.Object.TheVariants as objects
 use Rattle.calls_text.specs.Reading.{is_later}
 use Rattle.ec_heading.proofs.shared.Declarable.{passed}
-use Rattle.std.proofs.lemmas.Bool.{leb-true}
 use Rattle.calls_text.proofs.EventParts.{no_fault}
 
 same_word : (v w : List ℕ) → bytes_eq v w ≡ true → v ≡ w

@@ -1,8 +1,7 @@
 -- The words of a phrase are read as that phrase.
 use Rattle.std.proofs.Common.{◌≡◌, ◌≤◌, ℕ, List, [], ◌∷◌, length, Bool, true, false, cond, ◌&&◌}
 use Rattle.std.proofs.Common.{Option, Some, None, if◌then◌else◌, refl, sym, ap, ◌∙◌, bytes_eq}
-use Rattle.std.proofs.Common.{codes}
-use Rattle.std.proofs.Common.{subst, nat_le}
+use Rattle.std.proofs.Common.{codes, subst, nat_le}
 use Rattle.std.specs.List.{list_all}
 use Rattle.std.proofs.lemmas.Bool.{and_parts, leb-true}
 use Rattle.std.proofs.lemmas.Slice.Eq.{bytes_eq-Decides}

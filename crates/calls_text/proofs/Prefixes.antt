@@ -15,13 +15,11 @@ use Rattle.calls_text.specs.Reading.{is_ended}
 use Rattle.calls_text.specs.Outcomes.{OneRead, ParseResult, lines_of_text, parse_from, after_line, parse_end, fault_in}
 use Rattle.calls_text.specs.Grammar.{history_lines, history_text}
 use Rattle.calls_text.specs.kept.Leading.{Leads}
-use Rattle.calls_text.specs.Laws.{SpelledIsRead, TextsArePrefixFree}
-use Rattle.calls_text.specs.Laws.{PrefixIsRefused}
+use Rattle.calls_text.specs.Laws.{SpelledIsRead, TextsArePrefixFree, PrefixIsRefused}
 use Rattle.calls_text.specs.Rules.{KeepsRules}
 use Rattle.calls_text.proofs.Rules.{Lead, all_taken}
 use Rattle.calls_text.proofs.TextParts.{IsPart, parts_alone, parts_line, parts_joined, by_line}
-use Rattle.calls_text.proofs.TextParts.{by_rest}
-use Rattle.calls_text.proofs.TextParts.{HasFirst, has_first}
+use Rattle.calls_text.proofs.TextParts.{by_rest, HasFirst, has_first}
 use Rattle.calls_text.proofs.Histories.{lines_back}
 
 -- LINES THAT ARE READ

@@ -1,7 +1,6 @@
 -- The words that are read as a reply are its text.
 use Rattle.std.proofs.Common.{◌≡◌, ℕ, ◌-◌, ◌<◌, ◌≤◌, List, [], ◌∷◌, ◌++◌, length, Bool, true, false}
-use Rattle.std.proofs.Common.{cond}
-use Rattle.std.proofs.Common.{eqb, nat_lt, nat_le, refl, sym, ap, ◌∙◌, arith, slice_get}
+use Rattle.std.proofs.Common.{cond, eqb, nat_lt, nat_le, refl, sym, ap, ◌∙◌, arith, slice_get}
 use Rattle.std.specs.Option.{option_map_or}
 use Rattle.std.proofs.lemmas.Bool.{eqb-true, ltb-true, ltb-false, lt-leb, le-leb}
 use Rattle.ec_heading.specs.HeadingModel.{HeadingModel}

@@ -29,25 +29,20 @@ use Rattle.calls_text.specs.declared.object.Object.TheVariants as objects
 use Rattle.calls_text.specs.Verbs.{verb_word, parse_op_word, tail_of}
 use Rattle.calls_text.specs.Forms.{Phrase, Calls, Returns, phrase_in, is_tail, parse_reply_word}
 use Rattle.calls_text.specs.Forms.{is_word}
-use Rattle.calls_text.specs.Objects.{object_in, as_semaphore}
-use Rattle.calls_text.specs.Objects.{as_database}
+use Rattle.calls_text.specs.Objects.{object_in, as_semaphore, as_database}
 use Rattle.calls_text.specs.Lists.{list_number, lists_after}
 use Rattle.calls_text.specs.Recordings.{RecordingModel, numbers_of, first_group, cells_of}
 use Rattle.calls_text.specs.Reading.{is_no_number, number_or_0, only_number, numbers_in}
-use Rattle.calls_text.specs.Reading.{is_bad_tail, call_fault}
-use Rattle.calls_text.specs.Reading.{index_of, with_event, with_call}
-use Rattle.calls_text.specs.Reading.{other_word, after_phrase, event_step, is_bad_reply}
-use Rattle.calls_text.specs.Reading.{is_over, suit_fault, takes_numbers, gives_list}
-use Rattle.calls_text.specs.Reading.{with_reply}
+use Rattle.calls_text.specs.Reading.{is_bad_tail, call_fault, index_of, with_event, with_call}
+use Rattle.calls_text.specs.Reading.{other_word, after_phrase, event_step, is_bad_reply, is_over}
+use Rattle.calls_text.specs.Reading.{suit_fault, takes_numbers, gives_list, with_reply}
 use Rattle.calls_text.specs.Spelling.{worker_word, event_word, sequencer_word, cell_name}
 use Rattle.calls_text.specs.Spelling.{group_word}
-use Rattle.calls_text.specs.Rules.{AreSmall, only, IsDeclaredIn, TakesNumbers, MayCall}
-use Rattle.calls_text.specs.Rules.{after_call, KeepsLimit, MayReturn}
-use Rattle.calls_text.specs.Rules.{after_return}
+use Rattle.calls_text.specs.Rules.{AreSmall, only, IsDeclaredIn, TakesNumbers, MayCall, after_call}
+use Rattle.calls_text.specs.Rules.{KeepsLimit, MayReturn, after_return}
 use Rattle.calls_text.proofs.TextParts.{IsPart}
 use Rattle.calls_text.proofs.FineWords.{IsFine, literal_fine, number_fine, numbers_fine}
-use Rattle.calls_text.proofs.FineWords.{numbers_short}
-use Rattle.calls_text.proofs.FineWords.{IsLineOf, fine_line}
+use Rattle.calls_text.proofs.FineWords.{numbers_short, IsLineOf, fine_line}
 use Rattle.calls_text.proofs.GroupNames.{database_fits, few_cells}
 use Rattle.calls_text.proofs.Finding.{worker_found, event_found, sequencer_found, cell_found}
 use Rattle.calls_text.proofs.Finding.{semaphore_found, database_found}

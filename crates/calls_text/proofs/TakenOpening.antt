@@ -1,14 +1,11 @@
 -- The lines before `run` of a history that keeps the rules are accepted.
 use Rattle.std.proofs.Common.{◌≡◌, ℕ, zero, suc, ◌<◌, ◌≤◌, List, [], ◌∷◌, ◌++◌, length, map, Bool}
-use Rattle.std.proofs.Common.{true}
-use Rattle.std.proofs.Common.{false, cond, eqb, nat_lt, nat_le, ◌&&◌, Option, Some, None}
-use Rattle.std.proofs.Common.{Ok, Err, if◌then◌else◌, refl, sym, ap, ◌∙◌, subst, arith, codes}
-use Rattle.std.proofs.Common.{decimal}
+use Rattle.std.proofs.Common.{true, false, cond, eqb, nat_lt, nat_le, ◌&&◌, Option, Some, None, Ok}
+use Rattle.std.proofs.Common.{Err, if◌then◌else◌, refl, sym, ap, ◌∙◌, subst, arith, codes, decimal}
 use Rattle.std.proofs.Common.{bytes_eq, get_or, ne_eqb, append_assoc, append-nil, length-append}
 use Rattle.std.specs.List.{AllByRecursion, join_with_byte}
 use Rattle.std.proofs.lemmas.Bool.{true≢false, and_parts, and_from, or_parts, or_right, lt-ltb}
-use Rattle.std.proofs.lemmas.Bool.{le-leb}
-use Rattle.std.proofs.lemmas.Bool.{false_from_ne_true, ltb-true, and_left}
+use Rattle.std.proofs.lemmas.Bool.{le-leb, false_from_ne_true, ltb-true, and_left}
 use Rattle.std.proofs.lemmas.List.Elements.{All-from_recursion, recursion_from_All}
 use Rattle.std.proofs.lemmas.Slice.Eq.{bytes_eq-Decides}
 use Rattle.ec_count.specs.Reserved.{is_name, is_name_byte, is_reserved}
@@ -34,16 +31,13 @@ use Rattle.ec_heading.specs.Spelling.{limit_line, declaration_line, declaration_
 use Rattle.ec_heading.specs.Spelling.{name_words, number_words, second_words}
 use Rattle.ec_heading.proofs.shared.Each.{each_append, each_weaker}
 use Rattle.ec_heading.proofs.shared.DeclKindFacts.{is_literal, literal, literal_lacks as letters_lack}
-use Rattle.ec_heading.proofs.shared.DeclKindFacts.{is_stop}
-use Rattle.ec_heading.proofs.shared.DeclKindFacts.{other_stop, sort_literal, opener_literal}
-use Rattle.ec_heading.proofs.shared.DeclKindFacts.{number_small}
-use Rattle.ec_heading.proofs.shared.DeclKindFacts.{name_called, called}
+use Rattle.ec_heading.proofs.shared.DeclKindFacts.{is_stop, other_stop, sort_literal}
+use Rattle.ec_heading.proofs.shared.DeclKindFacts.{opener_literal, number_small, name_called}
+use Rattle.ec_heading.proofs.shared.DeclKindFacts.{called}
 use Rattle.ec_heading.proofs.shared.VersionFacts.{limit_from}
 use Rattle.calls_text.specs.Reading.{Draft, Stage, Opening, Limiting, Declaring, Running, step}
-use Rattle.calls_text.specs.Reading.{draft_of, limit_step}
-use Rattle.calls_text.specs.Reading.{with_start}
-use Rattle.calls_text.specs.Reading.{from_step, opens_from, is_from}
-use Rattle.calls_text.specs.Reading.{recorded_of}
+use Rattle.calls_text.specs.Reading.{draft_of, limit_step, with_start, from_step, opens_from}
+use Rattle.calls_text.specs.Reading.{is_from, recorded_of}
 use Rattle.calls_text.specs.Spelling.{event_word}
 use Rattle.calls_text.specs.Grammar.{from_line, from_lines}
 use Rattle.calls_text.specs.kept.Leading.{Leads}

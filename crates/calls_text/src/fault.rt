@@ -1,9 +1,12 @@
 //! Why a text is not a history.
 ghost use Rattle.std.specs.Prelude.{◌≡◌};
 ghost use Rattle.calls_text.specs.Faults.{kind_number, kind_name, kind_of_head, line_fault};
-ghost use Rattle.calls_text.specs.Causes.{cause_of, header_cause, line_cause, has_tab, has_space};
+ghost use Rattle.calls_text.specs.Causes.{cause_of, header_cause, line_cause, has_tab};
+ghost use Rattle.calls_text.specs.declared.fault.LineFault.TheVariants.{Memory};
 
 use ec_heading::{HeadFault, LINE_MAX};
+use ec_text::has_blank;
+use std::alloc::AllocError;
 use thiserror::Error;
 
 /// Why a line is rejected: the first of these that holds.
@@ -157,7 +160,7 @@ pub(crate) enum LineFault {
     Memory,
 }
 
-/// Returns the kind of a fault of a header line. (`line_fault` passes no `Memory`.)
+/// Returns the kind of a fault of a header line. (A line has no fault `Memory`.)
 fn kind_of_head(fault: HeadFault) -> FaultKind
     ensures { result ≡ kind_of_head fault }
 {
@@ -172,13 +175,22 @@ fn kind_of_head(fault: HeadFault) -> FaultKind
     }
 }
 
-/// Returns the error of a line, given that of the header.
-pub(crate) fn line_fault(fault: HeadFault) -> LineFault
-    ensures { result ≡ line_fault fault }
-{
-    match fault {
-        HeadFault::Memory => LineFault::Memory,
-        other => LineFault::Of(kind_of_head(other)),
+impl From<HeadFault> for LineFault {
+    ghost from_gives = { λ fault error. error ≡ line_fault fault };
+
+    fn from(fault: HeadFault) -> Self {
+        match fault {
+            HeadFault::Memory => LineFault::Memory,
+            other => LineFault::Of(kind_of_head(other)),
+        }
+    }
+}
+
+impl From<AllocError> for LineFault {
+    ghost from_gives = { λ _ error. error ≡ Memory };
+
+    fn from(_: AllocError) -> Self {
+        LineFault::Memory
     }
 }
 
@@ -187,13 +199,6 @@ fn has_tab(line: &[u8]) -> bool
     ensures { result ≡ has_tab line.now }
 {
     line.iter().any(|b| *b == b'\t')
-}
-
-/// Returns whether a word of a line is empty.
-fn has_space(line: &[u8]) -> bool
-    ensures { result ≡ has_space line.now }
-{
-    ec_text::has_blank(line)
 }
 
 /// Returns what is wrong with the form of a line, whichever line is expected.
@@ -215,7 +220,7 @@ fn line_cause(line: &[u8]) -> Cause
     if line.is_empty() {
         return Cause::Empty;
     }
-    if has_space(line) {
+    if has_blank(line) {
         return Cause::Space;
     }
     Cause::Other

@@ -3,8 +3,7 @@ ghost use Rattle.std.specs.Prelude.{◌≡◌, option_map};
 ghost use Rattle.std.specs.Option.{option_and_then};
 ghost use Rattle.ec_heading.specs.Groups.{both_of};
 ghost use Rattle.calls_text.specs.Objects.{group_in, semaphore_in, database_in, semaphore_pair};
-ghost use Rattle.calls_text.specs.Objects.{object_in};
-ghost use Rattle.calls_text.specs.Objects.{owns, is_owned, has_right};
+ghost use Rattle.calls_text.specs.Objects.{object_in, owns, is_owned, has_right};
 
 use crate::verb::OpWord;
 use ec_count::{CellId, EventId, SeqId, Setup, Target, WorkerId};

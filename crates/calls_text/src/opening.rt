@@ -9,7 +9,7 @@ ghost use Rattle.calls_text.specs.Reading.{from_step, after_start, start_in, ope
 ghost use Rattle.calls_text.specs.Reading.{map_heading, draft_step, is_run};
 ghost use Rattle.calls_text.specs.kept.Results.{IsLimit, Opens};
 
-use crate::fault::{FaultKind, LineFault, line_fault};
+use crate::fault::{FaultKind, LineFault};
 use crate::object::{Object, is_owned};
 use ec_count::{EventId, Limit};
 use ec_heading::{Heading, LINE_MAX, Version};
@@ -59,16 +59,9 @@ fn parse_limit(line: &[u8]) -> Result<Limit, FaultKind>
     if line.len() > LINE_MAX {
         return Err(FaultKind::BadLine);
     }
-    let Some(digits) = limit_digits(line) else {
-        return Err(FaultKind::BadLine);
-    };
-    let Some(n) = number(digits) else {
-        return Err(FaultKind::BadNumber);
-    };
-    match Version::Two.limit(n) {
-        Some(limit) => Ok(limit),
-        None => Err(FaultKind::BadNumber),
-    }
+    let digits = limit_digits(line).ok_or(FaultKind::BadLine)?;
+    let n = number(digits).ok_or(FaultKind::BadNumber)?;
+    Version::Two.limit(n).ok_or(FaultKind::BadNumber)
 }
 
 /// Returns the eventcount and the digits of a line `from E n`, or `None` if the line has not this
@@ -126,17 +119,11 @@ impl Draft {
     pub(crate) fn open(alloc: Global, line: &[u8]) -> Result<Draft, LineFault>
         ensures { Opens result (limit_step line.now) }
     {
-        let limit = match parse_limit(line) {
-            Ok(limit) => limit,
-            Err(kind) => return Err(LineFault::Of(kind)),
-        };
-        match no_declarations(alloc, limit) {
-            Ok(heading) => Ok(Draft {
-                heading,
-                from: Vec::new(alloc),
-            }),
-            Err(_) => Err(LineFault::Memory),
-        }
+        let limit = parse_limit(line).map_err(LineFault::Of)?;
+        Ok(Draft {
+            heading: no_declarations(alloc, limit)?,
+            from: Vec::new(alloc),
+        })
     }
 
     /// Returns the number that digits spell, if it may be an initial count: from 1 to the limit.
@@ -155,9 +142,9 @@ impl Draft {
     fn take_start(&mut self, event: EventId, digits: &[u8]) -> Result<(), LineFault>
         ensures { Steps result (after_start self.old (Some event) digits.now) self.new }
     {
-        let Some(n) = self.start(digits) else {
-            return Err(LineFault::Of(FaultKind::BadNumber));
-        };
+        let n = self
+            .start(digits)
+            .ok_or(LineFault::Of(FaultKind::BadNumber))?;
         if is_owned(self.heading.groups(), &Object::Event(event)) {
             return Err(LineFault::Of(FaultKind::Hidden));
         }
@@ -178,9 +165,7 @@ impl Draft {
         if line.len() > LINE_MAX || has_blank(line) {
             return Err(LineFault::Of(FaultKind::BadLine));
         }
-        let Some((word, digits)) = from_words(line) else {
-            return Err(LineFault::Of(FaultKind::BadLine));
-        };
+        let (word, digits) = from_words(line).ok_or(LineFault::Of(FaultKind::BadLine))?;
         let Some(event) = self.heading.event(word) else {
             return Err(LineFault::Of(FaultKind::UnknownName));
         };
@@ -201,10 +186,8 @@ impl Draft {
     fn take_heading(&mut self, line: &[u8]) -> Result<(), LineFault>
         ensures { Steps result (map_heading self.old (head_step self.old.heading line.now)) self.new }
     {
-        match self.heading.line(line) {
-            Ok(()) => Ok(()),
-            Err(fault) => Err(line_fault(fault)),
-        }
+        self.heading.line(line)?;
+        Ok(())
     }
 
     /// Reads the next line, given without its LF.

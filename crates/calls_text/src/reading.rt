@@ -1,8 +1,7 @@
 //! Reads the first history of a text.
 ghost use Rattle.std.specs.Prelude.{◌≡◌, ◌≢◌, ◌<◌, ◌≤◌, ◌+◌, ◌^◌, All, IfOk, true, false, length};
 ghost use Rattle.calls_text.specs.Outcomes.{Returns, ReturnsFault, parse_from, parse_end};
-ghost use Rattle.calls_text.specs.Outcomes.{lines_of_text};
-ghost use Rattle.calls_text.specs.Outcomes.{fault_at};
+ghost use Rattle.calls_text.specs.Outcomes.{lines_of_text, fault_at};
 ghost use Rattle.calls_text.specs.Reading.{is_ended};
 ghost use Rattle.calls_text.specs.Reading as reading;
 ghost use Rattle.calls_text.specs.kept.Stages.{stage_with_all, IsSound};

@@ -1,7 +1,6 @@
 //! A history of calls: what its header declares, and its events.
 ghost use Rattle.std.specs.Prelude.{◌≡◌, ◌≤◌, ◌<◌, ◌+◌, ◌++◌, ◌∷◌, [], ℕ, length, map, slice_get};
-ghost use Rattle.std.specs.Prelude.{IfOk};
-ghost use Rattle.std.specs.Prelude.{OnOk, Some};
+ghost use Rattle.std.specs.Prelude.{IfOk, OnOk, Some};
 ghost use Rattle.calls_core.specs.declared.history.Kind.TheVariants.{Eventcount, Sequencer, Cell};
 ghost use Rattle.calls_core.specs.declared.history.Kind.TheVariants.{Database, Semaphores};
 ghost use Rattle.calls_text.specs.Recordings.{AreKinds, IsRecording, HasFrom, HasUnits, HasGroups};

@@ -11,11 +11,9 @@ ghost use Rattle.calls_text.specs.Recordings.{first_group};
 ghost use Rattle.calls_text.specs.Reading.{is_no_number, number_or_0, only_number, numbers_in};
 ghost use Rattle.calls_text.specs.Reading.{cells_in, is_bad_tail, has_two_roles, call_fault_by};
 ghost use Rattle.calls_text.specs.Reading.{index_of, place_in, second_place_in, op_of_word};
-ghost use Rattle.calls_text.specs.Reading.{number_in};
-ghost use Rattle.calls_text.specs.Reading.{lists_of, takes_done, takes_timeout, takes_numbers};
-ghost use Rattle.calls_text.specs.Reading.{is_suited, is_over, suit_fault, gives_list};
-ghost use Rattle.calls_text.specs.Reading.{reply_of_word};
-ghost use Rattle.calls_text.specs.Reading.{lists_with, other_word};
+ghost use Rattle.calls_text.specs.Reading.{number_in, lists_of, takes_numbers, is_suited, is_over};
+ghost use Rattle.calls_text.specs.Reading.{suit_fault, gives_list, reply_of_word, lists_with};
+ghost use Rattle.calls_text.specs.Reading.{other_word};
 ghost use Rattle.calls_text.specs.kept.Judging.{pending_by, spent_by, fault_by, invocation};
 ghost use Rattle.calls_text.specs.kept.Judging.{invocation_result, response, response_result, event_by, Answers};
 ghost use Rattle.calls_text.specs.kept.Judging.{TallyAfter};
@@ -24,7 +22,7 @@ ghost use Rattle.calls_text.specs.Verbs.{tail_of};
 
 use crate::fault::{FaultKind, LineFault};
 use crate::form::{Parts, ReplyWord, split_event};
-use crate::index::{first_group, numbers_of};
+use crate::index::{first_cell, first_group, first_sequencer, numbers_of};
 use crate::lists::Lists;
 use crate::object::{Object, has_right, is_owned, object_in};
 use crate::recording::Recording;
@@ -47,19 +45,12 @@ pub(crate) struct Running {
     count: usize,
 }
 
-/// Returns whether a word spells no number in range.
-fn is_no_number(word: &[u8]) -> bool
-    ensures { result ≡ is_no_number word.now }
-{
-    number(word).is_none()
-}
-
 /// Returns whether a word of a list spells no number in range.
 fn has_no_number(list: &[u8]) -> bool
     ensures { result ≡ list_any is_no_number (words_of list.now) }
 {
     let (word, rest) = cut_word(list);
-    if is_no_number(word) {
+    if number(word).is_none() {
         return true;
     }
     match rest {
@@ -140,7 +131,7 @@ fn is_bad_tail(tail: Tail, rest: Option<&[u8]>, object: &Object) -> bool
 {
     match tail {
         Tail::Digits => match only_word(rest) {
-            Some(word) => is_no_number(word),
+            Some(word) => number(word).is_none(),
             None => false,
         },
         Tail::ManyDigits => are_bad_numbers(rest, cells_in(object)),
@@ -163,18 +154,16 @@ fn index_of(recording: &Recording, object: &Object) -> usize
     requires { IsPlaced recording.now.heading object.now }
     ensures { result ≡ index_of recording.now.heading object.now }
 {
-    let setup = recording.heading().setup();
-    setup.invariant();
+    let heading = recording.heading();
+    heading.setup().invariant();
     // there is a kind for each index, so the sums fit
     let _kinds = recording.kinds().len();
-    let first_cell = setup.events() + setup.sequencers();
-    let semaphores = first_cell + setup.cells();
     match *object {
         Object::Event(event) => event.get(),
-        Object::Sequencer(sequencer) => setup.events() + sequencer.get(),
-        Object::Cell(cell) => first_cell + cell.get(),
-        Object::Semaphore(_, _) | Object::Pair(_, _, _, _, _) => semaphores,
-        Object::Database(place, _) => semaphores + 1 + place,
+        Object::Sequencer(sequencer) => first_sequencer(heading) + sequencer.get(),
+        Object::Cell(cell) => first_cell(heading) + cell.get(),
+        Object::Semaphore(_, _) | Object::Pair(_, _, _, _, _) => first_group(heading) - 1,
+        Object::Database(place, _) => first_group(heading) + place,
     }
 }
 
@@ -227,20 +216,6 @@ fn number_in(
     }
 }
 
-/// Returns whether `done` is a reply to the operation.
-fn takes_done(op: Op) -> bool
-    ensures { result ≡ takes_done op }
-{
-    !matches!(op, Op::Read | Op::Ticket | Op::Get)
-}
-
-/// Returns whether `timeout` is a reply to the operation.
-fn takes_timeout(op: Op) -> bool
-    ensures { result ≡ takes_timeout op }
-{
-    matches!(op, Op::Await(_) | Op::P(_) | Op::PBoth(_, _))
-}
-
 /// Returns whether `n` numbers are a reply to the call.
 fn takes_numbers(heading: &Heading, call: &PendingCall, n: usize) -> bool
     ensures { result ≡ takes_numbers heading.now call.now call.now.op n }
@@ -257,8 +232,8 @@ fn is_suited(heading: &Heading, call: &PendingCall, answer: ReplyWord, list: &[u
     ensures { result ≡ is_suited heading.now call.now answer (words_of list.now) }
 {
     match answer {
-        ReplyWord::Done => takes_done(call.op),
-        ReplyWord::Timeout => takes_timeout(call.op),
+        ReplyWord::Done => !matches!(call.op, Op::Read | Op::Ticket | Op::Get),
+        ReplyWord::Timeout => matches!(call.op, Op::Await(_) | Op::P(_) | Op::PBoth(_, _)),
         ReplyWord::Numbers => takes_numbers(heading, call, count_words(list)),
     }
 }
@@ -497,10 +472,7 @@ impl Running {
         if let Some(kind) = call_fault(heading, worker, verb, &object, rest, is_busy, is_spent) {
             return Err(LineFault::Of(kind));
         }
-        match self.call(alloc, worker, verb, &object, rest) {
-            Ok(event) => Ok(event),
-            Err(_) => Err(LineFault::Memory),
-        }
+        Ok(self.call(alloc, worker, verb, &object, rest)?)
     }
 
     /// Returns the event of a response without a fault.
@@ -533,22 +505,16 @@ impl Running {
         ensures { Answers self.old self.new result
             (response_result self.old worker answer (words_of list.now)) }
     {
-        let Some(worker) = worker else {
-            return Err(LineFault::Of(FaultKind::UnknownName));
-        };
+        let worker = worker.ok_or(LineFault::Of(FaultKind::UnknownName))?;
         if matches!(answer, ReplyWord::Numbers) && has_no_number(list) {
             return Err(LineFault::Of(FaultKind::BadNumber));
         }
-        let Some(call) = self.pending_call(worker) else {
-            return Err(LineFault::Of(FaultKind::Idle));
-        };
+        let idle = LineFault::Of(FaultKind::Idle);
+        let call = self.pending_call(worker).ok_or(idle)?;
         if let Some(kind) = suit_fault(self.recording.heading(), &call, answer, list) {
             return Err(LineFault::Of(kind));
         }
-        match self.respond(alloc, worker, &call, answer, list) {
-            Ok(event) => Ok(event),
-            Err(_) => Err(LineFault::Memory),
-        }
+        Ok(self.respond(alloc, worker, &call, answer, list)?)
     }
 
     /// Reads the line of an event, given without its LF, and returns the event.
@@ -559,10 +525,7 @@ impl Running {
         if line.len() > LINE_MAX || has_blank(line) {
             return Err(LineFault::Of(FaultKind::BadLine));
         }
-        let Some(parts) = split_event(line) else {
-            return Err(LineFault::Of(FaultKind::BadLine));
-        };
-        match parts {
+        match split_event(line).ok_or(LineFault::Of(FaultKind::BadLine))? {
             Parts::Calls {
                 worker,
                 verb,

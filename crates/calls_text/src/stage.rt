@@ -1,12 +1,10 @@
 //! The stages of reading a history line by line.
-ghost use Rattle.std.specs.Prelude.{◌≡◌, [], List, Ok, IfOk, OnOk, true};
+ghost use Rattle.std.specs.Prelude.{◌≡◌, List, IfOk, OnOk, true};
 ghost use Rattle.calls_core.specs.declared.history.Event.{Event};
-ghost use Rattle.calls_text.specs.Reading.{step, recorded_of, is_ended};
-ghost use Rattle.calls_text.specs.Reading as reading;
+ghost use Rattle.calls_text.specs.Reading.{step, is_ended};
 ghost use Rattle.calls_text.specs.kept.Stages.{stage_with_all, IsSound, Takes, kept_events};
-ghost use Rattle.calls_text.specs.kept.Stages.{IsNextIn, Keeps};
-ghost use Rattle.calls_text.specs.kept.Stages.{seen_with, IsFollowing, Follows, turns, GoesTo};
-ghost use Rattle.calls_text.specs.kept.Stages.{TurnsTo};
+ghost use Rattle.calls_text.specs.kept.Stages.{IsNextIn, Keeps, seen_with, IsFollowing, Follows};
+ghost use Rattle.calls_text.specs.kept.Stages.{turns, GoesTo, TurnsTo};
 
 use crate::fault::{FaultKind, LineFault};
 use crate::opening::Draft;
@@ -31,43 +29,6 @@ pub(crate) enum Stage {
     Ended(Recording),
 }
 
-/// Returns the stage after the first line.
-#[tactic(auto, unfolding(crate::specs::Reading::step))]
-fn after_first(line: &[u8]) -> Result<Stage, LineFault>
-    ensures goes { GoesTo result (step reading.Opening line.now) [] }
-    ensures kept { IfOk result (λ s. kept_events s ≡ []) }
-{
-    if line == b"evc-calls 1".as_slice() {
-        Ok(Stage::Limiting)
-    } else {
-        Err(LineFault::Of(FaultKind::BadHeader))
-    }
-}
-
-/// Returns the stage after the line of the limit.
-#[tactic(auto, unfolding(crate::specs::Reading::step))]
-fn after_limit(alloc: Global, line: &[u8]) -> Result<Stage, LineFault>
-    ensures goes { GoesTo result (step reading.Limiting line.now) [] }
-    ensures kept { IfOk result (λ s. kept_events s ≡ []) }
-{
-    match Draft::open(alloc, line) {
-        Ok(draft) => Ok(Stage::Declaring(draft)),
-        Err(fault) => Err(fault),
-    }
-}
-
-/// Returns the stage after the line `run`, given the declarations.
-fn running(alloc: Global, draft: Draft) -> Result<Stage, LineFault>
-    ensures goes { GoesTo result (Ok (reading.Running (recorded_of draft))) [] }
-    ensures kept { IfOk result (λ s. kept_events s ≡ []) }
-{
-    let Draft { heading, from } = draft;
-    match Recording::new(alloc, heading, from) {
-        Ok(recording) => Ok(Stage::Running(Running::new(alloc, recording))),
-        Err(_) => Err(LineFault::Memory),
-    }
-}
-
 impl Stage {
     /// Reads a line, given without its LF, and returns the event if it is one.
     ///
@@ -79,20 +40,15 @@ impl Stage {
         ensures kept { OnOk result (kept_events self.new ≡ kept_events self.old) }
     {
         if self.is_turned(line) {
-            return match self.turn(alloc, line) {
-                Ok(()) => Ok(None),
-                Err(fault) => Err(fault),
-            };
+            self.turn(alloc, line)?;
+            return Ok(None);
         }
         match self {
-            Stage::Running(running) => match running.line(alloc, line) {
-                Ok(event) => Ok(Some(event)),
-                Err(fault) => Err(fault),
-            },
-            Stage::Declaring(draft) => match draft.line(line) {
-                Ok(()) => Ok(None),
-                Err(fault) => Err(fault),
-            },
+            Stage::Running(running) => Ok(Some(running.line(alloc, line)?)),
+            Stage::Declaring(draft) => {
+                draft.line(line)?;
+                Ok(None)
+            }
             Stage::Opening | Stage::Limiting | Stage::Ended(_) => Ok(None),
         }
     }
@@ -113,14 +69,10 @@ impl Stage {
         requires { IsSound self.old }
         ensures { Takes result (step (stage_with_all self.old) line.now) self.new }
     {
-        match self.follow(alloc, line) {
-            Err(fault) => Err(fault),
-            Ok(None) => Ok(()),
-            Ok(Some(event)) => match self.keep(event) {
-                Ok(()) => Ok(()),
-                Err(_) => Err(LineFault::Memory),
-            },
+        if let Some(event) = self.follow(alloc, line)? {
+            self.keep(event)?;
         }
+        Ok(())
     }
 
     /// Returns whether a line ends the stage.
@@ -145,13 +97,8 @@ impl Stage {
         ensures kept { OnOk result (kept_events self.new ≡ kept_events self.old) }
     {
         let before = mem::replace(self, Stage::Opening);
-        match before.next_stage(alloc, line) {
-            Ok(next) => {
-                *self = next;
-                Ok(())
-            }
-            Err(fault) => Err(fault),
-        }
+        *self = before.next_stage(alloc, line)?;
+        Ok(())
     }
 
     /// Returns the next stage, after the line that ends this one.
@@ -163,9 +110,18 @@ impl Stage {
         ensures kept { IfOk result (λ s. kept_events s ≡ kept_events self) }
     {
         match self {
-            Stage::Opening => after_first(line),
-            Stage::Limiting => after_limit(alloc, line),
-            Stage::Declaring(draft) => running(alloc, draft),
+            Stage::Opening => {
+                if line == b"evc-calls 1".as_slice() {
+                    Ok(Stage::Limiting)
+                } else {
+                    Err(LineFault::Of(FaultKind::BadHeader))
+                }
+            }
+            Stage::Limiting => Ok(Stage::Declaring(Draft::open(alloc, line)?)),
+            Stage::Declaring(Draft { heading, from }) => {
+                let recording = Recording::new(alloc, heading, from)?;
+                Ok(Stage::Running(Running::new(alloc, recording)))
+            }
             Stage::Running(running) => Ok(Stage::Ended(running.recording)),
             Stage::Ended(_) => Err(LineFault::Of(FaultKind::BadLine)),
         }

@@ -27,7 +27,7 @@ use Rattle.calls_watch.specs.Loads.{IsLoad, load_text, summary_of, calls_in, oth
 use Rattle.calls_watch.specs.Watches.{Watches, refused_note, unwatched_note}
 use Rattle.calls_watch.specs.kept.Watching.{IsFed, EndsAs, FedFrom, Stops, IsOver}
 use Rattle.calls_watch.specs.kept.Endings.{ReadsAll, WritesLoad, SaysStop, SaysRefused}
-use Rattle.calls_watch.specs.kept.Endings.{fault_status}
+use Rattle.calls_report.specs.kept.Judging.{fault_status}
 use Rattle.calls_watch.proofs.PieceLemmas.{FedBy}
 
 -- READING

@@ -62,8 +62,8 @@ overlap_text calls others =
 
 abbrev pub load_text : ℕ → ℕ → ℕ → List ℕ
 load_text histories calls others =
-    decimal histories ++ codes " histories, " ++ decimal calls
-    ++ (codes " calls, overlap " ++ overlap_text calls others ++ codes "\n")
+    decimal histories ++ codes " histories, " ++ decimal calls ++ codes " calls, overlap "
+    ++ overlap_text calls others ++ codes "\n"
 
 -- the line that is written after these histories
 abbrev pub summary_of : List OneRead → List ℕ

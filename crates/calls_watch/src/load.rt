@@ -1,5 +1,5 @@
 //! How many calls were watched, and how much they overlap.
-ghost use Rattle.std.specs.Prelude.{◌≡◌, ◌+◌, ◌*◌, ◌%◌, ◌≤◌, ◌++◌, codes, OnOk, IfErr};
+ghost use Rattle.std.specs.Prelude.{◌≡◌, ◌+◌, ◌*◌, ◌%◌, ◌≤◌, OnOk, IfErr};
 ghost use Rattle.ec_text.specs.Puts.{Puts};
 ghost use Rattle.calls_watch.specs.declared.stop.Stop.TheVariants.{Memory};
 ghost use Rattle.calls_watch.specs.Loads.{invocation_count, others_at, digit_text, overlap_text};
@@ -23,26 +23,6 @@ pub struct Load {
     /// The number of other calls that are pending after an invocation, added up over all
     /// invocations.
     pub others: u64,
-}
-
-/// Returns how many calls an event invokes.
-fn invocation_count(action: Action) -> u64
-    ensures { result ≡ invocation_count action }
-{
-    match action {
-        Action::Invoke(_, _) => 1,
-        Action::Respond(_) => 0,
-    }
-}
-
-/// Returns how many other calls are pending after an event, if it is an invocation.
-fn others_at(action: Action, pending: usize) -> u64
-    ensures { result ≡ others_at action pending }
-{
-    match action {
-        Action::Invoke(_, _) => (pending as u64).saturating_sub(1),
-        Action::Respond(_) => 0,
-    }
 }
 
 /// Puts the next decimal digit of `rest / whole`, and returns the remainder.
@@ -93,16 +73,12 @@ impl Load {
         ensures histories { self.new.histories ≡ self.old.histories }
         ensures err { IfErr result (λ stop. stop ≡ Memory) }
     {
-        let calls = self
-            .calls
-            .checked_add(invocation_count(action))
-            .ok_or(Stop::Memory)?;
-        let others = self
-            .others
-            .checked_add(others_at(action, pending))
-            .ok_or(Stop::Memory)?;
-        self.calls = calls;
-        self.others = others;
+        if let Action::Invoke(_, _) = action {
+            let others = (pending as u64).saturating_sub(1);
+            let others = self.others.checked_add(others).ok_or(Stop::Memory)?;
+            self.calls = self.calls.checked_add(1).ok_or(Stop::Memory)?;
+            self.others = others;
+        }
         Ok(())
     }
 
@@ -124,14 +100,6 @@ impl Load {
         out.put_number(self.histories);
         out.put(b" histories, ");
         out.put_number(self.calls);
-        self.put_rest(out);
-    }
-
-    /// Puts the rest of the line, after the number of calls.
-    fn put_rest<W: Write>(&self, out: &mut Output<'_, W>)
-        ensures { Puts out.old out.new (codes " calls, overlap "
-            ++ overlap_text self.now.calls self.now.others ++ codes "\n") }
-    {
         out.put(b" calls, overlap ");
         put_overlap(out, self.calls, self.others);
         out.put(b"\n");

@@ -8,7 +8,7 @@ ghost use Rattle.calls_text.specs.Reading.{Running};
 ghost use Rattle.calls_text.specs.Recordings.{RecordingModel};
 ghost use Rattle.calls_text.specs.Following.{stage_with_events, HasEvents};
 ghost use Rattle.calls_watch.specs.Watches.{invokes_cells};
-ghost use Rattle.calls_watch.specs.kept.Watching.{IsWatching, StateAfterLine, EndsAs, Stops, Opens, IsJudged};
+ghost use Rattle.calls_watch.specs.kept.Watching.{IsWatching, StateAfterLine, EndsAs, Stops, IsJudged};
 ghost use Rattle.calls_watch.specs.kept.Watching.{Begins, IsEventJudged, IsBegunAgain, GoesOnBy};
 ghost use Rattle.calls_watch.specs.kept.Watching.{MayEnd, GoesOnAt};
 
@@ -16,7 +16,7 @@ use crate::load::Load;
 use crate::stop::Stop;
 use calls_core::{Action, Event, Op};
 use calls_monitor::{Monitor, Rejection};
-use calls_text::{Follower, HistoryLine, Recording};
+use calls_text::{Follower, HistoryLine};
 use std::alloc::Global;
 
 /// The state of `watch`, after some lines of a text.
@@ -36,16 +36,6 @@ fn invokes_cells(action: Action) -> bool
     ensures { result ≡ invokes_cells action }
 {
     matches!(action, Action::Invoke(_, Op::Put(_) | Op::Get))
-}
-
-/// Opens a monitor of what is declared.
-fn open_monitor(alloc: Global, recording: &Recording) -> Result<Monitor, Stop>
-    ensures { Opens recording.now result }
-{
-    match Monitor::open(alloc, recording.kinds()) {
-        Ok(monitor) => Ok(monitor),
-        Err(_) => Err(Stop::Memory),
-    }
 }
 
 /// Judges an event by the monitor.
@@ -91,7 +81,10 @@ impl Watcher {
         let Some(recording) = self.follower.recording() else {
             return Err(Stop::Memory);
         };
-        self.monitor = Some(open_monitor(alloc, recording)?);
+        let Ok(monitor) = Monitor::open(alloc, recording.kinds()) else {
+            return Err(Stop::Memory);
+        };
+        self.monitor = Some(monitor);
         Ok(())
     }
 

@@ -5,13 +5,12 @@ ghost use Rattle.calls_core.specs.declared.history.Event.{Event};
 ghost use Rattle.calls_text.specs.Reading.{Running};
 ghost use Rattle.calls_text.specs.Recordings.{RecordingModel};
 ghost use Rattle.calls_text.specs.Following.{stage_with_events};
-ghost use Rattle.calls_report.specs.Notes.{fault_note};
 ghost use Rattle.calls_report.specs.declared.status.Status.TheVariants.{NotDecided};
 ghost use Rattle.calls_watch.specs.Loads.{load_text};
 ghost use Rattle.calls_watch.specs.Watches.{Watches, line_of_first, refused_note, unwatched_note};
 ghost use Rattle.calls_watch.specs.kept.Watching.{FedFrom, IsFed, Feeds, Stops};
 ghost use Rattle.calls_watch.specs.kept.Endings.{ReadsOn, ReadsAll, WritesLoad, SaysRefused};
-ghost use Rattle.calls_watch.specs.kept.Endings.{SaysStop, fault_status};
+ghost use Rattle.calls_watch.specs.kept.Endings.{SaysStop};
 
 use crate::feeder::Feeder;
 use crate::load::Load;
@@ -21,8 +20,7 @@ use crate::watcher::Watcher;
 use arrayvec::ArrayVec;
 use calls_core::Event;
 use calls_monitor::Refused;
-use calls_report::{Status, report_certificate, report_fault};
-use calls_text::TextFault;
+use calls_report::{Status, note_unread, report_certificate};
 use ec_text::{Output, read_piece};
 use std::alloc::Global;
 use std::io::{Read, Write};
@@ -85,10 +83,8 @@ fn read_all<R: Read>(alloc: Global, reader: &mut R, feeder: &mut Feeder) -> Resu
 {
     let mut table: ArrayVec<u8, 8192> = ArrayVec::from([0u8; 8192]);
     'pieces: for _piece in 0..u64::MAX {
-        match read_on(alloc, reader, &mut table, feeder) {
-            Ok(true) => {}
-            Ok(false) => return Ok(()),
-            Err(cut) => return Err(cut),
+        if !read_on(alloc, reader, &mut table, feeder)? {
+            return Ok(());
         }
     }
     // (so many pieces would take centuries)
@@ -147,19 +143,6 @@ fn report_refused<N: Write>(
     Status::Refused
 }
 
-/// Reports the error of a text.
-fn report_unread<N: Write>(fault: TextFault, notes: &mut Output<'_, N>) -> Status
-    ensures status { result ≡ fault_status fault }
-    ensures puts { Puts notes.old notes.new (fault_note fault) }
-    ensures written { IsWrittenOut notes.new }
-{
-    report_fault(notes, fault);
-    match fault {
-        TextFault::At { .. } => Status::Refused,
-        TextFault::Memory => Status::Memory,
-    }
-}
-
 /// Reports that a call is not watched. `number` is that of the line after it.
 fn report_unwatched<N: Write>(number: u64, notes: &mut Output<'_, N>) -> Status
     ensures status { result ≡ NotDecided }
@@ -180,7 +163,7 @@ pub fn report_stop<N: Write>(watcher: &Watcher, stop: Stop, notes: &mut Output<'
     ensures written { IsWrittenOut notes.new }
 {
     match stop {
-        Stop::Unread(fault) => report_unread(fault, notes),
+        Stop::Unread(fault) => note_unread(fault, notes),
         Stop::Refused(event, refused) => report_refused(watcher, event, refused, notes),
         Stop::NotWatched => report_unwatched(watcher.number, notes),
         Stop::Memory => {

@@ -4,9 +4,8 @@ ghost use Rattle.clap.specs.Words.{FailsBy, app_of, first_of, found_of, kind_of,
 ghost use Rattle.clap.specs.Words.{rows_of, rule_of, subcommand_of, subcommand_rows_of};
 ghost use Rattle.clap.specs.declared.builder.command.Command.TheViews.{out-Command as fields_of};
 ghost use Rattle.evc_calls_cli.specs.CommandLine.{file_rule, command_app, bare_app, program_app};
-ghost use Rattle.evc_calls_cli.specs.CommandLine.{judging_app};
-ghost use Rattle.evc_calls_cli.specs.CommandLine.{texts_of, action_of, action_in, file_in};
-ghost use Rattle.evc_calls_cli.specs.CommandLine.{faults_in, status_by, ReadsPlainLines};
+ghost use Rattle.evc_calls_cli.specs.CommandLine.{judging_app, texts_of, action_of, action_in};
+ghost use Rattle.evc_calls_cli.specs.CommandLine.{file_in, faults_in, status_by, ReadsPlainLines};
 
 use crate::choice::{Action, Task};
 use crate::help;
@@ -25,51 +24,21 @@ fn file_argument<'a>(alloc: Global, help: &'a str) -> Arg<'a>
         .action(ArgAction::Set)
 }
 
-/// Returns the command that checks histories.
-fn check_command<'a>(alloc: Global) -> Result<Command<'a>, AllocError>
-    ensures app { IfOk result (λ c. app_of c ≡ command_app (codes "check")) }
+/// Returns the command of this name, which takes a file. The texts are its help.
+fn file_command<'a>(
+    alloc: Global,
+    name: &'a str,
+    about: &'a str,
+    long_about: &'a str,
+    file: &'a str,
+) -> Result<Command<'a>, AllocError>
+    ensures app { IfOk result (λ c. app_of c ≡ command_app name.now) }
     ensures local { IfOk result (λ c. (fields_of c).has_globals ≡ false) }
 {
-    let file = file_argument(alloc, help::FILE);
-    Command::new(alloc, "check")
-        .about(help::CHECK_ABOUT)
-        .long_about(help::CHECK_LONG_ABOUT)
-        .arg(file)
-}
-
-/// Returns the command that judges each event when its line comes.
-fn watch_command<'a>(alloc: Global) -> Result<Command<'a>, AllocError>
-    ensures app { IfOk result (λ c. app_of c ≡ command_app (codes "watch")) }
-    ensures local { IfOk result (λ c. (fields_of c).has_globals ≡ false) }
-{
-    let file = file_argument(alloc, help::FILE);
-    Command::new(alloc, "watch")
-        .about(help::WATCH_ABOUT)
-        .long_about(help::WATCH_LONG_ABOUT)
-        .arg(file)
-}
-
-/// Returns the command that writes the calls of a trace.
-fn of_command<'a>(alloc: Global) -> Result<Command<'a>, AllocError>
-    ensures app { IfOk result (λ c. app_of c ≡ command_app (codes "of")) }
-    ensures local { IfOk result (λ c. (fields_of c).has_globals ≡ false) }
-{
-    let file = file_argument(alloc, help::TRACE_FILE);
-    Command::new(alloc, "of")
-        .about(help::OF_ABOUT)
-        .long_about(help::OF_LONG_ABOUT)
-        .arg(file)
-}
-
-/// Returns the command that writes a trace.
-fn trace_command<'a>(alloc: Global) -> Result<Command<'a>, AllocError>
-    ensures app { IfOk result (λ c. app_of c ≡ command_app (codes "trace")) }
-    ensures local { IfOk result (λ c. (fields_of c).has_globals ≡ false) }
-{
-    let file = file_argument(alloc, help::HISTORY_FILE);
-    Command::new(alloc, "trace")
-        .about(help::TRACE_ABOUT)
-        .long_about(help::TRACE_LONG_ABOUT)
+    let file = file_argument(alloc, file);
+    Command::new(alloc, name)
+        .about(about)
+        .long_about(long_about)
         .arg(file)
 }
 
@@ -89,8 +58,10 @@ fn bare_command<'a>(alloc: Global) -> Command<'a>
 fn judging_program<'a>(alloc: Global) -> Result<Command<'a>, AllocError>
     ensures { IfOk result (λ c. app_of c ≡ judging_app) }
 {
-    let check = check_command(alloc)?;
-    let watch = watch_command(alloc)?;
+    let (about, text) = (help::CHECK_ABOUT, help::CHECK_LONG_ABOUT);
+    let check = file_command(alloc, "check", about, text, help::FILE)?;
+    let (about, text) = (help::WATCH_ABOUT, help::WATCH_LONG_ABOUT);
+    let watch = file_command(alloc, "watch", about, text, help::FILE)?;
     bare_command(alloc).subcommand(check)?.subcommand(watch)
 }
 
@@ -98,8 +69,10 @@ fn judging_program<'a>(alloc: Global) -> Result<Command<'a>, AllocError>
 fn program<'a>(alloc: Global) -> Result<Command<'a>, AllocError>
     ensures { IfOk result (λ c. app_of c ≡ program_app) }
 {
-    let of = of_command(alloc)?;
-    let trace = trace_command(alloc)?;
+    let (about, text) = (help::OF_ABOUT, help::OF_LONG_ABOUT);
+    let of = file_command(alloc, "of", about, text, help::TRACE_FILE)?;
+    let (about, text) = (help::TRACE_ABOUT, help::TRACE_LONG_ABOUT);
+    let trace = file_command(alloc, "trace", about, text, help::HISTORY_FILE)?;
     judging_program(alloc)?.subcommand(of)?.subcommand(trace)
 }
 

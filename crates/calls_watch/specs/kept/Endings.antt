@@ -2,8 +2,6 @@
 use Rattle.std.specs.Prelude.{◌≡◌, ◌⊎◌, ℕ, List, Option, Some, None, Result, Ok, Err, Bool, true, false, codes, ⊤}
 use Rattle.std.specs.Io.KnownBytes.{Appends}
 use Rattle.ec_text.specs.Puts.{OutputModel, Puts, AppendsPrefix}
-use Rattle.calls_text.specs.declared.fault.TextFault.{TextFault}
-use Rattle.calls_text.specs.declared.fault.TextFault.TheVariants as faults
 use Rattle.calls_text.specs.Outcomes.{OneRead, lines_of_text}
 use Rattle.calls_report.specs.declared.status.Status.{Status}
 use Rattle.calls_report.specs.declared.status.Status.TheVariants.{Done, Refused}
@@ -37,10 +35,6 @@ WritesLoad InputOutput text old new =
 WritesLoad _ text old new = ⊥
 
 -- NOTES
-
-abbrev pub fault_status : TextFault → Status
-fault_status (faults.At n kind cause) = Refused
-fault_status faults.Memory = Memory
 
 abbrev pub SaysRefused : Status → List ℕ → OutputModel → OutputModel → Type 0
 SaysRefused Refused note old new = Puts old new note

@@ -115,11 +115,6 @@ pub record IsOpened (r : RecordingModel) (m : Monitor) : Type 0 where
   pub are : AreKinds r.heading r.from kinds
   pub watches : monitors.Watches kinds [] m
 
-abbrev pub Opens : RecordingModel → Result Monitor Stop → Type 0
-Opens r (Ok m) = IsOpened r m
-Opens r (Err stops.Memory) = Unit {0}
-Opens r (Err _) = ⊥
-
 -- the event was judged
 abbrev pub IsJudged : Monitor → Event → Option Monitor → Result (Unit {0}) Stop → Type 0
 IsJudged m x new (Ok u) = (n : Monitor) × (new ≡ Some n) × Judges m n x (Ok u)

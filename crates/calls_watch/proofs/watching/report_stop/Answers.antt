@@ -8,11 +8,11 @@ use Rattle.calls_watch.proofs.watching.report_stop.Goals as goal
 
 pub returns-in-Unread-clause-says : goal.returns-in-Unread-clause-says
 returns-in-Unread-clause-says g c = λ ps s.
-    subst (λ (status : Status). SaysStop ps status c.args.notes.now c.report_unread.new.notes)
-    (sym c.report_unread.ensures.status)
-    (unread_says ps c.args.watcher.now c.in-Unread.fault c.args.notes.now c.report_unread.new.notes
+    subst (λ (status : Status). SaysStop ps status c.args.notes.now c.note_unread.new.notes)
+    (sym c.note_unread.ensures.status)
+    (unread_says ps c.args.watcher.now c.in-Unread.fault c.args.notes.now c.note_unread.new.notes
     (subst (λ (stop : Stop). Stops stop ps c.args.watcher.now) c.in-Unread.is s)
-    c.report_unread.ensures.puts)
+    c.note_unread.ensures.puts)
 
 pub returns-in-Refused-clause-says : goal.returns-in-Refused-clause-says
 returns-in-Refused-clause-says g c = λ ps s.

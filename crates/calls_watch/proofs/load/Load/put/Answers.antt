@@ -5,6 +5,10 @@ pub returns : goal.returns
 returns g c =
     puts_then _ _ _ _ _
     (puts_then _ _ _ _ _
+    (puts_then _ _ _ _ _
+    (puts_then _ _ _ _ _
     (puts_then _ _ _ _ _ c.put_number.ensures.puts c.put.ensures.puts)
     c.put_number-2.ensures.puts)
-    c.put_rest.ensures
+    c.put-2.ensures.puts)
+    c.put_overlap.ensures)
+    c.put-3.ensures.puts

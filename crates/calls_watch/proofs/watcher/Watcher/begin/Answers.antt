@@ -4,10 +4,13 @@ use Rattle.calls_watch.proofs.watcher.Watcher.begin.Goals as goal
 
 pub returns : goal.returns
 returns c = λ r is. (
-  c.in_ok-open_monitor.field-0,
+  c.in-Ok.monitor,
   refl,
-  opened_same c.in-Some.recording.now r c.in_ok-open_monitor.field-0
-      (sym (c.in-Some.ensures []) ∙ is) c.in_ok-open_monitor.ensures,
+  opened_same c.in-Some.recording.now r c.in-Ok.monitor (sym (c.in-Some.ensures []) ∙ is) (record {
+    kinds = c.kinds.result.now;
+    are = c.kinds.ensures.objects;
+    watches = c.in-Ok.ensures;
+  }),
   refl,
   refl,
   refl,

@@ -1,0 +1,15 @@
+use Rattle.ec_text.proofs.shared.PutLemmas.{puts_then}
+use Rattle.calls_report.proofs.refusal.Site.put_many.Goals as goal
+
+pub returns : goal.returns
+returns g c =
+    puts_then _ _ _ _ _
+    (puts_then _ _ _ _ _
+    (puts_then _ _ _ _ _
+    (puts_then _ _ _ _ _
+    (puts_then _ _ _ _ _
+    (puts_then _ _ _ _ _ c.put_count.ensures c.put.ensures.puts) c.put_line.ensures)
+    c.put-2.ensures.puts)
+    c.put_advances.ensures)
+    c.put-3.ensures.puts)
+    c.put_start.ensures

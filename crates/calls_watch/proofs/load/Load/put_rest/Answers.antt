@@ -1,7 +1,0 @@
-use Rattle.ec_text.proofs.shared.PutLemmas.{puts_then}
-use Rattle.calls_watch.proofs.load.Load.put_rest.Goals as goal
-
-pub returns : goal.returns
-returns g c =
-    puts_then _ _ _ _ _ c.put.ensures.puts
-    (puts_then _ _ _ _ _ c.put_overlap.ensures c.put-2.ensures.puts)
