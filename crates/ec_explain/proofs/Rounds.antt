@@ -1,10 +1,8 @@
 -- A round with one more entry.
 use Rattle.std.proofs.Common.{◌≡◌, ℕ, zero, suc, ◌+◌, ◌%◌, ◌<◌, Bool, true, false, ◌==◌, List, []}
-use Rattle.std.proofs.Common.{◌∷◌}
-use Rattle.std.proofs.Common.{◌++◌, length, Option, Some, None, refl, ap, sym, ◌∙◌, arith, cond}
-use Rattle.std.proofs.Common.{subst}
-use Rattle.std.proofs.Common.{nat_le, nat_lt, reverse, take, slice_get, add-one}
-use Rattle.std.specs.Prelude.{option_map, option_to_list, OnOk, Result, Ok, Err}
+use Rattle.std.proofs.Common.{◌∷◌, ◌++◌, length, Option, Some, None, refl, ap, sym, ◌∙◌, arith}
+use Rattle.std.proofs.Common.{cond, subst, nat_le, nat_lt, reverse, take, slice_get}
+use Rattle.std.specs.Prelude.{option_map, OnOk, Result, Ok, Err}
 use Rattle.std.specs.Option.{option_map_or}
 use Rattle.std.proofs.lemmas.Bool.Decides.{nat_tests}
 use Rattle.std.proofs.Math.Nat.{mod-zero, zero-mod}

@@ -6,8 +6,7 @@ ghost use Rattle.ec_core.specs.Acceptance.{answer_of};
 ghost use Rattle.ec_core.specs.Calls.{is_go};
 ghost use Rattle.ec_core.specs.Standing.{StandsFor};
 ghost use Rattle.ec_explain.specs.Rounds.{is_in_round, looks_after_act, looks_continued_by};
-ghost use Rattle.ec_explain.specs.Rounds.{look_at, looks_so_far};
-ghost use Rattle.ec_explain.specs.Rounds.{looks_with, next_look};
+ghost use Rattle.ec_explain.specs.Rounds.{look_at, looks_so_far, looks_with, next_look};
 
 use ec_core::{Act, Entry, Run, World};
 use ec_count::{EventId, WorkerId};

@@ -1,7 +1,6 @@
 -- The states of the workers at the end of a schedule: who has not ended, and what it waits for.
 use Rattle.std.specs.Prelude.{◌≡◌, ℕ, ◌+◌, ◌==◌, ◌&&◌, nat_lt, not, Bool, true, false, List, []}
-use Rattle.std.specs.Prelude.{◌∷◌, ◌++◌}
-use Rattle.std.specs.Prelude.{reverse, codes, decimal, Option, Some, None, if◌then◌else◌}
+use Rattle.std.specs.Prelude.{◌∷◌, ◌++◌, reverse, codes, decimal, Option, Some, None, if◌then◌else◌}
 use Rattle.std.specs.Option.{option_and_then}
 use Rattle.std.specs.List.{list_any}
 use Rattle.ec_count.specs.Tables.{Tables}

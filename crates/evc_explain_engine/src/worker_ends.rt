@@ -5,13 +5,11 @@ ghost use Rattle.ec_count.specs.declared.target.Target.TheVariants.{Worker};
 ghost use Rattle.ec_heading.specs.Spelling.{target_name};
 ghost use Rattle.ec_text.specs.Puts.{Puts};
 ghost use Rattle.evc_explain_engine.specs.WorkerEnds.{pending_await, await_of_act, awaiting_end};
-ghost use Rattle.evc_explain_engine.specs.WorkerEnds.{running_end};
-ghost use Rattle.evc_explain_engine.specs.WorkerEnds.{has_turn};
-ghost use Rattle.evc_explain_engine.specs.WorkerEnds.{end_of, ends_from, waits_words, count_words};
-ghost use Rattle.evc_explain_engine.specs.WorkerEnds.{reached_words, end_text, end_lines, is_waiting, can_continue};
-ghost use Rattle.evc_explain_engine.specs.WorkerEnds.{is_deadlock, deadlock_text, ends_text};
-ghost use Rattle.evc_explain_engine.specs.WorkerEnds.{run_ends_text};
-ghost use Rattle.evc_explain_engine.specs.WorkerEnds.{turn_text};
+ghost use Rattle.evc_explain_engine.specs.WorkerEnds.{running_end, has_turn, end_of, ends_from};
+ghost use Rattle.evc_explain_engine.specs.WorkerEnds.{waits_words, count_words, reached_words};
+ghost use Rattle.evc_explain_engine.specs.WorkerEnds.{end_text, end_lines, is_waiting};
+ghost use Rattle.evc_explain_engine.specs.WorkerEnds.{can_continue, is_deadlock, deadlock_text};
+ghost use Rattle.evc_explain_engine.specs.WorkerEnds.{ends_text, run_ends_text, turn_text};
 
 use crate::explanation::whole;
 use ec_core::{Act, Refusal, Run};

@@ -1,6 +1,5 @@
 use Rattle.std.proofs.Common.{◌≡◌, ◌+◌, ◌∙◌, ◌∷◌, List, Some, Ok, Vec, Global, ap, sym, arith}
-use Rattle.std.proofs.Common.{subst}
-use Rattle.std.proofs.Common.{reverse, slice_get, take}
+use Rattle.std.proofs.Common.{subst, slice_get, take}
 use Rattle.ec_count.specs.Tables.{Tables}
 use Rattle.ec_core.specs.declared.act.Entry.{Entry}
 use Rattle.ec_core.specs.Acceptance.{answer_of}
