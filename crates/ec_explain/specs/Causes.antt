@@ -77,10 +77,9 @@ has_name_form (b ∷ bs) = is_ascii_alphabetic b && list_all is_name_byte bs
 -- what is wrong with a word that is no name: it is too long; or it has the form, and so is
 -- reserved; or it lacks the form
 abbrev pub name_cause : List ℕ → Cause
-name_cause w = unwrap_or (first_that (
-    (nat_lt 16 (length w), causes.LongName)
-    ∷ (has_name_form w, causes.ReservedName)
-    ∷ [])) causes.BadName
+name_cause w =
+    if nat_lt 16 (length w) then causes.LongName
+    else (if has_name_form w then causes.ReservedName else causes.BadName)
 
 -- what is wrong with a line of a header, by its lowest fault and its new name
 abbrev pub head_cause : HeadFault → List ℕ → Cause
@@ -103,11 +102,9 @@ abbrev pub new_name_place : List ℕ → ℕ
 new_name_place line = if bytes_eq (word_at 0 line) (codes "workers") then bad_name_place line else 1
 
 abbrev pub workers_cause : HeadFault → List ℕ → Cause
-workers_cause fault line = unwrap_or (first_that ((
-  not (bytes_eq (word_at 0 line) (codes "workers")) || length (words_of line) == 1,
-  causes.NoWorkers,
-)
-    ∷ [])) (head_cause fault (word_at (bad_name_place line) line))
+workers_cause fault line =
+    if not (bytes_eq (word_at 0 line) (codes "workers")) || length (words_of line) == 1
+    then causes.NoWorkers else head_cause fault (word_at (bad_name_place line) line)
 
 -- DECLARATIONS
 
@@ -139,10 +136,6 @@ has_object names verb w =
     else (if is_among (codes "put" ∷ codes "get" ∷ []) verb then is_some (cell_in_word names w)
     else is_some (event_in names w)))
 
--- whether an act has a value, and the word is none
-abbrev pub lacks_value : List ℕ → List ℕ → Bool
-lacks_value verb w = is_among (codes "await" ∷ codes "put" ∷ []) verb && is_none (number_in_word w)
-
 abbrev pub is_reply : List ℕ → Bool
 is_reply w = is_among (codes "done" ∷ codes "pending" ∷ []) w || is_some (number_in_word w)
 
@@ -157,8 +150,11 @@ act_cause h line = first_that (
 
 -- what is wrong with what follows the object
 abbrev pub reply_cause : HeadingModel → List ℕ → Cause
-reply_cause h line = unwrap_or (first_that (
-    (lacks_value (word_at 1 line) (word_at 3 line), causes.NoValue)
+reply_cause h line = unwrap_or (first_that ((
+  is_among (codes "await" ∷ codes "put" ∷ []) (word_at 1 line)
+      && is_none (number_in_word (word_at 3 line)),
+  causes.NoValue,
+)
     ∷ (
       bytes_eq (word_at 1 line) (codes "hand") && is_none (worker_in h.words (word_at 3 line)),
       causes.NoReceiver,

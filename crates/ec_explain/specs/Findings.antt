@@ -21,11 +21,14 @@ use Rattle.ec_explain.specs.TextLines.{line_at, lines_in}
 use Rattle.ec_core.specs.declared.act.Refusal.{Refusal}
 use Rattle.ec_core.specs.declared.act.Refusal.TheVariants as refusals
 
+-- this cause, which no line shows
+abbrev pub finding_of_text : Cause → Finding
+finding_of_text cause = record { cause = cause; spot = None; right = None; see = None }
+
 -- this cause, at this place of the line with this number
 abbrev pub finding_at : Cause → ℕ → ℕ → Finding
 finding_at cause n place =
-    let spot : LinePosition = record { number = n; place = place } in
-    record { cause = cause; spot = Some spot; right = None; see = None }
+    record (finding_of_text cause) { spot = Some (record { number = n; place = place }) }
 
 -- what is wrong with a rejected line of this number, at this site
 abbrev pub finding_of_line : Site → ℕ → List ℕ → Finding
@@ -39,10 +42,6 @@ finding_by_bytes cause n word line =
     option_map_or (λ c. finding_at c n (place_at sites.Unknown c line)) (line_cause line)
     (finding_at cause n (word_start word line))
 
--- this cause, which no line shows
-abbrev pub finding_of_text : Cause → Finding
-finding_of_text cause = record { cause = cause; spot = None; right = None; see = None }
-
 -- why an act is refused; in a trace what an entry names is declared, and each value small enough
 abbrev pub refusal_cause : Refusal → Cause
 refusal_cause refusals.Busy = causes.Busy
@@ -51,9 +50,7 @@ refusal_cause refusals.NoRight = causes.NoRight
 refusal_cause refusals.AtLimit = causes.AtLimit
 refusal_cause refusals.NotHandable = causes.NotHandable
 refusal_cause refusals.AlreadySignals = causes.AlreadySignals
-refusal_cause refusals.UnknownWorker = causes.Other
-refusal_cause refusals.UnknownObject = causes.Other
-refusal_cause refusals.ValueTooLarge = causes.Other
+refusal_cause _ = causes.Other
 
 -- the line that shows why the act of line n is refused: the one by which the pending call began;
 -- the one by which the right was lost, or that declares the object, and who may use it; and the

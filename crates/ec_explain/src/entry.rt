@@ -1,7 +1,7 @@
 //! What is wrong with a line that should be an entry.
 ghost use Rattle.std.specs.Prelude.{◌≡◌, ◌≤◌, IfSome};
-ghost use Rattle.ec_explain.specs.Causes.{act_words, equals_place, has_object, lacks_value};
-ghost use Rattle.ec_explain.specs.Causes.{is_reply, act_cause, reply_cause, entry_cause};
+ghost use Rattle.ec_explain.specs.Causes.{act_words, equals_place, has_object, is_reply};
+ghost use Rattle.ec_explain.specs.Causes.{act_cause, reply_cause, entry_cause};
 
 use crate::cause::Cause;
 use crate::words::{is_among, is_same, word_at};
@@ -52,13 +52,6 @@ fn has_object(heading: &Heading, verb: &[u8], word: &[u8]) -> bool
     heading.event(word).is_some()
 }
 
-/// Returns whether an act has a value, and the word is none.
-fn lacks_value(verb: &[u8], word: &[u8]) -> bool
-    ensures { result ≡ lacks_value verb.now word.now }
-{
-    is_among(&["await", "put"], verb) && number(word).is_none()
-}
-
 /// Returns whether a word is a reply.
 fn is_reply(word: &[u8]) -> bool
     ensures { result ≡ is_reply word.now }
@@ -92,7 +85,7 @@ fn reply_cause(heading: &Heading, line: &[u8]) -> Cause
 {
     let verb = word_at(1, line);
     let third = word_at(3, line);
-    if lacks_value(verb, third) {
+    if is_among(&["await", "put"], verb) && number(third).is_none() {
         return Cause::NoValue;
     }
     if is_same(verb, b"hand".as_slice()) && heading.worker(third).is_none() {

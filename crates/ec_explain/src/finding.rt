@@ -40,10 +40,8 @@ pub fn finding_at(cause: Cause, number: u64, place: usize) -> Finding
     ensures { result ≡ finding_at cause number place }
 {
     Finding {
-        cause,
         spot: Some(LinePosition { number, place }),
-        right: None,
-        see: None,
+        ..finding_of_text(cause)
     }
 }
 
